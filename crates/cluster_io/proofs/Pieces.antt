@@ -1,0 +1,62 @@
+-- One piece after another is taken from a source, or added to a sink.
+use Rattle.std.proofs.Common.{◌≡◌, ℕ, ◌+◌, ◌-◌, Option, Some, None, List, ◌++◌, length, take, drop, sym, ap, ◌∙◌, append_assoc, option_map, subst, drop-drop, length-drop, length-append, ◌≤◌}
+use Rattle.std.proofs.Math.Seq.{take-append_seam, take-add, take-length}
+use Rattle.std.proofs.lemmas.List.{take-append-drop, length-take-le}
+use Rattle.std.specs.Prelude.{Result, Ok, Err, OnErr}
+use Rattle.cluster_io.specs.Streams.{Takes, TakesAtMost, TakesCount, Adds}
+
+-- two takings in turn are one
+pub Takes-then : (a b c : Option (List ℕ)) (xs ys : List ℕ)
+    → Takes a xs b → Takes b ys c → Takes a (xs ++ ys) c
+Takes-then a b None xs ys p q = p ∙ ap (option_map (λ left. xs ++ left)) q
+Takes-then a b (Some left) xs ys p q =
+    p ∙ (ap (option_map (λ left. xs ++ left)) q ∙ ap Some (sym (append_assoc xs ys left)))
+
+-- two additions in turn are one
+pub Adds-then : (a b c : Option (List ℕ)) (xs ys : List ℕ)
+    → Adds a xs b → Adds b ys c → Adds a (xs ++ ys) c
+Adds-then None b c xs ys p q = q ∙ ap (option_map (λ held. held ++ ys)) p
+Adds-then (Some held) b c xs ys p q =
+    q ∙ (ap (option_map (λ held. held ++ ys)) p ∙ ap Some (append_assoc held xs ys))
+
+-- what stands before a piece that was copied to the front of a buffer is that piece, and the rest follows
+pub piece-copied : (bytes rest new : List ℕ) (at n : ℕ)
+    → length new ≡ n → new ≡ take n (drop at bytes) → drop at bytes ≡ take n (new ++ rest) ++ drop (at + n) bytes
+piece-copied bytes rest new at n e h =
+    let front : take n (new ++ rest) ≡ new =
+    subst (λ (k : ℕ). take k (new ++ rest) ≡ new) e (take-append_seam new rest) in
+    rw (front, h, ← drop-drop) (sym (take-append-drop n (drop at bytes)))
+
+-- the slice from a place to the end is the rest of the list
+pub rest_from : (xs : List ℕ) (i : ℕ) → take (length xs - i) (drop i xs) ≡ drop i xs
+rest_from xs i = rw (← length-drop) (take-length (drop i xs))
+
+-- after one more piece of a text, more of its front is added
+pub Adds-piece : (a b c : Option (List ℕ)) (text : List ℕ) (done n : ℕ)
+    → Adds a (take done text) b → Adds b (take n (take (length text - done) (drop done text))) c
+    → Adds a (take (done + n) text) c
+Adds-piece a b c text done n p q =
+    rw take-add (Adds-then a b c (take done text) (take n (drop done text)) p (rw rest_from at q))
+
+-- with one more piece of a buffer at most so many bytes are taken
+pub Takes-at_most : (a b c : Option (List ℕ)) (xs buf : List ℕ) (n most : ℕ)
+    → Takes a xs b → Takes b (take n buf) c → n ≤ length buf → length xs + n ≤ most → TakesAtMost most a c
+Takes-at_most a b c xs buf n most p q h k = record {
+  bytes = xs ++ take n buf;
+  within = simp (length-append, length-take-le n buf h) k;
+  taken = Takes-then a b c xs (take n buf) p q;
+}
+
+-- with one more piece of a buffer exactly so many bytes are taken
+pub Takes-count : (a b c : Option (List ℕ)) (xs buf : List ℕ) (n count : ℕ)
+    → Takes a xs b → Takes b (take n buf) c → n ≤ length buf → length xs + n ≡ count → TakesCount count a c
+Takes-count a b c xs buf n count p q h k = record {
+  bytes = xs ++ take n buf;
+  counted = simp (length-append, length-take-le n buf h) k;
+  taken = Takes-then a b c xs (take n buf) p q;
+}
+
+-- a fact that holds holds on an error
+pub on_err : {T E P : Type 0} (r : Result T E) → P → OnErr r P
+on_err (Ok _) p = tt
+on_err (Err _) p = p

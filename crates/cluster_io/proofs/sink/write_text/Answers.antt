@@ -1,0 +1,12 @@
+use Rattle.std.proofs.Common.{arith}
+use Rattle.std.proofs.lemmas.Grind.{common_steps}
+use Rattle.cluster_io.proofs.Pieces.{Adds-piece}
+use Rattle.cluster_io.proofs.sink.write_text.Goals as goal
+
+pub loop-done-preserved : goal.loop-done-preserved
+loop-done-preserved g c = record {
+  within = grind (arith, common_steps);
+  added = Adds-piece _ _ _ _ _ _ c.loop-done.invariant.added c.in-Took.ensures.bytes.2;
+  count = omega arith;
+  no_call = grind (arith, common_steps);
+}

@@ -1,0 +1,14 @@
+use Rattle.std.proofs.Common.{◌≡◌, length, ◌-◌, ◌≤◌, take}
+use Rattle.cluster_io.specs.Streams.{Adds}
+use Rattle.cluster_io.proofs.sink.write_text.Given as goal
+
+abbrev pub invariant-loop-done : goal.invariant-loop-done
+invariant-loop-done g l = record {
+  within : l.done ≤ length l.text;
+  added : Adds (g.W.Sink.written l.fn.out) (take l.done l.text) (g.W.Sink.written l.out);
+  count : g.W.Sink.faults l.fn.out ≤ g.W.Sink.faults l.out;
+  no_call : l.done ≡ 0 → l.out ≡ l.fn.out;
+}
+
+abbrev pub decreases-loop-done : goal.decreases-loop-done
+decreases-loop-done g l = length l.text - l.done

@@ -1,0 +1,53 @@
+-- What a source has left, what a sink holds, and when a count of faults has risen.
+use Rattle.std.specs.Prelude.{◌≡◌, ℕ, ◌+◌, ◌-◌, ◌^◌, ◌≤◌, ◌<◌, min, Option, List, [], ◌++◌, length, take, IfSome, option_map}
+use Rattle.cluster_io.specs.declared.source.ReadStep.{ReadStep}
+use Rattle.cluster_io.specs.declared.source.ReadStep.TheVariants as read
+use Rattle.cluster_io.specs.declared.sink.WriteStep.{WriteStep}
+use Rattle.cluster_io.specs.declared.sink.WriteStep.TheVariants as write
+
+-- the count of faults after one more, which stays at the last value of its counter
+abbrev pub next_fault : ℕ → ℕ
+next_fault faults = min (faults + 1) (2 ^ 64 - 1)
+
+-- the count is greater, or stands at the last value of its counter
+abbrev pub Rose : ℕ → ℕ → Type 0
+Rose before now = next_fault before ≤ now
+
+-- these bytes were taken from the front of what was left, if that is told; it stays told or untold
+abbrev pub Takes : Option (List ℕ) → List ℕ → Option (List ℕ) → Type 0
+Takes before bytes after = before ≡ option_map (λ left. bytes ++ left) after
+
+-- some bytes, at most this many, were taken from the front of what was left
+pub record TakesAtMost (most : ℕ) (before after : Option (List ℕ)) : Type 0 where
+  pub bytes : List ℕ
+  pub within : length bytes ≤ most
+  pub taken : Takes before bytes after
+
+-- exactly this many bytes were taken from the front of what was left
+pub record TakesCount (count : ℕ) (before after : Option (List ℕ)) : Type 0 where
+  pub bytes : List ℕ
+  pub counted : length bytes ≡ count
+  pub taken : Takes before bytes after
+
+-- these bytes were added to what a sink holds, if that is told; it stays told or untold
+abbrev pub Adds : Option (List ℕ) → List ℕ → Option (List ℕ) → Type 0
+Adds before bytes after = after ≡ option_map (λ held. held ++ bytes) before
+
+-- the first bytes of a text, some number of them, were added to what a sink holds
+pub record AddsPrefix (text : List ℕ) (before after : Option (List ℕ)) : Type 0 where
+  pub count : ℕ
+  pub within : count ≤ length text
+  pub added : Adds before (take count text) after
+
+-- a read gives at least one byte, and no more than the buffer holds; or nothing, at the end of input or at a fault
+abbrev pub Reads : Option (List ℕ) → Option (List ℕ) → ReadStep → List ℕ → Type 0
+Reads before after (read.Got count) buffer =
+    (0 < count) × (count ≤ length buffer) × Takes before (take count buffer) after
+Reads before after read.End buffer = (after ≡ before) × IfSome before (λ left. left ≡ [])
+Reads before after read.Failed buffer = after ≡ before
+
+-- a write takes at least one byte of the piece, from its front; or nothing, at a fault
+abbrev pub Writes : Option (List ℕ) → Option (List ℕ) → WriteStep → List ℕ → Type 0
+Writes before after (write.Took count) piece =
+    (0 < count) × (count ≤ length piece) × Adds before (take count piece) after
+Writes before after write.Failed piece = after ≡ before

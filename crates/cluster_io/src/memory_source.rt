@@ -1,0 +1,94 @@
+ghost use Rattle.std.specs.Prelude.{◌≡◌, ◌≢◌, ◌↔◌, ℕ, ◌≤◌, ◌<◌, Some, [], length, min, Contains};
+ghost use Rattle.cluster_io.specs.Streams.{Reads, Rose, next_fault};
+ghost use Rattle.cluster_io.specs.Memory.{next_call};
+
+use crate::{ReadStep, Source};
+use std::marker::Model;
+
+/// Gives the bytes of a list, at most `step` of them a call. The calls whose numbers, counted
+/// from 1, stand in `fails` fail and give nothing.
+#[derive(Drop)]
+pub struct MemorySource {
+    bytes: Vec<u8>,
+    at: usize,
+    step: usize,
+    fails: Vec<u32>,
+    calls: u32,
+    faults: u64,
+}
+
+impl Model for MemorySource {
+    ghost use Rattle.std.specs.Prelude.{◌≤◌, ◌<◌, drop, vec_len};
+    ghost use Rattle.cluster_io.specs.Memory.{Supply};
+
+    ghost Value = { Supply };
+
+    ghost view = { λ s. record {
+      left = drop s.at s.bytes.items;
+      step = s.step;
+      fails = s.fails.items;
+      calls = s.calls;
+      faults = s.faults;
+    } };
+
+    ghost invariant = { λ s. (s.at ≤ vec_len s.bytes) × (0 < s.step) };
+}
+
+impl MemorySource {
+    /// A source of these bytes.
+    pub fn new(bytes: Vec<u8>, step: usize, fails: Vec<u32>) -> MemorySource
+        requires { 0 < step }
+        ensures left { ⟦<MemorySource as Source>⟧.left result ≡ Some bytes.items }
+        ensures faults { ⟦<MemorySource as Source>⟧.faults result ≡ 0 }
+        ensures step { result.step ≡ step }
+        ensures fails { result.fails ≡ fails.items }
+        ensures calls { result.calls ≡ 0 }
+    {
+        MemorySource {
+            bytes,
+            at: 0,
+            step,
+            fails,
+            calls: 0,
+            faults: 0,
+        }
+    }
+}
+
+impl Source for MemorySource {
+    ghost left = { λ s. Some s.left };
+
+    ghost faults = { λ s. s.faults };
+
+    fn read(&mut self, buf: &mut [u8]) -> ReadStep
+        requires { 0 < length buf.old }
+        ensures bytes { Reads (Some self.old.left) (Some self.new.left) result buf.new }
+        ensures count { self.old.faults ≤ self.new.faults }
+        ensures cause { result ≡ ReadStep.Failed → Rose self.old.faults self.new.faults }
+
+        // It gives as much as it may, and fails at the calls named and no other.
+        ensures gives { (n : ℕ) → result ≡ ReadStep.Got n →
+            n ≡ min (min (length self.old.left) self.old.step) (length buf.old) }
+        ensures fails { (result ≡ ReadStep.Failed) ↔ Contains self.old.fails self.new.calls }
+        ensures failure_counted { result ≡ ReadStep.Failed →
+            self.new.faults ≡ next_fault self.old.faults }
+        ensures others_not_counted { result ≢ ReadStep.Failed → self.new.faults ≡ self.old.faults }
+        ensures calls { self.new.calls ≡ next_call self.old.calls }
+        ensures step_stays { self.new.step ≡ self.old.step }
+        ensures fails_stay { self.new.fails ≡ self.old.fails }
+    {
+        self.calls = self.calls.saturating_add(1);
+        if self.fails.contains(&self.calls) {
+            self.faults = self.faults.saturating_add(1);
+            return ReadStep::Failed;
+        }
+        let left = &self.bytes[self.at..];
+        let count = left.len().min(self.step).min(buf.len());
+        if count == 0 {
+            return ReadStep::End;
+        }
+        buf[..count].copy_from_slice(&left[..count]);
+        self.at += count;
+        ReadStep::Got(count)
+    }
+}

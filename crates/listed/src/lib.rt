@@ -1,0 +1,12 @@
+//! A list that contracts see as a plain list.
+//!
+//! Every struct of the product keeps its lists in this type, so that two structs are equal where their
+//! values are, whatever room the memory behind them has.
+#![tactic(auto)]
+
+mod list;
+
+pub use list::Listed;
+
+#[cfg(test)]
+mod tests;

@@ -1,0 +1,10 @@
+pub mod Lines
+pub mod Form
+pub mod Place
+pub mod Plan
+pub mod Transition
+pub mod Text
+pub mod Run
+pub mod Status
+pub mod Words
+pub mod Answers

@@ -1,0 +1,41 @@
+/// What `--version` writes.
+pub const VERSION: &str = "cekpayo 0.1.0\n";
+
+/// What `--help` writes.
+pub const HELP: &str = "\
+cekpayo works out what a high-availability cluster does with its resources,
+and replays how its actions ended.
+
+Usage: cekpayo WORD < INPUT > OUTPUT
+
+  replay     reads a configuration in crmsh syntax and its status, and writes
+             the run: targets, actions that begin and end, transitions. Only a
+             first form of input is carried out so far: the lines `node NAME`
+             (1 to 64 of them), `primitive ID AGENT`, `%status`, `now SECONDS`,
+             `quorum yes`, and `node NAME online` for each node in order
+  --help     reads nothing, and writes this text
+  --version  reads nothing, and writes the name and version of the program
+
+Not built yet (status 2):
+
+  check      reads as replay does, and writes the canonical configuration
+  scores     reads as replay does, and writes scores and targets
+  graph      reads as replay does, and writes the actions and what precedes each
+  gen N      reads nothing, and writes a summary of the generated case N
+  world N    reads as replay does, and writes a run in the simulated world N
+  audit      reads as replay does, with a run, and writes whether it is lawful
+  survive    reads as replay does, and writes what the loss of each node does
+
+Exit status:
+
+  0  done: the input was read to its end, and the whole text was written
+  1  memory was refused; a prefix of the text was written
+  2  the words are none of the forms; nothing was written
+  3  reading failed; nothing was written
+  4  writing failed; a prefix of the text was written
+  5  the input is refused; `refused LINE CAUSE` was written
+  6  a result line doesn't apply; the run so far and `unexpected LINE` were
+     written
+  7  the input has more than 16777216 bytes; nothing was written
+  8  the run to be audited isn't lawful; its first wrong line was written
+";

@@ -1,0 +1,44 @@
+ghost use Rattle.std.specs.Prelude.{◌≡◌};
+ghost use Rattle.sim_core.specs.Status.{code_of};
+
+/// How a call of `run` ended.
+#[derive(Clone, Copy, Debug, PartialEq, Eq)]
+pub enum Status {
+    /// The input was read to its end, and the whole text was written.
+    Done,
+    /// Memory was refused. A prefix of the text was written.
+    NoMemory,
+    /// The words are none of the forms. Nothing was read or written.
+    Usage,
+    /// The source failed. Nothing was written.
+    ReadFault,
+    /// The sink failed. A prefix of the text was written.
+    WriteFault,
+    /// The input isn't read. A line `refused LINE CAUSE` was written.
+    Refused,
+    /// A result line doesn't apply. The run up to it was written, and a line `unexpected LINE`.
+    Unexpected,
+    /// The source gives more than 16,777,216 bytes. Nothing was written.
+    TooLarge,
+    /// A trace isn't that of a lawful run.
+    NotLawful,
+}
+
+impl Status {
+    /// The exit status of the program: 0 to 8, in the order of the variants.
+    pub fn code(self) -> u8
+        ensures { result ≡ code_of self }
+    {
+        match self {
+            Status::Done => 0,
+            Status::NoMemory => 1,
+            Status::Usage => 2,
+            Status::ReadFault => 3,
+            Status::WriteFault => 4,
+            Status::Refused => 5,
+            Status::Unexpected => 6,
+            Status::TooLarge => 7,
+            Status::NotLawful => 8,
+        }
+    }
+}

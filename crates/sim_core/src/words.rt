@@ -1,0 +1,32 @@
+ghost use Rattle.std.specs.Prelude.{◌≡◌, map};
+ghost use Rattle.std.specs.String.{string_bytes};
+ghost use Rattle.sim_core.specs.Words.{command_of, word_command};
+
+/// What the words after the program's name ask for.
+#[derive(Clone, Copy, Debug, PartialEq, Eq)]
+pub enum Command {
+    Replay,
+    Help,
+    Version,
+}
+
+fn one_word(word: &str) -> Option<Command>
+    ensures { result ≡ word_command word.now }
+{
+    match word {
+        "replay" => Some(Command::Replay),
+        "--help" => Some(Command::Help),
+        "--version" => Some(Command::Version),
+        _ => None,
+    }
+}
+
+/// The command of these words. None exactly where they are none of the forms.
+pub fn command_of(words: &[String]) -> Option<Command>
+    ensures { result ≡ command_of (map string_bytes words.now) }
+{
+    match words {
+        [word] => one_word(word.as_str()),
+        _ => None,
+    }
+}
