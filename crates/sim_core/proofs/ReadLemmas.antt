@@ -5,7 +5,8 @@ use Rattle.std.specs.Str.Lines.{lines}
 use Rattle.std.proofs.lemmas.List.{length-map}
 use Rattle.sim_core.specs.declared.cluster.Cluster.{Cluster}
 use Rattle.sim_core.specs.Form.{Says, form_lines}
-use Rattle.sim_core.specs.Lines.{is_plain, words_of, is_name, is_agent, IsSeconds}
+use Rattle.crm_lex.specs.Names.{is_name}
+use Rattle.sim_core.specs.Lines.{is_plain, words_of, is_agent, IsSeconds}
 use Rattle.sim_core.proofs.FirstLines.{all_found, found_all}
 use Rattle.sim_core.proofs.FormLemmas.{length-form_lines, short_lines}
 

@@ -2,7 +2,8 @@
 use Rattle.std.specs.Prelude.{◌≡◌, ◌≢◌, ℕ, ◌<◌, ◌≤◌, true, List, [], ◌∷◌, ◌++◌, length, map, codes, AllPairs}
 use Rattle.std.specs.List.{list_all}
 use Rattle.sim_core.specs.declared.cluster.Cluster.{Cluster}
-use Rattle.sim_core.specs.Lines.{is_plain, word_lines, is_name, is_agent, IsSeconds}
+use Rattle.crm_lex.specs.Names.{is_name}
+use Rattle.sim_core.specs.Lines.{is_plain, word_lines, is_agent, IsSeconds}
 
 -- `node NAME`
 abbrev pub node_line : List ℕ → List (List ℕ)

@@ -1,4 +1,4 @@
--- The words of a text, and what a name, an agent and a number of seconds are.
+-- The words of a text, and what an agent and a number of seconds are.
 use Rattle.std.specs.Prelude.{◌≡◌, ℕ, ◌^◌, ◌<◌, Bool, false, not, ◌==◌, ◌&&◌, ◌||◌, nat_le, List, [], ◌∷◌, length, filter, map}
 use Rattle.std.specs.List.{list_all, slice_split}
 use Rattle.std.specs.Str.Lines.{lines}
@@ -22,15 +22,6 @@ words_of line = filter (λ part. not (is_empty part)) (slice_split is_blank line
 -- the words of each line of a text. A line ends at a line feed, or at the end of the text
 abbrev pub word_lines : List ℕ → List (List (List ℕ))
 word_lines text = map words_of (lines text)
-
--- an ASCII letter or digit, `_`, `-` or `.`
-abbrev pub is_name_byte : ℕ → Bool
-is_name_byte b =
-    nat_le 97 b && nat_le b 122 || nat_le 65 b && nat_le b 90 || nat_le 48 b && nat_le b 57 || b == 95 || b == 45 || b == 46
-
--- the name of a node or a resource: 1 to 256 such bytes (rule of this project)
-abbrev pub is_name : List ℕ → Bool
-is_name word = not (is_empty word) && nat_le (length word) 256 && list_all is_name_byte word
 
 -- the parts of a word round its colons
 abbrev pub colon_parts : List ℕ → List (List ℕ)

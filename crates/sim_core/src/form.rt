@@ -3,7 +3,8 @@ ghost use Rattle.std.specs.Option.{IfNone};
 ghost use Rattle.std.specs.List.{list_all};
 ghost use Rattle.sim_core.specs.declared.cluster.Cluster.{Cluster as ClusterOf};
 ghost use Rattle.sim_core.specs.Form.{Says, node_line, online_line, form_lines};
-ghost use Rattle.sim_core.specs.Lines.{is_name, is_agent, IsSeconds};
+ghost use Rattle.crm_lex.specs.Names.{is_name};
+ghost use Rattle.sim_core.specs.Lines.{is_agent, IsSeconds};
 
 use crate::cluster::Cluster;
 use crate::lines::{Words, first_lines, plain_text};

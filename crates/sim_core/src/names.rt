@@ -1,6 +1,7 @@
 ghost use Rattle.std.specs.Prelude.{◌≡◌, ◌≢◌, ◌↔◌, not, length, IsTrue, AllPairs};
 ghost use Rattle.std.specs.List.{list_all};
-ghost use Rattle.sim_core.specs.Lines.{is_name, is_name_byte, is_empty, colon_parts, starts_with_at, is_agent, IsSeconds};
+ghost use Rattle.crm_lex.specs.Names.{is_name, is_name_byte};
+ghost use Rattle.sim_core.specs.Lines.{is_empty, colon_parts, starts_with_at, is_agent, IsSeconds};
 
 use crm_lex::Name;
 

@@ -1,0 +1,4 @@
+pub mod SmallClusters
+mod StateExamples
+mod PlaceExamples
+mod PrecedenceExamples

@@ -1,0 +1,151 @@
+-- What has to be done: fences, probes, the steps of each cell, monitors (Pacemaker Administration, "Probes" and recovery; which steps a state
+-- and a target need is this project's table).
+use Rattle.std.specs.Prelude.{◌≡◌, ◌≢◌, ◌⊎◌, ℕ, ◌<◌, nat_lt, ◌&&◌, Bool, true, false, not, if◌then◌else◌, List, [], ◌∷◌, length, Contains}
+use Rattle.std.specs.List.{list_any}
+use Rattle.cluster_types.specs.declared.cluster.Cluster.{Cluster}
+use Rattle.cluster_types.specs.declared.journal.Action.{Action}
+use Rattle.cluster_types.specs.declared.journal.Action.TheVariants.{Fence, Probe, Cell, MigrateTo, MigrateFrom}
+use Rattle.cluster_types.specs.declared.journal.Event.{Event}
+use Rattle.cluster_types.specs.declared.leaf.Monitor.{Monitor as MonitorOf}
+use Rattle.cluster_types.specs.declared.leaf.Op.{Op}
+use Rattle.cluster_types.specs.declared.leaf.Op.TheVariants as op
+use Rattle.cluster_types.specs.declared.leaf.Role.{Role}
+use Rattle.cluster_types.specs.declared.leaf.Role.TheVariants as role
+use Rattle.cluster_types.specs.declared.placement.Target.{Target}
+use Rattle.cluster_types.specs.declared.placement.Target.TheVariants as target
+use Rattle.cluster_types.specs.declared.rules.Colocation.{Colocation}
+use Rattle.cluster_types.specs.declared.rules.Order.{Order}
+use Rattle.cluster_types.specs.declared.rules.OrderKind.TheVariants as kind
+use Rattle.cluster_types.specs.declared.states.CellState.{CellState}
+use Rattle.cluster_types.specs.declared.states.CellState.TheVariants as cell
+use Rattle.cluster_types.specs.CellStates.{cell_state, is_running}
+use Rattle.cluster_types.specs.Choice.{is_separation}
+use Rattle.cluster_types.specs.Fields.{copies, monitors, is_cloned, is_promotable, may_migrate}
+use Rattle.cluster_types.specs.Held.{Gives}
+use Rattle.cluster_types.specs.May.{may}
+use Rattle.cluster_types.specs.Pins.{is_pinned, is_unprobed_state}
+use Rattle.cluster_types.specs.Rights.{is_to_be_fenced, may_start}
+use Rattle.cluster_types.specs.Terms.{active_count}
+use Rattle.cluster_types.specs.Tables.{Targets, holds_role, is_in_scope, is_somewhere}
+
+-- the steps that bring a cell from its state to its target. A cycled cell is stopped and started again on the way
+abbrev pub steps_of : CellState → Target → Bool → List Op
+steps_of cell.Unprobed target.Started cycled = op.Start ∷ []
+steps_of cell.Unprobed target.Promoted cycled = op.Start ∷ op.Promote ∷ []
+steps_of cell.Off target.Started cycled = op.Start ∷ []
+steps_of cell.Off target.Promoted cycled = op.Start ∷ op.Promote ∷ []
+steps_of cell.On target.Nowhere cycled = op.Stop ∷ []
+steps_of cell.On target.Started cycled = if cycled then op.Stop ∷ op.Start ∷ [] else []
+steps_of cell.On target.Promoted cycled = if cycled then op.Stop ∷ op.Start ∷ op.Promote ∷ [] else op.Promote ∷ []
+steps_of cell.Promoted target.Nowhere cycled = op.Demote ∷ op.Stop ∷ []
+steps_of cell.Promoted target.Started cycled = if cycled then op.Demote ∷ op.Stop ∷ op.Start ∷ [] else op.Demote ∷ []
+steps_of cell.Promoted target.Promoted cycled = if cycled then op.Demote ∷ op.Stop ∷ op.Start ∷ op.Promote ∷ [] else []
+steps_of cell.Failed target.Nowhere cycled = op.Stop ∷ []
+steps_of cell.Failed target.Started cycled = op.Stop ∷ op.Start ∷ []
+steps_of cell.Failed target.Promoted cycled = op.Stop ∷ op.Start ∷ op.Promote ∷ []
+steps_of _ _ cycled = []
+
+-- only what runs can be cycled
+abbrev pub runs : CellState → Bool
+runs cell.On = true
+runs cell.Promoted = true
+runs _ = false
+
+-- an action of the first that takes its role away or gives it anew, by the order's word for it
+abbrev pub disturbs : Op → Op → Bool
+disturbs op.Start op.Start = true
+disturbs op.Start op.Stop = true
+disturbs op.Promote op.Promote = true
+disturbs op.Promote op.Demote = true
+disturbs op.Promote op.Stop = true
+disturbs _ _ = false
+
+abbrev pub has_disturbing : Op → List Op → Bool
+has_disturbing word steps = list_any (disturbs word) steps
+
+-- the role of a monitor is that of the target
+abbrev pub is_monitor_for : Role → Target → Bool
+is_monitor_for role.Started target.Started = true
+is_monitor_for role.Promoted target.Promoted = true
+is_monitor_for _ _ = false
+
+module _ (c : Cluster) (es : List Event) (targets : Targets) where
+  -- the cell can be cycled: what runs there is to stay, and the cluster may start
+  abbrev pub can_cycle : ℕ → ℕ → Bool
+  can_cycle r n = may_start c es && not (is_pinned c es r) && runs (cell_state c r n es) && is_somewhere (targets r n)
+
+  abbrev pub steps_at : ℕ → ℕ → Bool → List Op
+  steps_at r n cycled = if is_pinned c es r then [] else steps_of (cell_state c r n es) (targets r n) cycled
+
+  -- the least set of cells that are stopped and started again
+  pub data Cycled : ℕ → ℕ → Type 0 where
+    -- the leaf is active in more cells than it has copies
+    by_copies : (r n : ℕ) → r < length c.leaves → n < length c.nodes → can_cycle r n ≡ true → nat_lt (copies c r) (active_count c es r) ≡ true → Cycled r n
+    -- by a symmetrical mandatory order of starts or promotes whose first is disturbed in scope, by its own steps
+    by_order : (o : Order) (n m : ℕ) (first then_role : Role) → Contains c.orders o → o.kind ≡ kind.Mandatory → o.symmetrical ≡ true
+        → Gives o.first_op first → Gives o.then_op then_role → n < length c.nodes → m < length c.nodes → is_in_scope o n m ≡ true
+        → can_cycle o.then_leaf n ≡ true → holds_role targets o.then_leaf then_role n ≡ true
+        → has_disturbing o.first_op (steps_at o.first m false) ≡ true → Cycled o.then_leaf n
+    -- or because it is cycled itself
+    by_cycled : (o : Order) (n m : ℕ) (first then_role : Role) → Contains c.orders o → o.kind ≡ kind.Mandatory → o.symmetrical ≡ true
+        → Gives o.first_op first → Gives o.then_op then_role → n < length c.nodes → m < length c.nodes → is_in_scope o n m ≡ true
+        → can_cycle o.then_leaf n ≡ true → holds_role targets o.then_leaf then_role n ≡ true
+        → Cycled o.first m → has_disturbing o.first_op (steps_at o.first m true) ≡ true → Cycled o.then_leaf n
+
+  -- the cell gets the step
+  abbrev pub GetsStep : ℕ → ℕ → Op → Type 0
+  GetsStep r n step =
+      (Cycled r n × Contains (steps_at r n true) step) ⊎ ((¬ Cycled r n) × Contains (steps_at r n false) step)
+
+  -- the cell gets a step of any kind
+  abbrev pub GetsAny : ℕ → ℕ → Type 0
+  GetsAny r n = (step : Op) × GetsStep r n step
+
+  -- the monitor is needed: the cell has a target of its role, and it isn't running or the cell gets a step
+  abbrev pub NeedsMonitor : ℕ → ℕ → MonitorOf → Type 0
+  NeedsMonitor r n m =
+      (is_pinned c es r ≡ false) × (is_monitor_for m.role (targets r n) ≡ true)
+      × ((is_running r n m.interval_ms es ≡ false) ⊎ GetsAny r n)
+
+  -- what has to be done, before live migration
+  pub data FirstSet : Action → Type 0 where
+    fence : (n : ℕ) → n < length c.nodes → is_to_be_fenced c n es ≡ true → FirstSet (Fence n)
+    probe : (r n : ℕ) → r < length c.leaves → n < length c.nodes → is_unprobed_state (cell_state c r n es) ≡ true → FirstSet (Probe r n)
+    step : (r n : ℕ) (o : Op) → r < length c.leaves → n < length c.nodes → GetsStep r n o → FirstSet (Cell o r n 0 role.Started)
+    monitor : (r n : ℕ) (m : MonitorOf) → r < length c.leaves → n < length c.nodes → Contains (monitors c r) m → NeedsMonitor r n m
+        → FirstSet (Cell op.Monitor r n m.interval_ms m.role)
+
+  -- the leaf gets a step anywhere
+  abbrev pub IsDisturbed : ℕ → Type 0
+  IsDisturbed r = (n : ℕ) × (n < length c.nodes) × GetsAny r n
+
+  -- an order leaves a migration of r be: it isn't one of r's, r is its first by a start, or the other leaf gets no step
+  abbrev pub IsHarmlessOrder : ℕ → Order → Type 0
+  IsHarmlessOrder r o =
+      (o.first ≡ r → ((o.kind ≢ kind.Serialize) × (o.first_op ≡ op.Start)) ⊎ (¬ IsDisturbed o.then_leaf))
+      × (o.then_leaf ≡ r → o.first ≢ r → ¬ IsDisturbed o.first)
+
+  -- a separation likewise
+  abbrev pub IsHarmlessColocation : ℕ → Colocation → Type 0
+  IsHarmlessColocation r col =
+      is_separation col ≡ true → (col.dependent ≡ r → ¬ IsDisturbed col.primary) × (col.primary ≡ r → ¬ IsDisturbed col.dependent)
+
+  -- the leaf migrates live from n to m (Pacemaker Explained, "Migrating Resources"; when a rule is harmless is a rule of this project)
+  pub record Migrates (r n m : ℕ) : Type 0 where
+    pub allowed : may_migrate c r ≡ true
+    pub uncloned : is_cloned c r ≡ false
+    pub plain : is_promotable c r ≡ false
+    pub managed : is_pinned c es r ≡ false
+    pub running : cell_state c r n es ≡ cell.On
+    pub nowhere_else : (k : ℕ) → k < length c.nodes → k ≢ n → may c r k es ≡ false
+    pub away : m ≢ n
+    pub stopped : FirstSet (Cell op.Stop r n 0 role.Started)
+    pub started : FirstSet (Cell op.Start r m 0 role.Started)
+    pub orders : (o : Order) → Contains c.orders o → IsHarmlessOrder r o
+    pub colocations : (col : Colocation) → Contains c.colocations col → IsHarmlessColocation r col
+
+  -- what has to be done: where a leaf migrates, it is sent and taken in instead of started
+  pub data Needed : Action → Type 0 where
+    kept : (a : Action) → FirstSet a → ((r n m : ℕ) → Migrates r n m → a ≢ Cell op.Start r m 0 role.Started) → Needed a
+    sent : (r n m : ℕ) → Migrates r n m → Needed (MigrateTo r n m)
+    taken_in : (r n m : ℕ) → Migrates r n m → Needed (MigrateFrom r n m)

@@ -1,0 +1,55 @@
+-- What a journal tells of a node.
+use Rattle.std.specs.Prelude.{ℕ, Bool, true, false, not, ◌&&◌, if◌then◌else◌, Option, Some, None, List, length, slice_get}
+use Rattle.std.specs.List.{list_any, range_with_len}
+use Rattle.std.specs.Option.{option_map_or}
+use Rattle.cluster_types.specs.declared.cluster.Cluster.{Cluster}
+use Rattle.cluster_types.specs.declared.journal.Event.{Event}
+use Rattle.cluster_types.specs.declared.journal.Event.TheVariants.{Ended}
+use Rattle.cluster_types.specs.declared.node.Node.{Node}
+use Rattle.cluster_types.specs.declared.states.NodeState.{NodeState}
+use Rattle.cluster_types.specs.declared.states.NodeState.TheVariants.{Online, Offline, Unclean}
+use Rattle.cluster_types.specs.Failures.{failures_in_force}
+use Rattle.cluster_types.specs.Journals.{NodeSign, joined, went_down, was_lost, was_fenced, last_sign}
+use Rattle.cluster_types.specs.Outcomes.{effective_fail, is_fence}
+
+abbrev pub wants_fence : Cluster → Event → Bool
+wants_fence c (Ended k a o moment) = is_fence (effective_fail c a)
+wants_fence c _ = false
+
+-- a failure in force on the node wants it fenced. One that a failure timeout has forgotten is still in force
+abbrev pub is_to_blame : Cluster → ℕ → List Event → Bool
+is_to_blame c n es =
+    list_any (λ r. list_any (wants_fence c) (failures_in_force c r n es)) (range_with_len 0 (length c.leaves))
+
+-- the state by the last that is shown of the node: a node that joined is online, but unclean where a failure wants it fenced; a lost node is
+-- unclean, but offline without fencing; any other node is offline (Pacemaker Explained, "Fencing")
+abbrev pub state_by : Cluster → ℕ → List Event → Option NodeSign → NodeState
+state_by c n es (Some joined) = if is_to_blame c n es then Unclean else Online
+state_by c n es (Some went_down) = Offline
+state_by c n es (Some was_lost) = if c.properties.fencing then Unclean else Offline
+state_by c n es (Some was_fenced) = Offline
+state_by c n es None = Offline
+
+abbrev pub node_state : Cluster → ℕ → List Event → NodeState
+node_state c n es = state_by c n es (last_sign n es)
+
+abbrev pub is_online_state : NodeState → Bool
+is_online_state Online = true
+is_online_state _ = false
+
+abbrev pub is_unclean_state : NodeState → Bool
+is_unclean_state Unclean = true
+is_unclean_state _ = false
+
+abbrev pub is_online : Cluster → ℕ → List Event → Bool
+is_online c n es = is_online_state (node_state c n es)
+
+abbrev pub is_unclean : Cluster → ℕ → List Event → Bool
+is_unclean c n es = is_unclean_state (node_state c n es)
+
+abbrev pub is_standby : Cluster → ℕ → Bool
+is_standby c n = option_map_or (λ (node : Node). node.standby) (slice_get c.nodes n) false
+
+-- the node may run resources: it is online and not in standby (Pacemaker Explained, "standby")
+abbrev pub is_usable : Cluster → ℕ → List Event → Bool
+is_usable c n es = is_online c n es && not (is_standby c n)

@@ -1,0 +1,116 @@
+-- The order in which actions are numbered (rule of this project).
+use Rattle.std.specs.Prelude.{◌≡◌, ◌↔◌, ℕ, suc, zero, ◌+◌, ◌*◌, nat_lt, ◌==◌, ◌&&◌, ◌||◌, Bool, true, false, not, if◌then◌else◌, List, [], ◌∷◌, ◌++◌, length, map, filter, fold, max, Contains, AllPairs}
+use Rattle.std.specs.List.{list_any, flat_map, range_with_len}
+use Rattle.cluster_types.specs.declared.cluster.Cluster.{Cluster}
+use Rattle.cluster_types.specs.declared.journal.Action.{Action}
+use Rattle.cluster_types.specs.declared.journal.Action.TheVariants.{Fence, Probe, Cell, MigrateTo, MigrateFrom}
+use Rattle.cluster_types.specs.declared.leaf.Op.{Op}
+use Rattle.cluster_types.specs.declared.leaf.Op.TheVariants as op
+use Rattle.cluster_types.specs.declared.rules.Order.{Order}
+use Rattle.cluster_types.specs.Fields.{is_promotable}
+use Rattle.cluster_types.specs.Precedence.{is_same_op, is_up, inverse, takers, is_migrating, is_serialize}
+
+-- a step of a leaf: one of the four operations that change it
+pub record StepOf : Type 0 where
+  pub what : Op
+  pub leaf : ℕ
+
+abbrev pub step_of : Op → ℕ → StepOf
+step_of o r = record { what = o; leaf = r }
+
+abbrev pub is_same_step : StepOf → StepOf → Bool
+is_same_step a b = is_same_op a.what b.what && a.leaf == b.leaf
+
+-- a step that must come before another
+pub record Link : Type 0 where
+  pub before : StepOf
+  pub after : StepOf
+
+abbrev pub link : Op → ℕ → Op → ℕ → Link
+link o r p s = record { before = step_of o r; after = step_of p s }
+
+-- on one cell of a promotable leaf
+abbrev pub leaf_links : ℕ → List Link
+leaf_links r = link op.Demote r op.Stop r ∷ link op.Start r op.Promote r ∷ []
+
+abbrev pub inverse_links : Order → List Link
+inverse_links o =
+    if is_up o.first_op && is_up o.then_op
+    then flat_map (λ p. map (λ q. link p o.then_leaf q o.first) (takers o.first_op)) (takers o.then_op)
+    else link (inverse o.then_op) o.then_leaf (inverse o.first_op) o.first ∷ []
+
+abbrev pub order_links : Order → List Link
+order_links o =
+    if is_serialize o.kind then []
+    else link o.first_op o.first o.then_op o.then_leaf ∷ (if o.symmetrical then inverse_links o else [])
+
+-- only promotable leaves have promote and demote steps
+abbrev pub is_step : Cluster → StepOf → Bool
+is_step c s = is_same_op s.what op.Start || is_same_op s.what op.Stop || is_promotable c s.leaf
+
+-- a link counts within stops and demotes, and within starts and promotes
+abbrev pub is_within_phase : Link → Bool
+is_within_phase l = is_up l.before.what && is_up l.after.what || not (is_up l.before.what) && not (is_up l.after.what)
+
+-- the links of a cluster, whether their steps are needed now or not
+abbrev pub links : Cluster → List Link
+links c =
+    filter (λ l. is_within_phase l && is_step c l.before && is_step c l.after)
+    (flat_map leaf_links (range_with_len 0 (length c.leaves)) ++ flat_map order_links c.orders)
+
+-- the length of the longest chain of links that ends at a step, of those at most this long
+abbrev pub chain_within : Cluster → ℕ → StepOf → ℕ
+chain_within c zero s = 0
+chain_within c (suc most) s =
+    fold max 0 (map (λ l. chain_within c most l.before + 1) (filter (λ l. is_same_step l.after s) (links c)))
+
+-- the rank of a step. Without a loop no chain is longer than there are steps
+abbrev pub rank : Cluster → StepOf → ℕ
+rank c s = chain_within c (4 * length c.leaves) s
+
+-- the links have no loop: no step is reached from itself
+abbrev pub reaches : Cluster → ℕ → StepOf → StepOf → Bool
+reaches c zero s t = false
+reaches c (suc most) s t = list_any (λ l. is_same_step l.before s && (is_same_step l.after t || reaches c most l.after t)) (links c)
+
+abbrev pub HasNoLoop : Cluster → Type 0
+HasNoLoop c = (s : StepOf) → reaches c (4 * length c.leaves) s s ≡ false
+
+-- where an action stands in the numbers: by phase, rank, leaf, node and interval
+pub record Place : Type 0 where
+  pub phase : ℕ
+  pub ranked : ℕ
+  pub leaf : ℕ
+  pub node : ℕ
+  pub interval : ℕ
+
+abbrev pub place : ℕ → ℕ → ℕ → ℕ → ℕ → Place
+place phase ranked r n interval = record { phase = phase; ranked = ranked; leaf = r; node = n; interval = interval }
+
+-- the phases: fences, probes, stops and demotes, sends, takings in, the stops of migrating leaves, starts and promotes, monitors
+abbrev pub place_of : Cluster → List Action → Action → Place
+place_of c actions (Fence n) = place 0 0 0 n 0
+place_of c actions (Probe r n) = place 1 0 r n 0
+place_of c actions (Cell op.Stop r n interval role) = if is_migrating actions r then place 5 0 r n 0 else place 2 (rank c (step_of op.Stop r)) r n 0
+place_of c actions (Cell op.Demote r n interval role) = place 2 (rank c (step_of op.Demote r)) r n 0
+place_of c actions (MigrateTo r source target) = place 3 0 r source 0
+place_of c actions (MigrateFrom r source target) = place 4 0 r target 0
+place_of c actions (Cell op.Start r n interval role) = place 6 (rank c (step_of op.Start r)) r n 0
+place_of c actions (Cell op.Promote r n interval role) = place 6 (rank c (step_of op.Promote r)) r n 0
+place_of c actions (Cell op.Monitor r n interval role) = place 7 0 r n interval
+
+abbrev pub is_before : Place → Place → Bool
+is_before a b =
+    nat_lt a.phase b.phase || a.phase == b.phase
+    && (nat_lt a.ranked b.ranked || a.ranked == b.ranked
+    && (nat_lt a.leaf b.leaf || a.leaf == b.leaf
+    && (nat_lt a.node b.node || a.node == b.node && nat_lt a.interval b.interval)))
+
+-- the one action has a lower number than the other
+abbrev pub is_earlier : Cluster → List Action → Action → Action → Bool
+is_earlier c actions x y = is_before (place_of c actions x) (place_of c actions y)
+
+-- a list has just these actions, each once, in the order of their numbers
+pub record AreNumbered (c : Cluster) (Needed : Action → Type 0) (actions : List Action) : Type 0 where
+  pub needed : (a : Action) → Contains actions a ↔ Needed a
+  pub in_order : AllPairs (λ x y. is_earlier c actions x y ≡ true) actions

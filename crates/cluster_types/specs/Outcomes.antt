@@ -1,0 +1,97 @@
+-- Which outcomes of an action are good, bad or ignored, and what follows a bad one.
+use Rattle.std.specs.Prelude.{ℕ, Bool, true, false, not, ◌==◌, ◌&&◌, List, [], ◌∷◌, find}
+use Rattle.std.specs.List.{list_any}
+use Rattle.std.specs.Option.{option_map_or}
+use Rattle.cluster_types.specs.declared.cluster.Cluster.{Cluster}
+use Rattle.cluster_types.specs.declared.journal.Action.{Action}
+use Rattle.cluster_types.specs.declared.journal.Action.TheVariants.{Fence, Probe, Cell, MigrateTo, MigrateFrom}
+use Rattle.cluster_types.specs.declared.journal.Outcome.{Outcome}
+use Rattle.cluster_types.specs.declared.journal.Outcome.TheVariants.{Code, TimedOut, Gone}
+use Rattle.cluster_types.specs.declared.leaf.Monitor.{Monitor as MonitorOf}
+use Rattle.cluster_types.specs.declared.leaf.Op.{Op}
+use Rattle.cluster_types.specs.declared.leaf.Op.TheVariants.{Start, Stop, Promote, Demote, Monitor}
+use Rattle.cluster_types.specs.declared.leaf.OnFail.{OnFail}
+use Rattle.cluster_types.specs.declared.leaf.OnFail.TheVariants as on_fail
+use Rattle.cluster_types.specs.Fields.{monitors, start_fail, stop_fail, promote_fail, demote_fail}
+
+-- the outcome is one of these exit codes
+abbrev pub is_among : List ℕ → Outcome → Bool
+is_among codes (Code code) = list_any (λ k. k == code) codes
+is_among codes TimedOut = false
+is_among codes Gone = false
+
+-- the good exit codes of an operation: success; of a monitor also running, degraded and promoted
+abbrev pub good_codes_of_op : Op → List ℕ
+good_codes_of_op Start = 0 ∷ []
+good_codes_of_op Stop = 0 ∷ []
+good_codes_of_op Promote = 0 ∷ []
+good_codes_of_op Demote = 0 ∷ []
+good_codes_of_op Monitor = 0 ∷ 190 ∷ 8 ∷ 191 ∷ []
+
+-- the good exit codes of an action; of a probe not running too
+-- (OCF Resource Agent API 1.1, exit status codes; which are good of which action is a rule of this project)
+abbrev pub good_codes : Action → List ℕ
+good_codes (Fence n) = 0 ∷ []
+good_codes (Probe r n) = 0 ∷ 190 ∷ 7 ∷ 8 ∷ 191 ∷ []
+good_codes (Cell op r n ms role) = good_codes_of_op op
+good_codes (MigrateTo r source target) = 0 ∷ []
+good_codes (MigrateFrom r source target) = 0 ∷ []
+
+-- the outcome is bad: another exit code, or a timeout. An action that is gone with its node is neither good nor bad
+abbrev pub is_bad : Action → Outcome → Bool
+is_bad a (Code code) = not (list_any (λ k. k == code) (good_codes a))
+is_bad a TimedOut = true
+is_bad a Gone = false
+
+-- what the failure of a monitor of this interval leads to; without a statement of the interval it is restart
+abbrev pub monitor_fail : List MonitorOf → ℕ → OnFail
+monitor_fail ms interval = option_map_or (λ (m : MonitorOf). m.on_fail) (find (λ m. m.interval_ms == interval) ms) on_fail.Restart
+
+-- what the failure of an operation leads to
+abbrev pub op_fail : Cluster → ℕ → Op → ℕ → OnFail
+op_fail c r Start interval = start_fail c r
+op_fail c r Stop interval = stop_fail c r
+op_fail c r Promote interval = promote_fail c r
+op_fail c r Demote interval = demote_fail c r
+op_fail c r Monitor interval = monitor_fail (monitors c r) interval
+
+-- what the failure of an action leads to; of a probe and of a migration it is restart (Pacemaker Explained, "on-fail")
+abbrev pub fail_of : Cluster → Action → OnFail
+fail_of c (Fence n) = on_fail.Restart
+fail_of c (Probe r n) = on_fail.Restart
+fail_of c (Cell op r n interval role) = op_fail c r op interval
+fail_of c (MigrateTo r source target) = on_fail.Restart
+fail_of c (MigrateFrom r source target) = on_fail.Restart
+
+-- without fencing a failure that wants its node fenced blocks the resource instead (rule of this project)
+abbrev pub effective : Bool → OnFail → OnFail
+effective false on_fail.Fence = on_fail.Block
+effective fencing other = other
+
+abbrev pub effective_fail : Cluster → Action → OnFail
+effective_fail c a = effective c.properties.fencing (fail_of c a)
+
+abbrev pub is_ignore : OnFail → Bool
+is_ignore on_fail.Ignore = true
+is_ignore _ = false
+
+abbrev pub is_block : OnFail → Bool
+is_block on_fail.Block = true
+is_block _ = false
+
+abbrev pub is_stop : OnFail → Bool
+is_stop on_fail.Stop = true
+is_stop _ = false
+
+abbrev pub is_fence : OnFail → Bool
+is_fence on_fail.Fence = true
+is_fence _ = false
+
+-- the action is a recurring monitor
+abbrev pub is_monitor : Action → Bool
+is_monitor (Cell Monitor r n interval role) = true
+is_monitor _ = false
+
+-- the outcome is ignored: a bad one of a monitor whose on-fail is ignore. It shows that the monitor runs, and nothing else
+abbrev pub is_ignored : Cluster → Action → Outcome → Bool
+is_ignored c a o = is_monitor a && is_bad a o && is_ignore (fail_of c a)

@@ -1,0 +1,227 @@
+-- How a transition goes: which action may begin, which answers apply, and what each of them adds to the journal (Pacemaker Administration,
+-- "Transitions"; that all that may begin does so before an answer is taken is a rule of this project).
+use Rattle.std.specs.Prelude.{◌≡◌, ℕ, ◌+◌, ◌-◌, ◌^◌, ◌<◌, ◌≤◌, nat_lt, ◌==◌, ◌&&◌, ◌||◌, Bool, true, false, not, Option, Some, List, [], ◌∷◌, ◌++◌, length, filter, slice_get, count_by, find}
+use Rattle.std.specs.List.{list_any, list_all, flat_map, range_with_len}
+use Rattle.std.specs.Option.{option_map_or}
+use Rattle.cluster_types.specs.declared.cluster.Cluster.{Cluster}
+use Rattle.cluster_types.specs.declared.journal.Action.{Action}
+use Rattle.cluster_types.specs.declared.journal.Action.TheVariants.{Probe, Cell}
+use Rattle.cluster_types.specs.declared.journal.Answer.{Answer}
+use Rattle.cluster_types.specs.declared.journal.Answer.TheVariants as answer
+use Rattle.cluster_types.specs.declared.journal.Event.{Event}
+use Rattle.cluster_types.specs.declared.journal.Event.TheVariants.{Up, Lost, Quorum, Wait, Begin, Ended}
+use Rattle.cluster_types.specs.declared.journal.Outcome.{Outcome}
+use Rattle.cluster_types.specs.declared.journal.Outcome.TheVariants.{Code, TimedOut, Gone}
+use Rattle.cluster_types.specs.declared.leaf.Monitor.{Monitor as MonitorOf}
+use Rattle.cluster_types.specs.declared.leaf.Op.TheVariants.{Monitor}
+use Rattle.cluster_types.specs.declared.leaf.Role.{Role}
+use Rattle.cluster_types.specs.declared.leaf.Role.TheVariants as role
+use Rattle.cluster_types.specs.declared.states.NodeState.TheVariants as node
+use Rattle.cluster_types.specs.Cells.{is_of_cell, is_sent_to}
+use Rattle.cluster_types.specs.Fields.{monitors}
+use Rattle.cluster_types.specs.Journals.{joined, last_sign, is_on, moment_of}
+use Rattle.cluster_types.specs.May.{may}
+use Rattle.cluster_types.specs.NodeStates.{node_state, is_online}
+use Rattle.cluster_types.specs.Outcomes.{is_among, is_bad, is_ignored}
+
+-- the exit codes that are expected of an action
+abbrev pub expected_codes : Action → List ℕ
+expected_codes (Probe r n) = 7 ∷ []
+expected_codes (Cell Monitor r n interval role.Started) = 0 ∷ 190 ∷ []
+expected_codes (Cell Monitor r n interval role.Promoted) = 8 ∷ 191 ∷ []
+expected_codes _ = 0 ∷ []
+
+-- the one with which an action ends when nothing more is said of it
+abbrev pub silent_code : Action → ℕ
+silent_code (Probe r n) = 7
+silent_code (Cell Monitor r n interval role.Promoted) = 8
+silent_code _ = 0
+
+-- the outcome is a success: an expected exit code, or one that is ignored
+abbrev pub is_success : Cluster → Action → Outcome → Bool
+is_success c a o = is_among (expected_codes a) o || is_ignored c a o
+
+abbrev pub begins_number : ℕ → Event → Bool
+begins_number k (Begin j a) = j == k
+begins_number k _ = false
+
+abbrev pub ends_number : ℕ → Event → Bool
+ends_number k (Ended j a o moment) = j == k
+ends_number k _ = false
+
+abbrev pub succeeds_number : Cluster → ℕ → Event → Bool
+succeeds_number c k (Ended j a o moment) = j == k && is_success c a o
+succeeds_number c k _ = false
+
+-- the event aborts the transition: an action ended without success, or a node left or joined, or quorum was said. An action that is gone
+-- doesn't abort by itself: its node's leaving, right after it, does
+abbrev pub aborts : Cluster → Event → Bool
+aborts c (Ended k a Gone moment) = false
+aborts c (Ended k a o moment) = not (is_success c a o)
+aborts c (Up n) = true
+aborts c (Lost n) = true
+aborts c (Quorum now) = true
+aborts c _ = false
+
+-- the event is an answer from outside, and no end of an action of the transition. A report has the number 0
+abbrev pub is_from_outside : Event → Bool
+is_from_outside (Up n) = true
+is_from_outside (Lost n) = true
+is_from_outside (Quorum now) = true
+is_from_outside (Wait seconds) = true
+is_from_outside (Ended k a o moment) = k == 0
+is_from_outside _ = false
+
+-- how many answers from outside a transition takes (rule of this project)
+abbrev pub most_from_outside : ℕ
+most_from_outside = 256
+
+-- the role of the recurring monitor of this interval; without a statement of the interval it is Started
+abbrev pub role_of_interval : List MonitorOf → ℕ → Role
+role_of_interval ms interval = option_map_or (λ (m : MonitorOf). m.role) (find (λ m. m.interval_ms == interval) ms) role.Started
+
+-- a transition: the cluster, its actions in the order of their numbers, which of two numbers must have succeeded before the other begins, and
+-- the journal when it was planned
+pub record Transition : Type 0 where
+  pub cluster : Cluster
+  pub actions : List Action
+  pub precedes : ℕ → ℕ → Bool
+  pub planned_at : List Event
+
+module _ (t : Transition) where
+  abbrev pub numbers : List ℕ
+  numbers = range_with_len 1 (length t.actions)
+
+  -- the action of a number, from 1
+  abbrev pub action_at : ℕ → Option Action
+  action_at k = slice_get t.actions (k - 1)
+
+  -- what is said from here on is of the events since it was planned
+  module _ (since : List Event) where
+    abbrev pub journal : List Event
+    journal = t.planned_at ++ since
+
+    abbrev pub has_begun : ℕ → Bool
+    has_begun k = list_any (begins_number k) since
+
+    abbrev pub has_ended : ℕ → Bool
+    has_ended k = list_any (ends_number k) since
+
+    abbrev pub has_succeeded : ℕ → Bool
+    has_succeeded k = list_any (succeeds_number t.cluster k) since
+
+    abbrev pub has_aborted : Bool
+    has_aborted = list_any (aborts t.cluster) since
+
+    -- the action of this number is in flight
+    abbrev pub is_in_flight_number : ℕ → Bool
+    is_in_flight_number k = has_begun k && not (has_ended k)
+
+    -- the numbers in flight, ascending
+    abbrev pub flight : List ℕ
+    flight = filter is_in_flight_number numbers
+
+    -- fewer actions than the batch limit are in flight; 0 is no limit
+    abbrev pub has_room : Bool
+    has_room = t.cluster.properties.batch_limit == 0 || nat_lt (length flight) t.cluster.properties.batch_limit
+
+    -- the action of this number may begin
+    abbrev pub may_begin : ℕ → Bool
+    may_begin k =
+        list_any (λ j. j == k) numbers && not has_aborted && not (has_begun k) && has_room
+        && list_all (λ j. not (t.precedes j k) || has_succeeded j) numbers
+
+    -- no action may begin
+    abbrev pub is_settled : Bool
+    is_settled = not (list_any may_begin numbers)
+
+    -- the action in flight of this number passes
+    abbrev pub flight_any : (Action → Bool) → Bool
+    flight_any test = list_any (λ k. option_map_or test (action_at k) false) flight
+
+    -- one more answer from outside may be taken
+    abbrev pub has_outside_room : Bool
+    has_outside_room = nat_lt (count_by is_from_outside since) most_from_outside
+
+    -- nothing of the cell is in flight, and no migration to it
+    abbrev pub is_quiet : ℕ → ℕ → Bool
+    is_quiet r n = not (flight_any (λ a. is_of_cell r n a || is_sent_to r n a))
+
+    -- a recurring monitor of the leaf on the node, as an action
+    abbrev pub monitor_action : ℕ → ℕ → ℕ → Action
+    monitor_action r n interval = Cell Monitor r n interval (role_of_interval (monitors t.cluster r) interval)
+
+    -- the report says something new: the node is online, the leaf may run there, the code is bad and not ignored, and the cell is quiet
+    abbrev pub is_news : ℕ → ℕ → ℕ → ℕ → Bool
+    is_news n r interval code =
+        nat_lt n (length t.cluster.nodes) && nat_lt r (length t.cluster.leaves) && nat_lt 0 interval
+        && is_online t.cluster n journal && may t.cluster r n journal
+        && is_bad (monitor_action r n interval) (Code code) && not (is_ignored t.cluster (monitor_action r n interval) (Code code))
+        && is_quiet r n
+
+    -- the answer applies now
+    abbrev pub Applies : Answer → Type 0
+    Applies (answer.End k code) = is_in_flight_number k ≡ true
+    Applies (answer.Timeout k) = is_in_flight_number k ≡ true
+    Applies (answer.Lost n) = (has_outside_room ≡ true) × (n < length t.cluster.nodes) × (last_sign n journal ≡ Some joined)
+    Applies (answer.Up n) = (has_outside_room ≡ true) × (n < length t.cluster.nodes) × (node_state t.cluster n journal ≡ node.Offline)
+    Applies (answer.Quorum now) = has_outside_room ≡ true
+    Applies (answer.Wait seconds) = (has_outside_room ≡ true) × (moment_of journal + seconds < 2 ^ 40)
+    Applies (answer.Report n r interval code) = (has_outside_room ≡ true) × (is_news n r interval code ≡ true)
+
+    -- the action of this number ends so, now
+    abbrev pub ended : ℕ → Outcome → List Event
+    ended k o = option_map_or (λ a. Ended k a o (moment_of journal) ∷ []) (action_at k) []
+
+    -- each action of a cell on the node that is in flight is gone, in the order of their numbers. Fences stay in flight
+    abbrev pub gone_with : ℕ → List Event
+    gone_with n = flat_map (λ k. ended k Gone) (filter (λ k. option_map_or (is_on n) (action_at k) false) flight)
+
+    -- what an answer adds to the journal
+    abbrev pub events_of : Answer → List Event
+    events_of (answer.End k code) = ended k (Code code)
+    events_of (answer.Timeout k) = ended k TimedOut
+    events_of (answer.Lost n) = gone_with n ++ Lost n ∷ []
+    events_of (answer.Up n) = Up n ∷ []
+    events_of (answer.Quorum now) = Quorum now ∷ []
+    events_of (answer.Wait seconds) = Wait seconds ∷ []
+    events_of (answer.Report n r interval code) = Ended 0 (monitor_action r n interval) (Code code) (moment_of journal) ∷ []
+
+    -- of the actions that may begin, the one of lowest number begins
+    pub record Begins (k : ℕ) (a : Action) : Type 0 where
+      pub action : action_at k ≡ Some a
+      pub allowed : may_begin k ≡ true
+      pub lowest : (j : ℕ) → may_begin j ≡ true → k ≤ j
+
+    -- an answer is taken: none may begin, something is in flight, and the answer applies
+    pub record Takes (given : Answer) : Type 0 where
+      pub settled : is_settled ≡ true
+      pub busy : 0 < length flight
+      pub applies : Applies given
+
+    -- nothing more is said: the action of lowest number in flight ends with its silent code
+    pub record EndsSilently (k : ℕ) (a : Action) : Type 0 where
+      pub settled : is_settled ≡ true
+      pub action : action_at k ≡ Some a
+      pub in_flight : is_in_flight_number k ≡ true
+      pub lowest : (j : ℕ) → is_in_flight_number j ≡ true → k ≤ j
+
+    -- the transition has ended: none may begin, and nothing is in flight
+    pub record HasEnded : Type 0 where
+      pub settled : is_settled ≡ true
+      pub idle : flight ≡ []
+
+    -- each action has succeeded
+    abbrev pub all_succeeded : Bool
+    all_succeeded = list_all has_succeeded numbers
+
+  -- from the events since it was planned and the answers to come, step by step, to later events and the answers that are left then. Where
+  -- the answers are not told, or not yet all, no step is silent
+  pub data Goes (whole : Bool) : List Event → List Answer → List Event → List Answer → Type 0 where
+    here : (since : List Event) (rest : List Answer) → Goes whole since rest since rest
+    begins : (since later : List Event) (rest left : List Answer) (k : ℕ) (a : Action) → Begins since k a
+        → Goes whole (since ++ Begin k a ∷ []) rest later left → Goes whole since rest later left
+    takes : (since later : List Event) (rest left : List Answer) (given : Answer) → Takes since given
+        → Goes whole (since ++ events_of since given) rest later left → Goes whole since (given ∷ rest) later left
+    silent : (since later : List Event) (k : ℕ) (a : Action) → whole ≡ true → EndsSilently since k a
+        → Goes whole (since ++ ended since k (Code (silent_code a))) [] later [] → Goes whole since [] later []

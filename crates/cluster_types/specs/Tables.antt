@@ -1,0 +1,43 @@
+-- Where everything goes: the target of each leaf on each node, and what role it holds by it.
+use Rattle.std.specs.Prelude.{ℕ, ◌+◌, ◌*◌, ◌==◌, ◌||◌, Bool, true, false, not, unwrap_or, length, slice_get, count_by}
+use Rattle.std.specs.List.{range_with_len}
+use Rattle.cluster_types.specs.declared.cluster.Cluster.{Cluster}
+use Rattle.cluster_types.specs.declared.leaf.Role.{Role}
+use Rattle.cluster_types.specs.declared.leaf.Role.TheVariants as role
+use Rattle.cluster_types.specs.declared.placement.Table.{Table}
+use Rattle.cluster_types.specs.declared.placement.Target.{Target}
+use Rattle.cluster_types.specs.declared.placement.Target.TheVariants as target
+use Rattle.cluster_types.specs.declared.rules.Order.{Order}
+
+-- the target of leaf r on node n
+abbrev pub Targets : Type 0
+Targets = ℕ → ℕ → Target
+
+-- where nothing goes
+abbrev pub no_targets : Targets
+no_targets r n = target.Nowhere
+
+-- what a table keeps, leaf by leaf and node by node
+abbrev pub targets_of : Table → Targets
+targets_of table r n = unwrap_or (slice_get table.targets (r * table.nodes + n)) target.Nowhere
+
+abbrev pub is_somewhere : Target → Bool
+is_somewhere target.Nowhere = false
+is_somewhere _ = true
+
+abbrev pub is_promoted_target : Target → Bool
+is_promoted_target target.Promoted = true
+is_promoted_target _ = false
+
+-- a leaf holds Started wherever it has a target, and Promoted where it is to be promoted
+abbrev pub holds_role : Targets → ℕ → Role → ℕ → Bool
+holds_role table r role.Started n = is_somewhere (table r n)
+holds_role table r role.Promoted n = is_promoted_target (table r n)
+
+-- how many leaves have a target on the node
+abbrev pub load_of : Cluster → Targets → ℕ → ℕ
+load_of c table n = count_by (λ r. is_somewhere (table r n)) (range_with_len 0 (length c.leaves))
+
+-- node m is in the scope of an order at node n: any node, or of a local order the same
+abbrev pub is_in_scope : Order → ℕ → ℕ → Bool
+is_in_scope o n m = not o.local || n == m

@@ -1,0 +1,118 @@
+-- The scores of a leaf on a node, and those that are lent to it (Pacemaker Explained, "Scores" and "Colocation"; which leaves lend is a rule of
+-- this project).
+use Rattle.std.specs.Prelude.{ℕ, suc, zero, ◌==◌, ◌&&◌, ◌||◌, Bool, true, false, not, if◌then◌else◌, ℤ, pos, neg_ℤ, int_le, List, [], ◌∷◌, ◌++◌, length, map, filter, find, fold, slice_get, count_by}
+use Rattle.std.specs.List.{list_any, flat_map, range_with_len}
+use Rattle.std.specs.Option.{option_map_or}
+use Rattle.std.specs.Ordering.{int_eq}
+use Rattle.date_rules.specs.Rule.{holds}
+use Rattle.score.specs.Total.{infinity, minus_infinity, total_of}
+use Rattle.cluster_types.specs.declared.cluster.Cluster.{Cluster}
+use Rattle.cluster_types.specs.declared.journal.Event.{Event}
+use Rattle.cluster_types.specs.declared.journal.Promotion.{Promotion}
+use Rattle.cluster_types.specs.declared.leaf.Leaf.{Leaf}
+use Rattle.cluster_types.specs.declared.leaf.Role.{Role}
+use Rattle.cluster_types.specs.declared.leaf.Role.TheVariants as role
+use Rattle.cluster_types.specs.declared.node.Node.{Node}
+use Rattle.cluster_types.specs.declared.placement.Decision.{Decision}
+use Rattle.cluster_types.specs.declared.placement.Decision.TheVariants.{Place, Promote}
+use Rattle.cluster_types.specs.declared.rules.Colocation.{Colocation}
+use Rattle.cluster_types.specs.declared.rules.Location.{Location}
+use Rattle.cluster_types.specs.declared.rules.RuleLocation.{RuleLocation}
+use Rattle.cluster_types.specs.declared.states.CellState.{CellState}
+use Rattle.cluster_types.specs.declared.states.CellState.TheVariants as cell
+use Rattle.cluster_types.specs.CellStates.{cell_state}
+use Rattle.cluster_types.specs.Failures.{is_banned}
+use Rattle.cluster_types.specs.Fields.{is_cloned, is_follower}
+use Rattle.cluster_types.specs.Journals.{moment_of}
+use Rattle.cluster_types.specs.NodeStates.{is_usable}
+
+abbrev pub is_started : Role → Bool
+is_started role.Started = true
+is_started role.Promoted = false
+
+abbrev pub is_promoted : Role → Bool
+is_promoted r = not (is_started r)
+
+-- the leaf is active in the cell: it runs there, or may have failed there
+abbrev pub is_active : CellState → Bool
+is_active cell.On = true
+is_active cell.Promoted = true
+is_active cell.Failed = true
+is_active _ = false
+
+module _ (c : Cluster) (es : List Event) where
+  -- a rule holds at a node and the moment of the journal
+  abbrev pub rule_holds : RuleLocation → ℕ → Bool
+  rule_holds rl n = option_map_or (λ (node : Node). holds rl.rule node.name node.attributes (moment_of es)) (slice_get c.nodes n) false
+
+  -- in how many cells a leaf is active
+  abbrev pub active_count : ℕ → ℕ
+  active_count r = count_by (λ n. is_active (cell_state c r n es)) (range_with_len 0 (length c.nodes))
+
+  -- the scores of the locations of a leaf and a node whose role passes, with those whose rule holds there
+  abbrev pub location_scores : (Role → Bool) → ℕ → ℕ → List ℤ
+  location_scores passes r n =
+      map (λ (l : Location). l.score) (filter (λ l. l.leaf == r && l.node == n && passes l.role) c.locations)
+      ++ map (λ (rl : RuleLocation). rl.score) (filter (λ rl. rl.leaf == r && passes rl.role && rule_holds rl n) c.rule_locations)
+
+  -- some location, of whatever role and score, names the leaf and the node
+  abbrev pub is_located : ℕ → ℕ → Bool
+  is_located r n =
+      list_any (λ (l : Location). l.leaf == r && l.node == n) c.locations
+      || list_any (λ (rl : RuleLocation). rl.leaf == r && rule_holds rl n) c.rule_locations
+
+  abbrev pub stickiness_scores : ℕ → ℕ → List ℤ
+  stickiness_scores r n =
+      if is_active (cell_state c r n es) then option_map_or (λ (leaf : Leaf). leaf.stickiness ∷ []) (slice_get c.leaves r) [] else []
+
+  abbrev pub ban_scores : ℕ → ℕ → List ℤ
+  ban_scores r n = if is_banned c r n es then minus_infinity ∷ [] else []
+
+  -- in a cluster that isn't symmetric a leaf may only be where a location names it; the members of a group follow the first
+  abbrev pub opt_in_scores : ℕ → ℕ → List ℤ
+  opt_in_scores r n = if not c.properties.symmetric && not (is_follower c r) && not (is_located r n) then minus_infinity ∷ [] else []
+
+  -- the scores of a leaf's own on a node: its locations, its stickiness where it is active, and what keeps it away
+  abbrev pub own_terms : ℕ → ℕ → List ℤ
+  own_terms r n = location_scores is_started r n ++ stickiness_scores r n ++ ban_scores r n ++ opt_in_scores r n
+
+  -- the colocation ties two uncloned leaves for good, whatever their roles
+  abbrev pub is_tie : Colocation → Bool
+  is_tie col =
+      int_eq col.score infinity && is_started col.dependent_role && is_started col.primary_role
+      && not (is_cloned c col.dependent) && not (is_cloned c col.primary)
+
+  -- s must be with r through a chain of ties, at most this long
+  abbrev pub is_tied : ℕ → ℕ → ℕ → Bool
+  is_tied zero s r = false
+  is_tied (suc most) s r = list_any (λ col. is_tie col && col.dependent == s && (col.primary == r || is_tied most col.primary r)) c.colocations
+
+  -- the leaves that must be with r, in their order. A chain of ties needs no more of them than there are leaves
+  abbrev pub lenders : ℕ → List ℕ
+  lenders r = filter (λ s. is_tied (length c.leaves) s r) (range_with_len 0 (length c.leaves))
+
+  -- the own terms of some leaves on a node
+  abbrev pub terms_of : List ℕ → ℕ → List ℤ
+  terms_of leaves n = flat_map (λ r. own_terms r n) leaves
+
+  -- with the terms of these leaves some usable node is left
+  abbrev pub leaves_a_node : List ℕ → Bool
+  leaves_a_node leaves = list_any (λ n. is_usable c n es && int_le (pos 0) (total_of (terms_of leaves n))) (range_with_len 0 (length c.nodes))
+
+  -- one more lender joins, unless no usable node would be left
+  abbrev pub with_lender : List ℕ → ℕ → List ℕ
+  with_lender joined s = if leaves_a_node (joined ++ s ∷ []) then joined ++ s ∷ [] else joined
+
+  -- the leaf with the lenders that join it, tried in their order
+  abbrev pub with_lenders : ℕ → List ℕ
+  with_lenders r = fold with_lender (r ∷ []) (lenders r)
+
+  -- how much a leaf wants to be promoted on a node: what its agent said, else -1 (rule of this project)
+  abbrev pub promotion_score : List Promotion → ℕ → ℕ → ℤ
+  promotion_score promotions r n =
+      option_map_or (λ (p : Promotion). p.score) (find (λ p. p.leaf == r && p.node == n) promotions) (neg_ℤ (pos 1))
+
+  -- the total of a decision on a node, before colocations
+  abbrev pub base : List Promotion → Decision → ℕ → ℤ
+  base promotions (Place r) n = total_of (terms_of (with_lenders r) n)
+  base promotions (Promote r) n = total_of (promotion_score promotions r n ∷ location_scores is_promoted r n)

@@ -1,0 +1,96 @@
+use crm_lex::Name;
+use listed::Listed;
+use score::Score;
+
+/// The position of a leaf in its cluster, from 0. A leaf is a primitive resource, with all its copies where it is cloned.
+pub type LeafId = u32;
+
+/// What a copy of a resource is where it runs.
+#[derive(Clone, Copy, Debug, PartialEq, Eq)]
+pub enum Role {
+    /// It runs, promoted or not.
+    Started,
+    /// It runs and is promoted.
+    Promoted,
+}
+
+/// An operation of a resource agent.
+#[derive(Clone, Copy, Debug, PartialEq, Eq)]
+pub enum Op {
+    Start,
+    Stop,
+    Promote,
+    Demote,
+    Monitor,
+}
+
+/// What follows the failure of an operation (Pacemaker Explained, "on-fail").
+#[derive(Clone, Copy, Debug, PartialEq, Eq)]
+pub enum OnFail {
+    /// Nothing.
+    Ignore,
+    /// The resource is left alone until somebody looks at it.
+    Block,
+    /// The resource is stopped, and not started anywhere.
+    Stop,
+    /// The resource is stopped, and started again somewhere.
+    Restart,
+    /// The node is fenced.
+    Fence,
+}
+
+/// What the configuration wants a resource to be (Pacemaker Explained, "target-role").
+#[derive(Clone, Copy, Debug, PartialEq, Eq)]
+pub enum TargetRole {
+    Started,
+    Stopped,
+    Promoted,
+    /// Started, and no copy promoted.
+    Unpromoted,
+}
+
+/// A recurring monitor.
+#[derive(Clone, Copy, Debug, PartialEq, Eq)]
+pub struct Monitor {
+    /// Milliseconds from one call to the next, above 0.
+    pub interval_ms: u32,
+    /// Promoted where it runs on promoted copies, Started where it runs on the others.
+    pub role: Role,
+    pub on_fail: OnFail,
+}
+
+/// A primitive resource.
+#[derive(PartialEq, Eq, Drop)]
+pub struct Leaf {
+    pub name: Name,
+    /// On how many nodes it may run at once.
+    pub copies: u32,
+    /// On how many nodes it may be promoted at once.
+    pub promoted_copies: u32,
+    /// Whether it is inside a clone.
+    pub cloned: bool,
+    /// Whether orders between its clone and another join the copies on one node only.
+    pub interleave: bool,
+    pub promotable: bool,
+    /// Whether it is a member of a group, after the first.
+    pub follower: bool,
+    /// Which resource is placed first.
+    pub priority: Score,
+    /// How much it wants to stay where it runs.
+    pub stickiness: Score,
+    /// At how many failures on a node it is banned from there; 0 is never.
+    pub threshold: Score,
+    /// After how many milliseconds its failures are forgotten; 0 is never.
+    pub timeout_ms: u32,
+    pub target_role: TargetRole,
+    /// Whether the cluster may start and stop it.
+    pub managed: bool,
+    /// Whether it may be moved live (Pacemaker Explained, "allow-migrate").
+    pub migrates: bool,
+    pub start_fail: OnFail,
+    pub stop_fail: OnFail,
+    pub promote_fail: OnFail,
+    pub demote_fail: OnFail,
+    /// Its recurring monitors, at most eight, of different intervals.
+    pub monitors: Listed<Monitor>,
+}

@@ -1,0 +1,64 @@
+use crate::leaf::{LeafId, Op, Role};
+use crate::node::NodeId;
+use crm_lex::Name;
+use date_rules::Rule;
+use score::Score;
+
+/// How much a resource wants to be on a node, in a role.
+#[derive(PartialEq, Eq, Drop)]
+pub struct Location {
+    pub id: Name,
+    pub leaf: LeafId,
+    pub role: Role,
+    pub score: Score,
+    pub node: NodeId,
+}
+
+/// The same for each node at which a rule holds.
+#[derive(PartialEq, Eq, Drop)]
+pub struct RuleLocation {
+    pub id: Name,
+    pub leaf: LeafId,
+    pub role: Role,
+    pub score: Score,
+    pub rule: Rule,
+}
+
+/// How much the dependent, in its role, wants to be where the primary is in its own.
+#[derive(PartialEq, Eq, Drop)]
+pub struct Colocation {
+    pub id: Name,
+    pub dependent: LeafId,
+    pub dependent_role: Role,
+    pub primary: LeafId,
+    pub primary_role: Role,
+    pub score: Score,
+}
+
+/// How strictly an order holds (Pacemaker Explained, "kind").
+#[derive(Clone, Copy, Debug, PartialEq, Eq)]
+pub enum OrderKind {
+    /// The then can't run without the first.
+    Mandatory,
+    /// It orders the two actions where both happen.
+    Optional,
+    /// The two actions never happen at once, in either order.
+    Serialize,
+}
+
+/// Which action of one resource comes before which of another.
+#[derive(PartialEq, Eq, Drop)]
+pub struct Order {
+    pub id: Name,
+    pub kind: OrderKind,
+    pub first: LeafId,
+    /// Start, Stop, Promote or Demote.
+    pub first_op: Op,
+    pub then_leaf: LeafId,
+    /// Start, Stop, Promote or Demote.
+    pub then_op: Op,
+    /// Whether the inverse actions come in the inverse order.
+    pub symmetrical: bool,
+    /// Whether it joins the copies on one node only.
+    pub local: bool,
+}

@@ -1,0 +1,64 @@
+use crate::journal::Promotion;
+use listed::Listed;
+
+/// What is known of a node.
+#[derive(Clone, Copy, Debug, PartialEq, Eq)]
+pub enum NodeState {
+    Online,
+    Offline,
+    /// It may still run something, and must be fenced first.
+    Unclean,
+}
+
+/// What is known of a leaf on a node.
+#[derive(Clone, Copy, Debug, PartialEq, Eq)]
+pub enum CellState {
+    /// The node isn't online.
+    Away,
+    /// Nothing is known since the node joined.
+    Unprobed,
+    /// The last failure that counts blocks it.
+    Blocked,
+    /// It may run, and its last outcome is bad.
+    Failed,
+    Promoted,
+    On,
+    Off,
+}
+
+/// A leaf on a node.
+#[derive(Clone, Copy, Debug, PartialEq, Eq)]
+pub struct Cell {
+    pub state: CellState,
+    /// Whether it may run there.
+    pub may: bool,
+    /// Whether it may be promoted there.
+    pub may_promoted: bool,
+    /// Whether its failures keep it from the node.
+    pub banned: bool,
+    /// Bit i is set where monitor i of the leaf is running.
+    pub running: u8,
+}
+
+/// What a journal tells of a cluster.
+#[derive(PartialEq, Eq, Drop)]
+pub struct States {
+    pub nodes: Listed<NodeState>,
+    /// Leaf by leaf, node by node.
+    pub cells: Listed<Cell>,
+    /// Per leaf, whether a failure stops it everywhere.
+    pub fail_stop: Listed<bool>,
+    pub promotions: Listed<Promotion>,
+    pub quorum: bool,
+    /// The seconds that went by.
+    pub moment: u64,
+}
+
+/// What the cluster may do now.
+#[derive(Clone, Copy, Debug, PartialEq, Eq)]
+pub struct Rights {
+    pub may_fence: bool,
+    pub may_start: bool,
+    /// Whether what runs may stay.
+    pub may_keep: bool,
+}

@@ -1,0 +1,4 @@
+pub mod WholeNumberLemmas
+pub mod FormLemmas
+pub mod DayLemmas
+pub mod MomentLemmas

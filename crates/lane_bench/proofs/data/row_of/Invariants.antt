@@ -1,0 +1,6 @@
+use Rattle.std.proofs.Common.{◌≡◌, length}
+use Rattle.lane_rows.specs.Small.{IsSmallRow}
+use Rattle.lane_bench.proofs.data.row_of.Given as goal
+
+abbrev pub invariant-loop-node : goal.invariant-loop-node
+invariant-loop-node l = record { nodes : length l.row ≡ 256; small : IsSmallRow l.node l.row }

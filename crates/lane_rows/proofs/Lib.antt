@@ -1,0 +1,7 @@
+pub mod Blocks
+pub mod ChoiceLaws
+pub mod Points
+pub mod RowLaws
+pub mod SmallRows
+pub mod StoredTotals
+pub mod Tallies

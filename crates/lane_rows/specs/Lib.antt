@@ -1,0 +1,5 @@
+pub mod Choice
+pub mod NodeSet
+pub mod Row
+pub mod Small
+pub mod Stored
