@@ -1,6 +1,7 @@
 ghost use Rattle.std.specs.Prelude.{◌≡◌, ◌+◌, ◌<◌, ◌≤◌, ℕ, length, slice_index, slice_set, if◌then◌else◌};
 ghost use Rattle.std.specs.Int.Bits.{bit_or};
 
+use crate::form::Form;
 use std::simd::prelude::*;
 
 /// Adds the flags of eight nodes, from one on.
@@ -18,7 +19,7 @@ fn add_block(into: &mut [u64], other: &[u64], at: usize)
 }
 
 /// Adds the flags of every node from one on, node by node.
-pub(crate) fn add_from(into: &mut [u64], other: &[u64], first: usize)
+fn add_from(into: &mut [u64], other: &[u64], first: usize)
     requires nodes { length into.old ≡ length other.now }
     ensures added { (k : ℕ) → first ≤ k → k < length into.new → slice_index into.new k ≡ bit_or (slice_index into.old k) (slice_index other.now k) }
     ensures below { (k : ℕ) → k < first → slice_index into.new k ≡ slice_index into.old k }
@@ -29,7 +30,7 @@ pub(crate) fn add_from(into: &mut [u64], other: &[u64], first: usize)
 }
 
 /// Adds the flags of every node, by lanes.
-pub(crate) fn add(into: &mut [u64], other: &[u64])
+fn add_by_lanes(into: &mut [u64], other: &[u64])
     requires nodes { length into.old ≡ length other.now }
     ensures { (k : ℕ) → k < length into.new → slice_index into.new k ≡ bit_or (slice_index into.old k) (slice_index other.now k) }
 {
@@ -40,6 +41,17 @@ pub(crate) fn add(into: &mut [u64], other: &[u64])
         at += 8;
     }
     add_from(into, other, at);
+}
+
+/// Adds the flags of every node.
+pub(crate) fn add(into: &mut [u64], other: &[u64], form: Form)
+    requires nodes { length into.old ≡ length other.now }
+    ensures { (k : ℕ) → k < length into.new → slice_index into.new k ≡ bit_or (slice_index into.old k) (slice_index other.now k) }
+{
+    match form {
+        Form::Lanes => add_by_lanes(into, other),
+        Form::Plain => add_from(into, other, 0),
+    }
 }
 
 /// Sets the flag of a node where `raised`, and else leaves it.

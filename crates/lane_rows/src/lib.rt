@@ -5,6 +5,7 @@
 
 mod candidate_set;
 mod flags;
+mod form;
 mod greatest_node;
 mod lanes;
 mod memory;

@@ -3,6 +3,7 @@ ghost use Rattle.std.specs.Ordering.{int_eq};
 ghost use Rattle.lane_rows.specs.Row.{Stands, IsSumInRange, finite_at, finite_part, with_term, together};
 ghost use Rattle.score.specs.Total.{infinity};
 
+use crate::form::Form;
 use crate::sums::BIAS;
 use crate::{NoMemory, flags, sums};
 use score::Score;
@@ -85,6 +86,19 @@ impl Row {
     }
 }
 
+/// Adds the terms of `other` to those of `into`, node by node.
+fn add_terms(into: &mut Row, other: &Row, form: Form)
+    requires nodes { length into.old ≡ length other.now }
+    requires room { (n : ℕ) → n < length into.old → IsSumInRange (finite_at into.old n +ℤ finite_at other.now n) }
+    ensures terms { (terms others : List (List ℤ)) → Stands into.old terms → Stands other.now others → Stands into.new (together terms others) }
+    ensures nodes { length into.new ≡ length into.old }
+    ensures finite { (n : ℕ) → n < length into.old → finite_at into.new n ≡ (finite_at into.old n +ℤ finite_at other.now n) }
+{
+    flags::add(&mut into.minus, &other.minus, form);
+    flags::add(&mut into.plus, &other.plus, form);
+    sums::add(&mut into.sums, &other.sums, form);
+}
+
 /// Adds the terms of `other` to those of `into`, node by node, by lanes.
 pub fn add_row(into: &mut Row, other: &Row)
     requires nodes { length into.old ≡ length other.now }
@@ -93,9 +107,7 @@ pub fn add_row(into: &mut Row, other: &Row)
     ensures nodes { length into.new ≡ length into.old }
     ensures finite { (n : ℕ) → n < length into.old → finite_at into.new n ≡ (finite_at into.old n +ℤ finite_at other.now n) }
 {
-    flags::add(&mut into.minus, &other.minus);
-    flags::add(&mut into.plus, &other.plus);
-    sums::add(&mut into.sums, &other.sums);
+    add_terms(into, other, Form::Lanes);
 }
 
 /// The plain form of `add_row`: node by node alone.
@@ -106,7 +118,5 @@ pub fn add_row_plain(into: &mut Row, other: &Row)
     ensures nodes { length into.new ≡ length into.old }
     ensures finite { (n : ℕ) → n < length into.old → finite_at into.new n ≡ (finite_at into.old n +ℤ finite_at other.now n) }
 {
-    flags::add_from(&mut into.minus, &other.minus, 0);
-    flags::add_from(&mut into.plus, &other.plus, 0);
-    sums::add_from(&mut into.sums, &other.sums, 0);
+    add_terms(into, other, Form::Plain);
 }

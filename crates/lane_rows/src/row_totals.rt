@@ -5,6 +5,7 @@ ghost use Rattle.lane_rows.specs.Stored.{stored_tally, stored_total, stored_leas
 ghost use Rattle.score.specs.Total.{total_of};
 
 use crate::Row;
+use crate::form::Form;
 use crate::sums::BIAS;
 use score::Score;
 use std::simd::prelude::*;
@@ -121,12 +122,33 @@ fn totals_by_lanes(minus: &[u64], plus: &[u64], sums: &[u64], out: &mut [Score])
     totals_from(minus, plus, sums, out, at);
 }
 
+/// The totals of every node.
+fn all_totals(minus: &[u64], plus: &[u64], sums: &[u64], out: &mut [Score], form: Form)
+    requires minus { length minus.now ≡ length out.old }
+    requires plus { length plus.now ≡ length out.old }
+    requires sums { length sums.now ≡ length out.old }
+    ensures { (k : ℕ) → k < length out.new → points_at out.new k ≡ tally_total (stored_tally (slice_index minus.now k) (slice_index plus.now k) (slice_index sums.now k)) }
+{
+    match form {
+        Form::Lanes => totals_by_lanes(minus, plus, sums, out),
+        Form::Plain => totals_from(minus, plus, sums, out, 0),
+    }
+}
+
+/// Writes the total of each node.
+fn write_totals(row: &Row, out: &mut [Score], form: Form)
+    requires { length row.now ≡ length out.old }
+    ensures { (terms : List (List ℤ)) → Stands row.now terms → out.new ≡ map total_of terms }
+{
+    all_totals(&row.minus, &row.plus, &row.sums, out, form);
+}
+
 /// Writes the total of each node, by lanes.
 pub fn totals(row: &Row, out: &mut [Score])
     requires { length row.now ≡ length out.old }
     ensures { (terms : List (List ℤ)) → Stands row.now terms → out.new ≡ map total_of terms }
 {
-    totals_by_lanes(&row.minus, &row.plus, &row.sums, out);
+    write_totals(row, out, Form::Lanes);
 }
 
 /// The plain form of `totals`: node by node alone.
@@ -134,5 +156,5 @@ pub fn totals_plain(row: &Row, out: &mut [Score])
     requires { length row.now ≡ length out.old }
     ensures { (terms : List (List ℤ)) → Stands row.now terms → out.new ≡ map total_of terms }
 {
-    totals_from(&row.minus, &row.plus, &row.sums, out, 0);
+    write_totals(row, out, Form::Plain);
 }

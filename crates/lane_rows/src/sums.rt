@@ -2,6 +2,7 @@ ghost use Rattle.std.specs.Prelude.{◌≡◌, ◌≢◌, ◌+◌, ◌<◌, ◌�
 ghost use Rattle.lane_rows.specs.Row.{IsSumInRange};
 ghost use Rattle.lane_rows.specs.Stored.{bias};
 
+use crate::form::Form;
 use std::simd::prelude::*;
 
 /// What a stored sum of 0 is.
@@ -25,7 +26,7 @@ fn add_block(into: &mut [u64], other: &[u64], at: usize)
 }
 
 /// Adds the sums of every node from one on, node by node.
-pub(crate) fn add_from(into: &mut [u64], other: &[u64], first: usize)
+fn add_from(into: &mut [u64], other: &[u64], first: usize)
     requires nodes { length into.old ≡ length other.now }
     requires least { (k : ℕ) → first ≤ k → k < length into.old → bias ≤ slice_index into.old k + slice_index other.now k }
     requires most { (k : ℕ) → first ≤ k → k < length into.old → slice_index into.old k + slice_index other.now k < 2 ^ 64 }
@@ -38,7 +39,7 @@ pub(crate) fn add_from(into: &mut [u64], other: &[u64], first: usize)
 }
 
 /// Adds the sums of every node, by lanes.
-pub(crate) fn add(into: &mut [u64], other: &[u64])
+fn add_by_lanes(into: &mut [u64], other: &[u64])
     requires nodes { length into.old ≡ length other.now }
     requires least { (k : ℕ) → k < length into.old → bias ≤ slice_index into.old k + slice_index other.now k }
     requires most { (k : ℕ) → k < length into.old → slice_index into.old k + slice_index other.now k < 2 ^ 64 }
@@ -51,6 +52,19 @@ pub(crate) fn add(into: &mut [u64], other: &[u64])
         at += 8;
     }
     add_from(into, other, at);
+}
+
+/// Adds the sums of every node.
+pub(crate) fn add(into: &mut [u64], other: &[u64], form: Form)
+    requires nodes { length into.old ≡ length other.now }
+    requires least { (k : ℕ) → k < length into.old → bias ≤ slice_index into.old k + slice_index other.now k }
+    requires most { (k : ℕ) → k < length into.old → slice_index into.old k + slice_index other.now k < 2 ^ 64 }
+    ensures { (k : ℕ) → k < length into.new → slice_index into.new k + bias ≡ slice_index into.old k + slice_index other.now k }
+{
+    match form {
+        Form::Lanes => add_by_lanes(into, other),
+        Form::Plain => add_from(into, other, 0),
+    }
 }
 
 /// Adds to the sum of a node.

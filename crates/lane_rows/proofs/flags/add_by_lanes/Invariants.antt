@@ -1,6 +1,6 @@
 use Rattle.std.proofs.Common.{◌≡◌, ℕ, ◌-◌, ◌<◌, ◌≤◌, length, slice_index}
 use Rattle.std.specs.Int.Bits.{bit_or}
-use Rattle.lane_rows.proofs.flags.add.Given as goal
+use Rattle.lane_rows.proofs.flags.add_by_lanes.Given as goal
 
 abbrev pub invariant-loop-at : goal.invariant-loop-at
 invariant-loop-at l = record {

@@ -1,6 +1,6 @@
 use Rattle.std.proofs.Common.{◌≡◌, ℕ, ◌+◌, ◌-◌, ◌<◌, ◌≤◌, length, slice_index}
 use Rattle.lane_rows.specs.Stored.{bias}
-use Rattle.lane_rows.proofs.sums.add.Given as goal
+use Rattle.lane_rows.proofs.sums.add_by_lanes.Given as goal
 
 abbrev pub invariant-loop-at : goal.invariant-loop-at
 invariant-loop-at l = record {

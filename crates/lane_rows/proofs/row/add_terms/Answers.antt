@@ -4,7 +4,7 @@ use Rattle.std.proofs.lemmas.List.{with_items_is}
 use Rattle.lane_rows.proofs.RowLaws.{row_nodes, row_finite, add_stands}
 use Rattle.lane_rows.proofs.Tallies.{length-tallies}
 use Rattle.lane_rows.specs.Stored.{tallies}
-use Rattle.lane_rows.proofs.row.add_row.Goals as goal
+use Rattle.lane_rows.proofs.row.add_terms.Goals as goal
 
 pub add-requires : goal.add-requires
 add-requires c =
