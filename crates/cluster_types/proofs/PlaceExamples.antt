@@ -59,6 +59,17 @@ runs_on_n2 = online (did Start 0 1 0 900 ∷ probed 0 0 7 900 ∷ []) 1000
 stays : is_chosen sticky runs_on_n2 [] no_targets (Place 0) 1 ≡ true
 stays = refl
 
+-- Of equal totals the node with fewer resources goes first, and of equal loads the earlier node.
+
+abbrev pair : Cluster
+pair = two_nodes (plain_leaf (codes "a") ∷ plain_leaf (codes "b") ∷ [])
+
+first_of_the_pair : after_decisions pair (online [] 1000) [] no_targets (Place 0 ∷ []) 0 0 ≡ target.Started
+first_of_the_pair = refl
+
+second_of_the_pair : after_decisions pair (online [] 1000) [] no_targets (Place 0 ∷ Place 1 ∷ []) 1 1 ≡ target.Started
+second_of_the_pair = refl
+
 -- A dependent that can't run anywhere: b is decided before a, since a needs it.
 
 abbrev held : Cluster

@@ -1,5 +1,5 @@
 -- What a journal tells as a whole: the moment, quorum, what is in flight, which journals are in order, and the first journal.
-use Rattle.std.specs.Prelude.{◌≡◌, ℕ, ◌==◌, ◌&&◌, ◌||◌, Bool, true, false, if◌then◌else◌, Option, Some, None, unwrap_or, List, [], ◌∷◌, ◌++◌, length, map, sum_by}
+use Rattle.std.specs.Prelude.{◌≡◌, ℕ, ◌==◌, ◌&&◌, ◌||◌, Bool, true, false, if◌then◌else◌, nat_lt, Option, Some, None, unwrap_or, List, [], ◌∷◌, ◌++◌, length, map, sum_by}
 use Rattle.std.specs.List.{list_any, filter_map, flat_map, last_or, range_with_len, enumerate_from}
 use Rattle.cluster_types.specs.declared.cluster.Cluster.{Cluster}
 use Rattle.cluster_types.specs.declared.journal.Action.{Action}
@@ -83,6 +83,15 @@ pub data NodeWord : Type 0 where
   offline : NodeWord
   unclean : NodeWord
   unsaid : NodeWord
+
+-- the event is what a status tells of a cluster with so many nodes: the end of an action of a cell or of a migration, on its nodes
+abbrev pub is_reported : ℕ → Event → Bool
+is_reported nodes (Ended k (Fence node) o moment) = false
+is_reported nodes (Ended k (Probe leaf node) o moment) = nat_lt node nodes
+is_reported nodes (Ended k (Cell op leaf node interval role) o moment) = nat_lt node nodes
+is_reported nodes (Ended k (MigrateTo leaf source target) o moment) = nat_lt source nodes && nat_lt target nodes
+is_reported nodes (Ended k (MigrateFrom leaf source target) o moment) = nat_lt source nodes && nat_lt target nodes
+is_reported nodes _ = false
 
 -- how a node leaves by its word. One of which nothing is said is lost where the cluster fences such nodes, else down
 -- (Pacemaker Explained, "startup-fencing")
