@@ -1,4 +1,4 @@
-ghost use Rattle.std.specs.Prelude.{◌≡◌, ℕ, ◌<◌, ◌≤◌, true, length, IfOk};
+ghost use Rattle.std.specs.Prelude.{◌≡◌, ℕ, pos, ◌<◌, ◌≤◌, ◌+ℤ◌, true, length, IfOk};
 ghost use Rattle.lane_rows.specs.NodeSet.{has};
 ghost use Rattle.lane_rows.specs.Small.{IsSmallRow};
 ghost use Rattle.score.specs.Total.{IsScore};
@@ -58,7 +58,9 @@ pub fn most_nodes() -> NodeSet
 }
 
 /// How far a score is above -INFINITY.
-pub fn above_least(score: Score) -> u64 {
+pub fn above_least(score: Score) -> u64
+    ensures { pos result ≡ score +ℤ pos 1000000 }
+{
     (score.points + 1_000_000) as u64
 }
 

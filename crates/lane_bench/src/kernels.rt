@@ -1,5 +1,6 @@
-ghost use Rattle.std.specs.Prelude.{◌≡◌, ℕ, ◌<◌, ◌+ℤ◌, length};
-ghost use Rattle.lane_rows.specs.Row.{IsSumInRange, finite_at};
+ghost use Rattle.std.specs.Prelude.{◌≡◌, ℕ, ℤ, ◌<◌, ◌+ℤ◌, List, length, map};
+ghost use Rattle.lane_rows.specs.Row.{IsSumInRange, Stands, finite_at};
+ghost use Rattle.score.specs.Total.{total_of};
 
 use crate::data::{NODES, above_least, most_nodes, row_of, score_of, scores_of, sum_of};
 use lane_rows::{
@@ -66,6 +67,7 @@ fn add_rows(alloc: Global, form: Form) -> Result<u64, NoMemory> {
 
 fn total_by(form: Form, row: &Row, out: &mut [Score])
     requires { length row.now ≡ length out.old }
+    ensures { (terms : List (List ℤ)) → Stands row.now terms → out.new ≡ map total_of terms }
 {
     match form {
         Form::Lanes => totals(row, out),
