@@ -1,1 +1,9 @@
 pub mod Names
+pub mod RawLines
+pub mod Words
+pub mod Parts
+pub mod LogicalLines
+pub mod Reading
+pub mod WordRoom
+pub mod Pieces
+pub mod FaultOrder

@@ -1,9 +1,25 @@
-//! The words of a configuration. So far this crate holds the name alone.
+//! Logical lines and their words: what a text is cut into before any statement is read.
 #![tactic(auto)]
 
+mod fault;
+mod laws;
+mod line;
+mod logical;
 mod name;
+mod physical;
+mod quoting;
+mod reading;
+mod span;
+mod word;
+mod word_buf;
 
+pub use fault::{LexCause, LexFault};
+pub use laws::{lines_of_pieces, the_first_fault_is_read};
+pub use line::Line;
+pub use logical::LONGEST_LINE;
 pub use name::{Name, NoMemory};
+pub use reading::logical_lines;
+pub use word_buf::{WordBuf, lex_one};
 
 #[cfg(test)]
 mod tests;

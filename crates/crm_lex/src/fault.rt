@@ -1,0 +1,71 @@
+use crate::NoMemory;
+use std::alloc::{AllocError, AllocFailed};
+use thiserror::Error;
+
+/// Why a text has no words (rule of this project).
+#[derive(Clone, Copy, Debug, PartialEq, Eq, Error)]
+pub enum LexCause {
+    /// The bytes of a physical line are not UTF-8.
+    #[error("its bytes are not UTF-8")]
+    NotUtf8,
+    /// A physical line has a byte below 32 that is no tab, or the byte 127. Its line end, a line feed or a carriage
+    /// return and a line feed, doesn't count.
+    #[error("it has a control byte")]
+    ControlByte,
+    /// A quote is open at the end of a logical line. The fault stands at the first physical line of it.
+    #[error("a quote is open at its end")]
+    OpenQuote,
+    /// A logical line has more than 1,048,576 bytes without its line ends, as a comment too. The fault stands at the
+    /// first physical line of it.
+    #[error("it is too long")]
+    LineTooLong,
+}
+
+/// Why the words of a text could not be given.
+#[derive(Clone, Copy, Debug, PartialEq, Eq, Error)]
+pub enum LexFault {
+    /// A line is refused.
+    #[error("line {line}: {cause}")]
+    At {
+        /// The physical line, counted from 1.
+        line: u32,
+        /// The first cause of it.
+        cause: LexCause,
+    },
+    /// Memory was refused.
+    #[error("memory was refused")]
+    NoMemory,
+}
+
+impl From<AllocError> for LexFault {
+    ghost use Rattle.std.specs.Prelude.{◌≡◌};
+    ghost use Rattle.crm_lex.specs.declared.fault.LexFault.TheVariants.{NoMemory};
+
+    ghost from_gives = { λ _ fault. fault ≡ NoMemory };
+
+    fn from(_: AllocError) -> Self {
+        LexFault::NoMemory
+    }
+}
+
+impl<T: Drop> From<AllocFailed<T>> for LexFault {
+    ghost use Rattle.std.specs.Prelude.{◌≡◌};
+    ghost use Rattle.crm_lex.specs.declared.fault.LexFault.TheVariants.{NoMemory};
+
+    ghost from_gives = { λ _ fault. fault ≡ NoMemory };
+
+    fn from(_: AllocFailed<T>) -> Self {
+        LexFault::NoMemory
+    }
+}
+
+impl From<NoMemory> for LexFault {
+    ghost use Rattle.std.specs.Prelude.{◌≡◌};
+    ghost use Rattle.crm_lex.specs.declared.fault.LexFault.TheVariants.{NoMemory};
+
+    ghost from_gives = { λ _ fault. fault ≡ NoMemory };
+
+    fn from(_: NoMemory) -> Self {
+        LexFault::NoMemory
+    }
+}
