@@ -1,12 +1,20 @@
 //! Where the bytes of a run come from and go to: sources and sinks that count their own faults.
 #![tactic(auto)]
 
+mod held_lines;
+mod line_reader;
+mod line_scan;
+mod line_step;
 mod memory_sink;
 mod memory_source;
 mod sink;
 mod source;
 mod standard;
+mod window;
 
+pub use held_lines::HeldLines;
+pub use line_reader::LineReader;
+pub use line_step::LineStep;
 pub use memory_sink::{MemorySink, NoMemory};
 pub use memory_source::MemorySource;
 pub use sink::{Sink, WriteFault, WriteStep, write_text};

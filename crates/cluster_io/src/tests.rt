@@ -1,6 +1,8 @@
 use super::*;
+use std::alloc::Global;
 use std::io;
 use std::io::{ErrorKind, Read, Write};
+use std::process::Abort;
 use std::test::Fail;
 
 /// Is interrupted some times, then reads or writes as `inner` does, and fails where that moves
@@ -153,5 +155,192 @@ fn writes_text(rt: HostRuntime) -> Result<(), Fail> {
         assert_eq!(rt; sink.bytes(), held);
         assert_eq!(rt; sink.room_left(), room - held.len());
     }
+    Ok(())
+}
+
+/// The next answer that is no failure. Each failure before it is counted.
+fn answer<S: Source>(reader: &mut LineReader<'_, S>, failures: &mut u32) -> LineStep {
+    for _ in 0..9 {
+        match reader.line() {
+            LineStep::Failed => *failures = failures.saturating_add(1),
+            step => return step,
+        }
+    }
+    LineStep::Failed
+}
+
+/// The lines and the answer behind them, and one failure at most.
+fn gives_lines<S: Source>(
+    rt: &impl Abort,
+    reader: &mut LineReader<'_, S>,
+    lines: &[(u32, &[u8])],
+    end: LineStep,
+    case: (usize, u32),
+) {
+    let mut failures = 0;
+    for (number, raw) in lines {
+        assert_eq!(rt; answer(reader, &mut failures), LineStep::Line, "{case:?}");
+        assert_eq!(rt; reader.raw(), *raw, "{case:?}");
+        assert_eq!(rt; reader.number(), *number, "{case:?}");
+    }
+    for _ in 0..2 {
+        assert_eq!(rt; answer(reader, &mut failures), end, "{case:?}");
+        assert_eq!(rt; reader.raw(), b"".as_slice(), "{case:?}");
+    }
+    assert!(rt; failures <= 1);
+}
+
+/// Gives these lines, whatever the greatest step of the source and whichever of its reads fails.
+fn reads_lines(
+    rt: &impl Abort,
+    alloc: Global,
+    text: &[u8],
+    (limit, longest): (usize, usize),
+    lines: &[(u32, &[u8])],
+    end: LineStep,
+) -> Result<(), Fail> {
+    assert!(rt; limit < 1 << 32);
+    for step in [1, 2, 3, 9, 4096, 5000] {
+        for failing in 0..12 {
+            let fails = [failing];
+            let mut source = MemorySource::new(text.to_vec(alloc)?, step, fails.to_vec(alloc)?);
+            let Ok(held) = HeldLines::new(alloc, limit, longest) else {
+                return Err(Fail::from("no memory"));
+            };
+            let mut reader = LineReader::over(&mut source, held);
+            gives_lines(rt, &mut reader, lines, end, (step, failing));
+        }
+    }
+    Ok(())
+}
+
+#[test]
+fn reads_lines_of_a_source(rt: HostRuntime) -> Result<(), Fail> {
+    let ample = (99, 9);
+    for (text, lines) in [
+        (b"".as_slice(), [].as_slice()),
+        (b"a", &[(1, b"a".as_slice())]),
+        (b"\n \t\n", &[(1, b"\n"), (2, b" \t\n")]),
+        (
+            b"a\r\nb\rc\n\r",
+            &[(1, b"a\r\n"), (2, b"b\rc\n"), (3, b"\r")],
+        ),
+        (b"a\\\nb\nc", &[(1, b"a\\\nb\n"), (3, b"c")]),
+        (b"a\\\r\nb\\\n\nd\n", &[(1, b"a\\\r\nb\\\n\n"), (4, b"d\n")]),
+        (b"a\\b\nc\\\r", &[(1, b"a\\b\n"), (2, b"c\\\r")]),
+        (b"a\\", &[(1, b"a\\")]),
+        (b"a\\\n", &[(1, b"a\\\n")]),
+        (b"#a\\\nb\n", &[(1, b"#a\\\n"), (2, b"b\n")]),
+        (b" \t#\\\r\n#\\", &[(1, b" \t#\\\r\n"), (2, b"#\\")]),
+        (b"a\\\n#b\\\nc\nd", &[(1, b"a\\\n#b\\\nc\n"), (4, b"d")]),
+    ] {
+        reads_lines(&rt, rt.alloc(), text, ample, lines, LineStep::End)?;
+    }
+    Ok(())
+}
+
+#[test]
+fn bounds_lines(rt: HostRuntime) -> Result<(), Fail> {
+    let one = [(1, b"a\n".as_slice())];
+    for (text, bounds, lines, end) in [
+        (
+            b"abcd\r\n".as_slice(),
+            (99, 4),
+            [(1, b"abcd\r\n".as_slice())].as_slice(),
+            LineStep::End,
+        ),
+        (b"abcde\n", (99, 4), &[], LineStep::TooLong),
+        (b"a\nabcde", (99, 4), &one, LineStep::TooLong),
+        (b"abcd\r", (99, 4), &[], LineStep::TooLong),
+        (b"abcd\rx\n", (99, 4), &[], LineStep::TooLong),
+        (b"#abcd\n", (99, 4), &[], LineStep::TooLong),
+        (
+            b"a\\\r\nb\\\n",
+            (99, 4),
+            &[(1, b"a\\\r\nb\\\n")],
+            LineStep::End,
+        ),
+        (b"a\\\r\nb\\\nc", (99, 4), &[], LineStep::TooLong),
+        (b"a\\\nbc", (99, 4), &[(1, b"a\\\nbc")], LineStep::End),
+        (b"\n", (99, 0), &[(1, b"\n")], LineStep::End),
+        (b"a", (99, 0), &[], LineStep::TooLong),
+        (
+            b"a\nb\n",
+            (4, 9),
+            &[(1, b"a\n"), (2, b"b\n")],
+            LineStep::End,
+        ),
+        (b"a\nb\n", (3, 9), &one, LineStep::TooLarge),
+        (b"a\nb\n", (2, 9), &one, LineStep::TooLarge),
+        (b"a\nb", (3, 9), &[(1, b"a\n"), (2, b"b")], LineStep::End),
+        (b"a\\\n", (3, 9), &[(1, b"a\\\n")], LineStep::End),
+        (b"a\\\nb", (3, 9), &[], LineStep::TooLarge),
+        (b"", (0, 9), &[], LineStep::End),
+        (b"a", (0, 9), &[], LineStep::TooLarge),
+        (b"abcde", (4, 4), &[], LineStep::TooLarge),
+        (b"abcde", (5, 4), &[], LineStep::TooLong),
+        (b"abcd\r\n", (5, 4), &[], LineStep::TooLarge),
+        (b"abcd\rx", (5, 4), &[], LineStep::TooLong),
+        (b"abcd\r", (5, 4), &[], LineStep::TooLong),
+        (b"abcd\r\n", (5, 3), &[], LineStep::TooLong),
+    ] {
+        reads_lines(&rt, rt.alloc(), text, bounds, lines, end)?;
+    }
+    Ok(())
+}
+
+#[test]
+fn reads_lines_longer_than_a_read(rt: HostRuntime) -> Result<(), Fail> {
+    let alloc = rt.alloc();
+    let mut plain = Vec::new(alloc);
+    let mut joined = Vec::new(alloc);
+    for _ in 0..5000 {
+        plain.push(b'a')?;
+        joined.extend_from_slice(b"\\\r\n")?;
+    }
+    plain.extend_from_slice(b"\r\nb")?;
+    joined.extend_from_slice(b"\r\nb")?;
+    for (text, longest, len, second) in [
+        (&plain, 5000, 5002, 2),
+        (&plain, 4999, 0, 0),
+        (&joined, 5000, 15002, 5002),
+        (&joined, 4999, 0, 0),
+    ] {
+        let Ok(held) = HeldLines::new(alloc, 20000, longest) else {
+            return Err(Fail::from("no memory"));
+        };
+        let no_fails: [u32; 0] = [];
+        let mut source = MemorySource::new(
+            text.as_slice().to_vec(alloc)?,
+            1000,
+            no_fails.to_vec(alloc)?,
+        );
+        let mut reader = LineReader::over(&mut source, held);
+        if len == 0 {
+            assert_eq!(rt; reader.line(), LineStep::TooLong);
+            continue;
+        }
+        assert_eq!(rt; reader.line(), LineStep::Line);
+        assert_eq!(rt; reader.raw().len(), len);
+        assert_eq!(rt; reader.number(), 1);
+        assert_eq!(rt; reader.line(), LineStep::Line);
+        assert_eq!(rt; reader.raw(), b"b".as_slice());
+        assert_eq!(rt; reader.number(), second);
+        assert_eq!(rt; reader.line(), LineStep::End);
+    }
+    Ok(())
+}
+
+#[test]
+fn gives_the_source_back(rt: HostRuntime) -> Result<(), Fail> {
+    let mut source = StdSource::new(b"a\nbcdefghi".as_slice());
+    let Ok(mut reader) = LineReader::new(rt.alloc(), &mut source, 4, 4) else {
+        return Err(Fail::from("no memory"));
+    };
+    assert_eq!(rt; reader.line(), LineStep::Line);
+    assert_eq!(rt; reader.raw(), b"a\n".as_slice());
+    let mut buf = [0u8; 9];
+    assert_eq!(rt; reader.into_source().read(&mut buf), ReadStep::Got(5));
+    assert_eq!(rt; &buf[..5], b"efghi".as_slice());
     Ok(())
 }

@@ -1,0 +1,48 @@
+use Rattle.std.proofs.Common.{◌≡◌, ℕ, ◌≤◌, List, [], length, arith, sym, ap, subst, refl, ◌∙◌}
+use Rattle.cluster_io.specs.Readings.{Reading}
+use Rattle.cluster_io.specs.Scanning.{Finds, FindsLast}
+use Rattle.cluster_io.specs.HeldLines.{Settles}
+use Rattle.cluster_io.proofs.Turns.{settles_found, settles_last, same_reading, given_is_no_failure}
+use Rattle.cluster_io.proofs.held_lines.HeldLines.turn.Goals as goal
+
+pub returns-in_default : goal.returns-in_default
+returns-in_default g c =
+    let found =
+    subst (λ (h : List ℕ). Finds c.look-found.result.1 c.self.inside.bounds h c.self.inside.scan.scanned c.look-found.result.0)
+    c.held.ensures c.look-found.ensures.found in
+    record {
+      turned =
+          subst (λ (o : Reading). Settles c.give.result o c.give.new.self (g.S.Source.left c.args.src.now) (g.S.Source.left c.args.src.now))
+          c.self.view_is
+          (settles_found c.look-found.result.1 c.self.inside.bounds c.self.inside.scan.scanned c.look-found.result.0
+          c.give.result _ c.give.new.self _ refl refl found c.self.invariant.fresh c.give.ensures);
+      untouched = λ _. refl;
+      count = omega arith;
+      cause = λ e. absurd (given_is_no_failure c.look-found.result.1 c.give.result _ c.give.new.self c.give.ensures cc);
+    }
+
+pub returns-in-End-2-clause-turned : goal.returns-in-End-2-clause-turned
+returns-in-End-2-clause-turned g c =
+    let h = c.self.inside in
+    let seen : Reading = record {
+      held = h.window.held;
+      raw = h.window.handed;
+      number = h.number;
+      next = h.next;
+      room = h.bounds.room;
+      longest = h.bounds.longest;
+      stop = h.stop;
+    } in
+    let ended = c.in-End-2.ensures.received in
+    let open_line =
+    subst (λ f. Finds f h.bounds c.held.result.now h.scan.scanned c.look-found.result.0) c.in-More.is
+    c.look-found.ensures.found in
+    let fits : length c.read_from.new.self.held ≤ h.bounds.room =
+    rw (ended.0, ← c.held.ensures) open_line.in_room in
+    let last =
+    subst (λ (t : List ℕ). FindsLast c.last_line-last.result h.bounds t) c.held-in-End-2.ensures c.last_line-last.ensures in
+    let empty : h.window.handed ≡ [] = ap (λ (r : Reading). r.raw) c.self.view_is ∙ c.requires.empty in
+    subst (λ (o : Reading). Settles c.give-in-End-2.result o c.give-in-End-2.new.self (g.S.Source.left c.args.src.now) (g.S.Source.left c.read_from.new.src))
+    (same_reading seen c.read_from.new.self.held c.read_from.new.self.handed ended.0 (c.read_from.ensures.handed ∙ sym empty) ∙ c.self.view_is)
+    (settles_last c.last_line-last.result h.bounds c.give-in-End-2.result _ c.give-in-End-2.new.self _ _ refl refl fits
+    last c.give-in-End-2.ensures ended.1 ended.2)

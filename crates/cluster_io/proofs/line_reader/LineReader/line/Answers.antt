@@ -1,0 +1,17 @@
+use Rattle.std.proofs.Common.{◌∙◌, arith}
+use Rattle.std.proofs.lemmas.Grind.{common_steps}
+use Rattle.cluster_io.proofs.Turns.{Sofar-more, held_so_far}
+use Rattle.cluster_io.proofs.line_reader.LineReader.line.Goals as goal
+
+pub loop-step-preserved : goal.loop-step-preserved
+loop-step-preserved g c =
+    let so = c.loop-step.invariant.sofar in
+    let went = c.in_default-turn.ensures.turned in
+    record {
+      sofar = Sofar-more _ _ _ _ _ _ so went;
+      going = c.loop-step.invariant.going;
+      empty = grind (arith, common_steps);
+      unread = λ h. c.in_default-turn.ensures.untouched (held_so_far _ _ _ _ so h) ∙ c.loop-step.invariant.unread h;
+      count = omega arith;
+      same_source = grind (arith, common_steps);
+    }

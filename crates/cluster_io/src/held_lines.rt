@@ -1,0 +1,164 @@
+ghost use Rattle.std.specs.Prelude.{◌≡◌, ℕ, ◌+◌, ◌*◌, ◌^◌, ◌≤◌, ◌<◌, None, Some, true, [], length, IfOk};
+ghost use Rattle.cluster_io.specs.Streams.{Rose};
+ghost use Rattle.cluster_io.specs.NextLine.{holds_line};
+ghost use Rattle.cluster_io.specs.HeldLines.{MayGive, Gives, Stops, Turned};
+
+use crate::line_scan::{Bounds, Found, Scan, last_line, look};
+use crate::window::Window;
+use crate::{LineStep, NoMemory, ReadStep, Source};
+use std::alloc::Global;
+use std::marker::Model;
+
+/// The most bytes that one read asks for.
+const PIECE: usize = 4096;
+
+/// Nothing was looked at.
+const START: Scan = Scan {
+    line: 0,
+    scanned: 0,
+    content: 0,
+    lines: 0,
+};
+
+/// The bytes that a reader of lines holds, how far it has looked through them, and the memory for
+/// them.
+#[derive(Drop)]
+pub struct HeldLines {
+    window: Window,
+    scan: Scan,
+    bounds: Bounds,
+    next: usize,
+    number: u32,
+    stop: Option<LineStep>,
+}
+
+impl Model for HeldLines {
+    ghost use Rattle.cluster_io.specs.Readings.{Reading};
+    ghost use Rattle.cluster_io.specs.HeldLines.{Orderly};
+
+    ghost Value = { Reading };
+
+    ghost view = { λ h. record {
+      held = h.window.held;
+      raw = h.window.handed;
+      number = h.number;
+      next = h.next;
+      room = h.bounds.room;
+      longest = h.bounds.longest;
+      stop = h.stop;
+    } };
+
+    ghost invariant = { λ h. Orderly h.window h.scan h.bounds h.next h.stop };
+}
+
+impl HeldLines {
+    /// Nothing is held. It takes memory for a line that has `longest` bytes without line ends, and
+    /// for one read. Such a line has at most three times as many bytes: each physical line that is
+    /// joined to the next one has a backslash and at most two bytes of line end.
+    pub fn new(alloc: Global, limit: usize, longest: usize) -> Result<HeldLines, NoMemory>
+        requires { limit < 2 ^ 32 }
+        ensures { IfOk result (λ h. h ≡ record {
+          held = [];
+          raw = [];
+          number = 0;
+          next = 1;
+          room = limit;
+          longest = longest;
+          stop = None;
+        }) }
+    {
+        let line = longest.saturating_mul(3).saturating_add(1).min(limit);
+        Ok(HeldLines {
+            window: Window::new(alloc, line + PIECE)?,
+            scan: START,
+            bounds: Bounds {
+                room: limit,
+                longest,
+            },
+            next: 1,
+            number: 0,
+            stop: None,
+        })
+    }
+
+    /// The line that the last call handed out.
+    pub(crate) fn raw(&self) -> &[u8]
+        ensures { result.now ≡ self.now.raw }
+    {
+        self.window.handed()
+    }
+
+    /// The number of the first physical line of the line that was handed out last.
+    pub(crate) fn number(&self) -> u32
+        ensures { result ≡ self.now.number }
+    {
+        self.number
+    }
+
+    /// The answer that it gives from now on.
+    pub(crate) fn stop(&self) -> Option<LineStep>
+        ensures stop { result ≡ self.now.stop }
+        ensures stops { Stops result }
+    {
+        self.stop
+    }
+
+    /// Lets go of the line that was handed out last.
+    pub(crate) fn forget(&mut self)
+        ensures { self.new ≡ record self.old { raw = [] } }
+    {
+        self.window.forget();
+    }
+
+    /// Gives what was found.
+    fn give(&mut self, found: Found) -> LineStep
+        requires may { MayGive found self.old }
+        requires empty { self.old.raw ≡ [] }
+        ensures { Gives found result self.old self.new }
+    {
+        match found {
+            Found::Line(count, lines) => {
+                self.window.hand_out(count);
+                self.scan = START;
+                self.bounds.room -= count;
+                self.number = self.next as u32;
+                self.next += lines;
+                LineStep::Line
+            }
+            Found::TooLong => {
+                self.stop = Some(LineStep::TooLong);
+                LineStep::TooLong
+            }
+            Found::TooLarge | Found::More => {
+                self.stop = Some(LineStep::TooLarge);
+                LineStep::TooLarge
+            }
+        }
+    }
+
+    /// Looks for the next line in what is held. Where it isn't whole there, makes one read, and
+    /// answers None where that gave bytes.
+    pub(crate) fn turn<S: Source>(&mut self, src: &mut S) -> Option<LineStep>
+        requires empty { self.old.raw ≡ [] }
+        ensures turned { Turned result self.old self.new (S.left src.old) (S.left src.new) }
+        ensures untouched { holds_line self.old.held ≡ true → src.new ≡ src.old }
+        ensures count { S.faults src.old ≤ S.faults src.new }
+        ensures cause { result ≡ Some LineStep.Failed → Rose (S.faults src.old) (S.faults src.new) }
+    {
+        let (scan, found) = look(self.window.held(), self.scan, self.bounds);
+        self.scan = scan;
+        let Found::More = found else {
+            return Some(self.give(found));
+        };
+        let most = (self.bounds.room + 1 - self.window.held().len()).min(PIECE);
+        match self.window.read_from(src, most) {
+            ReadStep::Got(_) => None,
+            ReadStep::Failed => Some(LineStep::Failed),
+            ReadStep::End if self.window.held().is_empty() => Some(LineStep::End),
+            ReadStep::End => {
+                let last = last_line(self.window.held(), self.scan, self.bounds);
+                Some(self.give(last))
+            }
+        }
+    }
+}
