@@ -3,7 +3,7 @@ use Rattle.std.proofs.Common.{◌≡◌, ℕ, Bool, true, false, not, ◌&&◌, 
 use Rattle.std.proofs.lemmas.List.Elements.{filter_map-append}
 use Rattle.std.specs.List.{list_all, filter_map, cons_option, last_or, flat_map, range_with_len, enumerate_from}
 use Rattle.cluster_types.specs.declared.cluster.Cluster.{Cluster}
-use Rattle.cluster_types.specs.declared.journal.Action.TheVariants.{Probe, Cell, MigrateTo, MigrateFrom}
+use Rattle.cluster_types.specs.declared.journal.Action.TheVariants.{Probe, Cell}
 use Rattle.cluster_types.specs.declared.journal.Event.{Event}
 use Rattle.cluster_types.specs.declared.journal.Event.TheVariants.{Up, Down, Lost, Quorum, Wait, Cleanup, Begin, Ended}
 use Rattle.cluster_types.proofs.Booleans.{sooner, later, together, both, clash}
@@ -52,6 +52,7 @@ module _ (p : Event → Bool) (up : (n : ℕ) → p (Up n) ≡ true) (down : (n 
 reports_begin_nothing : (nodes : ℕ) (es : List Event) → list_all (is_reported nodes) es ≡ true → list_all begins_nothing es ≡ true
 reports_begin_nothing nodes [] h = refl
 reports_begin_nothing nodes (Ended k a o m ∷ es) h = reports_begin_nothing nodes es (later (is_reported nodes (Ended k a o m)) _ h)
+reports_begin_nothing nodes (Cleanup r n ∷ es) h = reports_begin_nothing nodes es (later (is_reported nodes (Cleanup r n)) _ h)
 reports_begin_nothing nodes (e ∷ es) h = cc
 
 -- the first journal has nothing in flight
@@ -95,15 +96,12 @@ joined_of_all n nodes h = joined_among n 0 nodes (grind arith) (grind arith)
 no_sign : (n nodes : ℕ) (e : Event) → is_reported nodes e ≡ true → sign_of n e ≡ None
 no_sign n nodes (Ended k (Probe leaf node) o moment) h = refl
 no_sign n nodes (Ended k (Cell op leaf node interval role) o moment) h = refl
-no_sign n nodes (Ended k (MigrateTo leaf source target) o moment) h = refl
-no_sign n nodes (Ended k (MigrateFrom leaf source target) o moment) h = refl
+no_sign n nodes (Cleanup leaf node) h = refl
 no_sign n nodes _ h = cc
 
 node_known : (n nodes : ℕ) (e : Event) → is_reported nodes e ≡ true → wants_node n e ≡ true → n < nodes
 node_known n nodes (Ended k (Probe leaf node) o moment) h w = grind arith
 node_known n nodes (Ended k (Cell op leaf node interval role) o moment) h w = grind arith
-node_known n nodes (Ended k (MigrateTo leaf source target) o moment) h w = grind arith
-node_known n nodes (Ended k (MigrateFrom leaf source target) o moment) h w = grind arith
 node_known n nodes _ h w = cc
 
 unsigned : (o : Option NodeSign) (rest : List NodeSign) → o ≡ None → rest ≡ [] → cons_option o rest ≡ []

@@ -5,3 +5,25 @@ mod PrecedenceExamples
 mod Booleans
 pub mod MayLaws
 pub mod JournalLaws
+pub mod Paths
+pub mod TableCells
+pub mod LeastSets
+pub mod NumberLaws
+pub mod RisingEdges
+pub mod SmallGraph
+pub mod StepLaws
+pub mod EagerLaws
+pub mod NeverStuck
+pub mod SafetyLaws
+pub mod Few
+pub mod NeededLaws
+pub mod SmallRuns
+mod RunExamples
+mod FencingExamples
+mod HistoryExamples
+mod PromotionExamples
+mod HeldExamples
+mod TermExamples
+mod MigrationExamples
+mod LineExamples
+mod ValidExamples

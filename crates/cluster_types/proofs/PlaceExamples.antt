@@ -79,14 +79,14 @@ held = record (two_nodes (plain_leaf (codes "a") ∷ plain_leaf (codes "b") ∷ 
   orders = start_order (codes "o") 0 1 false ∷ [];
 }
 
-primary_is_ready : is_ready held (online [] 1000) [] [] (Place 1) ≡ true
+primary_is_ready : is_ready held (online [] 1000) [] (Place 1) ≡ true
 primary_is_ready = refl
 
-dependent_waits : is_ready held (online [] 1000) [] [] (Place 0) ≡ false
+dependent_waits : is_ready held (online [] 1000) [] (Place 0) ≡ false
 dependent_waits = refl
 
 -- a can't lend its terms, since no node would be left
-dependent_is_lender : lenders held (online [] 1000) 1 ≡ 0 ∷ []
+dependent_is_lender : lenders held 1 ≡ 0 ∷ []
 dependent_is_lender = refl
 
 primary_total : total_on held (online [] 1000) [] no_targets (Place 1) 0 ≡ pos 0

@@ -1,4 +1,4 @@
--- Of which cell an action is. A cell is a leaf on a node.
+-- Of which cell an action is. A cell is a leaf on a node (rule of this project).
 use Rattle.std.specs.Prelude.{ℕ, Bool, false, ◌==◌, ◌&&◌}
 use Rattle.cluster_types.specs.declared.journal.Action.{Action}
 use Rattle.cluster_types.specs.declared.journal.Action.TheVariants.{Fence, Probe, Cell, MigrateTo, MigrateFrom}

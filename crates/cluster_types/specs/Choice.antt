@@ -67,11 +67,12 @@ module _ (c : Cluster) (es : List Event) (promotions : List Promotion) (table : 
   preference d n =
       total_of (map (λ (col : Colocation). col.score) (filter (λ col. is_finite col && is_dependent d col && holds_role table col.primary col.primary_role n) c.colocations))
 
-  -- the total of a decision on a node, with the table so far
+  -- the total of a decision on a node, with the table so far: that of two totals (rule of this project)
   abbrev pub total_on : Decision → ℕ → ℤ
   total_on d n = total_of (base c es promotions d n ∷ preference d n ∷ [])
 
-  -- the cluster may start the leaf, or what runs in the cell may stay and runs in no more cells than it has copies
+  -- the cluster may start the leaf, or what runs in the cell may stay and runs in no more cells than it has copies (Pacemaker Explained, "no-quorum-policy";
+  -- the bound by copies is a rule of this project)
   abbrev pub is_permitted : Decision → ℕ → Bool
   is_permitted d n =
       may_start c es

@@ -84,7 +84,7 @@ needs_through c among (suc most) d e = list_any (λ f. needs c d f && (is_same_d
 abbrev pub NeedsHaveNoLoop : Cluster → Type 0
 NeedsHaveNoLoop c = (d : Decision) → needs_through c (all_decisions c) (length (all_decisions c)) d d ≡ false
 
-module _ (c : Cluster) (es : List Event) (promotions : List Promotion) where
+module _ (c : Cluster) (es : List Event) where
   -- a leaf that isn't pinned is placed, and promoted where it is promotable
   abbrev pub decisions_of : ℕ → List Decision
   decisions_of r = if is_pinned c es r then [] else Place r ∷ (if is_promotable c r then Promote r ∷ [] else [])
@@ -95,6 +95,13 @@ module _ (c : Cluster) (es : List Event) (promotions : List Promotion) where
   abbrev pub is_decision : Decision → Bool
   is_decision d = list_any (is_same_decision d) decisions
 
+  -- the decision can be made now: it hasn't been, and what it needs has been
+  abbrev pub is_ready : List Decision → Decision → Bool
+  is_ready made d =
+      is_decision d && not (list_any (is_same_decision d) made)
+      && list_all (λ e. not (needs c d e) || list_any (is_same_decision e) made) decisions
+
+module _ (c : Cluster) (es : List Event) (promotions : List Promotion) where
   abbrev pub totals_where : (ℕ → Bool) → Decision → List ℤ
   totals_where passes d = map (base c es promotions d) (filter passes (range_with_len 0 (length c.nodes)))
 
@@ -108,7 +115,7 @@ module _ (c : Cluster) (es : List Event) (promotions : List Promotion) where
   -- the greatest key among the decision and all that need it. A chain of needs is no longer than there are decisions
   abbrev pub effective_key : Decision → Key
   effective_key d =
-      fold greater_key (key_of d) (map key_of (filter (λ e. needs_through c decisions (length decisions) e d) decisions))
+      fold greater_key (key_of d) (map key_of (filter (λ e. needs_through c (decisions c es) (length (decisions c es)) e d) (decisions c es)))
 
   -- which of two decisions is made first: the greater effective key, then the earlier leaf, then Place
   abbrev pub is_made_before : Decision → Decision → Bool
@@ -116,18 +123,12 @@ module _ (c : Cluster) (es : List Event) (promotions : List Promotion) where
       is_less (effective_key e) (effective_key d)
       || not (is_less (effective_key d) (effective_key e)) && (nat_lt (leaf_of d) (leaf_of e) || leaf_of d == leaf_of e && is_place d && not (is_place e))
 
-  -- the decision can be made now: it hasn't been, and what it needs has been
-  abbrev pub is_ready : List Decision → Decision → Bool
-  is_ready made d =
-      is_decision d && not (list_any (is_same_decision d) made)
-      && list_all (λ e. not (needs c d e) || list_any (is_same_decision e) made) decisions
-
   -- the one that is made next: it is ready, and before each other that is
   pub record IsMadeNext (made : List Decision) (d : Decision) : Type 0 where
-    pub ready : is_ready made d ≡ true
-    pub first : (e : Decision) → is_ready made e ≡ true → e ≢ d → is_made_before d e ≡ true
+    pub ready : is_ready c es made d ≡ true
+    pub first : (e : Decision) → is_ready c es made e ≡ true → e ≢ d → is_made_before d e ≡ true
 
   -- from the decisions made so far one after another is made, until none is ready
   pub data Decides : List Decision → List Decision → Type 0 where
-    all_made : (made : List Decision) → ((d : Decision) → is_ready made d ≡ false) → Decides made made
+    all_made : (made : List Decision) → ((d : Decision) → is_ready c es made d ≡ false) → Decides made made
     one_more : (made all : List Decision) (d : Decision) → IsMadeNext made d → Decides (made ++ d ∷ []) all → Decides made all

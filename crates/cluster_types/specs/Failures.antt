@@ -37,7 +37,8 @@ abbrev pub ended_at : Event → ℕ
 ended_at (Ended k a o moment) = moment
 ended_at _ = 0
 
--- the failures are forgotten: the failure timeout has passed since the last of them. Seconds are counted in milliseconds here
+-- the failures are forgotten: the failure timeout has passed since the last of them, to the millisecond (Pacemaker Explained, "failure-timeout"; that
+-- all of a cell are forgotten at once is a rule of this project). Seconds are counted in milliseconds here
 abbrev pub is_forgotten : ℕ → ℕ → List Event → Bool
 is_forgotten timeout now failures =
     nat_lt 0 timeout && option_map_or (λ e. nat_lt (1000 * ended_at e + timeout) (1000 * now)) (last_or None failures) false
@@ -51,7 +52,8 @@ abbrev pub is_start : Event → Bool
 is_start (Ended k (Cell Start leaf node interval role) o moment) = true
 is_start _ = false
 
--- the fail count of a cell: how many failures count, up to INFINITY; one failed start is INFINITY where the cluster says so
+-- the fail count of a cell: how many failures count, up to INFINITY; one failed start is INFINITY where the cluster says so (Pacemaker Explained,
+-- "start-failure-is-fatal"; that probes count, and a failed stop as one, is a rule of this project)
 abbrev pub fail_count : Cluster → ℕ → ℕ → List Event → ℕ
 fail_count c r n es =
     if c.properties.start_fatal && list_any is_start (counted c r n es) then 1000000 else min (length (counted c r n es)) 1000000

@@ -1,4 +1,4 @@
--- Which chosen cells are held back, what the targets are in the end, and why a leaf has none (Pacemaker Explained, ordering and mandatory
+-- Which chosen cells are held back, and what the targets are in the end (Pacemaker Explained, ordering and mandatory
 -- colocation; that they are found after the choice is a rule of this project).
 use Rattle.std.specs.Prelude.{◌≡◌, ℕ, ◌<◌, true, false, List, length, Contains}
 use Rattle.cluster_types.specs.declared.cluster.Cluster.{Cluster}
@@ -25,19 +25,48 @@ pub data Gives : Op → Role → Type 0 where
   promoted : Gives op.Promote role.Promoted
 
 module _ (c : Cluster) (es : List Event) (table : Targets) where
-  -- the least set of chosen cells that are held back, by its three rules. The table is that after all decisions
+  -- a mandatory order of starts or promotes may hold its then back on a node where it was chosen. The table is that after all decisions
+  pub record OrderMayHold (o : Order) (n : ℕ) (first later : Role) : Type 0 where
+    pub present : Contains c.orders o
+    pub mandatory : o.kind ≡ kind.Mandatory
+    pub first_gives : Gives o.first_op first
+    pub then_gives : Gives o.then_op later
+    pub managed : is_pinned c es o.then_leaf ≡ false
+    pub within : n < length c.nodes
+    pub chosen : holds_role table o.then_leaf later n ≡ true
+
+  -- a mandatory colocation may hold its dependent back on a node where it was chosen
+  pub record ColocationMayHold (col : Colocation) (n : ℕ) : Type 0 where
+    pub present : Contains c.colocations col
+    pub mandatory : is_mandatory col ≡ true
+    pub managed : is_pinned c es col.dependent ≡ false
+    pub within : n < length c.nodes
+    pub chosen : holds_role table col.dependent col.dependent_role n ≡ true
+
+  -- of the first of an order each target in its role and in scope is in the set; of the primary of a colocation that on the node
+  abbrev pub LacksFirst : (Decision → ℕ → Type 0) → Order → ℕ → Role → Type 0
+  LacksFirst set o n first =
+      (m : ℕ) → m < length c.nodes → is_in_scope o n m ≡ true → holds_role table o.first first m ≡ true → set (decision_of o.first first) m
+
+  abbrev pub LacksPrimary : (Decision → ℕ → Type 0) → Colocation → ℕ → Type 0
+  LacksPrimary set col n = holds_role table col.primary col.primary_role n ≡ true → set (decision_of col.primary col.primary_role) n
+
+  -- the three rules: a then is held where its first has no target that isn't, a dependent where its primary has none, and a promote where the place
+  -- of its leaf is held
+  pub record IsClosed (set : Decision → ℕ → Type 0) : Type 0 where
+    pub by_order : (o : Order) (n : ℕ) (first later : Role) → OrderMayHold o n first later → LacksFirst set o n first → set (decision_of o.then_leaf later) n
+    pub by_colocation : (col : Colocation) (n : ℕ) → ColocationMayHold col n → LacksPrimary set col n
+        → set (decision_of col.dependent col.dependent_role) n
+    pub by_place : (r n : ℕ) → holds_role table r role.Promoted n ≡ true → set (Place r) n → set (Promote r) n
+
+  -- the chosen cells that are held back: the least set that is closed under the three rules
   pub data Held : Decision → ℕ → Type 0 where
-    -- by a mandatory order of starts or promotes: in scope the first has no target in its role that isn't held
-    by_order : (o : Order) (n : ℕ) (first then_role : Role) → Contains c.orders o → o.kind ≡ kind.Mandatory → Gives o.first_op first → Gives o.then_op then_role
-        → is_pinned c es o.then_leaf ≡ false → n < length c.nodes → holds_role table o.then_leaf then_role n ≡ true
+    by_order : (o : Order) (n : ℕ) (first later : Role) → OrderMayHold o n first later
         → ((m : ℕ) → m < length c.nodes → is_in_scope o n m ≡ true → holds_role table o.first first m ≡ true → Held (decision_of o.first first) m)
-        → Held (decision_of o.then_leaf then_role) n
-    -- by a mandatory colocation: the primary has no such target on the node
-    by_colocation : (col : Colocation) (n : ℕ) → Contains c.colocations col → is_mandatory col ≡ true → is_pinned c es col.dependent ≡ false
-        → n < length c.nodes → holds_role table col.dependent col.dependent_role n ≡ true
+        → Held (decision_of o.then_leaf later) n
+    by_colocation : (col : Colocation) (n : ℕ) → ColocationMayHold col n
         → (holds_role table col.primary col.primary_role n ≡ true → Held (decision_of col.primary col.primary_role) n)
         → Held (decision_of col.dependent col.dependent_role) n
-    -- a promote, by the place of its leaf
     by_place : (r n : ℕ) → holds_role table r role.Promoted n ≡ true → Held (Place r) n → Held (Promote r) n
 
   -- the target of a cell in the end: what was chosen there and isn't held

@@ -1,11 +1,12 @@
--- What a journal tells as a whole: the moment, quorum, what is in flight, which journals are in order, and the first journal.
-use Rattle.std.specs.Prelude.{◌≡◌, ℕ, ◌==◌, ◌&&◌, ◌||◌, Bool, true, false, if◌then◌else◌, nat_lt, Option, Some, None, unwrap_or, List, [], ◌∷◌, ◌++◌, length, map, sum_by}
+-- What a journal tells as a whole: the moment, quorum, what is in flight, which journals are in order, and the first journal (after the operation
+-- history of the status section, Pacemaker Administration; the form of a journal and which are in order are rules of this project).
+use Rattle.std.specs.Prelude.{◌≡◌, ◌↔◌, ◌<◌, ℕ, ◌==◌, ◌&&◌, ◌||◌, Bool, true, false, if◌then◌else◌, nat_lt, Option, Some, None, unwrap_or, List, [], ◌∷◌, ◌++◌, length, map, sum_by, Contains, AllPairs}
 use Rattle.std.specs.List.{list_any, filter_map, flat_map, last_or, range_with_len, enumerate_from}
 use Rattle.cluster_types.specs.declared.cluster.Cluster.{Cluster}
 use Rattle.cluster_types.specs.declared.journal.Action.{Action}
 use Rattle.cluster_types.specs.declared.journal.Action.TheVariants.{Fence, Probe, Cell, MigrateTo, MigrateFrom}
 use Rattle.cluster_types.specs.declared.journal.Event.{Event}
-use Rattle.cluster_types.specs.declared.journal.Event.TheVariants.{Up, Down, Lost, Quorum, Wait, Begin, Ended}
+use Rattle.cluster_types.specs.declared.journal.Event.TheVariants.{Up, Down, Lost, Quorum, Wait, Cleanup, Begin, Ended}
 use Rattle.cluster_types.specs.Outcomes.{is_among}
 
 -- the last thing that the events say, of those that say something
@@ -25,7 +26,7 @@ abbrev pub said_of_quorum : Event → Option Bool
 said_of_quorum (Quorum now) = Some now
 said_of_quorum _ = None
 
--- the cluster has quorum by the last word on it; without one it hasn't
+-- the cluster has quorum by the last word on it (Pacemaker Explained, "no-quorum-policy"); without a word it hasn't
 abbrev pub has_quorum : List Event → Bool
 has_quorum es = unwrap_or (last_said said_of_quorum es) false
 
@@ -51,11 +52,17 @@ abbrev pub ends_number : ℕ → Event → Bool
 ends_number k (Ended j a o moment) = j == k
 ends_number k _ = false
 
--- what is in flight: each action that began, with its number, of which no end follows
+-- what is in flight: each action that began, with its number, of which no end follows, in the order in which they began (Pacemaker Administration,
+-- "Transitions")
 abbrev pub in_flight : List Event → List (ℕ × Action)
 in_flight [] = []
 in_flight (Begin k a ∷ es) = if list_any (ends_number k) es then in_flight es else (k, a) ∷ in_flight es
 in_flight (e ∷ es) = in_flight es
+
+-- the same in the order of numbers, as a source of answers sees it
+pub record IsFlight (es : List Event) (flight : List (ℕ × Action)) : Type 0 where
+  pub members : (k : ℕ) (a : Action) → Contains flight (k, a) ↔ Contains (in_flight es) (k, a)
+  pub ascending : AllPairs (λ (x y : ℕ × Action). x.0 < y.0) flight
 
 -- the action is of a cell on the node
 abbrev pub is_on : ℕ → Action → Bool
@@ -84,13 +91,11 @@ pub data NodeWord : Type 0 where
   unclean : NodeWord
   unsaid : NodeWord
 
--- the event is what a status tells of a cluster with so many nodes: the end of an action of a cell or of a migration, on its nodes
+-- the event is of the kind that a status tells of a cluster with so many nodes: a probe or an operation of a cell ended, or the cell was cleaned up
 abbrev pub is_reported : ℕ → Event → Bool
-is_reported nodes (Ended k (Fence node) o moment) = false
 is_reported nodes (Ended k (Probe leaf node) o moment) = nat_lt node nodes
 is_reported nodes (Ended k (Cell op leaf node interval role) o moment) = nat_lt node nodes
-is_reported nodes (Ended k (MigrateTo leaf source target) o moment) = nat_lt source nodes && nat_lt target nodes
-is_reported nodes (Ended k (MigrateFrom leaf source target) o moment) = nat_lt source nodes && nat_lt target nodes
+is_reported nodes (Cleanup leaf node) = nat_lt node nodes
 is_reported nodes _ = false
 
 -- how a node leaves by its word. One of which nothing is said is lost where the cluster fences such nodes, else down

@@ -19,5 +19,11 @@ pub mod Numbers
 pub mod Valid
 pub mod Lawful
 pub mod Reasons
+pub mod Sources
 pub mod Steps
 pub mod Texts
+pub mod Graphs
+pub mod Unpacked
+pub mod Plans
+pub mod Runs
+pub mod Safety

@@ -77,20 +77,35 @@ module _ (c : Cluster) (es : List Event) (targets : Targets) where
   abbrev pub steps_at : ℕ → ℕ → Bool → List Op
   steps_at r n cycled = if is_pinned c es r then [] else steps_of (cell_state c r n es) (targets r n) cycled
 
-  -- the least set of cells that are stopped and started again
+  -- a symmetrical mandatory order of starts or promotes has its then, on node n, wait for what is done to its first on node m
+  pub record OrderMayCycle (o : Order) (n m : ℕ) (first later : Role) : Type 0 where
+    pub present : Contains c.orders o
+    pub mandatory : o.kind ≡ kind.Mandatory
+    pub both_ways : o.symmetrical ≡ true
+    pub first_gives : Gives o.first_op first
+    pub then_gives : Gives o.then_op later
+    pub within : n < length c.nodes
+    pub first_within : m < length c.nodes
+    pub in_scope : is_in_scope o n m ≡ true
+    pub stays : can_cycle o.then_leaf n ≡ true
+    pub in_role : holds_role targets o.then_leaf later n ≡ true
+
+  -- the rules: a cell of a leaf that is active in more cells than it has copies is cycled; and so is the then of an order whose first is disturbed in
+  -- scope, by the steps that it needs itself, or by those that it gets as a cycled cell
+  pub record IsClosed (set : ℕ → ℕ → Type 0) : Type 0 where
+    pub by_copies : (r n : ℕ) → r < length c.leaves → n < length c.nodes → can_cycle r n ≡ true → nat_lt (copies c r) (active_count c es r) ≡ true → set r n
+    pub by_order : (o : Order) (n m : ℕ) (first later : Role) → OrderMayCycle o n m first later
+        → has_disturbing o.first_op (steps_at o.first m false) ≡ true → set o.then_leaf n
+    pub by_cycled : (o : Order) (n m : ℕ) (first later : Role) → OrderMayCycle o n m first later → set o.first m
+        → has_disturbing o.first_op (steps_at o.first m true) ≡ true → set o.then_leaf n
+
+  -- the cells that are stopped and started again: the least set that is closed under the rules
   pub data Cycled : ℕ → ℕ → Type 0 where
-    -- the leaf is active in more cells than it has copies
     by_copies : (r n : ℕ) → r < length c.leaves → n < length c.nodes → can_cycle r n ≡ true → nat_lt (copies c r) (active_count c es r) ≡ true → Cycled r n
-    -- by a symmetrical mandatory order of starts or promotes whose first is disturbed in scope, by its own steps
-    by_order : (o : Order) (n m : ℕ) (first then_role : Role) → Contains c.orders o → o.kind ≡ kind.Mandatory → o.symmetrical ≡ true
-        → Gives o.first_op first → Gives o.then_op then_role → n < length c.nodes → m < length c.nodes → is_in_scope o n m ≡ true
-        → can_cycle o.then_leaf n ≡ true → holds_role targets o.then_leaf then_role n ≡ true
+    by_order : (o : Order) (n m : ℕ) (first later : Role) → OrderMayCycle o n m first later
         → has_disturbing o.first_op (steps_at o.first m false) ≡ true → Cycled o.then_leaf n
-    -- or because it is cycled itself
-    by_cycled : (o : Order) (n m : ℕ) (first then_role : Role) → Contains c.orders o → o.kind ≡ kind.Mandatory → o.symmetrical ≡ true
-        → Gives o.first_op first → Gives o.then_op then_role → n < length c.nodes → m < length c.nodes → is_in_scope o n m ≡ true
-        → can_cycle o.then_leaf n ≡ true → holds_role targets o.then_leaf then_role n ≡ true
-        → Cycled o.first m → has_disturbing o.first_op (steps_at o.first m true) ≡ true → Cycled o.then_leaf n
+    by_cycled : (o : Order) (n m : ℕ) (first later : Role) → OrderMayCycle o n m first later → Cycled o.first m
+        → has_disturbing o.first_op (steps_at o.first m true) ≡ true → Cycled o.then_leaf n
 
   -- the cell gets the step
   abbrev pub GetsStep : ℕ → ℕ → Op → Type 0

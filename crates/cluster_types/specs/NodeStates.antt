@@ -1,4 +1,4 @@
--- What a journal tells of a node.
+-- What a journal tells of a node (Pacemaker Explained, "Fencing").
 use Rattle.std.specs.Prelude.{ℕ, Bool, true, false, not, ◌&&◌, if◌then◌else◌, Option, Some, None, List, length, slice_get}
 use Rattle.std.specs.List.{list_any, range_with_len}
 use Rattle.std.specs.Option.{option_map_or}
@@ -16,7 +16,8 @@ abbrev pub wants_fence : Cluster → Event → Bool
 wants_fence c (Ended k a o moment) = is_fence (effective_fail c a)
 wants_fence c _ = false
 
--- a failure in force on the node wants it fenced. One that a failure timeout has forgotten is still in force
+-- a failure in force on the node wants it fenced (Pacemaker Explained, "on-fail"). One that a failure timeout has forgotten is still in force (rule of
+-- this project)
 abbrev pub is_to_blame : Cluster → ℕ → List Event → Bool
 is_to_blame c n es =
     list_any (λ r. list_any (wants_fence c) (failures_in_force c r n es)) (range_with_len 0 (length c.leaves))

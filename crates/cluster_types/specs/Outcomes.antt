@@ -37,13 +37,13 @@ good_codes (Cell op r n ms role) = good_codes_of_op op
 good_codes (MigrateTo r source target) = 0 ∷ []
 good_codes (MigrateFrom r source target) = 0 ∷ []
 
--- the outcome is bad: another exit code, or a timeout. An action that is gone with its node is neither good nor bad
+-- the outcome is bad: another exit code, or a timeout. An action that is gone with its node is neither good nor bad (rule of this project)
 abbrev pub is_bad : Action → Outcome → Bool
 is_bad a (Code code) = not (list_any (λ k. k == code) (good_codes a))
 is_bad a TimedOut = true
 is_bad a Gone = false
 
--- what the failure of a monitor of this interval leads to; without a statement of the interval it is restart
+-- what the failure of a monitor of this interval leads to; without a statement of the interval it is restart (rule of this project)
 abbrev pub monitor_fail : List MonitorOf → ℕ → OnFail
 monitor_fail ms interval = option_map_or (λ (m : MonitorOf). m.on_fail) (find (λ m. m.interval_ms == interval) ms) on_fail.Restart
 
@@ -55,7 +55,7 @@ op_fail c r Promote interval = promote_fail c r
 op_fail c r Demote interval = demote_fail c r
 op_fail c r Monitor interval = monitor_fail (monitors c r) interval
 
--- what the failure of an action leads to; of a probe and of a migration it is restart (Pacemaker Explained, "on-fail")
+-- what the failure of an action leads to (Pacemaker Explained, "on-fail"); of a probe and of a migration it is restart (rule of this project)
 abbrev pub fail_of : Cluster → Action → OnFail
 fail_of c (Fence n) = on_fail.Restart
 fail_of c (Probe r n) = on_fail.Restart
@@ -93,5 +93,6 @@ is_monitor (Cell Monitor r n interval role) = true
 is_monitor _ = false
 
 -- the outcome is ignored: a bad one of a monitor whose on-fail is ignore. It shows that the monitor runs, and nothing else
+-- (Pacemaker Explained, "on-fail"; that it counts nowhere else is a rule of this project)
 abbrev pub is_ignored : Cluster → Action → Outcome → Bool
 is_ignored c a o = is_monitor a && is_bad a o && is_ignore (fail_of c a)

@@ -12,13 +12,12 @@ use Rattle.cluster_types.specs.declared.rules.Colocation.{Colocation}
 use Rattle.cluster_types.specs.declared.rules.Order.{Order}
 use Rattle.cluster_types.specs.declared.rules.OrderKind.TheVariants as kind
 use Rattle.cluster_types.specs.Choice.{is_mandatory, is_dependent, is_stopped_role}
-use Rattle.cluster_types.specs.Decisions.{decision_of}
 use Rattle.cluster_types.specs.Failures.{is_fail_stopped}
 use Rattle.cluster_types.specs.Fields.{copies, target_role_of}
-use Rattle.cluster_types.specs.Held.{Gives, Held}
+use Rattle.cluster_types.specs.Held.{Gives, Held, LacksFirst, LacksPrimary}
 use Rattle.cluster_types.specs.Pins.{is_pinned}
 use Rattle.cluster_types.specs.Rights.{may_start}
-use Rattle.cluster_types.specs.Tables.{Targets, holds_role, is_in_scope, is_somewhere}
+use Rattle.cluster_types.specs.Tables.{Targets, is_somewhere}
 
 -- x is the first of the list for which P holds
 pub record IsFirstOf {X : Type 0} (P : X → Type 0) (xs : List X) (x : X) : Type 0 where
@@ -47,7 +46,7 @@ module _ (c : Cluster) (es : List Event) (table : Targets) where
   pub record IsHeldByColocation (r n : ℕ) (col : Colocation) : Type 0 where
     pub mandatory : is_mandatory col ≡ true
     pub dependent : is_dependent (Place r) col ≡ true
-    pub lacking : holds_role table col.primary col.primary_role n ≡ true → Held c es table (decision_of col.primary col.primary_role) n
+    pub lacking : LacksPrimary c es table (Held c es table) col n
 
   -- the order holds the leaf back on the node: in scope its first has no target in its role that isn't held
   pub record IsHeldByOrder (r n : ℕ) (o : Order) : Type 0 where
@@ -56,8 +55,7 @@ module _ (c : Cluster) (es : List Event) (table : Targets) where
     pub starts : Gives o.then_op role.Started
     pub first : Role
     pub gives : Gives o.first_op first
-    pub lacking : (m : ℕ) → m < length c.nodes → is_in_scope o n m ≡ true → holds_role table o.first first m ≡ true
-        → Held c es table (decision_of o.first first) m
+    pub lacking : LacksFirst c es table (Held c es table) o n first
 
   -- on the earliest node where it was chosen the leaf is held by this rule: the first such colocation, or the first such order where there is
   -- no such colocation

@@ -19,6 +19,7 @@ is_freeze_policy _ = false
 abbrev pub may_act : Cluster → List Event → Bool
 may_act c es = has_quorum es || is_ignore_policy c.properties.policy
 
+-- nodes may be fenced, every unclean one alike (rule of this project)
 abbrev pub may_fence : Cluster → List Event → Bool
 may_fence c es = c.properties.fencing && may_act c es
 

@@ -1,6 +1,6 @@
 -- How a transition goes: which action may begin, which answers apply, and what each of them adds to the journal (Pacemaker Administration,
 -- "Transitions"; that all that may begin does so before an answer is taken is a rule of this project).
-use Rattle.std.specs.Prelude.{◌≡◌, ℕ, ◌+◌, ◌-◌, ◌^◌, ◌<◌, ◌≤◌, nat_lt, ◌==◌, ◌&&◌, ◌||◌, Bool, true, false, not, Option, Some, List, [], ◌∷◌, ◌++◌, length, filter, slice_get, count_by, find}
+use Rattle.std.specs.Prelude.{◌≡◌, ℕ, ◌+◌, ◌-◌, ◌^◌, ◌<◌, ◌≤◌, nat_lt, ◌==◌, ◌&&◌, ◌||◌, Bool, true, false, not, if◌then◌else◌, Option, Some, None, List, [], ◌∷◌, ◌++◌, length, filter, slice_get, count_by, find}
 use Rattle.std.specs.List.{list_any, list_all, flat_map, range_with_len}
 use Rattle.std.specs.Option.{option_map_or}
 use Rattle.cluster_types.specs.declared.cluster.Cluster.{Cluster}
@@ -19,19 +19,20 @@ use Rattle.cluster_types.specs.declared.leaf.Role.TheVariants as role
 use Rattle.cluster_types.specs.declared.states.NodeState.TheVariants as node
 use Rattle.cluster_types.specs.Cells.{is_of_cell, is_sent_to}
 use Rattle.cluster_types.specs.Fields.{monitors}
-use Rattle.cluster_types.specs.Journals.{joined, last_sign, is_on, moment_of}
+use Rattle.cluster_types.specs.Journals.{ends_number, joined, last_sign, is_on, moment_of}
 use Rattle.cluster_types.specs.May.{may}
 use Rattle.cluster_types.specs.NodeStates.{node_state, is_online}
 use Rattle.cluster_types.specs.Outcomes.{is_among, is_bad, is_ignored}
+use Rattle.cluster_types.specs.Sources.{Says}
 
--- the exit codes that are expected of an action
+-- the exit codes that are expected of an action (rule of this project)
 abbrev pub expected_codes : Action → List ℕ
 expected_codes (Probe r n) = 7 ∷ []
 expected_codes (Cell Monitor r n interval role.Started) = 0 ∷ 190 ∷ []
 expected_codes (Cell Monitor r n interval role.Promoted) = 8 ∷ 191 ∷ []
 expected_codes _ = 0 ∷ []
 
--- the one with which an action ends when nothing more is said of it
+-- the one with which an action ends when nothing more is said of it (rule of this project)
 abbrev pub silent_code : Action → ℕ
 silent_code (Probe r n) = 7
 silent_code (Cell Monitor r n interval role.Promoted) = 8
@@ -44,10 +45,6 @@ is_success c a o = is_among (expected_codes a) o || is_ignored c a o
 abbrev pub begins_number : ℕ → Event → Bool
 begins_number k (Begin j a) = j == k
 begins_number k _ = false
-
-abbrev pub ends_number : ℕ → Event → Bool
-ends_number k (Ended j a o moment) = j == k
-ends_number k _ = false
 
 abbrev pub succeeds_number : Cluster → ℕ → Event → Bool
 succeeds_number c k (Ended j a o moment) = j == k && is_success c a o
@@ -72,13 +69,17 @@ is_from_outside (Wait seconds) = true
 is_from_outside (Ended k a o moment) = k == 0
 is_from_outside _ = false
 
--- how many answers from outside a transition takes (rule of this project)
+-- how many answers from outside a transition takes at most (rule of this project)
 abbrev pub most_from_outside : ℕ
 most_from_outside = 256
 
 -- the role of the recurring monitor of this interval; without a statement of the interval it is Started
 abbrev pub role_of_interval : List MonitorOf → ℕ → Role
 role_of_interval ms interval = option_map_or (λ (m : MonitorOf). m.role) (find (λ m. m.interval_ms == interval) ms) role.Started
+
+-- the action of a number, from 1. Number 0 is that of reports and of the history
+abbrev pub numbered : List Action → ℕ → Option Action
+numbered actions k = if k == 0 then None else slice_get actions (k - 1)
 
 -- a transition: the cluster, its actions in the order of their numbers, which of two numbers must have succeeded before the other begins, and
 -- the journal when it was planned
@@ -92,12 +93,12 @@ module _ (t : Transition) where
   abbrev pub numbers : List ℕ
   numbers = range_with_len 1 (length t.actions)
 
-  -- the action of a number, from 1
   abbrev pub action_at : ℕ → Option Action
-  action_at k = slice_get t.actions (k - 1)
+  action_at k = numbered t.actions k
 
   -- what is said from here on is of the events since it was planned
   module _ (since : List Event) where
+    -- the journal: that of the plan, and the events since
     abbrev pub journal : List Event
     journal = t.planned_at ++ since
 
@@ -121,7 +122,7 @@ module _ (t : Transition) where
     abbrev pub flight : List ℕ
     flight = filter is_in_flight_number numbers
 
-    -- fewer actions than the batch limit are in flight; 0 is no limit
+    -- fewer actions than the batch limit are in flight (Pacemaker Explained, "batch-limit"); 0 is no limit (rule of this project)
     abbrev pub has_room : Bool
     has_room = t.cluster.properties.batch_limit == 0 || nat_lt (length flight) t.cluster.properties.batch_limit
 
@@ -159,7 +160,7 @@ module _ (t : Transition) where
         && is_bad (monitor_action r n interval) (Code code) && not (is_ignored t.cluster (monitor_action r n interval) (Code code))
         && is_quiet r n
 
-    -- the answer applies now
+    -- the answer applies now (rule of this project)
     abbrev pub Applies : Answer → Type 0
     Applies (answer.End k code) = is_in_flight_number k ≡ true
     Applies (answer.Timeout k) = is_in_flight_number k ≡ true
@@ -177,7 +178,7 @@ module _ (t : Transition) where
     abbrev pub gone_with : ℕ → List Event
     gone_with n = flat_map (λ k. ended k Gone) (filter (λ k. option_map_or (is_on n) (action_at k) false) flight)
 
-    -- what an answer adds to the journal
+    -- what an answer adds to the journal (rule of this project)
     abbrev pub events_of : Answer → List Event
     events_of (answer.End k code) = ended k (Code code)
     events_of (answer.Timeout k) = ended k TimedOut
@@ -193,15 +194,19 @@ module _ (t : Transition) where
       pub allowed : may_begin k ≡ true
       pub lowest : (j : ℕ) → may_begin j ≡ true → k ≤ j
 
-    -- an answer is taken: none may begin, something is in flight, and the answer applies
-    pub record Takes (given : Answer) : Type 0 where
+    -- the transition waits for an answer: none may begin, and something is in flight
+    pub record IsWaiting : Type 0 where
       pub settled : is_settled ≡ true
       pub busy : 0 < length flight
+
+    -- an answer is taken: the transition waits for one, and it applies
+    pub record Takes (given : Answer) : Type 0 where
+      pub waiting : IsWaiting
       pub applies : Applies given
 
     -- nothing more is said: the action of lowest number in flight ends with its silent code
     pub record EndsSilently (k : ℕ) (a : Action) : Type 0 where
-      pub settled : is_settled ≡ true
+      pub waiting : IsWaiting
       pub action : action_at k ≡ Some a
       pub in_flight : is_in_flight_number k ≡ true
       pub lowest : (j : ℕ) → is_in_flight_number j ≡ true → k ≤ j
@@ -215,13 +220,20 @@ module _ (t : Transition) where
     abbrev pub all_succeeded : Bool
     all_succeeded = list_all has_succeeded numbers
 
-  -- from the events since it was planned and the answers to come, step by step, to later events and the answers that are left then. Where
-  -- the answers are not told, or not yet all, no step is silent
-  pub data Goes (whole : Bool) : List Event → List Answer → List Event → List Answer → Type 0 where
-    here : (since : List Event) (rest : List Answer) → Goes whole since rest since rest
-    begins : (since later : List Event) (rest left : List Answer) (k : ℕ) (a : Action) → Begins since k a
-        → Goes whole (since ++ Begin k a ∷ []) rest later left → Goes whole since rest later left
-    takes : (since later : List Event) (rest left : List Answer) (given : Answer) → Takes since given
-        → Goes whole (since ++ events_of since given) rest later left → Goes whole since (given ∷ rest) later left
-    silent : (since later : List Event) (k : ℕ) (a : Action) → whole ≡ true → EndsSilently since k a
-        → Goes whole (since ++ ended since k (Code (silent_code a))) [] later [] → Goes whole since [] later []
+  -- one step of a transition: an action begins, an answer is taken, or nothing more is said and an action ends silently. It adds these events
+  pub data StepsOn (whole : Bool) (since : List Event) : Option (List Answer) → List Event → Option (List Answer) → Type 0 where
+    begins : (rest : Option (List Answer)) (k : ℕ) (a : Action) → Begins since k a → StepsOn whole since rest (Begin k a ∷ []) rest
+    takes : (rest left : Option (List Answer)) (given : Answer) → Says whole rest (Some given) left → Takes since given
+        → StepsOn whole since rest (events_of since given) left
+    is_silent : (rest left : Option (List Answer)) (k : ℕ) (a : Action) → Says whole rest None left → EndsSilently since k a
+        → StepsOn whole since rest (ended since k (Code (silent_code a))) left
+
+  -- step by step, from the events since it was planned and the answers to come to later events and the answers that are left then
+  pub data Goes (whole : Bool) : List Event → Option (List Answer) → List Event → Option (List Answer) → Type 0 where
+    here : (since : List Event) (rest : Option (List Answer)) → Goes whole since rest since rest
+    one_more : (since events later : List Event) (rest middle left : Option (List Answer)) → StepsOn whole since rest events middle
+        → Goes whole (since ++ events) middle later left → Goes whole since rest later left
+
+-- a transition without actions: what applies in it, applies while nothing is to be done (rule of this project)
+abbrev pub resting : Cluster → List Event → Transition
+resting c es = record { cluster = c; actions = []; precedes = λ j k. false; planned_at = es }

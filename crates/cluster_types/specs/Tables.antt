@@ -1,5 +1,6 @@
--- Where everything goes: the target of each leaf on each node, and what role it holds by it.
-use Rattle.std.specs.Prelude.{ℕ, ◌+◌, ◌*◌, ◌==◌, ◌||◌, Bool, true, false, not, unwrap_or, length, slice_get, count_by}
+-- Where everything goes: the target of each leaf on each node, and what role it holds by it (Pacemaker Explained, "Promotable Clones": what is promoted
+-- is started too; the scope of an order is that of "interleave" there).
+use Rattle.std.specs.Prelude.{ℕ, ◌+◌, ◌*◌, nat_lt, ◌==◌, if◌then◌else◌, ◌||◌, Bool, true, false, not, unwrap_or, length, slice_get, count_by}
 use Rattle.std.specs.List.{range_with_len}
 use Rattle.cluster_types.specs.declared.cluster.Cluster.{Cluster}
 use Rattle.cluster_types.specs.declared.leaf.Role.{Role}
@@ -17,9 +18,9 @@ Targets = ℕ → ℕ → Target
 abbrev pub no_targets : Targets
 no_targets r n = target.Nowhere
 
--- what a table keeps, leaf by leaf and node by node
+-- what a table keeps, leaf by leaf and node by node. A cell that it doesn't have has no target
 abbrev pub targets_of : Table → Targets
-targets_of table r n = unwrap_or (slice_get table.targets (r * table.nodes + n)) target.Nowhere
+targets_of table r n = if nat_lt n table.nodes then unwrap_or (slice_get table.targets (r * table.nodes + n)) target.Nowhere else target.Nowhere
 
 abbrev pub is_somewhere : Target → Bool
 is_somewhere target.Nowhere = false

@@ -40,6 +40,22 @@ is_active cell.Promoted = true
 is_active cell.Failed = true
 is_active _ = false
 
+module _ (c : Cluster) where
+  -- the colocation ties two uncloned leaves for good, both in the role Started
+  abbrev pub is_tie : Colocation → Bool
+  is_tie col =
+      int_eq col.score infinity && is_started col.dependent_role && is_started col.primary_role
+      && not (is_cloned c col.dependent) && not (is_cloned c col.primary)
+
+  -- s must be with r through a chain of ties, at most this long
+  abbrev pub is_tied : ℕ → ℕ → ℕ → Bool
+  is_tied zero s r = false
+  is_tied (suc most) s r = list_any (λ col. is_tie col && col.dependent == s && (col.primary == r || is_tied most col.primary r)) c.colocations
+
+  -- the leaves that must be with r, in their order. A chain of ties needs no more of them than there are leaves
+  abbrev pub lenders : ℕ → List ℕ
+  lenders r = filter (λ s. is_tied (length c.leaves) s r) (range_with_len 0 (length c.leaves))
+
 module _ (c : Cluster) (es : List Event) where
   -- a rule holds at a node and the moment of the journal
   abbrev pub rule_holds : RuleLocation → ℕ → Bool
@@ -76,21 +92,6 @@ module _ (c : Cluster) (es : List Event) where
   abbrev pub own_terms : ℕ → ℕ → List ℤ
   own_terms r n = location_scores is_started r n ++ stickiness_scores r n ++ ban_scores r n ++ opt_in_scores r n
 
-  -- the colocation ties two uncloned leaves for good, whatever their roles
-  abbrev pub is_tie : Colocation → Bool
-  is_tie col =
-      int_eq col.score infinity && is_started col.dependent_role && is_started col.primary_role
-      && not (is_cloned c col.dependent) && not (is_cloned c col.primary)
-
-  -- s must be with r through a chain of ties, at most this long
-  abbrev pub is_tied : ℕ → ℕ → ℕ → Bool
-  is_tied zero s r = false
-  is_tied (suc most) s r = list_any (λ col. is_tie col && col.dependent == s && (col.primary == r || is_tied most col.primary r)) c.colocations
-
-  -- the leaves that must be with r, in their order. A chain of ties needs no more of them than there are leaves
-  abbrev pub lenders : ℕ → List ℕ
-  lenders r = filter (λ s. is_tied (length c.leaves) s r) (range_with_len 0 (length c.leaves))
-
   -- the own terms of some leaves on a node
   abbrev pub terms_of : List ℕ → ℕ → List ℤ
   terms_of leaves n = flat_map (λ r. own_terms r n) leaves
@@ -105,7 +106,7 @@ module _ (c : Cluster) (es : List Event) where
 
   -- the leaf with the lenders that join it, tried in their order
   abbrev pub with_lenders : ℕ → List ℕ
-  with_lenders r = fold with_lender (r ∷ []) (lenders r)
+  with_lenders r = fold with_lender (r ∷ []) (lenders c r)
 
   -- how much a leaf wants to be promoted on a node: what its agent said, else -1 (rule of this project)
   abbrev pub promotion_score : List Promotion → ℕ → ℕ → ℤ

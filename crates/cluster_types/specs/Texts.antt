@@ -1,5 +1,5 @@
 -- The printed lines of scores, graphs and runs (rule of this project).
-use Rattle.std.specs.Prelude.{ℕ, Bool, true, false, ℤ, Option, Some, None, unwrap_or, List, [], ◌∷◌, ◌++◌, length, filter, slice_get, codes, decimal}
+use Rattle.std.specs.Prelude.{◌≡◌, ℕ, zero, ◌+◌, ◌-◌, ◌*◌, ◌≤◌, Bool, true, false, ℤ, Option, Some, None, unwrap_or, List, [], ◌∷◌, ◌++◌, length, take, drop, filter, slice_get, codes, decimal}
 use Rattle.std.specs.List.{flat_map, range_with_len, enumerate_from}
 use Rattle.std.specs.Option.{option_map_or}
 use Rattle.score.specs.ScoreText.{score_text}
@@ -8,6 +8,9 @@ use Rattle.cluster_types.specs.declared.journal.Action.{Action}
 use Rattle.cluster_types.specs.declared.journal.Action.TheVariants.{Fence, Probe, Cell, MigrateTo, MigrateFrom}
 use Rattle.cluster_types.specs.declared.journal.Answer.{Answer}
 use Rattle.cluster_types.specs.declared.journal.Answer.TheVariants as answer
+use Rattle.cluster_types.specs.declared.journal.Event.{Event}
+use Rattle.cluster_types.specs.declared.journal.Event.TheVariants.{Up, Lost, Quorum, Wait, Begin, Ended}
+use Rattle.cluster_types.specs.declared.journal.Outcome.TheVariants.{Code, TimedOut}
 use Rattle.cluster_types.specs.declared.leaf.Op.{Op}
 use Rattle.cluster_types.specs.declared.leaf.Op.TheVariants.{Start, Stop, Promote, Demote, Monitor}
 use Rattle.cluster_types.specs.declared.node.Node.{Node}
@@ -21,8 +24,13 @@ use Rattle.cluster_types.specs.declared.placement.Pin.TheVariants.{Unmanaged, Bl
 use Rattle.cluster_types.specs.declared.placement.Placed.{Placed}
 use Rattle.cluster_types.specs.declared.placement.Target.{Target}
 use Rattle.cluster_types.specs.declared.placement.Target.TheVariants as target
+use Rattle.cluster_types.specs.declared.run.Passed.{Passed}
+use Rattle.cluster_types.specs.declared.run.PassedEnd.{PassedEnd}
+use Rattle.cluster_types.specs.declared.run.PassedEnd.TheVariants.{Complete, Aborted, Cut}
+use Rattle.cluster_types.specs.declared.run.Run.{Run}
 use Rattle.cluster_types.specs.declared.run.RunLine.{RunLine}
 use Rattle.cluster_types.specs.declared.run.RunLine.TheVariants as line
+use Rattle.cluster_types.specs.Decisions.{leaf_of}
 use Rattle.cluster_types.specs.Fields.{leaf_name}
 use Rattle.cluster_types.specs.Tables.{targets_of}
 
@@ -35,6 +43,23 @@ op_word Stop = codes "stop "
 op_word Promote = codes "promote "
 op_word Demote = codes "demote "
 op_word Monitor = codes "monitor "
+
+-- what an event of a transition, or one that comes between two, prints: a begin, an end, or the answer that it came from. What is gone with its node
+-- has no line, since the node's loss has one
+abbrev pub event_lines : Event → List RunLine
+event_lines (Begin k a) = line.Begin k a ∷ []
+event_lines (Ended zero (Cell Monitor r n interval role) (Code code) moment) = line.Taken (answer.Report n r interval code) ∷ []
+event_lines (Ended k a (Code code) moment) = line.Taken (answer.End k code) ∷ []
+event_lines (Ended k a TimedOut moment) = line.Taken (answer.Timeout k) ∷ []
+event_lines (Lost n) = line.Taken (answer.Lost n) ∷ []
+event_lines (Up n) = line.Taken (answer.Up n) ∷ []
+event_lines (Quorum now) = line.Taken (answer.Quorum now) ∷ []
+event_lines (Wait seconds) = line.Taken (answer.Wait seconds) ∷ []
+event_lines _ = []
+
+-- the events at the positions from one up to another, without it
+abbrev pub between : ℕ → ℕ → List Event → List Event
+between from to es = take (to - from) (drop from es)
 
 module _ (c : Cluster) where
   abbrev pub leaf_on : ℕ → ℕ → List ℕ
@@ -91,7 +116,7 @@ module _ (c : Cluster) where
   run_line (line.Aborted k) = codes "aborted " ++ decimal k ++ codes "\n"
   run_line (line.Unexpected l) = codes "unexpected " ++ decimal l ++ codes "\n"
 
-  -- the target lines of a leaf: why it is left as it is, its targets in node order, and why it has none
+  -- why a leaf is left as it is
   abbrev pub pin_lines : ℕ → Option Pin → List RunLine
   pin_lines r (Some pin) = line.Pinned r pin ∷ []
   pin_lines r None = []
@@ -104,6 +129,7 @@ module _ (c : Cluster) where
   lacking_lines r (Some reason) = line.Lacking r reason ∷ []
   lacking_lines r None = []
 
+  -- the target lines of a leaf: why it is left as it is, its targets in node order, and why it has none
   abbrev pub leaf_lines : List (Option Pin) → (ℕ → ℕ → Target) → List (Option NoReason) → ℕ → List RunLine
   leaf_lines pins targets reasons r =
       pin_lines r (unwrap_or (slice_get pins r) None)
@@ -114,20 +140,55 @@ module _ (c : Cluster) where
   abbrev pub target_lines : List (Option Pin) → (ℕ → ℕ → Target) → List (Option NoReason) → List RunLine
   target_lines pins targets reasons = flat_map (leaf_lines pins targets reasons) (range_with_len 0 (length c.leaves))
 
+  -- how a transition ended, if it did
+  abbrev pub end_lines : ℕ → PassedEnd → List RunLine
+  end_lines k Complete = line.Complete k ∷ []
+  end_lines k Aborted = line.Aborted k ∷ []
+  end_lines k Cut = []
+
+  -- the lines of a transition in a run that is kept: its targets, what happened, and how it ended
+  abbrev pub passed_lines : List Event → ℕ → Passed → List RunLine
+  passed_lines es k passed =
+      line.Transition k ∷ target_lines passed.pins (targets_of passed.table) passed.none
+      ++ flat_map event_lines (between passed.begins_at passed.ends_at es) ++ end_lines k passed.end
+
+  -- what is kept of a transition fits the cluster and the journal: an entry for each leaf, a target for each cell, and positions of the journal
+  pub record Fits (es : List Event) (passed : Passed) : Type 0 where
+    pub pins : length passed.pins ≡ length c.leaves
+    pub reasons : length passed.none ≡ length c.leaves
+    pub nodes : passed.table.nodes ≡ length c.nodes
+    pub cells : length passed.table.targets ≡ length c.leaves * length c.nodes
+    pub ascending : passed.begins_at ≤ passed.ends_at
+    pub within : passed.ends_at ≤ length es
+
+  -- where the first of some transitions begins, or the end of the journal
+  abbrev pub begin_of : List Event → List Passed → ℕ
+  begin_of es [] = length es
+  begin_of es (passed ∷ more) = passed.begins_at
+
+  -- each transition, from number k on, and what came between it and the next
+  abbrev pub all_passed_lines : List Event → ℕ → List Passed → List RunLine
+  all_passed_lines es k [] = []
+  all_passed_lines es k (passed ∷ more) =
+      passed_lines es k passed ++ flat_map event_lines (between passed.ends_at (begin_of es more) es) ++ all_passed_lines es (k + 1) more
+
+  -- the lines of a run that is kept, and its text
+  abbrev pub run_lines : Run → List RunLine
+  run_lines run = all_passed_lines run.journal.events 1 run.passed
+
+  abbrev pub run_text : Run → List ℕ
+  run_text run = flat_map run_line (run_lines run)
+
   abbrev pub decision_line : Decision → List ℕ
   decision_line (Place r) = codes "place " ++ leaf_name c r ++ codes "\n"
   decision_line (PromoteLeaf r) = codes "promote " ++ leaf_name c r ++ codes "\n"
-
-  abbrev pub decided_leaf : Decision → ℕ
-  decided_leaf (Place r) = r
-  decided_leaf (PromoteLeaf r) = r
 
   abbrev pub score_line : ℕ → ℕ × ℤ → List ℕ
   score_line r total = codes "score " ++ leaf_on r total.0 ++ codes " " ++ score_text total.1 ++ codes "\n"
 
   -- a decision, and its total on each node
   abbrev pub decided_lines : Decided → List ℕ
-  decided_lines d = decision_line d.decision ++ flat_map (score_line (decided_leaf d.decision)) (enumerate_from 0 d.totals)
+  decided_lines d = decision_line d.decision ++ flat_map (score_line (leaf_of d.decision)) (enumerate_from 0 d.totals)
 
   -- the text of scores: each decision in the order in which it was made, and then the target lines
   abbrev pub scores_text : Placed → List ℕ

@@ -1,4 +1,5 @@
--- Which clusters are valid: those that a configuration can say (limits are rules of this project).
+-- Which clusters are valid: those that a configuration can say (roles and the words of orders after the crmsh manual; limits, and that names differ, are
+-- rules of this project). Intervals, timeouts and scores are bounded by their types.
 use Rattle.std.specs.Prelude.{◌≡◌, ◌≢◌, ℕ, ◌+◌, ◌<◌, ◌≤◌, true, false, length, Contains, AllPairs}
 use Rattle.crm_lex.specs.Names.{is_name}
 use Rattle.cluster_types.specs.declared.cluster.Cluster.{Cluster}

@@ -24,7 +24,7 @@ pub struct Properties {
     /// Whether a node of which nothing is known is fenced: `startup-fencing`.
     pub startup_fencing: bool,
     pub policy: Policy,
-    /// Whether one failed start bans a resource from the node: `start-failure-is-fatal`.
+    /// Whether one failed start makes the fail count INFINITY, which reaches every threshold: `start-failure-is-fatal`.
     pub start_fatal: bool,
     /// Whether all resources are stopped: `stop-all-resources`.
     pub stop_all: bool,

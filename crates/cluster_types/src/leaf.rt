@@ -69,7 +69,7 @@ pub struct Leaf {
     pub promoted_copies: u32,
     /// Whether it is inside a clone.
     pub cloned: bool,
-    /// Whether orders between its clone and another join the copies on one node only.
+    /// Whether an order of another clone's leaf before this one joins the copies on one node only.
     pub interleave: bool,
     pub promotable: bool,
     /// Whether it is a member of a group, after the first.

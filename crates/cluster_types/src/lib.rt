@@ -2,24 +2,37 @@
 #![tactic(auto)]
 
 mod cluster;
+mod edges;
+mod graph;
 mod journal;
 mod laws;
 mod leaf;
+mod memory;
 mod node;
 mod placement;
+mod plan;
 mod rules;
 mod run;
 mod states;
 
 pub use cluster::{Cluster, Policy, Properties};
+pub use edges::{Edge, Edges};
+pub use graph::Graph;
 pub use journal::{Action, Answer, Event, Journal, Outcome, Promotion};
 pub use laws::{
-    first_journal_has_nothing_in_flight, first_journal_is_in_order, may_after_one_more,
-    promoted_after_one_more, promoted_may_run,
+    cycled_is_the_least_set, first_journal_has_nothing_in_flight, first_journal_is_in_order,
+    held_is_the_least_set, may_after_one_more, numbers_are_given_once, paths_are_computed,
+    predecessors_first, promoted_after_one_more, promoted_may_run, rising_edges_make_a_graph,
+    transitions_are_eager,
 };
 pub use leaf::{Leaf, LeafId, Monitor, OnFail, Op, Role, TargetRole};
+pub use memory::NoMemory;
 pub use node::{Node, NodeId};
 pub use placement::{Decided, Decision, NoReason, Pin, Placed, Table, Target};
+pub use plan::Plan;
 pub use rules::{Colocation, Location, Order, OrderKind, RuleLocation};
 pub use run::{Passed, PassedEnd, Run, RunLine};
 pub use states::{Cell, CellState, NodeState, Rights, States};
+
+#[cfg(test)]
+mod tests;

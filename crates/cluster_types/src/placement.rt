@@ -1,7 +1,13 @@
+ghost use Rattle.std.specs.Prelude.{◌≡◌, ◌+◌, ◌*◌, ◌<◌, ◌==◌, ◌&&◌, if◌then◌else◌, IfOk, ℕ, length, replicate};
+ghost use Rattle.cluster_types.specs.Tables.{targets_of};
+
 use crate::leaf::LeafId;
+use crate::memory::NoMemory;
+use crate::node::NodeId;
 use crm_lex::Name;
 use listed::Listed;
 use score::Score;
+use std::alloc::Global;
 
 /// What a leaf is to be on a node.
 #[derive(Clone, Copy, Debug, PartialEq, Eq)]
@@ -17,6 +23,48 @@ pub struct Table {
     /// How many nodes there are.
     pub nodes: u32,
     pub targets: Listed<Target>,
+}
+
+impl Table {
+    /// The table of so many leaves and nodes in which nothing has a target.
+    pub fn nowhere(alloc: Global, leaves: u32, nodes: u32) -> Result<Table, NoMemory>
+        ensures nodes { IfOk result (λ table. table.nodes ≡ nodes) }
+        ensures targets { IfOk result (λ table. table.targets ≡ replicate (leaves * nodes) Target.Nowhere) }
+    {
+        let cells = leaves as usize * nodes as usize;
+        let targets = vec![in alloc; Target::Nowhere; cells]?;
+        Ok(Table {
+            nodes,
+            targets: Listed::from(targets),
+        })
+    }
+
+    /// The target of a cell that the table has.
+    pub fn target(&self, leaf: LeafId, node: NodeId) -> Target
+        requires on_node { node < self.now.nodes }
+        requires within { leaf * self.now.nodes + node < length self.now.targets }
+        ensures { result ≡ targets_of self.now leaf node }
+    {
+        let place = leaf as usize * self.nodes as usize + node as usize;
+        self.targets.as_slice()[place]
+    }
+
+    /// The table in which a cell that it has gets this target, and each other stays as it was. It takes no memory.
+    pub fn with_target(self, leaf: LeafId, node: NodeId, target: Target) -> Table
+        requires on_node { node < self.nodes }
+        requires within { leaf * self.nodes + node < length self.targets }
+        ensures nodes { result.nodes ≡ self.nodes }
+        ensures size { length result.targets ≡ length self.targets }
+        ensures targets { (r n : ℕ) → targets_of result r n ≡ (if r == leaf && n == node then target else targets_of self r n) }
+    {
+        let place = leaf as usize * self.nodes as usize + node as usize;
+        let mut targets = self.targets.into_vec();
+        targets[place] = target;
+        Table {
+            nodes: self.nodes,
+            targets: Listed::from(targets),
+        }
+    }
 }
 
 /// What is decided in one step: where a leaf runs, or where it is promoted.

@@ -1,4 +1,8 @@
+ghost use Rattle.std.specs.Prelude.{◌≡◌, ◌+◌, ◌*◌, ◌<◌, Some, length, slice_get};
+
 use crate::journal::Promotion;
+use crate::leaf::LeafId;
+use crate::node::NodeId;
 use listed::Listed;
 
 /// What is known of a node.
@@ -15,11 +19,11 @@ pub enum NodeState {
 pub enum CellState {
     /// The node isn't online.
     Away,
-    /// Nothing is known since the node joined.
+    /// Nothing is known since the node joined and the cell was last cleaned up.
     Unprobed,
     /// The last failure that counts blocks it.
     Blocked,
-    /// It may run, and its last outcome is bad.
+    /// It may run, and its last outcome is bad, or a migration left it open what runs there.
     Failed,
     Promoted,
     On,
@@ -52,6 +56,19 @@ pub struct States {
     pub quorum: bool,
     /// The seconds that went by.
     pub moment: u64,
+}
+
+impl States {
+    /// What is known of a leaf on a node that are there.
+    pub fn cell(&self, leaf: LeafId, node: NodeId) -> Cell
+        requires on_node { node < length self.now.nodes }
+        requires within { leaf * length self.now.nodes + node < length self.now.cells }
+        ensures { slice_get self.now.cells (leaf * length self.now.nodes + node) ≡ Some result }
+    {
+        let cells = self.cells.as_slice();
+        let place = leaf as usize * self.nodes.len() + node as usize;
+        cells[place]
+    }
 }
 
 /// What the cluster may do now.

@@ -1,0 +1,163 @@
+-- The actions that are needed have one list in the order of their numbers, and each stands in it once.
+use Rattle.std.proofs.Common.{arith, ◌≡◌, ◌<◌, ◌==◌, ◌&&◌, ◌||◌, nat_lt, ℕ, suc, zero, Bool, true, false, List, [], ◌∷◌, ◌⊎◌, inl, inr, refl, sym, subst, length, get_or}
+use Rattle.std.specs.List.{list_any}
+use Rattle.std.specs.Prelude.{Contains, Any, AllPairs, slice_get, Some}
+use Rattle.std.proofs.lemmas.List.Folds.{Any-from_list_any}
+use Rattle.std.proofs.lemmas.Option.{get_or_from_slice_get, slice_get_within}
+use Rattle.cluster_types.specs.declared.cluster.Cluster.{Cluster}
+use Rattle.cluster_types.specs.declared.journal.Action.{Action}
+use Rattle.cluster_types.specs.declared.journal.Action.TheVariants.{Fence, Probe, Cell, MigrateTo, MigrateFrom}
+use Rattle.cluster_types.specs.declared.leaf.Op.TheVariants as op
+use Rattle.cluster_types.proofs.Paths.{passes_by}
+use Rattle.cluster_types.specs.Numbers.{AreNumbered, Place, is_before, is_earlier, place_of}
+use Rattle.cluster_types.specs.Precedence.{is_migrating, sends}
+
+-- by the first number in which two places differ
+by_first : (x y : ℕ) (p q : Bool) → (p ≡ true → q ≡ true → ⊥) → nat_lt x y || x == y && p ≡ true → nat_lt y x || y == x && q ≡ true → ⊥
+by_first x y true true f h k = f refl refl
+by_first x y true false f h k = let e : false ≡ true = grind arith in cc
+by_first x y false q f h k = let e : false ≡ true = grind arith in cc
+
+abbrev by_node : Place → Place → Bool
+by_node a b = nat_lt a.node b.node || a.node == b.node && nat_lt a.interval b.interval
+
+abbrev by_leaf : Place → Place → Bool
+by_leaf a b = nat_lt a.leaf b.leaf || a.leaf == b.leaf && by_node a b
+
+abbrev by_rank : Place → Place → Bool
+by_rank a b = nat_lt a.ranked b.ranked || a.ranked == b.ranked && by_leaf a b
+
+not_both_less : (x y : ℕ) → nat_lt x y ≡ true → nat_lt y x ≡ true → ⊥
+not_both_less x y h k = let e : false ≡ true = grind arith in cc
+
+by_node_once : (a b : Place) → by_node a b ≡ true → by_node b a ≡ true → ⊥
+by_node_once a b h k = by_first a.node b.node (nat_lt a.interval b.interval) (nat_lt b.interval a.interval) (not_both_less a.interval b.interval) h k
+
+by_leaf_once : (a b : Place) → by_leaf a b ≡ true → by_leaf b a ≡ true → ⊥
+by_leaf_once a b h k = by_first a.leaf b.leaf (by_node a b) (by_node b a) (by_node_once a b) h k
+
+by_rank_once : (a b : Place) → by_rank a b ≡ true → by_rank b a ≡ true → ⊥
+by_rank_once a b h k = by_first a.ranked b.ranked (by_leaf a b) (by_leaf b a) (by_leaf_once a b) h k
+
+-- a place isn't before itself, and of two places one is before the other at most
+not_both : (a b : Place) → is_before a b ≡ true → is_before b a ≡ true → ⊥
+not_both a b h k = by_first a.phase b.phase (by_rank a b) (by_rank b a) (by_rank_once a b) h k
+
+module _ {X : Type 0} (R : X → X → Type 0) (strict : (a b : X) → R a b → R b a → ⊥) where
+  -- an element of a longer list is the first, or one of the rest
+  cases : (x : X) (xs : List X) (a : X) → Contains (x ∷ xs) a → (x ≡ a) ⊎ Contains xs a
+  cases x xs a (zero, l, e) = inl e
+  cases x xs a (suc k, l, e) = inr (k, omega arith, e)
+
+  -- an element of the rest is one of the longer list
+  in_rest : (x : X) (xs : List X) (a : X) → Contains xs a → Contains (x ∷ xs) a
+  in_rest x xs a (k, l, e) = (suc k, omega arith, e)
+
+  -- the first is earlier than each of the rest
+  first_earlier : (x : X) (xs : List X) (a : X) → AllPairs R (x ∷ xs) → Contains xs a → R x a
+  first_earlier x xs a h (k, l, e) = rw e at (h 0 (suc k) a (omega arith) (omega arith))
+
+  -- the rest of a list in order is in order
+  rest_in_order : (x : X) (xs : List X) → AllPairs R (x ∷ xs) → AllPairs R xs
+  rest_in_order x xs h i j d l m = h (suc i) (suc j) d (omega arith) (omega arith)
+
+  -- two lists in order, of which each has the other's first element, start alike
+  same_first : (x y : X) (xs ys : List X) → AllPairs R (x ∷ xs) → AllPairs R (y ∷ ys) → Contains (y ∷ ys) x → Contains (x ∷ xs) y → x ≡ y
+  same_first x y xs ys h k a b =
+      elim (cases y ys x a) [
+        | inl e ↦ sym e
+        | inr c ↦ elim (cases x xs y b) [
+          | inl e ↦ e
+          | inr d ↦ absurd (strict x y (first_earlier x xs y h d) (first_earlier y ys x k c))
+        ]
+      ]
+
+  -- what one list has after its first the other has too
+  in_other : (x : X) (xs ys : List X) → AllPairs R (x ∷ xs) → ((a : X) → Contains (x ∷ xs) a → Contains (x ∷ ys) a)
+      → (a : X) → Contains xs a → Contains ys a
+  in_other x xs ys h f a c =
+      elim (cases x ys a (f a (in_rest x xs a c))) [
+        | inl e ↦ (
+            let before : R x a = first_earlier x xs a h c in
+            let itself : R a a = rw e at before in
+            absurd (strict a a itself itself))
+        | inr d ↦ d
+      ]
+
+  -- two lists in order with the same elements are equal
+  pub same_list : (xs ys : List X) → AllPairs R xs → AllPairs R ys → ((a : X) → Contains xs a → Contains ys a)
+      → ((a : X) → Contains ys a → Contains xs a) → xs ≡ ys
+  same_list [] [] h k f g = refl
+  same_list [] (y ∷ ys) h k f g = absurd (omega (arith, (g y (0, omega arith, refl)).1))
+  same_list (x ∷ xs) [] h k f g = absurd (omega (arith, (f x (0, omega arith, refl)).1))
+  same_list (x ∷ xs) (y ∷ ys) h k f g =
+      let first : y ≡ x = sym (same_first x y xs ys h k (f x (0, omega arith, refl)) (g y (0, omega arith, refl))) in
+      let k' : AllPairs R (x ∷ ys) = subst (λ v. AllPairs R (v ∷ ys)) first k in
+      let f' : (a : X) → Contains (x ∷ xs) a → Contains (x ∷ ys) a = subst (λ v. (a : X) → Contains (x ∷ xs) a → Contains (v ∷ ys) a) first f in
+      let g' : (a : X) → Contains (x ∷ ys) a → Contains (x ∷ xs) a = subst (λ v. (a : X) → Contains (v ∷ ys) a → Contains (x ∷ xs) a) first g in
+      let rest : xs ≡ ys = same_list xs ys (rest_in_order x xs h) (rest_in_order x ys k') (in_other x xs ys h f') (in_other x ys xs k' g') in
+      cc
+
+  -- an element doesn't stand before itself
+  not_before_itself : (xs : List X) (i j : ℕ) (a : X) → AllPairs R xs → slice_get xs i ≡ Some a → slice_get xs j ≡ Some a → i < j → ⊥
+  not_before_itself xs i j a h p q less =
+      let within : j < length xs = slice_get_within xs j a q in
+      let one : get_or xs i a ≡ a = get_or_from_slice_get xs i a a p in
+      let other : get_or xs j a ≡ a = get_or_from_slice_get xs j a a q in
+      let full : R (get_or xs i a) (get_or xs j a) = h i j a less within in
+      let half : R (get_or xs i a) a = rw other at full in
+      let itself : R a a = rw one at half in
+      strict a a itself itself
+
+  one_of_three : (xs : List X) (i j : ℕ) (a : X) → AllPairs R xs → slice_get xs i ≡ Some a → slice_get xs j ≡ Some a
+      → (less more : Bool) → nat_lt i j ≡ less → nat_lt j i ≡ more → i ≡ j
+  one_of_three xs i j a h p q true more l m = absurd (not_before_itself xs i j a h p q (grind arith))
+  one_of_three xs i j a h p q false true l m = absurd (not_before_itself xs j i a h q p (grind arith))
+  one_of_three xs i j a h p q false false l m = grind arith
+
+  -- an element stands at one place of a list in order
+  pub one_place : (xs : List X) (i j : ℕ) (a : X) → AllPairs R xs → slice_get xs i ≡ Some a → slice_get xs j ≡ Some a → i ≡ j
+  one_place xs i j a h p q = one_of_three xs i j a h p q (nat_lt i j) (nat_lt j i) refl refl
+
+-- A list in the order of its numbers, of which each has the other's actions, is the other.
+
+both_true : (a b : Bool) → (a ≡ true → b ≡ true) → (b ≡ true → a ≡ true) → a ≡ b
+both_true true b f g = sym (f refl)
+both_true false true f g = g refl
+both_true false false f g = refl
+
+found_in : (p : Action → Bool) (xs ys : List Action) → ((a : Action) → Contains xs a → Contains ys a) → list_any p xs ≡ true → list_any p ys ≡ true
+found_in p xs ys all h = found_at p xs ys all (Any-from_list_any p xs h)
+  where
+    found_at : (p : Action → Bool) (xs ys : List Action) → ((a : Action) → Contains xs a → Contains ys a) → Any (λ a. p a ≡ true) xs → list_any p ys ≡ true
+    found_at p xs ys all (k, a, lt, at, h) = passes_by p ys a (all a (k, lt, at)) h
+
+module _ (c : Cluster) (xs ys : List Action) (to : (a : Action) → Contains xs a → Contains ys a) (from : (a : Action) → Contains ys a → Contains xs a) where
+  same_migrating : (r : ℕ) → is_migrating xs r ≡ is_migrating ys r
+  same_migrating r = both_true (is_migrating xs r) (is_migrating ys r) (found_in (sends r) xs ys to) (found_in (sends r) ys xs from)
+
+  same_place : (a : Action) → place_of c xs a ≡ place_of c ys a
+  same_place (Fence n) = refl
+  same_place (Probe r n) = refl
+  same_place (Cell op.Start r n interval role) = refl
+  same_place (Cell op.Stop r n interval role) = rw (same_migrating r) refl
+  same_place (Cell op.Promote r n interval role) = refl
+  same_place (Cell op.Demote r n interval role) = refl
+  same_place (Cell op.Monitor r n interval role) = refl
+  same_place (MigrateTo r source target) = refl
+  same_place (MigrateFrom r source target) = refl
+
+  same_order : (x y : Action) → is_earlier c ys x y ≡ true → is_earlier c xs x y ≡ true
+  same_order x y h = rw (same_place x) (rw (same_place y) h)
+
+pub one_list : (c : Cluster) (Needed : Action → Type 0) (xs ys : List Action) → AreNumbered c Needed xs → AreNumbered c Needed ys → xs ≡ ys
+one_list c Needed xs ys h k =
+    let to : (a : Action) → Contains xs a → Contains ys a = λ a at. (k.needed a).1 ((h.needed a).0 at) in
+    let from : (a : Action) → Contains ys a → Contains xs a = λ a at. (h.needed a).1 ((k.needed a).0 at) in
+    same_list (λ x y. is_earlier c xs x y ≡ true) (λ x y. not_both (place_of c xs x) (place_of c xs y)) xs ys h.in_order
+    (λ i j d less within. same_order c xs ys to from (get_or ys i d) (get_or ys j d) (k.in_order i j d less within)) to from
+
+pub one_number : (c : Cluster) (Needed : Action → Type 0) (xs : List Action) (i j : ℕ) (a : Action) → AreNumbered c Needed xs
+    → slice_get xs i ≡ Some a → slice_get xs j ≡ Some a → i ≡ j
+one_number c Needed xs i j a h p q =
+    one_place (λ x y. is_earlier c xs x y ≡ true) (λ x y. not_both (place_of c xs x) (place_of c xs y)) xs i j a h.in_order p q

@@ -1,0 +1,28 @@
+-- The promises that every transition keeps by its steps alone.
+use Rattle.std.proofs.Common.{◌≡◌, ◌<◌, ℕ, Bool, true, false, List, [], refl}
+use Rattle.std.specs.Prelude.{Option}
+use Rattle.std.specs.List.{list_any}
+use Rattle.cluster_types.specs.declared.journal.Answer.{Answer}
+use Rattle.cluster_types.specs.declared.journal.Event.{Event}
+use Rattle.cluster_types.specs.Safety.{IsEager, is_gone}
+use Rattle.cluster_types.specs.Steps.{Transition, Goes, has_aborted}
+use Rattle.cluster_types.proofs.EagerLaws.{keeps-none, keeps-on}
+use Rattle.cluster_types.proofs.NeverStuck.{all-succeeded}
+use Rattle.cluster_types.proofs.StepLaws.{begins-its_own, none_after-abort}
+
+not_either : (gone aborted : Bool) → (gone ≡ true → aborted ≡ true) → aborted ≡ false → gone ≡ false
+not_either true aborted f h = let e = f refl in cc
+not_either false aborted f h = refl
+
+pub eager : (t : Transition) (whole : Bool) (rest left : Option (List Answer)) (later : List Event) → ((j k : ℕ) → t.precedes j k ≡ true → j < k)
+    → Goes t whole [] rest later left → IsEager t later
+eager t whole rest left after upward goes =
+    let keeps = keeps-on t whole [] after rest left goes (keeps-none t) in
+    record {
+      answers_when_settled = keeps.asked;
+      begins_once = keeps.once;
+      begins_its_own = begins-its_own t whole rest left after goes;
+      none_after_abort = none_after-abort t whole rest left after goes;
+      never_stuck = λ unaborted idle settled.
+          all-succeeded t after upward unaborted (not_either (list_any is_gone after) (has_aborted t after) keeps.gone_aborts unaborted) idle settled;
+    }

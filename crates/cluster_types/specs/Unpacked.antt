@@ -1,0 +1,52 @@
+-- What a journal tells of a cluster, put together: the states of its nodes and cells, failures that stop a leaf everywhere, quorum and the moment
+-- (follows from the definitions that it puts together).
+use Rattle.std.specs.Prelude.{ℕ, ◌^◌, if◌then◌else◌, List, length, map, sum_by}
+use Rattle.std.specs.List.{enumerate_from, flat_map, range_with_len}
+use Rattle.cluster_types.specs.declared.cluster.Cluster.{Cluster}
+use Rattle.cluster_types.specs.declared.journal.Event.{Event}
+use Rattle.cluster_types.specs.declared.journal.Promotion.{Promotion}
+use Rattle.cluster_types.specs.declared.leaf.Monitor.{Monitor}
+use Rattle.cluster_types.specs.declared.states.Cell.{Cell}
+use Rattle.cluster_types.specs.declared.states.Rights.{Rights}
+use Rattle.cluster_types.specs.declared.states.States.{States}
+use Rattle.cluster_types.specs.CellStates.{cell_state, is_running}
+use Rattle.cluster_types.specs.Failures.{is_banned, is_fail_stopped}
+use Rattle.cluster_types.specs.Fields.{monitors}
+use Rattle.cluster_types.specs.Journals.{has_quorum, moment_of}
+use Rattle.cluster_types.specs.May.{may, may_promoted}
+use Rattle.cluster_types.specs.NodeStates.{node_state}
+use Rattle.cluster_types.specs.Rights.{may_fence, may_start, may_keep}
+
+module _ (c : Cluster) (es : List Event) where
+  -- bit i, where monitor i is running
+  abbrev pub running_bit : ℕ → ℕ → ℕ × Monitor → ℕ
+  running_bit r n numbered = if is_running r n numbered.1.interval_ms es then 2 ^ numbered.0 else 0
+
+  -- the monitors that are running, as the sum of their bits
+  abbrev pub running_bits : ℕ → ℕ → ℕ
+  running_bits r n = sum_by (running_bit r n) (enumerate_from 0 (monitors c r))
+
+  -- what is known of leaf r on node n
+  abbrev pub cell_at : ℕ → ℕ → Cell
+  cell_at r n = record {
+    state = cell_state c r n es;
+    may = may c r n es;
+    may_promoted = may_promoted c r n es;
+    banned = is_banned c r n es;
+    running = running_bits r n;
+  }
+
+  -- all that is known. The cells stand leaf by leaf, node by node
+  abbrev pub states_of : List Promotion → States
+  states_of promotions = record {
+    nodes = map (λ n. node_state c n es) (range_with_len 0 (length c.nodes));
+    cells = flat_map (λ r. map (cell_at r) (range_with_len 0 (length c.nodes))) (range_with_len 0 (length c.leaves));
+    fail_stop = map (λ r. is_fail_stopped c r es) (range_with_len 0 (length c.leaves));
+    promotions = promotions;
+    quorum = has_quorum es;
+    moment = moment_of es;
+  }
+
+  -- what the cluster may do
+  abbrev pub rights_of : Rights
+  rights_of = record { may_fence = may_fence c es; may_start = may_start c es; may_keep = may_keep c es }
