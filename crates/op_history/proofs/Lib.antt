@@ -1,0 +1,6 @@
+pub mod Digits
+pub mod ResultsSoFar
+pub mod Leaving
+pub mod FirstJournals
+pub mod LinesSoFar
+pub mod FirstWords

@@ -1,0 +1,7 @@
+pub mod Numbers
+pub mod Names
+pub mod Recovery
+pub mod Reading
+pub mod Results
+pub mod Status
+pub mod FirstJournal

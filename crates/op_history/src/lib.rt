@@ -1,0 +1,32 @@
+//! The status section as the first journal, result lines as answers, and the classes of exit codes.
+#![tactic(auto)]
+
+// Why a text isn't read.
+mod fault;
+
+// What exit codes mean.
+mod recovery;
+
+// How words are read.
+mod names;
+mod numbers;
+mod reading;
+mod words;
+
+// The result lines.
+mod answers;
+mod results;
+
+// The status.
+mod first_journal;
+mod status;
+mod status_lines;
+mod told;
+
+pub use fault::{ResultCause, ResultFault, StatusCause, StatusFault};
+pub use recovery::{Recovery, class_of};
+pub use results::{ResultLine, read_result, read_results};
+pub use status::read_status;
+
+#[cfg(test)]
+mod tests;

@@ -1,0 +1,49 @@
+//! The nodes and leaves of a cluster by their names.
+
+ghost use Rattle.std.specs.Prelude.{◌≡◌, ◌<◌, ◌^◌, length, IfSome};
+ghost use Rattle.op_history.specs.Names.{leaf_of, node_of};
+ghost use Rattle.op_history.specs.Numbers.{is};
+ghost use Rattle.cluster_types.specs.Valid.{KeepsLimits};
+
+use cluster_types::{Cluster, LeafId, NodeId};
+use crm_lex::Name;
+
+fn is(name: &Name, word: &[u8]) -> bool
+    ensures { result ≡ is name.now word.now }
+{
+    name.bytes() == word
+}
+
+fn place_of_node(cluster: &Cluster, word: &[u8]) -> Option<usize>
+    ensures value { result ≡ node_of cluster.now word.now }
+    ensures within { IfSome result (λ place. place < length cluster.now.nodes) }
+{
+    cluster.nodes.iter().position(|node| is(&node.name, word))
+}
+
+fn place_of_leaf(cluster: &Cluster, word: &[u8]) -> Option<usize>
+    ensures value { result ≡ leaf_of cluster.now word.now }
+    ensures within { IfSome result (λ place. place < length cluster.now.leaves) }
+{
+    cluster.leaves.iter().position(|leaf| is(&leaf.name, word))
+}
+
+/// The node of this name.
+pub fn node_of(cluster: &Cluster, word: &[u8]) -> Option<NodeId>
+    requires { KeepsLimits cluster.now }
+    ensures value { result ≡ node_of cluster.now word.now }
+    ensures within { IfSome result (λ node. node < length cluster.now.nodes) }
+{
+    let place = place_of_node(cluster, word)?;
+    Some(place as NodeId)
+}
+
+/// The leaf of this name.
+pub fn leaf_of(cluster: &Cluster, word: &[u8]) -> Option<LeafId>
+    requires { KeepsLimits cluster.now }
+    ensures value { result ≡ leaf_of cluster.now word.now }
+    ensures within { IfSome result (λ leaf. leaf < length cluster.now.leaves) }
+{
+    let place = place_of_leaf(cluster, word)?;
+    Some(place as LeafId)
+}

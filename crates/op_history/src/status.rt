@@ -1,0 +1,107 @@
+//! The status section of a text.
+
+ghost use Rattle.std.specs.Prelude.{◌≡◌, ◌<◌, ◌^◌, AllPairs, [], false, length, true, IfOk};
+ghost use Rattle.std.specs.List.{list_all};
+ghost use Rattle.cluster_types.specs.declared.journal.Promotion.{Promotion as PromotionOf};
+ghost use Rattle.cluster_types.specs.Journals.{Orderly, in_flight, moment_of};
+ghost use Rattle.cluster_types.specs.Valid.{KeepsLimits};
+ghost use Rattle.op_history.specs.FirstJournal.{all_differ, is_again, is_known, is_repeated, is_same_cell, status_of, with_line, with_lines, Tells};
+
+use crate::first_journal::journal_of;
+use crate::status_lines::told_of;
+use crate::told::Told;
+use crate::{StatusCause, StatusFault};
+use cluster_types::{Cluster, Journal, Promotion};
+use crm_lex::Line;
+use listed::Listed;
+use std::alloc::Global;
+
+fn is_same_cell(one: Promotion, other: Promotion) -> bool
+    ensures { result ≡ is_same_cell one other }
+{
+    one.leaf == other.leaf && one.node == other.node
+}
+
+/// Whether a line says again what an earlier one said, and what may be said once.
+fn is_again(earlier: Told, line: Told) -> bool
+    ensures { result ≡ is_again earlier line }
+{
+    match (earlier, line) {
+        (Told::Now(_), Told::Now(_)) | (Told::Quorum(_), Told::Quorum(_)) => true,
+        (Told::Node { node: before, .. }, Told::Node { node, .. }) => before == node,
+        (Told::Promoting(before), Told::Promoting(promotion)) => is_same_cell(before, promotion),
+        _ => false,
+    }
+}
+
+#[tactic(auto, using(crate::proofs::FirstJournals::past_is_new))]
+fn is_repeated(told: &[Told], line: Told) -> bool
+    ensures { result ≡ is_repeated told.now line }
+{
+    match line {
+        Told::Past(_) => false,
+        _ => told.iter().any(|earlier| is_again(*earlier, line)),
+    }
+}
+
+/// Reads one more line.
+#[tactic(auto, using(crate::proofs::FirstJournals::one_more_known, crate::proofs::FirstJournals::one_more_differs))]
+fn add_line(cluster: &Cluster, told: &mut Listed<Told>, line: &Line) -> Result<(), StatusFault>
+    requires { KeepsLimits cluster.now }
+    ensures read { Tells (λ _. told.new) result (with_line cluster.now told.old line.now) }
+    ensures known { IfOk result (λ _. list_all (is_known (length cluster.now.nodes)) told.old ≡ true
+        → list_all (is_known (length cluster.now.nodes)) told.new ≡ true) }
+    ensures once { IfOk result (λ _. all_differ told.old ≡ true → all_differ told.new ≡ true) }
+{
+    match told_of(cluster, line) {
+        Ok(one) if is_repeated(told.as_slice(), one) => Err(StatusFault::At {
+            line: line.line,
+            cause: StatusCause::Repeated,
+        }),
+        Ok(one) => Ok(told.push(one)?),
+        Err(cause) => Err(StatusFault::At {
+            line: line.line,
+            cause: cause.in_status(),
+        }),
+    }
+}
+
+fn with_lines(alloc: Global, cluster: &Cluster, lines: &[Line]) -> Result<Listed<Told>, StatusFault>
+    requires { KeepsLimits cluster.now }
+    ensures read { Tells (λ told. told) result (with_lines cluster.now [] lines.now) }
+    ensures known { IfOk result (λ told. list_all (is_known (length cluster.now.nodes)) told ≡ true) }
+    ensures once { IfOk result (λ told. all_differ told ≡ true) }
+{
+    let mut told = Listed::new(alloc);
+    for line in lines {
+        add_line(cluster, &mut told, line)?;
+    }
+    Ok(told)
+}
+
+/// Reads the status of a cluster as its first journal (Pacemaker Administration, operation history; the lines are a rule of this project).
+///
+/// The lines are those between `%status` and the next section. Each is `now SECONDS`, `quorum yes` or `quorum no`, `node NODE` and `online`,
+/// `offline` or `unclean`, `op NODE LEAF OP MS CODE SECONDS`, `cleanup NODE LEAF` or `promotion NODE LEAF SCORE`. SECONDS are below
+/// 1,099,511,627,776, MS is at most 4,294,967,295 for a monitor and 0 for the other operations, and CODE is from 0 to 255 or `timeout`. Only a
+/// promotable leaf is promoted, demoted and wants to be promoted.
+///
+/// In the journal each node joins, then come the operations and cleanups in the order of the lines, then the nodes leave that aren't online,
+/// and then comes quorum, which is no without a line, and the moment, which is 0 without one. It is in order and has nothing in flight.
+///
+/// A fault is that of the first faulty line, at its leftmost faulty word: `UnknownStatement` at a first word that begins no line of a status,
+/// `MissingWord` where the line ends too early, `ExtraWord` past its end, `UnknownName` at a NODE or LEAF that the cluster doesn't have, and
+/// `BadValue` at any other word that isn't one of its place. `Repeated` comes where all words of a line are read, and a line before it said the
+/// moment, quorum, the state of this node or the score of this cell. `NoMemory` comes where memory is refused.
+#[tactic(auto, using(crate::proofs::FirstJournals::journal_in_order, crate::proofs::FirstJournals::journal_is_idle, crate::proofs::FirstJournals::journal_moment, crate::proofs::FirstJournals::promotions_differ))]
+pub fn read_status(alloc: Global, cluster: &Cluster, lines: &[Line]) -> Result<Journal, StatusFault>
+    requires { KeepsLimits cluster.now }
+    ensures read { Tells (λ journal. journal) result (status_of cluster.now lines.now) }
+    ensures orderly { IfOk result (λ journal. Orderly journal.events) }
+    ensures idle { IfOk result (λ journal. in_flight journal.events ≡ []) }
+    ensures moment { IfOk result (λ journal. moment_of journal.events < 2 ^ 40) }
+    ensures once { IfOk result (λ journal. AllPairs (λ (one other : PromotionOf). is_same_cell one other ≡ false) journal.promotions) }
+{
+    let told = with_lines(alloc, cluster, lines)?;
+    Ok(journal_of(alloc, cluster, told.as_slice())?)
+}

@@ -1,0 +1,31 @@
+ghost use Rattle.std.specs.Prelude.{◌≡◌, ℕ, List, slice_get};
+ghost use Rattle.std.specs.Option.{option_copied};
+
+use crm_lex::{Line, WordBuf};
+
+/// The words of one line, of which a form looks at the first eight at most.
+pub(crate) trait Words {
+    /// The words, in order.
+    ghost words: { Self → List (List ℕ) };
+
+    /// The word at this place, counted from 0.
+    fn word(&self, place: usize) -> Option<&[u8]>
+        ensures { option_copied result ≡ slice_get (words self.now) place };
+}
+
+impl Words for Line {
+    ghost words = { λ line. line.words };
+
+    fn word(&self, place: usize) -> Option<&[u8]> {
+        let word = self.words.as_slice().get(place)?;
+        Some(word.bytes())
+    }
+}
+
+impl Words for WordBuf {
+    ghost words = { λ buf. buf.first };
+
+    fn word(&self, place: usize) -> Option<&[u8]> {
+        WordBuf::word(self, place)
+    }
+}
