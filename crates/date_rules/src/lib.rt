@@ -20,5 +20,6 @@ mod moment;
 
 pub use evaluation::holds;
 pub use moment::instant;
+pub use number::whole_number;
 pub use rule::{Compare, Kind, Pair, Rule, Test};
 pub use text::{NoMemory, Text};

@@ -1,0 +1,8 @@
+use Rattle.std.proofs.Common.{rules, tests}
+use Rattle.std.proofs.lemmas.Iterator.{YieldsList-from_slice}
+use Rattle.std.proofs.lemmas.Iterator.Consumers.{count_from_yields_List, YieldsList-from_filter}
+use Rattle.crm_parse.specs.Operations.{recurs}
+use Rattle.crm_parse.proofs.operations.count_recurring.Goals as goal
+
+pub returns : goal.returns
+returns c = count_from_yields_List c.filter.result _ c.count.ensures.ran (YieldsList-from_filter _ recurs (YieldsList-from_slice c.args.ops.now cc) c.filter.ensures.closure (λ x r q k. search (rules, tests)))

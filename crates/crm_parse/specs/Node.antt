@@ -1,0 +1,15 @@
+-- `node [ID:] NAME [attributes KV..] [utilization KV..]` (crmsh manual, node).
+use Rattle.std.specs.Prelude.{Result, Ok}
+use Rattle.crm_parse.specs.declared.fault.ParseCause.{ParseCause}
+use Rattle.crm_parse.specs.declared.form.Form.{Form}
+use Rattle.crm_parse.specs.declared.form.Form.TheVariants as form
+use Rattle.crm_parse.specs.declared.owner.Owner.TheVariants as owner
+use Rattle.crm_parse.specs.Reading.{Words, ◌>>=◌, given_at, name_at}
+use Rattle.crm_parse.specs.Sections.{sections_at}
+
+unfoldable pub node_at : Words → Result Form ParseCause
+node_at words = do
+  id ← given_at words
+  name ← name_at id.1
+  sections ← sections_at owner.Node name.1
+  Ok (form.Node id.0 name.0 sections.attributes sections.utilization)

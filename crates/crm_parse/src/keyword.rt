@@ -1,0 +1,19 @@
+//! The statements, by their first words.
+
+use crate::SettingsWord;
+
+/// A statement, by its first word.
+#[derive(Clone, Copy, Debug, PartialEq, Eq)]
+pub(crate) enum Keyword {
+    Node,
+    Primitive,
+    Group,
+    Clone,
+    /// `ms` or `master`.
+    Ms,
+    Location,
+    Colocation,
+    Order,
+    Settings(SettingsWord),
+    Kept,
+}

@@ -1,0 +1,63 @@
+//! The statements of a configuration, read from the words of its lines.
+#![tactic(auto)]
+
+// What a configuration says.
+mod form;
+mod pair;
+mod rule_form;
+mod statement;
+mod words;
+
+// Why a text isn't read.
+mod fault;
+
+// The sections of a text.
+mod marks;
+
+// What a value stands for.
+mod values;
+
+// How words are read.
+mod accept;
+mod keyed_pairs;
+mod keys;
+mod operations;
+mod owner;
+mod pairs;
+mod place;
+mod reading;
+mod section;
+
+// The statements, form by form.
+mod colocation;
+mod draft;
+mod drafts;
+mod expression;
+mod group;
+mod keyword;
+mod line;
+mod location;
+mod node;
+mod order;
+mod primitive;
+mod rule;
+mod setting_keys;
+mod settings;
+
+// The whole text.
+mod actions;
+mod parser;
+mod promotable;
+
+pub use fault::{ParseCause, ParseFault};
+pub use form::{Form, OrderStep, Side};
+pub use marks::{AuditMarks, SectionMarks, audit_sections, sections};
+pub use pair::{Kv, Operation};
+pub use parser::parse;
+pub use rule_form::RuleForm;
+pub use statement::{Crm, Statement};
+pub use values::{RoleName, action_of, bool_of, count_of, kind_of, role_of, time_of};
+pub use words::{ActionWord, KindWord, RoleWord, SettingsWord};
+
+#[cfg(test)]
+mod tests;

@@ -1,0 +1,29 @@
+//! `node [ID:] NAME [attributes KV..] [utilization KV..]`
+
+ghost use Rattle.std.specs.Prelude.{◌≡◌};
+ghost use Rattle.crm_parse.specs.Node.{node_at};
+ghost use Rattle.crm_parse.specs.Reading.{Gives};
+
+use crate::Form;
+use crate::fault::Stop;
+use crate::owner::Owner;
+use crate::reading::{given_at, name_at};
+use crate::section::sections_at;
+use crm_lex::Name;
+use std::alloc::Global;
+
+/// Reads the words after `node`.
+#[tactic(auto, unfolding(crate::specs::Node::node_at))]
+pub fn node_at(alloc: Global, words: &[Name]) -> Result<Form, Stop>
+    ensures { Gives (λ form. form) result (node_at words.now) }
+{
+    let (id, rest) = given_at(alloc, words)?;
+    let (name, rest) = name_at(alloc, rest)?;
+    let sections = sections_at(alloc, Owner::Node, rest)?;
+    Ok(Form::Node {
+        id,
+        name,
+        attributes: sections.attributes.into_list(),
+        utilization: sections.utilization.into_list(),
+    })
+}

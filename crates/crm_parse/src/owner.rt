@@ -1,0 +1,23 @@
+//! The statements with sections.
+
+/// A statement with sections.
+#[derive(Clone, Copy, Debug, PartialEq, Eq)]
+pub(crate) enum Owner {
+    Node,
+    Primitive,
+    Group,
+    Clone,
+    /// `ms` or `master`.
+    Ms,
+}
+
+/// A section.
+#[derive(Clone, Copy, Debug, PartialEq, Eq)]
+pub(crate) enum SectionWord {
+    Attributes,
+    Params,
+    Meta,
+    Utilization,
+    Operations,
+    Op,
+}
