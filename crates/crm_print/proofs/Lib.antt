@@ -1,0 +1,11 @@
+pub mod Written
+pub mod Lines
+pub mod FormLines
+pub mod FilledItems
+pub mod CleanWords
+pub mod CleanReading
+pub mod CleanLines
+pub mod TextReads
+pub mod WrittenWords
+pub mod CleanItems
+pub mod ReadsAgain

@@ -1,0 +1,152 @@
+-- A text of lines of clean items is read as their words, line by line.
+use Rattle.std.proofs.Common.{◌≡◌, ℕ, ◌+◌, nat_lt, nat_le, ◌<◌, ◌≤◌, Bool, true, false, not, ◌&&◌, ◌||◌, ◌==◌, if◌then◌else◌, Result, Ok, Err, List, [], ◌∷◌, ◌++◌, length, map, refl, sym, ap, subst, ◌∙◌, arith, append_assoc, append-nil}
+use Rattle.std.proofs.lemmas.Str.{is_utf8-from_IsUtf8}
+use Rattle.std.specs.List.{flat_map, list_any, list_all, sum_by, AllByRecursion}
+use Rattle.std.specs.Str.{is_utf8}
+use Rattle.crm_lex.specs.RawLines.{begins_comment, content, ends_in_backslash, goes_on, is_line_end, joined, onto_first, physical_lines, raw_lines}
+use Rattle.crm_lex.specs.LogicalLines.{all_byte_faults, byte_faults, content_length, fault_if, faults, is_control, joined_text, line_text, with_joint}
+use Rattle.crm_lex.specs.Reading.{faults_from, first_fault, reads, row, rows_from, unless}
+use Rattle.crm_lex.specs.Words.{is_open, words_of}
+use Rattle.crm_lex.specs.declared.fault.LexCause.TheVariants.{LineTooLong, NotUtf8, ControlByte, OpenQuote}
+use Rattle.crm_lex.specs.declared.line.Line.{Line}
+use Rattle.crm_print.specs.Quoting.{Item, item_word, line_of}
+use Rattle.crm_parse.proofs.Clean.{Clean, EachClean, neither}
+use Rattle.crm_print.proofs.CleanLines.{clean_line, line_begins, line_closes}
+use Rattle.crm_print.proofs.Lines.{both, is_filled, line-closed, line-words}
+
+-- a line that can be read: its items have parts, they are clean, and it isn't too long
+pub record Readable (items : List Item) : Type 0 where
+  pub first : Item
+  pub others : List Item
+  pub are : items ≡ first ∷ others
+  pub filled : list_all is_filled (first ∷ others) ≡ true
+  pub clean : EachClean (first ∷ others)
+  pub short : nat_le (length (line_of (first ∷ others))) 1048576 ≡ true
+
+-- a text that is one logical line without its line feed
+record Line1 (text : List ℕ) : Type 0 where
+  clean : Clean text
+  begins : begins_comment text ≡ false
+  closes : ends_in_backslash text ≡ false
+  closed : is_open text ≡ false
+  short : nat_le (length text) 1048576 ≡ true
+
+line1 : (items : List Item) → Readable items → Line1 (line_of items)
+line1 items r =
+    subst (λ items. Line1 (line_of items)) (sym r.are) (
+    record {
+      clean = clean_line r.first r.others r.clean;
+      begins = line_begins r.first r.others (both (is_filled r.first) (list_all is_filled r.others) r.filled).0;
+      closes = line_closes r.first r.others r.filled [];
+      closed = line-closed r.first r.others;
+      short = r.short;
+    }
+    )
+
+no_feed : (b : ℕ) → is_control b ≡ false → ((b == 10) ≡ false) × ((b == 13) ≡ false)
+no_feed b h = by (b == 10) (b == 13) refl refl
+  where
+    clash : {P : Type 0} → (b == 10) ≡ true → P
+    clash e = let same : b ≡ 10 = grind arith in let c : is_control 10 ≡ false = subst (λ x. is_control x ≡ false) same h in cc
+
+    clash13 : {P : Type 0} → (b == 13) ≡ true → P
+    clash13 e = let same : b ≡ 13 = grind arith in let c : is_control 13 ≡ false = subst (λ x. is_control x ≡ false) same h in cc
+
+    by : (s t : Bool) → (b == 10) ≡ s → (b == 13) ≡ t → (s ≡ false) × (t ≡ false)
+    by true t e f = clash e
+    by false true e f = clash13 f
+    by false false e f = (refl, refl)
+
+-- a physical line before some text
+feed : (text rest : List ℕ) → list_any is_control text ≡ false → physical_lines (text ++ 10 ∷ rest) ≡ (text ++ 10 ∷ []) ∷ physical_lines rest
+feed [] rest h = refl
+feed (b ∷ bs) rest h =
+    let n = neither (is_control b) (list_any is_control bs) h in
+    let other = (no_feed b n.0).0 in
+    let more = feed bs rest n.1 in
+    rw (other, more) refl
+
+content_is : (text : List ℕ) → list_any is_control text ≡ false → content (text ++ 10 ∷ []) ≡ text
+content_is [] h = refl
+content_is (b ∷ []) h =
+    let n = neither (is_control b) false h in
+    let other = (no_feed b n.0).1 in rw other refl
+content_is (b ∷ d ∷ []) h =
+    let n = neither (is_control b) (list_any is_control (d ∷ [])) h in
+    ap (λ xs. b ∷ xs) (content_is (d ∷ []) n.1)
+content_is (b ∷ d ∷ e ∷ es) h =
+    let n = neither (is_control b) (list_any is_control (d ∷ e ∷ es)) h in
+    ap (λ xs. b ∷ xs) (content_is (d ∷ e ∷ es) n.1)
+
+unjoined : (text : List ℕ) → ends_in_backslash text ≡ false → with_joint [] text ≡ text
+unjoined [] h = refl
+unjoined (b ∷ []) h = rw h refl
+unjoined (b ∷ d ∷ ds) h = ap (λ xs. b ∷ xs) (unjoined (d ∷ ds) h)
+
+text_is : (text : List ℕ) → Line1 text → line_text ((text ++ 10 ∷ []) ∷ []) ≡ text
+text_is text l =
+    let same = content_is text l.clean.allowed in
+    let begins = l.begins in
+    let joint = unjoined text l.closes in
+    rw (same, begins, joint) (append-nil text)
+
+not_long : (most sum n : ℕ) → nat_le n most ≡ true → sum ≡ n → nat_lt most sum ≡ false
+not_long most sum n h e = grind arith
+
+-- the line has no fault
+no_faults : (n : ℕ) (text : List ℕ) → Line1 text → faults n ((text ++ 10 ∷ []) ∷ []) ≡ []
+no_faults n text l =
+    let same = content_is text l.clean.allowed in
+    let whole = text_is text l in
+    let closed = l.closed in
+    let utf8 = is_utf8-from_IsUtf8 text l.clean.utf8 in
+    let allowed = l.clean.allowed in
+    let short = not_long 1048576 (0 + length text) (length text) l.short (omega arith) in
+    rw (whole, same, closed, utf8, allowed, short) refl
+
+-- some lines with their line feeds
+abbrev pub ended_lines : List (List Item) → List ℕ
+ended_lines all = flat_map (λ items. line_of items ++ 10 ∷ []) all
+
+-- the lines that are read, of which the first has this number
+abbrev pub numbered : ℕ → List (List Item) → List Line
+numbered n [] = []
+numbered n (items ∷ more) = record { line = n; words = map item_word items } ∷ numbered (n + 1) more
+
+-- the physical lines of the text, each of which is a logical line
+single_lines : (all : List (List Item)) → AllByRecursion Readable all → raw_lines (ended_lines all) ≡ map (λ items. (line_of items ++ 10 ∷ []) ∷ []) all
+single_lines [] h = refl
+single_lines (items ∷ more) h =
+    let l = line1 items h.0 in
+    let rest = single_lines more h.1 in
+    let fed = ap (joined false) (ap physical_lines (append_assoc (line_of items) (10 ∷ []) (ended_lines more)) ∙ feed (line_of items) (ended_lines more) l.clean.allowed) in
+    let same = content_is (line_of items) l.clean.allowed in
+    let closes = l.closes in
+    fed ∙ rw (same, closes) (ap (λ groups. ((line_of items ++ 10 ∷ []) ∷ []) ∷ groups) rest)
+
+no_faults_from : (n : ℕ) (all : List (List Item)) → AllByRecursion Readable all → faults_from n (map (λ items. (line_of items ++ 10 ∷ []) ∷ []) all) ≡ []
+no_faults_from n [] h = refl
+no_faults_from n (items ∷ more) h =
+    let none = no_faults n (line_of items) (line1 items h.0) in
+    let rest = no_faults_from (n + 1) more h.1 in
+    rw (none, rest) refl
+
+row_of : (n : ℕ) (items : List Item) → Readable items → row n (words_of (line_of items)) ≡ record { line = n; words = map item_word items } ∷ []
+row_of n items r =
+    subst (λ items. row n (words_of (line_of items)) ≡ record { line = n; words = map item_word items } ∷ []) (sym r.are)
+    (ap (row n) (line-words r.first r.others r.filled))
+
+rows_are : (n : ℕ) (all : List (List Item)) → AllByRecursion Readable all → rows_from n (map (λ items. (line_of items ++ 10 ∷ []) ∷ []) all) ≡ numbered n all
+rows_are n [] h = refl
+rows_are n (items ∷ more) h =
+    let whole = text_is (line_of items) (line1 items h.0) in
+    let one = row_of n items h.0 in
+    let rest = rows_are (n + 1) more h.1 in
+    rw (whole, one, rest) refl
+
+-- a text of such lines is read as their words
+pub text-reads : (all : List (List Item)) → AllByRecursion Readable all → reads (ended_lines all) ≡ Ok (numbered 1 all)
+text-reads all h =
+    let groups = map (λ items. (line_of items ++ 10 ∷ []) ∷ []) all in
+    ap (λ groups. unless (first_fault (faults_from 1 groups)) (rows_from 1 groups)) (single_lines all h)
+    ∙ (ap (λ faults. unless (first_fault faults) (rows_from 1 groups)) (no_faults_from 1 all h) ∙ ap Ok (rows_are 1 all h))

@@ -1,0 +1,4 @@
+pub mod Quoting
+pub mod Items
+pub mod Text
+pub mod Again

@@ -1,0 +1,24 @@
+//! The canonical text of a configuration.
+#![tactic(auto)]
+
+// How words are written.
+mod keyword;
+mod quoting;
+
+// The items of a line.
+mod item;
+mod order;
+mod rule;
+
+// The lines.
+mod statement;
+mod text;
+
+// What follows from the definitions.
+mod laws;
+
+pub use laws::{canonical_text_is_canonical, what_is_printed_reads_again};
+pub use text::print;
+
+#[cfg(test)]
+mod tests;
