@@ -1,0 +1,21 @@
+//! The first place at which a growing list of edges has a loop.
+#![tactic(auto)]
+
+mod edge;
+
+// Which edges lead from a position, and which lead to it.
+mod sources;
+
+// Whether edges have a loop, and from which edge on.
+mod clearing;
+mod first;
+
+// What follows from the definitions.
+pub mod laws;
+
+pub use clearing::is_loop_free;
+pub use edge::{Edge, end_within};
+pub use first::first_loop;
+
+#[cfg(test)]
+mod tests;

@@ -1,0 +1,67 @@
+-- The first rule with which the rules of a cluster have a loop (rule of this project).
+use Rattle.std.specs.Prelude.{◌≡◌, ◌≢◌, ◌<◌, ◌+◌, ◌*◌, ℕ, true, Option, Some, None, length, take, Contains}
+use Rattle.cluster_types.specs.declared.cluster.Cluster.{Cluster}
+use Rattle.cluster_types.specs.declared.leaf.Op.TheVariants.{Monitor}
+use Rattle.cluster_types.specs.declared.placement.Decision.{Decision}
+use Rattle.cluster_types.specs.declared.rules.Colocation.{Colocation}
+use Rattle.cluster_types.specs.declared.rules.Order.{Order}
+use Rattle.cluster_types.specs.Decisions.{NeedsHaveNoLoop, all_decisions, needs_through}
+use Rattle.cluster_types.specs.Numbers.{HasNoLoop, StepOf, reaches}
+
+-- both leaves of the colocation are there
+pub record JoinsLeaves (c : Cluster) (col : Colocation) : Type 0 where
+  pub dependent : col.dependent < length c.leaves
+  pub primary : col.primary < length c.leaves
+
+-- both leaves of the order are there, and its words are of steps
+pub record OrdersSteps (c : Cluster) (o : Order) : Type 0 where
+  pub first : o.first < length c.leaves
+  pub later : o.then_leaf < length c.leaves
+  pub first_word : o.first_op ≢ Monitor
+  pub later_word : o.then_op ≢ Monitor
+
+abbrev pub AllJoin : Cluster → Type 0
+AllJoin c = (col : Colocation) → Contains c.colocations col → JoinsLeaves c col
+
+abbrev pub AllOrder : Cluster → Type 0
+AllOrder c = (o : Order) → Contains c.orders o → OrdersSteps c o
+
+-- the cluster with so many of its colocations, the first ones
+abbrev pub with_colocations : Cluster → ℕ → Cluster
+with_colocations c count = record c { colocations = take count c.colocations }
+
+-- the cluster with so many of its orders, the first ones
+abbrev pub with_orders : Cluster → ℕ → Cluster
+with_orders c count = record c { orders = take count c.orders }
+
+-- some decision needs itself
+pub record NeedsHaveLoop (c : Cluster) : Type 0 where
+  pub decision : Decision
+  pub needed : needs_through c (all_decisions c) (length (all_decisions c)) decision decision ≡ true
+
+-- some step is reached from itself
+pub record StepsHaveLoop (c : Cluster) : Type 0 where
+  pub step : StepOf
+  pub reached : reaches c (4 * length c.leaves) step step ≡ true
+
+-- the needs have no loop with the colocations before this place, and with the one at it they have one
+pub record ClosesNeeds (c : Cluster) (place : ℕ) : Type 0 where
+  pub within : place < length c.colocations
+  pub before : NeedsHaveNoLoop (with_colocations c place)
+  pub closed : NeedsHaveLoop (with_colocations c (place + 1))
+
+-- the links have no loop with the orders before this place, and with the one at it they have one
+pub record ClosesSteps (c : Cluster) (place : ℕ) : Type 0 where
+  pub within : place < length c.orders
+  pub before : HasNoLoop (with_orders c place)
+  pub closed : StepsHaveLoop (with_orders c (place + 1))
+
+-- where the needs get their first loop, and None where they have none
+abbrev pub IsFirstColocation : Cluster → Option ℕ → Type 0
+IsFirstColocation c None = NeedsHaveNoLoop c
+IsFirstColocation c (Some place) = ClosesNeeds c place
+
+-- where the links get their first loop, and None where they have none
+abbrev pub IsFirstOrder : Cluster → Option ℕ → Type 0
+IsFirstOrder c None = HasNoLoop c
+IsFirstOrder c (Some place) = ClosesSteps c place

@@ -1,0 +1,2 @@
+pub mod FirstLoops
+pub mod Edges

@@ -1,0 +1,19 @@
+//! The first rule with which the rules of a cluster have a loop.
+#![tactic(auto)]
+
+// Which decision needs which.
+mod colocations;
+
+// Which step must come before which.
+mod links;
+mod orders;
+mod pushing;
+
+// What follows from the definitions.
+pub mod laws;
+
+pub use colocations::{colocation_loop, joins_leaves};
+pub use orders::{order_loop, orders_steps};
+
+#[cfg(test)]
+mod tests;
