@@ -1,0 +1,104 @@
+-- Where no statement is at fault, no two leaves have one name.
+use Rattle.std.proofs.Common.{◌≡◌, ◌≢◌, ℕ, Bool, true, false, ◌||◌, if◌then◌else◌, List, [], ◌∷◌, ◌++◌, Option, None, Some, All, AllPairs, refl, sym, subst, ◌∙◌, true≢false, nat_eq, arith}
+use Rattle.std.specs.List.{list_any}
+use Rattle.std.specs.Cmp.Lexicographic.{pointwise, nat_list_eq_equiv}
+use Rattle.std.proofs.lemmas.List.Folds.{list_any-append}
+use Rattle.std.proofs.lemmas.List.Elements.{All-cons}
+use Rattle.std.proofs.lemmas.List.Kept.{AllPairs-cons}
+use Rattle.crm_parse.specs.declared.form.Form.{Form}
+use Rattle.crm_parse.specs.declared.form.Form.TheVariants as form
+use Rattle.crm_parse.specs.declared.statement.Statement.{Statement}
+use Rattle.crm_parse.specs.Texts.{is}
+use Rattle.cluster_types.specs.declared.leaf.Leaf.{Leaf}
+use Rattle.clone_expand.specs.declared.fault.ExpandCause.{ExpandCause}
+use Rattle.clone_expand.specs.declared.fault.ExpandCause.TheVariants.{DuplicateName}
+use Rattle.clone_expand.specs.declared.fault.ExpandFault.{ExpandFault}
+use Rattle.clone_expand.specs.declared.kinds.Kind.{Kind}
+use Rattle.clone_expand.specs.declared.seen.Seen.{Seen}
+use Rattle.clone_expand.specs.declared.surroundings.Surroundings.{Surroundings}
+use Rattle.clone_expand.specs.Faults.{cause_of, fault_at, fault_of, first_fault, ids_in, kinds_of, nothing_seen, seen_after}
+use Rattle.clone_expand.specs.Laws.{NamesDiffer}
+use Rattle.clone_expand.specs.Leaves.{leaf_in, leaf_of, leaves_in, leaves_of, surroundings_of}
+use Rattle.clone_expand.specs.Settings.{nodes_in}
+use Rattle.clone_expand.specs.Tables.{has, with_name, with_names}
+
+or_left : (b c : Bool) → (b || c) ≡ false → b ≡ false
+or_left true c h = absurd (true≢false h)
+or_left false c h = refl
+
+or_right : (b c : Bool) → (b || c) ≡ false → c ≡ false
+or_right true c h = absurd (true≢false h)
+or_right false c h = h
+
+-- what isn't among some names with one more isn't among them
+kept_by : (names : List (List ℕ)) (name x : List ℕ) (b : Bool) → has (if b then names else names ++ name ∷ []) x ≡ false → has names x ≡ false
+kept_by names name x true h = h
+kept_by names name x false h = or_left (has names x) (list_any (is x) (name ∷ [])) (sym (list_any-append (is x) names (name ∷ [])) ∙ h)
+
+kept : (names : List (List ℕ)) (name x : List ℕ) → has (with_name names name) x ≡ false → has names x ≡ false
+kept names name x h = kept_by names name x (has names name) h
+
+-- and isn't that one
+is_itself : (name : List ℕ) → is name name ≡ true
+is_itself name = nat_list_eq_equiv.refl name
+
+there_by : (names : List (List ℕ)) (name : List ℕ) (b : Bool) → has names name ≡ b → has (if b then names else names ++ name ∷ []) name ≡ true
+there_by names name true e = e
+there_by names name false e = list_any-append (is name) names (name ∷ []) ∙ rw (e, is_itself name) refl
+
+other : (names : List (List ℕ)) (name x : List ℕ) → has (with_name names name) x ≡ false → name ≢ x
+other names name x h e =
+    true≢false (sym (there_by names name (has names name) refl) ∙ subst (λ y. has (with_name names name) y ≡ false) (sym e) h)
+
+record Fresh (ids : List (List ℕ)) (leaves : List Leaf) : Type 0 where
+  new : All (λ leaf. has ids leaf.name ≡ false) leaves
+  apart : AllPairs (λ (one other : Leaf). one.name ≢ other.name) leaves
+
+more : (ids : List (List ℕ)) (id : List ℕ) (leaves : List Leaf) → Fresh (with_name ids id) leaves → Fresh ids leaves
+more ids id leaves h = record { new = λ k d l. kept ids id _ (h.new k d l); apart = h.apart }
+
+module _ (s : Surroundings) where
+  step : (ids : List (List ℕ)) (f : Form) (leaves : List Leaf) → list_any (has ids) (ids_in f) ≡ false
+      → Fresh (with_names ids (ids_in f)) leaves → Fresh ids (leaf_in s f ++ leaves)
+  unfolding leaf_of
+  step ids (form.Primitive id agent description params meta utilization operations ops) leaves n h = record {
+    new = All-cons (λ (leaf : Leaf). has ids leaf.name ≡ false) _ _ (or_left (has ids id) false n) (λ k d l. kept ids id _ (h.new k d l));
+    apart = AllPairs-cons (λ (one other : Leaf). one.name ≢ other.name) _ _ (λ k d l. other ids id _ (h.new k d l)) h.apart;
+  }
+  step ids (form.Node id name attributes utilization) leaves n h = h
+  step ids (form.Group id members description params meta) leaves n h = more ids id leaves h
+  step ids (form.Cloned id child ms description params meta) leaves n h = more ids id leaves h
+  step ids (form.Location id resource role discovery score node) leaves n h = more ids id leaves h
+  step ids (form.RuledLocation id resource role discovery rules) leaves n h = more ids id leaves h
+  step ids (form.Colocation id score dependent primary) leaves n h = more ids id leaves h
+  step ids (form.Order id kind steps symmetrical) leaves n h = more ids id leaves h
+  step ids (form.Settings what set pairs) leaves n h = h
+  step ids (form.Kept words) leaves n h = h
+
+-- a statement that isn't at fault has a new id
+not_first : (b : Bool) (rest : Option ExpandCause) → (if b then Some DuplicateName else rest) ≡ None → b ≡ false
+not_first true rest h = absurd (cc)
+not_first false rest h = refl
+
+new_id : (kinds : List (List ℕ × Kind)) (seen : Seen) (f : Form) → cause_of kinds seen f ≡ None → list_any (has seen.ids) (ids_in f) ≡ false
+unfolding cause_of
+new_id kinds seen f h = or_right (list_any (has seen.nodes) (nodes_in f)) _ (not_first _ _ h)
+
+module _ (s : Surroundings) (kinds : List (List ℕ × Kind)) where
+  fresh_by : (seen : Seen) (st : Statement) (leaves : List Leaf) (cause : Option ExpandCause) (later : Option ExpandFault)
+      → cause_of kinds seen st.form ≡ cause → fault_at st.line cause later ≡ None
+      → (later ≡ None → Fresh (seen_after seen st.form).ids leaves) → Fresh seen.ids (leaf_in s st.form ++ leaves)
+  unfolding seen_after
+  fresh_by seen st leaves (Some cause) later e h f = absurd (cc)
+  fresh_by seen st leaves None later e h f = step s seen.ids st.form leaves (new_id kinds seen st.form e) (f h)
+
+  fresh : (seen : Seen) (statements : List Statement) → first_fault kinds seen statements ≡ None → Fresh seen.ids (leaves_in s statements)
+  fresh seen [] h = record { new = λ k d l. absurd (omega (arith, l)); apart = λ i j d l within. absurd (omega (arith, within)) }
+  fresh seen (st ∷ statements) h =
+      fresh_by seen st (leaves_in s statements) (cause_of kinds seen st.form) (first_fault kinds (seen_after seen st.form) statements) refl h
+      (λ e. fresh (seen_after seen st.form) statements e)
+
+-- the names of leaves differ
+pub names_differ : NamesDiffer
+unfolding fault_of leaves_of
+names_differ statements h = (fresh (surroundings_of statements) (kinds_of statements) nothing_seen statements h).apart

@@ -1,0 +1,11 @@
+pub mod Tables
+pub mod Metas
+pub mod Operations
+pub mod Settings
+pub mod Clones
+pub mod Groups
+pub mod Leaves
+pub mod Spans
+pub mod Faults
+pub mod Expansion
+pub mod Laws

@@ -1,0 +1,36 @@
+-- Names in use, and tables from names to what they stand for. A name that a table has already keeps what it stands for.
+use Rattle.std.specs.Prelude.{ℕ, Bool, if◌then◌else◌, List, [], ◌∷◌, ◌++◌, is_some, Option}
+use Rattle.std.specs.List.{list_any}
+use Rattle.std.specs.Map as std_map
+use Rattle.crm_parse.specs.Texts.{is}
+
+-- the name is among some names
+abbrev pub has : List (List ℕ) → List ℕ → Bool
+has names name = list_any (is name) names
+
+-- some names, and one more
+abbrev pub with_name : List (List ℕ) → List ℕ → List (List ℕ)
+with_name names name = if has names name then names else names ++ name ∷ []
+
+-- some names, and some more
+abbrev pub with_names : List (List ℕ) → List (List ℕ) → List (List ℕ)
+with_names names [] = names
+with_names names (name ∷ more) = with_names (with_name names name) more
+
+module _ {V : Type 0} where
+  -- what a name stands for
+  abbrev pub lookup : List (List ℕ × V) → List ℕ → Option V
+  lookup table name = std_map.lookup (is name) table
+
+  -- a table with one more row
+  abbrev pub with_row : List (List ℕ × V) → List ℕ × V → List (List ℕ × V)
+  with_row table row = if is_some (lookup table row.0) then table else table ++ row ∷ []
+
+  -- a table with some more rows
+  abbrev pub with_rows : List (List ℕ × V) → List (List ℕ × V) → List (List ℕ × V)
+  with_rows table [] = table
+  with_rows table (row ∷ more) = with_rows (with_row table row) more
+
+  -- the table of some rows, in which the first row of each name counts
+  abbrev pub table_of : List (List ℕ × V) → List (List ℕ × V)
+  table_of rows = with_rows [] rows
