@@ -1,0 +1,259 @@
+-- What holds of the rules of statements that aren't at fault.
+use Rattle.std.proofs.Common.{arith, ◌≡◌, ◌≢◌, ◌<◌, ◌+◌, ℕ, zero, suc, Bool, true, false, List, [], ◌∷◌, length, take, cond, refl, ap, sym, ◌∙◌, inl, inr, ◌⊎◌, Contains}
+use Rattle.std.specs.Prelude.{Option, Some, None, Ok, Err}
+use Rattle.std.specs.Option.{option_or}
+use Rattle.std.proofs.lemmas.List.{length-map}
+use Rattle.std.proofs.Math.Seq.{take-length}
+use Rattle.cluster_types.specs.declared.leaf.Leaf.{Leaf}
+use Rattle.cluster_types.specs.declared.cluster.Cluster.{Cluster}
+use Rattle.cluster_types.specs.declared.leaf.Op.TheVariants.{Monitor}
+use Rattle.cluster_types.specs.declared.rules.Colocation.{Colocation}
+use Rattle.cluster_types.specs.declared.rules.Order.{Order}
+use Rattle.crm_parse.specs.declared.form.Form.{Form}
+use Rattle.crm_parse.specs.declared.form.Form.TheVariants as form
+use Rattle.crm_parse.specs.declared.statement.Statement.{Statement}
+use Rattle.crm_parse.specs.declared.words.ActionWord.{ActionWord}
+use Rattle.crm_parse.specs.declared.words.ActionWord.TheVariants as action
+use Rattle.clone_expand.specs.declared.leaves.Leaves.{Leaves}
+use Rattle.rule_loops.specs.FirstLoops.{JoinsLeaves, OrdersSteps}
+use Rattle.rule_loops.proofs.Members.{head_or_rest, in_none, of_flat, of_map}
+use Rattle.cluster_model.specs.declared.checks.Checked.{Checked}
+use Rattle.cluster_model.specs.declared.counts.Counts.{Counts}
+use Rattle.cluster_model.specs.declared.directory.Directory.{Directory}
+use Rattle.cluster_model.specs.declared.fault.ModelFault.{ModelFault}
+use Rattle.cluster_model.specs.declared.fault.ModelFault.TheVariants.{At, NoMemory}
+use Rattle.cluster_model.specs.declared.fault.ModelCause.{ModelCause}
+use Rattle.cluster_model.specs.declared.fault.ModelCause.TheVariants.{UnknownName, NotPromotable, UnsupportedOrder}
+use Rattle.cluster_model.specs.Chains.{successive}
+use Rattle.cluster_model.specs.Checks.{cause_of, excess_of, fault_after, first_fault, has_unknown, has_unpromotable, is_unsupported, unless_cause}
+use Rattle.cluster_model.specs.Colocations.{colocation_of, colocations_in, colocations_of, dependent_at, member_colocation, primary_at}
+use Rattle.cluster_model.specs.Counting.{counted_with, nothing_counted}
+use Rattle.cluster_model.specs.Directories.{directory_of, groups_of, is_unknown, traits_of}
+use Rattle.cluster_model.specs.Locations.{role_of_word}
+use Rattle.cluster_model.specs.Orders.{first_point, kind_of_word, member_order, op_of, orders_in, orders_of, step_order, then_point}
+use Rattle.cluster_model.specs.Resolution.{FirstLoop, Resolves, ResolvesTo, cluster_of, sound_part, unless_fault}
+use Rattle.cluster_model.proofs.Known.{first-there, last-there, later, pairs-none, sooner}
+
+-- a statement without these faults
+pub record IsSound (d : Directory) (form : Form) : Type 0 where
+  pub known : has_unknown d form ≡ false
+  pub promotable : has_unpromotable d form ≡ false
+  pub supported : is_unsupported form ≡ false
+
+pub none-sound : (d : Directory) (counts : Counts) (f : Form) → cause_of d counts f ≡ None → IsSound d f
+unfolding cause_of
+none-sound d counts f h = on (has_unknown d f) (has_unpromotable d f) (is_unsupported f) refl refl refl h where
+  on : (a b c : Bool) → has_unknown d f ≡ a → has_unpromotable d f ≡ b → is_unsupported f ≡ c
+      → cond a (Some UnknownName) (cond b (Some NotPromotable) (cond c (Some UnsupportedOrder) (excess_of counts))) ≡ None → IsSound d f
+  on true b c e f g h = cc
+  on false true c e f g h = cc
+  on false false true e f g h = cc
+  on false false false e f g h = record { known = e; promotable = f; supported = g }
+
+-- the statements before the first that is at fault are sound
+pub all-sound : (d : Directory) (n : ℕ) (counts : Counts) (statements : List Statement) (k : ℕ) → n + k ≡ (fault_after d n counts statements).sound
+    → (s : Statement) → Contains (take k statements) s → IsSound d s.form
+all-sound d n counts [] zero e s h = absurd (in_none [] s refl h)
+all-sound d n counts [] (suc k) e s h = absurd (in_none [] s refl h)
+all-sound d n counts (x ∷ statements) zero e s h = absurd (in_none [] s refl h)
+all-sound d n counts (x ∷ statements) (suc k) e s h =
+    on (cause_of d counted x.form) refl e (head_or_rest x (take k statements) s h) (λ f. all-sound d (n + 1) counted statements k f s) where
+      counted : Counts
+      counted = counted_with counts x.form
+
+      on : (cause : Option ModelCause) → cause_of d counted x.form ≡ cause
+          → n + suc k ≡ (unless_cause cause n x.line (fault_after d (n + 1) counted statements)).sound → (x ≡ s) ⊎ Contains (take k statements) s
+          → (n + 1 + k ≡ (fault_after d (n + 1) counted statements).sound → Contains (take k statements) s → IsSound d s.form) → IsSound d s.form
+      on (Some cause) c e h next = absurd (let f : ⊥ = omega arith in f)
+      on None c e (inl same) next = rw same at (none-sound d counted x.form c)
+      on None c e (inr r) next = next (omega arith) r
+
+record Joins (d : Directory) (col : Colocation) : Type 0 where
+  pub dependent : col.dependent < length d.leaves
+  pub primary : col.primary < length d.leaves
+
+joins-same : (d : Directory) (one other : Colocation) → one ≡ other → Joins d one → Joins d other
+joins-same d one other e j = rw e at j
+
+colocations-join : (d : Directory) (f : Form) → has_unknown d f ≡ false → (col : Colocation) → Contains (colocations_in d f) col → Joins d col
+colocations-join d (form.Node id name attributes utilization) h col k = absurd (in_none [] col refl k)
+colocations-join d (form.Primitive id agent description params meta utilization operations ops) h col k = absurd (in_none [] col refl k)
+colocations-join d (form.Group id members description params meta) h col k =
+    let m = of_map (member_colocation d id) (successive members) col k in
+    let t = pairs-none (is_unknown d) members h m.source m.among in
+    joins-same d (member_colocation d id m.source) col m.gives
+    (record { dependent = first-there d m.source.1 t.after; primary = last-there d m.source.0 t.before })
+colocations-join d (form.Cloned id child ms description params meta) h col k = absurd (in_none [] col refl k)
+colocations-join d (form.Location id resource role discovery score node) h col k = absurd (in_none [] col refl k)
+colocations-join d (form.RuledLocation id resource role discovery rules) h col k = absurd (in_none [] col refl k)
+colocations-join d (form.Colocation id score dependent primary) h col k =
+    on (head_or_rest (colocation_of id score (dependent_at d dependent.resource (role_of_word dependent.role))
+    (primary_at d primary.resource (role_of_word primary.role))) [] col k) where
+      on : (colocation_of id score (dependent_at d dependent.resource (role_of_word dependent.role))
+          (primary_at d primary.resource (role_of_word primary.role)) ≡ col) ⊎ Contains [] col → Joins d col
+      on (inl same) =
+          joins-same d _ col same (record {
+            dependent = first-there d dependent.resource (sooner (is_unknown d dependent.resource) (is_unknown d primary.resource) h);
+            primary = last-there d primary.resource (later (is_unknown d dependent.resource) (is_unknown d primary.resource) h);
+          })
+      on (inr r) = absurd (in_none [] col refl r)
+colocations-join d (form.Order id kind steps symmetrical) h col k = absurd (in_none [] col refl k)
+colocations-join d (form.Settings what set pairs) h col k = absurd (in_none [] col refl k)
+colocations-join d (form.Kept words) h col k = absurd (in_none [] col refl k)
+
+record Steps (d : Directory) (o : Order) : Type 0 where
+  pub first : o.first < length d.leaves
+  pub later : o.then_leaf < length d.leaves
+  pub first_word : o.first_op ≢ Monitor
+  pub later_word : o.then_op ≢ Monitor
+
+steps-same : (d : Directory) (one other : Order) → one ≡ other → Steps d one → Steps d other
+steps-same d one other e j = rw e at j
+
+no-monitor : (a : ActionWord) → op_of a ≢ Monitor
+no-monitor action.Start h = cc
+no-monitor action.Stop h = cc
+no-monitor action.Promote h = cc
+no-monitor action.Demote h = cc
+
+pub first-point-there : (d : Directory) (name : List ℕ) (a : ActionWord) → is_unknown d name ≡ false → (first_point d name a).leaf < length d.leaves
+first-point-there d name action.Start h = last-there d name h
+first-point-there d name action.Stop h = first-there d name h
+first-point-there d name action.Promote h = last-there d name h
+first-point-there d name action.Demote h = first-there d name h
+
+pub then-point-there : (d : Directory) (name : List ℕ) (a : ActionWord) → is_unknown d name ≡ false → (then_point d name a).leaf < length d.leaves
+then-point-there d name action.Start h = first-there d name h
+then-point-there d name action.Stop h = last-there d name h
+then-point-there d name action.Promote h = first-there d name h
+then-point-there d name action.Demote h = last-there d name h
+
+orders-step : (d : Directory) (f : Form) → has_unknown d f ≡ false → (o : Order) → Contains (orders_in d f) o → Steps d o
+orders-step d (form.Node id name attributes utilization) h o k = absurd (in_none [] o refl k)
+orders-step d (form.Primitive id agent description params meta utilization operations ops) h o k = absurd (in_none [] o refl k)
+orders-step d (form.Group id members description params meta) h o k =
+    let m = of_map (member_order d id) (successive members) o k in
+    let t = pairs-none (is_unknown d) members h m.source m.among in
+    steps-same d (member_order d id m.source) o m.gives (record {
+      first = first-point-there d m.source.0 action.Start t.before;
+      later = then-point-there d m.source.1 action.Start t.after;
+      first_word = no-monitor action.Start;
+      later_word = no-monitor action.Start;
+    })
+orders-step d (form.Cloned id child ms description params meta) h o k = absurd (in_none [] o refl k)
+orders-step d (form.Location id resource role discovery score node) h o k = absurd (in_none [] o refl k)
+orders-step d (form.RuledLocation id resource role discovery rules) h o k = absurd (in_none [] o refl k)
+orders-step d (form.Colocation id score dependent primary) h o k = absurd (in_none [] o refl k)
+orders-step d (form.Order id kind steps symmetrical) h o k =
+    let m = of_map (step_order d id (kind_of_word kind) symmetrical) (successive steps) o k in
+    let t = pairs-none (λ step. is_unknown d step.resource) steps h m.source m.among in
+    steps-same d (step_order d id (kind_of_word kind) symmetrical m.source) o m.gives (record {
+      first = first-point-there d m.source.0.resource m.source.0.action t.before;
+      later = then-point-there d m.source.1.resource m.source.1.action t.after;
+      first_word = no-monitor m.source.0.action;
+      later_word = no-monitor m.source.1.action;
+    })
+orders-step d (form.Settings what set pairs) h o k = absurd (in_none [] o refl k)
+orders-step d (form.Kept words) h o k = absurd (in_none [] o refl k)
+
+pub as-many : (d : Directory) (leaves : Leaves) (statements : List Statement) → d ≡ directory_of leaves statements → length d.leaves ≡ length leaves.leaves
+unfolding directory_of
+as-many d leaves statements e =
+    ap (λ (d : Directory). length d.leaves) e ∙ length-map leaves.leaves (traits_of (groups_of statements))
+
+from-none : (k n : ℕ) → k ≡ n → 0 + k ≡ n
+from-none k n e = omega arith
+
+all-join : (d : Directory) (statements : List Statement) (k : ℕ) → k ≡ (first_fault d statements).sound → (col : Colocation)
+    → Contains (colocations_of d (take k statements)) col → Joins d col
+all-join d statements k e col h =
+    let m = of_flat (λ s. colocations_in d s.form) (take k statements) col h in
+    let t = all-sound d 0 nothing_counted statements k (from-none k (first_fault d statements).sound e) m.source m.among in
+    colocations-join d m.source.form t.known col m.gives
+
+all-step : (d : Directory) (statements : List Statement) (k : ℕ) → k ≡ (first_fault d statements).sound → (o : Order)
+    → Contains (orders_of d (take k statements)) o → Steps d o
+all-step d statements k e o h =
+    let m = of_flat (λ s. orders_in d s.form) (take k statements) o h in
+    let t = all-sound d 0 nothing_counted statements k (from-none k (first_fault d statements).sound e) m.source m.among in
+    orders-step d m.source.form t.known o m.gives
+
+second-none : (one other : Option ModelFault) → option_or one other ≡ None → other ≡ None
+second-none None other h = h
+second-none (Some fault) other h = cc
+
+module _ (leaves : Leaves) (all : List Leaf) (statements part : List Statement) (d : Directory) (found : Checked) (c : Cluster)
+    (is_all : all ≡ leaves.leaves) (is_directory : d ≡ directory_of leaves statements) (is_found : found ≡ first_fault d statements)
+    (is_part : part ≡ take found.sound statements) (is_cluster : c ≡ cluster_of d all part) where
+  has_leaves : c.leaves ≡ leaves.leaves
+  unfolding cluster_of
+  has_leaves = ap (λ (c : Cluster). c.leaves) is_cluster ∙ is_all
+
+  has_colocations : c.colocations ≡ colocations_of d (take found.sound statements)
+  unfolding cluster_of
+  has_colocations = ap (λ (c : Cluster). c.colocations) is_cluster ∙ ap (colocations_of d) is_part
+
+  has_orders : c.orders ≡ orders_of d (take found.sound statements)
+  unfolding cluster_of
+  has_orders = ap (λ (c : Cluster). c.orders) is_cluster ∙ ap (orders_of d) is_part
+
+  as-many-leaves : length d.leaves ≡ length c.leaves
+  as-many-leaves = as-many d leaves statements is_directory ∙ ap length (sym has_leaves)
+
+  sound-found : found.sound ≡ (first_fault d statements).sound
+  sound-found = ap (λ (found : Checked). found.sound) is_found
+
+  pub joined : (col : Colocation) → Contains c.colocations col → JoinsLeaves c col
+  joined col h =
+      let many = as-many-leaves in
+      let j = all-join d statements found.sound sound-found col (rw has_colocations at h) in
+      record { dependent = rw many at j.dependent; primary = rw many at j.primary }
+
+  pub ordered : (o : Order) → Contains c.orders o → OrdersSteps c o
+  ordered o h =
+      let many = as-many-leaves in
+      let j = all-step d statements found.sound sound-found o (rw has_orders at h) in
+      record { first = rw many at j.first; later = rw many at j.later; first_word = j.first_word; later_word = j.later_word }
+
+  sound_cluster : c ≡ cluster_of d leaves.leaves (sound_part d statements)
+  sound_cluster =
+      is_cluster ∙ ap (λ all. cluster_of d all part) is_all
+      ∙ ap (cluster_of d leaves.leaves) (is_part ∙ ap (λ k. take k statements) sound-found)
+
+  part-sound : part ≡ sound_part d statements
+  part-sound = is_part ∙ ap (λ k. take k statements) sound-found
+
+  found-fault : (loop : Option ModelFault) → option_or loop (first_fault d statements).fault ≡ option_or loop found.fault
+  found-fault loop = sym (ap (λ (found : Checked). option_or loop found.fault) is_found)
+
+  -- where there is neither a loop nor another fault, the cluster is that of all statements
+  pub resolves : (loop : Option ModelFault) → FirstLoop c part loop → option_or loop found.fault ≡ None
+      → (found.fault ≡ None → found.sound ≡ length statements) → ResolvesTo leaves statements (Ok c)
+  resolves loop first none whole =
+      let all_of : part ≡ statements = is_part ∙ ap (λ k. take k statements) (whole (second-none loop found.fault none)) ∙ take-length statements in
+      let whole_cluster : c ≡ cluster_of d leaves.leaves statements
+      = is_cluster ∙ ap (λ all. cluster_of d all part) is_all ∙ ap (cluster_of d leaves.leaves) all_of in
+      let resolved : Ok c ≡ unless_fault (option_or loop (first_fault d statements).fault) (cluster_of d leaves.leaves statements)
+      = ap Ok whole_cluster ∙ sym (ap (λ fault. unless_fault fault (cluster_of d leaves.leaves statements)) (found-fault loop ∙ none)) in
+      record {
+        loop = loop;
+        first = rw is_directory at (rw sound_cluster at (rw part-sound at first));
+        resolved = rw is_directory at resolved;
+      }
+
+  -- a loop, and else the other fault, stands in place of a cluster
+  pub refuses : (loop : Option ModelFault) (fault : ModelFault) → FirstLoop c part loop → option_or loop found.fault ≡ Some fault
+      → ResolvesTo leaves statements (Err fault)
+  refuses loop fault first some =
+      let resolved : Err fault ≡ unless_fault (option_or loop (first_fault d statements).fault) (cluster_of d leaves.leaves statements)
+      = sym (ap (λ fault. unless_fault fault (cluster_of d leaves.leaves statements)) (found-fault loop ∙ some)) in
+      record {
+        loop = loop;
+        first = rw is_directory at (rw sound_cluster at (rw part-sound at first));
+        resolved = rw is_directory at resolved;
+      }
+
+pub is-answer : (leaves : Leaves) (statements : List Statement) (fault : ModelFault) → ResolvesTo leaves statements (Err fault)
+    → Resolves leaves statements (Err fault)
+is-answer leaves statements (At line cause) r = r
+is-answer leaves statements NoMemory r = tt

@@ -1,0 +1,10 @@
+pub mod Chains
+pub mod Directories
+pub mod Nodes
+pub mod Options
+pub mod Locations
+pub mod Colocations
+pub mod Orders
+pub mod Counting
+pub mod Checks
+pub mod Resolution

@@ -1,0 +1,102 @@
+//! The options of a cluster.
+
+ghost use Rattle.std.specs.Prelude.{◌≡◌, None, unwrap_or, codes};
+ghost use Rattle.std.specs.Option.{option_and_then, option_copied};
+ghost use Rattle.crm_parse.specs.Texts.{is};
+ghost use Rattle.crm_parse.specs.Values.{count_of};
+ghost use Rattle.clone_expand.specs.Settings.{properties_in};
+ghost use Rattle.cluster_types.specs.declared.cluster.Policy.TheVariants.{Stop};
+ghost use Rattle.cluster_model.specs.Options.{flag_of, policy_of, properties_of, setting_of};
+
+use clone_expand::value_of;
+use cluster_types::{Policy, Properties};
+use crm_parse::{Form, Kv, SettingsWord, Statement, bool_of, count_of};
+
+fn properties_in(form: &Form) -> &[Kv]
+    ensures { result.now ≡ properties_in form.now }
+{
+    match form {
+        Form::Settings {
+            what: SettingsWord::Property,
+            pairs,
+            ..
+        } => pairs.as_slice(),
+        _ => &[],
+    }
+}
+
+/// What an option is set to, by the first statement that sets it.
+fn setting_of<'a>(key: &[u8], statements: &'a [Statement]) -> Option<&'a [u8]>
+    ensures { option_copied result ≡ setting_of key.now statements.now }
+{
+    let mut found = None;
+    for statement in statements {
+        found = found.or(value_of(key, properties_in(&statement.form)));
+    }
+    found
+}
+
+/// An option that is yes or no.
+fn flag_of(key: &[u8], default: bool, statements: &[Statement]) -> bool
+    ensures { result ≡ flag_of key.now default statements.now }
+{
+    match setting_of(key, statements) {
+        Some(value) => bool_of(value).unwrap_or(default),
+        None => default,
+    }
+}
+
+/// Whether the word is this text, byte by byte.
+fn is(word: &[u8], text: &[u8]) -> bool
+    ensures { result ≡ is word.now text.now }
+{
+    word == text
+}
+
+#[tactic(auto, unfolding(crate::specs::Options::policy_of))]
+fn policy_of(word: &[u8]) -> Option<Policy>
+    ensures { result ≡ policy_of word.now }
+{
+    if is(word, b"stop") {
+        Some(Policy::Stop)
+    } else if is(word, b"ignore") {
+        Some(Policy::Ignore)
+    } else if is(word, b"freeze") {
+        Some(Policy::Freeze)
+    } else {
+        None
+    }
+}
+
+fn policy_in(statements: &[Statement]) -> Policy
+    ensures { result ≡ unwrap_or (option_and_then policy_of (setting_of (codes "no-quorum-policy") statements.now)) Stop }
+{
+    match setting_of(b"no-quorum-policy", statements) {
+        Some(value) => policy_of(value).unwrap_or(Policy::Stop),
+        None => Policy::Stop,
+    }
+}
+
+fn batch_limit_in(statements: &[Statement]) -> u32
+    ensures { result ≡ unwrap_or (option_and_then count_of (setting_of (codes "batch-limit") statements.now)) 0 }
+{
+    match setting_of(b"batch-limit", statements) {
+        Some(value) => count_of(value).unwrap_or(0),
+        None => 0,
+    }
+}
+
+#[tactic(auto, unfolding(crate::specs::Options::properties_of))]
+pub fn properties_of(statements: &[Statement]) -> Properties
+    ensures { result ≡ properties_of statements.now }
+{
+    Properties {
+        symmetric: flag_of(b"symmetric-cluster", true, statements),
+        fencing: flag_of(b"stonith-enabled", true, statements),
+        startup_fencing: flag_of(b"startup-fencing", true, statements),
+        policy: policy_in(statements),
+        start_fatal: flag_of(b"start-failure-is-fatal", true, statements),
+        stop_all: flag_of(b"stop-all-resources", false, statements),
+        batch_limit: batch_limit_in(statements),
+    }
+}
