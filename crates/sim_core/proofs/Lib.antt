@@ -15,6 +15,13 @@ pub mod Progress
 pub mod Measure
 pub mod OneTransition
 pub mod PredecessorsFirst
+-- A whole input.
+pub mod FewLines
+pub mod Marks
+pub mod Readings
+pub mod OneReading
+pub mod Faults
 -- The top call.
-pub mod ReplayLemmas
+pub mod AnswerLemmas
+pub mod Accepting
 pub mod OneText

@@ -6,5 +6,8 @@ pub mod Transition
 pub mod Text
 pub mod Run
 pub mod Status
+pub mod Causes
+pub mod Reading
+pub mod Check
 pub mod Words
 pub mod Answers

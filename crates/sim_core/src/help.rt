@@ -8,6 +8,9 @@ and replays how its actions ended.
 
 Usage: cekpayo WORD < INPUT > OUTPUT
 
+  check      reads a configuration in crmsh syntax with its status and results,
+             and writes it in canonical form, with a last line
+             `# nodes N leaves N rules N`
   replay     reads a configuration in crmsh syntax and its status, and writes
              the run: targets, actions that begin and end, transitions. Only a
              first form of input is carried out so far: the lines `node NAME`
@@ -18,7 +21,6 @@ Usage: cekpayo WORD < INPUT > OUTPUT
 
 Not built yet (status 2):
 
-  check      reads as replay does, and writes the canonical configuration
   scores     reads as replay does, and writes scores and targets
   graph      reads as replay does, and writes the actions and what precedes each
   gen N      reads nothing, and writes a summary of the generated case N

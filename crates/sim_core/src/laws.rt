@@ -1,14 +1,27 @@
 //! Laws of the definitions. Each is a function that does nothing, and whose contract is the law.
 
-ghost use Rattle.std.specs.Prelude.{◌≡◌, ℕ, List};
+ghost use Rattle.std.specs.Prelude.{◌≡◌, ◌⊎◌, ℕ, List};
+ghost use Rattle.sim_core.specs.Reading.{Fault, IsFaulty, IsReadable, Reads};
 ghost use Rattle.sim_core.specs.Run.{IsRunText};
 ghost use Rattle.sim_core.specs.Transition.{IsTransition, PredecessorsFirst};
+ghost use Rattle.sim_core.specs.declared.cause.InputCause.{InputCause as CauseOf};
+ghost use Rattle.sim_core.specs.declared.reading.Input.{Input as InputOf};
 ghost use Rattle.sim_core.specs.declared.plan.Action.{Action as ActionOf};
 ghost use Rattle.sim_core.specs.declared.transition.Event.{Event as EventOf};
 
 /// An input has one run, and so one text of it.
 pub fn one_text()
     ensures { (input one other : List ℕ) → IsRunText input one → IsRunText input other → one ≡ other }
+{}
+
+/// A text is read as one input, or it has one fault, and never both.
+#[tactic(auto, using(crate::proofs::Faults::read_or_faulty, crate::proofs::OneReading::one_input, crate::proofs::OneReading::one_fault, crate::proofs::OneReading::not_both))]
+pub fn one_reading()
+    ensures either { (text : List ℕ) → IsReadable text ⊎ IsFaulty text }
+    ensures not_both { (text : List ℕ) → IsReadable text → ¬ IsFaulty text }
+    ensures one_input { (text : List ℕ) (one other : InputOf) → Reads text one → Reads text other → one ≡ other }
+    ensures one_fault { (text : List ℕ) (line other : ℕ) (why cause : CauseOf) → Fault text line why → Fault text other cause
+        → (line ≡ other) × (why ≡ cause) }
 {}
 
 /// In every transition an action begins only after each that must precede it has succeeded.

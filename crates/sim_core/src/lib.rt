@@ -1,16 +1,22 @@
 //! The words of the command line, and the top call that carries them out.
 //!
-//! Between reading and writing stand the modules of the first form of input: a cluster of one resource. They are private, and the layers
-//! below will take their place.
+//! `check` reads a whole configuration. `replay` takes a first form of input, a cluster of one resource, whose modules stand between reading and
+//! writing. They are private, and the layers below will take their place.
 #![tactic(auto)]
 
 // The top call.
+mod check;
 mod help;
 mod laws;
 mod replay;
 mod status;
 mod top;
 mod words;
+
+// What is read of a whole input, and its faults.
+mod cause;
+mod fault;
+mod reading;
 
 // The first form of input, from its text to the text of its run.
 mod cluster;
@@ -25,7 +31,10 @@ mod tests;
 mod text;
 mod transition;
 
+pub use cause::InputCause;
+pub use fault::InputFault;
 pub use help::{HELP, VERSION};
-pub use laws::{one_text, predecessors_first};
+pub use laws::{one_reading, one_text, predecessors_first};
+pub use reading::{Input, read_input};
 pub use status::Status;
 pub use top::run;

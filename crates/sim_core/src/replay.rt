@@ -9,13 +9,12 @@ use crate::form::read_cluster;
 use crate::memory::NoMemory;
 use crate::place::target;
 use crate::plan::plan_actions;
+use crate::reading::MOST_BYTES;
 use crate::status::Status;
 use crate::text::print_run;
 use crate::transition::run_transition;
 use cluster_io::{ReadEnd, Sink, Source, read_all, write_text};
 use std::alloc::Global;
-
-const MOST_BYTES: usize = 16_777_216;
 
 const REFUSAL: &[u8] = b"refused 1 NotYet\n";
 

@@ -1,3 +1,5 @@
+mod check;
+
 use crate::{HELP, Status, VERSION, run};
 use cluster_io::{MemorySink, MemorySource};
 use std::alloc::{AllocError, Global};
@@ -157,7 +159,8 @@ fn words_that_are_no_form(rt: HostRuntime) -> Result<(), Fail> {
     let alloc = rt.alloc();
     assert!(rt; are_no_form(alloc, &["replay", "x"])?);
     assert!(rt; are_no_form(alloc, &[])?);
-    assert!(rt; are_no_form(alloc, &["check"])?);
+    assert!(rt; are_no_form(alloc, &["check", "replay"])?);
+    assert!(rt; are_no_form(alloc, &["scores"])?);
     assert!(rt; are_no_form(alloc, &["Replay"])?);
     assert!(rt; are_no_form(alloc, &["--help", "--version"])?);
     Ok(())

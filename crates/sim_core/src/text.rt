@@ -17,7 +17,8 @@ fn name_of(cluster: &Cluster, node: NodeId) -> &[u8]
     }
 }
 
-fn push_number(text: &mut Vec<u8>, number: u32) -> Result<(), NoMemory>
+/// Writes a number in decimal, without leading zeros.
+pub fn push_number(text: &mut Vec<u8>, number: u32) -> Result<(), NoMemory>
     ensures { OnOk result (text.new.items ≡ text.old.items ++ decimal number) }
 {
     let mut buffer = Buffer::new();

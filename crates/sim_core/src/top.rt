@@ -1,10 +1,11 @@
 ghost use Rattle.std.specs.Prelude.{◌≡◌, ◌≢◌, ◌↔◌, ◌+◌, ◌≤◌, Some, None, IfSome, map};
 ghost use Rattle.std.specs.String.{string_bytes};
 ghost use Rattle.cluster_io.specs.Streams.{Rose, TakesCount};
-ghost use Rattle.sim_core.specs.Answers.{IsAccepted, IsDoneUnlessMemory, IsGiven, IsSilent, Replays, Tells, most_bytes};
+ghost use Rattle.sim_core.specs.Answers.{Checks, IsAccepted, IsDoneUnlessMemory, IsGiven, IsRead, IsSilent, Replays, Tells, most_bytes};
 ghost use Rattle.sim_core.specs.Words.{command_of};
-ghost use Rattle.sim_core.specs.declared.words.Command.TheVariants.{Help, Replay, Version};
+ghost use Rattle.sim_core.specs.declared.words.Command.TheVariants.{Check, Help, Replay, Version};
 
+use crate::check::check;
 use crate::help::{HELP, VERSION};
 use crate::replay::replay;
 use crate::status::Status;
@@ -37,12 +38,23 @@ pub fn run<S: Source, W: Sink>(alloc: Global, words: &[String], src: &mut S, out
         → ¬ Rose (W.faults out.old) (W.faults out.new)
         → IsDoneUnlessMemory result) }
 
+    // The word `check`, and an input that the source tells.
+    ensures checks { command_of (map string_bytes words.now) ≡ Some Check
+        → IfSome (S.left src.old)
+        (λ input. Checks input (S.left src.new) (W.written out.old) (W.written out.new) result) }
+    ensures checks_complete { command_of (map string_bytes words.now) ≡ Some Check
+        → IfSome (S.left src.old) (λ input. IsRead input
+        → ¬ Rose (S.faults src.old) (S.faults src.new)
+        → ¬ Rose (W.faults out.old) (W.faults out.new)
+        → IsDoneUnlessMemory result) }
+
     // The words that read nothing.
     ensures helps { command_of (map string_bytes words.now) ≡ Some Help
         → Tells HELP.now (W.written out.old) (W.written out.new) result }
     ensures versions { command_of (map string_bytes words.now) ≡ Some Version
         → Tells VERSION.now (W.written out.old) (W.written out.new) result }
-    ensures reads_nothing { command_of (map string_bytes words.now) ≢ Some Replay
+    ensures reads_nothing { command_of (map string_bytes words.now) ≢ Some Check
+        → command_of (map string_bytes words.now) ≢ Some Replay
         → S.left src.new ≡ S.left src.old }
 
     // Words that are none of the forms.
@@ -62,6 +74,7 @@ pub fn run<S: Source, W: Sink>(alloc: Global, words: &[String], src: &mut S, out
     ensures given { IsGiven result }
 {
     match command_of(words) {
+        Some(Command::Check) => check(alloc, src, out),
         Some(Command::Replay) => replay(alloc, src, out),
         Some(Command::Help) => tell(out, HELP),
         Some(Command::Version) => tell(out, VERSION),

@@ -5,6 +5,7 @@ ghost use Rattle.sim_core.specs.Words.{command_of, word_command};
 /// What the words after the program's name ask for.
 #[derive(Clone, Copy, Debug, PartialEq, Eq)]
 pub enum Command {
+    Check,
     Replay,
     Help,
     Version,
@@ -14,6 +15,7 @@ fn one_word(word: &str) -> Option<Command>
     ensures { result ≡ word_command word.now }
 {
     match word {
+        "check" => Some(Command::Check),
         "replay" => Some(Command::Replay),
         "--help" => Some(Command::Help),
         "--version" => Some(Command::Version),

@@ -1,0 +1,182 @@
+//! What is read of a whole input, step by step.
+
+ghost use Rattle.std.specs.Prelude.{◌≡◌, ◌+◌, ◌<◌, ◌≤◌, ◌^◌, IfOk, Ok, length, slice_range};
+ghost use Rattle.clone_expand.specs.Expansion.{expansion_of};
+ghost use Rattle.cluster_types.specs.Journals.{moment_of};
+ghost use Rattle.cluster_types.specs.Valid.{KeepsLimits};
+ghost use Rattle.cluster_model.specs.Resolution.{Resolves};
+ghost use Rattle.crm_lex.specs.Reading.{reads};
+ghost use Rattle.crm_parse.specs.Marks.{sections_of};
+ghost use Rattle.crm_parse.specs.Statements.{statements_of};
+ghost use Rattle.op_history.specs.FirstJournal.{status_of};
+ghost use Rattle.op_history.specs.Results.{results_of};
+ghost use Rattle.sim_core.specs.Answers.{most_bytes};
+ghost use Rattle.sim_core.specs.Reading.{Gives, IsReading, configuration_of, expand_fault, faulting, lex_fault, parse_fault, result_fault, status_fault, with_cluster};
+
+use crate::fault::InputFault;
+use clone_expand::{Leaves, expand};
+use cluster_model::{ModelFault, resolve};
+use cluster_types::{Cluster, Journal};
+use crm_lex::{Line, logical_lines};
+use crm_parse::{Crm, SectionMarks, parse, sections};
+use listed::Listed;
+use op_history::{ResultLine, read_results, read_status};
+use std::alloc::Global;
+
+/// The most bytes that an input may have: 16 MiB.
+pub(crate) const MOST_BYTES: usize = 16_777_216;
+
+/// What an input says: its configuration, as it was written and as a cluster, its status and its results.
+#[derive(Drop)]
+pub struct Input {
+    pub crm: Crm,
+    pub cluster: Cluster,
+    /// The first journal, which the status tells.
+    pub journal: Journal,
+    /// The answers of the result lines, in their order.
+    pub results: Listed<ResultLine>,
+}
+
+/// What is read before names are resolved.
+#[derive(Drop)]
+pub(crate) struct Configuration {
+    pub lines: Listed<Line>,
+    pub marks: SectionMarks,
+    pub crm: Crm,
+    pub leaves: Leaves,
+}
+
+#[tactic(auto, using(crate::proofs::FewLines::few_rows_read))]
+fn lines_of(alloc: Global, text: &[u8]) -> Result<Vec<Line>, InputFault>
+    requires { length text.now ≤ most_bytes }
+    ensures lines { Gives (λ lines. lines.items) result (faulting lex_fault (reads text.now)) }
+    ensures few { IfOk result (λ lines. length lines.items < 2 ^ 32) }
+{
+    Ok(logical_lines(alloc, text)?)
+}
+
+#[tactic(auto, using(crate::proofs::Marks::in_order))]
+fn sections_in(lines: &[Line]) -> Result<SectionMarks, InputFault>
+    requires { length lines.now < 2 ^ 32 }
+    ensures marks { Gives (λ marks. marks) result (faulting parse_fault (sections_of lines.now)) }
+    ensures status { IfOk result (λ marks. marks.status_at ≤ marks.results_at) }
+    ensures results { IfOk result (λ marks. marks.results_at ≤ marks.end) }
+    ensures end { IfOk result (λ marks. marks.end ≡ length lines.now) }
+{
+    Ok(sections(lines)?)
+}
+
+/// The lines after the section line at this position, up to the next section.
+fn lines_after(lines: &[Line], mark: u32, until: u32) -> &[Line]
+    requires { until ≤ length lines.now }
+    ensures { result.now ≡ slice_range lines.now (mark + 1) until }
+{
+    if mark < until {
+        return &lines[mark as usize + 1..until as usize];
+    }
+    &[]
+}
+
+fn statements_in(alloc: Global, lines: &[Line]) -> Result<Crm, InputFault>
+    ensures { Gives (λ crm. crm) result (faulting parse_fault (statements_of lines.now)) }
+{
+    Ok(parse(alloc, lines)?)
+}
+
+fn leaves_in(alloc: Global, crm: &Crm) -> Result<Leaves, InputFault>
+    ensures given { Gives (λ leaves. leaves) result (faulting expand_fault (expansion_of crm.now.statements)) }
+    ensures leaves { IfOk result (λ leaves. expansion_of crm.now.statements ≡ Ok leaves) }
+{
+    Ok(expand(alloc, crm)?)
+}
+
+/// The sections of some lines, in their order.
+#[tactic(auto, unfolding(crate::specs::Reading::configuration_of))]
+fn configuration_of(alloc: Global, text: &[u8]) -> Result<Configuration, InputFault>
+    requires { length text.now ≤ most_bytes }
+    ensures given { Gives (λ found. found) result (configuration_of text.now) }
+    ensures leaves { IfOk result (λ found. expansion_of found.crm.statements ≡ Ok found.leaves) }
+    ensures results { IfOk result (λ found. found.marks.results_at ≤ length found.lines) }
+    ensures end { IfOk result (λ found. found.marks.end ≤ length found.lines) }
+{
+    let lines = lines_of(alloc, text)?;
+    let marks = sections_in(&lines)?;
+    let crm = statements_in(alloc, &lines[..marks.status_at as usize])?;
+    let leaves = leaves_in(alloc, &crm)?;
+    Ok(Configuration {
+        lines: Listed::from(lines),
+        marks,
+        crm,
+        leaves,
+    })
+}
+
+fn status_in(alloc: Global, cluster: &Cluster, lines: &[Line]) -> Result<Journal, InputFault>
+    requires { KeepsLimits cluster.now }
+    ensures journal { Gives (λ journal. journal) result (faulting status_fault (status_of cluster.now lines.now)) }
+    ensures moment { IfOk result (λ journal. moment_of journal.events < 2 ^ 40) }
+{
+    Ok(read_status(alloc, cluster, lines)?)
+}
+
+fn results_in(
+    alloc: Global,
+    cluster: &Cluster,
+    journal: &Journal,
+    lines: &[Line],
+) -> Result<Listed<ResultLine>, InputFault>
+    requires limits { KeepsLimits cluster.now }
+    requires moment { moment_of journal.now.events < 2 ^ 40 }
+    ensures { Gives (λ results. results) result (faulting result_fault (results_of cluster.now (moment_of journal.now.events) lines.now)) }
+{
+    Ok(Listed::from(read_results(alloc, cluster, journal, lines)?))
+}
+
+/// Reads the other sections, where the configuration says this cluster.
+#[tactic(auto, unfolding(crate::specs::Reading::with_cluster))]
+fn with_cluster(alloc: Global, found: Configuration, cluster: Cluster) -> Result<Input, InputFault>
+    requires limits { KeepsLimits cluster }
+    requires results { found.marks.results_at ≤ length found.lines }
+    requires end { found.marks.end ≤ length found.lines }
+    ensures given { Gives (λ input. input) result (with_cluster found cluster) }
+    ensures limits { IfOk result (λ input. KeepsLimits input.cluster) }
+{
+    let lines = found.lines.as_slice();
+    let status = lines_after(lines, found.marks.status_at, found.marks.results_at);
+    let journal = status_in(alloc, &cluster, status)?;
+    let answers = lines_after(lines, found.marks.results_at, found.marks.end);
+    let results = results_in(alloc, &cluster, &journal, answers)?;
+    Ok(Input {
+        crm: found.crm,
+        cluster,
+        journal,
+        results,
+    })
+}
+
+/// The cluster that a configuration says.
+#[tactic(auto, using(cluster_model::proofs::Limits::limits_kept))]
+fn cluster_in(alloc: Global, found: &Configuration) -> Result<Cluster, ModelFault>
+    requires { expansion_of found.now.crm.statements ≡ Ok found.now.leaves }
+    ensures resolved { Resolves found.now.leaves found.now.crm.statements result }
+    ensures limits { IfOk result (λ cluster. KeepsLimits cluster) }
+{
+    resolve(alloc, &found.crm, &found.leaves)
+}
+
+/// Reads a whole input of at most 16,777,216 bytes (crmsh manual, `configure`; the status, the results and the order of the steps
+/// are rules of this project).
+///
+/// The steps are the words of all lines, the sections, the statements of the configuration, its leaves, its cluster, the lines of the
+/// status and the result lines. A fault is that of the first step that fails, at the lowest line that is at fault in it, with the cause
+/// that the reader of that step gives. `NoMemory` comes where memory is refused.
+#[tactic(auto, using(crate::proofs::Readings::stops, crate::proofs::Readings::says_no_cluster, crate::proofs::Readings::stops_later, crate::proofs::Readings::is_read))]
+pub fn read_input(alloc: Global, text: &[u8]) -> Result<Input, InputFault>
+    requires { length text.now ≤ most_bytes }
+    ensures read { IsReading text.now result }
+    ensures limits { IfOk result (λ input. KeepsLimits input.cluster) }
+{
+    let found = configuration_of(alloc, text)?;
+    let cluster = cluster_in(alloc, &found)?;
+    with_cluster(alloc, found, cluster)
+}
