@@ -1,8 +1,8 @@
 -- Clean texts: of UTF-8, without a byte that no line may have. What of a clean text stands beside an ASCII byte is clean.
-use Rattle.std.proofs.Common.{◌≡◌, ℕ, zero, suc, ◌+◌, ◌<◌, ◌≤◌, Bool, true, false, not, ◌&&◌, ◌||◌, List, [], ◌∷◌, ◌++◌, length, take, drop, get_or, refl, sym, ap, subst, ◌∙◌, arith, length-append, append_assoc, nat_lt, nat_le, ◌==◌}
+use Rattle.std.proofs.Common.{◌≡◌, ℕ, zero, suc, ◌+◌, ◌<◌, Bool, true, false, not, ◌&&◌, ◌||◌, List, [], ◌∷◌, ◌++◌, length, take, drop, get_or, refl, sym, ap, subst, ◌∙◌, arith, length-append, append_assoc, nat_lt, nat_le, ◌==◌}
 use Rattle.std.proofs.lemmas.List.{drop_at, take_at}
 use Rattle.std.proofs.lemmas.Str.{IsCharBoundary-after_ascii, IsCharBoundary-before_ascii, IsUtf8-append, IsUtf8-drop, IsUtf8-from_ascii, IsUtf8-take, IsUtf8-nil}
-use Rattle.std.specs.List.{concat, flat_map, list_any, list_all, AllByRecursion}
+use Rattle.std.specs.List.{list_any, list_all, AllByRecursion}
 use Rattle.std.specs.Str.{IsUtf8, IsAscii}
 use Rattle.crm_lex.specs.LogicalLines.{is_control}
 use Rattle.crm_lex.specs.Names.{is_name, is_name_byte}
@@ -81,7 +81,7 @@ clean-append xs ys c d = record { utf8 = IsUtf8-append xs ys c.utf8 d.utf8; allo
 abbrev pub is_clean_byte : ℕ → Bool
 is_clean_byte b = nat_lt b 128 && not (is_control b)
 
-both : (a b : Bool) → (a && b) ≡ true → (a ≡ true) × (b ≡ true)
+pub both : (a b : Bool) → (a && b) ≡ true → (a ≡ true) × (b ≡ true)
 both true true h = (refl, refl)
 both true false h = cc
 both false b h = cc

@@ -36,3 +36,7 @@ pub mod CleanLocation
 pub mod CleanStatements
 pub mod CleanLines
 pub mod SomeWords
+pub mod LineForms
+pub mod OperationRoom
+pub mod FewMonitors
+pub mod ReadForms

@@ -17,3 +17,6 @@ pub mod Location
 pub mod Settings
 pub mod GivenKeys
 pub mod Statements
+pub mod Named
+pub mod Monitors
+pub mod ReadForms
