@@ -1,11 +1,10 @@
 -- What is written for clean items is clean, and makes one logical line.
-use Rattle.std.proofs.Common.{◌≡◌, ℕ, ◌+◌, nat_lt, nat_le, ◌<◌, Bool, true, false, not, ◌&&◌, ◌||◌, ◌==◌, if◌then◌else◌, List, [], ◌∷◌, ◌++◌, length, map, refl, sym, ap, subst, ◌∙◌, arith, append_assoc, append-nil}
-use Rattle.std.specs.List.{flat_map, list_any, list_all, AllByRecursion}
-use Rattle.crm_lex.specs.RawLines.{begins_comment, content, ends_in_backslash, is_blank, is_line_end}
-use Rattle.crm_lex.specs.LogicalLines.{is_control, joined_text, line_text, with_joint}
-use Rattle.crm_print.specs.Quoting.{Item, begins_with_hash, escaped, is_plain, item_text, line_of, needs_quotes, quoted, spaced}
-use Rattle.crm_parse.proofs.Clean.{AllClean, Clean, EachClean, clean-append, clean-ascii, clean-before, clean-behind, clean-nil, clean-one, neither}
-use Rattle.crm_print.proofs.Lines.{both, is_filled}
+use Rattle.std.proofs.Common.{◌≡◌, ℕ, ◌+◌, ◌<◌, Bool, true, false, not, ◌&&◌, ◌||◌, ◌==◌, if◌then◌else◌, List, [], ◌∷◌, ◌++◌, length, refl, sym, subst, ◌∙◌, arith, append_assoc, append-nil}
+use Rattle.std.specs.List.{flat_map, list_any, list_all}
+use Rattle.crm_lex.specs.RawLines.{begins_comment, ends_in_backslash, is_blank}
+use Rattle.crm_print.specs.Quoting.{Item, escaped, is_plain, item_text, line_of, needs_quotes, quoted, spaced}
+use Rattle.crm_parse.proofs.Clean.{AllClean, Clean, EachClean, both, clean-append, clean-ascii, clean-before, clean-behind, clean-nil, clean-one, neither}
+use Rattle.crm_print.proofs.Lines.{is_filled}
 
 -- the bytes between double quotes, behind some bytes of the text
 clean_escaped : (text run : List ℕ) → Clean (run ++ text) → Clean (run ++ flat_map escaped text)

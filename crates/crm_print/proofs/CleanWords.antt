@@ -1,13 +1,13 @@
 -- The words of a text that has no fault are clean.
-use Rattle.std.proofs.Common.{◌≡◌, ℕ, nat_lt, ◌<◌, Bool, true, false, not, ◌&&◌, ◌||◌, ◌==◌, if◌then◌else◌, Option, Some, None, List, [], ◌∷◌, ◌++◌, map, filter, refl, sym, ap, subst, ◌∙◌, arith, append_assoc, append-nil}
+use Rattle.std.proofs.Common.{◌≡◌, ℕ, ◌<◌, Bool, true, false, ◌&&◌, ◌||◌, ◌==◌, if◌then◌else◌, Option, Some, None, List, [], ◌∷◌, ◌++◌, map, filter, refl, sym, ap, subst, arith, append_assoc, append-nil}
 use Rattle.std.specs.List.{slice_split, onto_first, AllByRecursion}
 use Rattle.crm_lex.specs.RawLines.{is_blank}
-use Rattle.crm_lex.specs.Words.{escapes, first_byte, has_pieces, is_gap, letters, mark_if, piece_at, pieces, place_after, spelled, words_of}
+use Rattle.crm_lex.specs.Words.{escapes, first_byte, has_pieces, is_gap, letters, mark_if, piece_at, pieces, place_after, words_of}
 use Rattle.crm_lex.specs.declared.quoting.Piece.{Piece}
 use Rattle.crm_lex.specs.declared.quoting.Piece.TheVariants.{Gap, Mark, Letter}
 use Rattle.crm_lex.specs.declared.quoting.Place.{Place}
 use Rattle.crm_lex.specs.declared.quoting.Place.TheVariants.{Outside, Double, Escaped, Single}
-use Rattle.crm_parse.proofs.Clean.{AllClean, Clean, clean-append, clean-before, clean-behind, clean-nil, clean-one}
+use Rattle.crm_parse.proofs.Clean.{AllClean, Clean, clean-append, clean-before, clean-behind}
 
 -- what a piece says of its byte: a letter is the byte, and a gap or a mark is an ASCII byte
 abbrev Says : ℕ → Piece → Type 0

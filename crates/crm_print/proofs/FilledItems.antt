@@ -1,16 +1,15 @@
 -- Each item of a statement has a part.
-use Rattle.std.proofs.Common.{◌≡◌, ℕ, Bool, true, false, ◌&&◌, List, [], ◌∷◌, ◌++◌, Option, Some, None, codes, map, refl}
+use Rattle.std.proofs.Common.{◌≡◌, ℕ, Bool, true, false, List, [], ◌∷◌, ◌++◌, Option, Some, None, codes, map, refl}
 use Rattle.std.specs.List.{flat_map, list_all}
 use Rattle.crm_parse.specs.declared.form.Form.{Form}
 use Rattle.crm_parse.specs.declared.form.Form.TheVariants as form
 use Rattle.crm_parse.specs.declared.pair.Kv.{Kv}
 use Rattle.crm_parse.specs.declared.pair.Operation.{Operation}
 use Rattle.crm_parse.specs.declared.rule_form.RuleForm.{RuleForm}
-use Rattle.crm_parse.specs.declared.form.Side.{Side}
 use Rattle.crm_parse.specs.declared.words.RoleWord.{RoleWord}
 use Rattle.crm_parse.specs.declared.words.RoleWord.TheVariants as role
 use Rattle.score.specs.ScoreText.{score_text}
-use Rattle.crm_print.specs.Items.{bool_text, discovery, given, in_role, items_of, kind_text, labelled, located, noted, noted_role, operation, pair, rule, section, settings_text, side, step, with_colon, with_meta, word}
+use Rattle.crm_print.specs.Items.{bool_text, discovery, given, in_role, items_of, labelled, located, noted, noted_role, operation, pair, rule, section, side, step, with_colon, with_meta, word}
 use Rattle.crm_print.specs.Quoting.{Item}
 use Rattle.crm_print.proofs.Lines.{is_filled}
 

@@ -1,10 +1,11 @@
 -- A line of items is read as their words.
-use Rattle.std.proofs.Common.{◌≡◌, ℕ, Bool, true, false, ◌&&◌, if◌then◌else◌, List, [], ◌∷◌, ◌++◌, map, refl, sym, ap, ◌∙◌, append_assoc, append-nil, arith}
-use Rattle.std.specs.List.{concat, flat_map, list_any, list_all, slice_split, onto_first}
+use Rattle.std.proofs.Common.{◌≡◌, ℕ, Bool, true, false, if◌then◌else◌, List, [], ◌∷◌, ◌++◌, map, refl, ap, ◌∙◌, append-nil}
+use Rattle.std.specs.List.{flat_map, list_any, list_all, slice_split, onto_first}
 use Rattle.crm_lex.specs.Words.{has_pieces, is_gap, is_inside, is_open, letters, pieces, place_behind, spelled, words_of}
 use Rattle.crm_lex.specs.declared.quoting.Piece.{Piece}
 use Rattle.crm_lex.specs.declared.quoting.Piece.TheVariants.{Gap, Mark, Letter}
 use Rattle.crm_lex.specs.declared.quoting.Place.TheVariants.{Outside}
+use Rattle.crm_parse.proofs.Clean.{both}
 use Rattle.crm_print.specs.Quoting.{Item, escaped, is_plain, item_text, item_word, line_of, quoted, spaced}
 use Rattle.crm_print.proofs.Written.{Spells, item-spells}
 
@@ -75,11 +76,6 @@ word-alone : (text word : List ℕ) → Spells Outside Outside text word → has
 word-alone text word s h =
     ap spelled (s.pieces_are [])
     ∙ (ap spelled (append-nil s.spelled_by) ∙ (spelled_alone s.spelled_by s.gapless (some_pieces text word s h) ∙ ap (λ letters. letters ∷ []) s.letters_are))
-
-pub both : (a b : Bool) → (a && b) ≡ true → (a ≡ true) × (b ≡ true)
-both true true h = (refl, refl)
-both true false h = cc
-both false b h = cc
 
 -- a line of items is read as their words
 pub line-words : (item : Item) (items : List Item) → list_all is_filled (item ∷ items) ≡ true → words_of (line_of (item ∷ items)) ≡ map item_word (item ∷ items)

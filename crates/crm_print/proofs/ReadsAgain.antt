@@ -1,5 +1,5 @@
 -- What is printed reads again as the same statements.
-use Rattle.std.proofs.Common.{◌≡◌, ℕ, ◌+◌, nat_le, Bool, true, false, ◌&&◌, List, [], ◌∷◌, ◌++◌, length, map, Ok, refl, sym, ap, subst, ◌∙◌}
+use Rattle.std.proofs.Common.{◌≡◌, ℕ, ◌+◌, nat_le, true, List, [], ◌∷◌, ◌++◌, length, map, Ok, refl, sym, ap, subst, ◌∙◌}
 use Rattle.std.specs.List.{flat_map, list_all, AllByRecursion}
 use Rattle.crm_lex.specs.declared.line.Line.{Line}
 use Rattle.crm_lex.specs.Reading.{reads}
@@ -7,7 +7,7 @@ use Rattle.crm_parse.specs.declared.form.Form.{Form}
 use Rattle.crm_parse.specs.declared.statement.Crm.{Crm}
 use Rattle.crm_parse.specs.declared.statement.Statement.{Statement}
 use Rattle.crm_parse.specs.Statements.{statements_of}
-use Rattle.crm_parse.proofs.Clean.{Clean}
+use Rattle.crm_parse.proofs.Clean.{Clean, both}
 use Rattle.crm_parse.proofs.CleanLines.{CleanLine, CleanStatement, statements-clean}
 use Rattle.crm_parse.proofs.LinesAgain.{statement_words, statements-again}
 use Rattle.crm_parse.proofs.SomeWords.{HasWords, has_words, statements-words}
@@ -18,7 +18,7 @@ use Rattle.crm_print.specs.Text.{canonical_line, canonical_text, ended_line}
 use Rattle.crm_print.proofs.CleanItems.{items-clean}
 use Rattle.crm_print.proofs.CleanReading.{clean-reads}
 use Rattle.crm_print.proofs.FilledItems.{filled-items}
-use Rattle.crm_print.proofs.Lines.{both, is_filled}
+use Rattle.crm_print.proofs.Lines.{is_filled}
 use Rattle.crm_print.proofs.TextReads.{Readable, ended_lines, numbered, text-reads}
 use Rattle.crm_print.proofs.WrittenWords.{canonical_words-written}
 

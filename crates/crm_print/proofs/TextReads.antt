@@ -1,18 +1,17 @@
 -- A text of lines of clean items is read as their words, line by line.
-use Rattle.std.proofs.Common.{◌≡◌, ℕ, ◌+◌, nat_lt, nat_le, ◌<◌, ◌≤◌, Bool, true, false, not, ◌&&◌, ◌||◌, ◌==◌, if◌then◌else◌, Result, Ok, Err, List, [], ◌∷◌, ◌++◌, length, map, refl, sym, ap, subst, ◌∙◌, arith, append_assoc, append-nil}
+use Rattle.std.proofs.Common.{◌≡◌, ℕ, ◌+◌, nat_lt, nat_le, Bool, true, false, ◌==◌, Result, Ok, Err, List, [], ◌∷◌, ◌++◌, length, map, refl, sym, ap, subst, ◌∙◌, arith, append_assoc, append-nil}
 use Rattle.std.proofs.lemmas.Str.{is_utf8-from_IsUtf8}
-use Rattle.std.specs.List.{flat_map, list_any, list_all, sum_by, AllByRecursion}
+use Rattle.std.specs.List.{flat_map, list_any, list_all, AllByRecursion}
 use Rattle.std.specs.Str.{is_utf8}
-use Rattle.crm_lex.specs.RawLines.{begins_comment, content, ends_in_backslash, goes_on, is_line_end, joined, onto_first, physical_lines, raw_lines}
-use Rattle.crm_lex.specs.LogicalLines.{all_byte_faults, byte_faults, content_length, fault_if, faults, is_control, joined_text, line_text, with_joint}
+use Rattle.crm_lex.specs.RawLines.{begins_comment, content, ends_in_backslash, joined, physical_lines, raw_lines}
+use Rattle.crm_lex.specs.LogicalLines.{faults, is_control, line_text, with_joint}
 use Rattle.crm_lex.specs.Reading.{faults_from, first_fault, reads, row, rows_from, unless}
 use Rattle.crm_lex.specs.Words.{is_open, words_of}
-use Rattle.crm_lex.specs.declared.fault.LexCause.TheVariants.{LineTooLong, NotUtf8, ControlByte, OpenQuote}
 use Rattle.crm_lex.specs.declared.line.Line.{Line}
 use Rattle.crm_print.specs.Quoting.{Item, item_word, line_of}
-use Rattle.crm_parse.proofs.Clean.{Clean, EachClean, neither}
+use Rattle.crm_parse.proofs.Clean.{Clean, EachClean, both, neither}
 use Rattle.crm_print.proofs.CleanLines.{clean_line, line_begins, line_closes}
-use Rattle.crm_print.proofs.Lines.{both, is_filled, line-closed, line-words}
+use Rattle.crm_print.proofs.Lines.{is_filled, line-closed, line-words}
 
 -- a line that can be read: its items have parts, they are clean, and it isn't too long
 pub record Readable (items : List Item) : Type 0 where

@@ -1,12 +1,11 @@
 -- What is written for a word reads as the word.
 use Rattle.std.proofs.Common.{◌≡◌, ℕ, ◌==◌, Bool, true, false, not, ◌&&◌, ◌||◌, if◌then◌else◌, Option, Some, None, List, [], ◌∷◌, ◌++◌, length, refl, sym, ap, ◌∙◌, append_assoc, append-nil}
-use Rattle.std.specs.List.{concat, flat_map, list_any}
-use Rattle.crm_lex.specs.RawLines.{is_blank}
-use Rattle.crm_lex.specs.Words.{escapes, first_byte, has_pieces, is_gap, letters, piece_at, pieces, place_after, place_behind}
+use Rattle.std.specs.List.{flat_map, list_any}
+use Rattle.crm_lex.specs.Words.{escapes, first_byte, is_gap, letters, pieces, place_after, place_behind}
 use Rattle.crm_lex.specs.declared.quoting.Piece.{Piece}
 use Rattle.crm_lex.specs.declared.quoting.Piece.TheVariants.{Gap, Mark, Letter}
 use Rattle.crm_lex.specs.declared.quoting.Place.{Place}
-use Rattle.crm_lex.specs.declared.quoting.Place.TheVariants.{Outside, Double, Escaped, Single}
+use Rattle.crm_lex.specs.declared.quoting.Place.TheVariants.{Outside, Double}
 use Rattle.crm_print.specs.Quoting.{Item, begins_with_hash, escaped, is_plain, item_text, item_word, needs_quotes, quoted}
 
 -- a text that stands at one place, with a place behind it, has these pieces whatever follows: they have no gap, and their letters are the word

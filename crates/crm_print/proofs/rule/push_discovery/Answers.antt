@@ -1,4 +1,4 @@
-use Rattle.std.proofs.Common.{◌≡◌, ◌++◌, sym, ap, ◌∙◌, append-nil, codes}
+use Rattle.std.proofs.Common.{◌++◌, sym, ap, ◌∙◌, append-nil, codes}
 use Rattle.std.specs.List.{flat_map}
 use Rattle.crm_print.specs.Quoting.{spaced}
 use Rattle.crm_print.specs.Items.{discovery, word}

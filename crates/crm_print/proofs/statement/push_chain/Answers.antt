@@ -1,4 +1,4 @@
-use Rattle.std.proofs.Common.{◌≡◌, ◌++◌, OnOk, codes, map, sym, ap, ◌∙◌}
+use Rattle.std.proofs.Common.{◌++◌, codes, map, sym, ap, ◌∙◌}
 use Rattle.std.specs.List.{flat_map}
 use Rattle.crm_print.specs.Quoting.{spaced}
 use Rattle.crm_print.specs.Items.{bool_text, labelled, step}

@@ -1,4 +1,4 @@
-use Rattle.std.proofs.Common.{◌≡◌, ◌++◌, ◌∷◌, [], OnOk, codes, sym, ap, ◌∙◌}
+use Rattle.std.proofs.Common.{◌≡◌, ◌++◌, ◌∷◌, [], codes, ap, ◌∙◌}
 use Rattle.std.specs.List.{flat_map}
 use Rattle.crm_parse.specs.declared.form.Form.TheVariants as form
 use Rattle.crm_print.specs.Items.{operation, section, with_meta, word}
