@@ -1,3 +1,4 @@
 pub mod Rows
 pub mod LeafLaws
 pub mod NameLaws
+pub mod NodeNames

@@ -1,7 +1,7 @@
 -- Where no statement is at fault, no two leaves have one name.
-use Rattle.std.proofs.Common.{◌≡◌, ◌≢◌, ℕ, Bool, true, false, ◌||◌, if◌then◌else◌, List, [], ◌∷◌, ◌++◌, Option, None, Some, All, AllPairs, refl, sym, subst, ◌∙◌, true≢false, nat_eq, arith}
+use Rattle.std.proofs.Common.{◌≡◌, ◌≢◌, ℕ, Bool, true, false, ◌||◌, if◌then◌else◌, List, [], ◌∷◌, ◌++◌, Option, None, Some, All, AllPairs, refl, sym, subst, ◌∙◌, true≢false, arith}
 use Rattle.std.specs.List.{list_any}
-use Rattle.std.specs.Cmp.Lexicographic.{pointwise, nat_list_eq_equiv}
+use Rattle.std.specs.Cmp.Lexicographic.{nat_list_eq_equiv}
 use Rattle.std.proofs.lemmas.List.Folds.{list_any-append}
 use Rattle.std.proofs.lemmas.List.Elements.{All-cons}
 use Rattle.std.proofs.lemmas.List.Kept.{AllPairs-cons}
@@ -22,11 +22,11 @@ use Rattle.clone_expand.specs.Leaves.{leaf_in, leaf_of, leaves_in, leaves_of, su
 use Rattle.clone_expand.specs.Settings.{nodes_in}
 use Rattle.clone_expand.specs.Tables.{has, with_name, with_names}
 
-or_left : (b c : Bool) → (b || c) ≡ false → b ≡ false
+pub or_left : (b c : Bool) → (b || c) ≡ false → b ≡ false
 or_left true c h = absurd (true≢false h)
 or_left false c h = refl
 
-or_right : (b c : Bool) → (b || c) ≡ false → c ≡ false
+pub or_right : (b c : Bool) → (b || c) ≡ false → c ≡ false
 or_right true c h = absurd (true≢false h)
 or_right false c h = h
 
@@ -35,7 +35,7 @@ kept_by : (names : List (List ℕ)) (name x : List ℕ) (b : Bool) → has (if b
 kept_by names name x true h = h
 kept_by names name x false h = or_left (has names x) (list_any (is x) (name ∷ [])) (sym (list_any-append (is x) names (name ∷ [])) ∙ h)
 
-kept : (names : List (List ℕ)) (name x : List ℕ) → has (with_name names name) x ≡ false → has names x ≡ false
+pub kept : (names : List (List ℕ)) (name x : List ℕ) → has (with_name names name) x ≡ false → has names x ≡ false
 kept names name x h = kept_by names name x (has names name) h
 
 -- and isn't that one
@@ -46,7 +46,7 @@ there_by : (names : List (List ℕ)) (name : List ℕ) (b : Bool) → has names 
 there_by names name true e = e
 there_by names name false e = list_any-append (is name) names (name ∷ []) ∙ rw (e, is_itself name) refl
 
-other : (names : List (List ℕ)) (name x : List ℕ) → has (with_name names name) x ≡ false → name ≢ x
+pub other : (names : List (List ℕ)) (name x : List ℕ) → has (with_name names name) x ≡ false → name ≢ x
 other names name x h e =
     true≢false (sym (there_by names name (has names name) refl) ∙ subst (λ y. has (with_name names name) y ≡ false) (sym e) h)
 
@@ -76,7 +76,7 @@ module _ (s : Surroundings) where
   step ids (form.Kept words) leaves n h = h
 
 -- a statement that isn't at fault has a new id
-not_first : (b : Bool) (rest : Option ExpandCause) → (if b then Some DuplicateName else rest) ≡ None → b ≡ false
+pub not_first : (b : Bool) (rest : Option ExpandCause) → (if b then Some DuplicateName else rest) ≡ None → b ≡ false
 not_first true rest h = absurd (cc)
 not_first false rest h = refl
 

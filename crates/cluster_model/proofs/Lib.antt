@@ -6,3 +6,8 @@ pub mod ResolvedRoles
 pub mod Limits
 pub mod OneResolution
 pub mod SomeResolution
+pub mod NodePlaces
+pub mod EachOf
+pub mod ReadNames
+pub mod LeavesValid
+pub mod ValidCluster

@@ -1,5 +1,5 @@
 -- The cluster of a configuration keeps the limits.
-use Rattle.std.proofs.Common.{◌≡◌, ℕ, suc, ◌+◌, ◌-◌, ◌≤◌, nat_lt, Bool, true, false, if◌then◌else◌, Option, Some, None, List, [], ◌∷◌, ◌++◌, length, map, Result, Ok, Err, refl, sym, ap, ◌∙◌, subst, arith}
+use Rattle.std.proofs.Common.{◌≡◌, ℕ, suc, ◌+◌, ◌-◌, ◌≤◌, nat_lt, Bool, true, false, if◌then◌else◌, Option, Some, None, List, [], ◌∷◌, length, map, Ok, refl, sym, ap, ◌∙◌, subst, arith}
 use Rattle.std.specs.List.{flat_map}
 use Rattle.std.specs.Option.{option_or}
 use Rattle.std.proofs.lemmas.Bool.Decides.{nat_tests}
@@ -15,7 +15,7 @@ use Rattle.clone_expand.specs.declared.leaves.Leaves.{Leaves}
 use Rattle.clone_expand.specs.Expansion as expansion
 use Rattle.clone_expand.specs.Expansion.{expansion_of, leaves_with_spans}
 use Rattle.clone_expand.specs.Faults.{fault_of}
-use Rattle.clone_expand.specs.Leaves.{leaf_in, leaves_in, leaves_of, surroundings_of}
+use Rattle.clone_expand.specs.Leaves.{leaf_in, leaves_of, surroundings_of}
 use Rattle.cluster_model.specs.declared.counts.Counts.{Counts}
 use Rattle.cluster_model.specs.declared.directory.Directory.{Directory}
 use Rattle.cluster_model.specs.declared.fault.ModelCause.{ModelCause}
@@ -24,7 +24,7 @@ use Rattle.cluster_model.specs.declared.fault.ModelFault.{ModelFault}
 use Rattle.cluster_model.specs.Chains.{pairs_after, successive}
 use Rattle.cluster_model.specs.Checks.{cause_of, excess_of, fault_after, first_fault, has_unknown, has_unpromotable, is_unsupported, unless_cause}
 use Rattle.cluster_model.specs.Colocations.{colocations_in, colocations_of}
-use Rattle.cluster_model.specs.Counting.{colocation_count, counted_with, leaf_count, location_count, node_count, nothing_counted, order_count, rule_count}
+use Rattle.cluster_model.specs.Counting.{colocation_count, counted_with, leaf_count, location_count, node_count, nothing_counted, order_count}
 use Rattle.cluster_model.specs.Directories.{directory_of}
 use Rattle.cluster_model.specs.Locations.{location_in, locations_of, rule_location_of, rule_locations_in, rule_locations_of}
 use Rattle.cluster_model.specs.Nodes.{node_in, nodes_by}

@@ -27,7 +27,7 @@ module _ (leaves : Leaves) (statements : List Statement) (c : Cluster) (r : Reso
   abbrev pub d : Directory
   d = directory_of leaves statements
 
-  is-clean : IsClean r.loop (first_fault d statements).fault c (cluster_of d leaves.leaves statements)
+  pub is-clean : IsClean r.loop (first_fault d statements).fault c (cluster_of d leaves.leaves statements)
   is-clean = clean r.loop (first_fault d statements).fault c (cluster_of d leaves.leaves statements) r.resolved
 
   has-leaves : c.leaves ≡ leaves.leaves
@@ -40,7 +40,7 @@ module _ (leaves : Leaves) (statements : List Statement) (c : Cluster) (r : Reso
     promotes = promotes-alike d c leaves statements refl has-leaves;
   }
 
-  sound : (s : Statement) → Contains statements s → IsSound d s.form
+  pub sound : (s : Statement) → Contains statements s → IsSound d s.form
   sound s h =
       let whole = none-whole d 0 nothing_counted statements is-clean.no_fault in
       all-sound d 0 nothing_counted statements (length statements) (sym whole) s (rw (sym (take-length statements)) at h)

@@ -2,6 +2,7 @@
 
 ghost use Rattle.std.specs.Prelude.{◌≡◌, List, Ok, Contains, true};
 ghost use Rattle.clone_expand.specs.declared.leaves.Leaves.{Leaves};
+ghost use Rattle.clone_expand.specs.Expansion.{expansion_of};
 ghost use Rattle.cluster_types.specs.declared.cluster.Cluster.{Cluster};
 ghost use Rattle.cluster_types.specs.declared.rules.Colocation.{Colocation};
 ghost use Rattle.cluster_types.specs.declared.rules.Location.{Location};
@@ -10,8 +11,11 @@ ghost use Rattle.cluster_types.specs.declared.rules.RuleLocation.{RuleLocation};
 ghost use Rattle.cluster_types.specs.Decisions.{NeedsHaveNoLoop};
 ghost use Rattle.cluster_types.specs.Numbers.{HasNoLoop};
 ghost use Rattle.cluster_types.specs.Precedence.{is_up};
-ghost use Rattle.cluster_types.specs.Valid.{MayHaveRole, MayHaveWord};
+ghost use Rattle.cluster_types.specs.Valid.{IsValid, MayHaveRole, MayHaveWord};
+ghost use Rattle.crm_lex.specs.declared.line.Line.{Line};
+ghost use Rattle.crm_parse.specs.declared.statement.Crm.{Crm};
 ghost use Rattle.crm_parse.specs.declared.statement.Statement.{Statement};
+ghost use Rattle.crm_parse.specs.Statements.{statements_of};
 ghost use Rattle.cluster_model.specs.Resolution.{ResolvesTo};
 
 /// The rules of a cluster that a configuration resolves to have no loop.
@@ -37,4 +41,10 @@ pub fn resolved_rules_name_able_leaves()
         → (o : Order) → Contains c.orders o → MayHaveWord c o.then_leaf o.then_op }
     ensures upward { (leaves : Leaves) (statements : List Statement) (c : Cluster) → ResolvesTo leaves statements (Ok c)
         → (o : Order) → Contains c.orders o → is_up o.first_op ≡ true → is_up o.then_op ≡ true }
+{}
+
+/// The cluster that the lines of a configuration resolve to is valid.
+pub fn resolved_clusters_are_valid()
+    ensures { (lines : List Line) (crm : Crm) (leaves : Leaves) (c : Cluster) → statements_of lines ≡ Ok crm → expansion_of crm.statements ≡ Ok leaves
+        → ResolvesTo leaves crm.statements (Ok c) → IsValid c }
 {}
