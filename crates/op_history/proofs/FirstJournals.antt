@@ -35,15 +35,6 @@ neither : (a b : Bool) → a || b ≡ false → (a ≡ false) × (b ≡ false)
 neither true b h = cc
 neither false b h = (refl, h)
 
--- a history may say the same again
-pub past_is_new : (e : Event) (before : List Told) → is_repeated before (told.Past e) ≡ false
-past_is_new e [] = refl
-past_is_new e (told.Now seconds ∷ before) = past_is_new e before
-past_is_new e (told.Quorum now ∷ before) = past_is_new e before
-past_is_new e (told.Node node word ∷ before) = past_is_new e before
-past_is_new e (told.Past event ∷ before) = past_is_new e before
-past_is_new e (told.Promoting promotion ∷ before) = past_is_new e before
-
 -- one more line
 pub one_more_known : (nodes : ℕ) (before : List Told) (one : Told) → list_all (is_known nodes) before ≡ true → is_known nodes one ≡ true
     → list_all (is_known nodes) (before ++ one ∷ []) ≡ true

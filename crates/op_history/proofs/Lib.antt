@@ -4,3 +4,5 @@ pub mod Leaving
 pub mod FirstJournals
 pub mod LinesSoFar
 pub mod FirstWords
+pub mod Repeats
+pub mod StatusJournals

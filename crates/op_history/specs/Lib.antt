@@ -5,3 +5,4 @@ pub mod Reading
 pub mod Results
 pub mod Status
 pub mod FirstJournal
+pub mod Repeats

@@ -22,8 +22,14 @@ mod first_journal;
 mod status;
 mod status_lines;
 mod told;
+mod told_keys;
+mod told_lines;
+
+// What follows from the definitions.
+mod laws;
 
 pub use fault::{ResultCause, ResultFault, StatusCause, StatusFault};
+pub use laws::first_journals_are_at_rest;
 pub use recovery::{Recovery, class_of};
 pub use results::{ResultLine, read_result, read_results};
 pub use status::read_status;

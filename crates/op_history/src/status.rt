@@ -5,60 +5,31 @@ ghost use Rattle.std.specs.List.{list_all};
 ghost use Rattle.cluster_types.specs.declared.journal.Promotion.{Promotion as PromotionOf};
 ghost use Rattle.cluster_types.specs.Journals.{Orderly, in_flight, moment_of};
 ghost use Rattle.cluster_types.specs.Valid.{KeepsLimits};
-ghost use Rattle.op_history.specs.FirstJournal.{all_differ, is_again, is_known, is_repeated, is_same_cell, status_of, with_line, with_lines, Tells};
+ghost use Rattle.op_history.specs.FirstJournal.{all_differ, is_known, is_same_cell, status_of, with_line, with_lines, Tells};
 
 use crate::first_journal::journal_of;
 use crate::status_lines::told_of;
-use crate::told::Told;
+use crate::told_lines::ToldLines;
 use crate::{StatusCause, StatusFault};
-use cluster_types::{Cluster, Journal, Promotion};
+use cluster_types::{Cluster, Journal};
 use crm_lex::Line;
-use listed::Listed;
 use std::alloc::Global;
-
-fn is_same_cell(one: Promotion, other: Promotion) -> bool
-    ensures { result ≡ is_same_cell one other }
-{
-    one.leaf == other.leaf && one.node == other.node
-}
-
-/// Whether a line says again what an earlier one said, and what may be said once.
-fn is_again(earlier: Told, line: Told) -> bool
-    ensures { result ≡ is_again earlier line }
-{
-    match (earlier, line) {
-        (Told::Now(_), Told::Now(_)) | (Told::Quorum(_), Told::Quorum(_)) => true,
-        (Told::Node { node: before, .. }, Told::Node { node, .. }) => before == node,
-        (Told::Promoting(before), Told::Promoting(promotion)) => is_same_cell(before, promotion),
-        _ => false,
-    }
-}
-
-#[tactic(auto, using(crate::proofs::FirstJournals::past_is_new))]
-fn is_repeated(told: &[Told], line: Told) -> bool
-    ensures { result ≡ is_repeated told.now line }
-{
-    match line {
-        Told::Past(_) => false,
-        _ => told.iter().any(|earlier| is_again(*earlier, line)),
-    }
-}
 
 /// Reads one more line.
 #[tactic(auto, using(crate::proofs::FirstJournals::one_more_known, crate::proofs::FirstJournals::one_more_differs))]
-fn add_line(cluster: &Cluster, told: &mut Listed<Told>, line: &Line) -> Result<(), StatusFault>
+fn with_line(cluster: &Cluster, told: ToldLines, line: &Line) -> Result<ToldLines, StatusFault>
     requires { KeepsLimits cluster.now }
-    ensures read { Tells (λ _. told.new) result (with_line cluster.now told.old line.now) }
-    ensures known { IfOk result (λ _. list_all (is_known (length cluster.now.nodes)) told.old ≡ true
-        → list_all (is_known (length cluster.now.nodes)) told.new ≡ true) }
-    ensures once { IfOk result (λ _. all_differ told.old ≡ true → all_differ told.new ≡ true) }
+    ensures read { Tells (λ more. more) result (with_line cluster.now told line.now) }
+    ensures known { IfOk result (λ more. list_all (is_known (length cluster.now.nodes)) told ≡ true
+        → list_all (is_known (length cluster.now.nodes)) more ≡ true) }
+    ensures once { IfOk result (λ more. all_differ told ≡ true → all_differ more ≡ true) }
 {
     match told_of(cluster, line) {
-        Ok(one) if is_repeated(told.as_slice(), one) => Err(StatusFault::At {
+        Ok(one) if told.is_repeated(one) => Err(StatusFault::At {
             line: line.line,
             cause: StatusCause::Repeated,
         }),
-        Ok(one) => Ok(told.push(one)?),
+        Ok(one) => Ok(told.with(one)?),
         Err(cause) => Err(StatusFault::At {
             line: line.line,
             cause: cause.in_status(),
@@ -66,15 +37,16 @@ fn add_line(cluster: &Cluster, told: &mut Listed<Told>, line: &Line) -> Result<(
     }
 }
 
-fn with_lines(alloc: Global, cluster: &Cluster, lines: &[Line]) -> Result<Listed<Told>, StatusFault>
+#[tactic(auto, using(crate::proofs::LinesSoFar::one_more))]
+fn with_lines(alloc: Global, cluster: &Cluster, lines: &[Line]) -> Result<ToldLines, StatusFault>
     requires { KeepsLimits cluster.now }
     ensures read { Tells (λ told. told) result (with_lines cluster.now [] lines.now) }
     ensures known { IfOk result (λ told. list_all (is_known (length cluster.now.nodes)) told ≡ true) }
     ensures once { IfOk result (λ told. all_differ told ≡ true) }
 {
-    let mut told = Listed::new(alloc);
+    let mut told = ToldLines::new(alloc);
     for line in lines {
-        add_line(cluster, &mut told, line)?;
+        told = with_line(cluster, told, line)?;
     }
     Ok(told)
 }

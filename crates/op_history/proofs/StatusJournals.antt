@@ -1,0 +1,190 @@
+-- The first journal that a status says is in order and has nothing in flight.
+use Rattle.std.proofs.Common.{◌≡◌, ℕ, nat_lt, nat_le, ◌==◌, ◌&&◌, Bool, true, false, if◌then◌else◌, Option, Some, None, List, [], ◌∷◌, length, codes, Result, Ok, Err, IfOk, IfSome, refl, sym, subst, arith, ◌^◌}
+use Rattle.std.specs.List.{list_all, position_or_len}
+use Rattle.std.specs.Str.Parse.{digits_value}
+use Rattle.std.specs.Option.{ok_or}
+use Rattle.std.proofs.lemmas.Bool.Decides.{nat_tests}
+use Rattle.crm_lex.specs.declared.line.Line.{Line}
+use Rattle.cluster_types.specs.declared.cluster.Cluster.{Cluster}
+use Rattle.cluster_types.specs.declared.journal.Action.TheVariants.{Cell, Probe}
+use Rattle.cluster_types.specs.declared.journal.Event.{Event}
+use Rattle.cluster_types.specs.declared.journal.Event.TheVariants.{Ended}
+use Rattle.cluster_types.specs.declared.journal.Journal.{Journal}
+use Rattle.cluster_types.specs.declared.journal.Outcome.{Outcome}
+use Rattle.cluster_types.specs.declared.leaf.Op.{Op}
+use Rattle.cluster_types.specs.declared.leaf.Op.TheVariants.{Start, Stop, Promote, Demote, Monitor}
+use Rattle.cluster_types.specs.declared.leaf.Role.{Role}
+use Rattle.cluster_types.specs.Fields.{monitors}
+use Rattle.cluster_types.specs.Steps.{role_of_interval}
+use Rattle.cluster_types.specs.Journals.{Orderly, in_flight, is_reported}
+use Rattle.op_history.specs.FirstJournal as journals
+use Rattle.op_history.specs.FirstJournal.{is_known, is_repeated, status_of}
+use Rattle.op_history.specs.Names.{node_of, place_of}
+use Rattle.op_history.specs.Numbers.{is, seconds_of, writes_number}
+use Rattle.op_history.specs.Reading.{Words, ◌>>=◌, end_at, leaf_at, node_at, seconds_at, word_at, yes_at}
+use Rattle.op_history.specs.Status.{action_as, cleanup_line, interval_at, node_line, now_line, op_at, op_line, outcome_at, promotable_at, promotion_line, quorum_line, score_at, state_at, status_word, told_as, told_of}
+use Rattle.op_history.proofs.FirstJournals.{journal_in_order, journal_is_idle, one_more_known}
+
+-- what holds of the value of each step that is passed
+module _ {A B : Type 0} (P : B → Type 0) where
+  step : (Q : A → Type 0) (read : Result A _) (next : A → Result B _) → IfOk read Q → ((x : A) → Q x → IfOk (next x) P)
+      → IfOk (read >>= next) P
+  step Q (Ok x) next q all = all x q
+  step Q (Err w) next q all = tt
+
+  any_step : (read : Result A _) (next : A → Result B _) → ((x : A) → IfOk (next x) P) → IfOk (read >>= next) P
+  any_step (Ok x) next all = all x
+  any_step (Err w) next all = tt
+
+given : {A W : Type 0} (P : A → Type 0) (found : Option A) (why : W) → IfSome found P → IfOk (ok_or found why) P
+given P (Some x) why h = h
+given P None why h = tt
+
+where_true : {A : Type 0} (P : A → Type 0) (test : Bool) (x : A) → (test ≡ true → P x) → IfSome (if test then Some x else None) P
+where_true P true x h = h refl
+where_true P false x h = tt
+
+either_way : {A W : Type 0} (P : A → Type 0) (test : Bool) (one other : Result A W) → IfOk one P → IfOk other P
+    → IfOk (if test then one else other) P
+either_way P true one other h k = h
+either_way P false one other h k = k
+
+by_result : {X C : Type 0} (P : Result X C → Type 0) → ((x : X) → P (Ok x)) → ((why : C) → P (Err why)) → (read : Result X C) → P read
+by_result P ok err (Ok x) = ok x
+by_result P ok err (Err why) = err why
+
+-- a node that is named is one of the cluster
+place_within : {X : Type 0} (test : X → Bool) (xs : List X) → IfSome (place_of test xs) (λ n. nat_lt n (length xs) ≡ true)
+place_within test xs =
+    where_true (λ n. nat_lt n (length xs) ≡ true) (nat_lt (position_or_len test xs) (length xs)) (position_or_len test xs) (λ h. h)
+
+node_known : (c : Cluster) (place : ℕ) (words : Words) → IfOk (node_at c place words) (λ n. nat_lt n (length c.nodes) ≡ true)
+unfolding node_at
+node_known c place words = any_step _ (word_at place words) _ (λ word. given _ (node_of c word) _ (place_within _ c.nodes))
+
+-- seconds are below 2^40
+small : (a : Bool) (n : ℕ) → a && nat_le n 1099511627775 ≡ true → nat_lt n (2 ^ 40) ≡ true
+small true n h = grind (arith, nat_tests)
+small false n h = cc
+
+below : (word : List ℕ) → writes_number 0 1099511627775 word ≡ true → nat_lt (digits_value 10 word) (2 ^ 40) ≡ true
+below word h = small _ (digits_value 10 word) h
+
+seconds_small : (place : ℕ) (words : Words) → IfOk (seconds_at place words) (λ s. nat_lt s (2 ^ 40) ≡ true)
+unfolding seconds_at
+seconds_small place words =
+    any_step _ (word_at place words) _ (λ word. given _ (seconds_of word) _
+    (where_true (λ s. nat_lt s (2 ^ 40) ≡ true) (writes_number 0 1099511627775 word) (digits_value 10 word) (below word)))
+
+-- what an operation says of its node
+action_known : (c : Cluster) (op : Op) (r n interval : ℕ) (outcome : Outcome) (moment : ℕ) → nat_lt n (length c.nodes) ≡ true
+    → is_reported (length c.nodes) (Ended 0 (action_as c op r n interval) outcome moment) ≡ true
+action_known c Start r n interval outcome moment h = h
+action_known c Stop r n interval outcome moment h = h
+action_known c Promote r n interval outcome moment h = h
+action_known c Demote r n interval outcome moment h = h
+action_known c Monitor r n interval outcome moment h = probe_known (interval == 0)
+  where
+    role : Role
+    role = role_of_interval (monitors c r) interval
+
+    probe_known : (is_probe : Bool)
+        → is_reported (length c.nodes) (Ended 0 (if is_probe then Probe r n else Cell Monitor r n interval role) outcome moment) ≡ true
+    probe_known true = h
+    probe_known false = h
+
+-- each form of a line
+now_known : (n : ℕ) (words : Words) → IfOk (now_line words) (λ t. is_known n t ≡ true)
+unfolding now_line
+now_known n words = step _ _ (seconds_at 1 words) _ (seconds_small 1 words) (λ seconds h. any_step _ (end_at 2 words) _ (λ u. h))
+
+quorum_known : (n : ℕ) (words : Words) → IfOk (quorum_line words) (λ t. is_known n t ≡ true)
+unfolding quorum_line
+quorum_known n words = any_step _ (yes_at 1 words) _ (λ now. any_step _ (end_at 2 words) _ (λ u. refl))
+
+state_known : (c : Cluster) (n : ℕ) (words : Words) → IfOk (node_line c words) (λ t. is_known n t ≡ true)
+unfolding node_line
+state_known c n words =
+    any_step _ (node_at c 1 words) _ (λ node. any_step _ (state_at 2 words) _ (λ state. any_step _ (end_at 3 words) _ (λ u. refl)))
+
+op_known : (c : Cluster) (words : Words) → IfOk (op_line c words) (λ t. is_known (length c.nodes) t ≡ true)
+unfolding op_line
+op_known c words =
+    step _ _ (node_at c 1 words) _ (node_known c 1 words) (λ node h. any_step _ (leaf_at c 2 words) _ (λ leaf.
+    any_step _ (op_at c leaf 3 words) _ (λ op. any_step _ (interval_at op 4 words) _ (λ interval.
+    any_step _ (outcome_at 5 words) _ (λ outcome. any_step _ (seconds_at 6 words) _ (λ moment.
+    any_step _ (end_at 7 words) _ (λ u. action_known c op leaf node interval outcome moment h)))))))
+
+cleanup_known : (c : Cluster) (words : Words) → IfOk (cleanup_line c words) (λ t. is_known (length c.nodes) t ≡ true)
+unfolding cleanup_line
+cleanup_known c words =
+    step _ _ (node_at c 1 words) _ (node_known c 1 words) (λ node h. any_step _ (leaf_at c 2 words) _ (λ leaf.
+    any_step _ (end_at 3 words) _ (λ u. h)))
+
+promotion_known : (c : Cluster) (n : ℕ) (words : Words) → IfOk (promotion_line c words) (λ t. is_known n t ≡ true)
+unfolding promotion_line
+promotion_known c n words =
+    any_step _ (node_at c 1 words) _ (λ node. any_step _ (promotable_at c 2 words) _ (λ leaf. any_step _ (score_at 3 words) _ (λ score.
+    any_step _ (end_at 4 words) _ (λ u. refl))))
+
+-- and so each line
+form_known : (c : Cluster) (words : Words) (word : List ℕ)
+    → IfOk (status_word word) (λ form. IfOk (told_as c form words) (λ t. is_known (length c.nodes) t ≡ true))
+unfolding status_word
+form_known c words word =
+    let n = length c.nodes in
+    either_way _ (is word (codes "now")) _ _ (now_known n words) (either_way _ (is word (codes "quorum")) _ _ (quorum_known n words)
+    (either_way _ (is word (codes "node")) _ _ (state_known c n words) (either_way _ (is word (codes "op")) _ _ (op_known c words)
+    (either_way _ (is word (codes "cleanup")) _ _ (cleanup_known c words)
+    (either_way _ (is word (codes "promotion")) _ _ (promotion_known c n words) tt)))))
+
+told_known : (c : Cluster) (words : Words) → IfOk (told_of c words) (λ t. is_known (length c.nodes) t ≡ true)
+unfolding told_of
+told_known c words =
+    any_step _ (word_at 0 words) _ (λ word. step _ _ (status_word word) _ (form_known c words word) (λ form h. h))
+
+-- lines that are read one after the other keep what each of them keeps
+module _ {S L F : Type 0} (Kept : S → Type 0) (next : S → L → Result S F) (run : S → List L → Result S F)
+    (none : (s : S) → run s [] ≡ Ok s)
+    (some : (s : S) (l : L) (ls : List L) → run s (l ∷ ls) ≡ elim (next s l) [ Err fault ↦ Err fault | Ok more ↦ run more ls ])
+    (each : (s : S) (l : L) → Kept s → IfOk (next s l) Kept) where
+  go_on : (read : Result S F) (ls : List L) → IfOk read Kept → ((more : S) → Kept more → IfOk (run more ls) Kept)
+      → IfOk (elim read [ Err fault ↦ Err fault | Ok more ↦ run more ls ]) Kept
+  go_on (Ok more) ls h all = all more h
+  go_on (Err fault) ls h all = tt
+
+  all_kept : (s : S) (ls : List L) → Kept s → IfOk (run s ls) Kept
+  all_kept s [] h = subst (λ (r : Result S F). IfOk r Kept) (sym (none s)) h
+  all_kept s (l ∷ ls) h =
+      subst (λ (r : Result S F). IfOk r Kept) (sym (some s l ls)) (go_on (next s l) ls (each s l h) (λ more k. all_kept more ls k))
+
+lines_known : (c : Cluster) (lines : List Line)
+    → IfOk (journals.with_lines c [] lines) (λ told. list_all (is_known (length c.nodes)) told ≡ true)
+lines_known c lines =
+    let n = length c.nodes in
+    all_kept (λ told. list_all (is_known n) told ≡ true) (journals.with_line c) (journals.with_lines c) (λ s. refl) (λ s l ls. refl)
+    (λ s l h.
+    by_result (λ r. IfOk r (λ t. is_known n t ≡ true) → IfOk (journals.with_told s l.line r) (λ told. list_all (is_known n) told ≡ true))
+    (λ x k. either_way _ (is_repeated s x) _ _ tt (one_more_known n s x h k)) (λ why k. tt) (told_of c l.words) (told_known c l.words))
+    [] lines refl
+
+-- what holds of the events of what they tell holds of the journal
+by_lines : (c : Cluster) (P : List Event → Type 0) (lines : List Line) (journal : Journal)
+    → IfOk (journals.with_lines c [] lines) (λ told. P (journals.events_of c told)) → status_of c lines ≡ Ok journal → P journal.events
+by_lines c P lines journal =
+    by_result (λ r. IfOk r (λ told. P (journals.events_of c told)) → journals.read_of c r ≡ Ok journal → P journal.events)
+    (λ told h e. let same : journals.journal_of c told ≡ journal = cc in subst (λ (j : Journal). P j.events) same h)
+    (λ fault h e. absurd cc) (journals.with_lines c [] lines)
+
+if_so : {A F : Type 0} (P Q : A → Type 0) → ((x : A) → P x → Q x) → (read : Result A F) → IfOk read P → IfOk read Q
+if_so P Q so (Ok x) h = so x h
+if_so P Q so (Err fault) h = tt
+
+pub journal_orderly : (c : Cluster) (lines : List Line) (journal : Journal) → status_of c lines ≡ Ok journal → Orderly journal.events
+journal_orderly c lines journal =
+    by_lines c Orderly lines journal (if_so _ _ (journal_in_order c) (journals.with_lines c [] lines) (lines_known c lines))
+
+pub journal_idle : (c : Cluster) (lines : List Line) (journal : Journal) → status_of c lines ≡ Ok journal → in_flight journal.events ≡ []
+journal_idle c lines journal =
+    by_lines c (λ es. in_flight es ≡ []) lines journal
+    (if_so _ _ (journal_is_idle c) (journals.with_lines c [] lines) (lines_known c lines))

@@ -1,0 +1,16 @@
+use Rattle.std.proofs.Common.{rules, ◌≡◌, ℕ, true, cond, refl}
+use Rattle.std.specs.HashSet.{contains}
+use Rattle.op_history.specs.declared.told_keys.ToldKeys.{ToldKeys}
+use Rattle.op_history.specs.Repeats.{is_same}
+use Rattle.op_history.proofs.Repeats.{adds_cell}
+use Rattle.op_history.proofs.told_keys.ToldKeys.add.Goals as goal
+
+pub returns-in_ok-map_err-in-Promoting : goal.returns-in_ok-map_err-in-Promoting
+returns-in_ok-map_err-in-Promoting c =
+    let p = c.in-Promoting.promotion in
+    let old = c.args.self.now in
+    let more = c.insert-in-Promoting.new.self in
+    let cells : (cell : ℕ × ℕ) → contains is_same more cell
+    ≡ cond (is_same (p.leaf, p.node) cell) true (contains is_same old.cells cell) = search rules in
+    let new : ToldKeys = record { moment = old.moment; quorum = old.quorum; nodes = old.nodes; cells = more } in
+    rw c.in-Promoting.is (adds_cell old new p refl refl refl cells)
