@@ -12,7 +12,6 @@ use Rattle.crm_lex.specs.RawLines.{content, raw_lines}
 use Rattle.crm_lex.specs.Words.{is_open}
 use Rattle.crm_lex.specs.Reading as lines
 use Rattle.crm_lex.specs.Reading.{faults_from, reads, rows_from}
-use Rattle.crm_parse.specs.declared.fault.ParseFault.{ParseFault}
 use Rattle.crm_parse.specs.declared.marks.SectionMarks.{SectionMarks}
 use Rattle.crm_parse.specs.declared.statement.Statement.{Statement}
 use Rattle.crm_parse.specs.Marks as marks

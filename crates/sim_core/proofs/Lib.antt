@@ -21,6 +21,7 @@ pub mod Marks
 pub mod Readings
 pub mod OneReading
 pub mod Faults
+pub mod ValidInput
 -- The top call.
 pub mod AnswerLemmas
 pub mod Accepting

@@ -1,5 +1,5 @@
 -- Where sections begin, they begin in the order of their places.
-use Rattle.std.proofs.Common.{◌≡◌, ℕ, ◌+◌, ◌≤◌, min, Bool, not, Option, Some, None, List, [], ◌∷◌, length, codes, Ok, refl, subst, arith}
+use Rattle.std.proofs.Common.{◌≡◌, ℕ, ◌≤◌, Bool, not, Option, Some, None, List, [], length, codes, Ok, refl, subst, arith}
 use Rattle.std.specs.List.{position_or_len}
 use Rattle.std.proofs.lemmas.List.Sums.{prefix_len-le-length}
 use Rattle.crm_lex.specs.declared.line.Line.{Line}

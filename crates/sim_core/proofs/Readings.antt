@@ -1,7 +1,6 @@
 -- What is read of a text, step by step.
-use Rattle.std.proofs.Common.{◌≡◌, ℕ, List, Result, Ok, Err, refl, sym, ap, ◌∙◌, subst}
+use Rattle.std.proofs.Common.{◌≡◌, ℕ, List, Result, Ok, Err, refl, sym, subst}
 use Rattle.cluster_model.specs.declared.fault.ModelCause.{ModelCause}
-use Rattle.cluster_model.specs.declared.fault.ModelFault.{ModelFault}
 use Rattle.cluster_model.specs.declared.fault.ModelFault.TheVariants as model
 use Rattle.cluster_model.specs.Resolution.{ResolvesTo}
 use Rattle.cluster_types.specs.declared.cluster.Cluster.{Cluster}
@@ -11,7 +10,7 @@ use Rattle.sim_core.specs.declared.fault.InputFault.{InputFault}
 use Rattle.sim_core.specs.declared.fault.InputFault.TheVariants.{At}
 use Rattle.sim_core.specs.declared.reading.Configuration.{Configuration}
 use Rattle.sim_core.specs.declared.reading.Input.{Input}
-use Rattle.sim_core.specs.Reading.{Fault, IsReadAfter, IsReadOf, Reads, configuration_of, faulting, model_fault, with_cluster, ◌>>=◌}
+use Rattle.sim_core.specs.Reading.{Fault, IsReadAfter, IsReadOf, Reads, configuration_of, with_cluster}
 
 after : (text : List ℕ) (found : Result Configuration InputFault) (read : Result Input InputFault) → configuration_of text ≡ found → IsReadAfter found read
     → IsReadAfter (configuration_of text) read
@@ -41,3 +40,5 @@ pub is_read : (text : List ℕ) (found : Configuration) (cluster : Cluster) (inp
 is_read text found cluster input e r w =
     let read : IsReadOf found (Ok input) = record { resolution = Ok cluster; resolves = r; goes_on = sym w } in
     after text (Ok found) (Ok input) e read
+
+pub ruleset readings = (stops, says_no_cluster, stops_later, is_read)

@@ -1,6 +1,6 @@
 -- What is read of a whole input: its configuration, its status and its results. The first step that fails decides (crmsh manual, configure; the
 -- sections, the lines of the status and of the results, and the order of the steps are rules of this project).
-use Rattle.std.specs.Prelude.{◌≡◌, ℕ, ◌+◌, List, length, slice_range, take, Result, Ok, Err}
+use Rattle.std.specs.Prelude.{◌≡◌, ℕ, ◌+◌, List, slice_range, take, Result, Ok, Err}
 use Rattle.crm_lex.specs.declared.line.Line.{Line}
 use Rattle.crm_lex.specs.declared.fault.LexFault.{LexFault}
 use Rattle.crm_lex.specs.declared.fault.LexFault.TheVariants as lex
@@ -8,7 +8,6 @@ use Rattle.crm_lex.specs.Reading.{reads}
 use Rattle.crm_parse.specs.declared.fault.ParseFault.{ParseFault}
 use Rattle.crm_parse.specs.declared.fault.ParseFault.TheVariants as parse
 use Rattle.crm_parse.specs.declared.marks.SectionMarks.{SectionMarks}
-use Rattle.crm_parse.specs.declared.statement.Crm.{Crm}
 use Rattle.crm_parse.specs.Marks.{sections_of}
 use Rattle.crm_parse.specs.Statements.{statements_of}
 use Rattle.clone_expand.specs.declared.fault.ExpandFault.{ExpandFault}
@@ -18,13 +17,11 @@ use Rattle.cluster_model.specs.declared.fault.ModelFault.{ModelFault}
 use Rattle.cluster_model.specs.declared.fault.ModelFault.TheVariants as model
 use Rattle.cluster_model.specs.Resolution.{ResolvesTo}
 use Rattle.cluster_types.specs.declared.cluster.Cluster.{Cluster}
-use Rattle.cluster_types.specs.declared.journal.Journal.{Journal}
 use Rattle.cluster_types.specs.Journals.{moment_of}
 use Rattle.op_history.specs.declared.fault.ResultFault.{ResultFault}
 use Rattle.op_history.specs.declared.fault.ResultFault.TheVariants as results
 use Rattle.op_history.specs.declared.fault.StatusFault.{StatusFault}
 use Rattle.op_history.specs.declared.fault.StatusFault.TheVariants as status
-use Rattle.op_history.specs.declared.results.ResultLine.{ResultLine}
 use Rattle.op_history.specs.FirstJournal.{status_of}
 use Rattle.op_history.specs.Results.{results_of}
 use Rattle.sim_core.specs.declared.cause.InputCause.{InputCause}

@@ -1,6 +1,8 @@
 //! Laws of the definitions. Each is a function that does nothing, and whose contract is the law.
 
-ghost use Rattle.std.specs.Prelude.{◌≡◌, ◌⊎◌, ℕ, List};
+ghost use Rattle.std.specs.Prelude.{◌≡◌, ◌⊎◌, ℕ, List, []};
+ghost use Rattle.cluster_types.specs.Journals.{Orderly, in_flight};
+ghost use Rattle.cluster_types.specs.Valid.{IsValid};
 ghost use Rattle.sim_core.specs.Reading.{Fault, IsFaulty, IsReadable, Reads};
 ghost use Rattle.sim_core.specs.Run.{IsRunText};
 ghost use Rattle.sim_core.specs.Transition.{IsTransition, PredecessorsFirst};
@@ -22,6 +24,14 @@ pub fn one_reading()
     ensures one_input { (text : List ℕ) (one other : InputOf) → Reads text one → Reads text other → one ≡ other }
     ensures one_fault { (text : List ℕ) (line other : ℕ) (why cause : CauseOf) → Fault text line why → Fault text other cause
         → (line ≡ other) × (why ≡ cause) }
+{}
+
+/// What is read of a text is valid: its cluster is, and its first journal is in order and has nothing in flight.
+#[tactic(auto, using(crate::proofs::ValidInput::inputs_valid))]
+pub fn what_is_read_is_valid()
+    ensures cluster { (text : List ℕ) (input : InputOf) → Reads text input → IsValid input.cluster }
+    ensures orderly { (text : List ℕ) (input : InputOf) → Reads text input → Orderly input.journal.events }
+    ensures idle { (text : List ℕ) (input : InputOf) → Reads text input → in_flight input.journal.events ≡ [] }
 {}
 
 /// In every transition an action begins only after each that must precede it has succeeded.

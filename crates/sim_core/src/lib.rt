@@ -7,6 +7,7 @@
 // The top call.
 mod check;
 mod help;
+mod input_word;
 mod laws;
 mod replay;
 mod status;
@@ -34,7 +35,7 @@ mod transition;
 pub use cause::InputCause;
 pub use fault::InputFault;
 pub use help::{HELP, VERSION};
-pub use laws::{one_reading, one_text, predecessors_first};
+pub use laws::{one_reading, one_text, predecessors_first, what_is_read_is_valid};
 pub use reading::{Input, read_input};
 pub use status::Status;
 pub use top::run;

@@ -1,9 +1,9 @@
 //! What is read of a whole input, step by step.
 
-ghost use Rattle.std.specs.Prelude.{◌≡◌, ◌+◌, ◌<◌, ◌≤◌, ◌^◌, IfOk, Ok, length, slice_range};
+ghost use Rattle.std.specs.Prelude.{◌≡◌, ◌+◌, ◌<◌, ◌≤◌, ◌^◌, IfOk, Ok, [], length, slice_range};
 ghost use Rattle.clone_expand.specs.Expansion.{expansion_of};
-ghost use Rattle.cluster_types.specs.Journals.{moment_of};
-ghost use Rattle.cluster_types.specs.Valid.{KeepsLimits};
+ghost use Rattle.cluster_types.specs.Journals.{Orderly, in_flight, moment_of};
+ghost use Rattle.cluster_types.specs.Valid.{IsValid, KeepsLimits};
 ghost use Rattle.cluster_model.specs.Resolution.{Resolves};
 ghost use Rattle.crm_lex.specs.Reading.{reads};
 ghost use Rattle.crm_parse.specs.Marks.{sections_of};
@@ -22,9 +22,6 @@ use crm_parse::{Crm, SectionMarks, parse, sections};
 use listed::Listed;
 use op_history::{ResultLine, read_results, read_status};
 use std::alloc::Global;
-
-/// The most bytes that an input may have: 16 MiB.
-pub(crate) const MOST_BYTES: usize = 16_777_216;
 
 /// What an input says: its configuration, as it was written and as a cluster, its status and its results.
 #[derive(Drop)]
@@ -138,8 +135,7 @@ fn with_cluster(alloc: Global, found: Configuration, cluster: Cluster) -> Result
     requires limits { KeepsLimits cluster }
     requires results { found.marks.results_at ≤ length found.lines }
     requires end { found.marks.end ≤ length found.lines }
-    ensures given { Gives (λ input. input) result (with_cluster found cluster) }
-    ensures limits { IfOk result (λ input. KeepsLimits input.cluster) }
+    ensures { Gives (λ input. input) result (with_cluster found cluster) }
 {
     let lines = found.lines.as_slice();
     let status = lines_after(lines, found.marks.status_at, found.marks.results_at);
@@ -170,11 +166,15 @@ fn cluster_in(alloc: Global, found: &Configuration) -> Result<Cluster, ModelFaul
 /// The steps are the words of all lines, the sections, the statements of the configuration, its leaves, its cluster, the lines of the
 /// status and the result lines. A fault is that of the first step that fails, at the lowest line that is at fault in it, with the cause
 /// that the reader of that step gives. `NoMemory` comes where memory is refused.
-#[tactic(auto, using(crate::proofs::Readings::stops, crate::proofs::Readings::says_no_cluster, crate::proofs::Readings::stops_later, crate::proofs::Readings::is_read))]
+///
+/// What is read is valid: the cluster is, and the first journal is in order and has nothing in flight.
+#[tactic(auto, using(crate::proofs::Readings::readings, crate::proofs::ValidInput::inputs_made))]
 pub fn read_input(alloc: Global, text: &[u8]) -> Result<Input, InputFault>
     requires { length text.now ≤ most_bytes }
     ensures read { IsReading text.now result }
-    ensures limits { IfOk result (λ input. KeepsLimits input.cluster) }
+    ensures valid { IfOk result (λ input. IsValid input.cluster) }
+    ensures orderly { IfOk result (λ input. Orderly input.journal.events) }
+    ensures idle { IfOk result (λ input. in_flight input.journal.events ≡ []) }
 {
     let found = configuration_of(alloc, text)?;
     let cluster = cluster_in(alloc, &found)?;

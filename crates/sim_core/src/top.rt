@@ -5,9 +5,10 @@ ghost use Rattle.sim_core.specs.Answers.{Checks, IsAccepted, IsDoneUnlessMemory,
 ghost use Rattle.sim_core.specs.Words.{command_of};
 ghost use Rattle.sim_core.specs.declared.words.Command.TheVariants.{Check, Help, Replay, Version};
 
-use crate::check::check;
+use crate::check::CheckWord;
 use crate::help::{HELP, VERSION};
-use crate::replay::replay;
+use crate::input_word::carry_out;
+use crate::replay::ReplayWord;
 use crate::status::Status;
 use crate::words::{Command, command_of};
 use cluster_io::{Sink, Source, write_text};
@@ -74,8 +75,8 @@ pub fn run<S: Source, W: Sink>(alloc: Global, words: &[String], src: &mut S, out
     ensures given { IsGiven result }
 {
     match command_of(words) {
-        Some(Command::Check) => check(alloc, src, out),
-        Some(Command::Replay) => replay(alloc, src, out),
+        Some(Command::Check) => carry_out::<CheckWord, S, W>(alloc, src, out),
+        Some(Command::Replay) => carry_out::<ReplayWord, S, W>(alloc, src, out),
         Some(Command::Help) => tell(out, HELP),
         Some(Command::Version) => tell(out, VERSION),
         None => Status::Usage,
