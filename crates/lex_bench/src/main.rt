@@ -2,10 +2,17 @@
 //! instead how many bytes it cuts in a second.
 #![tactic(auto)]
 
+mod report;
+mod speed;
+#[cfg(test)]
+mod tests;
+
 ghost use Rattle.std.specs.Prelude.{◌≤◌, ◌<◌, ◌^◌, IfOk, length};
 
+use crate::report::report_of;
+use crate::speed::{PASSES, asks_for_time, speed_line};
 use cluster_io::{ReadEnd, StdSource, read_all};
-use crm_lex::{LexFault, Line, logical_lines};
+use crm_lex::{LexFault, logical_lines};
 use std::alloc::Global;
 use std::env;
 use std::io::{self, ErrorKind};
@@ -13,18 +20,6 @@ use std::time::Instant;
 
 /// The largest text, in bytes.
 const LIMIT: usize = 16_777_216;
-
-/// How often a text is cut where the time is taken.
-const PASSES: u32 = 5;
-
-fn is_timed(rt: &HostRuntime) -> io::Result<bool> {
-    for word in env::args(rt)?.skip(1) {
-        if word.as_str() == "time" {
-            return Ok(true);
-        }
-    }
-    Ok(false)
-}
 
 fn text(rt: &HostRuntime) -> io::Result<Vec<u8>>
     ensures { IfOk result (λ bytes. length bytes.items ≤ 16777216) }
@@ -38,24 +33,12 @@ fn text(rt: &HostRuntime) -> io::Result<Vec<u8>>
     }
 }
 
-fn count_of_words(lines: &[Line]) -> usize {
-    lines.iter().fold(0usize, |count, line| count.saturating_add(line.words.len()))
+fn words(rt: &HostRuntime) -> io::Result<Vec<String>> {
+    Ok(env::args(rt)?.skip(1).collect(rt.alloc())?)
 }
 
-fn print_count(rt: &HostRuntime, bytes: &[u8]) -> io::Result<()>
-    requires { length bytes.now < 2 ^ 32 }
-{
-    match logical_lines(rt.alloc(), bytes) {
-        Ok(lines) => {
-            let words = count_of_words(&lines);
-            println!(rt; "{} lines, {words} words", lines.len())
-        }
-        Err(LexFault::At { line, cause }) => println!(rt; "line {line}: {cause:?}"),
-        Err(LexFault::NoMemory) => Err(io::Error::from(ErrorKind::OutOfMemory)),
-    }
-}
-
-fn print_speed(rt: &HostRuntime, bytes: &[u8]) -> io::Result<()>
+/// The nanoseconds that all passes take.
+fn nanos(rt: &HostRuntime, bytes: &[u8]) -> io::Result<u128>
     requires { length bytes.now < 2 ^ 32 }
 {
     let start = Instant::now(rt)?;
@@ -64,17 +47,15 @@ fn print_speed(rt: &HostRuntime, bytes: &[u8]) -> io::Result<()>
             return Err(io::Error::from(ErrorKind::OutOfMemory));
         }
     }
-    let nanos = start.elapsed(rt)?.as_nanos().max(1);
-    let cut = (bytes.len() as u128).saturating_mul(PASSES as u128);
-    let speed = cut.saturating_mul(1_000_000_000) / nanos;
-    println!(rt; "{} bytes: {speed} bytes a second", bytes.len())
+    Ok(start.elapsed(rt)?.as_nanos())
 }
 
 fn main(rt: HostRuntime) -> io::Result<()> {
     let bytes = text(&rt)?;
-    if is_timed(&rt)? {
-        print_speed(&rt, &bytes)
+    let line = if asks_for_time(&words(&rt)?) {
+        speed_line(rt.alloc(), bytes.len(), nanos(&rt, &bytes)?)?
     } else {
-        print_count(&rt, &bytes)
-    }
+        report_of(rt.alloc(), &bytes)?
+    };
+    println!(rt; "{line}")
 }
