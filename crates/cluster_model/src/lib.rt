@@ -26,9 +26,12 @@ mod loop_faults;
 mod resolution;
 
 // What follows from the definitions.
-pub mod laws;
+mod laws;
 
 pub use fault::{ModelCause, ModelFault};
+pub use laws::{
+    resolved_clusters_are_valid, resolved_rules_have_no_loop, resolved_rules_name_able_leaves,
+};
 pub use resolution::resolve;
 
 #[cfg(test)]

@@ -11,11 +11,15 @@ mod clearing;
 mod first;
 
 // What follows from the definitions.
-pub mod laws;
+mod laws;
 
 pub use clearing::is_loop_free;
 pub use edge::{Edge, end_within};
 pub use first::first_loop;
+pub use laws::{
+    edges_without_a_loop_rise, first_loop_is_one, loops_are_paths, loops_or_none, loops_stay,
+    ways_are_short,
+};
 
 #[cfg(test)]
 mod tests;

@@ -10,9 +10,10 @@ mod orders;
 mod pushing;
 
 // What follows from the definitions.
-pub mod laws;
+mod laws;
 
 pub use colocations::{colocation_loop, joins_leaves};
+pub use laws::{first_colocation_is_one, first_order_is_one};
 pub use orders::{order_loop, orders_steps};
 
 #[cfg(test)]
