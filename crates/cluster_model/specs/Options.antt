@@ -11,12 +11,9 @@ use Rattle.cluster_types.specs.declared.cluster.Properties.{Properties}
 use Rattle.clone_expand.specs.Settings.{properties_in}
 
 -- what an option is set to, by the first statement that sets it
-abbrev pub setting_from : List ℕ → Option (List ℕ) → List Statement → Option (List ℕ)
-setting_from key found [] = found
-setting_from key found (s ∷ statements) = setting_from key (option_or found (value_of key (properties_in s.form))) statements
-
 abbrev pub setting_of : List ℕ → List Statement → Option (List ℕ)
-setting_of key statements = setting_from key None statements
+setting_of key [] = None
+setting_of key (s ∷ statements) = option_or (value_of key (properties_in s.form)) (setting_of key statements)
 
 -- an option that is yes or no
 abbrev pub flag_of : List ℕ → Bool → List Statement → Bool

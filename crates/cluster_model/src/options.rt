@@ -29,11 +29,12 @@ fn properties_in(form: &Form) -> &[Kv]
 fn setting_of<'a>(key: &[u8], statements: &'a [Statement]) -> Option<&'a [u8]>
     ensures { option_copied result ≡ setting_of key.now statements.now }
 {
-    let mut found = None;
     for statement in statements {
-        found = found.or(value_of(key, properties_in(&statement.form)));
+        if let Some(value) = value_of(key, properties_in(&statement.form)) {
+            return Some(value);
+        }
     }
-    found
+    None
 }
 
 /// An option that is yes or no.
