@@ -20,6 +20,3 @@ pub use memory_source::MemorySource;
 pub use sink::{Sink, WriteFault, WriteStep, write_text};
 pub use source::{ReadEnd, ReadStep, Source, read_all};
 pub use standard::{StdSink, StdSource};
-
-#[cfg(test)]
-mod tests;

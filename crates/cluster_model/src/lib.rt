@@ -33,6 +33,3 @@ pub use laws::{
     resolved_clusters_are_valid, resolved_rules_have_no_loop, resolved_rules_name_able_leaves,
 };
 pub use resolution::resolve;
-
-#[cfg(test)]
-mod tests;

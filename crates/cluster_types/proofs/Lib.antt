@@ -2,7 +2,7 @@ pub mod SmallClusters
 mod StateExamples
 mod PlaceExamples
 mod PrecedenceExamples
-mod Booleans
+pub mod Booleans
 pub mod MayLaws
 pub mod JournalLaws
 pub mod Paths
@@ -10,7 +10,6 @@ pub mod TableCells
 pub mod LeastSets
 pub mod NumberLaws
 pub mod RisingEdges
-pub mod SmallGraph
 pub mod StepLaws
 pub mod EagerLaws
 pub mod NeverStuck

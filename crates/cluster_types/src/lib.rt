@@ -33,6 +33,3 @@ pub use plan::Plan;
 pub use rules::{Colocation, Location, Order, OrderKind, RuleLocation};
 pub use run::{Passed, PassedEnd, Run, RunLine};
 pub use states::{Cell, CellState, NodeState, Rights, States};
-
-#[cfg(test)]
-mod tests;

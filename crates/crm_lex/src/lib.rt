@@ -16,10 +16,7 @@ mod word_buf;
 pub use fault::{LexCause, LexFault};
 pub use laws::{lines_of_pieces, the_first_fault_is_read};
 pub use line::Line;
-pub use logical::LONGEST_LINE;
+pub use logical::{LONGEST_LINE, line_count};
 pub use name::{Name, NoMemory};
 pub use reading::logical_lines;
 pub use word_buf::{WordBuf, lex_one};
-
-#[cfg(test)]
-mod tests;

@@ -44,7 +44,7 @@ pub fn first_logical_line(text: &[u8]) -> (&[u8], &[u8])
     text.split_at(first_logical_length(text))
 }
 
-/// How many physical lines there are.
+/// How many physical lines the bytes have, of which the last may lack its line feed.
 pub fn line_count(raw: &[u8]) -> usize
     ensures count { result ≡ length (physical_lines raw.now) }
     ensures few { result ≤ length raw.now }

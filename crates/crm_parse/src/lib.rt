@@ -58,6 +58,3 @@ pub use rule_form::RuleForm;
 pub use statement::{Crm, Statement};
 pub use values::{RoleName, action_of, bool_of, count_of, kind_of, role_of, time_of};
 pub use words::{ActionWord, KindWord, RoleWord, SettingsWord};
-
-#[cfg(test)]
-mod tests;

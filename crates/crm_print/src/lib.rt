@@ -19,6 +19,3 @@ mod laws;
 
 pub use laws::{canonical_text_is_canonical, what_is_printed_reads_again};
 pub use text::print;
-
-#[cfg(test)]
-mod tests;

@@ -49,6 +49,3 @@ fn compares(compare: Compare, kind: Kind, own: &[u8], value: &[u8]) -> bool
 {
     order_of(kind, own, value).is_some_and(|order| compare.meets(order))
 }
-
-#[cfg(test)]
-mod tests;

@@ -106,6 +106,3 @@ fn seconds_of(hours: u8, minutes: u8, seconds: u8) -> i64
 {
     3600 * i64::from(hours) + 60 * i64::from(minutes) + i64::from(seconds)
 }
-
-#[cfg(test)]
-mod tests;

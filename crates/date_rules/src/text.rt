@@ -69,6 +69,3 @@ impl PartialEq for Text {
 impl Eq for Text {
     ghost laws = { nat_list_eq_equiv };
 }
-
-#[cfg(test)]
-mod tests;

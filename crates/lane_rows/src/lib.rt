@@ -13,8 +13,6 @@ mod node_set;
 mod row;
 mod row_totals;
 mod sums;
-#[cfg(test)]
-mod tests;
 
 pub use candidate_set::{candidates, candidates_plain};
 pub use greatest_node::{greatest, greatest_plain};

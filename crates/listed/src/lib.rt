@@ -7,6 +7,3 @@
 mod list;
 
 pub use list::Listed;
-
-#[cfg(test)]
-mod tests;

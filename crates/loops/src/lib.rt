@@ -20,6 +20,3 @@ pub use laws::{
     edges_without_a_loop_rise, first_loop_is_one, loops_are_paths, loops_or_none, loops_stay,
     ways_are_short,
 };
-
-#[cfg(test)]
-mod tests;

@@ -33,6 +33,3 @@ pub use laws::first_journals_are_at_rest;
 pub use recovery::{Recovery, class_of};
 pub use results::{ResultLine, read_result, read_results};
 pub use status::read_status;
-
-#[cfg(test)]
-mod tests;

@@ -15,6 +15,3 @@ mod laws;
 pub use colocations::{colocation_loop, joins_leaves};
 pub use laws::{first_colocation_is_one, first_order_is_one};
 pub use orders::{order_loop, orders_steps};
-
-#[cfg(test)]
-mod tests;

@@ -3,8 +3,6 @@
 
 mod laws;
 mod points;
-#[cfg(test)]
-mod tests;
 mod text;
 mod totals;
 

@@ -184,6 +184,3 @@ pub fn read_cluster(alloc: Global, text: &[u8]) -> Result<Option<Cluster>, NoMem
     }
     Ok(Some(draft.cluster))
 }
-
-#[cfg(test)]
-mod tests;

@@ -27,8 +27,6 @@ mod memory;
 mod names;
 mod place;
 mod plan;
-#[cfg(test)]
-mod tests;
 mod text;
 mod transition;
 

@@ -1,0 +1,6 @@
+use Rattle.std.proofs.Common.{◌≡◌, ℕ, ◌<◌, true}
+use Rattle.lane_rows.specs.NodeSet.{has}
+use Rattle.base_cases.proofs.rows.most_of.Given as goal
+
+abbrev pub invariant-loop-node : goal.invariant-loop-node
+invariant-loop-node l = (n : ℕ) → has l.set n ≡ true → n < l.bound

@@ -1,0 +1,186 @@
+//! Which rules of locations hold.
+
+use date_rules::{Compare, Kind, Pair, Rule, Test, Text, holds};
+use listed::Listed;
+use std::alloc::{AllocError, Global};
+use std::test::Fail;
+
+const MOMENT: u64 = 1000;
+
+fn text(alloc: Global, bytes: &[u8]) -> Result<Text, AllocError> {
+    Ok(Text::from(bytes.to_vec(alloc)?))
+}
+
+/// The written attributes of the node.
+fn attributes(alloc: Global) -> Result<Vec<Pair>, Fail> {
+    let rows: [(&[u8], &[u8]); 10] = [
+        (b"rack", b"b"),
+        (b"rack", b"c"),
+        (b"level", b"10"),
+        (b"signed", b"+7"),
+        (b"low", b"-3"),
+        (b"note", b"abc"),
+        (b"empty", b""),
+        (b"big", b"9223372036854775807"),
+        (b"huge", b"9223372036854775808"),
+        (b"#uname", b"zz"),
+    ];
+    let mut pairs = Vec::new(alloc);
+    for (name, value) in rows {
+        pairs.push(Pair {
+            name: text(alloc, name)?,
+            value: text(alloc, value)?,
+        })?;
+    }
+    Ok(pairs)
+}
+
+/// Whether the rule of these tests holds at the node n1.
+fn rule_holds(alloc: Global, all: bool, tests: Vec<Test>, moment: u64) -> Result<bool, Fail> {
+    let rule = Rule {
+        all,
+        tests: Listed::from(tests),
+    };
+    Ok(holds(&rule, b"n1", attributes(alloc)?.as_slice(), moment))
+}
+
+/// Whether the one test passes, at a moment of 1000.
+fn test_passes(alloc: Global, test: Test) -> Result<bool, Fail> {
+    let mut tests = Vec::new(alloc);
+    tests.push(test)?;
+    rule_holds(alloc, true, tests, MOMENT)
+}
+
+#[test]
+fn comparisons(rt: HostRuntime) -> Result<(), Fail> {
+    let alloc = rt.alloc();
+    let rows: [(&[u8], Compare, Kind, &[u8], bool); 28] = [
+        (b"rack", Compare::Eq, Kind::Auto, b"b", true),
+        (b"rack", Compare::Eq, Kind::Auto, b"c", false),
+        (b"rack", Compare::Ne, Kind::Word, b"c", true),
+        (b"level", Compare::Gt, Kind::Number, b"9", true),
+        (b"level", Compare::Gt, Kind::Word, b"9", false),
+        (b"level", Compare::Gt, Kind::Auto, b"9", true),
+        (b"level", Compare::Gt, Kind::Auto, b"9a", false),
+        (b"level", Compare::Lt, Kind::Auto, b"9a", true),
+        (b"level", Compare::Lte, Kind::Number, b"10", true),
+        (b"level", Compare::Gte, Kind::Number, b"11", false),
+        (b"signed", Compare::Eq, Kind::Number, b"7", true),
+        (b"signed", Compare::Eq, Kind::Word, b"7", false),
+        (b"low", Compare::Lt, Kind::Number, b"-2", true),
+        (b"low", Compare::Lt, Kind::Word, b"-2", false),
+        (b"note", Compare::Eq, Kind::Number, b"abc", false),
+        (b"note", Compare::Ne, Kind::Number, b"5", false),
+        (b"level", Compare::Ne, Kind::Number, b"x", false),
+        (b"note", Compare::Lt, Kind::Word, b"abd", true),
+        (b"note", Compare::Gt, Kind::Word, b"ab", true),
+        (b"missing", Compare::Ne, Kind::Word, b"x", false),
+        (b"missing", Compare::Eq, Kind::Word, b"", false),
+        (b"empty", Compare::Eq, Kind::Word, b"", true),
+        (b"empty", Compare::Lt, Kind::Number, b"1", false),
+        (
+            b"big",
+            Compare::Gte,
+            Kind::Number,
+            b"9223372036854775807",
+            true,
+        ),
+        (b"huge", Compare::Gt, Kind::Number, b"5", false),
+        (
+            b"huge",
+            Compare::Gt,
+            Kind::Auto,
+            b"9223372036854775807",
+            true,
+        ),
+        (b"#uname", Compare::Eq, Kind::Auto, b"n1", true),
+        (b"#uname", Compare::Eq, Kind::Auto, b"zz", false),
+    ];
+    for (name, compare, kind, value, expected) in rows {
+        let (name, value) = (text(alloc, name)?, text(alloc, value)?);
+        let passes = test_passes(
+            alloc,
+            Test::Attribute {
+                name,
+                compare,
+                kind,
+                value,
+            },
+        )?;
+        assert_eq!(rt; passes, expected);
+    }
+    Ok(())
+}
+
+#[test]
+fn presence(rt: HostRuntime) -> Result<(), Fail> {
+    let alloc = rt.alloc();
+    let rows: [(&[u8], bool); 3] = [(b"rack", true), (b"missing", false), (b"#uname", true)];
+    for (name, expected) in rows {
+        let defined = test_passes(
+            alloc,
+            Test::Defined {
+                name: text(alloc, name)?,
+            },
+        )?;
+        let not_defined = test_passes(
+            alloc,
+            Test::NotDefined {
+                name: text(alloc, name)?,
+            },
+        )?;
+        assert_eq!(rt; defined, expected);
+        assert_eq!(rt; not_defined, !expected);
+    }
+    Ok(())
+}
+
+#[test]
+fn moments(rt: HostRuntime) -> Result<(), Fail> {
+    let alloc = rt.alloc();
+    let rows: [(i64, bool, bool); 4] = [
+        (999, false, true),
+        (1000, false, false),
+        (1001, true, false),
+        (-5, false, true),
+    ];
+    for (at, before, after) in rows {
+        let is_before = test_passes(alloc, Test::Before { at })?;
+        let is_after = test_passes(alloc, Test::After { at })?;
+        assert_eq!(rt; is_before, before);
+        assert_eq!(rt; is_after, after);
+    }
+    let rows: [(i64, i64, bool); 5] = [
+        (1000, 1000, true),
+        (1001, 2000, false),
+        (-10, 999, false),
+        (-10, 5000, true),
+        (2000, 500, false),
+    ];
+    for (start, end, expected) in rows {
+        let is_within = test_passes(alloc, Test::Within { start, end })?;
+        assert_eq!(rt; is_within, expected);
+    }
+    Ok(())
+}
+
+#[test]
+fn joined_tests(rt: HostRuntime) -> Result<(), Fail> {
+    let alloc = rt.alloc();
+    let of_none = rule_holds(alloc, true, Vec::new(alloc), MOMENT)?;
+    assert!(rt; of_none);
+    let of_none = rule_holds(alloc, false, Vec::new(alloc), MOMENT)?;
+    assert!(rt; !of_none);
+    for (all, expected) in [(true, false), (false, true)] {
+        let mut tests = Vec::new(alloc);
+        tests.push(Test::Before { at: 999 })?;
+        tests.push(Test::After { at: 999 })?;
+        let joined = rule_holds(alloc, all, tests, MOMENT)?;
+        assert_eq!(rt; joined, expected);
+    }
+    let mut tests = Vec::new(alloc);
+    tests.push(Test::After { at: i64::MAX })?;
+    let latest = rule_holds(alloc, false, tests, u64::MAX)?;
+    assert!(rt; latest);
+    Ok(())
+}

@@ -1,0 +1,69 @@
+//! What the calls of `cluster_types` answer.
+
+ghost use Rattle.std.specs.Prelude.{◌≡◌};
+
+use cluster_types::{
+    Action, Cell, CellState, Edge, Edges, Graph, NodeState, States, Table, Target,
+};
+use listed::Listed;
+use std::alloc::{AllocError, Global};
+use std::test::Fail;
+
+#[test]
+fn a_table_keeps_each_target(rt: HostRuntime) -> Result<(), Fail> {
+    let Ok(table) = Table::nowhere(rt.alloc(), 2, 3) else {
+        return Err(Fail::from("no memory"));
+    };
+    assert_eq!(rt; table.targets.len(), 6);
+    let table = table
+        .with_target(1, 2, Target::Promoted)
+        .with_target(0, 1, Target::Started);
+    assert_eq!(rt; table.target(1, 2), Target::Promoted);
+    assert_eq!(rt; table.target(0, 1), Target::Started);
+    assert_eq!(rt; table.target(1, 1), Target::Nowhere);
+    assert_eq!(rt; table.target(0, 2), Target::Nowhere);
+    Ok(())
+}
+
+fn probe(node: u32) -> Action
+    ensures { result ≡ Action.Probe 0 node }
+{
+    Action::Probe { leaf: 0, node }
+}
+
+fn edge(before: u32, after: u32) -> Edge
+    ensures { result ≡ record { before = before; after = after } }
+{
+    Edge { before, after }
+}
+
+/// Four probes and two gates: the first two come before the third through both gates, and the third before the fourth.
+fn joined(alloc: Global) -> Result<Graph, AllocError> {
+    let actions = [probe(0), probe(1), probe(2), probe(3)].to_vec(alloc)?;
+    let list = [edge(0, 4), edge(1, 4), edge(4, 5), edge(5, 2), edge(2, 3)].to_vec(alloc)?;
+    let edges = Edges {
+        positions: 6,
+        list: Listed::from(list),
+    };
+    Ok(Graph::new(actions, edges))
+}
+
+#[test]
+fn an_action_comes_before_others_through_gates_alone(rt: HostRuntime) -> Result<(), Fail> {
+    let graph = joined(rt.alloc())?;
+    assert_eq!(rt; graph.count(), 4);
+    assert_eq!(rt; graph.edges().positions, 6);
+    assert_eq!(rt; graph.action(2), Action::Probe { leaf: 0, node: 1 });
+    for (x, y, before) in [
+        (1, 3, true),
+        (2, 3, true),
+        (3, 4, true),
+        (1, 2, false),
+        (1, 4, false),
+        (3, 1, false),
+        (4, 4, false),
+    ] {
+        assert_eq!(rt; graph.is_before(x, y), before);
+    }
+    Ok(())
+}

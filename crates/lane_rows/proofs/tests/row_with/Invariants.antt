@@ -1,6 +1,0 @@
-use Rattle.std.proofs.Common.{◌≡◌, length}
-use Rattle.lane_rows.specs.Small.{IsSmallRow}
-use Rattle.lane_rows.proofs.tests.row_with.Given as goal
-
-abbrev pub invariant-loop-i : goal.invariant-loop-i
-invariant-loop-i g l = record { nodes : length l.row ≡ l.nodes; small : IsSmallRow l.i l.row }

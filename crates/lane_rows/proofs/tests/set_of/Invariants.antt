@@ -1,6 +1,0 @@
-use Rattle.std.proofs.Common.{◌≡◌, ℕ, ◌<◌, true}
-use Rattle.lane_rows.specs.NodeSet.{has}
-use Rattle.lane_rows.proofs.tests.set_of.Given as goal
-
-abbrev pub invariant-loop-node : goal.invariant-loop-node
-invariant-loop-node g l = (n : ℕ) → has l.set n ≡ true → n < l.bound

@@ -1,7 +1,0 @@
-use Rattle.loops.proofs.tests.first.Goals as goal
-
-pub first_loop-requires : goal.first_loop-requires
-first_loop-requires c = c.end_within.ensures.0 c.if-not-end_within.false
-
-pub is_loop_free-requires : goal.is_loop_free-requires
-is_loop_free-requires c = c.end_within.ensures.0 c.if-not-end_within.false

@@ -1,7 +1,0 @@
-use Rattle.std.proofs.Common.{IsTrue}
-use Rattle.rule_loops.proofs.tests.closing_colocation.Goals as goal
-
-pub colocation_loop-requires-clause-joined : goal.colocation_loop-requires-clause-joined
-colocation_loop-requires-clause-joined c =
-    let told : IsTrue c.joins_leaves.result = let kept = c.if-not-joins_leaves.false in cc in
-    c.joins_leaves.ensures.0 told

@@ -1,7 +1,0 @@
-use Rattle.std.proofs.Common.{IsTrue}
-use Rattle.rule_loops.proofs.tests.closing_order.Goals as goal
-
-pub order_loop-requires-clause-ordered : goal.order_loop-requires-clause-ordered
-order_loop-requires-clause-ordered c =
-    let told : IsTrue c.orders_steps.result = let kept = c.if-not-orders_steps.false in cc in
-    c.orders_steps.ensures.0 told

@@ -1,0 +1,13 @@
+//! Tests of whole runs: the words of the command line with an input, and the status and the text that come of them.
+//!
+//! They stand in a crate of their own, since the tests of a crate are proved together with all of its code once more.
+#![tactic(auto)]
+
+#[cfg(test)]
+mod check;
+#[cfg(test)]
+mod first_form;
+#[cfg(test)]
+mod outcome;
+#[cfg(test)]
+mod words;

@@ -1,0 +1,6 @@
+//! What `crm_parse` reads.
+
+mod marks;
+mod meanings;
+mod refused;
+mod values;
