@@ -4,6 +4,7 @@ pub mod Groups
 pub mod Joints
 pub mod Faults
 pub mod Words
+pub mod PlainLines
 pub mod Answered
 pub mod WordRoom
 pub mod LineFaults

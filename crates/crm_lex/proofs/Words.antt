@@ -1,10 +1,12 @@
 -- The words of a text, byte by byte.
-use Rattle.std.proofs.Common.{◌≡◌, ℕ, ◌+◌, ◌<◌, false, Option, List, [], ◌∷◌, ◌++◌, length, get_or, drop, refl, sym, ◌∙◌, append-nil}
-use Rattle.std.proofs.lemmas.List.{at_drop_more}
+use Rattle.std.proofs.Common.{◌≡◌, ℕ, ◌+◌, ◌-◌, ◌<◌, ◌≤◌, ◌==◌, ◌||◌, Bool, true, false, Option, List, [], ◌∷◌, ◌++◌, length, map, filter, get_or, drop, slice_range, refl, sym, ap, ◌∙◌, append_assoc, append-nil, arith}
+use Rattle.std.proofs.lemmas.List.{at_drop_more, take_more, get_or-drop, length-drop}
 use Rattle.std.specs.List.{slice_split, onto_first}
-use Rattle.crm_lex.specs.Words.{first_byte, piece_at, place_after, pieces, is_gap, letters}
-use Rattle.crm_lex.specs.Parts.{first_letters, later_words, word_on, words_behind}
+use Rattle.crm_lex.specs.RawLines.{is_blank}
+use Rattle.crm_lex.specs.Words.{first_byte, is_quote, piece_at, place_after, pieces, is_gap, has_pieces, letters, words_of}
+use Rattle.crm_lex.specs.Parts.{first_letters, later_words, word_on, words_behind, ends_plain, ends_word, PlainBetween}
 use Rattle.crm_lex.specs.declared.quoting.Place.{Place}
+use Rattle.crm_lex.specs.declared.quoting.Place.TheVariants.{Outside}
 use Rattle.crm_lex.specs.declared.quoting.Piece.{Piece}
 use Rattle.crm_lex.specs.declared.quoting.Piece.TheVariants.{Gap, Mark, Letter}
 
@@ -54,3 +56,61 @@ word_more place after piece next text at within n p a g =
       letters_on = at_drop_more (word_on place) text at 0 within ∙ (word_on-cons place b rest gap ∙ rw (same_piece, same_place) refl);
       behind = at_drop_more (words_behind place) text at 0 within ∙ (words_behind-cons place b rest gap ∙ rw same_place refl);
     }
+
+-- outside quotes: a byte that stands for itself, and where none is left
+pub neither : (p q : Bool) → (p || q) ≡ false → (p ≡ false) × (q ≡ false)
+neither true q e = cc
+neither false q e = (refl, e)
+
+pub plain_here : (text : List ℕ) (from : ℕ) → PlainBetween text from from
+plain_here text from = let none : from - from ≡ 0 = omega arith in record { letters = rw none refl; behind = refl }
+
+plain_word : (text : List ℕ) (at : ℕ) → at < length text → ends_plain (get_or text at 0) ≡ false → Goes Outside Outside (Letter (get_or text at 0)) text at
+plain_word text at within e =
+    let b = get_or text at 0 in
+    let no_blank = neither (is_blank b) (is_quote b) e in
+    let no_quote = neither (b == 34) (b == 39) no_blank.1 in
+    word_more Outside Outside (Letter b) (first_byte (drop (at + 1) text)) text at within refl (rw (no_blank.0, no_quote.0, no_quote.1) refl) (rw (no_quote.0, no_quote.1) refl) refl
+
+pub plain_more : (text : List ℕ) (from at : ℕ) → from ≤ at → at < length text → ends_plain (get_or text at 0) ≡ false → PlainBetween text from at → PlainBetween text from (at + 1)
+plain_more text from at low within e plain =
+    let b = get_or text at 0 in
+    let goes = plain_word text at within e in
+    let rest = word_on Outside (drop (at + 1) text) in
+    let size : at + 1 - from ≡ at - from + 1 = omega arith in
+    let place : from + (at - from) ≡ at = omega arith in
+    let last : get_or (drop from text) (at - from) 0 ≡ b = get_or-drop from text (at - from) 0 ∙ rw place refl in
+    let more : slice_range text from (at + 1) ≡ slice_range text from at ++ b ∷ [] =
+    rw size (take_more (drop from text) (at - from) 0 (omega (arith, length-drop from text)) ∙ rw last refl) in
+    record {
+      letters = plain.letters ∙ (ap (λ xs. slice_range text from at ++ xs) goes.letters_on ∙ (sym (append_assoc (slice_range text from at) (b ∷ []) rest) ∙ ap (λ xs. xs ++ rest) (sym more)));
+      behind = plain.behind ∙ goes.behind;
+    }
+
+-- a text that begins with no blank, and one before which a word ends
+words_first : (p : Piece) (parts : List (List Piece)) → map letters (filter has_pieces (onto_first p parts)) ≡ first_letters (onto_first p parts) ∷ later_words (onto_first p parts)
+words_first p [] = refl
+words_first p (part ∷ parts) = refl
+
+words_begin : (text : List ℕ) → 0 < length text → is_blank (get_or text 0 0) ≡ false → words_of text ≡ word_on Outside text ∷ words_behind Outside text
+words_begin [] some e = absurd (omega arith)
+words_begin (b ∷ bs) some e = split (is_quote b) refl (slice_split is_gap (pieces (place_after Outside b (first_byte bs)) bs)) refl
+  where
+    split : (t : Bool) → is_quote b ≡ t → (rest : List (List Piece)) → rest ≡ slice_split is_gap (pieces (place_after Outside b (first_byte bs)) bs)
+        → words_of (b ∷ bs) ≡ word_on Outside (b ∷ bs) ∷ words_behind Outside (b ∷ bs)
+    split true q rest is = rw (e, q, ← is) (words_first Mark rest)
+    split false q rest is = rw (e, q, ← is) (words_first (Letter b) rest)
+
+word_ends : (text : List ℕ) → ends_word (first_byte text) ≡ true → (word_on Outside text ≡ []) × (words_behind Outside text ≡ words_of text)
+word_ends [] e = (refl, refl)
+word_ends (b ∷ bs) e = rw e (refl, refl)
+
+-- a word of bytes that stand for themselves, and the words behind it
+pub plain_first : (text : List ℕ) (from to : ℕ) → from < length text → is_blank (get_or text from 0) ≡ false → ends_word (first_byte (drop to text)) ≡ true → PlainBetween text from to
+    → words_of (drop from text) ≡ slice_range text from to ∷ words_of (drop to text)
+plain_first text from to within begins ends plain =
+    let place : from + 0 ≡ from = omega arith in
+    let first : is_blank (get_or (drop from text) 0 0) ≡ false = ap is_blank (get_or-drop from text 0 0) ∙ (rw place begins) in
+    let here = word_ends (drop to text) ends in
+    let word : word_on Outside (drop from text) ≡ slice_range text from to = plain.letters ∙ (rw here.0 (append-nil (slice_range text from to))) in
+    words_begin (drop from text) (omega (arith, length-drop from text)) first ∙ rw (word, plain.behind, here.1) refl

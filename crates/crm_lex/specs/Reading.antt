@@ -45,6 +45,12 @@ Gives (Ok lines) read = read ≡ Ok lines.items
 Gives (Err NoMemory) read = Unit {0}
 Gives (Err (At n cause)) read = read ≡ Err (At n cause)
 
+-- the words that were returned are what is read of a line, unless memory ran out
+abbrev pub GivesWords : Result (List (List ℕ)) LexFault → Result (List (List ℕ)) LexFault → Type 0
+GivesWords (Ok words) read = read ≡ Ok words
+GivesWords (Err NoMemory) read = Unit {0}
+GivesWords (Err (At n cause)) read = read ≡ Err (At n cause)
+
 -- how many words there are, and the first eight
 pub record Kept : Type 0 where
   pub count : ℕ

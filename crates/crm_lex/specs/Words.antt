@@ -12,6 +12,10 @@ abbrev pub first_byte : List ℕ → Option ℕ
 first_byte [] = None
 first_byte (b ∷ bs) = Some b
 
+-- a quote, double or single
+abbrev pub is_quote : ℕ → Bool
+is_quote b = b == 34 || b == 39
+
 -- between double quotes a backslash escapes a double quote or a backslash that follows it
 abbrev pub escapes : ℕ → Option ℕ → Bool
 escapes b None = false
@@ -23,7 +27,7 @@ mark_if false b = Letter b
 
 -- what a byte at a place is, before the next byte: a gap between words, a mark of quoting, or a letter of its word
 abbrev pub piece_at : Place → ℕ → Option ℕ → Piece
-piece_at Outside b next = if is_blank b then Gap else mark_if (b == 34 || b == 39) b
+piece_at Outside b next = if is_blank b then Gap else mark_if (is_quote b) b
 piece_at Double b next = mark_if (b == 34 || escapes b next) b
 piece_at Escaped b next = Letter b
 piece_at Single b next = mark_if (b == 39) b

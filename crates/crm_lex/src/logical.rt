@@ -1,10 +1,11 @@
 ghost use Rattle.std.specs.Prelude.{◌≡◌, ◌+◌, ◌<◌, ◌≤◌, ◌^◌, ◌++◌, ◌∷◌, [], Some, None, take, drop, length, vec_len, vec_capacity};
 ghost use Rattle.crm_lex.specs.RawLines.{physical_lines, raw_lines, begins_comment as begins_with_comment};
 ghost use Rattle.crm_lex.specs.LogicalLines as spec;
+ghost use Rattle.crm_lex.specs.Parts as parts;
 ghost use Rattle.crm_lex.specs.Reading.{first_fault};
 
 use crate::physical::{
-    begins_comment, byte_fault, content, ends_in_backslash, first_line, goes_on, refused,
+    begins_comment, byte_fault, content, ends_in_backslash, first_line, goes_on, has_marks, refused,
 };
 use crate::word::is_open;
 use crate::{LexCause, LexFault};
@@ -117,6 +118,22 @@ fn add_content(content: &[u8], joint: &[u8], text: &mut Vec<u8>)
     } else {
         add(content, text);
     }
+}
+
+/// Whether the text has no quote and no backslash, and isn't too long.
+fn is_plain_text(text: &[u8]) -> bool
+    ensures { result ≡ parts.is_plain_text text.now }
+{
+    text.len() <= LONGEST_LINE && !has_marks(text)
+}
+
+/// Whether the logical line is one physical line without quotes and backslashes, which isn't too long.
+pub fn is_plain(raw: &[u8]) -> bool
+    requires { 0 < length raw.now }
+    ensures { result ≡ parts.is_plain (physical_lines raw.now) }
+{
+    let (line, after) = first_line(raw);
+    after.is_empty() && is_plain_text(content(line))
 }
 
 /// What a backslash becomes before the lines that are left.

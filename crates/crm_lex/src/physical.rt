@@ -6,7 +6,7 @@ ghost use Rattle.crm_lex.specs.LogicalLines as spec;
 ghost use Rattle.crm_lex.specs.Parts as parts;
 ghost use Rattle.crm_lex.specs.Reading.{first_fault};
 
-use crate::quoting::is_blank;
+use crate::quoting::{is_blank, is_quote};
 use crate::{LexCause, LexFault};
 use memchr::memchr;
 
@@ -97,6 +97,13 @@ fn has_control(content: &[u8]) -> bool
     ensures { result ≡ list_any spec.is_control content.now }
 {
     content.iter().any(|byte| is_control(*byte))
+}
+
+/// Whether there is a quote or a backslash.
+pub fn has_marks(content: &[u8]) -> bool
+    ensures { result ≡ list_any parts.is_quote_or_backslash content.now }
+{
+    content.iter().any(|byte| is_quote(*byte) || *byte == b'\\')
 }
 
 fn is_text(content: &[u8]) -> bool

@@ -29,6 +29,12 @@ pub fn is_blank(byte: u8) -> bool
     byte == b'\t' || byte == b' '
 }
 
+pub fn is_quote(byte: u8) -> bool
+    ensures { result ≡ spec.is_quote byte }
+{
+    byte == b'"' || byte == b'\''
+}
+
 fn escapes(byte: u8, next: Option<u8>) -> bool
     ensures { result ≡ spec.escapes byte next }
 {
@@ -63,7 +69,7 @@ impl Place {
     {
         match self {
             Place::Outside if is_blank(byte) => Piece::Gap,
-            Place::Outside => mark_if(byte == b'"' || byte == b'\'', byte),
+            Place::Outside => mark_if(is_quote(byte), byte),
             Place::Double => mark_if(byte == b'"' || escapes(byte, next), byte),
             Place::Escaped => Piece::Letter(byte),
             Place::Single => mark_if(byte == b'\'', byte),

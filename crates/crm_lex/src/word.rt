@@ -1,18 +1,26 @@
-ghost use Rattle.std.specs.Prelude.{◌≡◌, ◌+◌, ◌-◌, ◌<◌, ◌≤◌, ◌++◌, ◌∷◌, [], false, length, drop, slice_index, vec_len, vec_capacity};
+ghost use Rattle.std.specs.Prelude.{◌≡◌, ◌+◌, ◌-◌, ◌<◌, ◌≤◌, ◌++◌, ◌∷◌, [], true, false, length, drop, slice_index, vec_len, vec_capacity};
 ghost use Rattle.crm_lex.specs.RawLines as raw;
 ghost use Rattle.crm_lex.specs.Words as spec;
 ghost use Rattle.crm_lex.specs.Words.{words_of};
-ghost use Rattle.crm_lex.specs.Parts.{word_on};
+ghost use Rattle.crm_lex.specs.Parts as parts;
+ghost use Rattle.crm_lex.specs.Parts.{PlainBetween, word_on};
 ghost use Rattle.crm_lex.specs.declared.quoting.Place.TheVariants.{Outside};
 
-use crate::quoting::{Piece, Place, is_blank};
+use crate::quoting::{Piece, Place, is_blank, is_quote};
+
+/// The byte at the place, if there is one.
+fn byte_at(text: &[u8], at: usize) -> Option<u8>
+    ensures { result ≡ spec.first_byte (drop at text.now) }
+{
+    text.get(at).copied()
+}
 
 /// The byte behind the place, if there is one.
 fn next_byte(text: &[u8], at: usize) -> Option<u8>
     requires { at < length text.now }
     ensures { result ≡ spec.first_byte (drop (at + 1) text.now) }
 {
-    text.get(at + 1).copied()
+    byte_at(text, at + 1)
 }
 
 /// Whether a quote is open at the end of the text.
@@ -36,6 +44,38 @@ pub fn word_start(text: &[u8], from: usize) -> usize
 {
     for at in from..text.len() {
         if !is_blank(text[at]) {
+            return at;
+        }
+    }
+    text.len()
+}
+
+/// Whether a word that is outside quotes ends at the place.
+pub fn ends_word(text: &[u8], at: usize) -> bool
+    ensures { result ≡ parts.ends_word (spec.first_byte (drop at text.now)) }
+{
+    match byte_at(text, at) {
+        Some(byte) => is_blank(byte),
+        None => true,
+    }
+}
+
+fn ends_plain(byte: u8) -> bool
+    ensures { result ≡ parts.ends_plain byte }
+{
+    is_blank(byte) || is_quote(byte)
+}
+
+/// Where the bytes end, from this place on, that stand for themselves in a word: at a blank, at a quote, or at the end.
+pub fn plain_end(text: &[u8], from: usize) -> usize
+    requires { from ≤ length text.now }
+    ensures low { from ≤ result }
+    ensures high { result ≤ length text.now }
+    ensures plain { PlainBetween text.now from result }
+    ensures ends { result < length text.now → parts.ends_plain (slice_index text.now result) ≡ true }
+{
+    for at in from..text.len() {
+        if ends_plain(text[at]) {
             return at;
         }
     }

@@ -1,11 +1,12 @@
 -- Clean texts: of UTF-8, without a byte that no line may have. What of a clean text stands beside an ASCII byte is clean.
-use Rattle.std.proofs.Common.{◌≡◌, ℕ, zero, suc, ◌+◌, ◌<◌, Bool, true, false, not, ◌&&◌, ◌||◌, List, [], ◌∷◌, ◌++◌, length, take, drop, get_or, refl, sym, ap, subst, ◌∙◌, arith, length-append, append_assoc, nat_lt, nat_le, ◌==◌}
+use Rattle.std.proofs.Common.{◌≡◌, ℕ, zero, suc, ◌+◌, ◌<◌, Bool, true, false, not, ◌&&◌, ◌||◌, List, [], ◌∷◌, ◌++◌, length, drop, get_or, refl, sym, ap, subst, ◌∙◌, arith, length-append, append_assoc, nat_lt, nat_le, ◌==◌}
 use Rattle.std.proofs.lemmas.List.{drop_at, take_at}
 use Rattle.std.proofs.lemmas.Str.{IsCharBoundary-after_ascii, IsCharBoundary-before_ascii, IsUtf8-append, IsUtf8-drop, IsUtf8-from_ascii, IsUtf8-take, IsUtf8-nil}
 use Rattle.std.specs.List.{list_any, list_all, AllByRecursion}
 use Rattle.std.specs.Str.{IsUtf8, IsAscii}
 use Rattle.crm_lex.specs.LogicalLines.{is_control}
 use Rattle.crm_lex.specs.Names.{is_name, is_name_byte}
+pub use Rattle.crm_lex.proofs.Words.{neither}
 
 pub record Clean (text : List ℕ) : Type 0 where
   pub utf8 : IsUtf8 text
@@ -17,10 +18,6 @@ AllClean texts = AllByRecursion Clean texts
 
 abbrev pub EachClean : List (List (List ℕ)) → Type 0
 EachClean items = AllByRecursion AllClean items
-
-pub neither : (a b : Bool) → (a || b) ≡ false → (a ≡ false) × (b ≡ false)
-neither true b h = cc
-neither false b h = (refl, h)
 
 allowed-front : (xs ys : List ℕ) → list_any is_control (xs ++ ys) ≡ false → list_any is_control xs ≡ false
 allowed-front [] ys h = refl

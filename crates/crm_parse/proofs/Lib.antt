@@ -1,4 +1,5 @@
 pub mod Places
+pub mod Unmarked
 pub mod Cuts
 pub mod Bounds
 pub mod KeySets

@@ -113,6 +113,14 @@ pub fn sections(lines: &[Line]) -> Result<SectionMarks, ParseFault>
     ensures { result ≡ sections_of lines.now }
 {
     let last = b"%results";
+    let end = lines.len() as u32;
+    if !has_mark(lines) {
+        return Ok(SectionMarks {
+            status_at: end,
+            results_at: end,
+            end,
+        });
+    }
     if let Some(line) = misplaced(last, lines) {
         return Err(ParseFault::At {
             line,
@@ -123,7 +131,7 @@ pub fn sections(lines: &[Line]) -> Result<SectionMarks, ParseFault>
     Ok(SectionMarks {
         status_at: position(STATUS, lines).min(results_at),
         results_at,
-        end: lines.len() as u32,
+        end,
     })
 }
 

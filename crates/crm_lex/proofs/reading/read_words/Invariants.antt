@@ -7,7 +7,7 @@ abbrev pub invariant-loop-at : goal.invariant-loop-at
 invariant-loop-at l = record {
   within : l.at ≤ length l.text;
   begins : l.at < length l.text → is_blank (slice_index l.text l.at) ≡ false;
-  words : words_of l.text ≡ l.words ++ words_of (drop l.at l.text);
+  words : words_of l.text ≡ l.found.items ++ words_of (drop l.at l.text);
   capacity : vec_capacity l.word ≡ vec_capacity l.fn.word;
 }
 

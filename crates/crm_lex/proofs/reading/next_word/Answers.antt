@@ -1,0 +1,10 @@
+use Rattle.std.proofs.Common.{◌∷◌, drop, sym, ap, ◌∙◌}
+use Rattle.crm_lex.specs.Words.{words_of}
+use Rattle.crm_lex.proofs.Words.{plain_first}
+use Rattle.crm_lex.proofs.reading.next_word.Goals as goal
+
+pub returns-then-ends_word-clause-words : goal.returns-then-ends_word-clause-words
+returns-then-ends_word-clause-words c =
+    let text = c.args.text.now in
+    let rest = words_of (drop c.plain_end-end.result text) in
+    plain_first text c.args.from c.plain_end-end.result c.requires.from_in c.requires.begins (sym c.if-ends_word.ensures) c.plain_end-end.ensures.plain ∙ ap (λ word. word ∷ rest) (sym c.in_ok-from_bytes.ensures)
