@@ -1,0 +1,2 @@
+pub mod LeafFails
+pub mod MoreFailures

@@ -1,0 +1,2 @@
+pub mod LeafFields
+pub mod Tally
