@@ -1,0 +1,71 @@
+//! Which node is fenced after it was lost.
+
+use crate::plain::{cluster, is_small};
+use cluster_types::{Action, Event, Journal, Op, Outcome, Policy, Role};
+use fail_counts::moment_of;
+use listed::Listed;
+use quorum_fence::{rights, to_fence};
+use state_unpack::unpack;
+use std::alloc::Global;
+use std::test::Fail;
+
+/// Two nodes join, the leaf starts on the second, and a second later this node is lost.
+fn journal(alloc: Global, quorum: bool) -> Result<Journal, Fail> {
+    let started = Action::Cell {
+        op: Op::Start,
+        leaf: 0,
+        node: 1,
+        interval_ms: 0,
+        role: Role::Started,
+    };
+    let history = [
+        Event::Up { node: 0 },
+        Event::Up { node: 1 },
+        Event::Ended {
+            number: 0,
+            action: started,
+            outcome: Outcome::Code(0),
+            moment: 900,
+        },
+        Event::Ended {
+            number: 0,
+            action: Action::Probe { leaf: 0, node: 0 },
+            outcome: Outcome::Code(7),
+            moment: 900,
+        },
+        Event::Quorum { yes: quorum },
+        Event::Wait { seconds: 1_000 },
+        Event::Lost { node: 1 },
+    ];
+    Ok(Journal {
+        events: Listed::from(history.to_vec(alloc)?),
+        promotions: Listed::new(alloc),
+    })
+}
+
+/// Whether there is quorum, whether the cluster fences, its policy, and whether the lost node is fenced.
+const ROWS: [(bool, bool, Policy, bool); 4] = [
+    (true, true, Policy::Stop, true),
+    (true, false, Policy::Stop, false),
+    (false, true, Policy::Freeze, false),
+    (false, true, Policy::Ignore, true),
+];
+
+#[test]
+fn a_lost_node_is_fenced_with_the_right_to(rt: HostRuntime) -> Result<(), Fail> {
+    let alloc = rt.alloc();
+    for row in &ROWS {
+        let (quorum, fencing, policy, fenced) = *row;
+        let cluster = cluster(alloc, &["n1", "n2"], fencing, policy)?;
+        is_small(&rt, &cluster);
+        let journal = journal(alloc, quorum)?;
+        assert!(rt; moment_of(journal.events.as_slice()) < 18_446_744_073_709_551_616);
+        let states = unpack(alloc, &cluster, &journal)?;
+        assert!(rt; states.nodes.len() <= 256);
+        let nodes = to_fence(alloc, &cluster, &states)?;
+        let expected: &[u32] = if fenced { &[1] } else { &[] };
+        assert!(rt; nodes.as_slice() == expected);
+        assert!(rt; rights(&cluster, &states).may_fence == fenced);
+    }
+    Ok(())
+}

@@ -1,0 +1,142 @@
+//! What a journal tells of one leaf on one node.
+
+use crate::plain::{cluster, is_small};
+use cluster_types::{Action, Cell, CellState, Event, Journal, Op, Outcome, Policy, Role};
+use fail_counts::{banned, moment_of};
+use listed::Listed;
+use state_unpack::unpack;
+use std::alloc::Global;
+use std::test::Fail;
+
+/// An operation, its interval in milliseconds, and how it ended. A monitor of interval 0 is a probe.
+type Record = (Op, u32, Outcome);
+
+fn event(record: Record) -> Event {
+    let (op, interval_ms, outcome) = record;
+    let action = if op == Op::Monitor && interval_ms == 0 {
+        Action::Probe { leaf: 0, node: 0 }
+    } else {
+        Action::Cell {
+            op,
+            leaf: 0,
+            node: 0,
+            interval_ms,
+            role: Role::Started,
+        }
+    };
+    Event::Ended {
+        number: 0,
+        action,
+        outcome,
+        moment: 0,
+    }
+}
+
+/// The journal in which the node joins and then the records come.
+fn journal(alloc: Global, records: &[Record]) -> Result<Journal, Fail> {
+    let mut events = Listed::new(alloc);
+    events.push(Event::Up { node: 0 })?;
+    for record in records {
+        events.push(event(*record))?;
+    }
+    Ok(Journal {
+        events,
+        promotions: Listed::new(alloc),
+    })
+}
+
+/// The records after the join, whether the cluster fences, and the state: what it is, whether it is banned, whether the leaf may run there, and which
+/// monitors are running.
+type Row = (&'static [Record], bool, CellState, bool, bool, u8);
+
+const ROWS: [Row; 8] = [
+    (&[], true, CellState::Unprobed, false, true, 0),
+    (
+        &[(Op::Monitor, 0, Outcome::Code(7))],
+        true,
+        CellState::Off,
+        false,
+        false,
+        0,
+    ),
+    (
+        &[(Op::Monitor, 0, Outcome::Code(5))],
+        true,
+        CellState::Off,
+        true,
+        false,
+        0,
+    ),
+    (
+        &[(Op::Monitor, 0, Outcome::Code(0))],
+        true,
+        CellState::On,
+        false,
+        true,
+        0,
+    ),
+    (
+        &[(Op::Start, 0, Outcome::TimedOut)],
+        true,
+        CellState::Failed,
+        true,
+        true,
+        0,
+    ),
+    (
+        &[
+            (Op::Start, 0, Outcome::Code(0)),
+            (Op::Stop, 0, Outcome::Code(1)),
+        ],
+        false,
+        CellState::Blocked,
+        false,
+        true,
+        0,
+    ),
+    (
+        &[
+            (Op::Start, 0, Outcome::Code(0)),
+            (Op::Monitor, 10_000, Outcome::Code(190)),
+        ],
+        true,
+        CellState::On,
+        false,
+        true,
+        1,
+    ),
+    (
+        &[
+            (Op::Start, 0, Outcome::Code(0)),
+            (Op::Monitor, 10_000, Outcome::Code(7)),
+        ],
+        true,
+        CellState::Off,
+        false,
+        false,
+        1,
+    ),
+];
+
+#[test]
+fn states_of_one_leaf_on_one_node(rt: HostRuntime) -> Result<(), Fail> {
+    let alloc = rt.alloc();
+    for row in &ROWS {
+        let (records, fencing, state, ban, may, running) = *row;
+        let cluster = cluster(alloc, &["n"], fencing, Policy::Stop)?;
+        is_small(&rt, &cluster);
+        let journal = journal(alloc, records)?;
+        assert!(rt; moment_of(journal.events.as_slice()) < 18_446_744_073_709_551_616);
+        let states = unpack(alloc, &cluster, &journal)?;
+        let told = Cell {
+            state,
+            may,
+            may_promoted: false,
+            banned: ban,
+            running,
+        };
+        assert!(rt; states.cells.as_slice() == [told].as_slice());
+        assert!(rt; banned(&cluster, &journal, 0, 0) == ban);
+    }
+    Ok(())
+}

@@ -1,0 +1,7 @@
+pub mod MoreFacts
+pub mod Untouched
+pub mod StillFacts
+pub mod Told
+pub mod LastSigns
+pub mod Ranges
+pub mod CellsKnown

@@ -1,0 +1,160 @@
+-- What one more event changes of what is kept of all cells.
+use Rattle.std.proofs.Common.{◌≡◌, ℕ, ◌+◌, ◌*◌, ◌<◌, ◌==◌, nat_lt, Bool, true, false, ◌&&◌, ◌||◌, if◌then◌else◌, Some, List, [], ◌∷◌, ◌++◌, length, get_or, set, refl, sym, ap, ◌∙◌, eqb-true, arith, Option, None, slice_get, replicate}
+use Rattle.std.proofs.lemmas.Bool.Decides.{nat_tests}
+use Rattle.std.proofs.lemmas.List.{length-set, length-replicate, get_or-replicate}
+use Rattle.std.proofs.lemmas.Option.{slice_get-get_or}
+use Rattle.std.specs.Option.{option_map, option_map_or}
+use Rattle.cluster_types.specs.declared.cluster.Cluster.{Cluster}
+use Rattle.cluster_types.specs.declared.journal.Event.{Event}
+use Rattle.cluster_types.specs.declared.leaf.Monitor.{Monitor}
+use Rattle.cluster_types.specs.Cells.{is_same_cell}
+use Rattle.cluster_types.specs.CellStates.{is_running}
+use Rattle.cluster_types.specs.Fields.{monitors}
+use Rattle.cluster_types.proofs.TableCells.{ordered, same_place, get-at}
+use Rattle.state_unpack.specs.declared.facts.Facts.{Facts}
+use Rattle.state_unpack.specs.Facts.{facts_of, facts_after, no_facts, runs}
+use Rattle.state_unpack.specs.Kept.{IsFull, cell_in, Keeps, Tells}
+use Rattle.state_unpack.specs.Touching.{touches}
+use Rattle.state_unpack.proofs.MoreFacts.{facts-after}
+use Rattle.state_unpack.proofs.StillFacts.{facts-stay}
+
+-- the place of a cell that is there
+pub within : (c : Cluster) (cells : List Facts) (r n : ℕ) → IsFull c cells → r < length c.leaves → n < length c.nodes → r * length c.nodes + n < length cells
+within c cells r n full leaf node = let low = ordered (length c.nodes) r n (length c.leaves) 0 node leaf in omega (arith, low, full)
+
+same_cell : (r n leaf node : ℕ) → (r == leaf && n == node) ≡ is_same_cell r n leaf node
+same_cell r n leaf node = rw (turned r leaf, turned n node) refl
+  where
+    turned : (a b : ℕ) → (a == b) ≡ (b == a)
+    turned a b = grind arith
+
+pub both : (p q : Bool) → (p && q) ≡ true → (p ≡ true) × (q ≡ true)
+both true q h = (refl, h)
+both false q h = cc
+
+module _ (c : Cluster) (e : Event) where
+  -- one cell was told
+  module _ (leaf node : ℕ) (cells : List Facts) (x d : Facts) (full : IsFull c cells) (has_leaf : leaf < length c.leaves) (has_node : node < length c.nodes)
+      (is : x ≡ facts_after c leaf node (get_or cells (leaf * length c.nodes + node) d) e) where
+    pub tells-one : Tells c e (λ r n. is_same_cell r n leaf node) cells (set cells (leaf * length c.nodes + node) x)
+    tells-one = let at = leaf * length c.nodes + node in record {
+      len = length-set cells at x;
+      told = λ r n h k.
+          let place = r * length c.nodes + n in
+          let in_old = within c cells r n full h k in
+          let in_new : place < length (set cells at x) = omega (arith, in_old, length-set cells at x) in
+          let same = same_place (length c.nodes) r n leaf node k has_node (r == leaf) refl ∙ same_cell r n leaf node in
+          slice_get-get_or (set cells at x) place d in_new ∙ (ap Some (get-at cells place at x d (within c cells leaf node full has_leaf has_node) (place == at) refl)
+          ∙ split r n in_old (is_same_cell r n leaf node) (place == at) same refl);
+    }
+      where
+        split : (r n : ℕ) → r * length c.nodes + n < length cells → (cell there : Bool) → there ≡ cell → is_same_cell r n leaf node ≡ cell
+            → Some (if there then x else get_or cells (r * length c.nodes + n) d)
+            ≡ (if is_same_cell r n leaf node then option_map (λ facts. facts_after c r n facts e) (cell_in c cells r n) else cell_in c cells r n)
+        split r n low true true t s =
+            let parts = both (leaf == r) (node == n) s in
+            let leaves : leaf ≡ r = eqb-true leaf r parts.0 in
+            let nodes : node ≡ n = eqb-true node n parts.1 in
+            rw (s, slice_get-get_or cells (r * length c.nodes + n) d low, ← leaves, ← nodes) (ap Some is)
+        split r n low false false t s = rw (s, slice_get-get_or cells (r * length c.nodes + n) d low) refl
+        split r n low true false t s = cc
+        split r n low false true t s = cc
+
+  -- no cell was
+  pub tells-none : (touched : ℕ → ℕ → Bool) (cells : List Facts) → ((r n : ℕ) → touched r n ≡ false) → Tells c e touched cells cells
+  tells-none touched cells none = record { len = refl; told = λ r n h k. rw none refl }
+
+  -- the same cells, said otherwise
+  pub tells-as : (touched all : ℕ → ℕ → Bool) (old new : List Facts) → Tells c e touched old new
+      → ((r n : ℕ) → r < length c.leaves → n < length c.nodes → all r n ≡ touched r n) → Tells c e all old new
+  tells-as touched all old new a is = record { len = a.len; told = λ r n h k. a.told r n h k ∙ rw (is r n h k) refl }
+
+  -- some were, and then others
+  pub tells-more : (first then_too all : ℕ → ℕ → Bool) (old mid new : List Facts) → Tells c e first old mid → Tells c e then_too mid new
+      → ((r n : ℕ) → r < length c.leaves → first r n ≡ true → then_too r n ≡ false) → ((r n : ℕ) → r < length c.leaves → all r n ≡ (first r n || then_too r n)) → Tells c e all old new
+  tells-more first then_too all old mid new a b once is = record {
+    len = b.len ∙ a.len;
+    told = λ r n h k. b.told r n h k ∙ split r n h k (first r n) (then_too r n) refl refl;
+  }
+    where
+      split : (r n : ℕ) → r < length c.leaves → n < length c.nodes → (x y : Bool) → first r n ≡ x → then_too r n ≡ y
+          → (if then_too r n then option_map (λ facts. facts_after c r n facts e) (cell_in c mid r n) else cell_in c mid r n)
+          ≡ (if all r n then option_map (λ facts. facts_after c r n facts e) (cell_in c old r n) else cell_in c old r n)
+      split r n h k true true f t = let never = once r n h f in cc
+      split r n h k true false f t = let here : all r n ≡ true = is r n h ∙ rw f refl in rw (t, here) (a.told r n h k ∙ rw f refl)
+      split r n h k false true f t = let here : all r n ≡ true = is r n h ∙ rw (f, t) refl in rw (t, here) (ap (option_map (λ facts. facts_after c r n facts e)) (a.told r n h k ∙ rw f refl))
+      split r n h k false false f t = let here : all r n ≡ false = is r n h ∙ rw (f, t) refl in rw (t, here) (a.told r n h k ∙ rw f refl)
+
+  -- so what is kept is what the events tell with this one
+  pub keeps-more : (es : List Event) (old new : List Facts) → Keeps c es old → Tells c e (λ r n. touches r n e) old new → Keeps c (es ++ e ∷ []) new
+  keeps-more es old new k t = record {
+    full = t.len ∙ k.full;
+    told = λ r n h m. t.told r n h m ∙ (rw (k.told r n h m) (split r n (touches r n e) refl));
+  }
+    where
+      split : (r n : ℕ) (x : Bool) → touches r n e ≡ x
+          → (if touches r n e then Some (facts_after c r n (facts_of c r n es) e) else Some (facts_of c r n es)) ≡ Some (facts_of c r n (es ++ e ∷ []))
+      split r n true x = rw x (ap Some (sym (facts-after c r n es e)))
+      split r n false x = rw x (ap Some (sym (facts-stay c r n e x es)))
+
+-- the cells of a node, leaf by leaf
+pub leaf_by_leaf : (r n leaf node : ℕ) → (nat_lt r (leaf + 1) && node == n) ≡ (nat_lt r leaf && node == n || is_same_cell r n leaf node)
+leaf_by_leaf r n leaf node = split (node == n) refl
+  where
+    more : nat_lt r (leaf + 1) ≡ (nat_lt r leaf || leaf == r)
+    more = grind (arith, nat_tests)
+
+    split : (t : Bool) → (node == n) ≡ t → (nat_lt r (leaf + 1) && node == n) ≡ (nat_lt r leaf && node == n || leaf == r && node == n)
+    split true e = rw e (last (nat_lt r (leaf + 1)) (nat_lt r leaf) (leaf == r) more)
+      where
+        last : (a b d : Bool) → a ≡ (b || d) → (a && true) ≡ (b && true || d && true)
+        last a true d h = rw h refl
+        last a false true h = rw h refl
+        last a false false h = rw h refl
+    split false e = rw e (none (nat_lt r (leaf + 1)) (nat_lt r leaf) (leaf == r))
+      where
+        none : (a b d : Bool) → (a && false) ≡ (b && false || d && false)
+        none true true true = refl
+        none true true false = refl
+        none true false true = refl
+        none true false false = refl
+        none false true true = refl
+        none false true false = refl
+        none false false true = refl
+        none false false false = refl
+
+pub each_leaf_once : (r n leaf node : ℕ) → (nat_lt r leaf && node == n) ≡ true → is_same_cell r n leaf node ≡ false
+each_leaf_once r n leaf node h =
+    let parts = both (nat_lt r leaf) (node == n) h in
+    let other : (leaf == r) ≡ false = let low = parts.0 in grind (arith, nat_tests) in
+    rw other refl
+
+-- two cells of a leaf
+pub each_node_once : (r n leaf source target : ℕ) → (target == source) ≡ false → is_same_cell r n leaf source ≡ true → is_same_cell r n leaf target ≡ false
+each_node_once r n leaf source target differ h =
+    let parts = both (leaf == r) (source == n) h in
+    let here = eqb-true source n parts.1 in
+    let other : (target == n) ≡ false = ap (λ m. target == m) (sym here) ∙ differ in
+    rw (parts.0, other) refl
+
+-- no event tells anything
+nothing : (c : Cluster) (r n : ℕ) → facts_of c r n [] ≡ no_facts
+nothing c r n = rw (stopped 0, stopped 1, stopped 2, stopped 3, stopped 4, stopped 5, stopped 6, stopped 7) refl
+  where
+    stopped : (i : ℕ) → runs c r n [] i ≡ false
+    stopped i = split (slice_get (monitors c r) i)
+      where
+        split : (found : Option Monitor) → option_map_or (λ (m : Monitor). is_running r n m.interval_ms []) found false ≡ false
+        split None = refl
+        split (Some m) = refl
+
+some_of_many : {X : Type 0} (k i : ℕ) (x : X) → i < k → slice_get (replicate k x) i ≡ Some x
+some_of_many k i x low = slice_get-get_or (replicate k x) i x (omega (arith, low, length-replicate k x)) ∙ ap Some (get_or-replicate k i x x low)
+
+pub keeps-none : (c : Cluster) (cells : List Facts) → cells ≡ replicate (length c.leaves * length c.nodes) no_facts → Keeps c [] cells
+keeps-none c cells is = record {
+  full = ap length is ∙ length-replicate (length c.leaves * length c.nodes) no_facts;
+  told = λ r n h k.
+      let low : r * length c.nodes + n < length c.leaves * length c.nodes = let up = ordered (length c.nodes) r n (length c.leaves) 0 k h in omega (arith, up) in
+      ap (λ xs. slice_get xs (r * length c.nodes + n)) is ∙ (some_of_many _ _ no_facts low ∙ ap Some (sym (nothing c r n)));
+}

@@ -1,0 +1,6 @@
+pub mod Operations
+pub mod Facts
+pub mod Touching
+pub mod Kept
+pub mod Signs
+pub mod CellsKept

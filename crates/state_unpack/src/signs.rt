@@ -1,0 +1,84 @@
+//! What events show of nodes.
+
+ghost use Rattle.std.specs.Prelude.{◌≡◌, ◌++◌, ◌∷◌, [], ℕ, List, IfOk};
+ghost use Rattle.cluster_types.specs.declared.journal.Event.{Event as EventOf};
+ghost use Rattle.cluster_types.specs.Journals.{sign_of};
+ghost use Rattle.state_unpack.specs.Signs.{Shows, shown_of, state_by_sign};
+
+use cluster_types::{Action, Event, NodeId, NodeState, Outcome};
+use std::alloc::{AllocError, Global};
+
+/// What an event shows of a node.
+#[derive(Clone, Copy, Debug, PartialEq, Eq)]
+pub enum Sign {
+    Joined,
+    WentDown,
+    WasLost,
+    WasFenced,
+}
+
+/// The node of which the event shows something, and what.
+fn shown(event: Event) -> Option<(NodeId, Sign)>
+    ensures { (n : ℕ) → sign_of n event ≡ shown_of n result }
+{
+    match event {
+        Event::Up { node } => Some((node, Sign::Joined)),
+        Event::Down { node } => Some((node, Sign::WentDown)),
+        Event::Lost { node } => Some((node, Sign::WasLost)),
+        Event::Ended {
+            action: Action::Fence { node },
+            outcome: Outcome::Code(0),
+            ..
+        } => Some((node, Sign::WasFenced)),
+        _ => None,
+    }
+}
+
+/// Nothing is shown of so many nodes.
+fn nothing_shown(alloc: Global, nodes: usize) -> Result<Vec<Option<Sign>>, AllocError>
+    ensures { IfOk result (λ signs. Shows nodes [] signs.items) }
+{
+    let mut signs = Vec::with_capacity(alloc, nodes)?;
+    while signs.len() < nodes {
+        signs.push(None)?;
+    }
+    Ok(signs)
+}
+
+/// Keeps what the event shows.
+fn show(event: Event, signs: &mut Vec<Option<Sign>>)
+    ensures { (nodes : ℕ) (before : List EventOf) → Shows nodes before signs.old.items → Shows nodes (before ++ event ∷ []) signs.new.items }
+{
+    if let Some((node, sign)) = shown(event) {
+        if (node as usize) < signs.len() {
+            signs[node as usize] = Some(sign);
+        }
+    }
+}
+
+/// The last that the events show of each of so many nodes.
+pub fn last_signs(
+    alloc: Global,
+    nodes: usize,
+    events: &[Event],
+) -> Result<Vec<Option<Sign>>, AllocError>
+    ensures { IfOk result (λ signs. Shows nodes events.now signs.items) }
+{
+    let mut signs = nothing_shown(alloc, nodes)?;
+    for event in events {
+        show(*event, &mut signs);
+    }
+    Ok(signs)
+}
+
+/// The state of a node by the last that is shown of it, where a failure wants it fenced or doesn't (Pacemaker Explained, "Fencing").
+pub fn state_by_sign(fencing: bool, to_blame: bool, sign: Option<Sign>) -> NodeState
+    ensures { result ≡ state_by_sign fencing to_blame sign }
+{
+    match sign {
+        Some(Sign::Joined) if to_blame => NodeState::Unclean,
+        Some(Sign::Joined) => NodeState::Online,
+        Some(Sign::WasLost) if fencing => NodeState::Unclean,
+        _ => NodeState::Offline,
+    }
+}
