@@ -1,7 +1,6 @@
 //! What some failures of a cell come to.
 
-ghost use Rattle.std.specs.Prelude.{◌≡◌, []};
-ghost use Rattle.cluster_types.specs.Failures as failures;
+ghost use Rattle.std.specs.Prelude.{◌≡◌};
 ghost use Rattle.cluster_types.specs.Fields as fields;
 ghost use Rattle.fail_counts.specs.Tally as spec;
 

@@ -1,6 +1,6 @@
 //! What a journal tells of a cluster, put together.
 
-ghost use Rattle.std.specs.Prelude.{◌≡◌, ◌<◌, ◌≤◌, ◌^◌, ◌++◌, true, false, IfOk, OnOk, length, map, slice_get, unwrap_or};
+ghost use Rattle.std.specs.Prelude.{◌≡◌, ◌<◌, ◌^◌, ◌++◌, true, false, IfOk, OnOk, length, map, unwrap_or};
 ghost use Rattle.std.specs.List.{flat_map, range_with_len};
 ghost use Rattle.cluster_types.specs.Journals as journals;
 ghost use Rattle.cluster_types.specs.Unpacked.{states_of};

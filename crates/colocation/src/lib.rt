@@ -1,0 +1,9 @@
+//! What colocations say of a decision: on which nodes it is allowed, and how much it prefers them.
+#![tactic(auto)]
+
+mod preferring;
+mod roles;
+mod testing;
+
+pub use preferring::preference;
+pub use testing::allowed;

@@ -1,0 +1,62 @@
+//! How much colocations prefer a decision on a node.
+
+ghost use Rattle.std.specs.Prelude.{◌≡◌, ◌≤ℤ◌, pos, neg_ℤ, List};
+ghost use Rattle.cluster_types.specs.declared.journal.Event.{Event as EventOf};
+ghost use Rattle.cluster_types.specs.declared.journal.Promotion.{Promotion as PromotionOf};
+ghost use Rattle.cluster_types.specs.Choice as choice;
+ghost use Rattle.cluster_types.specs.Tables.{targets_of};
+ghost use Rattle.cluster_types.specs.Valid.{KeepsLimits};
+ghost use Rattle.colocation.specs.Tests as spec;
+ghost use Rattle.score.specs.Total.{cut};
+
+use crate::roles::{holds_role, is_dependent, is_mandatory, is_separation};
+use cluster_types::{Cluster, Colocation, Decision, NodeId, Table};
+use score::Score;
+
+/// Whether the colocation is finite and counts for the decision on the node, since its primary holds its role there.
+fn counts(rule: &Colocation, table: &Table, decision: Decision, node: NodeId) -> bool
+    ensures { result ≡ spec.counts (targets_of table.now) decision node rule.now }
+{
+    !is_mandatory(rule)
+        && !is_separation(rule)
+        && is_dependent(decision, rule)
+        && holds_role(table, rule.primary, rule.primary_role, node)
+}
+
+/// The points of a colocation that counts, and 0 for another.
+fn points(rule: &Colocation, table: &Table, decision: Decision, node: NodeId) -> i64
+    ensures value { result ≡ spec.points (targets_of table.now) decision node rule.now }
+    ensures low { neg_ℤ (pos 1000000) ≤ℤ result }
+    ensures high { result ≤ℤ pos 1000000 }
+{
+    if counts(rule, table, decision, node) {
+        i64::from(rule.score.points)
+    } else {
+        0
+    }
+}
+
+/// The score of the sum, cut at -INFINITY and INFINITY.
+fn cut(sum: i64) -> Score
+    ensures { result ≡ cut sum }
+{
+    let least = i64::from(Score::MINUS_INFINITY.points);
+    let most = i64::from(Score::INFINITY.points);
+    Score {
+        points: sum.min(most).max(least) as i32,
+    }
+}
+
+/// How much the colocations prefer the decision on the node, with the table so far: the total of the finite ones of which its leaf is the dependent and
+/// whose primary holds its role there (Pacemaker Explained, "Placing Resources Relative to other Resources").
+pub fn preference(cluster: &Cluster, table: &Table, decision: Decision, node: NodeId) -> Score
+    requires { KeepsLimits cluster.now }
+    ensures { (events : List EventOf) (promotions : List PromotionOf)
+        → result ≡ choice.preference cluster.now events promotions (targets_of table.now) decision node }
+{
+    let mut sum = 0;
+    for rule in cluster.colocations.as_slice() {
+        sum += points(rule, table, decision, node);
+    }
+    cut(sum)
+}

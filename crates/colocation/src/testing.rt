@@ -1,0 +1,57 @@
+//! On which nodes colocations allow a decision.
+
+ghost use Rattle.std.specs.Prelude.{◌≡◌, ◌&&◌, List};
+ghost use Rattle.std.specs.List.{list_all};
+ghost use Rattle.cluster_types.specs.declared.journal.Event.{Event as EventOf};
+ghost use Rattle.cluster_types.specs.declared.journal.Promotion.{Promotion as PromotionOf};
+ghost use Rattle.cluster_types.specs.Choice as choice;
+ghost use Rattle.cluster_types.specs.Tables.{targets_of};
+ghost use Rattle.colocation.specs.Tests as spec;
+
+use crate::roles::{holds_role, is_dependent, is_mandatory, is_primary, is_separation};
+use cluster_types::{Cluster, Colocation, Decision, NodeId, Table};
+
+fn has_primary(rule: &Colocation, table: &Table, decision: Decision, node: NodeId) -> bool
+    ensures { result ≡ spec.has_primary (targets_of table.now) decision node rule.now }
+{
+    !(is_mandatory(rule) && is_dependent(decision, rule))
+        || holds_role(table, rule.primary, rule.primary_role, node)
+}
+
+fn keeps_apart(rule: &Colocation, table: &Table, decision: Decision, node: NodeId) -> bool
+    ensures { result ≡ spec.keeps_apart (targets_of table.now) decision node rule.now }
+{
+    !is_separation(rule)
+        || !(is_dependent(decision, rule)
+            && holds_role(table, rule.primary, rule.primary_role, node))
+            && !(is_primary(decision, rule)
+                && holds_role(table, rule.dependent, rule.dependent_role, node))
+}
+
+fn has_primaries(cluster: &Cluster, table: &Table, decision: Decision, node: NodeId) -> bool
+    ensures { result ≡ list_all (spec.has_primary (targets_of table.now) decision node) cluster.now.colocations }
+{
+    cluster
+        .colocations
+        .iter()
+        .all(|rule| has_primary(rule, table, decision, node))
+}
+
+fn is_apart(cluster: &Cluster, table: &Table, decision: Decision, node: NodeId) -> bool
+    ensures { result ≡ list_all (spec.keeps_apart (targets_of table.now) decision node) cluster.now.colocations }
+{
+    cluster
+        .colocations
+        .iter()
+        .all(|rule| keeps_apart(rule, table, decision, node))
+}
+
+/// Whether the colocations allow the decision on the node, with the table so far: each primary with which its leaf must be holds its role there, and
+/// nothing that must be apart from it does (Pacemaker Explained, "Placing Resources Relative to other Resources").
+pub fn allowed(cluster: &Cluster, table: &Table, decision: Decision, node: NodeId) -> bool
+    ensures { (events : List EventOf) (promotions : List PromotionOf)
+        → result ≡ (choice.has_primaries cluster.now events promotions (targets_of table.now) decision node
+        && choice.is_apart cluster.now events promotions (targets_of table.now) decision node) }
+{
+    has_primaries(cluster, table, decision, node) && is_apart(cluster, table, decision, node)
+}
