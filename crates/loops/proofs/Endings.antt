@@ -11,6 +11,7 @@ use Rattle.std.proofs.lemmas.Map.Steps.{length-le_from_distinct_below}
 use Rattle.loops.specs.declared.edge.Edge.{Edge}
 use Rattle.loops.specs.Loops.{Leads, direct, through, leads_within, EndWithin, HasLoop, HasNoLoop}
 use Rattle.loops.specs.Clearing.{Clears, has, edges_beyond}
+use Rattle.loops.specs.Longest.{AreCleared, IsBackward}
 use Rattle.loops.proofs.Beginnings.{of_range}
 use Rattle.loops.proofs.Booleans.{sooner, later}
 use Rattle.loops.proofs.Counts.{count_some, beyond}
@@ -52,6 +53,21 @@ module _ (positions : ℕ) (edges : List Edge) (ends : EndWithin positions edges
     on : (b : Bool) → has cleared x ≡ b → has cleared x ≡ true
     on true h = h
     on false h = absurd (too_many x lt all h)
+
+  no_more : length cleared ≤ positions
+  no_more = length-le_from_distinct_below cleared positions c.distinct c.below
+
+  pub few_cleared : taken < length cleared → taken < positions
+  few_cleared lt = let n = no_more in omega arith
+
+  pub backward_once_taken : positions ≤ taken → IsBackward positions edges cleared
+  backward_once_taken all = record {
+    size = let n = no_more in let e = c.enough in omega arith;
+    distinct = c.distinct;
+    below = c.below;
+    all = all_cleared all;
+    back = c.back;
+  }
 
   pub free_once_taken : positions ≤ taken → HasNoLoop positions edges
   free_once_taken all x = on (leads_within positions edges x x) refl where
@@ -122,3 +138,10 @@ module _ (positions : ℕ) (edges : List Edge) (ends : EndWithin positions edges
           let n = length-le_from_is_member equal_laws (range_with_len 0 positions) cleared (distinct_range positions) (has_each h) in
           let l = length-range_with_len 0 positions in
           absurd (let f : ⊥ = omega arith in f)
+
+    pub cleared_once_stuck : AreCleared positions edges cleared
+    cleared_once_stuck = record {
+      some = loop_once_stuck;
+      none = λ all. free_once_taken (omega arith);
+      all = λ all. backward_once_taken (omega arith);
+    }

@@ -75,7 +75,7 @@ module _ (positions : ℕ) (edges : List Edge) (ends : EndWithin positions edges
   }) (omega arith)
 
   -- how many positions lead to this one
-  abbrev height : ℕ → ℕ
+  abbrev pub height : ℕ → ℕ
   height x = count_by (λ y. leads_within positions edges y x) (range_with_len 0 positions)
 
   reaches_further : (e : Edge) → Contains edges e → (y : ℕ) → leads_within positions edges y e.before ≡ true
@@ -83,7 +83,7 @@ module _ (positions : ℕ) (edges : List Edge) (ends : EndWithin positions edges
   reaches_further e c y h =
       leads_computed y e.after (joined edges y e.before e.after (leads-from_computed positions edges y e.before h) (direct e c))
 
-  rises : (e : Edge) → Contains edges e → height e.before < height e.after
+  pub rises : (e : Edge) → Contains edges e → height e.before < height e.after
   rises e c =
       let w = ends e c in
       let l = length-range_with_len 0 positions in

@@ -12,3 +12,6 @@ pub mod Fronts
 pub mod Paths
 pub mod Relations
 pub mod Heights
+pub mod Entering
+pub mod Longest
+pub mod BackwardSteps

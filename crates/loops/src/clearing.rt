@@ -2,6 +2,7 @@ ghost use Rattle.std.specs.Prelude.{◌≡◌, ◌↔◌, ◌≤◌, ◌<◌, �
 ghost use Rattle.loops.specs.declared.edge.Edge.{Edge};
 ghost use Rattle.loops.specs.Loops.{EndWithin, HasNoLoop, HasLoop};
 ghost use Rattle.loops.specs.Clearing.{Clears, cleared_then, less_one};
+ghost use Rattle.loops.specs.Longest.{AreCleared};
 
 use crate::edge::Edge;
 use crate::sources::{leaving, sources, unused};
@@ -55,24 +56,33 @@ impl Clearing {
     }
 }
 
+/// The positions that can be taken one after the other, each once all to which its edges lead were taken.
+///
+/// All can be taken just where there is no loop. The time is linear in the positions and the edges.
+pub fn backward_order(alloc: Global, positions: u32, edges: &[Edge]) -> Result<Vec<u32>, AllocError>
+    requires { EndWithin positions edges.now }
+    ensures { IfOk result (λ order. AreCleared positions edges.now order.items) }
+{
+    let sources = sources(alloc, positions, edges)?;
+    let mut clearing = Clearing::new(alloc, positions, edges)?;
+    let mut taken = 0;
+    while taken < clearing.cleared.len() {
+        let position = clearing.cleared[taken];
+        clearing.count_off_all(sources[position as usize].as_slice())?;
+        taken += 1;
+    }
+    let Clearing { cleared, .. } = clearing;
+    Ok(cleared)
+}
+
 /// Whether no edges lead from a position back to it.
 ///
 /// Both ends of each edge are positions. The time is linear in the positions and the edges.
-///
-/// Positions are taken one after the other, each once all to which its edges lead were taken: all can be taken just where there is no loop.
 pub fn is_loop_free(alloc: Global, positions: u32, edges: &[Edge]) -> Result<bool, AllocError>
     requires { EndWithin positions edges.now }
     ensures free { IfOk result (λ free. free ≡ true ↔ HasNoLoop positions edges.now) }
     ensures loops { IfOk result (λ free. free ≡ false ↔ HasLoop positions edges.now) }
 {
-    let sources = sources(alloc, positions, edges)?;
-    let mut clearing = Clearing::new(alloc, positions, edges)?;
-    for taken in 0..positions as usize {
-        if taken == clearing.cleared.len() {
-            return Ok(false);
-        }
-        let position = clearing.cleared[taken];
-        clearing.count_off_all(sources[position as usize].as_slice())?;
-    }
-    Ok(true)
+    let order = backward_order(alloc, positions, edges)?;
+    Ok(order.len() >= positions as usize)
 }

@@ -2,6 +2,7 @@
 
 ghost use Rattle.std.specs.Prelude.{◌≡◌, ◌↔◌, true, ◌⊎◌, ℕ, List, Option, Contains};
 ghost use Rattle.loops.specs.declared.edge.Edge.{Edge};
+ghost use Rattle.loops.specs.Longest.{AreHeights, longest};
 ghost use Rattle.loops.specs.Loops.{EndWithin, HasLoop, HasNoLoop, HasPathBack, IsFirstLoop, Leads, RiseSomehow, leads_within};
 
 /// A loop is a way from a position back to it, however long: none needs more edges than there are positions.
@@ -35,4 +36,12 @@ pub fn loops_stay()
 /// Edges have one first loop at most.
 pub fn first_loop_is_one()
     ensures { (positions : ℕ) (edges : List Edge) (a b : Option ℕ) → IsFirstLoop positions edges a → IsFirstLoop positions edges b → a ≡ b }
+{}
+
+/// Without a loop the longest way to a position is one edge longer than the longest of those to where the edges into it begin, and no other lengths
+/// are so.
+pub fn longest_ways_are_one()
+    ensures made { (positions : ℕ) (edges : List Edge) → EndWithin positions edges → HasNoLoop positions edges → AreHeights edges (longest positions edges) }
+    ensures one { (positions : ℕ) (edges : List Edge) → EndWithin positions edges → HasNoLoop positions edges
+        → (height : ℕ → ℕ) → AreHeights edges height → (x : ℕ) → height x ≡ longest positions edges x }
 {}

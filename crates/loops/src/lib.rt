@@ -10,6 +10,9 @@ mod sources;
 mod clearing;
 mod first;
 
+// How many edges the longest way to each position has.
+mod measuring;
+
 // What follows from the definitions.
 mod laws;
 
@@ -17,6 +20,7 @@ pub use clearing::is_loop_free;
 pub use edge::{Edge, end_within};
 pub use first::first_loop;
 pub use laws::{
-    edges_without_a_loop_rise, first_loop_is_one, loops_are_paths, loops_or_none, loops_stay,
-    ways_are_short,
+    edges_without_a_loop_rise, first_loop_is_one, longest_ways_are_one, loops_are_paths,
+    loops_or_none, loops_stay, ways_are_short,
 };
+pub use measuring::longest_ways;

@@ -22,7 +22,7 @@ use Rattle.rule_loops.proofs.NeedLoops.{first_edges, first_joined, loop_of_needs
 needs_apart : (c : Cluster) → NeedsHaveLoop c → NeedsHaveNoLoop c → ⊥
 needs_apart c l free = both_ways _ (free l.decision) l.needed
 
-steps_apart : (c : Cluster) → StepsHaveLoop c → HasNoLoop c → ⊥
+pub steps_apart : (c : Cluster) → StepsHaveLoop c → HasNoLoop c → ⊥
 steps_apart c l free = both_ways _ (free l.step) l.reached
 
 module _ (c : Cluster) (joined : AllJoin c) where

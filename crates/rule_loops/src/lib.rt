@@ -14,4 +14,4 @@ mod laws;
 
 pub use colocations::{colocation_loop, joins_leaves};
 pub use laws::{first_colocation_is_one, first_order_is_one};
-pub use orders::{order_loop, orders_steps};
+pub use orders::{link_edges, order_loop, orders_steps};

@@ -67,6 +67,18 @@ fn edges_of_links(alloc: Global, cluster: &Cluster) -> Result<StepEdges, AllocEr
     Ok(StepEdges { edges, ends })
 }
 
+/// The edges of all links, between the positions of their steps.
+///
+/// The leaves of each order are there, and none of its words is Monitor. The time is linear in the leaves and the orders.
+pub fn link_edges(alloc: Global, cluster: &Cluster) -> Result<Vec<Edge>, AllocError>
+    requires leaves { length cluster.now.leaves ≤ 1000000000 }
+    requires ordered { AllOrder cluster.now }
+    ensures { IfOk result (λ edges. edges.items ≡ step_edges cluster.now) }
+{
+    let StepEdges { edges, .. } = edges_of_links(alloc, cluster)?;
+    Ok(edges)
+}
+
 /// The first rule whose edges end behind the place.
 fn rule_at(ends: &[usize], place: usize) -> Option<usize>
     ensures { result ≡ position (λ end. nat_lt place end) ends.now }
