@@ -1,6 +1,6 @@
 -- A transition asks only where nothing may begin, begins each action once, and is never stuck.
 use Rattle.std.proofs.Common.{arith, ◌≡◌, ◌≤◌, ◌+◌, ◌==◌, ◌&&◌, ◌||◌, ℕ, Bool, true, false, List, [], ◌∷◌, ◌++◌, refl, sym, subst, filter, append-nil, ap, ◌∙◌}
-use Rattle.std.specs.Prelude.{Option, Some, None, count_by, cond}
+use Rattle.std.specs.Prelude.{Option, Some, None, count_by, cond, map, find}
 use Rattle.std.specs.List.{list_all, list_any}
 use Rattle.std.specs.Option.{option_map_or}
 use Rattle.std.proofs.lemmas.List.Folds.{list_any-append}
@@ -11,12 +11,13 @@ use Rattle.cluster_types.specs.declared.journal.Answer.TheVariants as answer
 use Rattle.cluster_types.specs.declared.journal.Event.{Event}
 use Rattle.cluster_types.specs.declared.journal.Event.TheVariants.{Up, Lost, Quorum, Wait, Begin, Ended}
 use Rattle.cluster_types.specs.declared.journal.Outcome.TheVariants.{Code, TimedOut, Gone}
+use Rattle.cluster_types.specs.Answering.{end_of, is_number_of, monitor_action}
 use Rattle.cluster_types.specs.Journals.{is_on, moment_of}
 use Rattle.cluster_types.specs.declared.cluster.Cluster.{Cluster}
 use Rattle.cluster_types.specs.Safety.{is_answered, is_gone, without_gone}
-use Rattle.cluster_types.specs.Steps.{Transition, Goes, IsWaiting, here, one_more, StepsOn, begins, takes, is_silent, action_at, ended, events_of, flight, begins_number, gone_with, aborts, has_aborted, has_begun, journal, monitor_action, silent_code}
+use Rattle.cluster_types.specs.Steps.{Transition, Goes, IsWaiting, here, one_more, StepsOn, begins, takes, is_silent, action_at, ended, events_of, flight, begins_number, flying, aborts, has_aborted, has_begun, journal, silent_code}
 use Rattle.cluster_types.proofs.Booleans.{sooner, later, one_of}
-use Rattle.cluster_types.proofs.StepLaws.{split, flat_all, joined_all, not_begun, begins_nothing}
+use Rattle.cluster_types.proofs.StepLaws.{split, map_all, joined_all, not_begun, begins_nothing}
 
 -- Events without those at their end that are gone.
 
@@ -79,29 +80,25 @@ data Brings : List Event → Type 0 where
 one : (e : Event) → is_gone e ≡ false → begins_nothing e ≡ true → Brings (e ∷ [])
 one e h g = brings [] e refl h g (λ f. cc)
 
-code-brings : (k m code : ℕ) (a : Option Action) → Brings (option_map_or (λ a. Ended k a (Code code) m ∷ []) a [])
-code-brings k m code (Some a) = one (Ended k a (Code code) m) refl refl
-code-brings k m code None = nothing
+code-brings : (m code : ℕ) (p : Option (ℕ × Action)) → Brings (option_map_or (λ (p : ℕ × Action). Ended p.0 p.1 (Code code) m ∷ []) p [])
+code-brings m code (Some p) = one (Ended p.0 p.1 (Code code) m) refl refl
+code-brings m code None = nothing
 
-timeout-brings : (k m : ℕ) (a : Option Action) → Brings (option_map_or (λ a. Ended k a TimedOut m ∷ []) a [])
-timeout-brings k m (Some a) = one (Ended k a TimedOut m) refl refl
-timeout-brings k m None = nothing
-
-is-gone : (k m : ℕ) (a : Option Action) → list_all is_gone (option_map_or (λ a. Ended k a Gone m ∷ []) a []) ≡ true
-is-gone k m (Some a) = refl
-is-gone k m None = refl
+timeout-brings : (m : ℕ) (p : Option (ℕ × Action)) → Brings (option_map_or (λ (p : ℕ × Action). Ended p.0 p.1 TimedOut m ∷ []) p [])
+timeout-brings m (Some p) = one (Ended p.0 p.1 TimedOut m) refl refl
+timeout-brings m None = nothing
 
 answer-brings : (t : Transition) (since : List Event) (given : Answer) → Brings (events_of t since given)
-answer-brings t since (answer.End k code) = code-brings k _ code (action_at t k)
-answer-brings t since (answer.Timeout k) = timeout-brings k _ (action_at t k)
+answer-brings t since (answer.End k code) = code-brings (moment_of (journal t since)) code (find (is_number_of k) (flying t since))
+answer-brings t since (answer.Timeout k) = timeout-brings (moment_of (journal t since)) (find (is_number_of k) (flying t since))
 answer-brings t since (answer.Lost n) =
-    brings (gone_with t since n) (Lost n)
-    (flat_all is_gone (λ k. ended t since k Gone) (λ k. is-gone k _ (action_at t k)) (filter (λ k. option_map_or (is_on n) (action_at t k) false) (flight t since)))
+    brings (map (end_of t.cluster (journal t since) (flying t since) Gone) (filter (λ (p : ℕ × Action). is_on n p.1) (flying t since))) (Lost n)
+    (map_all is_gone (end_of t.cluster (journal t since) (flying t since) Gone) (λ p. refl) (filter (λ (p : ℕ × Action). is_on n p.1) (flying t since)))
     refl refl (λ h. refl)
 answer-brings t since (answer.Up n) = one (Up n) refl refl
 answer-brings t since (answer.Quorum now) = one (Quorum now) refl refl
 answer-brings t since (answer.Wait seconds) = one (Wait seconds) refl refl
-answer-brings t since (answer.Report n r interval code) = one (Ended 0 (monitor_action t since r n interval) (Code code) (moment_of (journal t since))) refl refl
+answer-brings t since (answer.Report n r interval code) = one (Ended 0 (monitor_action t.cluster r n interval) (Code code) (moment_of (journal t since))) refl refl
 
 -- What is kept by each step.
 
@@ -236,7 +233,7 @@ module _ (t : Transition) (since : List Event) (keeps : Keeps t since) where
     gone_aborts = gone_or_aborted t since keeps (Begin k a ∷ []) (λ h. cc);
   }
   step-keeps whole _ rest left (takes _ _ given said taken) = bring-keeps taken.waiting (events_of t since given) (answer-brings t since given)
-  step-keeps whole _ rest left (is_silent _ _ k a said ends) = bring-keeps ends.waiting (ended t since k (Code (silent_code a))) (code-brings k _ (silent_code a) (action_at t k))
+  step-keeps whole _ rest left (is_silent _ _ k a said ends) = bring-keeps ends.waiting (ended t since k (Code (silent_code a))) (code-brings (moment_of (journal t since)) (silent_code a) (find (is_number_of k) (flying t since)))
 
 pub keeps-on : (t : Transition) (whole : Bool) (since later : List Event) (rest left : Option (List Answer)) → Goes t whole since rest later left
     → Keeps t since → Keeps t later

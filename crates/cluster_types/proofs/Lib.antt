@@ -26,3 +26,7 @@ mod TermExamples
 mod MigrationExamples
 mod LineExamples
 mod ValidExamples
+pub mod GateGroups
+pub mod SourceLaws
+pub mod OneGate
+pub mod GuardExamples

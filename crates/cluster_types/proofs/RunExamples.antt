@@ -145,7 +145,7 @@ down_is_not_probed : cell_state one 0 1 second_down ≡ cell.Away
 down_is_not_probed = refl
 
 it_may_come_up : Applies short probing (answer.Up 1)
-it_may_come_up = (refl, omega arith, refl)
+it_may_come_up = refl
 
 it_comes_up : events_of short probing (answer.Up 1) ≡ Up 1 ∷ []
 it_comes_up = refl

@@ -1,6 +1,6 @@
 -- What holds of the steps of a transition, whatever answers come.
 use Rattle.std.proofs.Common.{arith, ◌≡◌, ◌<◌, ◌≤◌, ◌+◌, ◌==◌, ◌&&◌, ◌||◌, not, ℕ, suc, zero, Bool, true, false, List, [], ◌∷◌, ◌++◌, refl, sym, subst, length, filter, append-nil}
-use Rattle.std.specs.Prelude.{Option, Some, None}
+use Rattle.std.specs.Prelude.{Option, Some, None, map, find}
 use Rattle.std.specs.List.{list_all, list_any, flat_map, range_with_len}
 use Rattle.std.specs.Option.{option_map_or}
 use Rattle.cluster_types.specs.declared.journal.Action.{Action}
@@ -10,9 +10,10 @@ use Rattle.cluster_types.specs.declared.journal.Event.{Event}
 use Rattle.cluster_types.specs.declared.journal.Event.TheVariants.{Begin, Ended}
 use Rattle.cluster_types.specs.declared.journal.Outcome.{Outcome}
 use Rattle.cluster_types.specs.declared.journal.Outcome.TheVariants.{Gone}
-use Rattle.cluster_types.specs.Journals.{is_on}
+use Rattle.cluster_types.specs.Answering.{end_of, is_number_of}
+use Rattle.cluster_types.specs.Journals.{is_on, moment_of}
 use Rattle.cluster_types.specs.Safety.{AtEachBegin, PredecessorsFirst}
-use Rattle.cluster_types.specs.Steps.{Transition, Begins, Goes, here, one_more, StepsOn, begins, takes, is_silent, action_at, ended, events_of, flight, gone_with, has_aborted, has_begun, has_room, has_succeeded, may_begin, numbers}
+use Rattle.cluster_types.specs.Steps.{Transition, Begins, Goes, here, one_more, StepsOn, begins, takes, is_silent, action_at, ended, events_of, flight, flying, journal, has_aborted, has_begun, has_room, has_succeeded, may_begin, numbers}
 use Rattle.cluster_types.proofs.Booleans.{sooner, later, together}
 
 -- an event of a joined list stands in the one or in the other
@@ -47,9 +48,14 @@ no_begin R (x ∷ xs) [] after k a h q =
     absurd (let f : ⊥ = cc in f)
 no_begin R (x ∷ xs) (b ∷ bs) after k a h q = let tail : xs ≡ bs ++ Begin k a ∷ after = cc in no_begin R xs bs after k a (later (begins_nothing x) _ h) tail
 
-ended-begins_nothing : (k m : ℕ) (o : Outcome) (a : Option Action) → list_all begins_nothing (option_map_or (λ a. Ended k a o m ∷ []) a []) ≡ true
-ended-begins_nothing k m o (Some a) = refl
-ended-begins_nothing k m o None = refl
+ended-begins_nothing : (m : ℕ) (o : Outcome) (p : Option (ℕ × Action)) → list_all begins_nothing (option_map_or (λ (p : ℕ × Action). Ended p.0 p.1 o m ∷ []) p []) ≡ true
+ended-begins_nothing m o (Some p) = refl
+ended-begins_nothing m o None = refl
+
+-- what each of some pairs adds passes
+pub map_all : (q : Event → Bool) (f : ℕ × Action → Event) → ((p : ℕ × Action) → q (f p) ≡ true) → (ps : List (ℕ × Action)) → list_all q (map f ps) ≡ true
+map_all q f h [] = refl
+map_all q f h (p ∷ ps) = together (q (f p)) _ (h p) (map_all q f h ps)
 
 pub joined_all : (p : Event → Bool) (xs ys : List Event) → list_all p xs ≡ true → list_all p ys ≡ true → list_all p (xs ++ ys) ≡ true
 joined_all p [] ys h g = g
@@ -61,12 +67,14 @@ flat_all p f h (k ∷ ks) = joined_all p (f k) (flat_map f ks) (h k) (flat_all p
 
 module _ (t : Transition) (since : List Event) where
   end-begins_nothing : (k : ℕ) (o : Outcome) → list_all begins_nothing (ended t since k o) ≡ true
-  end-begins_nothing k o = ended-begins_nothing k _ o (action_at t k)
+  end-begins_nothing k o = ended-begins_nothing (moment_of (journal t since)) o (find (is_number_of k) (flying t since))
 
   answer-begins_nothing : (given : Answer) → list_all begins_nothing (events_of t since given) ≡ true
   answer-begins_nothing (answer.End k code) = end-begins_nothing k _
   answer-begins_nothing (answer.Timeout k) = end-begins_nothing k _
-  answer-begins_nothing (answer.Lost n) = joined_all begins_nothing (gone_with t since n) _ (flat_all begins_nothing (λ k. ended t since k Gone) (λ k. end-begins_nothing k Gone) (filter (λ k. option_map_or (is_on n) (action_at t k) false) (flight t since))) refl
+  answer-begins_nothing (answer.Lost n) =
+      joined_all begins_nothing (map (end_of t.cluster (journal t since) (flying t since) Gone) (filter (λ (p : ℕ × Action). is_on n p.1) (flying t since))) _
+      (map_all begins_nothing (end_of t.cluster (journal t since) (flying t since) Gone) (λ p. refl) (filter (λ (p : ℕ × Action). is_on n p.1) (flying t since))) refl
   answer-begins_nothing (answer.Up n) = refl
   answer-begins_nothing (answer.Quorum now) = refl
   answer-begins_nothing (answer.Wait seconds) = refl

@@ -61,22 +61,12 @@ cap_of c es (Place r) = if is_stopped_role (target_role_of c r) || is_fail_stopp
 cap_of c es (Promote r) =
     if is_stopped_role (target_role_of c r) || is_unpromoted_role (target_role_of c r) then 0 else min (copies c r) (promoted_copies c r)
 
-module _ (c : Cluster) (es : List Event) (promotions : List Promotion) (table : Targets) where
+-- what colocations say, with the table so far
+module _ (c : Cluster) (table : Targets) where
   -- the total of the finite colocations of a decision whose primary holds its role on the node
   abbrev pub preference : Decision → ℕ → ℤ
   preference d n =
       total_of (map (λ (col : Colocation). col.score) (filter (λ col. is_finite col && is_dependent d col && holds_role table col.primary col.primary_role n) c.colocations))
-
-  -- the total of a decision on a node, with the table so far: that of two totals (rule of this project)
-  abbrev pub total_on : Decision → ℕ → ℤ
-  total_on d n = total_of (base c es promotions d n ∷ preference d n ∷ [])
-
-  -- the cluster may start the leaf, or what runs in the cell may stay and runs in no more cells than it has copies (Pacemaker Explained, "no-quorum-policy";
-  -- the bound by copies is a rule of this project)
-  abbrev pub is_permitted : Decision → ℕ → Bool
-  is_permitted d n =
-      may_start c es
-      || may_keep c es && is_kept_by d (cell_state c (leaf_of d) n es) && nat_le (active_count c es (leaf_of d)) (copies c (leaf_of d))
 
   -- each mandatory primary of the decision holds its role on the node
   abbrev pub has_primaries : Decision → ℕ → Bool
@@ -90,15 +80,28 @@ module _ (c : Cluster) (es : List Event) (promotions : List Promotion) (table : 
       || not (is_dependent d col && holds_role table col.primary col.primary_role n)
       && not (is_primary d col && holds_role table col.dependent col.dependent_role n)) c.colocations
 
-  -- a leaf is promoted only where it is placed
-  abbrev pub is_placed_for : Decision → ℕ → Bool
-  is_placed_for (Place r) n = true
-  is_placed_for (Promote r) n = is_somewhere (table r n)
+-- a leaf is promoted only where it is placed
+abbrev pub is_placed_for : Targets → Decision → ℕ → Bool
+is_placed_for table (Place r) n = true
+is_placed_for table (Promote r) n = is_somewhere (table r n)
+
+-- the cluster may start the leaf, or what runs in the cell may stay and runs in no more cells than it has copies (Pacemaker Explained, "no-quorum-policy";
+-- the bound by copies is a rule of this project)
+abbrev pub is_permitted : Cluster → List Event → Decision → ℕ → Bool
+is_permitted c es d n =
+    may_start c es
+    || may_keep c es && is_kept_by d (cell_state c (leaf_of d) n es) && nat_le (active_count c es (leaf_of d)) (copies c (leaf_of d))
+
+module _ (c : Cluster) (es : List Event) (promotions : List Promotion) (table : Targets) where
+  -- the total of a decision on a node, with the table so far: that of two totals (rule of this project)
+  abbrev pub total_on : Decision → ℕ → ℤ
+  total_on d n = total_of (base c es promotions d n ∷ preference c table d n ∷ [])
 
   -- the node may be chosen
   abbrev pub is_candidate : Decision → ℕ → Bool
   is_candidate d n =
-      is_usable c n es && is_permitted d n && int_le (pos 0) (total_on d n) && has_primaries d n && is_apart d n && is_placed_for d n
+      is_usable c n es && is_permitted c es d n && int_le (pos 0) (total_on d n) && has_primaries c table d n && is_apart c table d n
+      && is_placed_for table d n
 
   -- node n is chosen before node m: a greater total, then fewer leaves with a target there so far, then the earlier node
   abbrev pub is_chosen_before : Decision → ℕ → ℕ → Bool
@@ -121,7 +124,7 @@ target_by (Promote r) = target.Promoted
 -- the table after one more decision, and after some
 abbrev pub after_decision : Cluster → List Event → List Promotion → Targets → Decision → Targets
 after_decision c es promotions table d r n =
-    if r == leaf_of d && is_chosen c es promotions table d n then target_by d else table r n
+    if r == leaf_of d && nat_lt n (length c.nodes) && is_chosen c es promotions table d n then target_by d else table r n
 
 abbrev pub after_decisions : Cluster → List Event → List Promotion → Targets → List Decision → Targets
 after_decisions c es promotions table ds = fold (after_decision c es promotions) table ds

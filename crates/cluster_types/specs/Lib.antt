@@ -20,6 +20,7 @@ pub mod Valid
 pub mod Lawful
 pub mod Reasons
 pub mod Sources
+pub mod Answering
 pub mod Steps
 pub mod Texts
 pub mod Graphs

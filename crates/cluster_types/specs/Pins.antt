@@ -1,5 +1,5 @@
 -- Which leaves are left as they are (Pacemaker Explained, "is-managed" and "on-fail"; what they then count for is a rule of this project).
-use Rattle.std.specs.Prelude.{ℕ, ◌&&◌, Bool, true, false, not, if◌then◌else◌, Option, Some, None, is_some, List, length}
+use Rattle.std.specs.Prelude.{ℕ, nat_lt, ◌&&◌, Bool, true, false, not, if◌then◌else◌, Option, Some, None, is_some, List, length}
 use Rattle.std.specs.List.{list_any, range_with_len}
 use Rattle.cluster_types.specs.declared.cluster.Cluster.{Cluster}
 use Rattle.cluster_types.specs.declared.journal.Event.{Event}
@@ -34,7 +34,7 @@ module _ (c : Cluster) (es : List Event) where
 
   -- a pinned leaf has as targets the cells on online nodes where it may run and that were probed
   abbrev pub stays : ℕ → ℕ → Bool
-  stays r n = is_pinned r && is_online c n es && may c r n es && not (is_unprobed_state (cell_state c r n es))
+  stays r n = nat_lt r (length c.leaves) && nat_lt n (length c.nodes) && is_pinned r && is_online c n es && may c r n es && not (is_unprobed_state (cell_state c r n es))
 
   -- the targets of the pinned leaves, which stand before any decision
   abbrev pub pinned_targets : Targets

@@ -79,27 +79,28 @@ module _ (c : Cluster) (promotions : List Promotion) (whole : Bool) where
     pub said : Says whole rest (Some given) left
     pub refused : ¬ AppliesAt at given
 
-  -- the whole run from a journal on, of these answers: its lines, and the journal that it leaves
-  pub record IsWholeRun (es : List Event) (rest : List Answer) (lines : List RunLine) (left : List Event) : Type 0 where
+  -- the whole run from a journal on, of these answers: its lines, and the journal that it leaves. Where the answers are told, all of them were taken
+  pub record IsWholeRun (es : List Event) (rest : Option (List Answer)) (lines : List RunLine) (left : List Event) : Type 0 where
     pub last : Standing
-    pub steps : Runs (due 1 es) (Some rest) lines last (Some [])
-    pub over : IsOver last (Some [])
+    pub behind : Option (List Answer)
+    pub steps : Runs (due 1 es) rest lines last behind
+    pub over : IsOver last behind
     pub leaves : left ≡ journal_at last
 
-  -- the run from a journal on as far as these answers bring it: its lines up to a step at which one more is asked for. Where they aren't known to be
-  -- all, there is one such step; where they are, actions may have ended silently before it
-  pub record IsRunSoFar (es : List Event) (given : List Answer) (lines : List RunLine) (left : List Event) : Type 0 where
+  -- the run from a journal on up to a step at which an answer is asked for: its lines, the journal there, and the answers that weren't taken. While some are
+  -- left, no action has ended silently
+  pub record IsRunSoFar (es : List Event) (rest : Option (List Answer)) (lines : List RunLine) (left : List Event) (behind : Option (List Answer)) : Type 0 where
     pub last : Standing
-    pub steps : Runs (due 1 es) (Some given) lines last (Some [])
+    pub steps : Runs (due 1 es) rest lines last behind
     pub asking : IsAsking last
     pub leaves : left ≡ journal_at last
 
   -- the run from a journal on, cut by the answer that doesn't apply: its lines up to there, the journal that it leaves, and the answers behind it
-  pub record IsCutRun (es : List Event) (rest : List Answer) (lines : List RunLine) (left : List Event) (given : Answer) (behind : List Answer) : Type 0 where
+  pub record IsCutRun (es : List Event) (rest : Option (List Answer)) (lines : List RunLine) (left : List Event) (given : Answer) (behind : Option (List Answer)) : Type 0 where
     pub last : Standing
-    pub unread : List Answer
-    pub steps : Runs (due 1 es) (Some rest) lines last (Some unread)
-    pub cut : IsCut last (Some unread) given (Some behind)
+    pub unread : Option (List Answer)
+    pub steps : Runs (due 1 es) rest lines last unread
+    pub cut : IsCut last unread given behind
     pub leaves : left ≡ journal_at last
 
   -- the run from a journal on up to where the transition after so many is due: its lines, the journal there, and the answers behind it

@@ -24,6 +24,7 @@ use Rattle.cluster_types.specs.declared.journal.Promotion.{Promotion}
 use Rattle.cluster_types.specs.CellStates.{cell_state}
 use Rattle.cluster_types.specs.Choice.{is_separation}
 use Rattle.cluster_types.specs.Fields.{copies, promoted_copies}
+use Rattle.cluster_types.specs.Journals.{Orderly, in_flight}
 use Rattle.cluster_types.specs.May.{may, may_promoted}
 use Rattle.cluster_types.specs.NodeStates.{is_online, node_state}
 use Rattle.cluster_types.specs.Pins.{is_pinned}
@@ -150,13 +151,16 @@ module _ (t : Transition) where
     pub fenced : (n : ℕ) → n < length t.cluster.nodes → is_to_be_fenced t.cluster n t.planned_at ≡ true
         → node_state t.cluster n (journal t events) ≡ node.Offline
 
--- what holds where a run stands: its transition is safe, and once it ends unaborted it has ended in the targets of its plan. Between transitions there is
--- nothing to say: what holds of a whole run is IsSafeRun
+-- what holds where a run stands: its journal is in order, and between transitions nothing is in flight; its transition is safe, and once it ends unaborted it
+-- has ended in the targets of its plan
+abbrev pub IsAtRest : List Event → Type 0
+IsAtRest es = Orderly es × (in_flight es ≡ [])
+
 abbrev pub IsSafeAt : Cluster → List Promotion → Standing → Type 0
-IsSafeAt c promotions (due number es) = ⊤
-IsSafeAt c promotions (idle number es) = ⊤
+IsSafeAt c promotions (due number es) = IsAtRest es
+IsSafeAt c promotions (idle number es) = IsAtRest es
 IsSafeAt c promotions (amid number t since) =
-    IsSafe t since
+    Orderly (journal t since) × IsSafe t since
     × ((placed : Placed) → IsPlan c t.planned_at promotions placed t.actions → HasEnded t since → has_aborted t since ≡ false
     → EndsInTargets t (targets_of placed.table) since)
 

@@ -17,7 +17,7 @@ use Rattle.cluster_types.specs.declared.leaf.Op.TheVariants.{Monitor}
 use Rattle.cluster_types.specs.declared.leaf.Role.{Role}
 use Rattle.cluster_types.specs.declared.leaf.Role.TheVariants as role
 use Rattle.cluster_types.specs.declared.states.NodeState.TheVariants as node
-use Rattle.cluster_types.specs.Cells.{is_of_cell, is_sent_to}
+use Rattle.cluster_types.specs.Answering.{applies_after, added_by, ends_of}
 use Rattle.cluster_types.specs.Fields.{monitors}
 use Rattle.cluster_types.specs.Journals.{ends_number, joined, last_sign, is_on, moment_of}
 use Rattle.cluster_types.specs.May.{may}
@@ -68,14 +68,6 @@ is_from_outside (Quorum now) = true
 is_from_outside (Wait seconds) = true
 is_from_outside (Ended k a o moment) = k == 0
 is_from_outside _ = false
-
--- how many answers from outside a transition takes at most (rule of this project)
-abbrev pub most_from_outside : ℕ
-most_from_outside = 256
-
--- the role of the recurring monitor of this interval; without a statement of the interval it is Started
-abbrev pub role_of_interval : List MonitorOf → ℕ → Role
-role_of_interval ms interval = option_map_or (λ (m : MonitorOf). m.role) (find (λ m. m.interval_ms == interval) ms) role.Started
 
 -- the action of a number, from 1. Number 0 is that of reports and of the history
 abbrev pub numbered : List Action → ℕ → Option Action
@@ -136,57 +128,25 @@ module _ (t : Transition) where
     abbrev pub is_settled : Bool
     is_settled = not (list_any may_begin numbers)
 
-    -- the action in flight of this number passes
-    abbrev pub flight_any : (Action → Bool) → Bool
-    flight_any test = list_any (λ k. option_map_or test (action_at k) false) flight
+    -- the same with their actions
+    abbrev pub flying : List (ℕ × Action)
+    flying = flat_map (λ k. option_map_or (λ a. (k, a) ∷ []) (action_at k) []) flight
 
-    -- one more answer from outside may be taken
-    abbrev pub has_outside_room : Bool
-    has_outside_room = nat_lt (count_by is_from_outside since) most_from_outside
-
-    -- nothing of the cell is in flight, and no migration to it
-    abbrev pub is_quiet : ℕ → ℕ → Bool
-    is_quiet r n = not (flight_any (λ a. is_of_cell r n a || is_sent_to r n a))
-
-    -- a recurring monitor of the leaf on the node, as an action
-    abbrev pub monitor_action : ℕ → ℕ → ℕ → Action
-    monitor_action r n interval = Cell Monitor r n interval (role_of_interval (monitors t.cluster r) interval)
-
-    -- the report says something new: the node is online, the leaf may run there, the code is bad and not ignored, and the cell is quiet
-    abbrev pub is_news : ℕ → ℕ → ℕ → ℕ → Bool
-    is_news n r interval code =
-        nat_lt n (length t.cluster.nodes) && nat_lt r (length t.cluster.leaves) && nat_lt 0 interval
-        && is_online t.cluster n journal && may t.cluster r n journal
-        && is_bad (monitor_action r n interval) (Code code) && not (is_ignored t.cluster (monitor_action r n interval) (Code code))
-        && is_quiet r n
+    -- how many answers from outside were taken
+    abbrev pub outside : ℕ
+    outside = count_by is_from_outside since
 
     -- the answer applies now (rule of this project)
     abbrev pub Applies : Answer → Type 0
-    Applies (answer.End k code) = is_in_flight_number k ≡ true
-    Applies (answer.Timeout k) = is_in_flight_number k ≡ true
-    Applies (answer.Lost n) = (has_outside_room ≡ true) × (n < length t.cluster.nodes) × (last_sign n journal ≡ Some joined)
-    Applies (answer.Up n) = (has_outside_room ≡ true) × (n < length t.cluster.nodes) × (node_state t.cluster n journal ≡ node.Offline)
-    Applies (answer.Quorum now) = has_outside_room ≡ true
-    Applies (answer.Wait seconds) = (has_outside_room ≡ true) × (moment_of journal + seconds < 2 ^ 40)
-    Applies (answer.Report n r interval code) = (has_outside_room ≡ true) × (is_news n r interval code ≡ true)
+    Applies given = applies_after t.cluster journal flying outside given ≡ true
 
     -- the action of this number ends so, now
     abbrev pub ended : ℕ → Outcome → List Event
-    ended k o = option_map_or (λ a. Ended k a o (moment_of journal) ∷ []) (action_at k) []
-
-    -- each action of a cell on the node that is in flight is gone, in the order of their numbers. Fences stay in flight
-    abbrev pub gone_with : ℕ → List Event
-    gone_with n = flat_map (λ k. ended k Gone) (filter (λ k. option_map_or (is_on n) (action_at k) false) flight)
+    ended k o = ends_of t.cluster journal flying k o
 
     -- what an answer adds to the journal (rule of this project)
     abbrev pub events_of : Answer → List Event
-    events_of (answer.End k code) = ended k (Code code)
-    events_of (answer.Timeout k) = ended k TimedOut
-    events_of (answer.Lost n) = gone_with n ++ Lost n ∷ []
-    events_of (answer.Up n) = Up n ∷ []
-    events_of (answer.Quorum now) = Quorum now ∷ []
-    events_of (answer.Wait seconds) = Wait seconds ∷ []
-    events_of (answer.Report n r interval code) = Ended 0 (monitor_action r n interval) (Code code) (moment_of journal) ∷ []
+    events_of given = added_by t.cluster journal flying given
 
     -- of the actions that may begin, the one of lowest number begins
     pub record Begins (k : ℕ) (a : Action) : Type 0 where

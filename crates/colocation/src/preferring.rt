@@ -1,8 +1,6 @@
 //! How much colocations prefer a decision on a node.
 
-ghost use Rattle.std.specs.Prelude.{◌≡◌, ◌≤ℤ◌, pos, neg_ℤ, List};
-ghost use Rattle.cluster_types.specs.declared.journal.Event.{Event as EventOf};
-ghost use Rattle.cluster_types.specs.declared.journal.Promotion.{Promotion as PromotionOf};
+ghost use Rattle.std.specs.Prelude.{◌≡◌, ◌≤ℤ◌, pos, neg_ℤ};
 ghost use Rattle.cluster_types.specs.Choice as choice;
 ghost use Rattle.cluster_types.specs.Tables.{targets_of};
 ghost use Rattle.cluster_types.specs.Valid.{KeepsLimits};
@@ -51,8 +49,7 @@ fn cut(sum: i64) -> Score
 /// whose primary holds its role there (Pacemaker Explained, "Placing Resources Relative to other Resources").
 pub fn preference(cluster: &Cluster, table: &Table, decision: Decision, node: NodeId) -> Score
     requires { KeepsLimits cluster.now }
-    ensures { (events : List EventOf) (promotions : List PromotionOf)
-        → result ≡ choice.preference cluster.now events promotions (targets_of table.now) decision node }
+    ensures { result ≡ choice.preference cluster.now (targets_of table.now) decision node }
 {
     let mut sum = 0;
     for rule in cluster.colocations.as_slice() {

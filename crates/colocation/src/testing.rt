@@ -1,9 +1,7 @@
 //! On which nodes colocations allow a decision.
 
-ghost use Rattle.std.specs.Prelude.{◌≡◌, ◌&&◌, List};
+ghost use Rattle.std.specs.Prelude.{◌≡◌, ◌&&◌};
 ghost use Rattle.std.specs.List.{list_all};
-ghost use Rattle.cluster_types.specs.declared.journal.Event.{Event as EventOf};
-ghost use Rattle.cluster_types.specs.declared.journal.Promotion.{Promotion as PromotionOf};
 ghost use Rattle.cluster_types.specs.Choice as choice;
 ghost use Rattle.cluster_types.specs.Tables.{targets_of};
 ghost use Rattle.colocation.specs.Tests as spec;
@@ -49,9 +47,8 @@ fn is_apart(cluster: &Cluster, table: &Table, decision: Decision, node: NodeId) 
 /// Whether the colocations allow the decision on the node, with the table so far: each primary with which its leaf must be holds its role there, and
 /// nothing that must be apart from it does (Pacemaker Explained, "Placing Resources Relative to other Resources").
 pub fn allowed(cluster: &Cluster, table: &Table, decision: Decision, node: NodeId) -> bool
-    ensures { (events : List EventOf) (promotions : List PromotionOf)
-        → result ≡ (choice.has_primaries cluster.now events promotions (targets_of table.now) decision node
-        && choice.is_apart cluster.now events promotions (targets_of table.now) decision node) }
+    ensures { result ≡ (choice.has_primaries cluster.now (targets_of table.now) decision node
+        && choice.is_apart cluster.now (targets_of table.now) decision node) }
 {
     has_primaries(cluster, table, decision, node) && is_apart(cluster, table, decision, node)
 }

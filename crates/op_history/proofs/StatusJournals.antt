@@ -15,7 +15,7 @@ use Rattle.cluster_types.specs.declared.leaf.Op.{Op}
 use Rattle.cluster_types.specs.declared.leaf.Op.TheVariants.{Start, Stop, Promote, Demote, Monitor}
 use Rattle.cluster_types.specs.declared.leaf.Role.{Role}
 use Rattle.cluster_types.specs.Fields.{monitors}
-use Rattle.cluster_types.specs.Steps.{role_of_interval}
+use Rattle.cluster_types.specs.Answering.{role_of_interval}
 use Rattle.cluster_types.specs.Journals.{Orderly, in_flight, is_reported}
 use Rattle.op_history.specs.FirstJournal as journals
 use Rattle.op_history.specs.FirstJournal.{is_known, is_repeated, status_of}

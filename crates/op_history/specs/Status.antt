@@ -12,7 +12,7 @@ use Rattle.cluster_types.specs.declared.leaf.Op.{Op}
 use Rattle.cluster_types.specs.declared.leaf.Op.TheVariants.{Start, Stop, Promote, Demote, Monitor}
 use Rattle.cluster_types.specs.declared.leaf.Role.TheVariants as role
 use Rattle.cluster_types.specs.Fields.{is_promotable, monitors}
-use Rattle.cluster_types.specs.Steps.{role_of_interval}
+use Rattle.cluster_types.specs.Answering.{role_of_interval}
 use Rattle.op_history.specs.declared.fault.WordCause.{WordCause}
 use Rattle.op_history.specs.declared.fault.WordCause.TheVariants.{BadValue, UnknownStatement}
 use Rattle.op_history.specs.declared.status_lines.StatusWord.{StatusWord}

@@ -2,7 +2,7 @@
 
 ghost use Rattle.std.specs.Prelude.{◌≡◌, ◌<◌, ◌^◌, ℕ, length, true, IfOk};
 ghost use Rattle.cluster_types.specs.Fields.{is_promotable, monitors};
-ghost use Rattle.cluster_types.specs.Steps.{role_of_interval};
+ghost use Rattle.cluster_types.specs.Answering.{role_of_interval};
 ghost use Rattle.cluster_types.specs.Journals.{is_reported};
 ghost use Rattle.cluster_types.specs.declared.journal.Event.TheVariants as event;
 ghost use Rattle.cluster_types.specs.Valid.{KeepsLimits};

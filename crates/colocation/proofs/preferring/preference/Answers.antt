@@ -9,7 +9,7 @@ use Rattle.colocation.proofs.Sums.{total_is_sum}
 use Rattle.colocation.proofs.preferring.preference.Goals as goal
 
 pub returns : goal.returns
-returns c = λ events promotions.
+returns c =
     let l = c.loop-rule in
     let table = targets_of c.args.table.now in
     let f = points table c.args.decision c.args.node in

@@ -1,5 +1,5 @@
 use Rattle.std.proofs.Common.{◌≡◌, drop}
-use Rattle.cluster_types.specs.Steps.{role_of_interval}
+use Rattle.cluster_types.specs.Answering.{role_of_interval}
 use Rattle.op_history.proofs.status_lines.role_in.Given as goal
 
 abbrev pub invariant-loop-monitor : goal.invariant-loop-monitor

@@ -1,0 +1,69 @@
+-- Groups of edges with gates of their own add up: what leads through both leads through one of them.
+use Rattle.std.proofs.Common.{arith, ◌<◌, ◌≤◌, ◌⊎◌, inl, inr, ℕ, List, ◌++◌, Contains}
+use Rattle.std.proofs.lemmas.List.Elements.{Contains-append_cases, Contains-append_left, Contains-append_right}
+use Rattle.cluster_types.specs.declared.edges.Edge.{Edge}
+use Rattle.cluster_types.specs.Graphs.{Leads, direct, through}
+
+-- an end of an edge of the later group: an action, or a gate of its own
+pub data IsOwn (actions from x : ℕ) : Type 0 where
+  action : x < actions → IsOwn actions from x
+  gate : from ≤ x → IsOwn actions from x
+
+-- actions below `actions`, gates of the older edges below `from`, and those of the later ones from there on
+module _ (actions from : ℕ) (old more : List Edge) (enough : actions ≤ from)
+    (olds : (e : Edge) → Contains old e → (e.before < from) × (e.after < from))
+    (news : (e : Edge) → Contains more e → IsOwn actions from e.before × IsOwn actions from e.after) where
+  not_between : (x : ℕ) (X : Type 0) → IsOwn actions from x → actions ≤ x → x < from → X
+  not_between x X (action h) l u = absurd (omega arith)
+  not_between x X (gate h) l u = absurd (omega arith)
+
+  from_old_gate : (x y : ℕ) → Leads actions (old ++ more) x y → actions ≤ x → x < from → Leads actions old x y
+  from_old_gate _ _ (direct e c) l u =
+      elim (Contains-append_cases old more e c) [
+        | inl h ↦ direct e h
+        | inr h ↦ not_between e.before (Leads actions old e.before e.after) (news e h).0 l u
+      ]
+  from_old_gate _ _ (through e y c g rest) l u =
+      elim (Contains-append_cases old more e c) [
+        | inl h ↦ through e y h g (from_old_gate e.after y rest g (olds e h).1)
+        | inr h ↦ not_between e.before (Leads actions old e.before y) (news e h).0 l u
+      ]
+
+  own_gate : (x : ℕ) → IsOwn actions from x → actions ≤ x → from ≤ x
+  own_gate x (action h) l = absurd (omega arith)
+  own_gate x (gate h) l = h
+
+  from_new_gate : (x y : ℕ) → Leads actions (old ++ more) x y → from ≤ x → Leads actions more x y
+  from_new_gate _ _ (direct e c) l =
+      elim (Contains-append_cases old more e c) [
+        | inl h ↦ (let u = (olds e h).0 in absurd (omega arith))
+        | inr h ↦ direct e h
+      ]
+  from_new_gate _ _ (through e y c g rest) l =
+      elim (Contains-append_cases old more e c) [
+        | inl h ↦ (let u = (olds e h).0 in absurd (omega arith))
+        | inr h ↦ through e y h g (from_new_gate e.after y rest (own_gate e.after (news e h).1 g))
+      ]
+
+  pub one_group : (x y : ℕ) → Leads actions (old ++ more) x y → x < actions → Leads actions old x y ⊎ Leads actions more x y
+  one_group _ _ (direct e c) u =
+      elim (Contains-append_cases old more e c) [
+        | inl h ↦ inl (direct e h)
+        | inr h ↦ inr (direct e h)
+      ]
+  one_group _ _ (through e y c g rest) u =
+      elim (Contains-append_cases old more e c) [
+        | inl h ↦ inl (through e y h g (from_old_gate e.after y rest g (olds e h).1))
+        | inr h ↦ inr (through e y h g (from_new_gate e.after y rest (own_gate e.after (news e h).1 g)))
+      ]
+
+  -- and back
+  more_edges : (some : List Edge) → ((e : Edge) → Contains some e → Contains (old ++ more) e) → (x y : ℕ) → Leads actions some x y → Leads actions (old ++ more) x y
+  more_edges some f _ _ (direct e c) = direct e (f e c)
+  more_edges some f _ _ (through e y c g rest) = through e y (f e c) g (more_edges some f e.after y rest)
+
+  pub of_old : (x y : ℕ) → Leads actions old x y → Leads actions (old ++ more) x y
+  of_old = more_edges old (λ e c. Contains-append_left old more e c)
+
+  pub of_more : (x y : ℕ) → Leads actions more x y → Leads actions (old ++ more) x y
+  of_more = more_edges more (λ e c. Contains-append_right old more e c)

@@ -1,0 +1,84 @@
+-- Which answers apply after a journal, with some actions in flight and some answers from outside taken so far, and what each adds to the journal
+-- (Pacemaker Administration, "Transitions"; which apply is a rule of this project).
+use Rattle.std.specs.Prelude.{ℕ, ◌+◌, ◌^◌, nat_lt, ◌==◌, ◌&&◌, ◌||◌, Bool, true, false, not, Option, Some, None, List, [], ◌∷◌, ◌++◌, length, map, filter, find}
+use Rattle.std.specs.List.{list_any}
+use Rattle.std.specs.Option.{option_map_or}
+use Rattle.cluster_types.specs.declared.cluster.Cluster.{Cluster}
+use Rattle.cluster_types.specs.declared.journal.Action.{Action}
+use Rattle.cluster_types.specs.declared.journal.Action.TheVariants.{Probe, Cell}
+use Rattle.cluster_types.specs.declared.journal.Answer.{Answer}
+use Rattle.cluster_types.specs.declared.journal.Answer.TheVariants as answer
+use Rattle.cluster_types.specs.declared.journal.Event.{Event}
+use Rattle.cluster_types.specs.declared.journal.Event.TheVariants.{Up, Lost, Quorum, Wait, Ended}
+use Rattle.cluster_types.specs.declared.journal.Outcome.{Outcome}
+use Rattle.cluster_types.specs.declared.journal.Outcome.TheVariants.{Code, TimedOut, Gone}
+use Rattle.cluster_types.specs.declared.leaf.Monitor.{Monitor as MonitorOf}
+use Rattle.cluster_types.specs.declared.leaf.Op.TheVariants.{Monitor}
+use Rattle.cluster_types.specs.declared.leaf.Role.{Role}
+use Rattle.cluster_types.specs.declared.leaf.Role.TheVariants as role
+use Rattle.cluster_types.specs.declared.states.NodeState.{NodeState}
+use Rattle.cluster_types.specs.declared.states.NodeState.TheVariants as node
+use Rattle.cluster_types.specs.Cells.{is_of_cell, is_sent_to}
+use Rattle.cluster_types.specs.Fields.{monitors}
+use Rattle.cluster_types.specs.Journals.{NodeSign, joined, last_sign, is_on, moment_of}
+use Rattle.cluster_types.specs.May.{may}
+use Rattle.cluster_types.specs.NodeStates.{node_state, is_online}
+use Rattle.cluster_types.specs.Outcomes.{is_bad, is_ignored}
+
+abbrev pub most_from_outside : ℕ
+most_from_outside = 256
+
+abbrev pub role_of_interval : List MonitorOf → ℕ → Role
+role_of_interval ms interval = option_map_or (λ (m : MonitorOf). m.role) (find (λ m. m.interval_ms == interval) ms) role.Started
+
+abbrev pub monitor_action : Cluster → ℕ → ℕ → ℕ → Action
+monitor_action c r n interval = Cell Monitor r n interval (role_of_interval (monitors c r) interval)
+
+abbrev pub is_joined : Option NodeSign → Bool
+is_joined (Some joined) = true
+is_joined _ = false
+
+abbrev pub is_offline_state : NodeState → Bool
+is_offline_state node.Offline = true
+is_offline_state _ = false
+
+abbrev pub is_number_of : ℕ → ℕ × Action → Bool
+is_number_of k p = p.0 == k
+
+module _ (c : Cluster) (es : List Event) (flight : List (ℕ × Action)) where
+  abbrev pub is_flying : ℕ → Bool
+  is_flying k = list_any (is_number_of k) flight
+
+  abbrev pub is_quiet_cell : ℕ → ℕ → Bool
+  is_quiet_cell r n = not (list_any (λ (p : ℕ × Action). is_of_cell r n p.1 || is_sent_to r n p.1) flight)
+
+  abbrev pub tells_news : ℕ → ℕ → ℕ → ℕ → Bool
+  tells_news n r interval code =
+      nat_lt n (length c.nodes) && nat_lt r (length c.leaves) && nat_lt 0 interval && is_online c n es && may c r n es
+      && is_bad (monitor_action c r n interval) (Code code) && not (is_ignored c (monitor_action c r n interval) (Code code)) && is_quiet_cell r n
+
+  -- the answer applies, where so many from outside were taken
+  abbrev pub applies_after : ℕ → Answer → Bool
+  applies_after taken (answer.End k code) = is_flying k
+  applies_after taken (answer.Timeout k) = is_flying k
+  applies_after taken (answer.Lost n) = nat_lt taken most_from_outside && nat_lt n (length c.nodes) && is_joined (last_sign n es)
+  applies_after taken (answer.Up n) = nat_lt taken most_from_outside && nat_lt n (length c.nodes) && is_offline_state (node_state c n es)
+  applies_after taken (answer.Quorum now) = nat_lt taken most_from_outside
+  applies_after taken (answer.Wait seconds) = nat_lt taken most_from_outside && nat_lt (moment_of es + seconds) (2 ^ 40)
+  applies_after taken (answer.Report n r interval code) = nat_lt taken most_from_outside && tells_news n r interval code
+
+  abbrev pub end_of : Outcome → ℕ × Action → Event
+  end_of o p = Ended p.0 p.1 o (moment_of es)
+
+  abbrev pub ends_of : ℕ → Outcome → List Event
+  ends_of k o = option_map_or (λ p. end_of o p ∷ []) (find (is_number_of k) flight) []
+
+  -- what an answer adds
+  abbrev pub added_by : Answer → List Event
+  added_by (answer.End k code) = ends_of k (Code code)
+  added_by (answer.Timeout k) = ends_of k TimedOut
+  added_by (answer.Lost n) = map (end_of Gone) (filter (λ (p : ℕ × Action). is_on n p.1) flight) ++ Lost n ∷ []
+  added_by (answer.Up n) = Up n ∷ []
+  added_by (answer.Quorum now) = Quorum now ∷ []
+  added_by (answer.Wait seconds) = Wait seconds ∷ []
+  added_by (answer.Report n r interval code) = Ended 0 (monitor_action c r n interval) (Code code) (moment_of es) ∷ []
