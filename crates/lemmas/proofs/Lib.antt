@@ -1,0 +1,5 @@
+pub mod Booleans
+pub mod Searches
+pub mod Counts
+pub mod Ranges
+pub mod Results

@@ -1,0 +1,102 @@
+-- Lists made of the numbers up to a number.
+use Rattle.std.proofs.Common.{◌≡◌, ◌≢◌, ◌⊎◌, inl, inr, ℕ, zero, suc, ◌+◌, ◌<◌, ◌≤◌, ◌==◌, ◌||◌, Bool, true, false, if◌then◌else◌, List, [], ◌∷◌, ◌++◌, map, filter, count_by, get_or, set, refl, sym, ap, subst, ◌∙◌, map-id, append-nil, arith}
+use Rattle.std.proofs.lemmas.Bool.{and_from, cases_eq, or_right}
+use Rattle.std.proofs.lemmas.Grind.{flat_map-append}
+use Rattle.std.proofs.lemmas.List.{length-set, get_or-set_same, get_or-set_other, ext_get_or}
+use Rattle.std.proofs.lemmas.List.Elements.{filter-append}
+use Rattle.std.proofs.lemmas.List.FromFn.{map-range_with_len_more, get_or-map-range_with_len, length-map-range_with_len}
+use Rattle.std.specs.List.{flat_map, list_all, list_any, range_with_len}
+use Rattle.lemmas.proofs.Counts.{count-append}
+use Rattle.lemmas.proofs.Searches.{any-more}
+
+-- one number more
+pub map-more : {X : Type 0} (f : ℕ → X) (n : ℕ) → map f (range_with_len 0 (n + 1)) ≡ map f (range_with_len 0 n) ++ f n ∷ []
+map-more f n = map-range_with_len_more f 0 n n (omega arith)
+
+pub range-more : (n : ℕ) → range_with_len 0 (n + 1) ≡ range_with_len 0 n ++ n ∷ []
+range-more n = sym (map-id (range_with_len 0 (n + 1))) ∙ (map-more (λ k. k) n ∙ ap (λ xs. xs ++ n ∷ []) (map-id (range_with_len 0 n)))
+
+pub range-suc : (n : ℕ) → range_with_len 0 (suc n) ≡ range_with_len 0 n ++ n ∷ []
+range-suc n = let on : n + 1 ≡ suc n = omega arith in subst (λ k. range_with_len 0 k ≡ range_with_len 0 n ++ n ∷ []) on (range-more n)
+
+pub flat_map-more : {X : Type 0} (f : ℕ → List X) (n : ℕ) → flat_map f (range_with_len 0 (n + 1)) ≡ flat_map f (range_with_len 0 n) ++ f n
+flat_map-more f n = ap (flat_map f) (range-more n) ∙ (flat_map-append f (range_with_len 0 n) (n ∷ []) ∙ ap (λ xs. flat_map f (range_with_len 0 n) ++ xs) (append-nil (f n)))
+
+pub filter-more : (p : ℕ → Bool) (n : ℕ) (here : Bool) → p n ≡ here
+    → filter p (range_with_len 0 (n + 1)) ≡ filter p (range_with_len 0 n) ++ (if here then n ∷ [] else [])
+filter-more p n true e = ap (filter p) (range-more n) ∙ (filter-append p (range_with_len 0 n) (n ∷ []) ∙ rw e refl)
+filter-more p n false e = ap (filter p) (range-more n) ∙ (filter-append p (range_with_len 0 n) (n ∷ []) ∙ rw e refl)
+
+-- what is the same of each number below the bound gives the same list, and the same answer
+pub map-same : {X : Type 0} (f g : ℕ → X) (n : ℕ) → ((i : ℕ) → i < n → f i ≡ g i) → map f (range_with_len 0 n) ≡ map g (range_with_len 0 n)
+map-same f g zero h = refl
+map-same f g (suc n) h =
+    let on : n + 1 ≡ suc n = omega arith in
+    let before = map-same f g n (λ i low. h i (omega (arith, low))) in
+    subst (λ k. map f (range_with_len 0 k) ≡ map g (range_with_len 0 k)) on
+    (map-more f n ∙ (ap (λ xs. xs ++ f n ∷ []) before ∙ (ap (λ x. map g (range_with_len 0 n) ++ x ∷ []) (h n (omega arith)) ∙ sym (map-more g n))))
+
+pub filter-same : (p q : ℕ → Bool) (n : ℕ) → ((i : ℕ) → i < n → p i ≡ q i) → filter p (range_with_len 0 n) ≡ filter q (range_with_len 0 n)
+filter-same p q zero h = refl
+filter-same p q (suc n) h =
+    let on : n + 1 ≡ suc n = omega arith in
+    let before = filter-same p q n (λ i low. h i (omega (arith, low))) in
+    subst (λ k. filter p (range_with_len 0 k) ≡ filter q (range_with_len 0 k)) on
+    (filter-more p n (q n) (h n (omega arith)) ∙ (ap (λ xs. xs ++ (if q n then n ∷ [] else [])) before ∙ sym (filter-more q n (q n) refl)))
+
+pub filter-none : (n : ℕ) → filter (λ (i : ℕ). false) (range_with_len 0 n) ≡ []
+filter-none zero = refl
+filter-none (suc n) =
+    let on : n + 1 ≡ suc n = omega arith in
+    subst (λ k. filter (λ (i : ℕ). false) (range_with_len 0 k) ≡ []) on (filter-more (λ i. false) n false refl ∙ (append-nil _ ∙ filter-none n))
+
+pub any-same : (p q : ℕ → Bool) (n : ℕ) → ((i : ℕ) → i < n → p i ≡ q i) → list_any p (range_with_len 0 n) ≡ list_any q (range_with_len 0 n)
+any-same p q zero h = refl
+any-same p q (suc n) h =
+    let before = any-same p q n (λ i low. h i (omega (arith, low))) in
+    ap (list_any p) (range-suc n) ∙ (any-more p (range_with_len 0 n) n ∙ (ap (λ b. b || p n) before ∙ (ap (λ b. list_any q (range_with_len 0 n) || b) (h n (omega arith))
+    ∙ sym (ap (list_any q) (range-suc n) ∙ any-more q (range_with_len 0 n) n))))
+
+pub count-same : (p q : ℕ → Bool) (n : ℕ) → ((i : ℕ) → i < n → p i ≡ q i) → count_by p (range_with_len 0 n) ≡ count_by q (range_with_len 0 n)
+count-same p q zero h = refl
+count-same p q (suc n) h =
+    let before = count-same p q n (λ i low. h i (omega (arith, low))) in
+    let one : count_by p (n ∷ []) ≡ count_by q (n ∷ []) = rw (h n (omega arith)) refl in
+    ap (count_by p) (range-suc n) ∙ (count-append p (range_with_len 0 n) (n ∷ []) ∙ (ap (λ k. k + count_by p (n ∷ [])) before
+    ∙ (ap (λ k. count_by q (range_with_len 0 n) + k) one ∙ sym (ap (count_by q) (range-suc n) ∙ count-append q (range_with_len 0 n) (n ∷ [])))))
+
+-- a test over the numbers from one on: it passes for all, or for one of them
+pub all_in_range : (p : ℕ → Bool) (from count : ℕ) → ((j : ℕ) → from ≤ j → j < from + count → p j ≡ true) → list_all p (range_with_len from count) ≡ true
+all_in_range p from zero h = refl
+all_in_range p from (suc count) h =
+    and_from (p from) _ (h from (omega arith) (omega arith)) (all_in_range p (from + 1) count (λ j low high. h j (omega (arith, low)) (omega (arith, high))))
+
+pub some_in_range : (p : ℕ → Bool) (from count j : ℕ) → from ≤ j → j < from + count → p j ≡ true → list_any p (range_with_len from count) ≡ true
+some_in_range p from zero j low high h = absurd (let f : ⊥ = omega arith in f)
+some_in_range p from (suc count) j low high h = at_first (from == j) refl (λ e. some_in_range p (from + 1) count j (not_first from j low e) (omega (arith, high)) h)
+  where
+    not_first : (from j : ℕ) → from ≤ j → (from == j) ≡ false → from + 1 ≤ j
+    not_first from j low e = grind arith
+
+    at_first : (same : Bool) → (from == j) ≡ same → (same ≡ false → list_any p (range_with_len (from + 1) count) ≡ true) → list_any p (range_with_len from (suc count)) ≡ true
+    at_first true e rest = let f : from ≡ j = grind arith in let g : p from ≡ true = subst (λ z. p z ≡ true) (sym f) h in rw g refl
+    at_first false e rest = or_right (p from) _ (rest refl)
+
+-- another element at one place
+pub map-set-range : {X : Type 0} (d : X) (f g : ℕ → X) (k i : ℕ) (v : X) → i < k → g i ≡ v → ((n : ℕ) → n ≢ i → g n ≡ f n)
+    → set (map f (range_with_len 0 k)) i v ≡ map g (range_with_len 0 k)
+map-set-range d f g k i v low here others =
+    ext_get_or d _ _ (length-set (map f (range_with_len 0 k)) i v ∙ (length-map-range_with_len f 0 k ∙ sym (length-map-range_with_len g 0 k)))
+    (λ n within. each n (omega (arith, within, length-set (map f (range_with_len 0 k)) i v, length-map-range_with_len f 0 k)) (cases_eq n i))
+  where
+    each : (n : ℕ) → n < k → (n ≡ i) ⊎ (n ≢ i) → get_or (set (map f (range_with_len 0 k)) i v) n d ≡ get_or (map g (range_with_len 0 k)) n d
+    each n within (inl e) =
+        let long = length-map-range_with_len f 0 k in
+        let at : get_or (set (map f (range_with_len 0 k)) i v) i d ≡ v = get_or-set_same (map f (range_with_len 0 k)) i v d (omega arith) in
+        let same : get_or (set (map f (range_with_len 0 k)) i v) i d ≡ get_or (map g (range_with_len 0 k)) i d =
+        at ∙ (sym here ∙ sym (get_or-map-range_with_len g 0 k i i d low (omega arith))) in
+        subst (λ m. get_or (set (map f (range_with_len 0 k)) i v) m d ≡ get_or (map g (range_with_len 0 k)) m d) (sym e) same
+    each n within (inr e) =
+        get_or-set_other (map f (range_with_len 0 k)) i n v d e
+        ∙ (get_or-map-range_with_len f 0 k n n d within (omega arith)
+        ∙ (sym (others n e) ∙ sym (get_or-map-range_with_len g 0 k n n d within (omega arith))))

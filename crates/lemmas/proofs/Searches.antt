@@ -1,0 +1,32 @@
+-- Searches in lists.
+use Rattle.std.proofs.Common.{◌≡◌, zero, suc, Bool, true, ◌||◌, List, [], ◌∷◌, ◌++◌, sym, ap, ◌∙◌, Contains, arith}
+use Rattle.std.proofs.Math.Bool.{or-false}
+use Rattle.std.proofs.lemmas.Bool.{and_parts}
+use Rattle.std.specs.List.{list_all, list_any}
+use Rattle.std.proofs.lemmas.List.Folds.{list_any-append, list_any_at}
+
+-- an element of the rest is one of the list
+pub in_rest : {X : Type 0} (x : X) (xs : List X) (a : X) → Contains xs a → Contains (x ∷ xs) a
+in_rest x xs a (k, lt, at) = (suc k, omega (arith, lt), at)
+
+-- an empty list has no element
+pub of_none : {X : Type 0} (P : X → Type 0) (x : X) → Contains [] x → P x
+of_none P x (k, lt, at) = absurd (omega (arith, lt))
+
+-- an element that passes is found
+pub passes_by : {X : Type 0} (p : X → Bool) (xs : List X) (x : X) → Contains xs x → p x ≡ true → list_any p xs ≡ true
+passes_by p xs x (k, lt, at) h = list_any_at p xs k x lt (rw at h)
+
+-- where all pass, each does
+pub each_passes : {X : Type 0} (p : X → Bool) (xs : List X) (x : X) → list_all p xs ≡ true → Contains xs x → p x ≡ true
+each_passes p [] x h c = of_none (λ x. p x ≡ true) x c
+each_passes p (y ∷ ys) x h (zero, lt, at) = rw (← at) (and_parts (p y) (list_all p ys) h).0
+each_passes p (y ∷ ys) x h (suc k, lt, at) = each_passes p ys x (and_parts (p y) (list_all p ys) h).1 (k, omega (arith, lt), at)
+
+-- with one more element, a test passes somewhere where it passed before, and where it passes there
+pub any-more : {X : Type 0} (p : X → Bool) (xs : List X) (x : X) → list_any p (xs ++ x ∷ []) ≡ (list_any p xs || p x)
+any-more p xs x = list_any-append p xs (x ∷ []) ∙ ap (λ b. list_any p xs || b) (or-false (p x))
+
+pub any_or : {X : Type 0} (test : X → Bool) (xs : List X) (x : X) (before : Bool) → before ≡ list_any test xs
+    → (before || test x) ≡ list_any test (xs ++ x ∷ [])
+any_or test xs x before e = ap (λ b. b || test x) e ∙ sym (any-more test xs x)
