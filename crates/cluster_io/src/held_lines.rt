@@ -1,4 +1,4 @@
-ghost use Rattle.std.specs.Prelude.{◌≡◌, ℕ, ◌+◌, ◌*◌, ◌^◌, ◌≤◌, ◌<◌, None, Some, true, [], length, IfOk};
+ghost use Rattle.std.specs.Prelude.{◌≡◌, ◌≢◌, ℕ, ◌+◌, ◌*◌, ◌^◌, ◌≤◌, ◌<◌, None, Some, true, [], length, IfOk};
 ghost use Rattle.cluster_io.specs.Streams.{Rose};
 ghost use Rattle.cluster_io.specs.NextLine.{holds_line};
 ghost use Rattle.cluster_io.specs.HeldLines.{MayGive, Gives, Stops, Turned};
@@ -144,6 +144,8 @@ impl HeldLines {
         ensures untouched { holds_line self.old.held ≡ true → src.new ≡ src.old }
         ensures count { S.faults src.old ≤ S.faults src.new }
         ensures cause { result ≡ Some LineStep.Failed → Rose (S.faults src.old) (S.faults src.new) }
+        ensures no_failure { S.counts_only_failures ≡ true → result ≢ Some LineStep.Failed →
+            S.faults src.new ≡ S.faults src.old }
     {
         let (scan, found) = look(self.window.held(), self.scan, self.bounds);
         self.scan = scan;

@@ -1,4 +1,4 @@
-ghost use Rattle.std.specs.Prelude.{◌≡◌, ℕ, ◌^◌, ◌≤◌, ◌<◌, None, Some, true, [], IfOk};
+ghost use Rattle.std.specs.Prelude.{◌≡◌, ◌≢◌, ℕ, ◌^◌, ◌≤◌, ◌<◌, None, Some, true, [], IfOk};
 ghost use Rattle.cluster_io.specs.Streams.{Rose};
 ghost use Rattle.cluster_io.specs.NextLine.{holds_line};
 ghost use Rattle.cluster_io.specs.Readings.{Answered, Tells};
@@ -93,6 +93,10 @@ impl<'s, S: Source> LineReader<'s, S> {
         ensures count { S.faults (source_of self.old) ≤ S.faults (source_of self.new) }
         ensures cause { result ≡ LineStep.Failed →
             Rose (S.faults (source_of self.old)) (S.faults (source_of self.new)) }
+
+        // The first failed read ends the call.
+        ensures no_failure { S.counts_only_failures ≡ true → result ≢ LineStep.Failed →
+            S.faults (source_of self.new) ≡ S.faults (source_of self.old) }
         ensures same_source { loan_of self.new ≡ loan_of self.old }
     {
         if let Some(step) = self.lines.stop() {

@@ -1,4 +1,4 @@
-ghost use Rattle.std.specs.Prelude.{◌≡◌, ◌≢◌, ℕ, ◌+◌, ◌≤◌, ◌<◌, Some, [], length, min, Contains, IfOk};
+ghost use Rattle.std.specs.Prelude.{◌≡◌, ◌≢◌, ℕ, ◌+◌, ◌≤◌, ◌<◌, true, Some, [], length, min, Contains, IfOk};
 ghost use Rattle.cluster_io.specs.Streams.{Writes, Rose, next_fault};
 ghost use Rattle.cluster_io.specs.Memory.{next_call};
 
@@ -102,6 +102,8 @@ impl Sink for MemorySink {
     ghost written = { λ s. Some s.held };
 
     ghost faults = { λ s. s.faults };
+
+    ghost counts_only_failures = { true };
 
     fn write(&mut self, bytes: &[u8]) -> WriteStep
         requires { 0 < length bytes.now }

@@ -1,4 +1,4 @@
-ghost use Rattle.std.specs.Prelude.{◌≡◌, ◌≢◌, ◌↔◌, ℕ, ◌≤◌, ◌<◌, Some, [], length, min, Contains};
+ghost use Rattle.std.specs.Prelude.{◌≡◌, ◌≢◌, ◌↔◌, ℕ, ◌≤◌, ◌<◌, true, Some, [], length, min, Contains};
 ghost use Rattle.cluster_io.specs.Streams.{Reads, Rose, next_fault};
 ghost use Rattle.cluster_io.specs.Memory.{next_call};
 
@@ -59,6 +59,8 @@ impl Source for MemorySource {
     ghost left = { λ s. Some s.left };
 
     ghost faults = { λ s. s.faults };
+
+    ghost counts_only_failures = { true };
 
     fn read(&mut self, buf: &mut [u8]) -> ReadStep
         requires { 0 < length buf.old }

@@ -1,4 +1,4 @@
-ghost use Rattle.std.specs.Prelude.{◌≡◌, ℕ, ◌≤◌, ◌<◌, Option, List, [], length, OnOk, OnErr};
+ghost use Rattle.std.specs.Prelude.{◌≡◌, ◌≢◌, ℕ, ◌≤◌, ◌<◌, Bool, true, Option, List, [], length, OnOk, OnErr};
 ghost use Rattle.cluster_io.specs.Streams.{Writes, Rose, Adds, AddsPrefix};
 
 /// What one call of `Sink::write` took.
@@ -19,12 +19,17 @@ pub trait Sink {
     /// How often the sink has failed.
     ghost faults: { Self → ℕ };
 
+    /// Whether the count rises only with `Failed`.
+    ghost counts_only_failures: { Bool };
+
     /// Takes the first bytes of the piece, as many as it likes.
     fn write(&mut self, bytes: &[u8]) -> WriteStep
         requires { 0 < length bytes.now }
         ensures bytes { Writes (written self.old) (written self.new) result bytes.now }
         ensures count { faults self.old ≤ faults self.new }
-        ensures cause { result ≡ WriteStep.Failed → Rose (faults self.old) (faults self.new) };
+        ensures cause { result ≡ WriteStep.Failed → Rose (faults self.old) (faults self.new) }
+        ensures no_failure { counts_only_failures ≡ true → result ≢ WriteStep.Failed →
+            faults self.new ≡ faults self.old };
 }
 
 /// The sink failed before it had taken all of a text.
@@ -37,6 +42,10 @@ pub fn write_text<W: Sink>(out: &mut W, text: &[u8]) -> Result<(), WriteFault>
     ensures prefix { OnErr result (AddsPrefix text.now (W.written out.old) (W.written out.new)) }
     ensures fault { OnErr result (Rose (W.faults out.old) (W.faults out.new)) }
     ensures count { W.faults out.old ≤ W.faults out.new }
+
+    // The first failed write ends the call.
+    ensures no_failure { OnOk result (W.counts_only_failures ≡ true →
+        W.faults out.new ≡ W.faults out.old) }
     ensures no_call { text.now ≡ [] → out.new ≡ out.old }
 {
     let mut done = 0;

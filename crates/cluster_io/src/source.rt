@@ -1,4 +1,4 @@
-ghost use Rattle.std.specs.Prelude.{◌≡◌, ℕ, ◌+◌, ◌≤◌, ◌<◌, Option, [], List, length, OnErr, IfOk, IfSome, IsErrOf};
+ghost use Rattle.std.specs.Prelude.{◌≡◌, ◌≢◌, ℕ, ◌+◌, ◌≤◌, ◌<◌, Bool, true, Option, [], List, length, OnErr, IfOk, IfSome, IsErrOf};
 ghost use Rattle.cluster_io.specs.Streams.{Reads, Rose, Takes, TakesAtMost, TakesCount};
 
 use std::alloc::{AllocError, Global};
@@ -24,13 +24,18 @@ pub trait Source {
     /// How often the source has failed.
     ghost faults: { Self → ℕ };
 
+    /// Whether the count rises only with `Failed`.
+    ghost counts_only_failures: { Bool };
+
     /// Gives the next bytes, as many as it likes up to the buffer's length. Those of the buffer
     /// past them may change too.
     fn read(&mut self, buf: &mut [u8]) -> ReadStep
         requires { 0 < length buf.old }
         ensures bytes { Reads (left self.old) (left self.new) result buf.new }
         ensures count { faults self.old ≤ faults self.new }
-        ensures cause { result ≡ ReadStep.Failed → Rose (faults self.old) (faults self.new) };
+        ensures cause { result ≡ ReadStep.Failed → Rose (faults self.old) (faults self.new) }
+        ensures no_failure { counts_only_failures ≡ true → result ≢ ReadStep.Failed →
+            faults self.new ≡ faults self.old };
 }
 
 /// Why `read_all` gave no bytes.
@@ -72,6 +77,10 @@ pub fn read_all<S: Source>(alloc: Global, src: &mut S, limit: usize) -> Result<V
         TakesCount (limit + 1) (S.left src.old) (S.left src.new) }
     ensures fault { IsErrOf result ReadEnd.Fault → Rose (S.faults src.old) (S.faults src.new) }
     ensures count { S.faults src.old ≤ S.faults src.new }
+
+    // The first failed read ends the call.
+    ensures no_failure { S.counts_only_failures ≡ true → ¬ IsErrOf result ReadEnd.Fault →
+        S.faults src.new ≡ S.faults src.old }
 {
     let mut bytes = Vec::new(alloc);
     let mut piece = [0u8; PIECE];

@@ -1,4 +1,4 @@
-ghost use Rattle.std.specs.Prelude.{◌≡◌, ◌≢◌, ℕ, ◌+◌, ◌≤◌, ◌<◌, [], length, take, drop, IfOk};
+ghost use Rattle.std.specs.Prelude.{◌≡◌, ◌≢◌, ℕ, ◌+◌, ◌≤◌, ◌<◌, true, [], length, take, drop, IfOk};
 ghost use Rattle.cluster_io.specs.Streams.{Rose};
 ghost use Rattle.cluster_io.specs.Windows.{Received, reached};
 
@@ -106,6 +106,8 @@ impl Window {
         ensures room { self.new.room ≡ self.old.room }
         ensures count { S.faults src.old ≤ S.faults src.new }
         ensures cause { result ≡ ReadStep.Failed → Rose (S.faults src.old) (S.faults src.new) }
+        ensures no_failure { S.counts_only_failures ≡ true → result ≢ ReadStep.Failed →
+            S.faults src.new ≡ S.faults src.old }
     {
         self.move_to_front();
         let end = self.end;
@@ -125,6 +127,8 @@ fn read_behind<S: Source>(src: &mut S, bytes: &mut [u8], end: usize, most: usize
     ensures within { (n : ℕ) → result ≡ ReadStep.Got n → n ≤ most }
     ensures count { S.faults src.old ≤ S.faults src.new }
     ensures cause { result ≡ ReadStep.Failed → Rose (S.faults src.old) (S.faults src.new) }
+    ensures no_failure { S.counts_only_failures ≡ true → result ≢ ReadStep.Failed →
+        S.faults src.new ≡ S.faults src.old }
 {
     src.read(&mut bytes[end..end + most])
 }

@@ -1,4 +1,4 @@
-use Rattle.std.proofs.Common.{◌≡◌, length, ◌-◌, ◌≤◌, take}
+use Rattle.std.proofs.Common.{◌≡◌, true, length, ◌-◌, ◌≤◌, take}
 use Rattle.cluster_io.specs.Streams.{Adds}
 use Rattle.cluster_io.proofs.sink.write_text.Given as goal
 
@@ -7,6 +7,7 @@ invariant-loop-done g l = record {
   within : l.done ≤ length l.text;
   added : Adds (g.W.Sink.written l.fn.out) (take l.done l.text) (g.W.Sink.written l.out);
   count : g.W.Sink.faults l.fn.out ≤ g.W.Sink.faults l.out;
+  no_failure : g.W.Sink.counts_only_failures ≡ true → g.W.Sink.faults l.out ≡ g.W.Sink.faults l.fn.out;
   no_call : l.done ≡ 0 → l.out ≡ l.fn.out;
 }
 

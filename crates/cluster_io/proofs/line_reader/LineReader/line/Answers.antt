@@ -13,5 +13,6 @@ loop-step-preserved g c =
       empty = grind (arith, common_steps);
       unread = λ h. c.in_default-turn.ensures.untouched (held_so_far _ _ _ _ so h) ∙ c.loop-step.invariant.unread h;
       count = omega arith;
+      no_failure = λ alone. c.in_default-turn.ensures.no_failure alone (λ failed. cc) ∙ c.loop-step.invariant.no_failure alone;
       same_source = grind (arith, common_steps);
     }

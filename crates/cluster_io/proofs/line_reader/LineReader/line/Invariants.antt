@@ -10,6 +10,7 @@ invariant-loop-step g l = record {
   empty : l.self.lines.raw ≡ [];
   unread : holds_line l.fn.self.lines.held ≡ true → l.self.src.now ≡ l.fn.self.src.now;
   count : g.S.Source.faults l.fn.self.src.now ≤ g.S.Source.faults l.self.src.now;
+  no_failure : g.S.Source.counts_only_failures ≡ true → g.S.Source.faults l.self.src.now ≡ g.S.Source.faults l.fn.self.src.now;
   same_source : l.self.src.ghost_name ≡ l.fn.self.src.ghost_name;
 }
 
