@@ -15,7 +15,7 @@ use Rattle.cluster_types.specs.Answering.{end_of, is_number_of, monitor_action}
 use Rattle.cluster_types.specs.Journals.{is_on, moment_of}
 use Rattle.cluster_types.specs.declared.cluster.Cluster.{Cluster}
 use Rattle.cluster_types.specs.Safety.{is_answered, is_gone, without_gone}
-use Rattle.cluster_types.specs.Steps.{Transition, Goes, IsWaiting, here, one_more, StepsOn, begins, takes, is_silent, action_at, ended, events_of, flight, begins_number, flying, aborts, has_aborted, has_begun, journal, silent_code}
+use Rattle.cluster_types.specs.Steps.{Transition, Goes, IsWaiting, here, one_more, StepsOn, begins, takes, is_silent, ended, events_of, begins_number, flying, aborts, has_aborted, has_begun, journal, silent_code}
 use Rattle.cluster_types.proofs.Booleans.{sooner, later, one_of}
 use Rattle.cluster_types.proofs.StepLaws.{split, map_all, joined_all, not_begun, begins_nothing}
 

@@ -1,14 +1,13 @@
 -- Examples of rules that no other example notices, computed from the definitions.
-use Rattle.std.proofs.Common.{arith, ◌≡◌, ◌≢◌, ℕ, zero, suc, pos, neg_ℤ, Bool, true, false, not, List, [], ◌∷◌, ◌++◌, refl, inl, inr}
-use Rattle.std.specs.Prelude.{codes, replicate, Contains}
+use Rattle.std.proofs.Common.{arith, ◌≡◌, zero, suc, pos, neg_ℤ, Bool, true, false, List, [], ◌∷◌, ◌++◌, refl, inl}
+use Rattle.std.specs.Prelude.{codes}
 use Rattle.cluster_types.specs.declared.cluster.Cluster.{Cluster}
 use Rattle.cluster_types.specs.declared.journal.Action.{Action}
 use Rattle.cluster_types.specs.declared.journal.Action.TheVariants.{Fence, Probe, Cell, MigrateTo, MigrateFrom}
 use Rattle.cluster_types.specs.declared.journal.Answer.TheVariants as answer
 use Rattle.cluster_types.specs.declared.journal.Event.{Event}
-use Rattle.cluster_types.specs.declared.journal.Event.TheVariants.{Up, Lost, Wait, Begin, Ended}
+use Rattle.cluster_types.specs.declared.journal.Event.TheVariants.{Lost, Begin, Ended}
 use Rattle.cluster_types.specs.declared.journal.Outcome.TheVariants.{Code}
-use Rattle.cluster_types.specs.declared.leaf.Leaf.{Leaf}
 use Rattle.cluster_types.specs.declared.leaf.Op.{Op}
 use Rattle.cluster_types.specs.declared.leaf.Op.TheVariants.{Start, Stop, Promote, Demote, Monitor}
 use Rattle.cluster_types.specs.declared.leaf.Role.TheVariants as role
@@ -18,11 +17,11 @@ use Rattle.cluster_types.specs.declared.rules.OrderKind.{OrderKind}
 use Rattle.cluster_types.specs.declared.rules.OrderKind.TheVariants as kind
 use Rattle.cluster_types.specs.Answering.{applies_after}
 use Rattle.cluster_types.specs.Held.{started}
-use Rattle.cluster_types.specs.Needed.{Cycled, GetsStep, IsHarmlessOrder, by_order, by_cycled, has_disturbing, steps_at}
+use Rattle.cluster_types.specs.Needed.{Cycled, IsHarmlessOrder, by_order, by_cycled, has_disturbing, steps_at}
 use Rattle.cluster_types.specs.Numbers.{is_earlier}
 use Rattle.cluster_types.specs.Steps.{silent_code, is_success}
 use Rattle.cluster_types.specs.Tables.{Targets}
-use Rattle.cluster_types.proofs.SmallClusters.{plain_leaf, plain_options, two_nodes, node, colocation, start_order, did, monitored, online, step}
+use Rattle.cluster_types.proofs.SmallClusters.{plain_leaf, plain_options, two_nodes, colocation, start_order, did, monitored, online, step}
 use Rattle.cluster_types.proofs.SmallRuns.{predecessors, transition, beginners}
 
 abbrev two : Cluster
@@ -209,14 +208,34 @@ stay _ _ = target.Nowhere
 then_is_cycled : Cycled chain failed stay 1 1
 then_is_cycled =
     by_order (start_order (codes "o") 0 1 false) 1 0 role.Started role.Started
-    (record { present = (0, omega arith, refl); mandatory = refl; both_ways = refl; first_gives = started; then_gives = started;
-      within = omega arith; first_within = omega arith; in_scope = refl; stays = refl; in_role = refl }) refl
+    (record {
+      present = (0, omega arith, refl);
+      mandatory = refl;
+      both_ways = refl;
+      first_gives = started;
+      then_gives = started;
+      within = omega arith;
+      first_within = omega arith;
+      in_scope = refl;
+      stays = refl;
+      in_role = refl;
+    }) refl
 
 its_then_too : Cycled chain failed stay 2 1
 its_then_too =
     by_cycled (start_order (codes "p") 1 2 false) 1 1 role.Started role.Started
-    (record { present = (1, omega arith, refl); mandatory = refl; both_ways = refl; first_gives = started; then_gives = started;
-      within = omega arith; first_within = omega arith; in_scope = refl; stays = refl; in_role = refl }) then_is_cycled refl
+    (record {
+      present = (1, omega arith, refl);
+      mandatory = refl;
+      both_ways = refl;
+      first_gives = started;
+      then_gives = started;
+      within = omega arith;
+      first_within = omega arith;
+      in_scope = refl;
+      stays = refl;
+      in_role = refl;
+    }) then_is_cycled refl
 
 steps_of_it : steps_at chain failed stay 2 1 true ≡ Stop ∷ Start ∷ []
 steps_of_it = refl

@@ -1,5 +1,5 @@
 -- Steps hang on a source only by what it says; a graph of a plan carries out the plan's transition; nothing in flight stays so.
-use Rattle.std.proofs.Common.{◌≡◌, ℕ, Bool, true, false, ◌||◌, List, [], ◌∷◌, ◌++◌, refl, ap, ◌∙◌, sym, if◌then◌else◌}
+use Rattle.std.proofs.Common.{◌≡◌, ℕ, Bool, true, false, List, [], ◌∷◌, ◌++◌, refl, ap, if◌then◌else◌}
 use mathlib.Core.Path.{fun_ext}
 use Rattle.std.specs.Prelude.{Option, Some, None}
 use Rattle.std.specs.List.{list_any}
@@ -11,11 +11,11 @@ use Rattle.cluster_types.specs.declared.journal.Event.{Event}
 use Rattle.cluster_types.specs.declared.journal.Event.TheVariants.{Begin}
 use Rattle.cluster_types.specs.declared.journal.Promotion.{Promotion}
 use Rattle.cluster_types.specs.declared.placement.Placed.{Placed}
-use Rattle.cluster_types.specs.Graphs.{GraphOf, is_before}
+use Rattle.cluster_types.specs.Graphs.{GraphOf}
 use Rattle.cluster_types.specs.Journals.{in_flight, ends_number}
-use Rattle.cluster_types.specs.Plans.{CarriesOut, transition_of, transition_on, precedes_by_number}
-use Rattle.cluster_types.specs.Sources.{Says, told, used_up, untold}
-use Rattle.cluster_types.specs.Steps.{Transition, StepsOn, begins, takes, is_silent, Goes, here, one_more, numbered}
+use Rattle.cluster_types.specs.Plans.{CarriesOut, transition_of, transition_on}
+use Rattle.cluster_types.specs.Sources.{untold}
+use Rattle.cluster_types.specs.Steps.{Transition, StepsOn, begins, takes, is_silent, Goes, here, one_more}
 
 -- whatever a source tells, the same steps may come of one that tells nothing
 pub step-untold : (t : Transition) (whole : Bool) (since events : List Event) (rest left : Option (List Answer)) → StepsOn t whole since rest events left

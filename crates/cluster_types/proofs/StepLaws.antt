@@ -13,7 +13,7 @@ use Rattle.cluster_types.specs.declared.journal.Outcome.TheVariants.{Gone}
 use Rattle.cluster_types.specs.Answering.{end_of, is_number_of}
 use Rattle.cluster_types.specs.Journals.{is_on, moment_of}
 use Rattle.cluster_types.specs.Safety.{AtEachBegin, PredecessorsFirst}
-use Rattle.cluster_types.specs.Steps.{Transition, Begins, Goes, here, one_more, StepsOn, begins, takes, is_silent, action_at, ended, events_of, flight, flying, journal, has_aborted, has_begun, has_room, has_succeeded, may_begin, numbers}
+use Rattle.cluster_types.specs.Steps.{Transition, Begins, Goes, here, one_more, StepsOn, begins, takes, is_silent, action_at, ended, events_of, flying, journal, has_aborted, has_begun, has_room, has_succeeded, may_begin, numbers}
 use Rattle.cluster_types.proofs.Booleans.{sooner, later, together}
 
 -- an event of a joined list stands in the one or in the other

@@ -1,11 +1,11 @@
 -- Which answers apply after a journal, with some actions in flight and some answers from outside taken so far, and what each adds to the journal
 -- (Pacemaker Administration, "Transitions"; which apply is a rule of this project).
-use Rattle.std.specs.Prelude.{ℕ, ◌+◌, ◌^◌, nat_lt, ◌==◌, ◌&&◌, ◌||◌, Bool, true, false, not, Option, Some, None, List, [], ◌∷◌, ◌++◌, length, map, filter, find}
+use Rattle.std.specs.Prelude.{ℕ, ◌+◌, ◌^◌, nat_lt, ◌==◌, ◌&&◌, ◌||◌, Bool, true, false, not, Option, Some, List, [], ◌∷◌, ◌++◌, length, map, filter, find}
 use Rattle.std.specs.List.{list_any}
 use Rattle.std.specs.Option.{option_map_or}
 use Rattle.cluster_types.specs.declared.cluster.Cluster.{Cluster}
 use Rattle.cluster_types.specs.declared.journal.Action.{Action}
-use Rattle.cluster_types.specs.declared.journal.Action.TheVariants.{Probe, Cell}
+use Rattle.cluster_types.specs.declared.journal.Action.TheVariants.{Cell}
 use Rattle.cluster_types.specs.declared.journal.Answer.{Answer}
 use Rattle.cluster_types.specs.declared.journal.Answer.TheVariants as answer
 use Rattle.cluster_types.specs.declared.journal.Event.{Event}

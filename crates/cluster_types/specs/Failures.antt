@@ -8,6 +8,7 @@ use Rattle.cluster_types.specs.declared.journal.Event.{Event}
 use Rattle.cluster_types.specs.declared.journal.Event.TheVariants.{Ended}
 use Rattle.cluster_types.specs.declared.leaf.Op.TheVariants.{Start}
 use Rattle.cluster_types.specs.Cells.{is_of_cell, is_reset}
+use Rattle.cluster_types.specs.ExitCodes.{err_args, err_unimplemented, err_perm, err_installed, err_configured}
 use Rattle.cluster_types.specs.Fields.{threshold, failure_timeout}
 use Rattle.cluster_types.specs.Journals.{moment_of}
 use Rattle.cluster_types.specs.Outcomes.{is_among, is_bad, is_ignored, effective_fail, is_stop}
@@ -65,11 +66,11 @@ has_code codes _ = false
 -- exit codes after which a resource isn't tried again on the node: wrong arguments, unimplemented, no permission, not installed
 -- (OCF Resource Agent API 1.1; Pacemaker Administration, "How are OCF Return Codes Interpreted?", hard errors)
 abbrev pub hard_codes : List ℕ
-hard_codes = 2 ∷ 3 ∷ 4 ∷ 5 ∷ []
+hard_codes = err_args ∷ err_unimplemented ∷ err_perm ∷ err_installed ∷ []
 
 -- the exit code after which it isn't tried again anywhere: not configured (likewise, fatal errors)
 abbrev pub fatal_codes : List ℕ
-fatal_codes = 6 ∷ []
+fatal_codes = err_configured ∷ []
 
 -- some node has a failure of the leaf that counts and passes the test
 abbrev pub has_somewhere : (Event → Bool) → Cluster → ℕ → List Event → Bool

@@ -1,5 +1,6 @@
 pub mod Fields
 pub mod Cells
+pub mod ExitCodes
 pub mod Outcomes
 pub mod May
 pub mod Journals

@@ -12,6 +12,7 @@ use Rattle.cluster_types.specs.declared.leaf.Op.{Op}
 use Rattle.cluster_types.specs.declared.leaf.Op.TheVariants.{Start, Stop, Promote, Demote, Monitor}
 use Rattle.cluster_types.specs.declared.leaf.OnFail.{OnFail}
 use Rattle.cluster_types.specs.declared.leaf.OnFail.TheVariants as on_fail
+use Rattle.cluster_types.specs.ExitCodes.{success, not_running, running_promoted, degraded, degraded_promoted}
 use Rattle.cluster_types.specs.Fields.{monitors, start_fail, stop_fail, promote_fail, demote_fail}
 
 -- the outcome is one of these exit codes
@@ -22,20 +23,20 @@ is_among codes Gone = false
 
 -- the good exit codes of an operation: success; of a monitor also running, degraded and promoted
 abbrev pub good_codes_of_op : Op → List ℕ
-good_codes_of_op Start = 0 ∷ []
-good_codes_of_op Stop = 0 ∷ []
-good_codes_of_op Promote = 0 ∷ []
-good_codes_of_op Demote = 0 ∷ []
-good_codes_of_op Monitor = 0 ∷ 190 ∷ 8 ∷ 191 ∷ []
+good_codes_of_op Start = success ∷ []
+good_codes_of_op Stop = success ∷ []
+good_codes_of_op Promote = success ∷ []
+good_codes_of_op Demote = success ∷ []
+good_codes_of_op Monitor = success ∷ degraded ∷ running_promoted ∷ degraded_promoted ∷ []
 
 -- the good exit codes of an action; of a probe not running too
 -- (OCF Resource Agent API 1.1, exit status codes; which are good of which action is a rule of this project)
 abbrev pub good_codes : Action → List ℕ
-good_codes (Fence n) = 0 ∷ []
-good_codes (Probe r n) = 0 ∷ 190 ∷ 7 ∷ 8 ∷ 191 ∷ []
+good_codes (Fence n) = success ∷ []
+good_codes (Probe r n) = success ∷ degraded ∷ not_running ∷ running_promoted ∷ degraded_promoted ∷ []
 good_codes (Cell op r n ms role) = good_codes_of_op op
-good_codes (MigrateTo r source target) = 0 ∷ []
-good_codes (MigrateFrom r source target) = 0 ∷ []
+good_codes (MigrateTo r source target) = success ∷ []
+good_codes (MigrateFrom r source target) = success ∷ []
 
 -- the outcome is bad: another exit code, or a timeout. An action that is gone with its node is neither good nor bad (rule of this project)
 abbrev pub is_bad : Action → Outcome → Bool

@@ -1,42 +1,36 @@
 -- How a transition goes: which action may begin, which answers apply, and what each of them adds to the journal (Pacemaker Administration,
 -- "Transitions"; that all that may begin does so before an answer is taken is a rule of this project).
-use Rattle.std.specs.Prelude.{◌≡◌, ℕ, ◌+◌, ◌-◌, ◌^◌, ◌<◌, ◌≤◌, nat_lt, ◌==◌, ◌&&◌, ◌||◌, Bool, true, false, not, if◌then◌else◌, Option, Some, None, List, [], ◌∷◌, ◌++◌, length, filter, slice_get, count_by, find}
+use Rattle.std.specs.Prelude.{◌≡◌, ℕ, ◌-◌, ◌<◌, ◌≤◌, nat_lt, ◌==◌, ◌&&◌, ◌||◌, Bool, true, false, not, if◌then◌else◌, Option, Some, None, List, [], ◌∷◌, ◌++◌, length, filter, slice_get, count_by}
 use Rattle.std.specs.List.{list_any, list_all, flat_map, range_with_len}
 use Rattle.std.specs.Option.{option_map_or}
 use Rattle.cluster_types.specs.declared.cluster.Cluster.{Cluster}
 use Rattle.cluster_types.specs.declared.journal.Action.{Action}
 use Rattle.cluster_types.specs.declared.journal.Action.TheVariants.{Probe, Cell}
 use Rattle.cluster_types.specs.declared.journal.Answer.{Answer}
-use Rattle.cluster_types.specs.declared.journal.Answer.TheVariants as answer
 use Rattle.cluster_types.specs.declared.journal.Event.{Event}
 use Rattle.cluster_types.specs.declared.journal.Event.TheVariants.{Up, Lost, Quorum, Wait, Begin, Ended}
 use Rattle.cluster_types.specs.declared.journal.Outcome.{Outcome}
-use Rattle.cluster_types.specs.declared.journal.Outcome.TheVariants.{Code, TimedOut, Gone}
-use Rattle.cluster_types.specs.declared.leaf.Monitor.{Monitor as MonitorOf}
+use Rattle.cluster_types.specs.declared.journal.Outcome.TheVariants.{Code, Gone}
 use Rattle.cluster_types.specs.declared.leaf.Op.TheVariants.{Monitor}
-use Rattle.cluster_types.specs.declared.leaf.Role.{Role}
 use Rattle.cluster_types.specs.declared.leaf.Role.TheVariants as role
-use Rattle.cluster_types.specs.declared.states.NodeState.TheVariants as node
 use Rattle.cluster_types.specs.Answering.{applies_after, added_by, ends_of}
-use Rattle.cluster_types.specs.Fields.{monitors}
-use Rattle.cluster_types.specs.Journals.{ends_number, joined, last_sign, is_on, moment_of}
-use Rattle.cluster_types.specs.May.{may}
-use Rattle.cluster_types.specs.NodeStates.{node_state, is_online}
-use Rattle.cluster_types.specs.Outcomes.{is_among, is_bad, is_ignored}
+use Rattle.cluster_types.specs.ExitCodes.{success, not_running, running_promoted, degraded, degraded_promoted}
+use Rattle.cluster_types.specs.Journals.{ends_number}
+use Rattle.cluster_types.specs.Outcomes.{is_among, is_ignored}
 use Rattle.cluster_types.specs.Sources.{Says}
 
 -- the exit codes that are expected of an action (rule of this project)
 abbrev pub expected_codes : Action → List ℕ
-expected_codes (Probe r n) = 7 ∷ []
-expected_codes (Cell Monitor r n interval role.Started) = 0 ∷ 190 ∷ []
-expected_codes (Cell Monitor r n interval role.Promoted) = 8 ∷ 191 ∷ []
-expected_codes _ = 0 ∷ []
+expected_codes (Probe r n) = not_running ∷ []
+expected_codes (Cell Monitor r n interval role.Started) = success ∷ degraded ∷ []
+expected_codes (Cell Monitor r n interval role.Promoted) = running_promoted ∷ degraded_promoted ∷ []
+expected_codes _ = success ∷ []
 
 -- the one with which an action ends when nothing more is said of it (rule of this project)
 abbrev pub silent_code : Action → ℕ
-silent_code (Probe r n) = 7
-silent_code (Cell Monitor r n interval role.Promoted) = 8
-silent_code _ = 0
+silent_code (Probe r n) = not_running
+silent_code (Cell Monitor r n interval role.Promoted) = running_promoted
+silent_code _ = success
 
 -- the outcome is a success: an expected exit code, or one that is ignored
 abbrev pub is_success : Cluster → Action → Outcome → Bool

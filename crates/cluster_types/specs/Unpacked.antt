@@ -7,7 +7,6 @@ use Rattle.cluster_types.specs.declared.journal.Event.{Event}
 use Rattle.cluster_types.specs.declared.journal.Promotion.{Promotion}
 use Rattle.cluster_types.specs.declared.leaf.Monitor.{Monitor}
 use Rattle.cluster_types.specs.declared.states.Cell.{Cell}
-use Rattle.cluster_types.specs.declared.states.Rights.{Rights}
 use Rattle.cluster_types.specs.declared.states.States.{States}
 use Rattle.cluster_types.specs.CellStates.{cell_state, is_running}
 use Rattle.cluster_types.specs.Failures.{is_banned, is_fail_stopped}
@@ -15,7 +14,6 @@ use Rattle.cluster_types.specs.Fields.{monitors}
 use Rattle.cluster_types.specs.Journals.{has_quorum, moment_of}
 use Rattle.cluster_types.specs.May.{may, may_promoted}
 use Rattle.cluster_types.specs.NodeStates.{node_state}
-use Rattle.cluster_types.specs.Rights.{may_fence, may_start, may_keep}
 
 module _ (c : Cluster) (es : List Event) where
   -- bit i, where monitor i is running
@@ -46,7 +44,3 @@ module _ (c : Cluster) (es : List Event) where
     quorum = has_quorum es;
     moment = moment_of es;
   }
-
-  -- what the cluster may do
-  abbrev pub rights_of : Rights
-  rights_of = record { may_fence = may_fence c es; may_start = may_start c es; may_keep = may_keep c es }

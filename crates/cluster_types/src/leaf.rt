@@ -1,3 +1,6 @@
+ghost use Rattle.std.specs.Prelude.{◌≡◌};
+ghost use Rattle.cluster_types.specs.Precedence as precedence;
+
 use crm_lex::Name;
 use listed::Listed;
 use score::Score;
@@ -22,6 +25,28 @@ pub enum Op {
     Promote,
     Demote,
     Monitor,
+}
+
+impl Op {
+    /// Whether the operation gives a role.
+    pub fn is_up(self) -> bool
+        ensures { result ≡ precedence.is_up self }
+    {
+        matches!(self, Op::Start | Op::Promote)
+    }
+
+    /// The operation that undoes it. A monitor has nothing to undo.
+    pub fn inverse(self) -> Op
+        ensures { result ≡ precedence.inverse self }
+    {
+        match self {
+            Op::Start => Op::Stop,
+            Op::Stop => Op::Start,
+            Op::Promote => Op::Demote,
+            Op::Demote => Op::Promote,
+            Op::Monitor => Op::Monitor,
+        }
+    }
 }
 
 /// What follows the failure of an operation (Pacemaker Explained, "on-fail").

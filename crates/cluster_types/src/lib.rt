@@ -1,13 +1,17 @@
 //! The cluster, what happened in it and what is planned for it, and the definitions of every rule.
 #![tactic(auto)]
 
+mod cells;
 mod cluster;
 mod edges;
+pub mod exit_codes;
+mod fields;
 mod graph;
 mod journal;
 mod laws;
 mod leaf;
 mod memory;
+mod moment;
 mod node;
 mod placement;
 mod plan;
@@ -15,6 +19,7 @@ mod rules;
 mod run;
 mod states;
 
+pub use cells::{cell_place, is_same_cell};
 pub use cluster::{Cluster, Policy, Properties};
 pub use edges::{Edge, Edges};
 pub use graph::Graph;
@@ -27,6 +32,7 @@ pub use laws::{
 };
 pub use leaf::{Leaf, LeafId, Monitor, OnFail, Op, Role, TargetRole};
 pub use memory::NoMemory;
+pub use moment::moment_of;
 pub use node::{Node, NodeId};
 pub use placement::{Decided, Decision, NoReason, Pin, Placed, Table, Target};
 pub use plan::Plan;

@@ -1,4 +1,4 @@
-use std::alloc::AllocError;
+use std::alloc::{AllocError, AllocFailed};
 
 /// Memory was refused.
 #[derive(Clone, Copy, Debug, PartialEq, Eq)]
@@ -6,6 +6,24 @@ pub struct NoMemory;
 
 impl From<AllocError> for NoMemory {
     fn from(_: AllocError) -> Self {
+        NoMemory
+    }
+}
+
+impl<T: Drop> From<AllocFailed<T>> for NoMemory {
+    fn from(_: AllocFailed<T>) -> Self {
+        NoMemory
+    }
+}
+
+impl From<crm_lex::NoMemory> for NoMemory {
+    fn from(_: crm_lex::NoMemory) -> Self {
+        NoMemory
+    }
+}
+
+impl From<date_rules::NoMemory> for NoMemory {
+    fn from(_: date_rules::NoMemory) -> Self {
         NoMemory
     }
 }

@@ -1,9 +1,14 @@
 ghost use Rattle.std.specs.Prelude.{◌≡◌, ◌+◌, ◌*◌, ◌<◌, ◌==◌, ◌&&◌, if◌then◌else◌, IfOk, ℕ, length, replicate};
+ghost use Rattle.cluster_types.specs.Choice as choice;
+ghost use Rattle.cluster_types.specs.Decisions as decisions;
+ghost use Rattle.cluster_types.specs.Tables as tables;
 ghost use Rattle.cluster_types.specs.Tables.{targets_of};
 
-use crate::leaf::LeafId;
+use crate::cells::cell_place;
+use crate::leaf::{LeafId, Role};
 use crate::memory::NoMemory;
 use crate::node::NodeId;
+use crate::rules::Colocation;
 use crm_lex::Name;
 use listed::Listed;
 use score::Score;
@@ -39,14 +44,32 @@ impl Table {
         })
     }
 
-    /// The target of a cell that the table has.
+    /// The target of a cell. One that the table doesn't have has none.
     pub fn target(&self, leaf: LeafId, node: NodeId) -> Target
-        requires on_node { node < self.now.nodes }
-        requires within { leaf * self.now.nodes + node < length self.now.targets }
         ensures { result ≡ targets_of self.now leaf node }
     {
-        let place = leaf as usize * self.nodes as usize + node as usize;
-        self.targets.as_slice()[place]
+        if node >= self.nodes {
+            return Target::Nowhere;
+        }
+        match self
+            .targets
+            .as_slice()
+            .get(cell_place(self.nodes, leaf, node))
+        {
+            Some(target) => *target,
+            None => Target::Nowhere,
+        }
+    }
+
+    /// Whether the leaf holds the role on the node: Started wherever it has a target, and Promoted where it is to be promoted.
+    pub fn holds_role(&self, leaf: LeafId, role: Role, node: NodeId) -> bool
+        ensures { result ≡ tables.holds_role (targets_of self.now) leaf role node }
+    {
+        let target = self.target(leaf, node);
+        match role {
+            Role::Started => target != Target::Nowhere,
+            Role::Promoted => target == Target::Promoted,
+        }
     }
 
     /// The table in which a cell that it has gets this target, and each other stays as it was. It takes no memory.
@@ -57,7 +80,7 @@ impl Table {
         ensures size { length result.targets ≡ length self.targets }
         ensures targets { (r n : ℕ) → targets_of result r n ≡ (if r == leaf && n == node then target else targets_of self r n) }
     {
-        let place = leaf as usize * self.nodes as usize + node as usize;
+        let place = cell_place(self.nodes, leaf, node);
         let mut targets = self.targets.into_vec();
         targets[place] = target;
         Table {
@@ -72,6 +95,41 @@ impl Table {
 pub enum Decision {
     Place(LeafId),
     Promote(LeafId),
+}
+
+impl Decision {
+    /// The decision that gives the leaf its role.
+    pub fn of_role(leaf: LeafId, role: Role) -> Decision
+        ensures { result ≡ decisions.decision_of leaf role }
+    {
+        match role {
+            Role::Started => Decision::Place(leaf),
+            Role::Promoted => Decision::Promote(leaf),
+        }
+    }
+
+    /// The leaf that it decides on.
+    pub fn leaf(self) -> LeafId
+        ensures { result ≡ decisions.leaf_of self }
+    {
+        match self {
+            Decision::Place(leaf) | Decision::Promote(leaf) => leaf,
+        }
+    }
+
+    /// Whether it gives the dependent of the colocation its role.
+    pub fn is_dependent_in(self, rule: &Colocation) -> bool
+        ensures { result ≡ choice.is_dependent self rule.now }
+    {
+        self == Decision::of_role(rule.dependent, rule.dependent_role)
+    }
+
+    /// Whether it gives the primary its role.
+    pub fn is_primary_in(self, rule: &Colocation) -> bool
+        ensures { result ≡ choice.is_primary self rule.now }
+    {
+        self == Decision::of_role(rule.primary, rule.primary_role)
+    }
 }
 
 /// Why a leaf is left as it is.

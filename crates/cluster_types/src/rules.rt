@@ -1,3 +1,6 @@
+ghost use Rattle.std.specs.Prelude.{◌≡◌};
+ghost use Rattle.cluster_types.specs.Choice as choice;
+
 use crate::leaf::{LeafId, Op, Role};
 use crate::node::NodeId;
 use crm_lex::Name;
@@ -33,6 +36,22 @@ pub struct Colocation {
     pub primary: LeafId,
     pub primary_role: Role,
     pub score: Score,
+}
+
+impl Colocation {
+    /// Whether the dependent must be where the primary is: its score is INFINITY.
+    pub fn is_mandatory(&self) -> bool
+        ensures { result ≡ choice.is_mandatory self.now }
+    {
+        self.score == Score::INFINITY
+    }
+
+    /// Whether the two must be apart: its score is -INFINITY.
+    pub fn is_separation(&self) -> bool
+        ensures { result ≡ choice.is_separation self.now }
+    {
+        self.score == Score::MINUS_INFINITY
+    }
 }
 
 /// How strictly an order holds (Pacemaker Explained, "kind").

@@ -1,4 +1,5 @@
 ghost use Rattle.std.specs.Prelude.{◌≡◌, ◌+◌, ◌*◌, ◌<◌, Some, length, slice_get};
+ghost use Rattle.cluster_types.specs.Terms.{is_active};
 
 use crate::journal::Promotion;
 use crate::leaf::LeafId;
@@ -28,6 +29,18 @@ pub enum CellState {
     Promoted,
     On,
     Off,
+}
+
+impl CellState {
+    /// Whether the leaf runs there, or may.
+    pub fn is_active(self) -> bool
+        ensures { result ≡ is_active self }
+    {
+        matches!(
+            self,
+            CellState::On | CellState::Promoted | CellState::Failed
+        )
+    }
 }
 
 /// A leaf on a node.

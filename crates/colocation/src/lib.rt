@@ -2,7 +2,6 @@
 #![tactic(auto)]
 
 mod preferring;
-mod roles;
 mod testing;
 
 pub use preferring::preference;

@@ -7,7 +7,6 @@ ghost use Rattle.cluster_types.specs.Valid.{KeepsLimits};
 ghost use Rattle.colocation.specs.Tests as spec;
 ghost use Rattle.score.specs.Total.{cut};
 
-use crate::roles::{holds_role, is_dependent, is_mandatory, is_separation};
 use cluster_types::{Cluster, Colocation, Decision, NodeId, Table};
 use score::Score;
 
@@ -15,10 +14,10 @@ use score::Score;
 fn counts(rule: &Colocation, table: &Table, decision: Decision, node: NodeId) -> bool
     ensures { result ≡ spec.counts (targets_of table.now) decision node rule.now }
 {
-    !is_mandatory(rule)
-        && !is_separation(rule)
-        && is_dependent(decision, rule)
-        && holds_role(table, rule.primary, rule.primary_role, node)
+    !rule.is_mandatory()
+        && !rule.is_separation()
+        && decision.is_dependent_in(rule)
+        && table.holds_role(rule.primary, rule.primary_role, node)
 }
 
 /// The points of a colocation that counts, and 0 for another.

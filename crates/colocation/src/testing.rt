@@ -6,24 +6,23 @@ ghost use Rattle.cluster_types.specs.Choice as choice;
 ghost use Rattle.cluster_types.specs.Tables.{targets_of};
 ghost use Rattle.colocation.specs.Tests as spec;
 
-use crate::roles::{holds_role, is_dependent, is_mandatory, is_primary, is_separation};
 use cluster_types::{Cluster, Colocation, Decision, NodeId, Table};
 
 fn has_primary(rule: &Colocation, table: &Table, decision: Decision, node: NodeId) -> bool
     ensures { result ≡ spec.has_primary (targets_of table.now) decision node rule.now }
 {
-    !(is_mandatory(rule) && is_dependent(decision, rule))
-        || holds_role(table, rule.primary, rule.primary_role, node)
+    !(rule.is_mandatory() && decision.is_dependent_in(rule))
+        || table.holds_role(rule.primary, rule.primary_role, node)
 }
 
 fn keeps_apart(rule: &Colocation, table: &Table, decision: Decision, node: NodeId) -> bool
     ensures { result ≡ spec.keeps_apart (targets_of table.now) decision node rule.now }
 {
-    !is_separation(rule)
-        || !(is_dependent(decision, rule)
-            && holds_role(table, rule.primary, rule.primary_role, node))
-            && !(is_primary(decision, rule)
-                && holds_role(table, rule.dependent, rule.dependent_role, node))
+    !rule.is_separation()
+        || !(decision.is_dependent_in(rule)
+            && table.holds_role(rule.primary, rule.primary_role, node))
+            && !(decision.is_primary_in(rule)
+                && table.holds_role(rule.dependent, rule.dependent_role, node))
 }
 
 fn has_primaries(cluster: &Cluster, table: &Table, decision: Decision, node: NodeId) -> bool

@@ -5,9 +5,8 @@ ghost use Rattle.cluster_types.specs.Failures as spec;
 ghost use Rattle.cluster_types.specs.Valid.{KeepsLimits};
 ghost use Rattle.fail_counts.specs.Tally.{tally_of};
 
-use crate::moment::moment_of;
 use crate::tally::Tally;
-use cluster_types::{Cluster, Event, Journal, LeafId, NodeId};
+use cluster_types::{Cluster, Event, Journal, LeafId, NodeId, moment_of};
 
 /// What the failures of the cell that are in force come to.
 fn in_force(cluster: &Cluster, events: &[Event], leaf: LeafId, node: NodeId) -> Tally
@@ -32,7 +31,7 @@ fn counted(cluster: &Cluster, events: &[Event], leaf: LeafId, node: NodeId) -> T
 /// Bad outcomes count since the node last joined and the cell was last cleaned up, those of probes among them, but for ignored ones. None counts
 /// once the failure timeout has passed since the last of them. A failed start alone is INFINITY where `start-failure-is-fatal` is true (Pacemaker
 /// Explained, "Handling Resource Failure"; that probes count, that a failed stop counts as one and that the failures of a cell are forgotten at once
-/// are rules of this project). A number that the cluster doesn't have has no failures.
+/// are rules of this project).
 pub fn failures(cluster: &Cluster, journal: &Journal, leaf: LeafId, node: NodeId) -> u32
     ensures { result ≡ spec.fail_count cluster.now leaf node journal.now.events }
 {

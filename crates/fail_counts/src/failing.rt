@@ -5,7 +5,6 @@ ghost use Rattle.cluster_types.specs.CellStates.{wants_block};
 ghost use Rattle.cluster_types.specs.Failures as failures;
 ghost use Rattle.cluster_types.specs.NodeStates.{wants_fence};
 
-use crate::cells::is_of_cell;
 use crate::outcomes::{effective_fail, is_among, is_bad, is_ignored};
 use cluster_types::{Action, Cluster, Event, LeafId, NodeId, OnFail, Op};
 
@@ -18,7 +17,7 @@ pub fn is_outcome(cluster: &Cluster, leaf: LeafId, node: NodeId, event: Event) -
             action,
             outcome,
             ..
-        } => is_of_cell(leaf, node, action) && !is_ignored(cluster, action, outcome),
+        } => action.is_of_cell(leaf, node) && !is_ignored(cluster, action, outcome),
         _ => false,
     }
 }

@@ -1,21 +1,15 @@
 //! Which outcomes of actions are failures, what follows them, and the fail counts and bans of resources.
 #![tactic(auto)]
 
-// Of which cell an event is.
-mod cells;
-
 // What an outcome means.
 mod failing;
 mod outcomes;
 
 // What the failures of a cell come to.
 mod counts;
-mod moment;
 mod tally;
 
-pub use cells::{is_of_cell, is_reset};
 pub use counts::{banned, failures};
 pub use failing::{is_failure, is_outcome};
-pub use moment::moment_of;
 pub use outcomes::{effective_fail, is_among, is_bad, is_ignored};
 pub use tally::Tally;

@@ -5,6 +5,9 @@ ghost use Rattle.std.specs.List.{list_any};
 ghost use Rattle.cluster_types.specs.Outcomes as outcomes;
 ghost use Rattle.fail_counts.specs.LeafFields.{op_fail_of};
 
+use cluster_types::exit_codes::{
+    DEGRADED, DEGRADED_PROMOTED, NOT_RUNNING, RUNNING_PROMOTED, SUCCESS,
+};
 use cluster_types::{Action, Cluster, Leaf, LeafId, Monitor, OnFail, Op, Outcome};
 
 fn has_code(codes: &[u8], code: u8) -> bool
@@ -27,8 +30,8 @@ fn good_codes_of_op(op: Op) -> &'static [u8]
     ensures { result.now ≡ outcomes.good_codes_of_op op }
 {
     match op {
-        Op::Start | Op::Stop | Op::Promote | Op::Demote => &[0],
-        Op::Monitor => &[0, 190, 8, 191],
+        Op::Start | Op::Stop | Op::Promote | Op::Demote => &[SUCCESS],
+        Op::Monitor => &[SUCCESS, DEGRADED, RUNNING_PROMOTED, DEGRADED_PROMOTED],
     }
 }
 
@@ -36,9 +39,15 @@ fn good_codes(action: Action) -> &'static [u8]
     ensures { result.now ≡ outcomes.good_codes action }
 {
     match action {
-        Action::Probe { .. } => &[0, 190, 7, 8, 191],
+        Action::Probe { .. } => &[
+            SUCCESS,
+            DEGRADED,
+            NOT_RUNNING,
+            RUNNING_PROMOTED,
+            DEGRADED_PROMOTED,
+        ],
         Action::Cell { op, .. } => good_codes_of_op(op),
-        Action::Fence { .. } | Action::MigrateTo { .. } | Action::MigrateFrom { .. } => &[0],
+        Action::Fence { .. } | Action::MigrateTo { .. } | Action::MigrateFrom { .. } => &[SUCCESS],
     }
 }
 

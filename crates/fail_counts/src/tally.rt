@@ -4,8 +4,10 @@ ghost use Rattle.std.specs.Prelude.{◌≡◌};
 ghost use Rattle.cluster_types.specs.Fields as fields;
 ghost use Rattle.fail_counts.specs.Tally as spec;
 
-use crate::cells::is_reset;
 use crate::failing::{ended_at, has_code, is_failure, is_outcome, is_start, wants};
+use cluster_types::exit_codes::{
+    ERR_ARGS, ERR_CONFIGURED, ERR_INSTALLED, ERR_PERM, ERR_UNIMPLEMENTED,
+};
 use cluster_types::{Cluster, Event, LeafId, NodeId, OnFail};
 use score::Score;
 
@@ -13,10 +15,10 @@ use score::Score;
 const MOST: u32 = 1_000_000;
 
 /// Exit codes after which a resource isn't tried again on the node (OCF Resource Agent API 1.1; Pacemaker Administration, hard errors).
-const HARD: &[u8] = &[2, 3, 4, 5];
+const HARD: &[u8] = &[ERR_ARGS, ERR_UNIMPLEMENTED, ERR_PERM, ERR_INSTALLED];
 
 /// The exit code after which it isn't tried again anywhere (likewise, fatal errors).
-const FATAL: &[u8] = &[6];
+const FATAL: &[u8] = &[ERR_CONFIGURED];
 
 /// What some failures of a cell come to, in their order.
 #[derive(Clone, Copy, Debug, PartialEq, Eq)]
@@ -47,24 +49,6 @@ fn has_passed(timeout_ms: u32, now: u128, last: Option<u64>) -> bool
     match last {
         Some(ended) => timeout_ms > 0 && now > u128::from(ended) + u128::from(timeout_ms / 1000),
         None => false,
-    }
-}
-
-fn failure_timeout(cluster: &Cluster, leaf: LeafId) -> u32
-    ensures { result ≡ fields.failure_timeout cluster.now leaf }
-{
-    match cluster.leaves.as_slice().get(leaf as usize) {
-        Some(leaf) => leaf.timeout_ms,
-        None => 0,
-    }
-}
-
-fn threshold(cluster: &Cluster, leaf: LeafId) -> Score
-    ensures { result ≡ fields.threshold cluster.now leaf }
-{
-    match cluster.leaves.as_slice().get(leaf as usize) {
-        Some(leaf) => leaf.threshold,
-        None => Score { points: 0 },
     }
 }
 
@@ -112,7 +96,7 @@ impl Tally {
     pub fn after(self, cluster: &Cluster, leaf: LeafId, node: NodeId, event: Event) -> Tally
         ensures { result ≡ spec.tally_after cluster.now leaf node self event }
     {
-        if is_reset(leaf, node, event) {
+        if event.is_reset(leaf, node) {
             Tally::none()
         } else if is_outcome(cluster, leaf, node, event) && is_failure(event) {
             self.with(cluster, event)
@@ -126,7 +110,7 @@ impl Tally {
     pub fn counted(self, cluster: &Cluster, leaf: LeafId, now: u128) -> Tally
         ensures { result ≡ spec.tally_counted cluster.now leaf now self }
     {
-        if has_passed(failure_timeout(cluster, leaf), now, self.last) {
+        if has_passed(cluster.failure_timeout(leaf), now, self.last) {
             Tally::none()
         } else {
             self
@@ -148,6 +132,6 @@ impl Tally {
     pub fn bans(self, cluster: &Cluster, leaf: LeafId) -> bool
         ensures { result ≡ spec.bans cluster.now leaf self }
     {
-        reaches(self.fail_count(cluster), threshold(cluster, leaf)) || self.hard
+        reaches(self.fail_count(cluster), cluster.threshold(leaf)) || self.hard
     }
 }

@@ -12,7 +12,7 @@ use Rattle.cluster_types.specs.declared.states.States.{States}
 use Rattle.cluster_types.specs.NodeStates.{node_state, is_unclean_state}
 use Rattle.cluster_types.specs.Rights.{may_fence, is_to_be_fenced}
 use Rattle.cluster_types.specs.Unpacked.{states_of}
-use Rattle.quorum_fence.specs.Acting.{unclean_in}
+use Rattle.quorum_fence.specs.Unclean.{unclean_in}
 
 range-more : (n : ℕ) → range_with_len 0 (n + 1) ≡ range_with_len 0 n ++ n ∷ []
 range-more n = sym (map-id (range_with_len 0 (n + 1))) ∙ (map-range_with_len_more (λ k. k) 0 n n (omega arith) ∙ ap (λ xs. xs ++ n ∷ []) (map-id (range_with_len 0 n)))

@@ -1,7 +1,5 @@
 ghost use Rattle.std.specs.Prelude.{◌≡◌, ◌<◌, ◌++◌, ◌∷◌, [], OnOk};
-ghost use Rattle.cluster_types.specs.Fields as fields;
 ghost use Rattle.cluster_types.specs.Numbers.{is_step, link, step_of};
-ghost use Rattle.cluster_types.specs.Precedence as words;
 ghost use Rattle.rule_loops.specs.Edges.{counts, edges_of, op_number, step_position};
 
 use cluster_types::{Cluster, LeafId, Op};
@@ -35,46 +33,20 @@ fn position(step: Step) -> u32
     4 * step.leaf + number(step.what)
 }
 
-/// Whether the operation gives a role.
-pub fn is_up(what: Op) -> bool
-    ensures { result ≡ words.is_up what }
-{
-    matches!(what, Op::Start | Op::Promote)
-}
-
-pub fn inverse(what: Op) -> Op
-    ensures { result ≡ words.inverse what }
-{
-    match what {
-        Op::Start => Op::Stop,
-        Op::Stop => Op::Start,
-        Op::Promote => Op::Demote,
-        Op::Demote => Op::Promote,
-        Op::Monitor => Op::Monitor,
-    }
-}
-
-fn is_promotable(cluster: &Cluster, leaf: LeafId) -> bool
-    ensures { result ≡ fields.is_promotable cluster.now leaf }
-{
-    match cluster.leaves.as_slice().get(leaf as usize) {
-        Some(leaf) => leaf.promotable,
-        None => false,
-    }
-}
-
 /// Only promotable leaves have promote and demote steps.
 fn is_there(cluster: &Cluster, step: Step) -> bool
     ensures { result ≡ is_step cluster.now (step_of step.what step.leaf) }
 {
-    matches!(step.what, Op::Start | Op::Stop) || is_promotable(cluster, step.leaf)
+    matches!(step.what, Op::Start | Op::Stop) || cluster.is_promotable(step.leaf)
 }
 
 /// Whether both steps are there, and both give a role or both take one.
 fn is_counted(cluster: &Cluster, before: Step, after: Step) -> bool
     ensures { result ≡ counts cluster.now (link before.what before.leaf after.what after.leaf) }
 {
-    is_up(before.what) == is_up(after.what) && is_there(cluster, before) && is_there(cluster, after)
+    before.what.is_up() == after.what.is_up()
+        && is_there(cluster, before)
+        && is_there(cluster, after)
 }
 
 /// Adds the edge of a link, if it counts.

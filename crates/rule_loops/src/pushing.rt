@@ -4,7 +4,7 @@ ghost use Rattle.cluster_types.specs.Numbers.{inverse_links, leaf_links, link, o
 ghost use Rattle.cluster_types.specs.Precedence.{takers};
 ghost use Rattle.rule_loops.specs.Edges.{edges_of};
 
-use crate::links::{Step, inverse, is_up, push_link};
+use crate::links::{Step, push_link};
 use cluster_types::{Cluster, LeafId, Op, Order, OrderKind};
 use loops::Edge;
 use std::alloc::AllocError;
@@ -82,15 +82,15 @@ fn push_inverse(edges: &mut Vec<Edge>, cluster: &Cluster, order: &Order) -> Resu
     requires later { order.now.then_leaf < 1000000000 }
     ensures { OnOk result (edges.new.items ≡ edges.old.items ++ edges_of cluster.now (inverse_links order.now)) }
 {
-    if is_up(order.first_op) && is_up(order.then_op) {
+    if order.first_op.is_up() && order.then_op.is_up() {
         return push_all_takers(edges, cluster, order);
     }
-    let before = step(inverse(order.then_op), order.then_leaf);
+    let before = step(order.then_op.inverse(), order.then_leaf);
     push_link(
         edges,
         cluster,
         before,
-        step(inverse(order.first_op), order.first),
+        step(order.first_op.inverse(), order.first),
     )
 }
 

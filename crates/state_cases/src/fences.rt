@@ -1,8 +1,7 @@
 //! Which node is fenced after it was lost.
 
 use crate::plain::{cluster, is_small};
-use cluster_types::{Action, Event, Journal, Op, Outcome, Policy, Role};
-use fail_counts::moment_of;
+use cluster_types::{Action, Event, Journal, Op, Outcome, Policy, Role, moment_of};
 use listed::Listed;
 use quorum_fence::{rights, to_fence};
 use state_unpack::unpack;

@@ -1,8 +1,10 @@
 //! What a journal tells of one leaf on one node.
 
 use crate::plain::{cluster, is_small};
-use cluster_types::{Action, Cell, CellState, Event, Journal, Op, Outcome, Policy, Role};
-use fail_counts::{banned, moment_of};
+use cluster_types::{
+    Action, Cell, CellState, Event, Journal, Op, Outcome, Policy, Role, moment_of,
+};
+use fail_counts::banned;
 use listed::Listed;
 use state_unpack::unpack;
 use std::alloc::Global;

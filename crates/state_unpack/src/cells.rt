@@ -1,7 +1,6 @@
 //! What is known of a cell, by what is kept of it.
 
 ghost use Rattle.std.specs.Prelude.{◌≡◌, ◌≤◌, if◌then◌else◌};
-ghost use Rattle.cluster_types.specs.Fields as fields;
 ghost use Rattle.state_unpack.specs.CellsKept as spec;
 
 use crate::facts::Facts;
@@ -28,15 +27,6 @@ fn bits_of(running: [bool; 8]) -> u8
         + bit(running[7], 128)
 }
 
-fn is_promotable(cluster: &Cluster, leaf: LeafId) -> bool
-    ensures { result ≡ fields.is_promotable cluster.now leaf }
-{
-    match cluster.leaves.as_slice().get(leaf as usize) {
-        Some(leaf) => leaf.promotable,
-        None => false,
-    }
-}
-
 /// What the failures of a cell of the leaf come to that count at the moment `now`, in seconds.
 pub fn counted_of(cluster: &Cluster, leaf: LeafId, now: u128, facts: Facts) -> Tally
     ensures { result ≡ spec.counted_of cluster.now leaf now facts }
@@ -55,7 +45,7 @@ fn state_from(cluster: &Cluster, leaf: LeafId, now: u128, online: bool, facts: F
         CellState::Blocked
     } else if facts.may && (facts.left || facts.awaited) {
         CellState::Failed
-    } else if is_promotable(cluster, leaf) && facts.promoted {
+    } else if cluster.is_promotable(leaf) && facts.promoted {
         CellState::Promoted
     } else if facts.may {
         CellState::On
@@ -79,7 +69,7 @@ pub fn cell_from(
     Cell {
         state: state_from(cluster, leaf, now, online, facts),
         may: facts.may,
-        may_promoted: is_promotable(cluster, leaf) && facts.promoted,
+        may_promoted: cluster.is_promotable(leaf) && facts.promoted,
         banned: counted_of(cluster, leaf, now, facts).bans(cluster, leaf) || fatal,
         running: bits_of(facts.running),
     }

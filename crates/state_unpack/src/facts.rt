@@ -7,7 +7,7 @@ use crate::opening::{closes, opens};
 use crate::promoting::{closes_promoted, opens_promoted};
 use crate::showing::{begins_sending_to, ends_monitors, is_end_of_monitor, is_sent_away};
 use cluster_types::{Cluster, Event, LeafId, NodeId};
-use fail_counts::{Tally, is_failure, is_outcome, is_reset};
+use fail_counts::{Tally, is_failure, is_outcome};
 
 /// What some events tell of a cell, as far as later ones can change it.
 #[derive(Clone, Copy)]
@@ -32,10 +32,7 @@ pub struct Facts {
 fn answers(cluster: &Cluster, leaf: LeafId, node: NodeId, event: Event, index: usize) -> bool
     ensures { result ≡ spec.answers cluster.now leaf node event index }
 {
-    let Some(its_leaf) = cluster.leaves.as_slice().get(leaf as usize) else {
-        return false;
-    };
-    match its_leaf.monitors.as_slice().get(index) {
+    match cluster.monitors(leaf).get(index) {
         Some(monitor) => is_end_of_monitor(leaf, node, monitor.interval_ms, event),
         None => false,
     }
@@ -92,7 +89,7 @@ impl Facts {
     pub fn after(self, cluster: &Cluster, leaf: LeafId, node: NodeId, event: Event) -> Facts
         ensures { result ≡ spec.facts_after cluster.now leaf node self event }
     {
-        let is_new = is_reset(leaf, node, event);
+        let is_new = event.is_reset(leaf, node);
         let is_outcome = is_outcome(cluster, leaf, node, event);
         let leaves_open = is_failure(event) || is_sent_away(event);
         Facts {

@@ -1,20 +1,14 @@
 //! Which events open a cell for its leaf, and which close it.
 
 ghost use Rattle.std.specs.Prelude.{◌≡◌, ℕ};
-ghost use Rattle.cluster_types.specs.Cells.{is_same_cell};
 ghost use Rattle.cluster_types.specs.May as may;
 ghost use Rattle.cluster_types.specs.declared.journal.Event.TheVariants.{Begin, Ended};
 ghost use Rattle.state_unpack.specs.Operations as operations;
 
 use crate::showing::{shows_nothing, takes_out};
-use cluster_types::{Action, Cluster, Event, LeafId, NodeId, Op, Outcome};
+use cluster_types::exit_codes::{ERR_INSTALLED, NOT_RUNNING, SUCCESS};
+use cluster_types::{Action, Cluster, Event, LeafId, NodeId, Op, Outcome, is_same_cell};
 use fail_counts::is_among;
-
-pub fn is_same_cell(leaf: LeafId, node: NodeId, its_leaf: LeafId, its_node: NodeId) -> bool
-    ensures { result ≡ is_same_cell leaf node its_leaf its_node }
-{
-    its_leaf == leaf && its_node == node
-}
 
 /// Whether the leaf may run on the node once the action begins.
 fn opens_as_it_begins(leaf: LeafId, node: NodeId, action: Action) -> bool
@@ -48,7 +42,7 @@ fn may_run_after(op: Op, outcome: Outcome) -> bool
     match op {
         Op::Start | Op::Promote | Op::Demote => true,
         Op::Stop => false,
-        Op::Monitor => !is_among(&[7], outcome),
+        Op::Monitor => !is_among(&[NOT_RUNNING], outcome),
     }
 }
 
@@ -66,7 +60,8 @@ fn opens_as_it_ends(leaf: LeafId, node: NodeId, action: Action, outcome: Outcome
         Action::Probe {
             leaf: its_leaf,
             node: its_node,
-        } => is_same_cell(leaf, node, its_leaf, its_node) && !is_among(&[7, 5], outcome),
+        } => is_same_cell(leaf, node, its_leaf, its_node)
+            && !is_among(&[NOT_RUNNING, ERR_INSTALLED], outcome),
         Action::MigrateFrom {
             leaf: its_leaf,
             target,
@@ -97,8 +92,8 @@ fn is_off_after(op: Op, outcome: Outcome) -> bool
 {
     match op {
         Op::Start | Op::Promote | Op::Demote => false,
-        Op::Stop => is_among(&[0], outcome),
-        Op::Monitor => is_among(&[7], outcome),
+        Op::Stop => is_among(&[SUCCESS], outcome),
+        Op::Monitor => is_among(&[NOT_RUNNING], outcome),
     }
 }
 
@@ -123,7 +118,8 @@ fn closes_cell(leaf: LeafId, node: NodeId, event: Event) -> bool
             },
             outcome,
             ..
-        } => is_same_cell(leaf, node, its_leaf, its_node) && is_among(&[7, 5], outcome),
+        } => is_same_cell(leaf, node, its_leaf, its_node)
+            && is_among(&[NOT_RUNNING, ERR_INSTALLED], outcome),
         _ => false,
     }
 }

@@ -5,10 +5,16 @@ ghost use Rattle.cluster_types.specs.May as may;
 ghost use Rattle.cluster_types.specs.declared.journal.Event.TheVariants.{Ended};
 ghost use Rattle.state_unpack.specs.Operations as operations;
 
-use crate::opening::is_same_cell;
 use crate::showing::{shows_nothing, takes_out};
-use cluster_types::{Action, Cluster, Event, LeafId, NodeId, Op, Outcome};
+use cluster_types::exit_codes::{
+    DEGRADED, DEGRADED_PROMOTED, ERR_INSTALLED, FAILED_PROMOTED, NOT_RUNNING, RUNNING_PROMOTED,
+    SUCCESS,
+};
+use cluster_types::{Action, Cluster, Event, LeafId, NodeId, Op, Outcome, is_same_cell};
 use fail_counts::is_among;
+
+/// The exit codes of probes and monitors that find a resource promoted.
+const PROMOTED: &[u8] = &[RUNNING_PROMOTED, FAILED_PROMOTED, DEGRADED_PROMOTED];
 
 /// Whether a resource may be promoted after the operation ended so, if it wasn't before.
 fn may_be_promoted_after(op: Op, outcome: Outcome) -> bool
@@ -17,7 +23,7 @@ fn may_be_promoted_after(op: Op, outcome: Outcome) -> bool
     match op {
         Op::Promote => true,
         Op::Start | Op::Stop | Op::Demote => false,
-        Op::Monitor => is_among(&[8, 9, 191], outcome),
+        Op::Monitor => is_among(PROMOTED, outcome),
     }
 }
 
@@ -35,7 +41,7 @@ fn promotes_as_it_ends(leaf: LeafId, node: NodeId, action: Action, outcome: Outc
         Action::Probe {
             leaf: its_leaf,
             node: its_node,
-        } => is_same_cell(leaf, node, its_leaf, its_node) && is_among(&[8, 9, 191], outcome),
+        } => is_same_cell(leaf, node, its_leaf, its_node) && is_among(PROMOTED, outcome),
         _ => false,
     }
 }
@@ -68,9 +74,9 @@ fn is_unpromoted_after(op: Op, outcome: Outcome) -> bool
     ensures { result ≡ operations.is_unpromoted_after op outcome }
 {
     match op {
-        Op::Start | Op::Stop | Op::Demote => is_among(&[0], outcome),
+        Op::Start | Op::Stop | Op::Demote => is_among(&[SUCCESS], outcome),
         Op::Promote => false,
-        Op::Monitor => is_among(&[0, 190, 7], outcome),
+        Op::Monitor => is_among(&[SUCCESS, DEGRADED, NOT_RUNNING], outcome),
     }
 }
 
@@ -95,7 +101,8 @@ fn demotes_cell(leaf: LeafId, node: NodeId, event: Event) -> bool
             },
             outcome,
             ..
-        } => is_same_cell(leaf, node, its_leaf, its_node) && is_among(&[0, 190, 7, 5], outcome),
+        } => is_same_cell(leaf, node, its_leaf, its_node)
+            && is_among(&[SUCCESS, DEGRADED, NOT_RUNNING, ERR_INSTALLED], outcome),
         _ => false,
     }
 }

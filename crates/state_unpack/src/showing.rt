@@ -4,8 +4,9 @@ ghost use Rattle.std.specs.Prelude.{◌≡◌};
 ghost use Rattle.cluster_types.specs.CellStates as cells;
 ghost use Rattle.cluster_types.specs.May as may;
 
+use cluster_types::exit_codes::SUCCESS;
 use cluster_types::{Action, Cluster, Event, LeafId, NodeId, Op, Outcome};
-use fail_counts::{is_ignored, is_of_cell, is_reset};
+use fail_counts::is_ignored;
 
 /// Whether the event shows an outcome that is ignored.
 pub fn shows_nothing(cluster: &Cluster, event: Event) -> bool
@@ -32,7 +33,7 @@ pub fn takes_out(fencing: bool, node: NodeId, event: Event) -> bool
             action: Action::Fence { node: its_node },
             outcome,
             ..
-        } => its_node == node && outcome == Outcome::Code(0),
+        } => its_node == node && outcome == Outcome::Code(SUCCESS),
         _ => false,
     }
 }
@@ -55,14 +56,7 @@ pub fn begins_sending_to(leaf: LeafId, node: NodeId, event: Event) -> bool
     ensures { result ≡ cells.begins_sending_to leaf node event }
 {
     match event {
-        Event::Begin {
-            action: Action::MigrateTo {
-                leaf: its_leaf,
-                target,
-                ..
-            },
-            ..
-        } => its_leaf == leaf && target == node,
+        Event::Begin { action, .. } => action.is_sent_to(leaf, node),
         _ => false,
     }
 }
@@ -77,7 +71,7 @@ fn changes_cell(leaf: LeafId, node: NodeId, action: Action) -> bool
             op: Op::Monitor,
             ..
         } => false,
-        other => is_of_cell(leaf, node, other),
+        other => other.is_of_cell(leaf, node),
     }
 }
 
@@ -89,7 +83,7 @@ pub fn ends_monitors(leaf: LeafId, node: NodeId, event: Event) -> bool
         Event::Begin { action, .. } | Event::Ended { action, .. } => {
             changes_cell(leaf, node, action)
         }
-        other => is_reset(leaf, node, other),
+        other => other.is_reset(leaf, node),
     }
 }
 

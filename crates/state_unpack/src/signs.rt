@@ -5,6 +5,7 @@ ghost use Rattle.cluster_types.specs.declared.journal.Event.{Event as EventOf};
 ghost use Rattle.cluster_types.specs.Journals.{sign_of};
 ghost use Rattle.state_unpack.specs.Signs.{Shows, shown_of, state_by_sign};
 
+use cluster_types::exit_codes::SUCCESS;
 use cluster_types::{Action, Event, NodeId, NodeState, Outcome};
 use std::alloc::{AllocError, Global};
 
@@ -27,7 +28,7 @@ fn shown(event: Event) -> Option<(NodeId, Sign)>
         Event::Lost { node } => Some((node, Sign::WasLost)),
         Event::Ended {
             action: Action::Fence { node },
-            outcome: Outcome::Code(0),
+            outcome: Outcome::Code(SUCCESS),
             ..
         } => Some((node, Sign::WasFenced)),
         _ => None,

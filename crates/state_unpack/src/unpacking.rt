@@ -15,8 +15,9 @@ use crate::facts::Facts;
 use crate::nodes::{facts_at, is_fatal, is_stopped, node_from};
 use crate::signs::{Sign, last_signs};
 use crate::telling::told_by;
-use cluster_types::{Cell, Cluster, Event, Journal, LeafId, NoMemory, NodeId, NodeState, States};
-use fail_counts::moment_of;
+use cluster_types::{
+    Cell, Cluster, Event, Journal, LeafId, NoMemory, NodeId, NodeState, States, moment_of,
+};
 use listed::Listed;
 use std::alloc::{AllocError, Global};
 

@@ -1,7 +1,7 @@
 use Rattle.std.proofs.Common.{rules, ◌≡◌, true, false, sym, ap, ◌∙◌}
 use Rattle.cluster_types.specs.declared.states.Rights.{Rights}
 use Rattle.cluster_types.specs.Rights.{may_fence}
-use Rattle.quorum_fence.specs.Acting.{unclean_in}
+use Rattle.quorum_fence.specs.Unclean.{unclean_in}
 use Rattle.quorum_fence.proofs.Fenced.{fences-none, fences-unclean}
 use Rattle.quorum_fence.proofs.fencing.to_fence.Goals as goal
 

@@ -3,14 +3,17 @@
 ghost use Rattle.std.specs.Prelude.{◌≡◌};
 ghost use Rattle.cluster_types.specs.Journals as journals;
 
-use cluster_types::Event;
+use crate::journal::Event;
 
-fn seconds_of(event: Event) -> u64
-    ensures { result ≡ journals.seconds_of event }
-{
-    match event {
-        Event::Wait { seconds } => seconds,
-        _ => 0,
+impl Event {
+    /// The seconds that go by with the event.
+    pub fn seconds(self) -> u64
+        ensures { result ≡ journals.seconds_of self }
+    {
+        match self {
+            Event::Wait { seconds } => seconds,
+            _ => 0,
+        }
     }
 }
 
@@ -20,7 +23,7 @@ pub fn moment_of(events: &[Event]) -> u128
 {
     let mut moment = 0;
     for event in events {
-        moment += u128::from(seconds_of(*event));
+        moment += u128::from(event.seconds());
     }
     moment
 }

@@ -1,6 +1,6 @@
 use Rattle.std.proofs.Common.{◌≡◌, ◌≤◌, ◌*◌, take}
 use Rattle.cluster_types.specs.Journals.{moment_of}
-use Rattle.fail_counts.proofs.moment.moment_of.Given as goal
+use Rattle.cluster_types.proofs.moment.moment_of.Given as goal
 
 abbrev pub invariant-loop-event : goal.invariant-loop-event
 invariant-loop-event l = record {

@@ -1,0 +1,148 @@
+//! What a cluster says of one of its leaves or nodes, by its number. A number that the cluster doesn't have gets the plainest value.
+
+ghost use Rattle.std.specs.Prelude.{◌≡◌};
+ghost use Rattle.cluster_types.specs.Fields as fields;
+ghost use Rattle.cluster_types.specs.NodeStates.{is_standby};
+
+use crate::cluster::Cluster;
+use crate::leaf::{LeafId, Monitor, TargetRole};
+use crate::node::NodeId;
+use score::Score;
+
+impl Cluster {
+    /// On how many nodes the leaf may run at once.
+    pub fn copies(&self, leaf: LeafId) -> u32
+        ensures { result ≡ fields.copies self.now leaf }
+    {
+        match self.leaves.as_slice().get(leaf as usize) {
+            Some(leaf) => leaf.copies,
+            None => 0,
+        }
+    }
+
+    /// On how many nodes it may be promoted at once.
+    pub fn promoted_copies(&self, leaf: LeafId) -> u32
+        ensures { result ≡ fields.promoted_copies self.now leaf }
+    {
+        match self.leaves.as_slice().get(leaf as usize) {
+            Some(leaf) => leaf.promoted_copies,
+            None => 0,
+        }
+    }
+
+    /// Whether it is inside a clone.
+    pub fn is_cloned(&self, leaf: LeafId) -> bool
+        ensures { result ≡ fields.is_cloned self.now leaf }
+    {
+        match self.leaves.as_slice().get(leaf as usize) {
+            Some(leaf) => leaf.cloned,
+            None => false,
+        }
+    }
+
+    pub fn is_promotable(&self, leaf: LeafId) -> bool
+        ensures { result ≡ fields.is_promotable self.now leaf }
+    {
+        match self.leaves.as_slice().get(leaf as usize) {
+            Some(leaf) => leaf.promotable,
+            None => false,
+        }
+    }
+
+    /// Whether it is a member of a group, after the first.
+    pub fn is_follower(&self, leaf: LeafId) -> bool
+        ensures { result ≡ fields.is_follower self.now leaf }
+    {
+        match self.leaves.as_slice().get(leaf as usize) {
+            Some(leaf) => leaf.follower,
+            None => false,
+        }
+    }
+
+    /// Whether the cluster may start and stop it.
+    pub fn is_managed(&self, leaf: LeafId) -> bool
+        ensures { result ≡ fields.is_managed self.now leaf }
+    {
+        match self.leaves.as_slice().get(leaf as usize) {
+            Some(leaf) => leaf.managed,
+            None => false,
+        }
+    }
+
+    /// Whether it may be moved live.
+    pub fn may_migrate(&self, leaf: LeafId) -> bool
+        ensures { result ≡ fields.may_migrate self.now leaf }
+    {
+        match self.leaves.as_slice().get(leaf as usize) {
+            Some(leaf) => leaf.migrates,
+            None => false,
+        }
+    }
+
+    pub fn priority(&self, leaf: LeafId) -> Score
+        ensures { result ≡ fields.priority self.now leaf }
+    {
+        match self.leaves.as_slice().get(leaf as usize) {
+            Some(leaf) => leaf.priority,
+            None => Score { points: 0 },
+        }
+    }
+
+    /// At how many failures on a node the leaf is banned from there; 0 is never.
+    pub fn threshold(&self, leaf: LeafId) -> Score
+        ensures { result ≡ fields.threshold self.now leaf }
+    {
+        match self.leaves.as_slice().get(leaf as usize) {
+            Some(leaf) => leaf.threshold,
+            None => Score { points: 0 },
+        }
+    }
+
+    /// After how many milliseconds its failures are forgotten; 0 is never.
+    pub fn failure_timeout(&self, leaf: LeafId) -> u32
+        ensures { result ≡ fields.failure_timeout self.now leaf }
+    {
+        match self.leaves.as_slice().get(leaf as usize) {
+            Some(leaf) => leaf.timeout_ms,
+            None => 0,
+        }
+    }
+
+    /// Its recurring monitors.
+    pub fn monitors(&self, leaf: LeafId) -> &[Monitor]
+        ensures { result.now ≡ fields.monitors self.now leaf }
+    {
+        match self.leaves.as_slice().get(leaf as usize) {
+            Some(leaf) => leaf.monitors.as_slice(),
+            None => &[],
+        }
+    }
+
+    pub fn target_role(&self, leaf: LeafId) -> TargetRole
+        ensures { result ≡ fields.target_role_of self.now leaf }
+    {
+        match self.leaves.as_slice().get(leaf as usize) {
+            Some(leaf) => leaf.target_role,
+            None => TargetRole::Started,
+        }
+    }
+
+    pub fn leaf_name(&self, leaf: LeafId) -> &[u8]
+        ensures { result.now ≡ fields.leaf_name self.now leaf }
+    {
+        match self.leaves.as_slice().get(leaf as usize) {
+            Some(leaf) => leaf.name.bytes(),
+            None => &[],
+        }
+    }
+
+    /// Whether the node may run no resource.
+    pub fn is_standby(&self, node: NodeId) -> bool
+        ensures { result ≡ is_standby self.now node }
+    {
+        match self.nodes.as_slice().get(node as usize) {
+            Some(node) => node.standby,
+            None => false,
+        }
+    }
+}
