@@ -2,9 +2,9 @@
 use Rattle.std.proofs.Common.{arith, ◌≡◌, ◌<◌, ◌≤◌, ◌+◌, ◌*◌, nat_lt, nat_le, ◌&&◌, ◌||◌, not, ℕ, Bool, true, if◌then◌else◌, [], ◌∷◌, Contains, refl}
 use Rattle.std.proofs.lemmas.List.Elements.{All-contains}
 use Rattle.std.proofs.lemmas.List.Sums.{AllPass-from_list_all}
+use Rattle.lemmas.proofs.Booleans.{sooner, later}
 use Rattle.cluster_types.specs.declared.edges.Edge.{Edge}
 use Rattle.cluster_types.specs.declared.journal.Action.TheVariants.{Probe}
-use Rattle.cluster_types.proofs.Booleans.{sooner, later}
 use Rattle.cluster_types.proofs.RisingEdges.{graph-rising}
 use Rattle.cluster_types.specs.Graphs.{GraphOf, IsGraph}
 

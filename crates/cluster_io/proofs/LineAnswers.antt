@@ -3,12 +3,13 @@ use Rattle.std.proofs.Common.{◌≡◌, ℕ, ◌+◌, ◌-◌, ◌≤◌, ◌<�
 use Rattle.std.specs.List.{concat}
 use Rattle.std.proofs.lemmas.Bool.{cond-true, cond-false, lt-ltb, le-ltb, le-leb, lt-leb}
 use Rattle.std.proofs.lemmas.List.{append-nil, length-append}
+use Rattle.std.proofs.lemmas.List.Folds.{concat-append}
 use Rattle.crm_lex.specs.RawLines.{physical_lines, joined, goes_on, content}
 use Rattle.cluster_io.specs.NextLine.{has_feed, first_of, first_line, content_within, line_answer, answer_of}
 use Rattle.cluster_io.specs.Scanning.{Joins, content_length, before_feed}
 use Rattle.cluster_io.specs.declared.line_step.LineStep.TheVariants.{Line, TooLong, TooLarge}
 use Rattle.cluster_io.proofs.Texts.{content_at_feed, content_begun, content_without_feed, length-before_feed}
-use Rattle.cluster_io.proofs.PhysicalLines.{concat-physical_lines, concat-append, content_within-append, content_within_none, continues_after, first_line_after, first_alone, first_ends, fronts, begun, physical_at_feed, physical_open, lines_more, Begun}
+use Rattle.cluster_io.proofs.PhysicalLines.{concat-physical_lines, content_within-append, content_within_none, continues_after, first_line_after, first_alone, first_ends, fronts, begun, physical_at_feed, physical_open, lines_more, Begun}
 
 pub answer_some : (room longest : ℕ) (text : List ℕ) → 0 < length text
     → answer_of room longest text ≡ line_answer room longest (first_line text)

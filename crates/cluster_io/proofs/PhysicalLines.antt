@@ -132,10 +132,6 @@ open_not_whole c (b ∷ bs) h =
     ap (is_whole c) (physical_open b bs h)
     ∙ cond_both (goes_on c (b ∷ bs)) false (has_feed (b ∷ bs)) (λ t. t ≡ false) (λ _. refl) (λ _. h)
 
-pub concat-append : (ps qs : List (List ℕ)) → concat (ps ++ qs) ≡ concat ps ++ concat qs
-concat-append [] qs = refl
-concat-append (p ∷ ps) qs = ap (λ (t : List ℕ). p ++ t) (concat-append ps qs) ∙ sym (append_assoc p (concat ps) (concat qs))
-
 -- nothing is within no room
 pub content_within_none : (lines : List (List ℕ)) → content_within 0 lines ≡ 0
 content_within_none [] = refl

@@ -4,7 +4,8 @@ use Rattle.std.specs.Prelude.{Option, Some, None, count_by, cond, map, find}
 use Rattle.std.specs.List.{list_all, list_any}
 use Rattle.std.specs.Option.{option_map_or}
 use Rattle.std.proofs.lemmas.List.Folds.{list_any-append}
-use Rattle.std.proofs.lemmas.List.Sums.{sum_by-append}
+use Rattle.lemmas.proofs.Booleans.{sooner, later, one_of}
+use Rattle.lemmas.proofs.Counts.{count-append, count-none}
 use Rattle.cluster_types.specs.declared.journal.Action.{Action}
 use Rattle.cluster_types.specs.declared.journal.Answer.{Answer}
 use Rattle.cluster_types.specs.declared.journal.Answer.TheVariants as answer
@@ -16,7 +17,6 @@ use Rattle.cluster_types.specs.Journals.{is_on, moment_of}
 use Rattle.cluster_types.specs.declared.cluster.Cluster.{Cluster}
 use Rattle.cluster_types.specs.Safety.{is_answered, is_gone, without_gone}
 use Rattle.cluster_types.specs.Steps.{Transition, Goes, IsWaiting, here, one_more, StepsOn, begins, takes, is_silent, ended, events_of, begins_number, flying, aborts, has_aborted, has_begun, journal, silent_code}
-use Rattle.cluster_types.proofs.Booleans.{sooner, later, one_of}
 use Rattle.cluster_types.proofs.StepLaws.{split, map_all, joined_all, not_begun, begins_nothing}
 
 -- Events without those at their end that are gone.
@@ -127,17 +127,9 @@ gone_is_not_answered (x ∷ xs) [] after e h q g = both_of x (sooner (is_gone x)
 gone_is_not_answered (x ∷ xs) (b ∷ bs) after e h q g =
     let tail : xs ≡ bs ++ e ∷ after = cc in gone_is_not_answered xs bs after e (later (is_gone x) _ h) tail g
 
--- how many of the events pass, where some are added
-count-append : (p : Event → Bool) (xs ys : List Event) → count_by p (xs ++ ys) ≡ count_by p xs + count_by p ys
-count-append p xs ys = sum_by-append (λ x. cond (p x) 1 0) xs ys
-
 not_counted : (b any : Bool) (n : ℕ) → b || any ≡ false → (any ≡ false → n ≡ 0) → (0 + cond b 1 0) + n ≡ 0
 not_counted true any n h f = cc
 not_counted false any n h f = rw (f h) refl
-
-count-none : (p : Event → Bool) (xs : List Event) → list_any p xs ≡ false → count_by p xs ≡ 0
-count-none p [] h = refl
-count-none p (x ∷ xs) h = rw (count-append p (x ∷ []) xs) (not_counted (p x) (list_any p xs) (count_by p xs) h (count-none p xs))
 
 none_begins : (k : ℕ) (xs : List Event) → list_all begins_nothing xs ≡ true → list_any (begins_number k) xs ≡ false
 none_begins k [] h = refl

@@ -1,6 +1,7 @@
 -- Examples of nodes that are fenced, or may not be, proved from the definitions.
 use Rattle.std.proofs.Common.{◌≡◌, ℕ, true, false, List, [], ◌∷◌, ◌++◌, inr, pos, refl, zero, suc, arith, Some}
 use Rattle.std.specs.Prelude.{codes, nat_lt, Contains}
+use Rattle.lemmas.proofs.Searches.{of_none}
 use Rattle.cluster_types.specs.declared.cluster.Cluster.{Cluster}
 use Rattle.cluster_types.specs.declared.cluster.Policy.TheVariants as policy
 use Rattle.cluster_types.specs.declared.journal.Action.{Action}
@@ -26,7 +27,7 @@ use Rattle.cluster_types.specs.Rights.{may_fence, may_start, may_keep, is_to_be_
 use Rattle.cluster_types.specs.Steps.{has_aborted}
 use Rattle.cluster_types.specs.Tables.{Targets, is_somewhere}
 use Rattle.cluster_types.specs.Terms.{active_count}
-use Rattle.cluster_types.proofs.Few.{below_one, below_two, cells_of_one, of_none, of_one, of_two, pair_of_two}
+use Rattle.cluster_types.proofs.Few.{below_one, below_two, cells_of_one, of_one, of_two, pair_of_two}
 use Rattle.cluster_types.proofs.NeededLaws.{unwatched, is_never_cycled, step_of_uncycled, is_never_sent, of_needed}
 use Rattle.cluster_types.proofs.SmallClusters.{node, plain_leaf, two_nodes, did, probed, online, step}
 use Rattle.cluster_types.proofs.SmallRuns.{table_by, predecessors, transition, beginners}

@@ -15,9 +15,6 @@ below_two P p q (suc (suc n)) h = absurd (omega arith)
 pub cells_of_one : (P : ℕ → ℕ → Type 0) → P 0 0 → P 0 1 → (r n : ℕ) → r < 1 → n < 2 → P r n
 cells_of_one P p q r n h l = below_one (λ k. P k n) (below_two (P 0) p q n l) r h
 
-pub of_none : {X : Type 0} (P : X → Type 0) (x : X) → Contains [] x → P x
-of_none P x (k, h, e) = absurd (omega arith)
-
 pub of_one : {X : Type 0} (P : X → Type 0) (a x : X) → P a → Contains (a ∷ []) x → P x
 of_one P a x p (zero, h, e) = subst P e p
 of_one P a x p (suc k, h, e) = absurd (omega arith)

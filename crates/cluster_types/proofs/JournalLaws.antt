@@ -2,11 +2,13 @@
 use Rattle.std.proofs.Common.{◌≡◌, ℕ, Bool, true, false, not, ◌&&◌, ◌==◌, if◌then◌else◌, List, [], ◌∷◌, ◌++◌, ◌+◌, ◌<◌, ◌≤◌, Option, Some, None, zero, suc, length, map, refl, sym, ap, ◌∙◌, arith}
 use Rattle.std.proofs.lemmas.List.Elements.{filter_map-append}
 use Rattle.std.specs.List.{list_all, filter_map, cons_option, last_or, flat_map, range_with_len, enumerate_from}
+use Rattle.std.proofs.lemmas.Bool.{and_from}
+use Rattle.lemmas.proofs.Booleans.{sooner, later, both}
 use Rattle.cluster_types.specs.declared.cluster.Cluster.{Cluster}
 use Rattle.cluster_types.specs.declared.journal.Action.TheVariants.{Probe, Cell}
 use Rattle.cluster_types.specs.declared.journal.Event.{Event}
 use Rattle.cluster_types.specs.declared.journal.Event.TheVariants.{Up, Down, Lost, Quorum, Wait, Cleanup, Begin, Ended}
-use Rattle.cluster_types.proofs.Booleans.{sooner, later, together, both, clash}
+use Rattle.cluster_types.proofs.Booleans.{clash}
 use Rattle.cluster_types.specs.Journals.{NodeWord, online, offline, unclean, unsaid, NodeSign, joined, in_flight, sign_of, last_sign, wants_node, Orderly, is_reported, leaving, first_events}
 
 abbrev begins_nothing : Event → Bool
@@ -32,16 +34,16 @@ all_joined p (x ∷ xs) ys h k = both (p x) (p x) (list_all p xs) (list_all p (x
 module _ (p : Event → Bool) (up : (n : ℕ) → p (Up n) ≡ true) (down : (n : ℕ) → p (Down n) ≡ true) (lost : (n : ℕ) → p (Lost n) ≡ true) where
   joins_pass : (ns : List ℕ) → list_all p (map Up ns) ≡ true
   joins_pass [] = refl
-  joins_pass (n ∷ ns) = together (p (Up n)) (list_all p (map Up ns)) (up n) (joins_pass ns)
+  joins_pass (n ∷ ns) = and_from (p (Up n)) (list_all p (map Up ns)) (up n) (joins_pass ns)
 
   lost_or_down_passes : (b : Bool) (n : ℕ) → list_all p (if b then Lost n ∷ [] else Down n ∷ []) ≡ true
-  lost_or_down_passes true n = together (p (Lost n)) true (lost n) refl
-  lost_or_down_passes false n = together (p (Down n)) true (down n) refl
+  lost_or_down_passes true n = and_from (p (Lost n)) true (lost n) refl
+  lost_or_down_passes false n = and_from (p (Down n)) true (down n) refl
 
   leaving_passes : (c : Cluster) (n : ℕ) (word : NodeWord) → list_all p (leaving c (n, word)) ≡ true
   leaving_passes c n online = refl
-  leaving_passes c n offline = together (p (Down n)) true (down n) refl
-  leaving_passes c n unclean = together (p (Lost n)) true (lost n) refl
+  leaving_passes c n offline = and_from (p (Down n)) true (down n) refl
+  leaving_passes c n unclean = and_from (p (Lost n)) true (lost n) refl
   leaving_passes c n unsaid = lost_or_down_passes (c.properties.fencing && c.properties.startup_fencing) n
 
   leaves_pass : (c : Cluster) (n : ℕ) (words : List NodeWord) → list_all p (flat_map (leaving c) (enumerate_from n words)) ≡ true

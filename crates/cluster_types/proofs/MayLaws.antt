@@ -1,6 +1,7 @@
 -- How one more event changes where a leaf may run and be promoted, and that it may run where it may be promoted.
 use Rattle.std.proofs.Common.{◌≡◌, ℕ, Bool, true, false, not, ◌&&◌, ◌||◌, ◌==◌, List, [], ◌∷◌, ◌++◌, refl, arith}
 use Rattle.std.specs.List.{list_all}
+use Rattle.lemmas.proofs.Booleans.{later, both, one_of, contrary}
 use Rattle.cluster_types.specs.declared.cluster.Cluster.{Cluster}
 use Rattle.cluster_types.specs.declared.journal.Action.TheVariants.{Probe, Cell}
 use Rattle.cluster_types.specs.declared.journal.Event.{Event}
@@ -10,7 +11,6 @@ use Rattle.cluster_types.specs.declared.journal.Outcome.TheVariants.{Code, Timed
 use Rattle.cluster_types.specs.declared.leaf.Op.TheVariants.{Stop, Promote, Monitor}
 use Rattle.cluster_types.specs.Outcomes.{is_among}
 use Rattle.cluster_types.specs.Fields.{is_promotable}
-use Rattle.cluster_types.proofs.Booleans.{later, both, one_of, contrary}
 use Rattle.cluster_types.specs.May.{opens_cell, promotes_cell, closes_cell, demotes_cell, opens, opens_promoted, closes, closes_promoted, shows_nothing, takes_out, may, may_promoted, is_left_promoted}
 
 -- an exit code of a promoted copy is none of a stopped one

@@ -2,6 +2,7 @@
 use Rattle.std.proofs.Common.{◌≡◌, ◌≢◌, ℕ, pos, true, false, List, [], ◌∷◌, ◌++◌, inr, refl, zero, suc, arith}
 use Rattle.std.specs.Prelude.{codes, nat_lt, Contains}
 use Rattle.std.specs.Fmt.{digits}
+use Rattle.lemmas.proofs.Searches.{of_none}
 use Rattle.cluster_types.specs.declared.cluster.Cluster.{Cluster}
 use Rattle.cluster_types.specs.declared.journal.Action.{Action}
 use Rattle.cluster_types.specs.declared.journal.Action.TheVariants.{Fence, Probe, Cell, MigrateTo, MigrateFrom}
@@ -23,7 +24,7 @@ use Rattle.cluster_types.specs.Steps.{has_aborted}
 use Rattle.cluster_types.specs.Tables.{Targets}
 use Rattle.cluster_types.specs.Terms.{active_count}
 use Rattle.cluster_types.specs.Texts.{graph_text}
-use Rattle.cluster_types.proofs.Few.{below_one, below_two, cells_of_one, of_none, of_one, of_two, of_three, pairs_of_three}
+use Rattle.cluster_types.proofs.Few.{below_one, below_two, cells_of_one, of_one, of_two, of_three, pairs_of_three}
 use Rattle.cluster_types.proofs.NeededLaws.{unwatched, can_be_cycled, of_first_set, is_never_cycled, step_of_uncycled, bounds_of_stop, bounds_of_start, of_needed}
 use Rattle.cluster_types.proofs.SmallClusters.{plain_leaf, two_nodes, location, did, probed, online, step}
 use Rattle.cluster_types.proofs.SmallRuns.{table_by, predecessors, transition, beginners}

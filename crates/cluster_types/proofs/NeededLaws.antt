@@ -1,6 +1,7 @@
 -- What is needed, turned round: where each thing that must be done comes from.
 use Rattle.std.proofs.Common.{◌≡◌, inl, inr, ℕ, ◌<◌, true, false, List, [], subst}
 use Rattle.std.specs.Prelude.{length, nat_lt, Contains}
+use Rattle.lemmas.proofs.Searches.{of_none}
 use Rattle.cluster_types.specs.declared.cluster.Cluster.{Cluster}
 use Rattle.cluster_types.specs.declared.journal.Action.{Action}
 use Rattle.cluster_types.specs.declared.journal.Action.TheVariants.{Fence, Probe, Cell}
@@ -17,7 +18,6 @@ use Rattle.cluster_types.specs.Pins.{is_unprobed_state}
 use Rattle.cluster_types.specs.Rights.{is_to_be_fenced}
 use Rattle.cluster_types.specs.Tables.{Targets}
 use Rattle.cluster_types.specs.Terms.{active_count}
-use Rattle.cluster_types.proofs.Few.{of_none}
 
 -- what has no monitors has none of whatever kind
 pub unwatched : (c : Cluster) → ((r : ℕ) → monitors c r ≡ []) → (X : Type 0) (r : ℕ) (m : MonitorOf) → Contains (monitors c r) m → X

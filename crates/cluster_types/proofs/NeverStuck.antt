@@ -1,7 +1,10 @@
 -- Where nothing aborted, nothing is in flight and nothing may begin, all actions have succeeded, if actions wait for those of lower numbers alone.
-use Rattle.std.proofs.Common.{arith, ◌≡◌, ◌<◌, ◌≤◌, ◌+◌, ◌==◌, ◌&&◌, ◌||◌, not, nat_lt, ℕ, suc, zero, Bool, true, false, List, [], ◌∷◌, refl, sym, subst, length, filter}
+use Rattle.std.proofs.Common.{arith, ◌≡◌, ◌<◌, ◌≤◌, ◌+◌, ◌==◌, ◌&&◌, ◌||◌, not, nat_lt, ℕ, suc, zero, Bool, true, false, List, [], ◌∷◌, refl, length, filter}
 use Rattle.std.specs.Prelude.{cond}
 use Rattle.std.specs.List.{list_all, list_any, range_with_len}
+use Rattle.std.proofs.lemmas.Bool.{and_from, not-false, not-true, or_parts}
+use Rattle.lemmas.proofs.Booleans.{one_of}
+use Rattle.lemmas.proofs.Ranges.{all_in_range, some_in_range}
 use Rattle.cluster_types.specs.declared.cluster.Cluster.{Cluster}
 use Rattle.cluster_types.specs.declared.journal.Event.{Event}
 use Rattle.cluster_types.specs.declared.journal.Event.TheVariants.{Ended}
@@ -9,28 +12,7 @@ use Rattle.cluster_types.specs.declared.journal.Outcome.TheVariants.{Code, Timed
 use Rattle.cluster_types.specs.Journals.{ends_number}
 use Rattle.cluster_types.specs.Safety.{is_gone}
 use Rattle.cluster_types.specs.Steps.{Transition, aborts, all_succeeded, flight, has_aborted, has_begun, has_ended, has_room, has_succeeded, is_in_flight_number, is_settled, is_success, may_begin, numbers, succeeds_number}
-use Rattle.cluster_types.proofs.Booleans.{together, one_of}
-use Rattle.cluster_types.proofs.StepLaws.{in_range, negated}
-
-all_in_range : (p : ℕ → Bool) (from count : ℕ) → ((j : ℕ) → from ≤ j → j < from + count → p j ≡ true) → list_all p (range_with_len from count) ≡ true
-all_in_range p from zero h = refl
-all_in_range p from (suc count) h =
-    together (p from) _ (h from (omega arith) (omega arith)) (all_in_range p (from + 1) count (λ j low high. h j (omega arith) (omega arith)))
-
-or_true : (b : Bool) → b || true ≡ true
-or_true true = refl
-or_true false = refl
-
-some_in_range : (p : ℕ → Bool) (from count j : ℕ) → from ≤ j → j < from + count → p j ≡ true → list_any p (range_with_len from count) ≡ true
-some_in_range p from zero j low high h = absurd (let f : ⊥ = omega arith in f)
-some_in_range p from (suc count) j low high h = at_first (from == j) refl (λ e. some_in_range p (from + 1) count j (not_first from j low e) (omega arith) h)
-  where
-    not_first : (from j : ℕ) → from ≤ j → (from == j) ≡ false → from + 1 ≤ j
-    not_first from j low e = grind arith
-
-    at_first : (same : Bool) → (from == j) ≡ same → (same ≡ false → list_any p (range_with_len (from + 1) count) ≡ true) → list_any p (range_with_len from (suc count)) ≡ true
-    at_first true e rest = let f : from ≡ j = grind arith in let g : p from ≡ true = subst (λ z. p z ≡ true) (sym f) h in rw g refl
-    at_first false e rest = rw (rest refl) (or_true (p from))
+use Rattle.cluster_types.proofs.StepLaws.{in_range}
 
 left_out : (b : Bool) (x : ℕ) (xs : List ℕ) → cond b (x ∷ xs) xs ≡ [] → (not b ≡ true) × (xs ≡ [])
 left_out true x xs h = cc
@@ -38,37 +20,25 @@ left_out false x xs h = (refl, h)
 
 none_passes : (p : ℕ → Bool) (xs : List ℕ) → filter p xs ≡ [] → list_all (λ j. not (p j)) xs ≡ true
 none_passes p [] h = refl
-none_passes p (x ∷ xs) h = let parts = left_out (p x) x (filter p xs) h in together (not (p x)) _ parts.0 (none_passes p xs parts.1)
+none_passes p (x ∷ xs) h = let parts = left_out (p x) x (filter p xs) h in and_from (not (p x)) _ parts.0 (none_passes p xs parts.1)
 
 none_in_range : (p : ℕ → Bool) (from count j : ℕ) → from ≤ j → j < from + count → filter p (range_with_len from count) ≡ [] → p j ≡ false
 none_in_range p from count j low high h =
-    negated (p j) (in_range (λ j. not (p j)) from count j low high (none_passes p (range_with_len from count) h))
+    not-true (p j) (in_range (λ j. not (p j)) from count j low high (none_passes p (range_with_len from count) h))
 
 -- an end that doesn't abort and isn't gone is a success
 success_of : (c : Cluster) (k : ℕ) (e : Event) → ends_number k e ≡ true → aborts c e ≡ false → is_gone e ≡ false → succeeds_number c k e ≡ true
-success_of c k (Ended j a (Code code) m) h g f = together (j == k) _ h (granted (is_success c a (Code code)) g)
-  where
-    granted : (b : Bool) → not b ≡ false → b ≡ true
-    granted true h = refl
-    granted false h = cc
-success_of c k (Ended j a TimedOut m) h g f = together (j == k) _ h (granted (is_success c a TimedOut) g)
-  where
-    granted : (b : Bool) → not b ≡ false → b ≡ true
-    granted true h = refl
-    granted false h = cc
+success_of c k (Ended j a (Code code) m) h g f = and_from (j == k) _ h (not-false (is_success c a (Code code)) g)
+success_of c k (Ended j a TimedOut m) h g f = and_from (j == k) _ h (not-false (is_success c a TimedOut) g)
 success_of c k (Ended j a Gone m) h g f = cc
 success_of c k _ h g f = cc
-
-neither : (a b : Bool) → a || b ≡ false → (a ≡ false) × (b ≡ false)
-neither true b h = cc
-neither false b h = (refl, h)
 
 succeeded-of_ended : (c : Cluster) (k : ℕ) (xs : List Event) → list_any (aborts c) xs ≡ false → list_any is_gone xs ≡ false
     → list_any (ends_number k) xs ≡ true → list_any (succeeds_number c k) xs ≡ true
 succeeded-of_ended c k [] h g e = cc
 succeeded-of_ended c k (x ∷ xs) h g e =
-    let none = neither (aborts c x) (list_any (aborts c) xs) h in
-    let here = neither (is_gone x) (list_any is_gone xs) g in
+    let none = or_parts (aborts c x) (list_any (aborts c) xs) h in
+    let here = or_parts (is_gone x) (list_any is_gone xs) g in
     one_of (ends_number k x) (succeeds_number c k x) (list_any (ends_number k) xs) (list_any (succeeds_number c k) xs)
     (λ f. success_of c k x f none.0 here.0) (succeeded-of_ended c k xs none.1 here.1) e
 
@@ -91,10 +61,10 @@ module _ (t : Transition) (events : List Event) (upward : (j k : ℕ) → t.prec
   may : (k : ℕ) → 0 < k → k ≤ length t.actions → has_begun t events k ≡ false
       → ((j : ℕ) → 0 < j → j < k → has_succeeded t events j ≡ true) → may_begin t events k ≡ true
   may k low high fresh earlier =
-      together (list_any (λ j. j == k) (numbers t) && not (has_aborted t events) && not (has_begun t events k) && has_room t events) _
-      (together (list_any (λ j. j == k) (numbers t) && not (has_aborted t events) && not (has_begun t events k)) _
-      (together (list_any (λ j. j == k) (numbers t) && not (has_aborted t events)) _
-      (together (list_any (λ j. j == k) (numbers t)) _ (some_in_range (λ j. j == k) 1 (length t.actions) k (omega arith) (omega arith) (grind arith)) (rw unaborted refl))
+      and_from (list_any (λ j. j == k) (numbers t) && not (has_aborted t events) && not (has_begun t events k) && has_room t events) _
+      (and_from (list_any (λ j. j == k) (numbers t) && not (has_aborted t events) && not (has_begun t events k)) _
+      (and_from (list_any (λ j. j == k) (numbers t) && not (has_aborted t events)) _
+      (and_from (list_any (λ j. j == k) (numbers t)) _ (some_in_range (λ j. j == k) 1 (length t.actions) k (omega arith) (omega arith) (grind arith)) (rw unaborted refl))
       (rw fresh refl)) room)
       (all_in_range (λ j. not (t.precedes j k) || has_succeeded t events j) 1 (length t.actions)
       (λ j j_low j_high. by_order (t.precedes j k) (has_succeeded t events j) (λ e. earlier j (omega arith) (upward j k e))))
@@ -120,7 +90,7 @@ module _ (t : Transition) (events : List Event) (upward : (j k : ℕ) → t.prec
       by_begin false e earlier =
           let allowed = may k low high e earlier in
           let found : list_any (may_begin t events) (numbers t) ≡ true = some_in_range (may_begin t events) 1 (length t.actions) k (omega arith) (omega arith) allowed in
-          let not_found : list_any (may_begin t events) (numbers t) ≡ false = negated _ settled in
+          let not_found : list_any (may_begin t events) (numbers t) ≡ false = not-true _ settled in
           cc
 
   pub all-succeeded : all_succeeded t events ≡ true

@@ -4,11 +4,12 @@ use Rattle.std.specs.List.{list_any}
 use Rattle.std.specs.Prelude.{Contains, Any, AllPairs, slice_get, Some}
 use Rattle.std.proofs.lemmas.List.Folds.{Any-from_list_any}
 use Rattle.std.proofs.lemmas.Option.{get_or_from_slice_get, slice_get_within}
+use Rattle.lemmas.proofs.Searches.{passes_by}
+use Rattle.lemmas.proofs.Booleans.{same_test}
 use Rattle.cluster_types.specs.declared.cluster.Cluster.{Cluster}
 use Rattle.cluster_types.specs.declared.journal.Action.{Action}
 use Rattle.cluster_types.specs.declared.journal.Action.TheVariants.{Fence, Probe, Cell, MigrateTo, MigrateFrom}
 use Rattle.cluster_types.specs.declared.leaf.Op.TheVariants as op
-use Rattle.cluster_types.proofs.Paths.{passes_by}
 use Rattle.cluster_types.specs.Numbers.{AreNumbered, Place, is_before, is_earlier, place_of}
 use Rattle.cluster_types.specs.Precedence.{is_migrating, sends}
 
@@ -121,11 +122,6 @@ module _ {X : Type 0} (R : X → X → Type 0) (strict : (a b : X) → R a b →
 
 -- A list in the order of its numbers, of which each has the other's actions, is the other.
 
-both_true : (a b : Bool) → (a ≡ true → b ≡ true) → (b ≡ true → a ≡ true) → a ≡ b
-both_true true b f g = sym (f refl)
-both_true false true f g = g refl
-both_true false false f g = refl
-
 found_in : (p : Action → Bool) (xs ys : List Action) → ((a : Action) → Contains xs a → Contains ys a) → list_any p xs ≡ true → list_any p ys ≡ true
 found_in p xs ys all h = found_at p xs ys all (Any-from_list_any p xs h)
   where
@@ -134,7 +130,7 @@ found_in p xs ys all h = found_at p xs ys all (Any-from_list_any p xs h)
 
 module _ (c : Cluster) (xs ys : List Action) (to : (a : Action) → Contains xs a → Contains ys a) (from : (a : Action) → Contains ys a → Contains xs a) where
   same_migrating : (r : ℕ) → is_migrating xs r ≡ is_migrating ys r
-  same_migrating r = both_true (is_migrating xs r) (is_migrating ys r) (found_in (sends r) xs ys to) (found_in (sends r) ys xs from)
+  same_migrating r = same_test (is_migrating xs r) (is_migrating ys r) (found_in (sends r) xs ys to) (found_in (sends r) ys xs from)
 
   same_place : (a : Action) → place_of c xs a ≡ place_of c ys a
   same_place (Fence n) = refl

@@ -2,8 +2,10 @@
 use Rattle.std.proofs.Common.{arith, length, ◌≡◌, ◌≢◌, ◌<◌, ◌≤◌, ◌==◌, ◌&&◌, ◌||◌, nat_le, ℕ, suc, zero, ◌+◌, ◌-◌, Bool, true, false, List, refl, Contains, Any}
 use Rattle.std.specs.List.{list_any}
 use Rattle.std.proofs.lemmas.List.Folds.{Any-from_list_any, list_any_at, list_any_more}
+use Rattle.std.proofs.lemmas.Bool.{and_from}
+use Rattle.lemmas.proofs.Booleans.{sooner, later}
+use Rattle.lemmas.proofs.Searches.{passes_by}
 use Rattle.cluster_types.specs.declared.edges.Edge.{Edge}
-use Rattle.cluster_types.proofs.Booleans.{sooner, later, together}
 use Rattle.cluster_types.specs.Graphs.{GraphOf, IsGraph, IsBefore, is_before, is_number, EndWithin, LeadUpward, Leads, direct, through, leads_within, leads_by}
 
 pub leads_by_one : (most actions : ℕ) (edges : List Edge) (x y : ℕ) → most ≢ 0
@@ -46,11 +48,8 @@ leads-from_computed (suc most) actions edges x y h =
     of_any most actions edges x y (λ x'. leads-from_computed most actions edges x' y) (Any-from_list_any (leads_by most actions edges x y) edges h)
 
 by_last : (a b c d : Bool) → a ≡ true → c ≡ true → d ≡ true → a && (b || c && d) ≡ true
-by_last a true c d h g f = together a true h refl
-by_last a false c d h g f = together a (c && d) h (together c d g f)
-
-pub passes_by : {X : Type 0} (p : X → Bool) (xs : List X) (x : X) → Contains xs x → p x ≡ true → list_any p xs ≡ true
-passes_by p xs x (k, lt, at) h = list_any_at p xs k x lt (rw at h)
+by_last a true c d h g f = and_from a true h refl
+by_last a false c d h g f = and_from a (c && d) h (and_from c d g f)
 
 pub leads-computed : (positions most actions : ℕ) (edges : List Edge) (x y : ℕ) → EndWithin positions edges → LeadUpward actions edges
     → positions ≤ most + x → Leads actions edges x y → leads_within most actions edges x y ≡ true
@@ -74,5 +73,5 @@ before-from_computed g x y h =
 
 pub before-computed : (g : GraphOf) (x y : ℕ) → IsGraph g → IsBefore g x y → is_before g x y ≡ true
 before-computed g x y graph before =
-    together (is_number g x && is_number g y) _ (together (is_number g x) _ before.earlier before.later)
+    and_from (is_number g x && is_number g y) _ (and_from (is_number g x) _ before.earlier before.later)
     (leads-computed g.edges.positions g.edges.positions (length g.actions) g.edges.list (x - 1) (y - 1) graph.within graph.gates_upward (omega arith) before.leads)

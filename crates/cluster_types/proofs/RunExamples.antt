@@ -1,6 +1,7 @@
 -- Examples of how a run goes, proved from the definitions.
 use Rattle.std.proofs.Common.{◌≡◌, ℕ, true, false, List, [], ◌∷◌, ◌++◌, inr, refl, zero, suc, arith}
 use Rattle.std.specs.Prelude.{codes, nat_lt, Contains}
+use Rattle.lemmas.proofs.Searches.{of_none}
 use Rattle.cluster_types.specs.declared.cluster.Cluster.{Cluster}
 use Rattle.cluster_types.specs.declared.journal.Action.{Action}
 use Rattle.cluster_types.specs.declared.journal.Action.TheVariants.{Fence, Probe, Cell}
@@ -22,7 +23,7 @@ use Rattle.cluster_types.specs.Rights.{is_to_be_fenced}
 use Rattle.cluster_types.specs.Steps.{Transition, Applies, events_of, has_aborted}
 use Rattle.cluster_types.specs.Tables.{Targets}
 use Rattle.cluster_types.specs.Terms.{active_count}
-use Rattle.cluster_types.proofs.Few.{below_one, below_two, cells_of_one, of_none, of_one, of_three, pairs_of_three}
+use Rattle.cluster_types.proofs.Few.{below_one, below_two, cells_of_one, of_one, of_three, pairs_of_three}
 use Rattle.cluster_types.proofs.NeededLaws.{unwatched, is_never_cycled, step_of_uncycled, is_never_sent, of_needed}
 use Rattle.cluster_types.proofs.SmallClusters.{plain_leaf, two_nodes, online, step}
 use Rattle.cluster_types.proofs.SmallRuns.{table_by, predecessors, transition, beginners}

@@ -3,6 +3,8 @@ use Rattle.std.proofs.Common.{arith, ◌≡◌, ◌<◌, ◌≤◌, ◌+◌, ◌
 use Rattle.std.specs.Prelude.{Option, Some, None, map, find}
 use Rattle.std.specs.List.{list_all, list_any, flat_map, range_with_len}
 use Rattle.std.specs.Option.{option_map_or}
+use Rattle.std.proofs.lemmas.Bool.{and_from, not-true}
+use Rattle.lemmas.proofs.Booleans.{sooner, later, implied}
 use Rattle.cluster_types.specs.declared.journal.Action.{Action}
 use Rattle.cluster_types.specs.declared.journal.Answer.{Answer}
 use Rattle.cluster_types.specs.declared.journal.Answer.TheVariants as answer
@@ -14,7 +16,6 @@ use Rattle.cluster_types.specs.Answering.{end_of, is_number_of}
 use Rattle.cluster_types.specs.Journals.{is_on, moment_of}
 use Rattle.cluster_types.specs.Safety.{AtEachBegin, PredecessorsFirst}
 use Rattle.cluster_types.specs.Steps.{Transition, Begins, Goes, here, one_more, StepsOn, begins, takes, is_silent, action_at, ended, events_of, flying, journal, has_aborted, has_begun, has_room, has_succeeded, may_begin, numbers}
-use Rattle.cluster_types.proofs.Booleans.{sooner, later, together}
 
 -- an event of a joined list stands in the one or in the other
 pub split : (R : Type 0) (xs ys before after : List Event) (e : Event) → xs ++ ys ≡ before ++ e ∷ after
@@ -55,11 +56,11 @@ ended-begins_nothing m o None = refl
 -- what each of some pairs adds passes
 pub map_all : (q : Event → Bool) (f : ℕ × Action → Event) → ((p : ℕ × Action) → q (f p) ≡ true) → (ps : List (ℕ × Action)) → list_all q (map f ps) ≡ true
 map_all q f h [] = refl
-map_all q f h (p ∷ ps) = together (q (f p)) _ (h p) (map_all q f h ps)
+map_all q f h (p ∷ ps) = and_from (q (f p)) _ (h p) (map_all q f h ps)
 
 pub joined_all : (p : Event → Bool) (xs ys : List Event) → list_all p xs ≡ true → list_all p ys ≡ true → list_all p (xs ++ ys) ≡ true
 joined_all p [] ys h g = g
-joined_all p (x ∷ xs) ys h g = together (p x) _ (sooner (p x) _ h) (joined_all p xs ys (later (p x) _ h) g)
+joined_all p (x ∷ xs) ys h g = and_from (p x) _ (sooner (p x) _ h) (joined_all p xs ys (later (p x) _ h) g)
 
 pub flat_all : (p : Event → Bool) (f : ℕ → List Event) → ((k : ℕ) → list_all p (f k) ≡ true) → (ks : List ℕ) → list_all p (flat_map f ks) ≡ true
 flat_all p f h [] = refl
@@ -79,10 +80,6 @@ module _ (t : Transition) (since : List Event) where
   answer-begins_nothing (answer.Quorum now) = refl
   answer-begins_nothing (answer.Wait seconds) = refl
   answer-begins_nothing (answer.Report n r interval code) = refl
-
-pub negated : (a : Bool) → not a ≡ true → a ≡ false
-negated true h = cc
-negated false h = refl
 
 -- A law of begins: what holds of each begin that is allowed holds at each begin among the events of a transition.
 
@@ -125,10 +122,6 @@ in_range p from (suc count) j low high h =
     not_first : (from j : ℕ) → from ≤ j → (from == j) ≡ false → from + 1 ≤ j
     not_first from j low e = grind arith
 
-pub implied : (a b : Bool) → not a || b ≡ true → a ≡ true → b ≡ true
-implied true b h g = h
-implied false b h g = cc
-
 module _ (t : Transition) (since : List Event) (k : ℕ) (h : may_begin t since k ≡ true) where
   before_it : list_any (λ j. j == k) (numbers t) && not (has_aborted t since) && not (has_begun t since k) && has_room t since ≡ true
   before_it = sooner (list_any (λ j. j == k) (numbers t) && not (has_aborted t since) && not (has_begun t since k) && has_room t since) _ h
@@ -143,10 +136,10 @@ module _ (t : Transition) (since : List Event) (k : ℕ) (h : may_begin t since 
       (in_range (λ j. not (t.precedes j k) || has_succeeded t since j) 1 (length t.actions) j (omega arith) (omega arith) all) before
 
   pub not_aborted : has_aborted t since ≡ false
-  not_aborted = negated (has_aborted t since) (later (list_any (λ j. j == k) (numbers t)) _ (sooner (list_any (λ j. j == k) (numbers t) && not (has_aborted t since)) _ not_before))
+  not_aborted = not-true (has_aborted t since) (later (list_any (λ j. j == k) (numbers t)) _ (sooner (list_any (λ j. j == k) (numbers t) && not (has_aborted t since)) _ not_before))
 
   pub not_begun : has_begun t since k ≡ false
-  not_begun = negated (has_begun t since k) (later (list_any (λ j. j == k) (numbers t) && not (has_aborted t since)) _ not_before)
+  not_begun = not-true (has_begun t since k) (later (list_any (λ j. j == k) (numbers t) && not (has_aborted t since)) _ not_before)
 
 -- no begin is before the first event
 none_yet : (P : List Event → ℕ → Action → Type 0) → AtEachBegin P []

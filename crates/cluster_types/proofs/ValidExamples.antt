@@ -1,6 +1,7 @@
 -- Examples of clusters that are valid, and of loops, which are not, proved from the definitions.
 use Rattle.std.proofs.Common.{◌≡◌, ◌≢◌, ℕ, Bool, pos, true, false, List, [], ◌∷◌, ◌<◌, ◌&&◌, ◌||◌, ap, refl, zero, suc, arith}
 use Rattle.std.specs.Prelude.{codes, slice_index}
+use Rattle.lemmas.proofs.Searches.{of_none}
 use Rattle.cluster_types.specs.declared.cluster.Cluster.{Cluster}
 use Rattle.cluster_types.specs.declared.leaf.Op.TheVariants.{Start, Stop}
 use Rattle.cluster_types.specs.declared.node.Node.{Node}
@@ -8,7 +9,7 @@ use Rattle.cluster_types.specs.declared.placement.Decision.TheVariants.{Place, P
 use Rattle.cluster_types.specs.Decisions.{NeedsHaveNoLoop, needs}
 use Rattle.cluster_types.specs.Numbers.{HasNoLoop, step_of}
 use Rattle.cluster_types.specs.Valid.{IsValid, IsValidNode, IsValidLeaf}
-use Rattle.cluster_types.proofs.Few.{of_none, of_one, of_two, pair_of_two}
+use Rattle.cluster_types.proofs.Few.{of_one, of_two, pair_of_two}
 use Rattle.cluster_types.proofs.SmallClusters.{node, plain_leaf, two_nodes, colocation, start_order}
 
 abbrev pair : Cluster

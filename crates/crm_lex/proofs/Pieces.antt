@@ -1,6 +1,7 @@
 -- What is read of a text is what is read of its logical lines one by one.
-use Rattle.std.proofs.Common.{◌≡◌, ℕ, ◌+◌, Bool, true, false, if◌then◌else◌, List, [], ◌∷◌, ◌++◌, length, map, refl, sym, ap, ◌∙◌, subst, append_assoc}
+use Rattle.std.proofs.Common.{◌≡◌, ℕ, ◌+◌, Bool, true, false, if◌then◌else◌, List, [], ◌∷◌, ◌++◌, length, map, refl, sym, ap, ◌∙◌, subst}
 use Rattle.std.specs.List.{concat, AllByRecursion}
+use Rattle.std.proofs.lemmas.List.Folds.{concat-append}
 use Rattle.crm_lex.specs.RawLines.{physical_lines, onto_group, goes_on, joined, raw_lines}
 use Rattle.crm_lex.specs.Words.{words_of}
 use Rattle.crm_lex.specs.LogicalLines.{line_text, faults}
@@ -54,10 +55,6 @@ by_pieces n (group ∷ groups) o =
 
 pub same_by_pieces : (text : List ℕ) → reads text ≡ reads_each 1 (line_bytes text)
 same_by_pieces text = by_pieces 1 (raw_lines text) (own_lines text)
-
-concat-append : (front back : List (List ℕ)) → concat (front ++ back) ≡ concat front ++ concat back
-concat-append [] back = refl
-concat-append (line ∷ front) back = ap (λ xs. line ++ xs) (concat-append front back) ∙ sym (append_assoc line (concat front) (concat back))
 
 concat-groups : (groups : List (List (List ℕ))) → concat (map concat groups) ≡ concat (all_lines groups)
 concat-groups [] = refl

@@ -2,6 +2,7 @@
 use Rattle.std.proofs.Common.{◌≡◌, ℕ, ◌<◌, ◌≤◌, nat_lt, nat_le, ◌==◌, ◌&&◌, not, Bool, true, false, if◌then◌else◌, Some, None, Result, Ok, Err, IfOk, IfErr, List, [], ◌∷◌, ◌++◌, length, refl, sym, ap, ◌∙◌, append-nil, arith}
 use Rattle.std.proofs.lemmas.Bool.Decides.{nat_tests}
 use Rattle.std.specs.List.{list_any, concat}
+use Rattle.std.proofs.lemmas.Bool.{or_parts}
 use Rattle.crm_lex.specs.RawLines.{physical_lines, content, begins_comment, ends_in_backslash}
 use Rattle.crm_lex.specs.Words.{is_quote, place_behind, is_open, words_of}
 use Rattle.crm_lex.specs.LogicalLines.{with_joint, line_text, content_length, byte_faults, faults}
@@ -12,7 +13,6 @@ use Rattle.crm_lex.specs.declared.fault.LexFault.TheVariants.{At, NoMemory}
 use Rattle.crm_lex.specs.declared.quoting.Place.TheVariants.{Outside}
 use Rattle.crm_lex.proofs.PhysicalLines.{some_lines, concat-lines}
 use Rattle.crm_lex.proofs.Joints.{with_joint-none}
-use Rattle.crm_lex.proofs.Words.{neither}
 
 abbrev Bare : List ℕ → Type 0
 Bare text = list_any is_quote_or_backslash text ≡ false
@@ -21,15 +21,15 @@ Bare text = list_any is_quote_or_backslash text ≡ false
 closed : (text : List ℕ) → Bare text → place_behind Outside text ≡ Outside
 closed [] e = refl
 closed (b ∷ bs) e =
-    let first = neither (is_quote_or_backslash b) (list_any is_quote_or_backslash bs) e in
-    let mark = neither (is_quote b) (b == 92) first.0 in
-    let quote = neither (b == 34) (b == 39) mark.0 in
+    let first = or_parts (is_quote_or_backslash b) (list_any is_quote_or_backslash bs) e in
+    let mark = or_parts (is_quote b) (b == 92) first.0 in
+    let quote = or_parts (b == 34) (b == 39) mark.0 in
     rw (quote.0, quote.1) (closed bs first.1)
 
 unjoined : (text : List ℕ) → Bare text → ends_in_backslash text ≡ false
 unjoined [] e = refl
-unjoined (b ∷ []) e = (neither (is_quote b) (b == 92) (neither (is_quote_or_backslash b) false e).0).1
-unjoined (b ∷ c ∷ cs) e = unjoined (c ∷ cs) (neither (is_quote_or_backslash b) (list_any is_quote_or_backslash (c ∷ cs)) e).1
+unjoined (b ∷ []) e = (or_parts (is_quote b) (b == 92) (or_parts (is_quote_or_backslash b) false e).0).1
+unjoined (b ∷ c ∷ cs) e = unjoined (c ∷ cs) (or_parts (is_quote_or_backslash b) (list_any is_quote_or_backslash (c ∷ cs)) e).1
 
 -- the two tests of a plain text
 both : (p q : Bool) → (p && not q) ≡ true → (p ≡ true) × (q ≡ false)

@@ -1,7 +1,8 @@
 -- The words of a text, byte by byte.
-use Rattle.std.proofs.Common.{◌≡◌, ℕ, ◌+◌, ◌-◌, ◌<◌, ◌≤◌, ◌==◌, ◌||◌, Bool, true, false, Option, List, [], ◌∷◌, ◌++◌, length, map, filter, get_or, drop, slice_range, refl, sym, ap, ◌∙◌, append_assoc, append-nil, arith}
+use Rattle.std.proofs.Common.{◌≡◌, ℕ, ◌+◌, ◌-◌, ◌<◌, ◌≤◌, ◌==◌, Bool, true, false, Option, List, [], ◌∷◌, ◌++◌, length, map, filter, get_or, drop, slice_range, refl, sym, ap, ◌∙◌, append_assoc, append-nil, arith}
 use Rattle.std.proofs.lemmas.List.{at_drop_more, take_more, get_or-drop, length-drop}
 use Rattle.std.specs.List.{slice_split, onto_first}
+use Rattle.std.proofs.lemmas.Bool.{or_parts}
 use Rattle.crm_lex.specs.RawLines.{is_blank}
 use Rattle.crm_lex.specs.Words.{first_byte, is_quote, piece_at, place_after, pieces, is_gap, has_pieces, letters, words_of}
 use Rattle.crm_lex.specs.Parts.{first_letters, later_words, word_on, words_behind, ends_plain, ends_word, PlainBetween}
@@ -57,19 +58,14 @@ word_more place after piece next text at within n p a g =
       behind = at_drop_more (words_behind place) text at 0 within ∙ (words_behind-cons place b rest gap ∙ rw same_place refl);
     }
 
--- outside quotes: a byte that stands for itself, and where none is left
-pub neither : (p q : Bool) → (p || q) ≡ false → (p ≡ false) × (q ≡ false)
-neither true q e = cc
-neither false q e = (refl, e)
-
 pub plain_here : (text : List ℕ) (from : ℕ) → PlainBetween text from from
 plain_here text from = let none : from - from ≡ 0 = omega arith in record { letters = rw none refl; behind = refl }
 
 plain_word : (text : List ℕ) (at : ℕ) → at < length text → ends_plain (get_or text at 0) ≡ false → Goes Outside Outside (Letter (get_or text at 0)) text at
 plain_word text at within e =
     let b = get_or text at 0 in
-    let no_blank = neither (is_blank b) (is_quote b) e in
-    let no_quote = neither (b == 34) (b == 39) no_blank.1 in
+    let no_blank = or_parts (is_blank b) (is_quote b) e in
+    let no_quote = or_parts (b == 34) (b == 39) no_blank.1 in
     word_more Outside Outside (Letter b) (first_byte (drop (at + 1) text)) text at within refl (rw (no_blank.0, no_quote.0, no_quote.1) refl) (rw (no_quote.0, no_quote.1) refl) refl
 
 pub plain_more : (text : List ℕ) (from at : ℕ) → from ≤ at → at < length text → ends_plain (get_or text at 0) ≡ false → PlainBetween text from at → PlainBetween text from (at + 1)

@@ -1,7 +1,8 @@
 -- What the parts of a text say of its moment.
-use Rattle.std.proofs.Common.{◌≡◌, ℕ, ◌+◌, ◌<◌, Bool, true, false, ◌||◌, List, length, get_or, take, drop, ℤ, ◌+ℤ◌, ◌-ℤ◌, Option, Some, None, refl, sym, ap, ◌∙◌}
+use Rattle.std.proofs.Common.{◌≡◌, ℕ, ◌+◌, ◌<◌, true, false, List, length, get_or, take, drop, ℤ, ◌+ℤ◌, ◌-ℤ◌, Option, Some, None, refl, sym, ap, ◌∙◌}
 use Rattle.std.specs.Option.{option_and_then, option_map}
 use Rattle.std.specs.Prelude.{codes}
+use Rattle.lemmas.proofs.Booleans.{either}
 use Rattle.date_rules.specs.Digits.{has_form, HasTwoDigits}
 use Rattle.date_rules.specs.Instant.{is_empty, midnight, is_time, time_of_day, offset, after_midnight, instant}
 use Rattle.date_rules.proofs.FormLemmas.{has_two_digits, has_form-short}
@@ -14,10 +15,6 @@ instant-short text short = rw (has_form-short (codes "0000-00-00") text 10 short
 -- and no time of day
 pub after_midnight-short : (text : List ℕ) → is_empty text ≡ false → length text < 9 → None ≡ after_midnight text
 after_midnight-short text some short = rw (some, has_form-short (codes "T00:00:00") text 9 short refl, has_form-short (codes " 00:00:00") text 9 short refl) refl
-
-either : (a b : Bool) {P : Type 0} → (a || b) ≡ true → (a ≡ true → P) → (b ≡ true → P) → P
-either true b h f g = f refl
-either false b h f g = g h
 
 -- two digits stand in a time of day
 pub time_digits : (text : List ℕ) (place : ℕ) → is_time text ≡ true → get_or (codes "T00:00:00") place 0 ≡ 48 → get_or (codes "T00:00:00") (place + 1) 0 ≡ 48 → get_or (codes " 00:00:00") place 0 ≡ 48 → get_or (codes " 00:00:00") (place + 1) 0 ≡ 48 → place + 1 < 9 → HasTwoDigits text place

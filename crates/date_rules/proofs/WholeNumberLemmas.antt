@@ -7,6 +7,7 @@ use Rattle.std.specs.Str.Parse.{IsNumeral, ParsesSigned, without_leading_sign, s
 use Rattle.std.proofs.lemmas.Str.{IsUtf8-from_ascii}
 use Rattle.std.proofs.lemmas.Str.Parse.{tells_all_ascii_digits, numerals_by_value}
 use Rattle.std.proofs.lemmas.Bool.Decides.{nat_tests}
+use Rattle.std.proofs.lemmas.Bool.{and_parts}
 use Rattle.date_rules.specs.WholeNumber.{is_in_range, is_digits, whole_number}
 
 -- a test that decides when there is a number decides what there is
@@ -15,10 +16,6 @@ by_test true v (Ok x) f g h = ap Some h.1
 by_test true v (Err e) f g h = absurd (h (f refl))
 by_test false v (Ok x) f g h = absurd (cc (g h.0))
 by_test false v (Err e) f g h = refl
-
-both_true : (a b : Bool) → (a && b) ≡ true → (a ≡ true) × (b ≡ true)
-both_true true b h = (refl, h)
-both_true false b h = absurd (cc)
 
 -- the range that is tested is that of an i64
 range_fits : (z : ℤ) → is_in_range z ≡ true → FitsSigned w64 z
@@ -32,7 +29,7 @@ fits_range (negsuc n) h = let f = h.sfits in grind (arith, nat_tests)
 -- digits are a numeral, and the other way round
 digits_numeral : (ds : List ℕ) → is_digits ds ≡ true → IsNumeral 10 ds
 digits_numeral ds h =
-    let p = both_true (not (nat_eq (length ds) 0)) (all_ascii_digits ds) h in
+    let p = and_parts (not (nat_eq (length ds) 0)) (all_ascii_digits ds) h in
     let some : 0 < length ds = grind (arith, nat_tests) in
     (some, (numerals_by_value _ tells_all_ascii_digits).to ds p.1)
 
@@ -45,15 +42,15 @@ numeral_digits ds h =
 -- what `parse` reads
 pub whole_number-parsed : {E : Type 0} (text : List ℕ) (r : Result ℤ E) → ParsesSigned w64 10 text r → result_ok r ≡ whole_number text
 whole_number-parsed text r h = by_test (is_digits (without_leading_sign text) && is_in_range (signed_digits_value 10 text)) (signed_digits_value 10 text) r
-    (λ t. let p = both_true _ _ t in (digits_numeral (without_leading_sign text) p.0, range_fits (signed_digits_value 10 text) p.1))
+    (λ t. let p = and_parts _ _ t in (digits_numeral (without_leading_sign text) p.0, range_fits (signed_digits_value 10 text) p.1))
     (λ p. λ i. numeral_digits (without_leading_sign text) p.0 i && fits_range (signed_digits_value 10 text) p.1 i)
     h
 
 -- digits are ASCII
 ascii_digits : (ds : List ℕ) → all_ascii_digits ds ≡ true → (i : ℕ) → get_or ds i 0 < 128
 ascii_digits [] h i = omega arith
-ascii_digits (c ∷ cs) h zero = let t = (both_true (is_ascii_digit c) (all_ascii_digits cs) h).0 in grind (arith, nat_tests)
-ascii_digits (c ∷ cs) h (suc i) = ascii_digits cs (both_true (is_ascii_digit c) (all_ascii_digits cs) h).1 i
+ascii_digits (c ∷ cs) h zero = let t = (and_parts (is_ascii_digit c) (all_ascii_digits cs) h).0 in grind (arith, nat_tests)
+ascii_digits (c ∷ cs) h (suc i) = ascii_digits cs (and_parts (is_ascii_digit c) (all_ascii_digits cs) h).1 i
 
 -- and so are digits after a sign
 ascii_signed : (c : ℕ) (cs : List ℕ) (minus plus : Bool) → nat_eq c 45 ≡ minus → nat_eq c 43 ≡ plus → all_ascii_digits (cond minus cs (drop (cond plus 1 0) (c ∷ cs))) ≡ true → (i : ℕ) → get_or (c ∷ cs) i 0 < 128
@@ -74,4 +71,4 @@ by_false false v n = refl
 -- bytes that are no text write no whole number
 pub whole_number-not_utf8 : (text : List ℕ) → ¬ IsUtf8 text → None ≡ whole_number text
 whole_number-not_utf8 text n = by_false (is_digits (without_leading_sign text) && is_in_range (signed_digits_value 10 text)) (signed_digits_value 10 text)
-    (λ t. n (IsUtf8-from_ascii text (ascii_numeral text (both_true _ _ (both_true _ _ t).0).1)))
+    (λ t. n (IsUtf8-from_ascii text (ascii_numeral text (and_parts _ _ (and_parts _ _ t).0).1)))

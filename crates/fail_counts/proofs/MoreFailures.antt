@@ -1,10 +1,10 @@
 -- What one more event is to the failures of a cell.
-use Rattle.std.proofs.Common.{◌≡◌, ℕ, ◌+◌, ◌-◌, ◌≤◌, min, Bool, true, false, not, ◌&&◌, ◌||◌, if◌then◌else◌, Option, Some, None, List, [], ◌∷◌, ◌++◌, length, filter, reverse, refl, ap, ◌∙◌, length-append, append-nil, arith}
+use Rattle.std.proofs.Common.{◌≡◌, ℕ, ◌+◌, ◌-◌, ◌≤◌, min, Bool, true, false, not, ◌&&◌, if◌then◌else◌, Option, Some, None, List, [], ◌∷◌, ◌++◌, length, filter, reverse, refl, ap, ◌∙◌, length-append, append-nil, arith}
 use Rattle.std.proofs.lemmas.List.{drop-append-le, drop_all, reverse-append, length-reverse}
 use Rattle.std.proofs.lemmas.List.Elements.{filter-append}
-use Rattle.std.proofs.lemmas.List.Folds.{list_any-append}
 use Rattle.std.proofs.lemmas.List.Sums.{prefix_len-le-length}
-use Rattle.std.specs.List.{list_any, last_or, after_last, suffix_len}
+use Rattle.std.specs.List.{last_or, after_last, suffix_len}
+use Rattle.lemmas.proofs.Searches.{any-more}
 use Rattle.cluster_types.specs.declared.cluster.Cluster.{Cluster}
 use Rattle.cluster_types.specs.declared.journal.Event.{Event}
 use Rattle.cluster_types.specs.Cells.{is_reset}
@@ -33,13 +33,6 @@ module _ {X : Type 0} (p : X → Bool) (xs : List X) (x : X) where
 pub last-more : {X : Type 0} (o : Option X) (xs : List X) (x : X) → last_or o (xs ++ x ∷ []) ≡ Some x
 last-more o [] x = refl
 last-more o (y ∷ xs) x = last-more (Some y) xs x
-
-or_false : (b : Bool) → (b || false) ≡ b
-or_false true = refl
-or_false false = refl
-
-pub any-more : {X : Type 0} (p : X → Bool) (xs : List X) (x : X) → list_any p (xs ++ x ∷ []) ≡ (list_any p xs || p x)
-any-more p xs x = list_any-append p xs (x ∷ []) ∙ ap (λ b. list_any p xs || b) (or_false (p x))
 
 tally-more : (c : Cluster) (found : List Event) (e : Event) → tally_of c (found ++ e ∷ []) ≡ with_failure c (tally_of c found) e
 tally-more c found e =

@@ -4,9 +4,10 @@ use Rattle.std.specs.List.{IsDistinct, range_with_len}
 use Rattle.std.proofs.lemmas.Bool.{eqb-true, eqb-false, eq-eqb, both_ways}
 use Rattle.std.proofs.lemmas.Map.Keys.{IsDistinct-cons}
 use Rattle.std.proofs.lemmas.Map.Made.{is_member-filter}
+use Rattle.std.proofs.Math.Bool.{and-true}
+use Rattle.lemmas.proofs.Booleans.{sooner, later}
 use Rattle.loops.specs.declared.edge.Edge.{Edge}
 use Rattle.loops.specs.Clearing.{Clears, has, edges_from}
-use Rattle.loops.proofs.Booleans.{sooner, later, and_true}
 use Rattle.loops.proofs.Counts.{count_agree, count_none}
 use Rattle.loops.proofs.Members.{equal_laws, has_at, none_all}
 
@@ -72,7 +73,7 @@ module _ (positions : ℕ) (edges : List Edge) (waiting : List ℕ) (size : leng
       → slice_index_or waiting x 0 ≡ count_by (λ e. x == e.before && not (has (take 0 first) e.after)) edges + count_by (◌==◌ x) []
   all_counted x lt =
       let c = counted x lt in
-      let a = count_agree (λ e. x == e.before && true) (λ e. x == e.before) (λ e. and_true (x == e.before)) edges in
+      let a = count_agree (λ e. x == e.before && true) (λ e. x == e.before) (λ e. and-true (x == e.before)) edges in
       omega arith
 
   all_ready : (x : ℕ) → x < positions → has first x ≡ is_done x

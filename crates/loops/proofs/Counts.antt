@@ -2,6 +2,7 @@
 use Rattle.std.proofs.Common.{arith, ◌≡◌, ◌<◌, ◌≤◌, ◌+◌, ◌==◌, ◌&&◌, ◌||◌, not, ℕ, suc, zero, Bool, true, false, List, [], ◌∷◌, length, count_by, cond, slice_index_or, refl, ap, ◌∙◌}
 use Rattle.std.specs.List.{list_any}
 use Rattle.std.proofs.lemmas.List.Sums.{sum_by-cons}
+use Rattle.std.proofs.Math.Bool.{or-false}
 use Rattle.loops.specs.declared.edge.Edge.{Edge}
 use Rattle.loops.specs.Clearing.{sources_of}
 
@@ -11,10 +12,6 @@ count-cons p x xs = sum_by-cons (λ x. cond (p x) 1 0) x xs
 moved : (b : Bool) (n : ℕ) → cond (b && true) 1 0 + n ≡ cond (b && false) 1 0 + (cond b 1 0 + n)
 moved true n = omega arith
 moved false n = omega arith
-
-pub either_false : (a : Bool) → (a || false) ≡ a
-either_false true = refl
-either_false false = refl
 
 -- more positions are taken: the edges into the new one don't lead beyond any more
 abbrev pub beyond : ℕ → (ℕ → Bool) → Edge → Bool
@@ -37,7 +34,7 @@ module _ (x y : ℕ) (before after : ℕ → Bool) (more : (a : ℕ) → after a
       let c = count-cons (◌==◌ x) e.before (sources_of es y) in
       rw (was, is, s, c) (moved (x == e.before) (count_by (◌==◌ x) (sources_of es y)))
   one_of e es false h =
-      let same : after e.after ≡ before e.after = rw (more e.after, h) (either_false (before e.after)) in
+      let same : after e.after ≡ before e.after = rw (more e.after, h) (or-false (before e.after)) in
       let s = sources_into e es y false h in
       rw (same, s) refl
 

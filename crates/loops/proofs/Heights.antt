@@ -1,14 +1,13 @@
 -- Edges without a loop rise in some height: how many positions lead to each.
 use Rattle.std.proofs.Common.{arith, ◌≡◌, ◌<◌, ◌≤◌, ◌+◌, ◌==◌, ◌||◌, ℕ, suc, zero, Bool, true, false, List, [], ◌∷◌, length, count_by, slice_index_or, refl, ◌∙◌, Contains}
 use Rattle.std.specs.List.{IsDistinct, range_with_len}
-use Rattle.std.proofs.lemmas.Bool.{eqb-true}
+use Rattle.std.proofs.lemmas.Bool.{eqb-true, or_right}
 use Rattle.std.proofs.lemmas.List.FromFn.{length-range_with_len, get_or-range_with_len}
 use Rattle.std.proofs.lemmas.Map.Keys.{IsDistinct-cons}
 use Rattle.std.proofs.lemmas.Map.Steps.{length-le_from_distinct_below}
 use Rattle.loops.specs.declared.edge.Edge.{Edge}
 use Rattle.loops.specs.Loops.{EndWithin, HasNoLoop, Leads, direct, through, leads_within, RiseSomehow}
 use Rattle.loops.specs.Clearing.{has}
-use Rattle.loops.proofs.Booleans.{either}
 use Rattle.loops.proofs.Counts.{count_one_more}
 use Rattle.loops.proofs.Endings.{begins_within}
 use Rattle.loops.proofs.Leading.{leads_directly, leads-from_computed, of_step}
@@ -61,7 +60,7 @@ module _ (positions : ℕ) (edges : List Edge) (ends : EndWithin positions edges
   short_way (suc n) seen _ _ (through e y c rest) m enough =
       let led : leads_within n edges e.after y ≡ true
       = short_way n (e.before ∷ seen) e.after y rest (met_more seen e c m) (omega arith) in
-      of_step n edges e.before y (record { edge = e; among = c; from = refl; on = either (e.after == y) _ led })
+      of_step n edges e.before y (record { edge = e; among = c; from = refl; on = or_right (e.after == y) _ led })
 
   begun_below : (x y : ℕ) → x < positions → (same : Bool) → (y == x) ≡ same → same || false ≡ true → y < positions
   begun_below x y lt true at h = let back : y ≡ x = eqb-true y x at in rw back lt

@@ -1,17 +1,15 @@
 -- Where edges lead, computed.
 use Rattle.std.proofs.Common.{arith, ◌≡◌, ◌≤◌, ◌==◌, ◌&&◌, ◌||◌, ℕ, suc, zero, Bool, true, false, List, refl, Contains, Any}
-use Rattle.std.specs.List.{list_any}
-use Rattle.std.proofs.lemmas.List.Folds.{Any-from_list_any, list_any_at}
+use Rattle.std.proofs.lemmas.List.Folds.{Any-from_list_any}
+use Rattle.std.proofs.lemmas.Bool.{and_from, or_right}
+use Rattle.lemmas.proofs.Booleans.{sooner, later}
+use Rattle.lemmas.proofs.Searches.{passes_by}
 use Rattle.loops.specs.declared.edge.Edge.{Edge}
 use Rattle.loops.specs.Loops.{Leads, direct, through, leads_within}
-use Rattle.loops.proofs.Booleans.{sooner, later, together, either}
 
 -- the edge leads on from x, and after it at most so many others to y
 abbrev pub leads_by : ℕ → List Edge → ℕ → ℕ → Edge → Bool
 leads_by most edges x y e = e.before == x && (e.after == y || leads_within most edges e.after y)
-
-pub passes_by : {X : Type 0} (p : X → Bool) (xs : List X) (x : X) → Contains xs x → p x ≡ true → list_any p xs ≡ true
-passes_by p xs x (k, lt, at) h = list_any_at p xs k x lt (rw at h)
 
 -- the first edge of a way, and what follows it
 pub record Step (most : ℕ) (edges : List Edge) (x y : ℕ) : Type 0 where
@@ -31,7 +29,7 @@ step_of most edges x y h = step_at most edges x y (Any-from_list_any (leads_by m
 pub of_step : (most : ℕ) (edges : List Edge) (x y : ℕ) → Step most edges x y → leads_within (suc most) edges x y ≡ true
 of_step most edges x y s =
     let same : (s.edge.before == x) ≡ true = let f = s.from in grind arith in
-    passes_by (leads_by most edges x y) edges s.edge s.among (together (s.edge.before == x) _ same s.on)
+    passes_by (leads_by most edges x y) edges s.edge s.among (and_from (s.edge.before == x) _ same s.on)
 
 -- one edge
 pub leads_directly : (most : ℕ) (edges : List Edge) (e : Edge) → Contains edges e → leads_within (suc most) edges e.before e.after ≡ true
@@ -47,9 +45,9 @@ further_on : (n : ℕ) (edges : List Edge) (x : ℕ) (e : Edge) → Contains edg
 further_on n edges x e c s true at on next =
     let met : s.edge.after ≡ e.before = grind arith in
     let d : leads_within (suc n) edges s.edge.after e.after ≡ true = rw met (leads_directly n edges e c) in
-    of_step (suc n) edges x e.after (record { edge = s.edge; among = s.among; from = s.from; on = either _ _ d })
+    of_step (suc n) edges x e.after (record { edge = s.edge; among = s.among; from = s.from; on = or_right _ _ d })
 further_on n edges x e c s false at on next =
-    of_step (suc n) edges x e.after (record { edge = s.edge; among = s.among; from = s.from; on = either _ _ (next on) })
+    of_step (suc n) edges x e.after (record { edge = s.edge; among = s.among; from = s.from; on = or_right _ _ (next on) })
 
 pub leads_further : (n : ℕ) (edges : List Edge) (x : ℕ) (e : Edge) → Contains edges e → leads_within n edges x e.before ≡ true
     → leads_within (suc n) edges x e.after ≡ true
@@ -66,7 +64,7 @@ longer_on : (m n : ℕ) (edges : List Edge) (x y : ℕ) → (s : Step m edges x 
 longer_on m n edges x y s true at on next =
     of_step n edges x y (record { edge = s.edge; among = s.among; from = s.from; on = rw at refl })
 longer_on m n edges x y s false at on next =
-    of_step n edges x y (record { edge = s.edge; among = s.among; from = s.from; on = either _ _ (next on) })
+    of_step n edges x y (record { edge = s.edge; among = s.among; from = s.from; on = or_right _ _ (next on) })
 
 pub leads_longer : (m n : ℕ) (edges : List Edge) (x y : ℕ) → m ≤ n → leads_within m edges x y ≡ true → leads_within n edges x y ≡ true
 leads_longer zero n edges x y le h = cc

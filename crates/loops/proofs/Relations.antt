@@ -1,12 +1,14 @@
 -- What follows one another in some relation, computed over steps, follows along edges between the positions of the things related.
 use Rattle.std.proofs.Common.{◌≡◌, ◌==◌, ◌&&◌, ◌||◌, ℕ, suc, zero, Bool, true, false, List, refl, sym, ◌∙◌, Contains, Any}
 use Rattle.std.specs.List.{list_any}
-use Rattle.std.proofs.lemmas.Bool.{both_ways}
+use Rattle.std.proofs.lemmas.Bool.{both_ways, and_from}
 use Rattle.std.proofs.lemmas.List.Folds.{Any-from_list_any}
+use Rattle.lemmas.proofs.Booleans.{sooner, later}
+use Rattle.lemmas.proofs.Searches.{passes_by}
 use Rattle.loops.specs.declared.edge.Edge.{Edge}
 use Rattle.loops.specs.Loops.{HasLoop, HasNoLoop, leads_within}
-use Rattle.loops.proofs.Booleans.{later, onward, sooner, together}
-use Rattle.loops.proofs.Leading.{Step, of_step, passes_by, step_of}
+use Rattle.loops.proofs.Booleans.{onward}
+use Rattle.loops.proofs.Leading.{Step, of_step, step_of}
 
 -- an edge for a way from s
 pub record EdgeFor {A W : Type 0} (target : W → A) (edges : List Edge) (pos : A → ℕ) (w : W) (s : A) : Type 0 where
@@ -70,7 +72,7 @@ module _ {A W : Type 0} (starts : W → A → Bool) (target : W → A) (same : A
       let on : (pos (target w.way) == pos t) || leads_within n edges (pos (target w.way)) (pos t) ≡ true = rw w.to at l.on in
       let then : (pos (target w.way) == pos t) || F n (target w.way) t ≡ true
       = onward (pos (target w.way) == pos t) _ _ (of_leads way_for n (target w.way) t) on in
-      more n s t ∙ passes_by (way_by n s t) ways w.way w.among (together (starts w.way s) _ w.begins (rw (alike w.way t w.among) then))
+      more n s t ∙ passes_by (way_by n s t) ways w.way w.among (and_from (starts w.way s) _ w.begins (rw (alike w.way t w.among) then))
 
   -- so edges have no loop just where nothing follows itself
 

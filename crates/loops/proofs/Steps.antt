@@ -4,11 +4,12 @@ use Rattle.std.proofs.lemmas.Bool.{cases_eq, cases_lt, or_cases, eqb-true, eqb-f
 use Rattle.std.proofs.lemmas.List.{get_or-set_same, get_or-set_other, get_or_past, get_or_append_left, get_or_push, length-set, take-append-le, take_all, take_more, length_push}
 use Rattle.std.proofs.lemmas.List.Folds.{Any-from_list_any}
 use Rattle.std.proofs.lemmas.Map.Keys.{IsDistinct-push}
+use Rattle.std.proofs.Math.Bool.{or-false}
+use Rattle.lemmas.proofs.Booleans.{sooner, unless}
 use Rattle.loops.specs.declared.edge.Edge.{Edge}
 use Rattle.loops.specs.Loops.{EndWithin}
 use Rattle.loops.specs.Clearing.{Clears, LeadsBack, cleared_then, less_one, has, sources_of, edges_beyond}
-use Rattle.loops.proofs.Booleans.{unless, sooner}
-use Rattle.loops.proofs.Counts.{count-is, count_none, count_some, beyond, beyond_more, either_false}
+use Rattle.loops.proofs.Counts.{count-is, count_none, count_some, beyond, beyond_more}
 use Rattle.loops.proofs.Members.{equal_laws, has_push, has_front, not_before}
 
 -- A position is taken: the edges into it are to be counted off.
@@ -111,7 +112,7 @@ module _ (positions : ℕ) (edges : List Edge) (taken p : ℕ) (pending waiting 
       → has (cleared ++ p ∷ []) x ≡ (slice_index_or (less_one waiting p) x 0 == 0)
   ready_now one x within = elim (cases_eq x p) [
     | inl e ↦ rw (e, has_push cleared p p) (let l = left_there in let w = p_waits in grind arith)
-    | inr differ ↦ rw (left_elsewhere x differ, has_push cleared p x, ne_eqb x p differ) (either_false (has cleared x) ∙ c.ready x within)
+    | inr differ ↦ rw (left_elsewhere x differ, has_push cleared p x, ne_eqb x p differ) (or-false (has cleared x) ∙ c.ready x within)
   ]
 
   leads_to_taken : slice_index_or waiting p 0 ≡ 1 → (e : Edge) → Contains edges e → e.before ≡ p → has cleared e.after ≡ true

@@ -1,10 +1,10 @@
 -- The nodes that are unclean by their states, and those that are to be fenced.
-use Rattle.std.proofs.Common.{◌≡◌, ℕ, zero, suc, ◌+◌, ◌<◌, Bool, true, false, if◌then◌else◌, Some, List, [], ◌∷◌, ◌++◌, length, map, filter, slice_get, refl, sym, ap, subst, ◌∙◌, map-id, append-nil, arith}
-use Rattle.std.proofs.lemmas.List.Elements.{filter-append}
-use Rattle.std.proofs.lemmas.List.FromFn.{map-range_with_len_more, get_or-map-range_with_len, length-map-range_with_len}
+use Rattle.std.proofs.Common.{◌≡◌, ℕ, ◌<◌, true, false, Some, List, [], length, map, filter, slice_get, refl, sym, ap, ◌∙◌, arith}
+use Rattle.std.proofs.lemmas.List.FromFn.{get_or-map-range_with_len, length-map-range_with_len}
 use Rattle.std.proofs.lemmas.Option.{slice_get-get_or}
 use Rattle.std.specs.List.{range_with_len}
 use Rattle.std.specs.Option.{option_map_or}
+use Rattle.lemmas.proofs.Ranges.{filter-same, filter-none}
 use Rattle.cluster_types.specs.declared.cluster.Cluster.{Cluster}
 use Rattle.cluster_types.specs.declared.journal.Event.{Event}
 use Rattle.cluster_types.specs.declared.journal.Promotion.{Promotion}
@@ -13,29 +13,6 @@ use Rattle.cluster_types.specs.NodeStates.{node_state, is_unclean_state}
 use Rattle.cluster_types.specs.Rights.{may_fence, is_to_be_fenced}
 use Rattle.cluster_types.specs.Unpacked.{states_of}
 use Rattle.quorum_fence.specs.Unclean.{unclean_in}
-
-range-more : (n : ℕ) → range_with_len 0 (n + 1) ≡ range_with_len 0 n ++ n ∷ []
-range-more n = sym (map-id (range_with_len 0 (n + 1))) ∙ (map-range_with_len_more (λ k. k) 0 n n (omega arith) ∙ ap (λ xs. xs ++ n ∷ []) (map-id (range_with_len 0 n)))
-
--- one more number
-pub filter-more : (p : ℕ → Bool) (n : ℕ) (here : Bool) → p n ≡ here → filter p (range_with_len 0 (n + 1)) ≡ filter p (range_with_len 0 n) ++ (if here then n ∷ [] else [])
-filter-more p n true e = ap (filter p) (range-more n) ∙ (filter-append p (range_with_len 0 n) (n ∷ []) ∙ rw e refl)
-filter-more p n false e = ap (filter p) (range-more n) ∙ (filter-append p (range_with_len 0 n) (n ∷ []) ∙ rw e refl)
-
--- the same numbers, by tests that agree on them
-filter-same : (p q : ℕ → Bool) (n : ℕ) → ((i : ℕ) → i < n → p i ≡ q i) → filter p (range_with_len 0 n) ≡ filter q (range_with_len 0 n)
-filter-same p q zero h = refl
-filter-same p q (suc n) h =
-    let on : suc n ≡ n + 1 = omega arith in
-    let before = filter-same p q n (λ i low. h i (omega (arith, low))) in
-    subst (λ k. filter p (range_with_len 0 k) ≡ filter q (range_with_len 0 k)) (sym on)
-    (filter-more p n (q n) (h n (omega arith)) ∙ (ap (λ xs. xs ++ (if q n then n ∷ [] else [])) before ∙ sym (filter-more q n (q n) refl)))
-
-filter-none : (n : ℕ) → filter (λ (i : ℕ). false) (range_with_len 0 n) ≡ []
-filter-none zero = refl
-filter-none (suc n) =
-    let on : suc n ≡ n + 1 = omega arith in
-    subst (λ k. filter (λ (i : ℕ). false) (range_with_len 0 k) ≡ []) (sym on) (filter-more (λ i. false) n false refl ∙ (append-nil _ ∙ filter-none n))
 
 module _ (c : Cluster) (es : List Event) (promotions : List Promotion) (states : States) (told : states ≡ states_of c es promotions) where
   state-is : (n : ℕ) → n < length c.nodes → slice_get states.nodes n ≡ Some (node_state c n es)

@@ -5,6 +5,7 @@ use Rattle.std.proofs.lemmas.Grind.{flat_map-append}
 use Rattle.std.proofs.lemmas.List.{take_more, append_assoc, append-nil, map-append}
 use Rattle.std.proofs.lemmas.List.FromFn.{map-range_with_len_more}
 use Rattle.std.proofs.lemmas.List.Elements.{filter-append}
+use Rattle.lemmas.proofs.Ranges.{range-more}
 use Rattle.loops.specs.declared.edge.Edge.{Edge}
 use Rattle.cluster_types.specs.declared.cluster.Cluster.{Cluster}
 use Rattle.cluster_types.specs.declared.rules.Order.{Order}
@@ -31,12 +32,6 @@ range_more a (suc n) =
     let e : a + 1 + n ≡ a + suc n = omega arith in
     ap (λ xs. a ∷ xs) (rw e at h)
 
-range_then : (n : ℕ) → range_with_len 0 (n + 1) ≡ range_with_len 0 n ++ n ∷ []
-range_then n =
-    let e : n + 1 ≡ suc n = omega arith in
-    let z : 0 + n ≡ n = omega arith in
-    rw e (rw z at (range_more 0 n))
-
 -- the links of one leaf more
 pub leaf_then : (c : Cluster) (n : ℕ) (before after : List Edge) → before ≡ edges_of c (flat_map leaf_links (range_with_len 0 n))
     → after ≡ before ++ edges_of c (leaf_links n)
@@ -44,7 +39,7 @@ pub leaf_then : (c : Cluster) (n : ℕ) (before after : List Edge) → before �
 leaf_then c n before after h more =
     let so_far : List Link = flat_map leaf_links (range_with_len 0 n) in
     let whole : flat_map leaf_links (range_with_len 0 (n + 1)) ≡ flat_map leaf_links (range_with_len 0 n) ++ leaf_links n
-    = ap (flat_map leaf_links) (range_then n) ∙ flat_map-append leaf_links (range_with_len 0 n) (n ∷ []) in
+    = ap (flat_map leaf_links) (range-more n) ∙ flat_map-append leaf_links (range_with_len 0 n) (n ∷ []) in
     more ∙ ap (λ t. t ++ edges_of c (leaf_links n)) h ∙ sym (edges_joined c (flat_map leaf_links (range_with_len 0 n)) (leaf_links n))
     ∙ ap (edges_of c) (sym whole)
 

@@ -1,13 +1,13 @@
 -- The needs of decisions as edges.
 use Rattle.std.proofs.Common.{arith, ◌≡◌, ◌<◌, ◌+◌, ◌*◌, ◌==◌, ◌&&◌, ◌||◌, not, ℕ, suc, zero, Bool, true, false, List, [], ◌∷◌, ◌++◌, map, length, refl, sym, ap, inl, inr, Contains, Any}
 use Rattle.std.specs.List.{flat_map, list_any, range_with_len}
-use Rattle.std.proofs.lemmas.Bool.{ne_eqb}
+use Rattle.std.proofs.lemmas.Bool.{ne_eqb, and_from, or_right}
 use Rattle.std.proofs.lemmas.List.Elements.{Contains-append_left, Contains-append_right, Contains-append_cases}
 use Rattle.std.proofs.lemmas.List.Folds.{Any-from_list_any}
 use Rattle.std.proofs.lemmas.List.FromFn.{map-range_with_len_more}
+use Rattle.lemmas.proofs.Booleans.{sooner, later}
+use Rattle.lemmas.proofs.Searches.{passes_by}
 use Rattle.loops.specs.declared.edge.Edge.{Edge}
-use Rattle.loops.proofs.Booleans.{either, later, sooner, together}
-use Rattle.loops.proofs.Leading.{passes_by}
 use Rattle.loops.proofs.Relations.{EdgeFor, WayFor}
 use Rattle.cluster_types.specs.declared.cluster.Cluster.{Cluster}
 use Rattle.cluster_types.specs.declared.leaf.Role.{Role}
@@ -163,9 +163,9 @@ module _ (c : Cluster) (joined : (col : Colocation) → Contains c.colocations c
       record {
         way = decision_of col.primary col.primary_role;
         among = decision_there c (decision_of col.primary col.primary_role) lt;
-        begins = either (not (is_place s) && is_same_decision (decision_of col.primary col.primary_role) (Place (leaf_of s))) _
+        begins = or_right (not (is_place s) && is_same_decision (decision_of col.primary col.primary_role) (Place (leaf_of s))) _
             (passes_by (joins s (decision_of col.primary col.primary_role)) c.colocations col m.among
-            (together (is_same_decision s (decision_of col.dependent col.dependent_role)) _
+            (and_from (is_same_decision s (decision_of col.dependent col.dependent_role)) _
             (rw starts (is_itself (decision_of col.dependent col.dependent_role)))
             (is_itself (decision_of col.primary col.primary_role))));
         to = sym (ap (λ (x : Edge). x.after) m.gives);

@@ -1,7 +1,7 @@
 -- Steps and their positions.
 use Rattle.std.proofs.Common.{arith, ◌≡◌, ◌≢◌, ◌<◌, ◌+◌, ◌*◌, ◌==◌, ℕ, Bool, true, false, refl, ◌∙◌, ap}
-use Rattle.std.proofs.lemmas.Bool.{ne_eqb}
-use Rattle.loops.proofs.Booleans.{later, sooner, together}
+use Rattle.std.proofs.lemmas.Bool.{ne_eqb, and_from}
+use Rattle.lemmas.proofs.Booleans.{sooner, later}
 use Rattle.cluster_types.specs.declared.leaf.Op.{Op}
 use Rattle.cluster_types.specs.declared.leaf.Op.TheVariants.{Start, Stop, Promote, Demote, Monitor}
 use Rattle.cluster_types.specs.Numbers.{StepOf, is_same_step}
@@ -96,7 +96,7 @@ same_step a b h =
     step_is a b (same_op a.what b.what (sooner (is_same_op a.what b.what) _ h)) (grind arith)
 
 pub step_itself : (a : StepOf) → is_same_step a a ≡ true
-step_itself a = together (is_same_op a.what a.what) _ (op_itself a.what) (grind arith)
+step_itself a = and_from (is_same_op a.what a.what) _ (op_itself a.what) (grind arith)
 
 pub same_spot : (n : ℕ) (a b : StepOf) → Stands n a → spot n a ≡ spot n b → a ≡ b
 same_spot n a b s h = let k = same_spot_of n a.what b.what a.leaf b.leaf s.changes s.within h in step_is a b k.op k.leaf

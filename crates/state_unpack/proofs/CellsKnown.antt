@@ -5,6 +5,9 @@ use Rattle.std.proofs.lemmas.List.FromFn.{get_or-map-range_with_len, length-map-
 use Rattle.std.proofs.lemmas.Option.{slice_get-get_or, slice_get_within, get_or_from_slice_get}
 use Rattle.std.specs.List.{list_all, list_any, last_or, enumerate_from, flat_map, range_with_len}
 use Rattle.std.specs.Option.{option_map, option_map_or}
+use Rattle.std.proofs.lemmas.Bool.{and_parts}
+use Rattle.lemmas.proofs.Searches.{any-more}
+use Rattle.lemmas.proofs.Ranges.{map-more, range-more, flat_map-more}
 use Rattle.cluster_types.specs.declared.cluster.Cluster.{Cluster}
 use Rattle.cluster_types.specs.declared.journal.Event.{Event}
 use Rattle.cluster_types.specs.declared.leaf.Leaf.{Leaf}
@@ -18,7 +21,6 @@ use Rattle.cluster_types.specs.NodeStates.{node_state, state_by, is_online_state
 use Rattle.cluster_types.specs.Unpacked.{cell_at}
 use Rattle.cluster_types.specs.Valid.{IsValid}
 use Rattle.fail_counts.specs.Tally.{tally_of, tally_counted, has_passed}
-use Rattle.fail_counts.proofs.MoreFailures.{any-more}
 use Rattle.state_unpack.specs.declared.facts.Facts.{Facts}
 use Rattle.state_unpack.specs.declared.signs.Sign.{Sign}
 use Rattle.state_unpack.specs.declared.signs.Sign.TheVariants as sign
@@ -26,8 +28,6 @@ use Rattle.state_unpack.specs.Facts.{facts_of, no_facts}
 use Rattle.state_unpack.specs.Kept.{Keeps, cell_in}
 use Rattle.state_unpack.specs.Signs.{as_sign, Shows, state_by_sign}
 use Rattle.state_unpack.specs.CellsKept.{bits_of, counted_of, state_from, cell_from, somewhere, is_fatal, is_stopping, is_blamed, node_from, is_online_in, row_from, has_few_monitors}
-use Rattle.state_unpack.proofs.Told.{both}
-use Rattle.state_unpack.proofs.Ranges.{map-more, flat_map-more, range-more}
 
 -- lists of numbers up to a number, by what is the same for each of them
 pub map-same : {X : Type 0} (f g : ℕ → X) (n : ℕ) → ((i : ℕ) → i < n → f i ≡ g i) → map f (range_with_len 0 n) ≡ map g (range_with_len 0 n)
@@ -150,8 +150,8 @@ few-monitors c all r = split c.leaves r all
     split : (leaves : List Leaf) (i : ℕ) → list_all (λ (leaf : Leaf). nat_le (length leaf.monitors) 8) leaves ≡ true
         → length (option_map_or (λ (leaf : Leaf). leaf.monitors) (slice_get leaves i) []) ≤ 8
     split [] i h = omega arith
-    split (leaf ∷ leaves) zero h = let here = (both (nat_le (length leaf.monitors) 8) _ h).0 in grind (arith, nat_tests)
-    split (leaf ∷ leaves) (suc i) h = split leaves i (both (nat_le (length leaf.monitors) 8) _ h).1
+    split (leaf ∷ leaves) zero h = let here = (and_parts (nat_le (length leaf.monitors) 8) _ h).0 in grind (arith, nat_tests)
+    split (leaf ∷ leaves) (suc i) h = split leaves i (and_parts (nat_le (length leaf.monitors) 8) _ h).1
 
 -- a valid cluster has few
 pub valid-few : (c : Cluster) → IsValid c → has_few_monitors c ≡ true

@@ -3,5 +3,4 @@ pub mod Untouched
 pub mod StillFacts
 pub mod Told
 pub mod LastSigns
-pub mod Ranges
 pub mod CellsKnown

@@ -2,6 +2,7 @@
 use Rattle.std.proofs.Common.{◌≡◌, ℕ, Bool, true, false, not, ◌&&◌, ◌||◌, if◌then◌else◌, is_some, slice_get, Option, Some, None, List, [], ◌∷◌, ◌++◌, map, refl, ap, ◌∙◌, append-nil}
 use Rattle.std.specs.List.{list_any, last_or, after_last, range_with_len}
 use Rattle.std.specs.Option.{option_map_or}
+use Rattle.lemmas.proofs.Searches.{any-more}
 use Rattle.cluster_types.specs.declared.cluster.Cluster.{Cluster}
 use Rattle.cluster_types.specs.declared.journal.Event.{Event}
 use Rattle.cluster_types.specs.declared.leaf.Monitor.{Monitor}
@@ -10,7 +11,7 @@ use Rattle.cluster_types.specs.CellStates.{last_outcome, begins_sending_to, ends
 use Rattle.cluster_types.specs.Failures.{outcomes, is_outcome}
 use Rattle.cluster_types.specs.Fields.{monitors}
 use Rattle.cluster_types.proofs.MayLaws.{may-last, promoted-last}
-use Rattle.fail_counts.proofs.MoreFailures.{after_last-here, after_last-more, any-more, last-more, outcomes-reset, outcomes-more, in_force-after}
+use Rattle.fail_counts.proofs.MoreFailures.{after_last-here, after_last-more, last-more, outcomes-reset, outcomes-more, in_force-after}
 use Rattle.state_unpack.specs.Facts.{leaves_open, runs, answers, running_after, facts_of, facts_after}
 
 module _ (c : Cluster) (r n : ℕ) (es : List Event) (e : Event) where

@@ -1,6 +1,7 @@
 -- What is told of a cell stays as it is by an event that tells nothing of it.
-use Rattle.std.proofs.Common.{◌≡◌, ℕ, Bool, true, false, ◌&&◌, ◌||◌, slice_get, Option, Some, None, List, [], ◌∷◌, ◌++◌, refl, ◌∙◌}
+use Rattle.std.proofs.Common.{◌≡◌, ℕ, Bool, false, slice_get, Option, Some, None, List, [], ◌∷◌, ◌++◌, refl, ◌∙◌}
 use Rattle.std.specs.Option.{option_map_or}
+use Rattle.std.proofs.Math.Bool.{or-false, and-true}
 use Rattle.cluster_types.specs.declared.cluster.Cluster.{Cluster}
 use Rattle.cluster_types.specs.declared.journal.Event.{Event}
 use Rattle.cluster_types.specs.declared.leaf.Monitor.{Monitor}
@@ -12,14 +13,6 @@ use Rattle.state_unpack.specs.Touching.{touches}
 use Rattle.state_unpack.proofs.MoreFacts.{facts-after}
 use Rattle.state_unpack.proofs.Untouched.{no_reset, no_outcome, no_sending, no_end, no_answer, no_opening, no_closing, no_promotion, no_demotion, stays_in}
 
-or_false : (b : Bool) → (b || false) ≡ b
-or_false true = refl
-or_false false = refl
-
-and_true : (b : Bool) → (b && true) ≡ b
-and_true true = refl
-and_true false = refl
-
 module _ (c : Cluster) (r n : ℕ) (e : Event) (quiet : touches r n e ≡ false) where
   no_answer_of : (i : ℕ) → answers c r n e i ≡ false
   no_answer_of i = split (slice_get (monitors c r) i)
@@ -29,7 +22,7 @@ module _ (c : Cluster) (r n : ℕ) (e : Event) (quiet : touches r n e ≡ false)
       split (Some m) = no_answer r n m.interval_ms e quiet
 
   runs_on : (i : ℕ) (was : Bool) → runs_after c r n e i was ≡ was
-  runs_on i was = rw (no_end r n e quiet, no_answer_of i) (or_false was)
+  runs_on i was = rw (no_end r n e quiet, no_answer_of i) (or-false was)
 
   never_opens : opens c r n e ≡ false
   never_opens = rw (no_opening r n e quiet) refl
@@ -62,7 +55,7 @@ module _ (c : Cluster) (r n : ℕ) (e : Event) (quiet : touches r n e ≡ false)
         runs_on 6 (runs c r n es 6),
         runs_on 7 (runs c r n es 7),
       )
-      (rw (or_false (facts_of c r n es).seen, or_false (facts_of c r n es).awaited, and_true (may c r n es), and_true (is_left_promoted c r n es)) refl)
+      (rw (or-false (facts_of c r n es).seen, or-false (facts_of c r n es).awaited, and-true (may c r n es), and-true (is_left_promoted c r n es)) refl)
 
   pub facts-stay : (es : List Event) → facts_of c r n (es ++ e ∷ []) ≡ facts_of c r n es
   facts-stay es = facts-after c r n es e ∙ still es

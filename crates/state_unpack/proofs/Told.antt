@@ -4,6 +4,7 @@ use Rattle.std.proofs.lemmas.Bool.Decides.{nat_tests}
 use Rattle.std.proofs.lemmas.List.{length-set, length-replicate, get_or-replicate}
 use Rattle.std.proofs.lemmas.Option.{slice_get-get_or}
 use Rattle.std.specs.Option.{option_map, option_map_or}
+use Rattle.std.proofs.lemmas.Bool.{and_parts}
 use Rattle.cluster_types.specs.declared.cluster.Cluster.{Cluster}
 use Rattle.cluster_types.specs.declared.journal.Event.{Event}
 use Rattle.cluster_types.specs.declared.leaf.Monitor.{Monitor}
@@ -28,10 +29,6 @@ same_cell r n leaf node = rw (turned r leaf, turned n node) refl
     turned : (a b : ℕ) → (a == b) ≡ (b == a)
     turned a b = grind arith
 
-pub both : (p q : Bool) → (p && q) ≡ true → (p ≡ true) × (q ≡ true)
-both true q h = (refl, h)
-both false q h = cc
-
 module _ (c : Cluster) (e : Event) where
   -- one cell was told
   module _ (leaf node : ℕ) (cells : List Facts) (x d : Facts) (full : IsFull c cells) (has_leaf : leaf < length c.leaves) (has_node : node < length c.nodes)
@@ -52,7 +49,7 @@ module _ (c : Cluster) (e : Event) where
             → Some (if there then x else get_or cells (r * length c.nodes + n) d)
             ≡ (if is_same_cell r n leaf node then option_map (λ facts. facts_after c r n facts e) (cell_in c cells r n) else cell_in c cells r n)
         split r n low true true t s =
-            let parts = both (leaf == r) (node == n) s in
+            let parts = and_parts (leaf == r) (node == n) s in
             let leaves : leaf ≡ r = eqb-true leaf r parts.0 in
             let nodes : node ≡ n = eqb-true node n parts.1 in
             rw (s, slice_get-get_or cells (r * length c.nodes + n) d low, ← leaves, ← nodes) (ap Some is)
@@ -125,14 +122,14 @@ leaf_by_leaf r n leaf node = split (node == n) refl
 
 pub each_leaf_once : (r n leaf node : ℕ) → (nat_lt r leaf && node == n) ≡ true → is_same_cell r n leaf node ≡ false
 each_leaf_once r n leaf node h =
-    let parts = both (nat_lt r leaf) (node == n) h in
+    let parts = and_parts (nat_lt r leaf) (node == n) h in
     let other : (leaf == r) ≡ false = let low = parts.0 in grind (arith, nat_tests) in
     rw other refl
 
 -- two cells of a leaf
 pub each_node_once : (r n leaf source target : ℕ) → (target == source) ≡ false → is_same_cell r n leaf source ≡ true → is_same_cell r n leaf target ≡ false
 each_node_once r n leaf source target differ h =
-    let parts = both (leaf == r) (source == n) h in
+    let parts = and_parts (leaf == r) (source == n) h in
     let here = eqb-true source n parts.1 in
     let other : (target == n) ≡ false = ap (λ m. target == m) (sym here) ∙ differ in
     rw (parts.0, other) refl

@@ -1,5 +1,6 @@
 -- An event that tells nothing of a cell leaves it as it is.
-use Rattle.std.proofs.Common.{◌≡◌, ℕ, Bool, true, false, ◌||◌, refl}
+use Rattle.std.proofs.Common.{◌≡◌, ℕ, Bool, false, refl}
+use Rattle.std.proofs.lemmas.Bool.{or_parts}
 use Rattle.cluster_types.specs.declared.cluster.Cluster.{Cluster}
 use Rattle.cluster_types.specs.declared.journal.Action.{Action}
 use Rattle.cluster_types.specs.declared.journal.Action.TheVariants.{Fence, Probe, Cell, MigrateTo, MigrateFrom}
@@ -12,10 +13,6 @@ use Rattle.cluster_types.specs.Failures.{is_outcome}
 use Rattle.cluster_types.specs.May.{opens_cell, closes_cell, promotes_cell, demotes_cell, takes_out}
 use Rattle.state_unpack.specs.Touching.{action_touches, touches}
 
-neither : (p q : Bool) → (p || q) ≡ false → (p ≡ false) × (q ≡ false)
-neither true q e = cc
-neither false q e = (refl, e)
-
 module _ (r n : ℕ) where
   -- each thing that an event may tell of a cell
   pub no_reset : (e : Event) → touches r n e ≡ false → is_reset r n e ≡ false
@@ -27,15 +24,15 @@ module _ (r n : ℕ) where
   not_of_cell (Fence node) q = refl
   not_of_cell (Probe leaf node) q = q
   not_of_cell (Cell op leaf node interval role) q = q
-  not_of_cell (MigrateTo leaf source target) q = (neither (is_same_cell r n leaf source) (is_same_cell r n leaf target) q).0
-  not_of_cell (MigrateFrom leaf source target) q = (neither (is_same_cell r n leaf source) (is_same_cell r n leaf target) q).1
+  not_of_cell (MigrateTo leaf source target) q = (or_parts (is_same_cell r n leaf source) (is_same_cell r n leaf target) q).0
+  not_of_cell (MigrateFrom leaf source target) q = (or_parts (is_same_cell r n leaf source) (is_same_cell r n leaf target) q).1
 
   pub no_outcome : (c : Cluster) (e : Event) → touches r n e ≡ false → is_outcome c r n e ≡ false
   no_outcome c (Ended k a o moment) q = rw (not_of_cell a q) refl
   no_outcome c _ q = refl
 
   pub no_sending : (e : Event) → touches r n e ≡ false → begins_sending_to r n e ≡ false
-  no_sending (Begin k (MigrateTo leaf source target)) q = (neither (is_same_cell r n leaf source) (is_same_cell r n leaf target) q).1
+  no_sending (Begin k (MigrateTo leaf source target)) q = (or_parts (is_same_cell r n leaf source) (is_same_cell r n leaf target) q).1
   no_sending _ q = refl
 
   no_change : (a : Action) → action_touches r n a ≡ false → changes_cell r n a ≡ false
@@ -65,14 +62,14 @@ module _ (r n : ℕ) where
   no_opening (Begin k (Cell Start leaf node interval role)) q = q
   no_opening (Begin k (Cell Promote leaf node interval role)) q = q
   no_opening (Begin k (Cell Demote leaf node interval role)) q = q
-  no_opening (Begin k (MigrateTo leaf source target)) q = (neither (is_same_cell r n leaf source) (is_same_cell r n leaf target) q).1
-  no_opening (Begin k (MigrateFrom leaf source target)) q = (neither (is_same_cell r n leaf source) (is_same_cell r n leaf target) q).1
+  no_opening (Begin k (MigrateTo leaf source target)) q = (or_parts (is_same_cell r n leaf source) (is_same_cell r n leaf target) q).1
+  no_opening (Begin k (MigrateFrom leaf source target)) q = (or_parts (is_same_cell r n leaf source) (is_same_cell r n leaf target) q).1
   no_opening (Ended k (Cell Start leaf node interval role) o moment) q = q
   no_opening (Ended k (Cell Promote leaf node interval role) o moment) q = q
   no_opening (Ended k (Cell Demote leaf node interval role) o moment) q = q
   no_opening (Ended k (Cell Monitor leaf node interval role) o moment) q = rw q refl
   no_opening (Ended k (Probe leaf node) o moment) q = rw q refl
-  no_opening (Ended k (MigrateFrom leaf source target) o moment) q = (neither (is_same_cell r n leaf source) (is_same_cell r n leaf target) q).1
+  no_opening (Ended k (MigrateFrom leaf source target) o moment) q = (or_parts (is_same_cell r n leaf source) (is_same_cell r n leaf target) q).1
   no_opening _ q = refl
 
   pub no_closing : (e : Event) → touches r n e ≡ false → closes_cell r n e ≡ false

@@ -1,9 +1,9 @@
 use Rattle.std.proofs.Common.{rules, ◌≡◌, ◌++◌, ◌∷◌, [], ℕ, false, if◌then◌else◌, get_or, slice_get, sym, ap, ◌∙◌}
 use Rattle.std.proofs.lemmas.Option.{slice_get-get_or}
 use Rattle.std.specs.Option.{option_map_or}
+use Rattle.lemmas.proofs.Ranges.{filter-more}
 use Rattle.cluster_types.specs.declared.states.NodeState.TheVariants.{Online}
 use Rattle.cluster_types.specs.NodeStates.{is_unclean_state}
-use Rattle.quorum_fence.proofs.Fenced.{filter-more}
 use Rattle.quorum_fence.proofs.fencing.unclean_in.Goals as goal
 
 pub loop-node-preserved : goal.loop-node-preserved
