@@ -26,6 +26,11 @@ mod TermExamples
 mod MigrationExamples
 mod LineExamples
 mod ValidExamples
+pub mod Walks
+pub mod StatesKept
+pub mod Loads
+pub mod Moments
+pub mod SilentEnds
 pub mod GateGroups
 pub mod SourceLaws
 pub mod OneGate

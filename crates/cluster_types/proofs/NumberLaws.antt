@@ -41,7 +41,7 @@ by_rank_once : (a b : Place) → by_rank a b ≡ true → by_rank b a ≡ true �
 by_rank_once a b h k = by_first a.ranked b.ranked (by_leaf a b) (by_leaf b a) (by_leaf_once a b) h k
 
 -- a place isn't before itself, and of two places one is before the other at most
-not_both : (a b : Place) → is_before a b ≡ true → is_before b a ≡ true → ⊥
+pub not_both : (a b : Place) → is_before a b ≡ true → is_before b a ≡ true → ⊥
 not_both a b h k = by_first a.phase b.phase (by_rank a b) (by_rank b a) (by_rank_once a b) h k
 
 module _ {X : Type 0} (R : X → X → Type 0) (strict : (a b : X) → R a b → R b a → ⊥) where

@@ -1,4 +1,4 @@
--- Which answers apply after a journal, with some actions in flight and some answers from outside taken so far, and what each adds to the journal
+-- Which answers apply after a journal, by what is in flight and how many answers from outside were taken, and what each adds to the journal
 -- (Pacemaker Administration, "Transitions"; which apply is a rule of this project).
 use Rattle.std.specs.Prelude.{ℕ, ◌+◌, ◌^◌, nat_lt, ◌==◌, ◌&&◌, ◌||◌, Bool, true, false, not, Option, Some, List, [], ◌∷◌, ◌++◌, length, map, filter, find}
 use Rattle.std.specs.List.{list_any}
@@ -25,12 +25,15 @@ use Rattle.cluster_types.specs.May.{may}
 use Rattle.cluster_types.specs.NodeStates.{node_state, is_online}
 use Rattle.cluster_types.specs.Outcomes.{is_bad, is_ignored}
 
+-- how many answers from outside a transition takes at most (rule of this project)
 abbrev pub most_from_outside : ℕ
 most_from_outside = 256
 
+-- the role of the recurring monitor of this interval; without a statement of the interval it is Started
 abbrev pub role_of_interval : List MonitorOf → ℕ → Role
 role_of_interval ms interval = option_map_or (λ (m : MonitorOf). m.role) (find (λ m. m.interval_ms == interval) ms) role.Started
 
+-- a recurring monitor of the leaf on the node, as an action
 abbrev pub monitor_action : Cluster → ℕ → ℕ → ℕ → Action
 monitor_action c r n interval = Cell Monitor r n interval (role_of_interval (monitors c r) interval)
 
@@ -45,19 +48,22 @@ is_offline_state _ = false
 abbrev pub is_number_of : ℕ → ℕ × Action → Bool
 is_number_of k p = p.0 == k
 
+-- after a journal, with these actions in flight, by their numbers
 module _ (c : Cluster) (es : List Event) (flight : List (ℕ × Action)) where
   abbrev pub is_flying : ℕ → Bool
   is_flying k = list_any (is_number_of k) flight
 
+  -- nothing of the cell is in flight, and no migration to it
   abbrev pub is_quiet_cell : ℕ → ℕ → Bool
   is_quiet_cell r n = not (list_any (λ (p : ℕ × Action). is_of_cell r n p.1 || is_sent_to r n p.1) flight)
 
+  -- the report says something new: the node is online, the leaf may run there, the code is bad and not ignored, and the cell is quiet
   abbrev pub tells_news : ℕ → ℕ → ℕ → ℕ → Bool
   tells_news n r interval code =
       nat_lt n (length c.nodes) && nat_lt r (length c.leaves) && nat_lt 0 interval && is_online c n es && may c r n es
       && is_bad (monitor_action c r n interval) (Code code) && not (is_ignored c (monitor_action c r n interval) (Code code)) && is_quiet_cell r n
 
-  -- the answer applies, where so many from outside were taken
+  -- the answer applies, when so many from outside were taken
   abbrev pub applies_after : ℕ → Answer → Bool
   applies_after taken (answer.End k code) = is_flying k
   applies_after taken (answer.Timeout k) = is_flying k
@@ -67,13 +73,14 @@ module _ (c : Cluster) (es : List Event) (flight : List (ℕ × Action)) where
   applies_after taken (answer.Wait seconds) = nat_lt taken most_from_outside && nat_lt (moment_of es + seconds) (2 ^ 40)
   applies_after taken (answer.Report n r interval code) = nat_lt taken most_from_outside && tells_news n r interval code
 
+  -- the action of this number ends so, now
   abbrev pub end_of : Outcome → ℕ × Action → Event
   end_of o p = Ended p.0 p.1 o (moment_of es)
 
   abbrev pub ends_of : ℕ → Outcome → List Event
   ends_of k o = option_map_or (λ p. end_of o p ∷ []) (find (is_number_of k) flight) []
 
-  -- what an answer adds
+  -- what an answer adds to the journal. At a loss each action of a cell on the node is gone, in the order of their numbers; fences stay in flight
   abbrev pub added_by : Answer → List Event
   added_by (answer.End k code) = ends_of k (Code code)
   added_by (answer.Timeout k) = ends_of k TimedOut

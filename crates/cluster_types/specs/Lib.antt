@@ -25,6 +25,7 @@ pub mod Answering
 pub mod Steps
 pub mod Texts
 pub mod Graphs
+pub mod Walks
 pub mod Unpacked
 pub mod Plans
 pub mod Runs

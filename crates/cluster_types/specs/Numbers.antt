@@ -1,5 +1,5 @@
 -- The order in which actions are numbered (rule of this project).
-use Rattle.std.specs.Prelude.{◌≡◌, ◌↔◌, ℕ, suc, zero, ◌+◌, ◌*◌, nat_lt, ◌==◌, ◌&&◌, ◌||◌, Bool, true, false, not, if◌then◌else◌, List, [], ◌∷◌, ◌++◌, length, map, filter, fold, max, Contains, AllPairs}
+use Rattle.std.specs.Prelude.{◌≡◌, ◌≢◌, ◌↔◌, ℕ, suc, zero, ◌+◌, ◌*◌, nat_lt, ◌==◌, ◌&&◌, ◌||◌, Bool, true, false, not, if◌then◌else◌, List, [], ◌∷◌, ◌++◌, length, map, filter, fold, max, Contains, AllPairs}
 use Rattle.std.specs.List.{list_any, flat_map, range_with_len}
 use Rattle.cluster_types.specs.declared.cluster.Cluster.{Cluster}
 use Rattle.cluster_types.specs.declared.journal.Action.{Action}
@@ -110,7 +110,12 @@ is_before a b =
 abbrev pub is_earlier : Cluster → List Action → Action → Action → Bool
 is_earlier c actions x y = is_before (place_of c actions x) (place_of c actions y)
 
--- a list has just these actions, each once, in the order of their numbers
+-- a list has just these actions, each once, in whatever order
+pub record AreNeeded (Needed : Action → Type 0) (actions : List Action) : Type 0 where
+  pub needed : (a : Action) → Contains actions a ↔ Needed a
+  pub once : AllPairs (λ x y. x ≢ y) actions
+
+-- the same, in the order of their numbers
 pub record AreNumbered (c : Cluster) (Needed : Action → Type 0) (actions : List Action) : Type 0 where
   pub needed : (a : Action) → Contains actions a ↔ Needed a
   pub in_order : AllPairs (λ x y. is_earlier c actions x y ≡ true) actions

@@ -13,7 +13,7 @@ use Rattle.cluster_types.specs.declared.journal.Outcome.{Outcome}
 use Rattle.cluster_types.specs.declared.journal.Outcome.TheVariants.{Code, Gone}
 use Rattle.cluster_types.specs.declared.leaf.Op.TheVariants.{Monitor}
 use Rattle.cluster_types.specs.declared.leaf.Role.TheVariants as role
-use Rattle.cluster_types.specs.Answering.{applies_after, added_by, ends_of}
+use Rattle.cluster_types.specs.Answering.{applies_after, added_by, end_of, ends_of}
 use Rattle.cluster_types.specs.ExitCodes.{success, not_running, running_promoted, degraded, degraded_promoted}
 use Rattle.cluster_types.specs.Journals.{ends_number}
 use Rattle.cluster_types.specs.Outcomes.{is_among, is_ignored}
@@ -31,6 +31,10 @@ abbrev pub silent_code : Action → ℕ
 silent_code (Probe r n) = not_running
 silent_code (Cell Monitor r n interval role.Promoted) = running_promoted
 silent_code _ = success
+
+-- what is added when nothing more is said: of the actions in flight, in the order of their numbers, the first ends with its silent code
+abbrev pub silent_end : Cluster → List Event → List (ℕ × Action) → List Event
+silent_end c es flight = option_map_or (λ (p : ℕ × Action). end_of c es flight (Code (silent_code p.1)) p ∷ []) (slice_get flight 0) []
 
 -- the outcome is a success: an expected exit code, or one that is ignored
 abbrev pub is_success : Cluster → Action → Outcome → Bool
@@ -122,7 +126,7 @@ module _ (t : Transition) where
     abbrev pub is_settled : Bool
     is_settled = not (list_any may_begin numbers)
 
-    -- the same with their actions
+    -- what is in flight, in the order of their numbers
     abbrev pub flying : List (ℕ × Action)
     flying = flat_map (λ k. option_map_or (λ a. (k, a) ∷ []) (action_at k) []) flight
 

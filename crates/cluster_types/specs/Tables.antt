@@ -1,6 +1,6 @@
 -- Where everything goes: the target of each leaf on each node, and what role it holds by it (Pacemaker Explained, "Promotable Clones": what is promoted
 -- is started too; the scope of an order is that of "interleave" there).
-use Rattle.std.specs.Prelude.{ℕ, ◌+◌, ◌*◌, nat_lt, ◌==◌, if◌then◌else◌, ◌||◌, Bool, true, false, not, unwrap_or, length, slice_get, count_by}
+use Rattle.std.specs.Prelude.{ℕ, ◌&&◌, ◌+◌, ◌*◌, nat_lt, ◌==◌, if◌then◌else◌, ◌||◌, Bool, true, false, not, unwrap_or, length, slice_get, count_by}
 use Rattle.std.specs.List.{range_with_len}
 use Rattle.cluster_types.specs.declared.cluster.Cluster.{Cluster}
 use Rattle.cluster_types.specs.declared.leaf.Role.{Role}
@@ -34,6 +34,10 @@ is_promoted_target _ = false
 abbrev pub holds_role : Targets → ℕ → Role → ℕ → Bool
 holds_role table r role.Started n = is_somewhere (table r n)
 holds_role table r role.Promoted n = is_promoted_target (table r n)
+
+-- the same, with this target at one cell
+abbrev pub with_cell : Targets → ℕ → ℕ → Target → Targets
+with_cell table r n goal s m = if s == r && m == n then goal else table s m
 
 -- how many leaves have a target on the node
 abbrev pub load_of : Cluster → Targets → ℕ → ℕ

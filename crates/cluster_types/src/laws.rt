@@ -1,21 +1,26 @@
 //! Laws of the definitions. Each is a function that does nothing, and whose contract is the law.
 
-ghost use Rattle.std.specs.Prelude.{◌≡◌, ◌↔◌, ◌<◌, ◌≤◌, Contains, ℕ, Bool, true, length, not, slice_get, Option, Some, ◌&&◌, ◌||◌, List, [], ◌∷◌, ◌++◌};
+ghost use Rattle.std.specs.Prelude.{◌≡◌, ◌≢◌, ◌↔◌, ◌<◌, ◌≤◌, ◌+◌, ◌*◌, ◌^◌, Contains, ℕ, Bool, true, false, length, not, slice_get, Option, Some, ◌&&◌, ◌||◌, List, [], ◌∷◌, ◌++◌};
 ghost use Rattle.std.specs.List.{list_all};
 ghost use Rattle.cluster_types.specs.declared.placement.Decision.{Decision as DecisionOf};
 ghost use Rattle.cluster_types.specs.Held.{Held, IsClosed};
 ghost use Rattle.cluster_types.specs.Needed as cycling;
 ghost use Rattle.cluster_types.specs.Numbers.{AreNumbered};
 ghost use Rattle.cluster_types.specs.Safety.{IsEager, PredecessorsFirst};
-ghost use Rattle.cluster_types.specs.Steps.{Goes, Transition};
-ghost use Rattle.cluster_types.specs.Tables.{Targets};
-ghost use Rattle.cluster_types.specs.Journals.{NodeWord, Orderly, first_events, in_flight, is_reported};
+ghost use Rattle.cluster_types.specs.Steps.{Applies, EndsSilently, Goes, Transition, ended, events_of, flying, journal, resting, silent_code, silent_end};
+ghost use Rattle.cluster_types.specs.declared.journal.Outcome.TheVariants as outcome;
+ghost use Rattle.cluster_types.specs.Tables.{Targets, is_somewhere, load_of, with_cell};
+ghost use Rattle.cluster_types.specs.Failures.{is_fail_stopped};
+ghost use Rattle.cluster_types.specs.NodeStates.{node_state};
+ghost use Rattle.cluster_types.specs.Unpacked.{cell_at, states_of};
+ghost use Rattle.cluster_types.specs.declared.placement.Target.{Target as TargetOf};
+ghost use Rattle.cluster_types.specs.Journals.{NodeWord, Orderly, first_events, in_flight, is_reported, moment_of};
 ghost use Rattle.cluster_types.specs.Graphs.{EndWithin, GraphOf, IsBefore, IsGraph, LeadUpward, is_before};
 ghost use Rattle.cluster_types.specs.May.{closes, closes_promoted, is_left_promoted, may, may_promoted, opens, opens_promoted};
 
 use crate::cluster::Cluster;
 use crate::edges::Edge;
-use crate::journal::{Action, Answer, Event};
+use crate::journal::{Action, Answer, Event, Promotion};
 
 /// After one more event a leaf may run where the event opens the cell, and where it might before and the event doesn't close it.
 pub fn may_after_one_more()
@@ -96,4 +101,43 @@ pub fn predecessors_first()
 pub fn transitions_are_eager()
     ensures { (t : Transition) (whole : Bool) (rest left : Option (List Answer)) (later : List Event)
         → ((j k : ℕ) → t.precedes j k ≡ true → j < k) → Goes t whole [] rest later left → IsEager t later }
+{}
+
+/// What a journal tells has an entry for each node, each cell and each leaf, in their order.
+pub fn each_has_its_state()
+    ensures nodes { (c : Cluster) (events : List Event) (promotions : List Promotion) → length (states_of c events promotions).nodes ≡ length c.nodes }
+    ensures cells { (c : Cluster) (events : List Event) (promotions : List Promotion)
+        → length (states_of c events promotions).cells ≡ length c.leaves * length c.nodes }
+    ensures leaves { (c : Cluster) (events : List Event) (promotions : List Promotion) → length (states_of c events promotions).fail_stop ≡ length c.leaves }
+    ensures node { (c : Cluster) (events : List Event) (promotions : List Promotion) (n : ℕ) → n < length c.nodes
+        → slice_get (states_of c events promotions).nodes n ≡ Some (node_state c n events) }
+    ensures cell { (c : Cluster) (events : List Event) (promotions : List Promotion) (r n : ℕ) → r < length c.leaves → n < length c.nodes
+        → slice_get (states_of c events promotions).cells (r * length c.nodes + n) ≡ Some (cell_at c events r n) }
+    ensures leaf { (c : Cluster) (events : List Event) (promotions : List Promotion) (r : ℕ) → r < length c.leaves
+        → slice_get (states_of c events promotions).fail_stop r ≡ Some (is_fail_stopped c r events) }
+{}
+
+/// The load of a node is one more once a leaf of the cluster gets its first target there, and no load changes with another role of a leaf that has a
+/// target, or with a target on another node.
+pub fn loads_after_a_cell()
+    ensures first { (c : Cluster) (table : Targets) (r n : ℕ) (goal : TargetOf) → r < length c.leaves → is_somewhere (table r n) ≡ false
+        → is_somewhere goal ≡ true → load_of c (with_cell table r n goal) n ≡ load_of c table n + 1 }
+    ensures role { (c : Cluster) (table : Targets) (r n : ℕ) (goal : TargetOf) → is_somewhere (table r n) ≡ is_somewhere goal
+        → (m : ℕ) → load_of c (with_cell table r n goal) m ≡ load_of c table m }
+    ensures elsewhere { (c : Cluster) (table : Targets) (r n : ℕ) (goal : TargetOf) (m : ℕ) → m ≢ n
+        → load_of c (with_cell table r n goal) m ≡ load_of c table m }
+{}
+
+/// The moment stays below 2^40, whatever steps a transition takes and whatever answer is taken while nothing is to be done.
+pub fn moments_stay_below_their_limit()
+    ensures steps { (t : Transition) (whole : Bool) (rest left : Option (List Answer)) (since later : List Event) → Goes t whole since rest later left
+        → moment_of (journal t since) < 2 ^ 40 → moment_of (journal t later) < 2 ^ 40 }
+    ensures idle { (c : Cluster) (es : List Event) (given : Answer) → Applies (resting c es) [] given → moment_of es < 2 ^ 40
+        → moment_of (es ++ events_of (resting c es) [] given) < 2 ^ 40 }
+{}
+
+/// When nothing more is said, it is the first in flight that ends.
+pub fn silent_ends_are_of_the_first_in_flight()
+    ensures { (t : Transition) (since : List Event) (k : ℕ) (a : Action) → EndsSilently t since k a
+        → ended t since k (outcome.Code (silent_code a)) ≡ silent_end t.cluster (journal t since) (flying t since) }
 {}

@@ -1,6 +1,7 @@
 //! The cluster, what happened in it and what is planned for it, and the definitions of every rule.
 #![tactic(auto)]
 
+mod befores;
 mod cells;
 mod cluster;
 mod edges;
@@ -25,10 +26,11 @@ pub use edges::{Edge, Edges};
 pub use graph::Graph;
 pub use journal::{Action, Answer, Event, Journal, Outcome, Promotion};
 pub use laws::{
-    cycled_is_the_least_set, first_journal_has_nothing_in_flight, first_journal_is_in_order,
-    held_is_the_least_set, may_after_one_more, numbers_are_given_once, paths_are_computed,
-    predecessors_first, promoted_after_one_more, promoted_may_run, rising_edges_make_a_graph,
-    transitions_are_eager,
+    cycled_is_the_least_set, each_has_its_state, first_journal_has_nothing_in_flight,
+    first_journal_is_in_order, held_is_the_least_set, loads_after_a_cell, may_after_one_more,
+    moments_stay_below_their_limit, numbers_are_given_once, paths_are_computed, predecessors_first,
+    promoted_after_one_more, promoted_may_run, rising_edges_make_a_graph,
+    silent_ends_are_of_the_first_in_flight, transitions_are_eager,
 };
 pub use leaf::{Leaf, LeafId, Monitor, OnFail, Op, Role, TargetRole};
 pub use memory::NoMemory;

@@ -1,0 +1,18 @@
+-- How the actions before one are found: the positions from which edges lead to it are marked, and then those from which edges lead to a gate that
+-- is marked (rule of this project).
+use Rattle.std.specs.Prelude.{◌≡◌, ◌≤◌, ◌==◌, ◌&&◌, ℕ, Bool, true, false, List, Contains, slice_index_or}
+use Rattle.cluster_types.specs.declared.edges.Edge.{Edge}
+use Rattle.cluster_types.specs.Graphs.{Leads}
+
+abbrev pub is_marked : List Bool → ℕ → Bool
+is_marked marks x = slice_index_or marks x false
+
+-- the edge leads from x to y
+abbrev pub joins : ℕ → ℕ → Edge → Bool
+joins x y e = e.after == y && e.before == x
+
+-- what is marked leads to y, and all is marked that leads to it by one edge, or to a gate from `lowest` on that is marked
+pub record AreMarked (actions : ℕ) (edges : List Edge) (y lowest : ℕ) (marks : List Bool) : Type 0 where
+  pub leading : (x : ℕ) → is_marked marks x ≡ true → Leads actions edges x y
+  pub direct : (e : Edge) → Contains edges e → e.after ≡ y → is_marked marks e.before ≡ true
+  pub through : (e : Edge) → Contains edges e → actions ≤ e.after → lowest ≤ e.after → is_marked marks e.after ≡ true → is_marked marks e.before ≡ true
