@@ -6,6 +6,8 @@
 #[cfg(test)]
 mod fences;
 #[cfg(test)]
+mod one_by_one;
+#[cfg(test)]
 mod plain;
 #[cfg(test)]
 mod states;

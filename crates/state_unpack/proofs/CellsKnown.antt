@@ -109,11 +109,11 @@ module _ (c : Cluster) (es : List Event) (cells : List Facts) (keeps : Keeps c e
   stops-are = map-same _ _ (length c.leaves) (λ r h. any-same _ _ (length c.nodes) (λ n k. stop-there r n h k))
 
   -- the states of the nodes
-  blamed-is : (n : ℕ) → n < length c.nodes → is_blamed c n cells ≡ is_to_blame c n es
+  pub blamed-is : (n : ℕ) → n < length c.nodes → is_blamed c n cells ≡ is_to_blame c n es
   blamed-is n k = any-same _ _ (length c.leaves) (λ r h. rw (keeps.told r n h k) refl)
 
   module _ (signs : List (Option Sign)) (shows : Shows (length c.nodes) es signs) where
-    by-sign : (n : ℕ) (blamed : Bool) (found : Option (Option Sign)) (last : Option NodeSign) → blamed ≡ is_to_blame c n es → option_map (option_map as_sign) found ≡ Some last
+    pub by-sign : (n : ℕ) (blamed : Bool) (found : Option (Option Sign)) (last : Option NodeSign) → blamed ≡ is_to_blame c n es → option_map (option_map as_sign) found ≡ Some last
         → state_by_sign c.properties.fencing blamed (unwrap_or found None) ≡ state_by c n es last
     by-sign n blamed None last b e = cc
     by-sign n blamed (Some None) last b e = let is : last ≡ None = cc in rw is refl

@@ -4,3 +4,4 @@ pub mod StillFacts
 pub mod Told
 pub mod LastSigns
 pub mod CellsKnown
+pub mod JournalSoFar

@@ -1,10 +1,11 @@
 -- What is known of cells and nodes, by what is kept of them (follows from the definitions of what is known).
 use Rattle.std.specs.Prelude.{ℕ, ◌^◌, ◌&&◌, ◌||◌, not, Bool, false, if◌then◌else◌, Option, None, List, length, map, get_or, slice_get, sum_by, unwrap_or, nat_le}
-use Rattle.std.specs.List.{list_all, list_any, range_with_len}
+use Rattle.std.specs.List.{flat_map, list_all, list_any, range_with_len}
 use Rattle.std.specs.Option.{option_map_or}
 use Rattle.cluster_types.specs.declared.cluster.Cluster.{Cluster}
 use Rattle.cluster_types.specs.declared.journal.Event.{Event}
 use Rattle.cluster_types.specs.declared.journal.Event.TheVariants.{Quorum}
+use Rattle.cluster_types.specs.declared.journal.Promotion.{Promotion}
 use Rattle.cluster_types.specs.declared.leaf.Leaf.{Leaf}
 use Rattle.cluster_types.specs.declared.states.Cell.{Cell}
 use Rattle.cluster_types.specs.declared.states.CellState.{CellState}
@@ -13,6 +14,7 @@ use Rattle.cluster_types.specs.Fields.{is_promotable}
 use Rattle.fail_counts.specs.declared.tally.Tally.{Tally}
 use Rattle.fail_counts.specs.Tally.{tally_counted, bans}
 use Rattle.cluster_types.specs.declared.states.NodeState.{NodeState}
+use Rattle.cluster_types.specs.declared.states.States.{States}
 use Rattle.state_unpack.specs.declared.facts.Facts.{Facts}
 use Rattle.state_unpack.specs.declared.signs.Sign.{Sign}
 use Rattle.cluster_types.specs.NodeStates.{is_online_state}
@@ -77,6 +79,19 @@ is_online_in nodes n = option_map_or is_online_state (slice_get nodes n) false
 abbrev pub row_from : Cluster → List Facts → List NodeState → ℕ → ℕ → List Cell
 row_from c cells nodes now r =
     map (λ n. cell_from c r now (somewhere is_fatal c r now cells) (is_online_in nodes n) (unwrap_or (cell_in c cells r n) no_facts)) (range_with_len 0 (length c.nodes))
+
+-- all that is known, by what is kept
+abbrev pub states_from : Cluster → List Facts → List (Option Sign) → Bool → ℕ → List Promotion → States
+states_from c cells signs quorum now promotions =
+    let nodes = map (node_from c cells signs) (range_with_len 0 (length c.nodes)) in
+    record {
+      nodes = nodes;
+      cells = flat_map (row_from c cells nodes now) (range_with_len 0 (length c.leaves));
+      fail_stop = map (λ r. somewhere is_stopping c r now cells) (range_with_len 0 (length c.leaves));
+      promotions = promotions;
+      quorum = quorum;
+      moment = now;
+    }
 
 -- whether there is quorum after one more event, where there was or wasn't
 abbrev pub quorum_after : Bool → Event → Bool

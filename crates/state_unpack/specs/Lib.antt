@@ -4,3 +4,4 @@ pub mod Touching
 pub mod Kept
 pub mod Signs
 pub mod CellsKept
+pub mod Known

@@ -10,16 +10,21 @@ mod showing;
 mod facts;
 mod telling;
 
-// What events show of nodes.
+// What events show of nodes and of quorum.
 mod signs;
 
 // What is known by what is kept.
 mod cells;
 mod nodes;
+mod states;
+
+// What is kept while a journal goes on, and what a whole journal tells.
+mod known;
 mod unpacking;
 
 // What follows from the definitions.
 mod laws;
 
+pub use known::Known;
 pub use laws::valid_clusters_have_few_monitors;
 pub use unpacking::unpack;

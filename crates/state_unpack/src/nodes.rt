@@ -3,6 +3,7 @@
 ghost use Rattle.std.specs.Prelude.{◌≡◌, false, None, slice_get, unwrap_or};
 ghost use Rattle.cluster_types.specs.Valid.{KeepsLimits};
 ghost use Rattle.state_unpack.specs.CellsKept as spec;
+ghost use Rattle.state_unpack.specs.Facts.{no_facts};
 ghost use Rattle.state_unpack.specs.Kept.{cell_in};
 ghost use Rattle.state_unpack.specs.declared.facts.Facts.{Facts as FactsOf};
 ghost use Rattle.std.specs.Option.{option_map_or};
@@ -20,6 +21,14 @@ pub fn facts_at(cluster: &Cluster, cells: &[Facts], leaf: LeafId, node: NodeId) 
     cells
         .get(leaf as usize * cluster.nodes.len() + node as usize)
         .copied()
+}
+
+/// What is kept of a cell, or what no event tells where there is no such cell.
+pub fn facts_or_none(cluster: &Cluster, cells: &[Facts], leaf: LeafId, node: NodeId) -> Facts
+    requires { KeepsLimits cluster.now }
+    ensures { result ≡ unwrap_or (cell_in cluster.now cells.now leaf node) no_facts }
+{
+    facts_at(cluster, cells, leaf, node).unwrap_or(Facts::none())
 }
 
 fn wants_fence(facts: Option<Facts>) -> bool
@@ -83,7 +92,8 @@ pub fn is_stopped(cluster: &Cluster, cells: &[Facts], leaf: LeafId, now: u128) -
     ))
 }
 
-fn sign_at(signs: &[Option<Sign>], node: NodeId) -> Option<Sign>
+/// The last that is shown of a node, if anything is.
+pub fn sign_at(signs: &[Option<Sign>], node: NodeId) -> Option<Sign>
     ensures { result ≡ unwrap_or (slice_get signs.now node) None }
 {
     match signs.get(node as usize) {

@@ -1,8 +1,9 @@
-//! What events show of nodes.
+//! What events show of nodes and of quorum.
 
 ghost use Rattle.std.specs.Prelude.{◌≡◌, ◌++◌, ◌∷◌, [], ℕ, List, IfOk};
 ghost use Rattle.cluster_types.specs.declared.journal.Event.{Event as EventOf};
 ghost use Rattle.cluster_types.specs.Journals.{sign_of};
+ghost use Rattle.state_unpack.specs.CellsKept.{quorum_after};
 ghost use Rattle.state_unpack.specs.Signs.{Shows, shown_of, state_by_sign};
 
 use cluster_types::exit_codes::SUCCESS;
@@ -36,7 +37,7 @@ fn shown(event: Event) -> Option<(NodeId, Sign)>
 }
 
 /// Nothing is shown of so many nodes.
-fn nothing_shown(alloc: Global, nodes: usize) -> Result<Vec<Option<Sign>>, AllocError>
+pub fn nothing_shown(alloc: Global, nodes: usize) -> Result<Vec<Option<Sign>>, AllocError>
     ensures { IfOk result (λ signs. Shows nodes [] signs.items) }
 {
     let mut signs = Vec::with_capacity(alloc, nodes)?;
@@ -47,7 +48,7 @@ fn nothing_shown(alloc: Global, nodes: usize) -> Result<Vec<Option<Sign>>, Alloc
 }
 
 /// Keeps what the event shows.
-fn show(event: Event, signs: &mut Vec<Option<Sign>>)
+pub fn show(event: Event, signs: &mut Vec<Option<Sign>>)
     ensures { (nodes : ℕ) (before : List EventOf) → Shows nodes before signs.old.items → Shows nodes (before ++ event ∷ []) signs.new.items }
 {
     if let Some((node, sign)) = shown(event) {
@@ -57,19 +58,14 @@ fn show(event: Event, signs: &mut Vec<Option<Sign>>)
     }
 }
 
-/// The last that the events show of each of so many nodes.
-pub fn last_signs(
-    alloc: Global,
-    nodes: usize,
-    events: &[Event],
-) -> Result<Vec<Option<Sign>>, AllocError>
-    ensures { IfOk result (λ signs. Shows nodes events.now signs.items) }
+/// Whether there is quorum after one more event, where there was or wasn't.
+pub fn quorum_after(before: bool, event: Event) -> bool
+    ensures { result ≡ quorum_after before event }
 {
-    let mut signs = nothing_shown(alloc, nodes)?;
-    for event in events {
-        show(*event, &mut signs);
+    match event {
+        Event::Quorum { yes } => yes,
+        _ => before,
     }
-    Ok(signs)
 }
 
 /// The state of a node by the last that is shown of it, where a failure wants it fenced or doesn't (Pacemaker Explained, "Fencing").

@@ -94,7 +94,7 @@ pub fn tell(cluster: &Cluster, event: Event, cells: &mut Vec<Facts>)
 }
 
 /// What no event tells of any cell.
-fn nothing_told(alloc: Global, cluster: &Cluster) -> Result<Vec<Facts>, AllocError>
+pub fn nothing_told(alloc: Global, cluster: &Cluster) -> Result<Vec<Facts>, AllocError>
     requires { KeepsLimits cluster.now }
     ensures { IfOk result (λ cells. Keeps cluster.now [] cells.items) }
 {
@@ -102,18 +102,6 @@ fn nothing_told(alloc: Global, cluster: &Cluster) -> Result<Vec<Facts>, AllocErr
     let mut cells = Vec::with_capacity(alloc, count)?;
     while cells.len() < count {
         cells.push(Facts::none())?;
-    }
-    Ok(cells)
-}
-
-/// What the events tell of all cells, leaf by leaf and node by node.
-pub fn told_by(alloc: Global, cluster: &Cluster, events: &[Event]) -> Result<Vec<Facts>, AllocError>
-    requires { KeepsLimits cluster.now }
-    ensures { IfOk result (λ cells. Keeps cluster.now events.now cells.items) }
-{
-    let mut cells = nothing_told(alloc, cluster)?;
-    for event in events {
-        tell(cluster, *event, &mut cells);
     }
     Ok(cells)
 }

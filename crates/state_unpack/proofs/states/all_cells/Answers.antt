@@ -1,7 +1,7 @@
 use Rattle.std.proofs.Common.{rules, ◌≡◌, ◌++◌, sym, ap, ◌∙◌}
 use Rattle.lemmas.proofs.Ranges.{flat_map-more}
 use Rattle.state_unpack.specs.CellsKept.{row_from}
-use Rattle.state_unpack.proofs.unpacking.all_cells.Goals as goal
+use Rattle.state_unpack.proofs.states.all_cells.Goals as goal
 
 pub loop-leaf-preserved : goal.loop-leaf-preserved
 loop-leaf-preserved c =

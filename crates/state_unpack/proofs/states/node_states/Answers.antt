@@ -1,7 +1,7 @@
 use Rattle.std.proofs.Common.{rules, ◌≡◌, ◌++◌, ◌∷◌, [], sym, ap, ◌∙◌}
 use Rattle.lemmas.proofs.Ranges.{map-more}
 use Rattle.state_unpack.specs.CellsKept.{node_from}
-use Rattle.state_unpack.proofs.unpacking.node_states.Goals as goal
+use Rattle.state_unpack.proofs.states.node_states.Goals as goal
 
 pub loop-node-preserved : goal.loop-node-preserved
 loop-node-preserved c =

@@ -1,7 +1,7 @@
 use Rattle.std.proofs.Common.{rules, ◌≡◌, ◌++◌, ◌∷◌, [], ℕ, sym, ap, ◌∙◌}
 use Rattle.lemmas.proofs.Ranges.{map-more}
 use Rattle.state_unpack.specs.CellsKept.{somewhere, is_stopping}
-use Rattle.state_unpack.proofs.unpacking.stopped_leaves.Goals as goal
+use Rattle.state_unpack.proofs.states.stopped_leaves.Goals as goal
 
 pub loop-leaf-preserved : goal.loop-leaf-preserved
 loop-leaf-preserved c =

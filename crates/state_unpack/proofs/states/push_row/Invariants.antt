@@ -3,7 +3,7 @@ use Rattle.std.specs.List.{range_with_len}
 use Rattle.state_unpack.specs.CellsKept.{cell_from, is_online_in}
 use Rattle.state_unpack.specs.Facts.{no_facts}
 use Rattle.state_unpack.specs.Kept.{cell_in}
-use Rattle.state_unpack.proofs.unpacking.push_row.Given as goal
+use Rattle.state_unpack.proofs.states.push_row.Given as goal
 
 abbrev pub invariant-loop-place : goal.invariant-loop-place
 invariant-loop-place l =

@@ -4,7 +4,7 @@ use Rattle.lemmas.proofs.Ranges.{map-more}
 use Rattle.state_unpack.specs.CellsKept.{cell_from, is_online_in}
 use Rattle.state_unpack.specs.Facts.{no_facts}
 use Rattle.state_unpack.specs.Kept.{cell_in}
-use Rattle.state_unpack.proofs.unpacking.push_row.Goals as goal
+use Rattle.state_unpack.proofs.states.push_row.Goals as goal
 
 pub loop-place-preserved : goal.loop-place-preserved
 loop-place-preserved c =
