@@ -4,6 +4,8 @@ use Rattle.std.specs.List.{enumerate_from, filter_map, flat_map, list_all, list_
 use Rattle.std.proofs.lemmas.Bool.Decides.{nat_tests}
 use Rattle.std.proofs.lemmas.List.Folds.{list_any-append}
 use Rattle.std.proofs.lemmas.List.Sums.{sum_by-append}
+use Rattle.std.proofs.lemmas.Bool.{and_from, or_parts}
+use Rattle.lemmas.proofs.Booleans.{sooner, later, denied_first}
 use Rattle.cluster_types.specs.declared.cluster.Cluster.{Cluster}
 use Rattle.cluster_types.specs.declared.journal.Event.{Event}
 use Rattle.cluster_types.specs.declared.journal.Event.TheVariants.{Up, Down, Lost, Quorum, Wait, Cleanup, Ended}
@@ -15,42 +17,22 @@ use Rattle.op_history.specs.declared.told.Told.{Told}
 use Rattle.op_history.specs.declared.told.Told.TheVariants as told
 use Rattle.op_history.specs.FirstJournal.{all_differ, events_of, history_of, is_again, is_known, is_repeated, is_same_cell, now_of, promotion_in, quorum_of, word_of}
 
-sooner : (a b : Bool) → a && b ≡ true → a ≡ true
-sooner true b h = refl
-sooner false b h = cc
-
-later : (a b : Bool) → a && b ≡ true → b ≡ true
-later true b h = h
-later false b h = cc
-
-together : (a b : Bool) → a ≡ true → b ≡ true → a && b ≡ true
-together true b h k = k
-together false b h k = cc
-
-is_false : (a b : Bool) → not a && b ≡ true → a ≡ false
-is_false true b h = cc
-is_false false b h = refl
-
-neither : (a b : Bool) → a || b ≡ false → (a ≡ false) × (b ≡ false)
-neither true b h = cc
-neither false b h = (refl, h)
-
 -- one more line
 pub one_more_known : (nodes : ℕ) (before : List Told) (one : Told) → list_all (is_known nodes) before ≡ true → is_known nodes one ≡ true
     → list_all (is_known nodes) (before ++ one ∷ []) ≡ true
-one_more_known nodes [] one h k = together (is_known nodes one) true k refl
+one_more_known nodes [] one h k = and_from (is_known nodes one) true k refl
 one_more_known nodes (x ∷ before) one h k =
-    together (is_known nodes x) (list_all (is_known nodes) (before ++ one ∷ [])) (sooner (is_known nodes x) _ h) (one_more_known nodes before one (later (is_known nodes x) _ h) k)
+    and_from (is_known nodes x) (list_all (is_known nodes) (before ++ one ∷ [])) (sooner (is_known nodes x) _ h) (one_more_known nodes before one (later (is_known nodes x) _ h) k)
 
 any_last : (a b c : Bool) → not a ≡ true → b ≡ false → c ≡ a || (b || false) → not c ≡ true
-any_last a b c h k e = let f : a ≡ false = is_false a true (together (not a) true h refl) in let g : a || (b || false) ≡ false = rw (f, k) refl in let r : c ≡ false = e ∙ g in rw r refl
+any_last a b c h k e = let f : a ≡ false = denied_first a true (and_from (not a) true h refl) in let g : a || (b || false) ≡ false = rw (f, k) refl in let r : c ≡ false = e ∙ g in rw r refl
 
 pub one_more_differs : (before : List Told) (one : Told) → all_differ before ≡ true → is_repeated before one ≡ false
     → all_differ (before ++ one ∷ []) ≡ true
 one_more_differs [] one h k = refl
 one_more_differs (x ∷ before) one h k =
-    let now = neither (is_again x one) (is_repeated before one) k in
-    together (not (list_any (is_again x) (before ++ one ∷ []))) (all_differ (before ++ one ∷ []))
+    let now = or_parts (is_again x one) (is_repeated before one) k in
+    and_from (not (list_any (is_again x) (before ++ one ∷ []))) (all_differ (before ++ one ∷ []))
     (any_last (list_any (is_again x) before) (is_again x one) (list_any (is_again x) (before ++ one ∷ []))
     (sooner (not (list_any (is_again x) before)) _ h) now.0 (list_any-append (is_again x) before (one ∷ [])))
     (one_more_differs before one (later (not (list_any (is_again x) before)) _ h) now.1)
@@ -62,7 +44,7 @@ history_reported nodes (told.Now seconds ∷ lines) h = history_reported nodes l
 history_reported nodes (told.Quorum now ∷ lines) h = history_reported nodes lines h
 history_reported nodes (told.Node node word ∷ lines) h = history_reported nodes lines h
 history_reported nodes (told.Past event ∷ lines) h =
-    together (is_reported nodes event) _ (sooner (is_reported nodes event) _ h) (history_reported nodes lines (later (is_reported nodes event) _ h))
+    and_from (is_reported nodes event) _ (sooner (is_reported nodes event) _ h) (history_reported nodes lines (later (is_reported nodes event) _ h))
 history_reported nodes (told.Promoting promotion ∷ lines) h = history_reported nodes lines h
 
 -- the moment that is said is below 2^40
@@ -147,19 +129,19 @@ cells_of (told.Node node word ∷ lines) h = cells_of lines (later (not (list_an
 cells_of (told.Past event ∷ lines) h = cells_of lines (later (not (list_any (is_again (told.Past event)) lines)) _ h)
 cells_of (told.Promoting p ∷ lines) h =
     let none : list_any (is_same_cell p) (filter_map promotion_in lines) ≡ false =
-    same_of_cell p lines ∙ is_false (list_any (is_again (told.Promoting p)) lines) _ h in
-    together (not (list_any (is_same_cell p) (filter_map promotion_in lines))) _ (ap not none)
+    same_of_cell p lines ∙ denied_first (list_any (is_again (told.Promoting p)) lines) _ h in
+    and_from (not (list_any (is_same_cell p) (filter_map promotion_in lines))) _ (ap not none)
     (cells_of lines (later (not (list_any (is_again (told.Promoting p)) lines)) _ h))
 
 none_at : {X : Type 0} (test : X → Bool) (xs : List X) (j : ℕ) (d : X) → list_any test xs ≡ false → j < length xs → test (get_or xs j d) ≡ false
 none_at test [] j d h m = absurd (omega (arith, m))
-none_at test (x ∷ xs) zero d h m = (neither (test x) (list_any test xs) h).0
-none_at test (x ∷ xs) (suc j) d h m = none_at test xs j d (neither (test x) (list_any test xs) h).1 (omega (arith, m))
+none_at test (x ∷ xs) zero d h m = (or_parts (test x) (list_any test xs) h).0
+none_at test (x ∷ xs) (suc j) d h m = none_at test xs j d (or_parts (test x) (list_any test xs) h).1 (omega (arith, m))
 
 pairs_of : (ps : List Promotion) → cells_differ ps ≡ true → AllPairs (λ (one other : Promotion). is_same_cell one other ≡ false) ps
 pairs_of [] h i j d l m = absurd (omega (arith, m))
 pairs_of (p ∷ ps) h zero zero d l m = absurd (omega (arith, l))
-pairs_of (p ∷ ps) h zero (suc j) d l m = none_at (is_same_cell p) ps j d (is_false (list_any (is_same_cell p) ps) _ h) (omega (arith, m))
+pairs_of (p ∷ ps) h zero (suc j) d l m = none_at (is_same_cell p) ps j d (denied_first (list_any (is_same_cell p) ps) _ h) (omega (arith, m))
 pairs_of (p ∷ ps) h (suc i) zero d l m = absurd (omega (arith, l))
 pairs_of (p ∷ ps) h (suc i) (suc j) d l m = pairs_of ps (later (not (list_any (is_same_cell p) ps)) _ h) i j d (omega (arith, l)) (omega (arith, m))
 

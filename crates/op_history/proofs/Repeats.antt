@@ -12,11 +12,6 @@ or_last : (here before : Bool) → (before || here) ≡ (before || (here || fals
 or_last true before = refl
 or_last false before = refl
 
--- with one more element, a test passes somewhere where it passed before, and where it passes there
-pub any_or : {X : Type 0} (test : X → Bool) (xs : List X) (x : X) (before : Bool) → before ≡ list_any test xs
-    → (before || test x) ≡ list_any test (xs ++ x ∷ [])
-any_or test xs x before e = rw (list_any-append test xs (x ∷ []), e) (or_last (test x) (list_any test xs))
-
 or_none : (before : Bool) → before ≡ (before || false)
 or_none true = refl
 or_none false = refl

@@ -4,6 +4,7 @@ use Rattle.std.specs.List.{list_all, position_or_len}
 use Rattle.std.specs.Str.Parse.{digits_value}
 use Rattle.std.specs.Option.{ok_or}
 use Rattle.std.proofs.lemmas.Bool.Decides.{nat_tests}
+use Rattle.lemmas.proofs.Results.{by_result}
 use Rattle.crm_lex.specs.declared.line.Line.{Line}
 use Rattle.cluster_types.specs.declared.cluster.Cluster.{Cluster}
 use Rattle.cluster_types.specs.declared.journal.Action.TheVariants.{Cell, Probe}
@@ -48,10 +49,6 @@ either_way : {A W : Type 0} (P : A → Type 0) (test : Bool) (one other : Result
     → IfOk (if test then one else other) P
 either_way P true one other h k = h
 either_way P false one other h k = k
-
-by_result : {X C : Type 0} (P : Result X C → Type 0) → ((x : X) → P (Ok x)) → ((why : C) → P (Err why)) → (read : Result X C) → P read
-by_result P ok err (Ok x) = ok x
-by_result P ok err (Err why) = err why
 
 -- a node that is named is one of the cluster
 place_within : {X : Type 0} (test : X → Bool) (xs : List X) → IfSome (place_of test xs) (λ n. nat_lt n (length xs) ≡ true)

@@ -1,7 +1,7 @@
 use Rattle.std.proofs.Common.{rules, ◌≡◌, ◌++◌, ◌∷◌, ◌∙◌, []}
+use Rattle.lemmas.proofs.Searches.{any_or}
 use Rattle.op_history.specs.FirstJournal.{is_again}
 use Rattle.op_history.specs.Repeats.{Adds}
-use Rattle.op_history.proofs.Repeats.{any_or}
 use Rattle.op_history.proofs.told_lines.ToldLines.with.Goals as goal
 
 pub invariant_of-result : goal.invariant_of-result
