@@ -4,9 +4,9 @@ use Rattle.std.proofs.lemmas.List.{drop_at, take_at}
 use Rattle.std.proofs.lemmas.Str.{IsCharBoundary-after_ascii, IsCharBoundary-before_ascii, IsUtf8-append, IsUtf8-drop, IsUtf8-from_ascii, IsUtf8-take, IsUtf8-nil}
 use Rattle.std.specs.List.{list_any, list_all, AllByRecursion}
 use Rattle.std.specs.Str.{IsUtf8, IsAscii}
+use Rattle.std.proofs.lemmas.Bool.{and_parts, or_parts}
 use Rattle.crm_lex.specs.LogicalLines.{is_control}
 use Rattle.crm_lex.specs.Names.{is_name, is_name_byte}
-pub use Rattle.crm_lex.proofs.Words.{neither}
 
 pub record Clean (text : List ℕ) : Type 0 where
   pub utf8 : IsUtf8 text
@@ -21,16 +21,16 @@ EachClean items = AllByRecursion AllClean items
 
 allowed-front : (xs ys : List ℕ) → list_any is_control (xs ++ ys) ≡ false → list_any is_control xs ≡ false
 allowed-front [] ys h = refl
-allowed-front (x ∷ xs) ys h = let n = neither (is_control x) (list_any is_control (xs ++ ys)) h in
+allowed-front (x ∷ xs) ys h = let n = or_parts (is_control x) (list_any is_control (xs ++ ys)) h in
     let more = allowed-front xs ys n.1 in rw (n.0, more) refl
 
 allowed-back : (xs ys : List ℕ) → list_any is_control (xs ++ ys) ≡ false → list_any is_control ys ≡ false
 allowed-back [] ys h = h
-allowed-back (x ∷ xs) ys h = let n = neither (is_control x) (list_any is_control (xs ++ ys)) h in allowed-back xs ys n.1
+allowed-back (x ∷ xs) ys h = let n = or_parts (is_control x) (list_any is_control (xs ++ ys)) h in allowed-back xs ys n.1
 
 allowed-append : (xs ys : List ℕ) → list_any is_control xs ≡ false → list_any is_control ys ≡ false → list_any is_control (xs ++ ys) ≡ false
 allowed-append [] ys h g = g
-allowed-append (x ∷ xs) ys h g = let n = neither (is_control x) (list_any is_control xs) h in
+allowed-append (x ∷ xs) ys h g = let n = or_parts (is_control x) (list_any is_control xs) h in
     let more = allowed-append xs ys n.1 g in rw (n.0, more) refl
 
 at_seam : (xs ys : List ℕ) (b : ℕ) → get_or (xs ++ b ∷ ys) (length xs) 0 ≡ b
@@ -60,11 +60,11 @@ pub clean-before : (xs : List ℕ) (b : ℕ) (ys : List ℕ) → b < 128 → Cle
 clean-before xs b ys h c = record { utf8 = utf8-before xs b ys h c.utf8; allowed = allowed-front xs (b ∷ ys) c.allowed }
 
 pub clean-behind : (xs : List ℕ) (b : ℕ) (ys : List ℕ) → b < 128 → Clean (xs ++ b ∷ ys) → Clean ys
-clean-behind xs b ys h c = record { utf8 = utf8-behind xs b ys h c.utf8; allowed = (neither (is_control b) (list_any is_control ys) (allowed-back xs (b ∷ ys) c.allowed)).1 }
+clean-behind xs b ys h c = record { utf8 = utf8-behind xs b ys h c.utf8; allowed = (or_parts (is_control b) (list_any is_control ys) (allowed-back xs (b ∷ ys) c.allowed)).1 }
 
 pub clean-one : (xs : List ℕ) (b : ℕ) (ys : List ℕ) → b < 128 → Clean (xs ++ b ∷ ys) → Clean (b ∷ [])
 clean-one xs b ys h c =
-    let one = (neither (is_control b) (list_any is_control ys) (allowed-back xs (b ∷ ys) c.allowed)).0 in
+    let one = (or_parts (is_control b) (list_any is_control ys) (allowed-back xs (b ∷ ys) c.allowed)).0 in
     record { utf8 = IsUtf8-from_ascii (b ∷ []) (alone b h); allowed = rw one refl }
   where
     alone : (b : ℕ) → b < 128 → IsAscii (b ∷ [])
@@ -78,13 +78,8 @@ clean-append xs ys c d = record { utf8 = IsUtf8-append xs ys c.utf8 d.utf8; allo
 abbrev pub is_clean_byte : ℕ → Bool
 is_clean_byte b = nat_lt b 128 && not (is_control b)
 
-pub both : (a b : Bool) → (a && b) ≡ true → (a ≡ true) × (b ≡ true)
-both true true h = (refl, refl)
-both true false h = cc
-both false b h = cc
-
 clean_byte : (b : ℕ) → is_clean_byte b ≡ true → (b < 128) × (is_control b ≡ false)
-clean_byte b h = let k = both (nat_lt b 128) (not (is_control b)) h in (grind arith, denied (is_control b) k.1)
+clean_byte b h = let k = and_parts (nat_lt b 128) (not (is_control b)) h in (grind arith, denied (is_control b) k.1)
   where
     denied : (t : Bool) → not t ≡ true → t ≡ false
     denied true h = cc
@@ -92,13 +87,13 @@ clean_byte b h = let k = both (nat_lt b 128) (not (is_control b)) h in (grind ar
 
 ascii_bytes : (xs : List ℕ) → list_all is_clean_byte xs ≡ true → IsAscii xs
 ascii_bytes [] h i = omega arith
-ascii_bytes (x ∷ xs) h zero = (clean_byte x (both (is_clean_byte x) (list_all is_clean_byte xs) h).0).0
-ascii_bytes (x ∷ xs) h (suc i) = ascii_bytes xs (both (is_clean_byte x) (list_all is_clean_byte xs) h).1 i
+ascii_bytes (x ∷ xs) h zero = (clean_byte x (and_parts (is_clean_byte x) (list_all is_clean_byte xs) h).0).0
+ascii_bytes (x ∷ xs) h (suc i) = ascii_bytes xs (and_parts (is_clean_byte x) (list_all is_clean_byte xs) h).1 i
 
 allowed_bytes : (xs : List ℕ) → list_all is_clean_byte xs ≡ true → list_any is_control xs ≡ false
 allowed_bytes [] h = refl
 allowed_bytes (x ∷ xs) h =
-    let g = both (is_clean_byte x) (list_all is_clean_byte xs) h in
+    let g = and_parts (is_clean_byte x) (list_all is_clean_byte xs) h in
     let one = (clean_byte x g.0).1 in
     let more = allowed_bytes xs g.1 in rw (one, more) refl
 
@@ -124,19 +119,19 @@ name_byte b h = outer (nat_le 97 b && nat_le b 122) (nat_le 65 b && nat_le b 90)
 name_bytes : (xs : List ℕ) → list_all is_name_byte xs ≡ true → list_all is_clean_byte xs ≡ true
 name_bytes [] h = refl
 name_bytes (x ∷ xs) h =
-    let g = both (is_name_byte x) (list_all is_name_byte xs) h in
+    let g = and_parts (is_name_byte x) (list_all is_name_byte xs) h in
     let one = name_byte x g.0 in
     let more = name_bytes xs g.1 in rw (one, more) refl
 
 -- a name is clean
 pub clean-name : (name : List ℕ) → is_name name ≡ true → Clean name
 clean-name name h =
-    clean-ascii name (name_bytes name (both (not (length name == 0) && nat_le (length name) 256) (list_all is_name_byte name) h).1)
+    clean-ascii name (name_bytes name (and_parts (not (length name == 0) && nat_le (length name) 256) (list_all is_name_byte name) h).1)
 
 -- what stands behind some ASCII bytes
 pub clean-after : (xs ys : List ℕ) → list_all is_clean_byte xs ≡ true → Clean (xs ++ ys) → Clean ys
 clean-after [] ys h c = c
 clean-after (x ∷ xs) ys h c =
-    let g = both (is_clean_byte x) (list_all is_clean_byte xs) h in
-    let k = both (nat_lt x 128) (not (is_control x)) g.0 in
+    let g = and_parts (is_clean_byte x) (list_all is_clean_byte xs) h in
+    let k = and_parts (nat_lt x 128) (not (is_control x)) g.0 in
     clean-after xs ys g.1 (clean-behind [] x (xs ++ ys) (grind arith) c)

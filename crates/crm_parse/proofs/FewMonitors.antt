@@ -2,7 +2,7 @@
 use Rattle.std.proofs.Common.{arith, ◌≡◌, ◌≢◌, ◌<◌, ℕ, zero, suc, Bool, true, false, not, ◌&&◌, ◌||◌, cond, List, [], ◌∷◌, ◌++◌, length, filter, slice_index_or, Ok, Err, refl, sym, ap, ◌∙◌, subst, append-nil, nat_le}
 use Rattle.std.specs.Prelude.{◌==◌}
 use Rattle.std.specs.List.{AllByRecursion, list_any}
-use Rattle.std.proofs.lemmas.Bool.{and_parts, eq-eqb, eqb-true, false≢true, leb-false, ltb-true, or_parts}
+use Rattle.std.proofs.lemmas.Bool.{and_parts, eq-eqb, eqb-true, false≢true, leb-false, ltb-true, or_parts, not-true}
 use Rattle.std.proofs.lemmas.List.{length-append}
 use Rattle.std.proofs.lemmas.List.Concat.{flat_map-append}
 use Rattle.std.proofs.lemmas.List.Quantifiers.{all_pairs_push}
@@ -14,10 +14,6 @@ use Rattle.crm_parse.specs.Operations.{has_room, interval_of, operation_of, recu
 use Rattle.crm_parse.proofs.Binds.{bind-ok, unless-ok, when-ok}
 use Rattle.crm_parse.proofs.OperationRoom.{Fits, operation-fits}
 use Rattle.crm_parse.proofs.OperationWords.{KeptOps, op_words, with_operations}
-
-not-true : (b : Bool) → not b ≡ true → b ≡ false
-not-true true h = cc
-not-true false h = refl
 
 -- what differs from each of some numbers
 differs : (xs : List ℕ) (y : ℕ) → list_any (λ x. x == y) xs ≡ false → (k : ℕ) (d : ℕ) → k < length xs → slice_index_or xs k d ≢ y

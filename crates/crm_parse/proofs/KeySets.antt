@@ -23,11 +23,6 @@ or_last : (here before : Bool) → (before || here) ≡ (before || (here || fals
 or_last true before = refl
 or_last false before = refl
 
--- the same, said by or
-pub any_or : {X : Type 0} (test : X → Bool) (xs : List X) (x : X) (before : Bool) → before ≡ list_any test xs
-    → (before || test x) ≡ list_any test (xs ++ x ∷ [])
-any_or test xs x before e = rw (list_any-append test xs (x ∷ []), e) (or_last (test x) (list_any test xs))
-
 either_one : (a b p q r s : Bool) → ((p || a && q && b) || (r || a && b && s)) ≡ ((p || r) || a && b && (q || s))
 either_one false b true q r s = refl
 either_one false b false q true s = refl

@@ -1,9 +1,10 @@
 -- What is written for clean items is clean, and makes one logical line.
 use Rattle.std.proofs.Common.{◌≡◌, ℕ, ◌+◌, ◌<◌, Bool, true, false, not, ◌&&◌, ◌||◌, ◌==◌, if◌then◌else◌, List, [], ◌∷◌, ◌++◌, length, refl, sym, subst, ◌∙◌, arith, append_assoc, append-nil}
 use Rattle.std.specs.List.{flat_map, list_any, list_all}
+use Rattle.std.proofs.lemmas.Bool.{not-true, and_parts, or_parts}
 use Rattle.crm_lex.specs.RawLines.{begins_comment, ends_in_backslash, is_blank}
 use Rattle.crm_print.specs.Quoting.{Item, escaped, is_plain, item_text, line_of, needs_quotes, quoted, spaced}
-use Rattle.crm_parse.proofs.Clean.{AllClean, Clean, EachClean, both, clean-append, clean-ascii, clean-before, clean-behind, clean-nil, clean-one, neither}
+use Rattle.crm_parse.proofs.Clean.{AllClean, Clean, EachClean, clean-append, clean-ascii, clean-before, clean-behind, clean-nil, clean-one}
 use Rattle.crm_print.proofs.Lines.{is_filled}
 
 -- the bytes between double quotes, behind some bytes of the text
@@ -46,10 +47,6 @@ clean_spaced (item ∷ items) h =
 pub clean_line : (item : Item) (items : List Item) → EachClean (item ∷ items) → Clean (line_of (item ∷ items))
 clean_line item items h = clean-append (item_text item) (flat_map spaced items) (clean_item item h.0) (clean_spaced items h.1)
 
-refused : (t : Bool) → not t ≡ true → t ≡ false
-refused true h = cc
-refused false h = refl
-
 none_of : (a b c d : Bool) → (a || b || c || d) ≡ false → (a ≡ false) × (d ≡ false)
 none_of true b c d h = cc
 none_of false true c d h = cc
@@ -60,11 +57,11 @@ none_of false false false d h = (refl, h)
 plain_first : (b : ℕ) (bs : List ℕ) → is_plain (b ∷ bs) ≡ true → ((b == 35) ≡ false) × (list_any needs_quotes (b ∷ bs) ≡ false)
 unfolding is_plain
 plain_first b bs h =
-    let k = both (not (length (b ∷ bs) == 0) && not (b == 35)) (not (list_any needs_quotes (b ∷ bs))) h in
-    (refused (b == 35) (both (not (length (b ∷ bs) == 0)) (not (b == 35)) k.0).1, refused (list_any needs_quotes (b ∷ bs)) k.1)
+    let k = and_parts (not (length (b ∷ bs) == 0) && not (b == 35)) (not (list_any needs_quotes (b ∷ bs))) h in
+    (not-true (b == 35) (and_parts (not (length (b ∷ bs) == 0)) (not (b == 35)) k.0).1, not-true (list_any needs_quotes (b ∷ bs)) k.1)
 
 needs_none : (b : ℕ) (bs : List ℕ) → list_any needs_quotes (b ∷ bs) ≡ false → (is_blank b ≡ false) × ((b == 92) ≡ false)
-needs_none b bs h = none_of (is_blank b) (b == 34) (b == 39) (b == 92) (neither (needs_quotes b) (list_any needs_quotes bs) h).0
+needs_none b bs h = none_of (is_blank b) (b == 34) (b == 39) (b == 92) (or_parts (needs_quotes b) (list_any needs_quotes bs) h).0
 
 no_comment : (b : ℕ) (bs : List ℕ) → (b == 35) ≡ false → is_blank b ≡ false → begins_comment (b ∷ bs) ≡ false
 no_comment b bs e f = by (b == 35) (is_blank b) e f
@@ -100,7 +97,7 @@ ends_behind (x ∷ y ∷ ys) b bs = ends_behind (y ∷ ys) b bs
 
 plain_ends : (b : ℕ) (bs : List ℕ) → list_any needs_quotes (b ∷ bs) ≡ false → ends_in_backslash (b ∷ bs) ≡ false
 plain_ends b [] h = (needs_none b [] h).1
-plain_ends b (d ∷ ds) h = plain_ends d ds (neither (needs_quotes b) (list_any needs_quotes (d ∷ ds)) h).1
+plain_ends b (d ∷ ds) h = plain_ends d ds (or_parts (needs_quotes b) (list_any needs_quotes (d ∷ ds)) h).1
 
 quoted_closes : (word : List ℕ) → Closes (quoted word)
 unfolding is_plain
@@ -120,7 +117,7 @@ item_closes (part ∷ []) h = subst Closes (sym (append-nil (quoted part))) (quo
 item_closes (part ∷ next ∷ parts) h = closes_behind (quoted part) (item_text (next ∷ parts)) (item_closes (next ∷ parts) refl)
 
 pub line_closes : (item : Item) (items : List Item) → list_all is_filled (item ∷ items) ≡ true → Closes (line_of (item ∷ items))
-line_closes item [] h = subst Closes (sym (append-nil (item_text item))) (item_closes item (both (is_filled item) true h).0)
+line_closes item [] h = subst Closes (sym (append-nil (item_text item))) (item_closes item (and_parts (is_filled item) true h).0)
 line_closes item (next ∷ items) h =
     closes_behind (item_text item) (32 ∷ line_of (next ∷ items))
-    (closes_behind (32 ∷ []) (line_of (next ∷ items)) (line_closes next items (both (is_filled item) (list_all is_filled (next ∷ items)) h).1))
+    (closes_behind (32 ∷ []) (line_of (next ∷ items)) (line_closes next items (and_parts (is_filled item) (list_all is_filled (next ∷ items)) h).1))

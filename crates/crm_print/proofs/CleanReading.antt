@@ -3,6 +3,7 @@ use Rattle.std.proofs.Common.{◌≡◌, ◌⊎◌, inl, inr, ℕ, ◌+◌, nat_
 use Rattle.std.proofs.lemmas.Str.{IsUtf8-from_is_utf8}
 use Rattle.std.specs.List.{list_any, AllByRecursion}
 use Rattle.std.specs.Str.{is_utf8}
+use Rattle.std.proofs.lemmas.Bool.{not-false}
 use Rattle.crm_lex.specs.RawLines.{begins_comment, content, raw_lines}
 use Rattle.crm_lex.specs.LogicalLines.{all_byte_faults, byte_faults, content_length, fault_if, faults, is_control, joined_text, joint, line_text, with_joint}
 use Rattle.crm_lex.specs.Reading.{faults_from, first_fault, reads, row, rows_from, unless}
@@ -26,17 +27,13 @@ no_fault : (t : Bool) (n : ℕ) (cause : LexCause) → fault_if t n cause ≡ []
 no_fault true n cause e = cc
 no_fault false n cause e = refl
 
-denied : (t : Bool) → not t ≡ false → t ≡ true
-denied true e = refl
-denied false e = cc
-
 -- a physical line without a fault of its bytes
 clean_content : (n : ℕ) (line : List ℕ) → byte_faults n line ≡ [] → Clean (content line)
 clean_content n line e =
     let utf8 = fault_if (not (is_utf8 (content line))) n NotUtf8 in
     let control = fault_if (list_any is_control (content line)) n ControlByte in
     record {
-      utf8 = IsUtf8-from_is_utf8 (content line) (denied (is_utf8 (content line)) (no_fault (not (is_utf8 (content line))) n NotUtf8 (nothing-front utf8 control e)));
+      utf8 = IsUtf8-from_is_utf8 (content line) (not-false (is_utf8 (content line)) (no_fault (not (is_utf8 (content line))) n NotUtf8 (nothing-front utf8 control e)));
       allowed = no_fault (list_any is_control (content line)) n ControlByte (nothing-back utf8 control e);
     }
 

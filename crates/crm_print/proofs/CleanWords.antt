@@ -1,6 +1,7 @@
 -- The words of a text that has no fault are clean.
 use Rattle.std.proofs.Common.{◌≡◌, ℕ, ◌<◌, Bool, true, false, ◌&&◌, ◌||◌, ◌==◌, if◌then◌else◌, Option, Some, None, List, [], ◌∷◌, ◌++◌, map, filter, refl, sym, ap, subst, arith, append_assoc, append-nil}
 use Rattle.std.specs.List.{slice_split, onto_first, AllByRecursion}
+use Rattle.lemmas.proofs.Booleans.{either}
 use Rattle.crm_lex.specs.RawLines.{is_blank}
 use Rattle.crm_lex.specs.Words.{escapes, first_byte, has_pieces, is_gap, letters, mark_if, piece_at, pieces, place_after, words_of}
 use Rattle.crm_lex.specs.declared.quoting.Piece.{Piece}
@@ -30,10 +31,6 @@ escapes_ascii b (Some n) h = by (b == 92) (n == 34 || n == 92) refl h
     by : (t u : Bool) → (b == 92) ≡ t → (t && u) ≡ true → b < 128
     by true u e h = grind arith
     by false u e h = cc
-
-either : (s t : Bool) {P : Type 0} → (s || t) ≡ true → (s ≡ true → P) → (t ≡ true → P) → P
-either true t h f g = f refl
-either false t h f g = g h
 
 piece_says : (place : Place) (b : ℕ) (next : Option ℕ) → Says b (piece_at place b next)
 piece_says Outside b next =

@@ -1,11 +1,11 @@
 -- A line of items is read as their words.
 use Rattle.std.proofs.Common.{◌≡◌, ℕ, Bool, true, false, if◌then◌else◌, List, [], ◌∷◌, ◌++◌, map, refl, ap, ◌∙◌, append-nil}
 use Rattle.std.specs.List.{flat_map, list_any, list_all, slice_split, onto_first}
+use Rattle.std.proofs.lemmas.Bool.{and_parts}
 use Rattle.crm_lex.specs.Words.{has_pieces, is_gap, is_inside, is_open, letters, pieces, place_behind, spelled, words_of}
 use Rattle.crm_lex.specs.declared.quoting.Piece.{Piece}
 use Rattle.crm_lex.specs.declared.quoting.Piece.TheVariants.{Gap, Mark, Letter}
 use Rattle.crm_lex.specs.declared.quoting.Place.TheVariants.{Outside}
-use Rattle.crm_parse.proofs.Clean.{both}
 use Rattle.crm_print.specs.Quoting.{Item, escaped, is_plain, item_text, item_word, line_of, quoted, spaced}
 use Rattle.crm_print.proofs.Written.{Spells, item-spells}
 
@@ -80,10 +80,10 @@ word-alone text word s h =
 -- a line of items is read as their words
 pub line-words : (item : Item) (items : List Item) → list_all is_filled (item ∷ items) ≡ true → words_of (line_of (item ∷ items)) ≡ map item_word (item ∷ items)
 line-words item [] h =
-    let fits = both (is_filled item) true h in
+    let fits = and_parts (is_filled item) true h in
     word-alone (item_text item) (item_word item) (item-spells item) (some_item item fits.0)
 line-words item (next ∷ items) h =
-    let fits = both (is_filled item) (list_all is_filled (next ∷ items)) h in
+    let fits = and_parts (is_filled item) (list_all is_filled (next ∷ items)) h in
     word-before (item_text item) (item_word item) (line_of (next ∷ items)) (item-spells item) (some_item item fits.0)
     ∙ ap (λ words. item_word item ∷ words) (line-words next items fits.1)
 

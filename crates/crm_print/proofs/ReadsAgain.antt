@@ -1,13 +1,14 @@
 -- What is printed reads again as the same statements.
 use Rattle.std.proofs.Common.{◌≡◌, ℕ, ◌+◌, nat_le, true, List, [], ◌∷◌, ◌++◌, length, map, Ok, refl, sym, ap, subst, ◌∙◌}
 use Rattle.std.specs.List.{flat_map, list_all, AllByRecursion}
+use Rattle.std.proofs.lemmas.Bool.{and_parts}
 use Rattle.crm_lex.specs.declared.line.Line.{Line}
 use Rattle.crm_lex.specs.Reading.{reads}
 use Rattle.crm_parse.specs.declared.form.Form.{Form}
 use Rattle.crm_parse.specs.declared.statement.Crm.{Crm}
 use Rattle.crm_parse.specs.declared.statement.Statement.{Statement}
 use Rattle.crm_parse.specs.Statements.{statements_of}
-use Rattle.crm_parse.proofs.Clean.{Clean, both}
+use Rattle.crm_parse.proofs.Clean.{Clean}
 use Rattle.crm_parse.proofs.CleanLines.{CleanLine, CleanStatement, statements-clean}
 use Rattle.crm_parse.proofs.LinesAgain.{statement_words, statements-again}
 use Rattle.crm_parse.proofs.SomeWords.{HasWords, has_words, statements-words}
@@ -59,7 +60,7 @@ readable : (n : ℕ) (statements : List Statement) → AllByRecursion CleanState
     → list_all (λ (s : Statement). nat_le (length (canonical_line s.form)) 1048576) statements ≡ true → AllByRecursion Readable (all_items statements)
 readable n [] c w s = tt
 readable n (one ∷ statements) c w s =
-    let short = both (nat_le (length (canonical_line one.form)) 1048576) (list_all (λ (s : Statement). nat_le (length (canonical_line s.form)) 1048576) statements) s in
+    let short = and_parts (nat_le (length (canonical_line one.form)) 1048576) (list_all (λ (s : Statement). nat_le (length (canonical_line s.form)) 1048576) statements) s in
     (readable-one one.form c.0 w.0 short.0, readable (n + 1) statements c.1 w.1 short.1)
 
 text-is : (statements : List Statement) → flat_map ended_line statements ≡ ended_lines (all_items statements)

@@ -3,13 +3,14 @@ use Rattle.std.proofs.Common.{◌≡◌, ℕ, ◌+◌, nat_lt, nat_le, Bool, tru
 use Rattle.std.proofs.lemmas.Str.{is_utf8-from_IsUtf8}
 use Rattle.std.specs.List.{flat_map, list_any, list_all, AllByRecursion}
 use Rattle.std.specs.Str.{is_utf8}
+use Rattle.std.proofs.lemmas.Bool.{and_parts, or_parts}
 use Rattle.crm_lex.specs.RawLines.{begins_comment, content, ends_in_backslash, joined, physical_lines, raw_lines}
 use Rattle.crm_lex.specs.LogicalLines.{faults, is_control, line_text, with_joint}
 use Rattle.crm_lex.specs.Reading.{faults_from, first_fault, reads, row, rows_from, unless}
 use Rattle.crm_lex.specs.Words.{is_open, words_of}
 use Rattle.crm_lex.specs.declared.line.Line.{Line}
 use Rattle.crm_print.specs.Quoting.{Item, item_word, line_of}
-use Rattle.crm_parse.proofs.Clean.{Clean, EachClean, both, neither}
+use Rattle.crm_parse.proofs.Clean.{Clean, EachClean}
 use Rattle.crm_print.proofs.CleanLines.{clean_line, line_begins, line_closes}
 use Rattle.crm_print.proofs.Lines.{is_filled, line-closed, line-words}
 
@@ -35,7 +36,7 @@ line1 items r =
     subst (λ items. Line1 (line_of items)) (sym r.are) (
     record {
       clean = clean_line r.first r.others r.clean;
-      begins = line_begins r.first r.others (both (is_filled r.first) (list_all is_filled r.others) r.filled).0;
+      begins = line_begins r.first r.others (and_parts (is_filled r.first) (list_all is_filled r.others) r.filled).0;
       closes = line_closes r.first r.others r.filled [];
       closed = line-closed r.first r.others;
       short = r.short;
@@ -60,7 +61,7 @@ no_feed b h = by (b == 10) (b == 13) refl refl
 feed : (text rest : List ℕ) → list_any is_control text ≡ false → physical_lines (text ++ 10 ∷ rest) ≡ (text ++ 10 ∷ []) ∷ physical_lines rest
 feed [] rest h = refl
 feed (b ∷ bs) rest h =
-    let n = neither (is_control b) (list_any is_control bs) h in
+    let n = or_parts (is_control b) (list_any is_control bs) h in
     let other = (no_feed b n.0).0 in
     let more = feed bs rest n.1 in
     rw (other, more) refl
@@ -68,13 +69,13 @@ feed (b ∷ bs) rest h =
 content_is : (text : List ℕ) → list_any is_control text ≡ false → content (text ++ 10 ∷ []) ≡ text
 content_is [] h = refl
 content_is (b ∷ []) h =
-    let n = neither (is_control b) false h in
+    let n = or_parts (is_control b) false h in
     let other = (no_feed b n.0).1 in rw other refl
 content_is (b ∷ d ∷ []) h =
-    let n = neither (is_control b) (list_any is_control (d ∷ [])) h in
+    let n = or_parts (is_control b) (list_any is_control (d ∷ [])) h in
     ap (λ xs. b ∷ xs) (content_is (d ∷ []) n.1)
 content_is (b ∷ d ∷ e ∷ es) h =
-    let n = neither (is_control b) (list_any is_control (d ∷ e ∷ es)) h in
+    let n = or_parts (is_control b) (list_any is_control (d ∷ e ∷ es)) h in
     ap (λ xs. b ∷ xs) (content_is (d ∷ e ∷ es) n.1)
 
 unjoined : (text : List ℕ) → ends_in_backslash text ≡ false → with_joint [] text ≡ text

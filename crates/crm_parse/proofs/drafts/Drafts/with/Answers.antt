@@ -1,7 +1,7 @@
 use Rattle.std.proofs.Common.{rules, ◌≡◌, ◌++◌, ◌∷◌, ◌∙◌, []}
+use Rattle.lemmas.proofs.Searches.{any_or}
 use Rattle.crm_parse.specs.GivenKeys.{AddsSettings}
 use Rattle.crm_parse.specs.Settings.{sets}
-use Rattle.crm_parse.proofs.KeySets.{any_or}
 use Rattle.crm_parse.proofs.drafts.Drafts.with.Goals as goal
 
 pub invariant_of-result : goal.invariant_of-result

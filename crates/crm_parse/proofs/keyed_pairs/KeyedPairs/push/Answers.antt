@@ -1,8 +1,9 @@
 use Rattle.std.proofs.Common.{rules, ◌≡◌, ◌||◌, ◌++◌, ◌∷◌, ◌∙◌, [], ℕ, List, true, cond}
+use Rattle.lemmas.proofs.Searches.{any_or}
 use Rattle.crm_parse.specs.Keys.{is_promoted_max}
 use Rattle.crm_parse.specs.KeySets.{has}
 use Rattle.crm_parse.specs.Texts.{is}
-use Rattle.crm_parse.proofs.KeySets.{any_more, any_or}
+use Rattle.crm_parse.proofs.KeySets.{any_more}
 use Rattle.crm_parse.proofs.keyed_pairs.KeyedPairs.push.Goals as goal
 
 -- src/keyed_pairs.rt:76:9
