@@ -4,6 +4,7 @@ use Rattle.std.specs.Prelude.{Option, Some, None}
 use Rattle.std.specs.List.{list_any}
 use Rattle.std.specs.Option.{option_map, option_map_or, option_or}
 use Rattle.std.proofs.lemmas.Option.{slice_get-map}
+use Rattle.std.proofs.lemmas.Bool.{not-false}
 use Rattle.cluster_types.specs.declared.cluster.Cluster.{Cluster}
 use Rattle.cluster_types.specs.declared.leaf.Leaf.{Leaf}
 use Rattle.cluster_types.specs.declared.leaf.Role.{Role}
@@ -42,10 +43,6 @@ none-of p (y ∷ ys) x h k = on (head_or_rest y ys x k) (none-of p ys x (later (
   on : (y ≡ x) ⊎ Contains ys x → (Contains ys x → p x ≡ false) → p x ≡ false
   on (inl e) next = sym (ap p e) ∙ sooner (p y) (list_any p ys) h
   on (inr r) next = next r
-
-not-false : (b : Bool) → not b ≡ false → b ≡ true
-not-false true h = refl
-not-false false h = cc
 
 -- the directory says of the leaves what the cluster says
 pub record Agrees (d : Directory) (c : Cluster) : Type 0 where
