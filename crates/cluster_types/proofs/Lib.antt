@@ -34,4 +34,7 @@ pub mod SilentEnds
 pub mod GateGroups
 pub mod SourceLaws
 pub mod OneGate
-pub mod GuardExamples
+mod GuardExamples
+mod MigrationGuards
+mod RecoveryGuards
+mod AnswerGuards
