@@ -1,121 +1,125 @@
--- What the top call answers for an input, and what it has written by then.
-use Rattle.std.specs.Prelude.{◌≡◌, ◌≢◌, ◌⊎◌, ℕ, ◌<◌, ◌≤◌, Option, Some, List, [], length, codes}
+-- What the top call answers, what it has read and written by then, and what the answer has to be.
+use Rattle.std.specs.Prelude.{◌≡◌, ◌≢◌, ◌↔◌, ◌⊎◌, ℕ, ◌<◌, ◌≤◌, Bool, true, false, Option, Some, None, List, [], length, IfSome}
 use Rattle.cluster_io.specs.Streams.{Adds, AddsPrefix}
-use Rattle.sim_core.specs.declared.cluster.Cluster.{Cluster}
-use Rattle.sim_core.specs.declared.reading.Input.{Input}
 use Rattle.sim_core.specs.declared.status.Status.{Status}
 use Rattle.sim_core.specs.declared.status.Status.TheVariants.{Done, NoMemory, Usage, ReadFault, WriteFault, Refused, Unexpected, TooLarge, NotLawful}
-use Rattle.sim_core.specs.Check.{IsCheckText, IsRefusalText}
-use Rattle.sim_core.specs.Form.{Says}
-use Rattle.sim_core.specs.Reading.{Reads}
-use Rattle.sim_core.specs.Run.{IsRunText, IsOutside}
+use Rattle.sim_core.specs.declared.words.Command.{Command}
+use Rattle.sim_core.specs.Table.{Intake, nothing, whole, live, intake, takes_memory, Gets}
 
 -- the most bytes that an input may have: 16 MiB (rule of this project)
 abbrev pub most_bytes : ℕ
 most_bytes = 16777216
 
--- what is written for an input outside the form
-abbrev pub refusal : List ℕ
-refusal = codes "refused 1 NotYet\n"
-
--- with the word `replay` an input of this content gets this status and this text
-abbrev pub IsOutput : List ℕ → Status → List ℕ → Type 0
-IsOutput input Done text = IsRunText input text
-IsOutput input Refused text = IsOutside input × (text ≡ refusal)
-IsOutput input NoMemory text = ⊥
-IsOutput input Usage text = ⊥
-IsOutput input ReadFault text = ⊥
-IsOutput input WriteFault text = ⊥
-IsOutput input Unexpected text = ⊥
-IsOutput input TooLarge text = ⊥
-IsOutput input NotLawful text = ⊥
-
--- with the word `check` it gets these
-abbrev pub IsCheckOutput : List ℕ → Status → List ℕ → Type 0
-IsCheckOutput input Done text = IsCheckText input text
-IsCheckOutput input Refused text = IsRefusalText input text
-IsCheckOutput input NoMemory text = ⊥
-IsCheckOutput input Usage text = ⊥
-IsCheckOutput input ReadFault text = ⊥
-IsCheckOutput input WriteFault text = ⊥
-IsCheckOutput input Unexpected text = ⊥
-IsCheckOutput input TooLarge text = ⊥
-IsCheckOutput input NotLawful text = ⊥
+-- a status that comes with a text of its own
+abbrev pub IsOutcome : Status → Type 0
+IsOutcome Done = Unit {0}
+IsOutcome Refused = Unit {0}
+IsOutcome Unexpected = Unit {0}
+IsOutcome NotLawful = Unit {0}
+IsOutcome _ = ⊥
 
 -- the input was read to its end, and had room
 pub record IsReadWhole (input : List ℕ) (left : Option (List ℕ)) : Type 0 where
   pub room : length input ≤ most_bytes
   pub at_end : left ≡ Some []
 
--- for a word that gives an input a status and a text
-module _ (Output : List ℕ → Status → List ℕ → Type 0) where
-  -- the whole text of the input was written
-  pub record Writes (input : List ℕ) (status : Status) (left before after : Option (List ℕ)) : Type 0 where
-    pub read : IsReadWhole input left
+-- what a status says of the input, and of what is left of it
+abbrev pub Taken : Intake → List ℕ → Option (List ℕ) → Status → Type 0
+Taken nothing input left ReadFault = ⊥
+Taken nothing input left TooLarge = ⊥
+Taken nothing input left _ = Unit {0}
+Taken whole input left NoMemory = Unit {0}
+Taken whole input left ReadFault = Unit {0}
+Taken whole input left TooLarge = most_bytes < length input
+Taken whole input left _ = IsReadWhole input left
+Taken live input left _ = Unit {0}
+
+-- where the input gets these statuses with these texts
+module _ (Due : Status → List ℕ → Type 0) where
+  -- its whole text was written
+  pub record IsWritten (status : Status) (before after : Option (List ℕ)) : Type 0 where
     pub text : List ℕ
-    pub output : Output input status text
+    pub due : Due status text
     pub added : Adds before text after
 
-  -- writing the text of the input was cut short
-  pub record IsCutShort (input : List ℕ) (left before after : Option (List ℕ)) : Type 0 where
-    pub read : IsReadWhole input left
+  -- writing its text was cut short
+  pub record IsCutShort (before after : Option (List ℕ)) : Type 0 where
     pub status : Status
     pub text : List ℕ
-    pub output : Output input status text
+    pub due : Due status text
     pub part : AddsPrefix text before after
 
-  -- what each status says of the input, of what is left of it, and of what the sink holds before and after
-  abbrev pub Answers : List ℕ → Option (List ℕ) → Option (List ℕ) → Option (List ℕ) → Status → Type 0
-  Answers input left before after Done = Writes input Done left before after
-  Answers input left before after Refused = Writes input Refused left before after
-  Answers input left before after WriteFault = IsCutShort input left before after
-  Answers input left before after NoMemory = (status : Status) (text : List ℕ) → Output input status text → AddsPrefix text before after
-  Answers input left before after ReadFault = after ≡ before
-  Answers input left before after TooLarge = (most_bytes < length input) × (after ≡ before)
-  Answers input left before after Usage = ⊥
-  Answers input left before after Unexpected = ⊥
-  Answers input left before after NotLawful = ⊥
+  -- the input gets this status
+  pub record IsDue (status : Status) : Type 0 where
+    pub text : List ℕ
+    pub due : Due status text
 
--- the answers with the word `replay`
-abbrev pub Replays : List ℕ → Option (List ℕ) → Option (List ℕ) → Option (List ℕ) → Status → Type 0
-Replays input left before after status = Answers IsOutput input left before after status
+  -- what a status says of what the sink holds before and after
+  abbrev pub Written : Option (List ℕ) → Option (List ℕ) → Status → Type 0
+  Written before after NoMemory = (status : Status) (text : List ℕ) → Due status text → AddsPrefix text before after
+  Written before after WriteFault = IsCutShort before after
+  Written before after ReadFault = after ≡ before
+  Written before after TooLarge = after ≡ before
+  Written before after Usage = ⊥
+  Written before after status = IsWritten status before after
 
--- the answers with the word `check`
-abbrev pub Checks : List ℕ → Option (List ℕ) → Option (List ℕ) → Option (List ℕ) → Status → Type 0
-Checks input left before after status = Answers IsCheckOutput input left before after status
+-- for a word with this intake, which gives an input a status and a text
+module _ (kind : Intake) (Output : List ℕ → Status → List ℕ → Type 0) where
+  -- what the answer says of an input, of what is left of it, and of what the sink holds before and after
+  pub record SaysOf (input : List ℕ) (left before after : Option (List ℕ)) (status : Status) : Type 0 where
+    pub taken : Taken kind input left status
+    pub written : Written (Output input) before after status
 
--- with the words that write a text of the program's own: it was written, or a prefix of it by a sink that failed
-abbrev pub Tells : List ℕ → Option (List ℕ) → Option (List ℕ) → Status → Type 0
-Tells text before after Done = Adds before text after
-Tells text before after WriteFault = AddsPrefix text before after
-Tells text before after NoMemory = ⊥
-Tells text before after Usage = ⊥
-Tells text before after ReadFault = ⊥
-Tells text before after Refused = ⊥
-Tells text before after Unexpected = ⊥
-Tells text before after TooLarge = ⊥
-Tells text before after NotLawful = ⊥
+  -- some input that has room gets this status
+  pub record SomeInput (status : Status) : Type 0 where
+    pub input : List ℕ
+    pub room : length input ≤ most_bytes
+    pub due : IsDue (Output input) status
 
--- a status at which nothing was written
-abbrev pub IsSilent : Status → Type 0
-IsSilent status = (status ≡ Usage) ⊎ ((status ≡ ReadFault) ⊎ (status ≡ TooLarge))
+-- the input of a word, where it is told: all bytes of the source with a word that reads an input to its end, and none with one that reads nothing
+abbrev pub input_of : Intake → Option (List ℕ) → Option (List ℕ)
+input_of nothing left = Some []
+input_of whole left = left
+input_of live left = None
 
--- a status that this version gives
-abbrev pub IsGiven : Status → Type 0
-IsGiven status = (status ≢ Unexpected) × (status ≢ NotLawful)
+-- what the answer to a word says, where its input is told
+abbrev pub Answers : Command → Option (List ℕ) → Option (List ℕ) → Option (List ℕ) → Option (List ℕ) → Status → Type 0
+Answers word told left before after status =
+    IfSome (input_of (intake word) told) (λ input. SaysOf (intake word) (Gets word) input left before after status)
 
--- the input is accepted by `replay`: it has room, and says a cluster
-pub record IsAccepted (input : List ℕ) : Type 0 where
-  pub room : length input ≤ most_bytes
-  pub cluster : Cluster
-  pub says : Says input cluster
+-- where no count rose and the input has room, each answer but want of memory is the one that the input gets
+abbrev pub IsComplete : Command → Option (List ℕ) → Status → Type 0
+IsComplete word told status = IfSome (input_of (intake word) told) (λ input. length input ≤ most_bytes → status ≢ NoMemory
+    → (due : Status) → (status ≡ due) ↔ IsDue (Gets word input) due)
 
--- the input is accepted by `check`: it has room, and is read
-pub record IsRead (input : List ℕ) : Type 0 where
-  pub room : length input ≤ most_bytes
-  pub whole : Input
-  pub reads : Reads input whole
+abbrev pub reads_some : Intake → Bool
+reads_some nothing = false
+reads_some whole = true
+reads_some live = true
 
--- of an accepted input the whole text is written, unless memory is refused
-abbrev pub IsDoneUnlessMemory : Status → Type 0
-IsDoneUnlessMemory status = (status ≡ Done) ⊎ (status ≡ NoMemory)
+-- a status that a call may have whatever its source and its sink tell: those of a fault, of size and of memory, and those that some input gets
+abbrev pub MayAnswer : Bool → Intake → (List ℕ → Status → List ℕ → Type 0) → Status → Type 0
+MayAnswer memory kind Output NoMemory = memory ≡ true
+MayAnswer memory kind Output ReadFault = reads_some kind ≡ true
+MayAnswer memory kind Output TooLarge = reads_some kind ≡ true
+MayAnswer memory kind Output WriteFault = Unit {0}
+MayAnswer memory kind Output Usage = ⊥
+MayAnswer memory kind Output status = SomeInput kind Output status
+
+-- a status of a word
+abbrev pub IsStatusOf : Command → Status → Type 0
+IsStatusOf word status = MayAnswer (takes_memory word) (intake word) (Gets word) status
+
+-- a status that comes before anything is written, with a word that reads an input to its end
+abbrev pub IsEarly : Status → Type 0
+IsEarly status = (status ≡ ReadFault) ⊎ (status ≡ TooLarge)
+
+-- the words are those of a word that reads an input to its end
+abbrev pub ReadsWhole : Option Command → Type 0
+ReadsWhole None = ⊥
+ReadsWhole (Some word) = intake word ≡ whole
+
+-- the words are those of a word that reads nothing, or no form
+abbrev pub ReadsNothing : Option Command → Type 0
+ReadsNothing None = Unit {0}
+ReadsNothing (Some word) = intake word ≡ nothing

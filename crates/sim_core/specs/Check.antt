@@ -4,6 +4,8 @@ use Rattle.crm_print.specs.Text.{canonical_text}
 use Rattle.cluster_types.specs.declared.cluster.Cluster.{Cluster}
 use Rattle.sim_core.specs.declared.cause.InputCause.{InputCause}
 use Rattle.sim_core.specs.declared.reading.Input.{Input}
+use Rattle.sim_core.specs.declared.status.Status.{Status}
+use Rattle.sim_core.specs.declared.status.Status.TheVariants.{Done, Refused}
 use Rattle.sim_core.specs.Causes.{cause_name}
 use Rattle.sim_core.specs.Reading.{Reads, Fault}
 
@@ -36,3 +38,9 @@ pub record IsRefusalText (input text : List ℕ) : Type 0 where
   pub why : InputCause
   pub fault : Fault input line why
   pub printed : text ≡ refusal_text line why
+
+-- with the word `check` an input of this content gets this status and this text
+abbrev pub IsCheckOutput : List ℕ → Status → List ℕ → Type 0
+IsCheckOutput input Done text = IsCheckText input text
+IsCheckOutput input Refused text = IsRefusalText input text
+IsCheckOutput input _ text = ⊥

@@ -1,13 +1,9 @@
-pub mod Lines
-pub mod Form
-pub mod Place
-pub mod Plan
-pub mod Transition
-pub mod Text
-pub mod Run
 pub mod Status
 pub mod Causes
 pub mod Reading
 pub mod Check
+pub mod FirstReplay
+pub mod OwnText
 pub mod Words
+pub mod Table
 pub mod Answers

@@ -2,8 +2,7 @@
 
 ghost use Rattle.std.specs.Prelude.{◌≡◌, ◌++◌, ◌≤◌, IfOk, OnOk};
 ghost use Rattle.cluster_types.specs.Valid.{KeepsLimits};
-ghost use Rattle.sim_core.specs.Answers.{IsCheckOutput};
-ghost use Rattle.sim_core.specs.Check.{check_text, counts_line, refusal_text, rules_in};
+ghost use Rattle.sim_core.specs.Check.{IsCheckOutput, check_text, counts_line, refusal_text, rules_in};
 
 use crate::cause::InputCause;
 use crate::fault::InputFault;
@@ -11,9 +10,9 @@ use crate::input_word::InputWord;
 use crate::memory::NoMemory;
 use crate::reading::{Input, read_input};
 use crate::status::Status;
-use crate::text::push_number;
 use cluster_types::Cluster;
 use crm_print::print;
+use first_replay::push_number;
 use std::alloc::Global;
 
 /// How many rules a cluster has.
@@ -64,9 +63,9 @@ fn refusal_text(alloc: Global, line: u32, cause: InputCause) -> Result<Vec<u8>, 
 pub(crate) struct CheckWord;
 
 impl InputWord for CheckWord {
-    ghost gives = { IsCheckOutput };
+    ghost gets = { λ _. IsCheckOutput };
 
-    fn answer(alloc: Global, input: &[u8]) -> Result<(Status, Vec<u8>), NoMemory> {
+    fn answer(&self, alloc: Global, input: &[u8]) -> Result<(Status, Vec<u8>), NoMemory> {
         match read_input(alloc, input) {
             Ok(whole) => Ok((Status::Done, check_text(alloc, &whole)?)),
             Err(InputFault::At { line, cause }) => {

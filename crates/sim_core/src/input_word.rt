@@ -1,9 +1,10 @@
-//! What the words that read an input share: the whole input is read, and then the text is written that the word gives it.
+//! What the words that read a whole input share: it is read to its end, and then the text is written that the word gives it.
 
-ghost use Rattle.std.specs.Prelude.{◌≡◌, ◌≢◌, ℕ, ◌+◌, ◌⊎◌, ◌≤◌, List, length, IfOk, IfSome};
+ghost use Rattle.std.specs.Prelude.{◌≡◌, ◌≢◌, ℕ, ◌+◌, ◌≤◌, ◌<◌, true, List, length, IfOk, IfSome};
 ghost use Rattle.cluster_io.specs.Streams.{Rose, TakesCount};
 ghost use Rattle.sim_core.specs.declared.status.Status.{Status as StatusOf};
-ghost use Rattle.sim_core.specs.Answers.{Answers, IsGiven, IsSilent, most_bytes};
+ghost use Rattle.sim_core.specs.Answers.{IsEarly, IsOutcome, MayAnswer, SaysOf, most_bytes};
+ghost use Rattle.sim_core.specs.Table.{whole};
 
 use crate::memory::NoMemory;
 use crate::status::Status;
@@ -16,32 +17,39 @@ const MOST_BYTES: usize = 16_777_216;
 /// A word that gives an input a status and a text.
 pub(crate) trait InputWord {
     /// An input of this content gets this status and this text.
-    ghost gives: { List ℕ → StatusOf → List ℕ → Type 0 };
+    ghost gets: { Self → List ℕ → StatusOf → List ℕ → Type 0 };
 
     /// The status and the text that an input gets. The only error is that memory was refused.
-    fn answer(alloc: Global, input: &[u8]) -> Result<(Status, Vec<u8>), NoMemory>
+    fn answer(&self, alloc: Global, input: &[u8]) -> Result<(Status, Vec<u8>), NoMemory>
         requires { length input.now ≤ most_bytes }
-        ensures output { IfOk result (λ answer. gives input.now answer.0 answer.1.items) }
-        ensures status { IfOk result (λ answer. (answer.0 ≡ Status.Done) ⊎ (answer.0 ≡ Status.Refused)) };
+        ensures output { IfOk result (λ answer. gets self.now input.now answer.0 answer.1.items) }
+        ensures status { IfOk result (λ answer. IsOutcome answer.0) };
 }
 
 /// Reads the whole input, and writes the text that it gets with this word.
-pub fn carry_out<I: InputWord, S: Source, W: Sink>(
+pub(crate) fn with_input<I: InputWord, S: Source, W: Sink>(
     alloc: Global,
+    word: &I,
     src: &mut S,
     out: &mut W,
 ) -> Status
-    ensures answers { IfSome (S.left src.old)
-        (λ input. Answers I.gives input (S.left src.new) (W.written out.old) (W.written out.new) result) }
-    ensures read_cause { result ≡ Status.ReadFault → Rose (S.faults src.old) (S.faults src.new) }
-    ensures write_cause { result ≡ Status.WriteFault → Rose (W.faults out.old) (W.faults out.new) }
-    ensures silent { IsSilent result → W.written out.new ≡ W.written out.old }
+    ensures says { IfSome (S.left src.old)
+        (λ input. SaysOf whole (I.gets word.now) input (S.left src.new) (W.written out.old) (W.written out.new) result) }
+    ensures status { MayAnswer true whole (I.gets word.now) result }
+    ensures early { IsEarly result → out.new ≡ out.old }
     ensures too_large { result ≡ Status.TooLarge
         → TakesCount (most_bytes + 1) (S.left src.old) (S.left src.new) }
-    ensures words { result ≢ Status.Usage }
-    ensures given { IsGiven result }
+    ensures nothing_of_too_large { IfSome (S.left src.old)
+        (λ input. most_bytes < length input → out.new ≡ out.old) }
+
+    ensures read_cause { result ≡ Status.ReadFault → Rose (S.faults src.old) (S.faults src.new) }
+    ensures write_cause { result ≡ Status.WriteFault → Rose (W.faults out.old) (W.faults out.new) }
     ensures read_count { S.faults src.old ≤ S.faults src.new }
     ensures write_count { W.faults out.old ≤ W.faults out.new }
+    ensures no_read_failure { S.counts_only_failures ≡ true → result ≢ Status.ReadFault
+        → S.faults src.new ≡ S.faults src.old }
+    ensures no_write_failure { W.counts_only_failures ≡ true → result ≢ Status.WriteFault
+        → W.faults out.new ≡ W.faults out.old }
 {
     let input = match read_all(alloc, src, MOST_BYTES) {
         Ok(input) => input,
@@ -49,7 +57,7 @@ pub fn carry_out<I: InputWord, S: Source, W: Sink>(
         Err(ReadEnd::TooLarge) => return Status::TooLarge,
         Err(ReadEnd::NoMemory) => return Status::NoMemory,
     };
-    let Ok((status, text)) = I::answer(alloc, &input) else {
+    let Ok((status, text)) = word.answer(alloc, &input) else {
         return Status::NoMemory;
     };
     match write_text(out, &text) {

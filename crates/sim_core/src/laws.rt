@@ -4,17 +4,8 @@ ghost use Rattle.std.specs.Prelude.{◌≡◌, ◌⊎◌, ℕ, List, []};
 ghost use Rattle.cluster_types.specs.Journals.{Orderly, in_flight};
 ghost use Rattle.cluster_types.specs.Valid.{IsValid};
 ghost use Rattle.sim_core.specs.Reading.{Fault, IsFaulty, IsReadable, Reads};
-ghost use Rattle.sim_core.specs.Run.{IsRunText};
-ghost use Rattle.sim_core.specs.Transition.{IsTransition, PredecessorsFirst};
 ghost use Rattle.sim_core.specs.declared.cause.InputCause.{InputCause as CauseOf};
 ghost use Rattle.sim_core.specs.declared.reading.Input.{Input as InputOf};
-ghost use Rattle.sim_core.specs.declared.plan.Action.{Action as ActionOf};
-ghost use Rattle.sim_core.specs.declared.transition.Event.{Event as EventOf};
-
-/// An input has one run, and so one text of it.
-pub fn one_text()
-    ensures { (input one other : List ℕ) → IsRunText input one → IsRunText input other → one ≡ other }
-{}
 
 /// A text is read as one input, or it has one fault, and never both.
 #[tactic(auto, using(crate::proofs::Faults::read_or_faulty, crate::proofs::OneReading::one_input, crate::proofs::OneReading::one_fault, crate::proofs::OneReading::not_both))]
@@ -32,10 +23,4 @@ pub fn what_is_read_is_valid()
     ensures cluster { (text : List ℕ) (input : InputOf) → Reads text input → IsValid input.cluster }
     ensures orderly { (text : List ℕ) (input : InputOf) → Reads text input → Orderly input.journal.events }
     ensures idle { (text : List ℕ) (input : InputOf) → Reads text input → in_flight input.journal.events ≡ [] }
-{}
-
-/// In every transition an action begins only after each that must precede it has succeeded.
-pub fn predecessors_first()
-    ensures { (actions : List ActionOf) (events : List EventOf)
-        → IsTransition actions events → PredecessorsFirst actions events }
 {}

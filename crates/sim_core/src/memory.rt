@@ -1,4 +1,4 @@
-use std::alloc::{AllocError, AllocFailed};
+use std::alloc::AllocError;
 
 /// Memory was refused.
 #[derive(Clone, Copy, Debug, PartialEq, Eq)]
@@ -10,14 +10,14 @@ impl From<AllocError> for NoMemory {
     }
 }
 
-impl<T: Drop> From<AllocFailed<T>> for NoMemory {
-    fn from(_: AllocFailed<T>) -> Self {
+impl From<crm_lex::NoMemory> for NoMemory {
+    fn from(_: crm_lex::NoMemory) -> Self {
         NoMemory
     }
 }
 
-impl From<crm_lex::NoMemory> for NoMemory {
-    fn from(_: crm_lex::NoMemory) -> Self {
+impl From<first_replay::NoMemory> for NoMemory {
+    fn from(_: first_replay::NoMemory) -> Self {
         NoMemory
     }
 }

@@ -1,84 +1,82 @@
-ghost use Rattle.std.specs.Prelude.{◌≡◌, ◌≢◌, ◌↔◌, ◌+◌, ◌≤◌, Some, None, IfSome, map};
+ghost use Rattle.std.specs.Prelude.{◌≡◌, ◌≢◌, ◌↔◌, ◌+◌, ◌≤◌, ◌<◌, true, Some, None, IfSome, length, map};
 ghost use Rattle.std.specs.String.{string_bytes};
 ghost use Rattle.cluster_io.specs.Streams.{Rose, TakesCount};
-ghost use Rattle.sim_core.specs.Answers.{Checks, IsAccepted, IsDoneUnlessMemory, IsGiven, IsRead, IsSilent, Replays, Tells, most_bytes};
+ghost use Rattle.sim_core.specs.Answers.{Answers, IsComplete, IsEarly, IsStatusOf, ReadsNothing, ReadsWhole, most_bytes};
+ghost use Rattle.sim_core.specs.Table.{intake, nothing, whole};
 ghost use Rattle.sim_core.specs.Words.{command_of};
-ghost use Rattle.sim_core.specs.declared.words.Command.TheVariants.{Check, Help, Replay, Version};
 
 use crate::check::CheckWord;
 use crate::help::{HELP, VERSION};
-use crate::input_word::carry_out;
+use crate::input_word::with_input;
+use crate::own_text::tell;
 use crate::replay::ReplayWord;
 use crate::status::Status;
 use crate::words::{Command, command_of};
-use cluster_io::{Sink, Source, write_text};
+use cluster_io::{Sink, Source};
 use std::alloc::Global;
 
-/// Writes a text of the program's own.
-fn tell<W: Sink>(out: &mut W, text: &str) -> Status
-    ensures tells { Tells text.now (W.written out.old) (W.written out.new) result }
-    ensures loud { ¬ IsSilent result }
-    ensures cause { result ≡ Status.WriteFault → Rose (W.faults out.old) (W.faults out.new) }
-    ensures count { W.faults out.old ≤ W.faults out.new }
+/// Carries out a word. The clauses are those of `run` for the words that ask for it.
+fn carry_out<S: Source, W: Sink>(alloc: Global, word: Command, src: &mut S, out: &mut W) -> Status
+    ensures answers { Answers word (S.left src.old) (S.left src.new) (W.written out.old) (W.written out.new) result }
+    ensures status { IsStatusOf word result }
+    ensures reads_nothing { intake word ≡ nothing → src.new ≡ src.old }
+    ensures early { intake word ≡ whole → IsEarly result → out.new ≡ out.old }
+    ensures too_large { intake word ≡ whole → result ≡ Status.TooLarge
+        → TakesCount (most_bytes + 1) (S.left src.old) (S.left src.new) }
+    ensures nothing_of_too_large { intake word ≡ whole → IfSome (S.left src.old)
+        (λ input. most_bytes < length input → out.new ≡ out.old) }
+
+    ensures read_cause { result ≡ Status.ReadFault → Rose (S.faults src.old) (S.faults src.new) }
+    ensures write_cause { result ≡ Status.WriteFault → Rose (W.faults out.old) (W.faults out.new) }
+    ensures read_count { S.faults src.old ≤ S.faults src.new }
+    ensures write_count { W.faults out.old ≤ W.faults out.new }
+    ensures no_read_failure { S.counts_only_failures ≡ true → result ≢ Status.ReadFault
+        → S.faults src.new ≡ S.faults src.old }
+    ensures no_write_failure { W.counts_only_failures ≡ true → result ≢ Status.WriteFault
+        → W.faults out.new ≡ W.faults out.old }
 {
-    match write_text(out, text.as_bytes()) {
-        Ok(()) => Status::Done,
-        Err(_) => Status::WriteFault,
+    match word {
+        Command::Check => with_input(alloc, &CheckWord, src, out),
+        Command::Replay => with_input(alloc, &ReplayWord, src, out),
+        Command::Help => tell(out, HELP),
+        Command::Version => tell(out, VERSION),
     }
 }
 
 /// Carries out what the words after the program's name ask for: reads `src`, writes to `out`, and answers how it ended.
 pub fn run<S: Source, W: Sink>(alloc: Global, words: &[String], src: &mut S, out: &mut W) -> Status
-    // The word `replay`, and an input that the source tells.
-    ensures replays { command_of (map string_bytes words.now) ≡ Some Replay
-        → IfSome (S.left src.old)
-        (λ input. Replays input (S.left src.new) (W.written out.old) (W.written out.new) result) }
-    ensures complete { command_of (map string_bytes words.now) ≡ Some Replay
-        → IfSome (S.left src.old) (λ input. IsAccepted input
-        → ¬ Rose (S.faults src.old) (S.faults src.new)
-        → ¬ Rose (W.faults out.old) (W.faults out.new)
-        → IsDoneUnlessMemory result) }
+    // Each word that reads nothing or a whole input, where the source tells what it reads: what the answer says, and what it has to be.
+    ensures answers { IfSome (command_of (map string_bytes words.now))
+        (λ word. Answers word (S.left src.old) (S.left src.new) (W.written out.old) (W.written out.new) result) }
+    ensures complete { IfSome (command_of (map string_bytes words.now))
+        (λ word. ¬ Rose (S.faults src.old) (S.faults src.new) → ¬ Rose (W.faults out.old) (W.faults out.new)
+        → IsComplete word (S.left src.old) result) }
 
-    // The word `check`, and an input that the source tells.
-    ensures checks { command_of (map string_bytes words.now) ≡ Some Check
-        → IfSome (S.left src.old)
-        (λ input. Checks input (S.left src.new) (W.written out.old) (W.written out.new) result) }
-    ensures checks_complete { command_of (map string_bytes words.now) ≡ Some Check
-        → IfSome (S.left src.old) (λ input. IsRead input
-        → ¬ Rose (S.faults src.old) (S.faults src.new)
-        → ¬ Rose (W.faults out.old) (W.faults out.new)
-        → IsDoneUnlessMemory result) }
-
-    // The words that read nothing.
-    ensures helps { command_of (map string_bytes words.now) ≡ Some Help
-        → Tells HELP.now (W.written out.old) (W.written out.new) result }
-    ensures versions { command_of (map string_bytes words.now) ≡ Some Version
-        → Tells VERSION.now (W.written out.old) (W.written out.new) result }
-    ensures reads_nothing { command_of (map string_bytes words.now) ≢ Some Check
-        → command_of (map string_bytes words.now) ≢ Some Replay
-        → S.left src.new ≡ S.left src.old }
-
-    // Words that are none of the forms.
+    // What holds whatever the source and the sink tell. Status 2 comes exactly where the words are no form, and leaves both as they were.
     ensures usage { (result ≡ Status.Usage) ↔ (command_of (map string_bytes words.now) ≡ None) }
+    ensures nothing_without_form { result ≡ Status.Usage → out.new ≡ out.old }
+    ensures status { IfSome (command_of (map string_bytes words.now)) (λ word. IsStatusOf word result) }
+    ensures reads_nothing { ReadsNothing (command_of (map string_bytes words.now)) → src.new ≡ src.old }
 
-    // What holds whatever the source and the sink tell: where nothing is written, how much was read of too large an input, and that a fault
-    // comes only where its count rose.
-    ensures silent { IsSilent result → W.written out.new ≡ W.written out.old }
-    ensures too_large { result ≡ Status.TooLarge
+    // An input that isn't read to its end within its size gives no text.
+    ensures early { ReadsWhole (command_of (map string_bytes words.now)) → IsEarly result → out.new ≡ out.old }
+    ensures too_large { ReadsWhole (command_of (map string_bytes words.now)) → result ≡ Status.TooLarge
         → TakesCount (most_bytes + 1) (S.left src.old) (S.left src.new) }
+    ensures nothing_of_too_large { ReadsWhole (command_of (map string_bytes words.now))
+        → IfSome (S.left src.old) (λ input. most_bytes < length input → out.new ≡ out.old) }
+
+    // A fault comes only where its count rose, and the first failure ends the call: no other answer lets a count rise that rises with failures alone.
     ensures read_fault { result ≡ Status.ReadFault → Rose (S.faults src.old) (S.faults src.new) }
     ensures write_fault { result ≡ Status.WriteFault → Rose (W.faults out.old) (W.faults out.new) }
     ensures read_faults_counted { S.faults src.old ≤ S.faults src.new }
     ensures write_faults_counted { W.faults out.old ≤ W.faults out.new }
-
-    // Two statuses belong to words that are not built yet.
-    ensures given { IsGiven result }
+    ensures no_read_failure { S.counts_only_failures ≡ true → result ≢ Status.ReadFault
+        → S.faults src.new ≡ S.faults src.old }
+    ensures no_write_failure { W.counts_only_failures ≡ true → result ≢ Status.WriteFault
+        → W.faults out.new ≡ W.faults out.old }
 {
     match command_of(words) {
-        Some(Command::Check) => carry_out::<CheckWord, S, W>(alloc, src, out),
-        Some(Command::Replay) => carry_out::<ReplayWord, S, W>(alloc, src, out),
-        Some(Command::Help) => tell(out, HELP),
-        Some(Command::Version) => tell(out, VERSION),
+        Some(word) => carry_out(alloc, word, src, out),
         None => Status::Usage,
     }
 }

@@ -1,0 +1,10 @@
+use Rattle.std.proofs.Common.{not, rules, tests}
+use Rattle.std.proofs.lemmas.Iterator.{YieldsList-from_take}
+use Rattle.std.proofs.lemmas.Iterator.Consumers.{YieldsList-at, YieldsList-from_filter, map_from_collect}
+use Rattle.std.proofs.lemmas.Iterator.Splits.{YieldsList-from_slice_split}
+use Rattle.first_replay.specs.Lines.{is_blank, is_empty}
+use Rattle.first_replay.proofs.lines.first_parts.Goals as goal
+
+pub returns : goal.returns
+returns c =
+    map_from_collect _ c.collect.ensures.ran (YieldsList-from_take c.args.most (YieldsList-at c.take.ensures.source (YieldsList-from_filter _ (λ part. not (is_empty part)) (YieldsList-at c.filter.ensures.source (YieldsList-from_slice_split _ is_blank c.args.line.now c.split.ensures.rest c.split.ensures.done c.split.ensures.closure (λ x r q k. search (rules, tests)))) c.filter.ensures.closure (λ x r q k. search (rules, tests)))) c.take.ensures.count)

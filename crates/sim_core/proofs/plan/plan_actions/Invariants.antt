@@ -1,5 +1,0 @@
-use Rattle.sim_core.proofs.Planning.{AreProbes}
-use Rattle.sim_core.proofs.plan.plan_actions.Given as goal
-
-abbrev pub invariant-loop-node : goal.invariant-loop-node
-invariant-loop-node l = AreProbes l.node l.actions.items

@@ -1,0 +1,10 @@
+use Rattle.sim_core.proofs.top.carry_out.Goals as goal
+
+pub returns-in-Help-clause-answers : goal.returns-in-Help-clause-answers
+returns-in-Help-clause-answers g c = rw c.in-Help.is (c.tell.ensures.says _ _)
+
+pub returns-in-Version-clause-answers : goal.returns-in-Version-clause-answers
+returns-in-Version-clause-answers g c = rw c.in-Version.is (c.tell-in-Version.ensures.says _ _)
+
+pub returns-in-Replay-clause-status : goal.returns-in-Replay-clause-status
+returns-in-Replay-clause-status g c = rw c.in-Replay.is c.with_input-in-Replay.ensures.status

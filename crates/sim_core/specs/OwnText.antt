@@ -1,0 +1,7 @@
+-- What is written by a word that writes a text of the program's own.
+use Rattle.std.specs.Prelude.{◌≡◌, ℕ, List}
+use Rattle.sim_core.specs.declared.status.Status.{Status}
+use Rattle.sim_core.specs.declared.status.Status.TheVariants.{Done}
+
+abbrev pub IsOwnText : List ℕ → Status → List ℕ → Type 0
+IsOwnText own status text = (status ≡ Done) × (text ≡ own)
