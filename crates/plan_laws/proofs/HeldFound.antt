@@ -1,0 +1,139 @@
+-- Some marks have exactly the held cells.
+use Rattle.std.proofs.Common.{arith, ◌≡◌, ◌<◌, ◌≤◌, ◌+◌, ◌&&◌, ◌||◌, not, nat_lt, ℕ, suc, zero, Bool, true, false, List, refl, length, map, count_by, Contains, Any}
+use Rattle.std.specs.List.{flat_map, list_any, range_with_len}
+use Rattle.std.proofs.lemmas.List.Folds.{Any-from_list_any}
+use Rattle.std.proofs.lemmas.List.Sums.{count_by-le-length}
+use Rattle.lemmas.proofs.Booleans.{sooner, later}
+use Rattle.lemmas.proofs.Counts.{count_one_more}
+use Rattle.lemmas.proofs.Searches.{passes_by}
+use Rattle.rule_loops.proofs.Members.{in_flat, in_map, in_range}
+use Rattle.rule_loops.proofs.Needs.{decision_there}
+use Rattle.cluster_types.specs.declared.cluster.Cluster.{Cluster}
+use Rattle.cluster_types.specs.declared.journal.Event.{Event}
+use Rattle.cluster_types.specs.declared.leaf.Role.{Role}
+use Rattle.cluster_types.specs.declared.leaf.Role.TheVariants as role
+use Rattle.cluster_types.specs.declared.placement.Decision.{Decision}
+use Rattle.cluster_types.specs.declared.placement.Target.TheVariants as target
+use Rattle.cluster_types.specs.Decisions.{all_decisions, decision_of, leaf_of}
+use Rattle.cluster_types.specs.Held.{Held, IsClosed, by_colocation, by_order, by_place}
+use Rattle.cluster_types.specs.Tables.{Targets, holds_role}
+use Rattle.plan_laws.specs.HeldMarks.{Marks, is_held_by}
+use Rattle.plan_laws.proofs.HeldRounds.{rules_give, stable_is_closed}
+use Rattle.plan_laws.proofs.MadeOnes.{never_both, none_is}
+use Rattle.plan_laws.proofs.OneStep.{below}
+use Rattle.plan_laws.proofs.StayHeld.{has, holds_is, nowhere_has_none}
+use Rattle.plan_laws.proofs.TablesWithin.{StaysWithin, is_cell}
+
+-- a leaf or its promote, on a node
+record Spot : Type 0 where
+  pub decision : Decision
+  pub node : ℕ
+
+module _ (c : Cluster) (es : List Event) (table : Targets) (inside : StaysWithin c table) where
+  abbrev spots : List Spot
+  spots = flat_map (λ d. map (λ n. record { decision = d; node = n }) (range_with_len 0 (length c.nodes))) (all_decisions c)
+
+  in_spots : (d : Decision) (n : ℕ) → leaf_of d < length c.leaves → n < length c.nodes → Contains spots (record { decision = d; node = n })
+  in_spots d n low within =
+      in_flat (λ (d : Decision). map (λ n. record { decision = d; node = n }) (range_with_len 0 (length c.nodes))) (all_decisions c) d (record { decision = d; node = n })
+      (decision_there c d low) (in_map (λ n. record { decision = d; node = n }) (range_with_len 0 (length c.nodes)) n (in_range 0 (length c.nodes) n (omega arith) (omega arith)))
+
+  -- what is held is of the cluster
+  pub record IsWithin (d : Decision) (n : ℕ) : Type 0 where
+    pub leaf : leaf_of d < length c.leaves
+    pub node : n < length c.nodes
+
+  role_within : (r : ℕ) (given : Role) (n : ℕ) → holds_role table r given n ≡ true → IsWithin (decision_of r given) n
+  role_within r given n h = go (is_cell c r n) refl
+    where
+      leaf_is : (given : Role) → leaf_of (decision_of r given) ≡ r
+      leaf_is role.Started = refl
+      leaf_is role.Promoted = refl
+
+      go : (b : Bool) → is_cell c r n ≡ b → IsWithin (decision_of r given) n
+      go true e = record {
+        leaf = rw (leaf_is given) (below r (length c.leaves) (sooner (nat_lt r (length c.leaves)) (nat_lt n (length c.nodes)) e));
+        node = below n (length c.nodes) (later (nat_lt r (length c.leaves)) (nat_lt n (length c.nodes)) e);
+      }
+      go false e =
+          let there : has given (table r n) ≡ true = rw (← holds_is table r given n) h in
+          let none : has given target.Nowhere ≡ true = rw (← inside r n e) there in
+          absurd (never_both (has given target.Nowhere) none (nowhere_has_none given))
+
+  held_within : (d : Decision) (n : ℕ) → Held c es table d n → IsWithin d n
+  held_within _ _ (by_order o n first given may lacks) = role_within o.then_leaf given n may.chosen
+  held_within _ _ (by_colocation col n may lacks) = role_within col.dependent col.dependent_role n may.chosen
+  held_within _ _ (by_place r n promoted held) = role_within r role.Promoted n promoted
+
+  abbrev round : Marks → Marks
+  round marks d n = marks d n || is_held_by c es table marks d n
+
+  round_sound : (marks : Marks) → ((d : Decision) (n : ℕ) → marks d n ≡ true → Held c es table d n) → (d : Decision) (n : ℕ) → round marks d n ≡ true → Held c es table d n
+  round_sound marks sound d n h = go (marks d n) refl h
+    where
+      go : (b : Bool) → marks d n ≡ b → b || is_held_by c es table marks d n ≡ true → Held c es table d n
+      go true e h = sound d n e
+      go false e h = rules_give c es table marks sound d n h
+
+  abbrev is_new : Marks → Spot → Bool
+  is_new marks x = is_held_by c es table marks x.decision x.node && not (marks x.decision x.node)
+
+  -- marks that have exactly the held cells
+  pub record HeldCells : Type 0 where
+    pub marks : Marks
+    pub sound : (d : Decision) (n : ℕ) → marks d n ≡ true → Held c es table d n
+    pub closed : IsClosed c es table (λ d n. marks d n ≡ true)
+
+  not_new : (a b : Bool) → a ≡ true → a && not b ≡ false → b ≡ true
+  not_new true true h e = refl
+  not_new true false h e = cc
+  not_new false b h e = cc
+
+  none_new : (marks : Marks) → ((d : Decision) (n : ℕ) → marks d n ≡ true → Held c es table d n) → list_any (is_new marks) spots ≡ false → HeldCells
+  none_new marks sound none = record {
+    marks = marks;
+    sound = sound;
+    closed = stable_is_closed c es table marks (λ d n h.
+        let w : IsWithin d n = held_within d n (rules_give c es table marks sound d n h) in
+        not_new (is_held_by c es table marks d n) (marks d n) h
+        (none_is (is_held_by c es table marks d n && not (marks d n)) (λ new.
+        never_both (list_any (is_new marks) spots) (passes_by (is_new marks) spots (record { decision = d; node = n }) (in_spots d n w.leaf w.node) new) none)));
+  }
+
+  more_marked : (marks : Marks) → Any (λ x. is_new marks x ≡ true) spots
+      → count_by (λ x. marks x.decision x.node) spots < count_by (λ (x : Spot). round marks x.decision x.node) spots
+  more_marked marks (k, x, lt, there, h) =
+      count_one_more (λ (x : Spot). marks x.decision x.node) (λ (x : Spot). round marks x.decision x.node)
+      (λ y e. kept_true (marks y.decision y.node) (is_held_by c es table marks y.decision y.node) e) spots k x lt there
+      (untrue (marks x.decision x.node) (later (is_held_by c es table marks x.decision x.node) (not (marks x.decision x.node)) h))
+      (second (marks x.decision x.node) (is_held_by c es table marks x.decision x.node) (sooner (is_held_by c es table marks x.decision x.node) (not (marks x.decision x.node)) h))
+    where
+      kept_true : (a b : Bool) → a ≡ true → a || b ≡ true
+      kept_true a b e = rw e refl
+
+      second : (a b : Bool) → b ≡ true → a || b ≡ true
+      second true b e = refl
+      second false b e = e
+
+      untrue : (b : Bool) → not b ≡ true → b ≡ false
+      untrue true e = cc
+      untrue false e = refl
+
+  search_on : (room : ℕ) (marks : Marks) → ((d : Decision) (n : ℕ) → marks d n ≡ true → Held c es table d n)
+      → length spots ≤ count_by (λ (x : Spot). marks x.decision x.node) spots + room → HeldCells
+  search_on zero marks sound enough = go (list_any (is_new marks) spots) refl
+    where
+      go : (b : Bool) → list_any (is_new marks) spots ≡ b → HeldCells
+      go false e = none_new marks sound e
+      go true e =
+          let more = more_marked marks (Any-from_list_any (is_new marks) spots e) in
+          let most = count_by-le-length (λ (x : Spot). round marks x.decision x.node) spots in
+          absurd (let f : ⊥ = omega arith in f)
+  search_on (suc room) marks sound enough = go (list_any (is_new marks) spots) refl (search_on room (round marks) (round_sound marks sound))
+    where
+      go : (b : Bool) → list_any (is_new marks) spots ≡ b → (length spots ≤ count_by (λ (x : Spot). round marks x.decision x.node) spots + room → HeldCells) → HeldCells
+      go false e on = none_new marks sound e
+      go true e on = let more = more_marked marks (Any-from_list_any (is_new marks) spots e) in on (omega arith)
+
+  pub held_cells : HeldCells
+  held_cells = search_on (length spots) (λ d n. false) (λ d n h. absurd (let no : false ≡ true = h in cc)) (omega arith)

@@ -1,0 +1,146 @@
+-- The tests of the rules that hold cells back say what the rules say.
+use Rattle.std.proofs.Common.{arith, ◌≡◌, ◌<◌, ◌&&◌, ◌||◌, not, nat_lt, ℕ, Bool, true, false, List, [], ◌∷◌, refl, length, Contains}
+use Rattle.std.specs.List.{list_all, range_with_len}
+use Rattle.std.proofs.lemmas.Bool.{and_from}
+use Rattle.lemmas.proofs.Booleans.{sooner, later}
+use Rattle.rule_loops.proofs.Members.{at_head, in_range, in_rest, of_range}
+use Rattle.cluster_types.specs.declared.cluster.Cluster.{Cluster}
+use Rattle.cluster_types.specs.declared.journal.Event.{Event}
+use Rattle.cluster_types.specs.declared.leaf.Op.{Op}
+use Rattle.cluster_types.specs.declared.leaf.Op.TheVariants as op
+use Rattle.cluster_types.specs.declared.leaf.Role.{Role}
+use Rattle.cluster_types.specs.declared.placement.Decision.{Decision}
+use Rattle.cluster_types.specs.declared.rules.Colocation.{Colocation}
+use Rattle.cluster_types.specs.declared.rules.Order.{Order}
+use Rattle.cluster_types.specs.declared.rules.OrderKind.{OrderKind}
+use Rattle.cluster_types.specs.declared.rules.OrderKind.TheVariants as kind
+use Rattle.cluster_types.specs.Choice.{is_mandatory}
+use Rattle.cluster_types.specs.Decisions.{decision_of}
+use Rattle.cluster_types.specs.Held.{ColocationMayHold, Gives, LacksFirst, LacksPrimary, OrderMayHold, promoted, started}
+use Rattle.cluster_types.specs.Pins.{is_pinned}
+use Rattle.cluster_types.specs.Precedence.{is_up}
+use Rattle.cluster_types.specs.Tables.{Targets, holds_role, is_in_scope}
+use Rattle.plan_laws.specs.HeldMarks.{Marks, is_mandatory_order, lacks_first, lacks_primary, may_colocation, may_order, role_by}
+use Rattle.plan_laws.proofs.OneStep.{below}
+use Rattle.plan_laws.proofs.Ready.{each_passes}
+
+pub all_pass : {X : Type 0} (p : X → Bool) (xs : List X) → ((x : X) → Contains xs x → p x ≡ true) → list_all p xs ≡ true
+all_pass p [] each = refl
+all_pass p (x ∷ xs) each = and_from (p x) (list_all p xs) (each x (at_head x xs x refl)) (all_pass p xs (λ y h. each y (in_rest x xs y h)))
+
+pub untrue : (b : Bool) → not b ≡ true → b ≡ false
+untrue true h = cc
+untrue false h = refl
+
+pub true_not : (b : Bool) → b ≡ false → not b ≡ true
+true_not b h = rw h refl
+
+pub unless : (a b : Bool) → not a || b ≡ true → a ≡ true → b ≡ true
+unless true b h g = h
+unless false b h g = cc
+
+pub if_then : (a b : Bool) → (a ≡ true → b ≡ true) → not a || b ≡ true
+if_then true b f = f refl
+if_then false b f = refl
+
+above : (n m : ℕ) → n < m → nat_lt n m ≡ true
+above n m h = grind arith
+
+pub of_kind : (k : OrderKind) → is_mandatory_order k ≡ true → k ≡ kind.Mandatory
+of_kind kind.Mandatory h = refl
+of_kind kind.Optional h = cc
+of_kind kind.Serialize h = cc
+
+-- a word of an order gives its role
+pub gives_by : (o : Op) → is_up o ≡ true → Gives o (role_by o)
+gives_by op.Start h = started
+gives_by op.Promote h = promoted
+gives_by op.Stop h = cc
+gives_by op.Demote h = cc
+gives_by op.Monitor h = cc
+
+pub gives_up : (o : Op) (given : Role) → Gives o given → is_up o ≡ true
+gives_up _ _ started = refl
+gives_up _ _ promoted = refl
+
+pub gives_one : (o : Op) (given : Role) → Gives o given → given ≡ role_by o
+gives_one _ _ started = refl
+gives_one _ _ promoted = refl
+
+module _ (c : Cluster) (es : List Event) (table : Targets) where
+  pub order_may : (o : Order) (n : ℕ) → Contains c.orders o → may_order c es table o n ≡ true → OrderMayHold c es table o n (role_by o.first_op) (role_by o.then_op)
+  order_may o n present h =
+      let five = sooner _ (holds_role table o.then_leaf (role_by o.then_op) n) h in
+      let four = sooner _ (nat_lt n (length c.nodes)) five in
+      let three = sooner _ (not (is_pinned c es o.then_leaf)) four in
+      let two = sooner _ (is_up o.then_op) three in
+      record {
+        present = present;
+        mandatory = of_kind o.kind (sooner (is_mandatory_order o.kind) (is_up o.first_op) two);
+        first_gives = gives_by o.first_op (later (is_mandatory_order o.kind) (is_up o.first_op) two);
+        then_gives = gives_by o.then_op (later _ (is_up o.then_op) three);
+        managed = untrue (is_pinned c es o.then_leaf) (later _ (not (is_pinned c es o.then_leaf)) four);
+        within = below n (length c.nodes) (later _ (nat_lt n (length c.nodes)) five);
+        chosen = later _ (holds_role table o.then_leaf (role_by o.then_op) n) h;
+      }
+
+  pub may_of_order : (o : Order) (n : ℕ) (first given : Role) → OrderMayHold c es table o n first given → may_order c es table o n ≡ true
+  may_of_order o n first given may =
+      let kind_is : is_mandatory_order o.kind ≡ true = rw may.mandatory refl in
+      let one = gives_up o.first_op first may.first_gives in
+      let other = gives_up o.then_op given may.then_gives in
+      let free = true_not (is_pinned c es o.then_leaf) may.managed in
+      let low = above n (length c.nodes) may.within in
+      let there : holds_role table o.then_leaf (role_by o.then_op) n ≡ true = rw (← gives_one o.then_op given may.then_gives) may.chosen in
+      rw (kind_is, one, other, free, low) there
+
+  pub colocation_may : (col : Colocation) (n : ℕ) → Contains c.colocations col → may_colocation c es table col n ≡ true → ColocationMayHold c es table col n
+  colocation_may col n present h =
+      let three = sooner _ (holds_role table col.dependent col.dependent_role n) h in
+      let two = sooner _ (nat_lt n (length c.nodes)) three in
+      record {
+        present = present;
+        mandatory = sooner (is_mandatory col) (not (is_pinned c es col.dependent)) two;
+        managed = untrue (is_pinned c es col.dependent) (later (is_mandatory col) (not (is_pinned c es col.dependent)) two);
+        within = below n (length c.nodes) (later _ (nat_lt n (length c.nodes)) three);
+        chosen = later _ (holds_role table col.dependent col.dependent_role n) h;
+      }
+
+  pub may_of_colocation : (col : Colocation) (n : ℕ) → ColocationMayHold c es table col n → may_colocation c es table col n ≡ true
+  may_of_colocation col n may =
+      let free = true_not (is_pinned c es col.dependent) may.managed in
+      let low = above n (length c.nodes) may.within in
+      rw (may.mandatory, free, low) may.chosen
+
+  -- what is lacking by the marks, of some set that has the marked cells
+
+  module _ (marks : Marks) (set : Decision → ℕ → Type 0) (has : (d : Decision) (n : ℕ) → marks d n ≡ true → set d n) where
+    pub first_lacks : (o : Order) (n : ℕ) → lacks_first c es table marks o n ≡ true → LacksFirst c es table set o n (role_by o.first_op)
+    first_lacks o n h m within scope held =
+        has (decision_of o.first (role_by o.first_op)) m
+        (unless (is_in_scope o n m && holds_role table o.first (role_by o.first_op) m) (marks (decision_of o.first (role_by o.first_op)) m)
+        (each_passes (λ m. not (is_in_scope o n m && holds_role table o.first (role_by o.first_op) m) || marks (decision_of o.first (role_by o.first_op)) m)
+        (range_with_len 0 (length c.nodes)) m h (in_range 0 (length c.nodes) m (omega arith) (omega arith)))
+        (and_from (is_in_scope o n m) (holds_role table o.first (role_by o.first_op) m) scope held))
+
+    pub primary_lacks : (col : Colocation) (n : ℕ) → lacks_primary c es table marks col n ≡ true → LacksPrimary c es table set col n
+    primary_lacks col n h held =
+        has (decision_of col.primary col.primary_role) n
+        (unless (holds_role table col.primary col.primary_role n) (marks (decision_of col.primary col.primary_role) n) h held)
+
+  -- and back, where the marks have the set
+  module _ (marks : Marks) (set : Decision → ℕ → Type 0) (marked : (d : Decision) (n : ℕ) → set d n → marks d n ≡ true) where
+    pub lacks_of_first : (o : Order) (n : ℕ) → LacksFirst c es table set o n (role_by o.first_op) → lacks_first c es table marks o n ≡ true
+    lacks_of_first o n lacks =
+        all_pass (λ m. not (is_in_scope o n m && holds_role table o.first (role_by o.first_op) m) || marks (decision_of o.first (role_by o.first_op)) m)
+        (range_with_len 0 (length c.nodes))
+        (λ m there. let low = of_range 0 (length c.nodes) m there in
+        if_then (is_in_scope o n m && holds_role table o.first (role_by o.first_op) m) (marks (decision_of o.first (role_by o.first_op)) m)
+        (λ both. marked (decision_of o.first (role_by o.first_op)) m (lacks m (omega arith)
+        (sooner (is_in_scope o n m) (holds_role table o.first (role_by o.first_op) m) both)
+        (later (is_in_scope o n m) (holds_role table o.first (role_by o.first_op) m) both))))
+
+    pub lacks_of_primary : (col : Colocation) (n : ℕ) → LacksPrimary c es table set col n → lacks_primary c es table marks col n ≡ true
+    lacks_of_primary col n lacks =
+        if_then (holds_role table col.primary col.primary_role n) (marks (decision_of col.primary col.primary_role) n)
+        (λ held. marked (decision_of col.primary col.primary_role) n (lacks held))

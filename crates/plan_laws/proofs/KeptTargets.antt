@@ -1,0 +1,167 @@
+-- What the targets in the end keep of a table.
+use Rattle.std.proofs.Common.{arith, ◌≡◌, ◌&&◌, ℕ, ◌<◌, Bool, true, false, List, length, refl, Contains, Any, slice_index_or}
+use Rattle.std.specs.List.{range_with_len, list_any}
+use Rattle.std.proofs.lemmas.List.Folds.{Any-from_list_any}
+use Rattle.std.proofs.lemmas.List.FromFn.{length-range_with_len, get_or-range_with_len}
+use Rattle.cluster_types.specs.declared.cluster.Cluster.{Cluster}
+use Rattle.cluster_types.specs.declared.journal.Event.{Event}
+use Rattle.cluster_types.specs.declared.leaf.Role.{Role}
+use Rattle.cluster_types.specs.declared.leaf.Role.TheVariants as role
+use Rattle.cluster_types.specs.declared.placement.Target.{Target}
+use Rattle.cluster_types.specs.declared.placement.Target.TheVariants as target
+use Rattle.cluster_types.specs.declared.rules.Colocation.{Colocation}
+use Rattle.cluster_types.specs.declared.rules.Order.{Order}
+use Rattle.cluster_types.specs.declared.rules.OrderKind.TheVariants as kind
+use Rattle.cluster_types.specs.Choice.{is_mandatory}
+use Rattle.cluster_types.specs.Decisions.{decision_of}
+use Rattle.cluster_types.specs.Held.{AreTargets, Gives, Held, by_order, by_colocation, by_place, Keeps, OrderMayHold, ColocationMayHold}
+use Rattle.cluster_types.specs.Pins.{is_pinned}
+use Rattle.cluster_types.specs.Tables.{Targets, holds_role, is_in_scope, is_somewhere, is_promoted_target}
+use Rattle.cluster_types.specs.Valid.{IsValid}
+use Rattle.rule_loops.proofs.FromValid.{valid_join, valid_order}
+use Rattle.lemmas.proofs.Searches.{passes_by}
+
+somewhere_too : (t : Target) → is_promoted_target t ≡ true → is_somewhere t ≡ true
+somewhere_too target.Nowhere h = h
+somewhere_too target.Started h = refl
+somewhere_too target.Promoted h = refl
+
+split : (a b : Bool) → a && b ≡ true → (a ≡ true) × (b ≡ true)
+split true b e = (refl, e)
+split false b e = cc
+
+join : (a b : Bool) → a ≡ true → b ≡ true → a && b ≡ true
+join true true e f = refl
+join true false e f = f
+join false b e f = e
+
+none : (b : Bool) → (b ≡ true → ⊥) → b ≡ false
+none true f = absurd (f refl)
+none false f = refl
+
+module _ (c : Cluster) (es : List Event) (table : Targets) where
+  module _ (r n : ℕ) where
+    started_too : holds_role table r role.Promoted n ≡ true → holds_role table r role.Started n ≡ true
+    started_too h = somewhere_too (table r n) h
+
+    one_target : (t u : Target) → Keeps c es table r n t → Keeps c es table r n u → t ≡ u
+    one_target target.Nowhere target.Nowhere h k = refl
+    one_target target.Nowhere target.Started h k = absurd (k.1 (h k.0))
+    one_target target.Nowhere target.Promoted h k = absurd (k.1 (by_place r n k.0 (h (started_too k.0))))
+    one_target target.Started target.Nowhere h k = absurd (h.1 (k h.0))
+    one_target target.Started target.Started h k = refl
+    one_target target.Started target.Promoted h k = absurd (k.1 (h.2 k.0))
+    one_target target.Promoted target.Nowhere h k = absurd (h.1 (by_place r n h.0 (k (started_too h.0))))
+    one_target target.Promoted target.Started h k = absurd (h.1 (k.2 h.0))
+    one_target target.Promoted target.Promoted h k = refl
+
+    abbrev has : Target → Role → Bool
+    has t role.Started = is_somewhere t
+    has t role.Promoted = is_promoted_target t
+
+    -- a role that was chosen and isn't a target is held back
+    back_on : (t : Target) (given : Role) → Keeps c es table r n t → holds_role table r given n ≡ true → has t given ≡ false → Held c es table (decision_of r given) n
+    back_on target.Nowhere role.Started k h f = k h
+    back_on target.Nowhere role.Promoted k h f = by_place r n h (k (started_too h))
+    back_on target.Started role.Started k h f = cc
+    back_on target.Started role.Promoted k h f = k.2 h
+    back_on target.Promoted role.Started k h f = cc
+    back_on target.Promoted role.Promoted k h f = cc
+
+    -- a role of a target was chosen, and isn't held back
+    chosen_on : (t : Target) (given : Role) → Keeps c es table r n t → has t given ≡ true → holds_role table r given n ≡ true
+    chosen_on target.Nowhere role.Started k h = cc
+    chosen_on target.Nowhere role.Promoted k h = cc
+    chosen_on target.Started role.Started k h = k.0
+    chosen_on target.Started role.Promoted k h = cc
+    chosen_on target.Promoted role.Started k h = started_too k.0
+    chosen_on target.Promoted role.Promoted k h = k.0
+
+    free_on : (t : Target) (given : Role) → Keeps c es table r n t → has t given ≡ true → Held c es table (decision_of r given) n → ⊥
+    free_on target.Nowhere role.Started k h b = cc
+    free_on target.Nowhere role.Promoted k h b = cc
+    free_on target.Started role.Started k h b = k.1 b
+    free_on target.Started role.Promoted k h b = cc
+    free_on target.Promoted role.Started k h b = k.1 (by_place r n k.0 b)
+    free_on target.Promoted role.Promoted k h b = k.1 b
+
+  module _ (targets : Targets) where
+    pub back : (r n : ℕ) (given : Role) → Keeps c es table r n (targets r n) → holds_role table r given n ≡ true → holds_role targets r given n ≡ false → Held c es table (decision_of r given) n
+    back r n role.Started k h f = back_on r n (targets r n) role.Started k h f
+    back r n role.Promoted k h f = back_on r n (targets r n) role.Promoted k h f
+
+    pub chosen : (r n : ℕ) (given : Role) → Keeps c es table r n (targets r n) → holds_role targets r given n ≡ true → holds_role table r given n ≡ true
+    chosen r n role.Started k h = chosen_on r n (targets r n) role.Started k h
+    chosen r n role.Promoted k h = chosen_on r n (targets r n) role.Promoted k h
+
+    pub free : (r n : ℕ) (given : Role) → Keeps c es table r n (targets r n) → holds_role targets r given n ≡ true → Held c es table (decision_of r given) n → ⊥
+    free r n role.Started k h b = free_on r n (targets r n) role.Started k h b
+    free r n role.Promoted k h b = free_on r n (targets r n) role.Promoted k h b
+
+  pub targets_one : (one other : Targets) → AreTargets c es table one → AreTargets c es table other
+      → (r n : ℕ) → r < length c.leaves → n < length c.nodes → one r n ≡ other r n
+  targets_one one other a b r n low low' = one_target r n (one r n) (other r n) (a r n low low') (b r n low low')
+
+  module _ (targets : Targets) (valid : IsValid c) (are : AreTargets c es table targets) where
+    pub with_primaries : (col : Colocation) (n : ℕ) → Contains c.colocations col → is_mandatory col ≡ true → is_pinned c es col.dependent ≡ false → n < length c.nodes
+        → holds_role targets col.dependent col.dependent_role n ≡ true → holds_role targets col.primary col.primary_role n ≡ true
+    with_primaries col n present mandatory managed within h =
+        go (holds_role targets col.primary col.primary_role n) refl
+      where
+        go : (b : Bool) → holds_role targets col.primary col.primary_role n ≡ b → holds_role targets col.primary col.primary_role n ≡ true
+        go true e = e
+        go false e =
+            let ends = valid_join c valid.colocations col present in
+            let kept = are col.dependent n ends.dependent within in
+            let may : ColocationMayHold c es table col n = record {
+              present = present;
+              mandatory = mandatory;
+              managed = managed;
+              within = within;
+              chosen = chosen targets col.dependent n col.dependent_role kept h;
+            } in
+            absurd (free targets col.dependent n col.dependent_role kept h
+            (by_colocation col n may (λ was. back targets col.primary n col.primary_role (are col.primary n ends.primary within) was e)))
+
+    module _ (o : Order) (n : ℕ) (first : Role) where
+      abbrev pub there : ℕ → Bool
+      there m = is_in_scope o n m && holds_role targets o.first first m
+
+      abbrev pub all : List ℕ
+      all = range_with_len 0 (length c.nodes)
+
+      found : Any (λ m. there m ≡ true) all → (m : ℕ) × (m < length c.nodes) × (is_in_scope o n m ≡ true) × (holds_role targets o.first first m ≡ true)
+      found (k, m, lt, at, e) =
+          let long = length-range_with_len 0 (length c.nodes) in
+          let is = get_or-range_with_len 0 (length c.nodes) k m (omega arith) in
+          let both = split (is_in_scope o n m) (holds_role targets o.first first m) e in
+          (m, omega arith, both.0, both.1)
+
+      missing : list_any there all ≡ false → (m : ℕ) → m < length c.nodes → is_in_scope o n m ≡ true → holds_role targets o.first first m ≡ false
+      missing e m lt scope =
+          none (holds_role targets o.first first m) (λ held.
+          let long = length-range_with_len 0 (length c.nodes) in
+          let is : slice_index_or all m m ≡ m = let f = get_or-range_with_len 0 (length c.nodes) m m lt in omega (arith, f) in
+          let some = passes_by there all m (m, omega arith, is) (join (is_in_scope o n m) (holds_role targets o.first first m) scope held) in cc)
+
+    pub after_firsts : (o : Order) (n : ℕ) (first later : Role) → Contains c.orders o → o.kind ≡ kind.Mandatory → Gives o.first_op first → Gives o.then_op later
+        → is_pinned c es o.then_leaf ≡ false → n < length c.nodes → holds_role targets o.then_leaf later n ≡ true
+        → (m : ℕ) × (m < length c.nodes) × (is_in_scope o n m ≡ true) × (holds_role targets o.first first m ≡ true)
+    after_firsts o n first later present mandatory gives then_gives managed within h = go (list_any (there o n first) (all o n first)) refl
+      where
+        go : (b : Bool) → list_any (there o n first) (all o n first) ≡ b → (m : ℕ) × (m < length c.nodes) × (is_in_scope o n m ≡ true) × (holds_role targets o.first first m ≡ true)
+        go true e = found o n first (Any-from_list_any (there o n first) (all o n first) e)
+        go false e =
+            let words = valid_order c valid.orders o present in
+            let kept = are o.then_leaf n words.later within in
+            let may : OrderMayHold c es table o n first later = record {
+              present = present;
+              mandatory = mandatory;
+              first_gives = gives;
+              then_gives = then_gives;
+              managed = managed;
+              within = within;
+              chosen = chosen targets o.then_leaf n later kept h;
+            } in
+            absurd (free targets o.then_leaf n later kept h
+            (by_order o n first later may (λ m lt scope was. back targets o.first m first (are o.first m words.first lt) was (missing o n first e m lt scope))))

@@ -1,0 +1,49 @@
+-- What holds where a decision can be made.
+use Rattle.std.proofs.Common.{◌≡◌, ◌||◌, not, ℕ, Bool, true, false, List, [], ◌∷◌, inl, inr, refl, Contains}
+use Rattle.std.specs.List.{list_all}
+use Rattle.lemmas.proofs.Booleans.{sooner, later}
+use Rattle.rule_loops.proofs.Members.{head_or_rest, in_none}
+use Rattle.rule_loops.proofs.Needs.{is_itself}
+use Rattle.cluster_types.specs.declared.cluster.Cluster.{Cluster}
+use Rattle.cluster_types.specs.declared.journal.Event.{Event}
+use Rattle.cluster_types.specs.declared.placement.Decision.{Decision}
+use Rattle.cluster_types.specs.declared.placement.Decision.TheVariants.{Place, Promote}
+use Rattle.cluster_types.specs.Decisions.{decisions, is_decision, is_ready, needs}
+use Rattle.plan_laws.proofs.MadeOnes.{Known, known, is_placed, there, was_made}
+
+opposite : (b : Bool) → not b ≡ true → b ≡ false
+opposite true h = cc
+opposite false h = refl
+
+-- what holds of each element of a list
+pub each_passes : {X : Type 0} (p : X → Bool) (xs : List X) (x : X) → list_all p xs ≡ true → Contains xs x → p x ≡ true
+each_passes p [] x h k = absurd (in_none [] x refl k)
+each_passes p (y ∷ ys) x h k = elim (head_or_rest y ys x k) [
+  | inl same ↦ rw (← same) (sooner (p y) _ h)
+  | inr rest ↦ each_passes p ys x (later (p y) _ h) rest
+]
+
+implied : (a b : Bool) → not a || b ≡ true → a ≡ true → b ≡ true
+implied true b h g = h
+implied false b h g = cc
+
+module _ (c : Cluster) (es : List Event) (made : List Decision) (d : Decision) (ready : is_ready c es made d ≡ true) where
+  pub ready_is_one : is_decision c es d ≡ true
+  ready_is_one = sooner _ _ (sooner _ _ ready)
+
+  pub ready_is_new : was_made made d ≡ false
+  ready_is_new = opposite (was_made made d) (later _ _ (sooner _ _ ready))
+
+  pub needed_is_made : (e : Decision) → is_decision c es e ≡ true → needs c d e ≡ true → was_made made e ≡ true
+  needed_is_made e is wants =
+      implied (needs c d e) (was_made made e)
+      (each_passes (λ e. not (needs c d e) || was_made made e) (decisions c es) e (later _ _ ready) (there c es e is)) wants
+
+-- a leaf is placed before it is promoted
+needs_place : (c : Cluster) (r : ℕ) → needs c (Promote r) (Place r) ≡ true
+needs_place c r = rw (is_itself (Place r)) refl
+
+pub place_is_made : (c : Cluster) (es : List Event) (made : List Decision) (r : ℕ) → is_ready c es made (Promote r) ≡ true → was_made made (Place r) ≡ true
+place_is_made c es made r ready =
+    let k : Known c es (Promote r) = known c es (Promote r) (ready_is_one c es made (Promote r) ready) in
+    needed_is_made c es made (Promote r) ready (Place r) (is_placed c es r k.within k.free) (needs_place c r)
