@@ -13,6 +13,7 @@ use Rattle.crm_lex.specs.Words.{is_open}
 use Rattle.crm_lex.specs.Reading as lines
 use Rattle.crm_lex.specs.Reading.{faults_from, reads, rows_from}
 use Rattle.crm_parse.specs.declared.marks.SectionMarks.{SectionMarks}
+use Rattle.crm_parse.specs.declared.statement.Crm.{Crm}
 use Rattle.crm_parse.specs.declared.statement.Statement.{Statement}
 use Rattle.crm_parse.specs.Marks as marks
 use Rattle.crm_parse.specs.Marks.{last_at, misplaced, sections_of, status_at}
@@ -42,8 +43,9 @@ use Rattle.op_history.specs.Status.{told_of}
 use Rattle.sim_core.specs.declared.fault.InputFault.{InputFault}
 use Rattle.sim_core.specs.declared.fault.InputFault.TheVariants.{At, NoMemory}
 use Rattle.sim_core.specs.declared.reading.Configuration.{Configuration}
+use Rattle.sim_core.specs.declared.reading.Head.{Head}
 use Rattle.sim_core.specs.declared.reading.Input.{Input}
-use Rattle.sim_core.specs.Reading.{IsFaulty, IsReadAfter, IsReadOf, IsReadable, configuration_lines, configuration_of, expand_fault, faulting, lex_fault, model_fault, parse_fault, result_fault, result_lines, status_fault, status_lines, with_cluster, ◌>>=◌}
+use Rattle.sim_core.specs.Reading.{IsFaulty, IsReadAfter, IsReadOf, IsReadable, configuration_lines, configuration_of, expand_fault, faulting, following_lines, head_of, lex_fault, model_fault, parse_fault, result_fault, status_fault, status_lines, with_cluster, with_results, ◌>>=◌}
 
 -- read, or a fault at a line
 abbrev pub Stands : {A : Type 0} → Result A InputFault → Type 0
@@ -205,7 +207,7 @@ results_stand c start found =
     tt) [] found
 
 -- the whole text
-configuration_stands : (text : List ℕ) → Stands (configuration_of text)
+configuration_stands : (text : List ℕ) → Stands (configuration_of sections_of text)
 unfolding configuration_of
 configuration_stands text =
     stands_bind (faulting lex_fault (reads text)) _ (words_stand text) (λ found.
@@ -213,30 +215,38 @@ configuration_stands text =
     stands_bind (faulting parse_fault (statements_of (configuration_lines at found))) _ (statements_stand (configuration_lines at found)) (λ crm.
     stands_bind (faulting expand_fault (expansion_of crm.statements)) _ (leaves_stand crm.statements) (λ leaves. tt))))
 
-with_cluster_stands : (found : Configuration) (cluster : Cluster) → Stands (with_cluster found cluster)
-unfolding with_cluster
-with_cluster_stands found cluster =
-    stands_bind (faulting status_fault (status_of cluster (status_lines found.marks found.lines))) _ (status_stands cluster (status_lines found.marks found.lines)) (λ journal.
-    stands_bind (faulting result_fault (results_of cluster (moment_of journal.events) (result_lines found.marks found.lines))) _
-    (results_stand cluster (moment_of journal.events) (result_lines found.marks found.lines)) (λ given. tt))
+head_stands : (crm : Crm) (cluster : Cluster) (found : List Line) → Stands (head_of crm cluster found)
+unfolding head_of
+head_stands crm cluster found = stands_bind (faulting status_fault (status_of cluster found)) _ (status_stands cluster found) (λ journal. tt)
 
-either : (text : List ℕ) (read : Result Input InputFault) → IsReadAfter (configuration_of text) read → Stands read → IsReadable text ⊎ IsFaulty text
+with_results_stands : (head : Head) (found : List Line) → Stands (with_results head found)
+unfolding with_results
+with_results_stands head found =
+    let start = moment_of head.journal.events in
+    stands_bind (faulting result_fault (results_of head.cluster start found)) _ (results_stand head.cluster start found) (λ given. tt)
+
+with_cluster_stands : (found : Configuration) (cluster : Cluster) → Stands (with_cluster with_results found cluster)
+with_cluster_stands found cluster =
+    stands_bind (head_of found.crm cluster (status_lines found.marks found.lines)) _ (head_stands found.crm cluster (status_lines found.marks found.lines))
+    (λ head. with_results_stands head (following_lines found.marks found.lines))
+
+either : (text : List ℕ) (read : Result Input InputFault) → IsReadAfter with_results (configuration_of sections_of text) read → Stands read → IsReadable text ⊎ IsFaulty text
 either text (Ok input) r h = inl (record { whole = input; reads = r })
 either text (Err (At line why)) r h = inr (record { line = line; why = why; fault = r })
 either text (Err NoMemory) r h = absurd h
 
-by_configuration : (text : List ℕ) (found : Result Configuration InputFault) → configuration_of text ≡ found → Stands found → IsReadable text ⊎ IsFaulty text
+by_configuration : (text : List ℕ) (found : Result Configuration InputFault) → configuration_of sections_of text ≡ found → Stands found → IsReadable text ⊎ IsFaulty text
 by_configuration text (Err (At line why)) e h =
-    inr (record { line = line; why = why; fault = subst (λ (f : Result Configuration InputFault). IsReadAfter f (Err (At line why))) (sym e) refl })
+    inr (record { line = line; why = why; fault = subst (λ (f : Result Configuration InputFault). IsReadAfter with_results f (Err (At line why))) (sym e) refl })
 by_configuration text (Err NoMemory) e h = absurd h
 by_configuration text (Ok found) e h =
     let made = some_resolution found.leaves found.crm.statements in
-    let after = faulting model_fault made.resolution >>= with_cluster found in
-    let one : IsReadOf found after = record { resolution = made.resolution; resolves = made.resolves; goes_on = refl } in
-    let read : IsReadAfter (configuration_of text) after = subst (λ (f : Result Configuration InputFault). IsReadAfter f after) (sym e) one in
+    let after = faulting model_fault made.resolution >>= with_cluster with_results found in
+    let one : IsReadOf with_results found after = record { resolution = made.resolution; resolves = made.resolves; goes_on = refl } in
+    let read : IsReadAfter with_results (configuration_of sections_of text) after = subst (λ (f : Result Configuration InputFault). IsReadAfter with_results f after) (sym e) one in
     either text after read
-    (stands_bind (faulting model_fault made.resolution) (with_cluster found) (model_stands made.resolution made.stands) (λ cluster. with_cluster_stands found cluster))
+    (stands_bind (faulting model_fault made.resolution) (with_cluster with_results found) (model_stands made.resolution made.stands) (λ cluster. with_cluster_stands found cluster))
 
 -- each text is read or has a fault
 pub read_or_faulty : (text : List ℕ) → IsReadable text ⊎ IsFaulty text
-read_or_faulty text = by_configuration text (configuration_of text) refl (configuration_stands text)
+read_or_faulty text = by_configuration text (configuration_of sections_of text) refl (configuration_stands text)

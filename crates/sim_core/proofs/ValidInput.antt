@@ -2,6 +2,7 @@
 use Rattle.std.proofs.Common.{◌≡◌, ℕ, List, [], Result, Ok, Err, IfOk, refl, sym, subst}
 use Rattle.crm_lex.specs.declared.line.Line.{Line}
 use Rattle.crm_lex.specs.Reading.{reads}
+use Rattle.crm_parse.specs.declared.statement.Crm.{Crm}
 use Rattle.crm_parse.specs.Marks.{sections_of}
 use Rattle.crm_parse.specs.Statements.{statements_of}
 use Rattle.clone_expand.specs.Expansion.{expansion_of}
@@ -16,8 +17,9 @@ use Rattle.op_history.specs.Results.{results_of}
 use Rattle.op_history.proofs.StatusJournals.{journal_idle, journal_orderly}
 use Rattle.sim_core.specs.declared.fault.InputFault.{InputFault}
 use Rattle.sim_core.specs.declared.reading.Configuration.{Configuration}
+use Rattle.sim_core.specs.declared.reading.Head.{Head}
 use Rattle.sim_core.specs.declared.reading.Input.{Input}
-use Rattle.sim_core.specs.Reading.{Gives, IsReadAfter, Reads, configuration_lines, configuration_of, expand_fault, faulting, lex_fault, model_fault, parse_fault, result_fault, result_lines, status_fault, status_lines, with_cluster, ◌>>=◌}
+use Rattle.sim_core.specs.Reading.{Gives, IsReadAfter, Reads, configuration_lines, configuration_of, expand_fault, faulting, following_lines, head_of, lex_fault, model_fault, parse_fault, result_fault, status_fault, status_lines, with_cluster, with_results, ◌>>=◌}
 
 -- a step that was passed: what it gave, and what the steps behind it give
 record IsPassed {A B F : Type 0} (step : Result A F) (next : A → Result B InputFault) (end : B) : Type 0 where
@@ -30,13 +32,23 @@ passed : {A B F : Type 0} (as_input : F → InputFault) (step : Result A F) (nex
 passed as_input (Ok x) next end e = record { gave = x; is = refl; goes_on = e }
 passed as_input (Err fault) next end e = absurd cc
 
+-- a step that was passed, with faults of the input
+record IsPassedOn {A B : Type 0} (step : Result A InputFault) (next : A → Result B InputFault) (end : B) : Type 0 where
+  gave : A
+  is : step ≡ Ok gave
+  goes_on : next gave ≡ Ok end
+
+passed_on : {A B : Type 0} (step : Result A InputFault) (next : A → Result B InputFault) (end : B) → step >>= next ≡ Ok end → IsPassedOn step next end
+passed_on (Ok x) next end e = record { gave = x; is = refl; goes_on = e }
+passed_on (Err fault) next end e = absurd cc
+
 -- the lines that a configuration was read of
 record IsReadFrom (found : Configuration) : Type 0 where
   lines : List Line
   statements : statements_of lines ≡ Ok found.crm
   leaves : expansion_of found.crm.statements ≡ Ok found.leaves
 
-read_from : (text : List ℕ) (found : Configuration) → configuration_of text ≡ Ok found → IsReadFrom found
+read_from : (text : List ℕ) (found : Configuration) → configuration_of sections_of text ≡ Ok found → IsReadFrom found
 unfolding configuration_of
 read_from text found e =
     let lines = passed lex_fault (reads text) _ found e in
@@ -48,41 +60,59 @@ read_from text found e =
 
 -- what an input has of the cluster that its configuration says: the cluster, and the first journal of some lines
 record IsMade (cluster : Cluster) (input : Input) : Type 0 where
-  same : input.cluster ≡ cluster
+  same : input.head.cluster ≡ cluster
   lines : List Line
-  journal : status_of cluster lines ≡ Ok input.journal
+  journal : status_of cluster lines ≡ Ok input.head.journal
 
-made_of : (found : Configuration) (cluster : Cluster) (input : Input) → with_cluster found cluster ≡ Ok input → IsMade cluster input
-unfolding with_cluster
+-- the head of some lines
+record IsHead (cluster : Cluster) (lines : List Line) (head : Head) : Type 0 where
+  same : head.cluster ≡ cluster
+  journal : status_of cluster lines ≡ Ok head.journal
+
+head_made : (crm : Crm) (cluster : Cluster) (lines : List Line) (head : Head) → head_of crm cluster lines ≡ Ok head → IsHead cluster lines head
+unfolding head_of
+head_made crm cluster lines head e =
+    let journal = passed status_fault (status_of cluster lines) _ head e in
+    let made : head ≡ record { crm = crm; cluster = cluster; journal = journal.gave } = cc in
+    rw made (record { same = refl; journal = journal.is })
+
+results_keep_head : (head : Head) (lines : List Line) (input : Input) → with_results head lines ≡ Ok input → input.head ≡ head
+unfolding with_results
+results_keep_head head lines input e =
+    let answers = passed result_fault (results_of head.cluster (moment_of head.journal.events) lines) _ input e in
+    let made : input ≡ record { head = head; results = answers.gave } = cc in
+    rw made refl
+
+made_of : (found : Configuration) (cluster : Cluster) (input : Input) → with_cluster with_results found cluster ≡ Ok input → IsMade cluster input
 made_of found cluster input e =
-    let journal = passed status_fault (status_of cluster (status_lines found.marks found.lines)) _ input e in
-    let start = moment_of journal.gave.events in
-    let answers = passed result_fault (results_of cluster start (result_lines found.marks found.lines)) _ input journal.goes_on in
-    let made : input ≡ record { crm = found.crm; cluster = cluster; journal = journal.gave; results = answers.gave } = cc in
-    rw made (record { same = refl; lines = status_lines found.marks found.lines; journal = journal.is })
+    let lines = status_lines found.marks found.lines in
+    let head = passed_on (head_of found.crm cluster lines) (λ head. with_results head (following_lines found.marks found.lines)) input e in
+    let kept = results_keep_head head.gave (following_lines found.marks found.lines) input head.goes_on in
+    let made = head_made found.crm cluster lines head.gave head.is in
+    record { same = rw kept made.same; lines = lines; journal = rw kept made.journal }
 
 -- what the steps give
-module _ (text : List ℕ) (found : Configuration) (cluster : Cluster) (input : Input) (e : configuration_of text ≡ Ok found)
-    (r : ResolvesTo found.leaves found.crm.statements (Ok cluster)) (w : with_cluster found cluster ≡ Ok input) where
-  pub made_valid : IsValid input.cluster
+module _ (text : List ℕ) (found : Configuration) (cluster : Cluster) (input : Input) (e : configuration_of sections_of text ≡ Ok found)
+    (r : ResolvesTo found.leaves found.crm.statements (Ok cluster)) (w : with_cluster with_results found cluster ≡ Ok input) where
+  pub made_valid : IsValid input.head.cluster
   made_valid =
       let from = read_from text found e in
       let made = made_of found cluster input w in
       subst (λ (c : Cluster). IsValid c) (sym made.same)
       (resolved_valid from.lines found.crm found.leaves cluster from.statements from.leaves r)
 
-  pub made_orderly : Orderly input.journal.events
-  made_orderly = let made = made_of found cluster input w in journal_orderly cluster made.lines input.journal made.journal
+  pub made_orderly : Orderly input.head.journal.events
+  made_orderly = let made = made_of found cluster input w in journal_orderly cluster made.lines input.head.journal made.journal
 
-  pub made_idle : in_flight input.journal.events ≡ []
-  made_idle = let made = made_of found cluster input w in journal_idle cluster made.lines input.journal made.journal
+  pub made_idle : in_flight input.head.journal.events ≡ []
+  made_idle = let made = made_of found cluster input w in journal_idle cluster made.lines input.head.journal made.journal
 
 pub ruleset inputs_made = (made_valid, made_idle)
 
 -- what the last step returned
 pub orderly_where_made : (text : List ℕ) (found : Configuration) (cluster : Cluster) (read : Result Input InputFault)
-    → configuration_of text ≡ Ok found → ResolvesTo found.leaves found.crm.statements (Ok cluster)
-    → Gives (λ (i : Input). i) read (with_cluster found cluster) → IfOk read (λ input. Orderly input.journal.events)
+    → configuration_of sections_of text ≡ Ok found → ResolvesTo found.leaves found.crm.statements (Ok cluster)
+    → Gives (λ (i : Input). i) read (with_cluster with_results found cluster) → IfOk read (λ input. Orderly input.head.journal.events)
 orderly_where_made text found cluster (Ok input) e r w = made_orderly text found cluster input e r w
 orderly_where_made text found cluster (Err fault) e r w = tt
 
@@ -90,15 +120,15 @@ orderly_where_made text found cluster (Err fault) e r w = tt
 record IsStepped (text : List ℕ) (input : Input) : Type 0 where
   found : Configuration
   cluster : Cluster
-  configuration : configuration_of text ≡ Ok found
+  configuration : configuration_of sections_of text ≡ Ok found
   resolves : ResolvesTo found.leaves found.crm.statements (Ok cluster)
-  made : with_cluster found cluster ≡ Ok input
+  made : with_cluster with_results found cluster ≡ Ok input
 
-stepped : (text : List ℕ) (read : Result Configuration InputFault) (input : Input) → configuration_of text ≡ read
-    → IsReadAfter read (Ok input) → IsStepped text input
+stepped : (text : List ℕ) (read : Result Configuration InputFault) (input : Input) → configuration_of sections_of text ≡ read
+    → IsReadAfter with_results read (Ok input) → IsStepped text input
 stepped text (Err fault) input e r = absurd cc
 stepped text (Ok found) input e r =
-    let resolved = passed model_fault r.resolution (with_cluster found) input (sym r.goes_on) in
+    let resolved = passed model_fault r.resolution (with_cluster with_results found) input (sym r.goes_on) in
     record {
       found = found;
       cluster = resolved.gave;
@@ -110,15 +140,15 @@ stepped text (Ok found) input e r =
 -- what is read is valid
 module _ (text : List ℕ) (input : Input) (r : Reads text input) where
   steps : IsStepped text input
-  steps = stepped text (configuration_of text) input refl r
+  steps = stepped text (configuration_of sections_of text) input refl r
 
-  pub cluster_valid : IsValid input.cluster
+  pub cluster_valid : IsValid input.head.cluster
   cluster_valid = made_valid text steps.found steps.cluster input steps.configuration steps.resolves steps.made
 
-  pub journal_ordered : Orderly input.journal.events
+  pub journal_ordered : Orderly input.head.journal.events
   journal_ordered = made_orderly text steps.found steps.cluster input steps.configuration steps.resolves steps.made
 
-  pub journal_rests : in_flight input.journal.events ≡ []
+  pub journal_rests : in_flight input.head.journal.events ≡ []
   journal_rests = made_idle text steps.found steps.cluster input steps.configuration steps.resolves steps.made
 
 pub ruleset inputs_valid = (cluster_valid, journal_ordered, journal_rests)

@@ -20,7 +20,7 @@ counts_line c =
 
 -- the canonical configuration, and how much it has (crmsh manual, configure show; the last line is a rule of this project)
 abbrev pub check_text : Input → List ℕ
-check_text input = canonical_text input.crm ++ counts_line input.cluster
+check_text input = canonical_text input.head.crm ++ counts_line input.head.cluster
 
 -- `refused LINE CAUSE` (rule of this project)
 abbrev pub refusal_text : ℕ → InputCause → List ℕ

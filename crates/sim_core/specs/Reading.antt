@@ -8,6 +8,7 @@ use Rattle.crm_lex.specs.Reading.{reads}
 use Rattle.crm_parse.specs.declared.fault.ParseFault.{ParseFault}
 use Rattle.crm_parse.specs.declared.fault.ParseFault.TheVariants as parse
 use Rattle.crm_parse.specs.declared.marks.SectionMarks.{SectionMarks}
+use Rattle.crm_parse.specs.declared.statement.Crm.{Crm}
 use Rattle.crm_parse.specs.Marks.{sections_of}
 use Rattle.crm_parse.specs.Statements.{statements_of}
 use Rattle.clone_expand.specs.declared.fault.ExpandFault.{ExpandFault}
@@ -29,6 +30,7 @@ use Rattle.sim_core.specs.declared.cause.InputCause.TheVariants as cause
 use Rattle.sim_core.specs.declared.fault.InputFault.{InputFault}
 use Rattle.sim_core.specs.declared.fault.InputFault.TheVariants.{At, NoMemory}
 use Rattle.sim_core.specs.declared.reading.Configuration.{Configuration}
+use Rattle.sim_core.specs.declared.reading.Head.{Head}
 use Rattle.sim_core.specs.declared.reading.Input.{Input}
 
 -- the fault of a step as one of the input
@@ -74,45 +76,61 @@ configuration_lines marks lines = take marks.status_at lines
 abbrev pub status_lines : SectionMarks → List Line → List Line
 status_lines marks lines = slice_range lines (marks.status_at + 1) marks.results_at
 
--- the result lines: those after their section line
-abbrev pub result_lines : SectionMarks → List Line → List Line
-result_lines marks lines = slice_range lines (marks.results_at + 1) marks.end
+-- the lines of what follows the status: those after its section line
+abbrev pub following_lines : SectionMarks → List Line → List Line
+following_lines marks lines = slice_range lines (marks.results_at + 1) marks.end
 
 -- what is read of a text before its names are resolved: its lines, the places of its sections, its statements and their leaves, or the fault of the
 -- first of these steps that fails
-unfoldable pub configuration_of : List ℕ → Result Configuration InputFault
-configuration_of text = do
+unfoldable pub configuration_of : (List Line → Result SectionMarks ParseFault) → List ℕ → Result Configuration InputFault
+configuration_of sections text = do
   lines ← faulting lex_fault (reads text)
-  marks ← faulting parse_fault (sections_of lines)
+  marks ← faulting parse_fault (sections lines)
   crm ← faulting parse_fault (statements_of (configuration_lines marks lines))
   leaves ← faulting expand_fault (expansion_of crm.statements)
   Ok (record { lines = lines; marks = marks; crm = crm; leaves = leaves })
 
--- what is read of the other sections of a text that says this cluster, or the fault of the first step that fails: the status, then the results
-unfoldable pub with_cluster : Configuration → Cluster → Result Input InputFault
-with_cluster found cluster = do
-  journal ← faulting status_fault (status_of cluster (status_lines found.marks found.lines))
-  answers ← faulting result_fault (results_of cluster (moment_of journal.events) (result_lines found.marks found.lines))
-  Ok (record { crm = found.crm; cluster = cluster; journal = journal; results = answers })
+-- the head of an input: its configuration, which says this cluster, and the journal that these lines of the status tell
+unfoldable pub head_of : Crm → Cluster → List Line → Result Head InputFault
+head_of crm cluster lines = do
+  journal ← faulting status_fault (status_of cluster lines)
+  Ok (record { crm = crm; cluster = cluster; journal = journal })
 
--- what is read of a configuration: that of the cluster to which its names and rules are resolved, or the fault of it
-pub record IsReadOf (found : Configuration) (read : Result Input InputFault) : Type 0 where
-  pub resolution : Result Cluster ModelFault
-  pub resolves : ResolvesTo found.leaves found.crm.statements resolution
-  pub goes_on : read ≡ (faulting model_fault resolution >>= with_cluster found)
+-- the order of the steps, where what follows the status is read so, with the head before it
+module _ {X : Type 0} (read_on : Head → List Line → Result X InputFault) where
+  -- behind the cluster come the status and what follows it
+  abbrev pub with_cluster : Configuration → Cluster → Result X InputFault
+  with_cluster found cluster =
+      head_of found.crm cluster (status_lines found.marks found.lines) >>= (λ head. read_on head (following_lines found.marks found.lines))
 
-abbrev pub IsReadAfter : Result Configuration InputFault → Result Input InputFault → Type 0
-IsReadAfter (Ok found) read = IsReadOf found read
-IsReadAfter (Err fault) read = read ≡ Err fault
+  -- what is read of a configuration: that of the cluster to which its names and rules are resolved, or the fault of it
+  pub record IsReadOf (found : Configuration) (read : Result X InputFault) : Type 0 where
+    pub resolution : Result Cluster ModelFault
+    pub resolves : ResolvesTo found.leaves found.crm.statements resolution
+    pub goes_on : read ≡ (faulting model_fault resolution >>= with_cluster found)
+
+  abbrev pub IsReadAfter : Result Configuration InputFault → Result X InputFault → Type 0
+  IsReadAfter (Ok found) read = IsReadOf found read
+  IsReadAfter (Err fault) read = read ≡ Err fault
+
+-- nothing follows yet
+abbrev pub nothing_yet : Head → List Line → Result Head InputFault
+nothing_yet head lines = Ok head
+
+-- result lines follow
+unfoldable pub with_results : Head → List Line → Result Input InputFault
+with_results head lines = do
+  answers ← faulting result_fault (results_of head.cluster (moment_of head.journal.events) lines)
+  Ok (record { head = head; results = answers })
 
 -- the text is read, and says this
 abbrev pub Reads : List ℕ → Input → Type 0
-Reads text input = IsReadAfter (configuration_of text) (Ok input)
+Reads text input = IsReadAfter with_results (configuration_of sections_of text) (Ok input)
 
 -- the text isn't read: the first step that fails, fails at this line for this cause. The steps are the words of all lines, the sections, the
 -- statements, the leaves, the cluster, the status and the results
 abbrev pub Fault : List ℕ → ℕ → InputCause → Type 0
-Fault text line why = IsReadAfter (configuration_of text) (Err (At line why))
+Fault text line why = IsReadAfter with_results (configuration_of sections_of text) (Err (At line why))
 
 pub record IsReadable (text : List ℕ) : Type 0 where
   pub whole : Input

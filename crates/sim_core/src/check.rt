@@ -40,11 +40,11 @@ fn push_counts(text: &mut Vec<u8>, cluster: &Cluster) -> Result<(), NoMemory>
 }
 
 fn check_text(alloc: Global, input: &Input) -> Result<Vec<u8>, NoMemory>
-    requires { KeepsLimits input.now.cluster }
+    requires { KeepsLimits input.now.head.cluster }
     ensures { IfOk result (λ text. text.items ≡ check_text input.now) }
 {
-    let mut text = print(alloc, &input.crm)?;
-    push_counts(&mut text, &input.cluster)?;
+    let mut text = print(alloc, &input.head.crm)?;
+    push_counts(&mut text, &input.head.cluster)?;
     Ok(text)
 }
 

@@ -20,7 +20,7 @@ pub fn one_reading()
 /// What is read of a text is valid: its cluster is, and its first journal is in order and has nothing in flight.
 #[tactic(auto, using(crate::proofs::ValidInput::inputs_valid))]
 pub fn what_is_read_is_valid()
-    ensures cluster { (text : List ℕ) (input : InputOf) → Reads text input → IsValid input.cluster }
-    ensures orderly { (text : List ℕ) (input : InputOf) → Reads text input → Orderly input.journal.events }
-    ensures idle { (text : List ℕ) (input : InputOf) → Reads text input → in_flight input.journal.events ≡ [] }
+    ensures cluster { (text : List ℕ) (input : InputOf) → Reads text input → IsValid input.head.cluster }
+    ensures orderly { (text : List ℕ) (input : InputOf) → Reads text input → Orderly input.head.journal.events }
+    ensures idle { (text : List ℕ) (input : InputOf) → Reads text input → in_flight input.head.journal.events ≡ [] }
 {}

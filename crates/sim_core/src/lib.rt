@@ -24,6 +24,6 @@ pub use cause::InputCause;
 pub use fault::InputFault;
 pub use help::{HELP, VERSION};
 pub use laws::{one_reading, what_is_read_is_valid};
-pub use reading::{Input, read_input};
+pub use reading::{Head, Input, read_input};
 pub use status::Status;
 pub use top::run;

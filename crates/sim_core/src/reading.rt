@@ -11,7 +11,7 @@ ghost use Rattle.crm_parse.specs.Statements.{statements_of};
 ghost use Rattle.op_history.specs.FirstJournal.{status_of};
 ghost use Rattle.op_history.specs.Results.{results_of};
 ghost use Rattle.sim_core.specs.Answers.{most_bytes};
-ghost use Rattle.sim_core.specs.Reading.{Gives, IsReading, configuration_of, expand_fault, faulting, lex_fault, parse_fault, result_fault, status_fault, with_cluster};
+ghost use Rattle.sim_core.specs.Reading.{Gives, IsReading, configuration_of, expand_fault, faulting, head_of, lex_fault, parse_fault, result_fault, status_fault, with_cluster, with_results};
 
 use crate::fault::InputFault;
 use clone_expand::{Leaves, expand};
@@ -23,13 +23,19 @@ use listed::Listed;
 use op_history::{ResultLine, read_results, read_status};
 use std::alloc::Global;
 
-/// What an input says: its configuration, as it was written and as a cluster, its status and its results.
+/// What the head of an input says: its configuration, as it was written and as a cluster, and its status.
 #[derive(Drop)]
-pub struct Input {
+pub struct Head {
     pub crm: Crm,
     pub cluster: Cluster,
     /// The first journal, which the status tells.
     pub journal: Journal,
+}
+
+/// What an input says: its head, and its results.
+#[derive(Drop)]
+pub struct Input {
+    pub head: Head,
     /// The answers of the result lines, in their order.
     pub results: Listed<ResultLine>,
 }
@@ -91,7 +97,7 @@ fn leaves_in(alloc: Global, crm: &Crm) -> Result<Leaves, InputFault>
 #[tactic(auto, unfolding(crate::specs::Reading::configuration_of))]
 fn configuration_of(alloc: Global, text: &[u8]) -> Result<Configuration, InputFault>
     requires { length text.now ≤ most_bytes }
-    ensures given { Gives (λ found. found) result (configuration_of text.now) }
+    ensures given { Gives (λ found. found) result (configuration_of sections_of text.now) }
     ensures leaves { IfOk result (λ found. expansion_of found.crm.statements ≡ Ok found.leaves) }
     ensures results { IfOk result (λ found. found.marks.results_at ≤ length found.lines) }
     ensures end { IfOk result (λ found. found.marks.end ≤ length found.lines) }
@@ -129,25 +135,50 @@ fn results_in(
     Ok(Listed::from(read_results(alloc, cluster, journal, lines)?))
 }
 
+/// The head of an input with these lines of the status.
+#[tactic(auto, unfolding(crate::specs::Reading::head_of))]
+fn head_of(alloc: Global, crm: Crm, cluster: Cluster, lines: &[Line]) -> Result<Head, InputFault>
+    requires { KeepsLimits cluster }
+    ensures head { Gives (λ head. head) result (head_of crm cluster lines.now) }
+    ensures limits { IfOk result (λ head. KeepsLimits head.cluster) }
+    ensures moment { IfOk result (λ head. moment_of head.journal.events < 2 ^ 40) }
+{
+    let journal = status_in(alloc, &cluster, lines)?;
+    Ok(Head {
+        crm,
+        cluster,
+        journal,
+    })
+}
+
+/// An input with this head and these result lines.
+#[tactic(auto, unfolding(crate::specs::Reading::with_results))]
+fn with_results(alloc: Global, head: Head, lines: &[Line]) -> Result<Input, InputFault>
+    requires limits { KeepsLimits head.cluster }
+    requires moment { moment_of head.journal.events < 2 ^ 40 }
+    ensures { Gives (λ input. input) result (with_results head lines.now) }
+{
+    let results = results_in(alloc, &head.cluster, &head.journal, lines)?;
+    Ok(Input { head, results })
+}
+
 /// Reads the other sections, where the configuration says this cluster.
-#[tactic(auto, unfolding(crate::specs::Reading::with_cluster))]
 fn with_cluster(alloc: Global, found: Configuration, cluster: Cluster) -> Result<Input, InputFault>
     requires limits { KeepsLimits cluster }
     requires results { found.marks.results_at ≤ length found.lines }
     requires end { found.marks.end ≤ length found.lines }
-    ensures { Gives (λ input. input) result (with_cluster found cluster) }
+    ensures { Gives (λ input. input) result (with_cluster with_results found cluster) }
 {
-    let lines = found.lines.as_slice();
-    let status = lines_after(lines, found.marks.status_at, found.marks.results_at);
-    let journal = status_in(alloc, &cluster, status)?;
-    let answers = lines_after(lines, found.marks.results_at, found.marks.end);
-    let results = results_in(alloc, &cluster, &journal, answers)?;
-    Ok(Input {
-        crm: found.crm,
-        cluster,
-        journal,
-        results,
-    })
+    let Configuration {
+        lines,
+        marks,
+        crm,
+        leaves: _,
+    } = found;
+    let lines = lines.as_slice();
+    let status = lines_after(lines, marks.status_at, marks.results_at);
+    let head = head_of(alloc, crm, cluster, status)?;
+    with_results(alloc, head, lines_after(lines, marks.results_at, marks.end))
 }
 
 /// The cluster that a configuration says.
@@ -172,9 +203,9 @@ fn cluster_in(alloc: Global, found: &Configuration) -> Result<Cluster, ModelFaul
 pub fn read_input(alloc: Global, text: &[u8]) -> Result<Input, InputFault>
     requires { length text.now ≤ most_bytes }
     ensures read { IsReading text.now result }
-    ensures valid { IfOk result (λ input. IsValid input.cluster) }
-    ensures orderly { IfOk result (λ input. Orderly input.journal.events) }
-    ensures idle { IfOk result (λ input. in_flight input.journal.events ≡ []) }
+    ensures valid { IfOk result (λ input. IsValid input.head.cluster) }
+    ensures orderly { IfOk result (λ input. Orderly input.head.journal.events) }
+    ensures idle { IfOk result (λ input. in_flight input.head.journal.events ≡ []) }
 {
     let found = configuration_of(alloc, text)?;
     let cluster = cluster_in(alloc, &found)?;
