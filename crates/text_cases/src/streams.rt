@@ -174,14 +174,14 @@ fn answer<S: Source>(reader: &mut LineReader<'_, S>, failures: &mut u32) -> Line
     LineStep::Failed
 }
 
-/// The lines and the answer behind them, and one failure at most.
+/// The lines and the answer behind them. Gives the number of failures.
 fn gives_lines<S: Source>(
     rt: &impl Abort,
     reader: &mut LineReader<'_, S>,
     lines: &[(u32, &[u8])],
     end: LineStep,
-    case: (usize, u32),
-) {
+    case: (usize, usize),
+) -> u32 {
     let mut failures = 0;
     for (number, raw) in lines {
         assert_eq!(rt; answer(reader, &mut failures), LineStep::Line, "{case:?}");
@@ -192,10 +192,11 @@ fn gives_lines<S: Source>(
         assert_eq!(rt; answer(reader, &mut failures), end, "{case:?}");
         assert_eq!(rt; reader.raw(), b"".as_slice(), "{case:?}");
     }
-    assert!(rt; failures <= 1);
+    failures
 }
 
-/// Gives these lines, whatever the greatest step of the source and whichever of its reads fails.
+/// Gives these lines, whatever the greatest step of the source and whichever of its reads fails. One failure is told where the read that
+/// fails is one that must be made: the first, and where the end comes each that gives bytes and one behind them.
 fn reads_lines(
     rt: &impl Abort,
     alloc: Global,
@@ -206,14 +207,26 @@ fn reads_lines(
 ) -> Result<(), Fail> {
     assert!(rt; limit < 1 << 32);
     for step in [1, 2, 3, 9, 4096, 5000] {
+        let reads = if end == LineStep::End {
+            text.len().div_ceil(step) + 1
+        } else {
+            1
+        };
         for failing in 0..12 {
-            let fails = [failing];
+            let fails = [failing as u32];
             let mut source = MemorySource::new(text.to_vec(alloc)?, step, fails.to_vec(alloc)?);
             let Ok(held) = HeldLines::new(alloc, limit, longest) else {
                 return Err(Fail::from("no memory"));
             };
             let mut reader = LineReader::over(&mut source, held);
-            gives_lines(rt, &mut reader, lines, end, (step, failing));
+            let failures = gives_lines(rt, &mut reader, lines, end, (step, failing));
+            if failing == 0 {
+                assert_eq!(rt; failures, 0);
+            } else if failing <= reads {
+                assert_eq!(rt; failures, 1);
+            } else {
+                assert!(rt; failures <= 1);
+            }
         }
     }
     Ok(())
