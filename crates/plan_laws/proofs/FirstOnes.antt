@@ -2,8 +2,9 @@
 use Rattle.std.proofs.Common.{arith, ◌≡◌, ◌≢◌, ◌==◌, ◌&&◌, ◌||◌, nat_lt, ℕ, suc, zero, ◌+◌, ◌<◌, ◌≤◌, Bool, true, false, List, [], ◌∷◌, ◌⊎◌, inl, inr, refl, count_by, cond, slice_index_or, Any}
 use Rattle.std.specs.List.{range_with_len}
 use Rattle.std.proofs.lemmas.List.FromFn.{length-range_with_len, get_or-range_with_len}
-use Rattle.std.proofs.lemmas.Bool.{cases_eq, eqb-true}
+use Rattle.std.proofs.lemmas.Bool.{and_from, cases_eq, eqb-true}
 use Rattle.std.proofs.lemmas.List.Folds.{Any-from_list_any}
+use Rattle.lemmas.proofs.Booleans.{sooner, later}
 use Rattle.lemmas.proofs.Counts.{count-is, count_one_more, count_some}
 
 -- two tests that together pass wherever a third does
@@ -74,22 +75,9 @@ module _ (n : ℕ) (among : ℕ → Bool) (before : ℕ → ℕ → Bool)
   not_itself x true h = absurd (one_way x x h h)
   not_itself x false h = h
 
-  and_both : (a b : Bool) → a ≡ true → b ≡ true → a && b ≡ true
-  and_both true true h k = refl
-  and_both true false h k = k
-  and_both false b h k = h
-
   and_none : (a b : Bool) → b ≡ false → a && b ≡ false
   and_none true b h = h
   and_none false b h = refl
-
-  and_first : (a b : Bool) → a && b ≡ true → a ≡ true
-  and_first true b h = refl
-  and_first false b h = h
-
-  and_second : (a b : Bool) → a && b ≡ true → b ≡ true
-  and_second true b h = h
-  and_second false b h = let e : false ≡ true = h in cc
 
   -- fewer go before one that goes before another
   fewer : (x y : ℕ) → x < n → among x ≡ true → before x y ≡ true → ahead x < ahead y
@@ -97,8 +85,8 @@ module _ (n : ℕ) (among : ℕ → Bool) (before : ℕ → ℕ → Bool)
       let long = length-range_with_len 0 n in
       let at : slice_index_or (range_with_len 0 n) x x ≡ x = let e = get_or-range_with_len 0 n x x low in omega (arith, e) in
       count_one_more (goes_first x) (goes_first y)
-      (λ z t. and_both (among z) (before z y) (and_first (among z) (before z x) t) (onward z x y (and_second (among z) (before z x) t) h))
-      (range_with_len 0 n) x x (omega arith) at (and_none (among x) (before x x) (not_itself x (before x x) refl)) (and_both (among x) (before x y) a h)
+      (λ z t. and_from (among z) (before z y) (sooner (among z) (before z x) t) (onward z x y (later (among z) (before z x) t) h))
+      (range_with_len 0 n) x x (omega arith) at (and_none (among x) (before x x) (not_itself x (before x x) refl)) (and_from (among x) (before x y) a h)
 
   abbrev has_ahead : ℕ → ℕ → Bool
   has_ahead k x = among x && ahead x == k
@@ -108,16 +96,16 @@ module _ (n : ℕ) (among : ℕ → Bool) (before : ℕ → ℕ → Bool)
   same k x y low low' h h' = go (cases_eq x y)
     where
       a : among x ≡ true
-      a = and_first (among x) (ahead x == k) h
+      a = sooner (among x) (ahead x == k) h
 
       a' : among y ≡ true
-      a' = and_first (among y) (ahead y == k) h'
+      a' = sooner (among y) (ahead y == k) h'
 
       e : ahead x ≡ k
-      e = let t = and_second (among x) (ahead x == k) h in eqb-true (ahead x) k t
+      e = let t = later (among x) (ahead x == k) h in eqb-true (ahead x) k t
 
       e' : ahead y ≡ k
-      e' = let t = and_second (among y) (ahead y == k) h' in eqb-true (ahead y) k t
+      e' = let t = later (among y) (ahead y == k) h' in eqb-true (ahead y) k t
 
       way : x ≢ y → (b : Bool) → before x y ≡ b → x ≡ y
       way other true h = let f = fewer x y low a h in let u = e in let v = e' in absurd (let f : ⊥ = omega arith in f)
@@ -165,7 +153,7 @@ module _ (n : ℕ) (among : ℕ → Bool) (before : ℕ → ℕ → Bool)
       at (k, y, lt, there, h) =
           let long = length-range_with_len 0 n in
           let is = get_or-range_with_len 0 n k y (omega arith) in
-          record { one = y; within = omega arith; there = and_first (among y) (before y x) h; before_it = and_second (among y) (before y x) h }
+          record { one = y; within = omega arith; there = sooner (among y) (before y x) h; before_it = later (among y) (before y x) h }
 
   descend : (room x : ℕ) → x < n → among x ≡ true → ahead x ≤ room → FirstAmong
   descend zero x low a le = record { one = x; within = low; there = a; none_before = omega arith }

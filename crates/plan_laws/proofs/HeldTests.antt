@@ -2,7 +2,7 @@
 use Rattle.std.proofs.Common.{arith, ◌≡◌, ◌<◌, ◌&&◌, ◌||◌, not, nat_lt, ℕ, Bool, true, false, List, [], ◌∷◌, refl, length, Contains}
 use Rattle.std.specs.List.{list_all, range_with_len}
 use Rattle.std.proofs.lemmas.Bool.{and_from}
-use Rattle.lemmas.proofs.Booleans.{sooner, later}
+use Rattle.lemmas.proofs.Booleans.{implied, later, sooner}
 use Rattle.rule_loops.proofs.Members.{at_head, in_range, in_rest, of_range}
 use Rattle.cluster_types.specs.declared.cluster.Cluster.{Cluster}
 use Rattle.cluster_types.specs.declared.journal.Event.{Event}
@@ -34,10 +34,6 @@ untrue false h = refl
 
 pub true_not : (b : Bool) → b ≡ false → not b ≡ true
 true_not b h = rw h refl
-
-pub unless : (a b : Bool) → not a || b ≡ true → a ≡ true → b ≡ true
-unless true b h g = h
-unless false b h g = cc
 
 pub if_then : (a b : Bool) → (a ≡ true → b ≡ true) → not a || b ≡ true
 if_then true b f = f refl
@@ -118,7 +114,7 @@ module _ (c : Cluster) (es : List Event) (table : Targets) where
     pub first_lacks : (o : Order) (n : ℕ) → lacks_first c es table marks o n ≡ true → LacksFirst c es table set o n (role_by o.first_op)
     first_lacks o n h m within scope held =
         has (decision_of o.first (role_by o.first_op)) m
-        (unless (is_in_scope o n m && holds_role table o.first (role_by o.first_op) m) (marks (decision_of o.first (role_by o.first_op)) m)
+        (implied (is_in_scope o n m && holds_role table o.first (role_by o.first_op) m) (marks (decision_of o.first (role_by o.first_op)) m)
         (each_passes (λ m. not (is_in_scope o n m && holds_role table o.first (role_by o.first_op) m) || marks (decision_of o.first (role_by o.first_op)) m)
         (range_with_len 0 (length c.nodes)) m h (in_range 0 (length c.nodes) m (omega arith) (omega arith)))
         (and_from (is_in_scope o n m) (holds_role table o.first (role_by o.first_op) m) scope held))
@@ -126,7 +122,7 @@ module _ (c : Cluster) (es : List Event) (table : Targets) where
     pub primary_lacks : (col : Colocation) (n : ℕ) → lacks_primary c es table marks col n ≡ true → LacksPrimary c es table set col n
     primary_lacks col n h held =
         has (decision_of col.primary col.primary_role) n
-        (unless (holds_role table col.primary col.primary_role n) (marks (decision_of col.primary col.primary_role) n) h held)
+        (implied (holds_role table col.primary col.primary_role n) (marks (decision_of col.primary col.primary_role) n) h held)
 
   -- and back, where the marks have the set
   module _ (marks : Marks) (set : Decision → ℕ → Type 0) (marked : (d : Decision) (n : ℕ) → set d n → marks d n ≡ true) where

@@ -1,5 +1,6 @@
 -- What the targets in the end keep of a table.
 use Rattle.std.proofs.Common.{arith, ◌≡◌, ◌&&◌, ℕ, ◌<◌, Bool, true, false, List, length, refl, Contains, Any, slice_index_or}
+use Rattle.std.proofs.lemmas.Bool.{and_from, and_parts}
 use Rattle.std.specs.List.{range_with_len, list_any}
 use Rattle.std.proofs.lemmas.List.Folds.{Any-from_list_any}
 use Rattle.std.proofs.lemmas.List.FromFn.{length-range_with_len, get_or-range_with_len}
@@ -25,15 +26,6 @@ somewhere_too : (t : Target) → is_promoted_target t ≡ true → is_somewhere 
 somewhere_too target.Nowhere h = h
 somewhere_too target.Started h = refl
 somewhere_too target.Promoted h = refl
-
-split : (a b : Bool) → a && b ≡ true → (a ≡ true) × (b ≡ true)
-split true b e = (refl, e)
-split false b e = cc
-
-join : (a b : Bool) → a ≡ true → b ≡ true → a && b ≡ true
-join true true e f = refl
-join true false e f = f
-join false b e f = e
 
 none : (b : Bool) → (b ≡ true → ⊥) → b ≡ false
 none true f = absurd (f refl)
@@ -134,7 +126,7 @@ module _ (c : Cluster) (es : List Event) (table : Targets) where
       found (k, m, lt, at, e) =
           let long = length-range_with_len 0 (length c.nodes) in
           let is = get_or-range_with_len 0 (length c.nodes) k m (omega arith) in
-          let both = split (is_in_scope o n m) (holds_role targets o.first first m) e in
+          let both = and_parts (is_in_scope o n m) (holds_role targets o.first first m) e in
           (m, omega arith, both.0, both.1)
 
       missing : list_any there all ≡ false → (m : ℕ) → m < length c.nodes → is_in_scope o n m ≡ true → holds_role targets o.first first m ≡ false
@@ -142,7 +134,7 @@ module _ (c : Cluster) (es : List Event) (table : Targets) where
           none (holds_role targets o.first first m) (λ held.
           let long = length-range_with_len 0 (length c.nodes) in
           let is : slice_index_or all m m ≡ m = let f = get_or-range_with_len 0 (length c.nodes) m m lt in omega (arith, f) in
-          let some = passes_by there all m (m, omega arith, is) (join (is_in_scope o n m) (holds_role targets o.first first m) scope held) in cc)
+          let some = passes_by there all m (m, omega arith, is) (and_from (is_in_scope o n m) (holds_role targets o.first first m) scope held) in cc)
 
     pub after_firsts : (o : Order) (n : ℕ) (first later : Role) → Contains c.orders o → o.kind ≡ kind.Mandatory → Gives o.first_op first → Gives o.then_op later
         → is_pinned c es o.then_leaf ≡ false → n < length c.nodes → holds_role targets o.then_leaf later n ≡ true

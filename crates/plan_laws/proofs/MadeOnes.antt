@@ -1,5 +1,6 @@
 -- Which decisions there are, and which of them were made.
 use Rattle.std.proofs.Common.{arith, ◌≡◌, ◌≢◌, ◌<◌, ◌||◌, ℕ, Bool, true, false, if◌then◌else◌, List, [], ◌∷◌, ◌++◌, ◌⊎◌, inl, inr, refl, sym, ◌∙◌, length, Contains, Any}
+use Rattle.std.proofs.lemmas.Bool.{or_left}
 use Rattle.std.specs.List.{list_any, range_with_len}
 use Rattle.std.proofs.lemmas.List.Folds.{Any-from_list_any, list_any-append}
 use Rattle.lemmas.proofs.Searches.{passes_by}
@@ -23,10 +24,6 @@ last_of true b h = inl refl
 last_of false true h = inr refl
 last_of false false h = cc
 
-first_of_two : (a b : Bool) → a ≡ true → a || b ≡ true
-first_of_two true b h = refl
-first_of_two false b h = cc
-
 second_of_two : (a b : Bool) → b ≡ true → a || (b || false) ≡ true
 second_of_two true b h = refl
 second_of_two false b h = rw h refl
@@ -41,7 +38,7 @@ never_both false h g = cc
 
 module _ (made : List Decision) (d e : Decision) where
   pub still_made : was_made made d ≡ true → was_made (made ++ e ∷ []) d ≡ true
-  still_made h = list_any-append (is_same_decision d) made (e ∷ []) ∙ first_of_two (was_made made d) _ h
+  still_made h = list_any-append (is_same_decision d) made (e ∷ []) ∙ or_left (was_made made d) _ h
 
   pub now_made : d ≡ e → was_made (made ++ e ∷ []) d ≡ true
   now_made same =

@@ -1,7 +1,7 @@
 -- What holds where a decision can be made.
 use Rattle.std.proofs.Common.{◌≡◌, ◌||◌, not, ℕ, Bool, true, false, List, [], ◌∷◌, inl, inr, refl, Contains}
 use Rattle.std.specs.List.{list_all}
-use Rattle.lemmas.proofs.Booleans.{sooner, later}
+use Rattle.lemmas.proofs.Booleans.{implied, later, sooner}
 use Rattle.rule_loops.proofs.Members.{head_or_rest, in_none}
 use Rattle.rule_loops.proofs.Needs.{is_itself}
 use Rattle.cluster_types.specs.declared.cluster.Cluster.{Cluster}
@@ -22,10 +22,6 @@ each_passes p (y ∷ ys) x h k = elim (head_or_rest y ys x k) [
   | inl same ↦ rw (← same) (sooner (p y) _ h)
   | inr rest ↦ each_passes p ys x (later (p y) _ h) rest
 ]
-
-implied : (a b : Bool) → not a || b ≡ true → a ≡ true → b ≡ true
-implied true b h g = h
-implied false b h g = cc
 
 module _ (c : Cluster) (es : List Event) (made : List Decision) (d : Decision) (ready : is_ready c es made d ≡ true) where
   pub ready_is_one : is_decision c es d ≡ true

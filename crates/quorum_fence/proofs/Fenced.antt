@@ -1,7 +1,5 @@
 -- The nodes that are unclean by their states, and those that are to be fenced.
-use Rattle.std.proofs.Common.{◌≡◌, ℕ, ◌<◌, true, false, Some, List, [], length, map, filter, slice_get, refl, sym, ap, ◌∙◌, arith}
-use Rattle.std.proofs.lemmas.List.FromFn.{get_or-map-range_with_len, length-map-range_with_len}
-use Rattle.std.proofs.lemmas.Option.{slice_get-get_or}
+use Rattle.std.proofs.Common.{◌≡◌, ℕ, ◌<◌, true, false, Some, List, [], length, filter, slice_get, refl, sym, ap, ◌∙◌}
 use Rattle.std.specs.List.{range_with_len}
 use Rattle.std.specs.Option.{option_map_or}
 use Rattle.lemmas.proofs.Ranges.{filter-same, filter-none}
@@ -12,19 +10,15 @@ use Rattle.cluster_types.specs.declared.states.States.{States}
 use Rattle.cluster_types.specs.NodeStates.{node_state, is_unclean_state}
 use Rattle.cluster_types.specs.Rights.{may_fence, is_to_be_fenced}
 use Rattle.cluster_types.specs.Unpacked.{states_of}
+use Rattle.cluster_types.proofs.StatesKept.{node_kept, nodes_fit}
 use Rattle.quorum_fence.specs.Unclean.{unclean_in}
 
 module _ (c : Cluster) (es : List Event) (promotions : List Promotion) (states : States) (told : states ≡ states_of c es promotions) where
   state-is : (n : ℕ) → n < length c.nodes → slice_get states.nodes n ≡ Some (node_state c n es)
-  state-is n low =
-      let f = λ (m : ℕ). node_state c m es in
-      let all = map f (range_with_len 0 (length c.nodes)) in
-      let within : n < length all = omega (arith, low, length-map-range_with_len f 0 (length c.nodes)) in
-      ap (λ (s : States). slice_get s.nodes n) told
-      ∙ (slice_get-get_or all n (f n) within ∙ ap Some (get_or-map-range_with_len f 0 (length c.nodes) n n (f n) low (omega arith)))
+  state-is n low = ap (λ (s : States). slice_get s.nodes n) told ∙ node_kept c es promotions n low
 
   size : length states.nodes ≡ length c.nodes
-  size = ap (λ (s : States). length s.nodes) told ∙ length-map-range_with_len (λ m. node_state c m es) 0 (length c.nodes)
+  size = ap (λ (s : States). length s.nodes) told ∙ nodes_fit c es promotions
 
   -- the cluster may not fence
   pub fences-none : may_fence c es ≡ false → [] ≡ filter (λ n. is_to_be_fenced c n es) (range_with_len 0 (length c.nodes))
