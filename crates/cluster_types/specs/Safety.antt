@@ -151,11 +151,12 @@ module _ (t : Transition) where
     pub fenced : (n : ℕ) → n < length t.cluster.nodes → is_to_be_fenced t.cluster n t.planned_at ≡ true
         → node_state t.cluster n (journal t events) ≡ node.Offline
 
--- what holds where a run stands: its journal is in order, and between transitions nothing is in flight; its transition is safe, and once it ends unaborted it
--- has ended in the targets of its plan
+-- the journal is in order, and nothing is in flight
 abbrev pub IsAtRest : List Event → Type 0
 IsAtRest es = Orderly es × (in_flight es ≡ [])
 
+-- what holds where a run stands: between transitions it is at rest; amid one the journal is in order, the transition is safe, and once it ends unaborted it
+-- has ended in the targets of its plan
 abbrev pub IsSafeAt : Cluster → List Promotion → Standing → Type 0
 IsSafeAt c promotions (due number es) = IsAtRest es
 IsSafeAt c promotions (idle number es) = IsAtRest es
