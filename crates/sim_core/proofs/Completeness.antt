@@ -1,10 +1,9 @@
 -- Where no count rose and the input has room, each answer but want of memory is the one that the input gets.
-use Rattle.std.proofs.Common.{◌≡◌, ◌≢◌, ◌↔◌, ℕ, ◌≤◌, Option, Some, None, List, length, refl, sym, subst, IfSome, arith}
+use Rattle.std.proofs.Common.{◌≡◌, ◌≢◌, ◌↔◌, ℕ, ◌≤◌, Option, Some, None, List, length, refl, subst, IfSome, arith}
 use Rattle.cluster_io.specs.Streams.{Rose}
 use Rattle.sim_core.specs.declared.status.Status.{Status}
 use Rattle.sim_core.specs.declared.status.Status.TheVariants.{Done, NoMemory, Usage, ReadFault, WriteFault, Refused, Unexpected, TooLarge, NotLawful}
 use Rattle.sim_core.specs.declared.words.Command.{Command}
-use Rattle.sim_core.specs.declared.words.Command.TheVariants.{Check, Replay, Help, Version}
 use Rattle.sim_core.specs.Answers.{Answers, IsComplete, IsDue, IsWritten, SaysOf, Taken, Written, input_of, most_bytes}
 use Rattle.sim_core.specs.Table.{Intake, nothing, whole, live, intake, Gets}
 use Rattle.sim_core.proofs.OneOutcome.{one_status}
