@@ -2,3 +2,4 @@ pub mod Rows
 pub mod LeafLaws
 pub mod NameLaws
 pub mod NodeNames
+pub mod Twice

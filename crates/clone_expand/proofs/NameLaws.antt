@@ -1,8 +1,12 @@
 -- Where no statement is at fault, no two leaves have one name.
-use Rattle.std.proofs.Common.{◌≡◌, ◌≢◌, ℕ, Bool, true, false, ◌||◌, if◌then◌else◌, List, [], ◌∷◌, ◌++◌, Option, None, Some, All, AllPairs, refl, sym, subst, ◌∙◌, true≢false, arith}
+use Rattle.std.proofs.Common.{◌≡◌, ◌≢◌, ℕ, Bool, true, false, ◌||◌, if◌then◌else◌, List, [], ◌∷◌, ◌++◌, Option, None, Some, All, AllPairs, refl, sym, ap, subst, ◌∙◌, true≢false, arith}
 use Rattle.std.specs.List.{list_any}
-use Rattle.std.specs.Cmp.Lexicographic.{nat_list_eq_equiv}
-use Rattle.std.proofs.lemmas.List.Folds.{list_any-append}
+use Rattle.std.specs.BTreeSet.{insert_key}
+use Rattle.std.specs.Cmp.Lexicographic.{nat_list_eq_equiv, slice_cmp}
+use Rattle.std.specs.Ordering.{match_ordering, nat_cmp}
+use Rattle.std.specs.declared.cmp.Ordering.{Ordering}
+use Rattle.std.specs.declared.cmp.Ordering.TheVariants.{Less, Equal, Greater}
+use Rattle.std.proofs.lemmas.Map.Lookups.{exact_bytes}
 use Rattle.std.proofs.lemmas.List.Elements.{All-cons}
 use Rattle.std.proofs.lemmas.List.Kept.{AllPairs-cons}
 use Rattle.crm_parse.specs.declared.form.Form.{Form}
@@ -30,25 +34,36 @@ pub or_right : (b c : Bool) → (b || c) ≡ false → c ≡ false
 or_right true c h = absurd (true≢false h)
 or_right false c h = h
 
--- what isn't among some names with one more isn't among them
-kept_by : (names : List (List ℕ)) (name x : List ℕ) (b : Bool) → has (if b then names else names ++ name ∷ []) x ≡ false → has names x ≡ false
-kept_by names name x true h = h
-kept_by names name x false h = or_left (has names x) (list_any (is x) (name ∷ [])) (sym (list_any-append (is x) names (name ∷ [])) ∙ h)
-
-pub kept : (names : List (List ℕ)) (name x : List ℕ) → has (with_name names name) x ≡ false → has names x ≡ false
-kept names name x h = kept_by names name x (has names name) h
-
--- and isn't that one
 is_itself : (name : List ℕ) → is name name ≡ true
 is_itself name = nat_list_eq_equiv.refl name
 
-there_by : (names : List (List ℕ)) (name : List ℕ) (b : Bool) → has names name ≡ b → has (if b then names else names ++ name ∷ []) name ≡ true
-there_by names name true e = e
-there_by names name false e = list_any-append (is name) names (name ∷ []) ∙ rw (e, is_itself name) refl
+-- among some names and one more are those, and that one
+pub one_more : (name x : List ℕ) (names : List (List ℕ)) → has (with_name names name) x ≡ (is x name || has names x)
+one_more name x [] = refl
+one_more name x (y ∷ names) = split (slice_cmp nat_cmp name y) refl (one_more name x names)
+  where
+    pushed : (a b c : Bool) → (b || (a || c)) ≡ (a || (b || c))
+    pushed true true c = refl
+    pushed true false c = refl
+    pushed false b c = refl
+
+    twice : (a c : Bool) → (a || c) ≡ (a || (a || c))
+    twice true c = refl
+    twice false c = refl
+
+    split : (o : Ordering) → slice_cmp nat_cmp name y ≡ o → has (with_name names name) x ≡ (is x name || has names x)
+        → has (match_ordering o (name ∷ y ∷ names) (y ∷ names) (y ∷ insert_key (slice_cmp nat_cmp) names name)) x ≡ (is x name || (is x y || has names x))
+    split Less e rest = refl
+    split Equal e rest = let same = exact_bytes name y e in rw same (twice (is x y) (has names x))
+    split Greater e rest = ap (λ b. is x y || b) rest ∙ pushed (is x name) (is x y) (has names x)
+
+pub kept : (names : List (List ℕ)) (name x : List ℕ) → has (with_name names name) x ≡ false → has names x ≡ false
+kept names name x h = or_right (is x name) (has names x) (sym (one_more name x names) ∙ h)
 
 pub other : (names : List (List ℕ)) (name x : List ℕ) → has (with_name names name) x ≡ false → name ≢ x
 other names name x h e =
-    true≢false (sym (there_by names name (has names name) refl) ∙ subst (λ y. has (with_name names name) y ≡ false) (sym e) h)
+    let apart = or_left (is x name) (has names x) (sym (one_more name x names) ∙ h) in
+    true≢false (sym (is_itself x) ∙ subst (λ y. is x y ≡ false) e apart)
 
 record Fresh (ids : List (List ℕ)) (leaves : List Leaf) : Type 0 where
   new : All (λ leaf. has ids leaf.name ≡ false) leaves

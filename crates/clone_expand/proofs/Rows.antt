@@ -1,17 +1,22 @@
 -- Tables that are made row by row.
-use Rattle.std.proofs.Common.{◌≡◌, ℕ, List, [], ◌∷◌, ◌++◌, None, nat_eq, refl, ◌∙◌}
-use Rattle.std.specs.List.{flat_map}
-use Rattle.std.specs.Cmp.Lexicographic.{pointwise}
-use Rattle.indexmap.specs.IndexMap.{insert_entry}
-use Rattle.indexmap.proofs.MapLemmas.{absent_from_lookup, insert_entry-absent}
-use Rattle.clone_expand.specs.Tables.{lookup, with_row, with_rows}
+use Rattle.std.proofs.Common.{◌≡◌, ℕ, List, [], ◌∷◌, ◌++◌, refl, ◌∙◌}
+use Rattle.std.specs.BTreeMap.{is_at}
+use Rattle.std.specs.Cmp.Lexicographic.{slice_cmp}
+use Rattle.std.specs.List.{flat_map, list_any}
+use Rattle.std.specs.Map as std_map
+use Rattle.std.specs.Ordering.{nat_cmp}
+use Rattle.std.proofs.lemmas.Map.Text.{is_eq-slice_cmp}
+use Rattle.clone_expand.specs.Tables.{has, lookup, with_row, with_rows}
+
+-- a name that compares as equal is the same
+pub found_among : (name : List ℕ) (names : List (List ℕ)) → list_any (is_at (slice_cmp nat_cmp name)) names ≡ has names name
+found_among name [] = refl
+found_among name (x ∷ names) = rw (is_eq-slice_cmp name x, found_among name names) refl
 
 module _ {V : Type 0} where
-  -- a map puts a new name last
-  pub new_name_last : (rows : List (List ℕ × V)) (name : List ℕ) (value : V) → lookup rows name ≡ None
-      → insert_entry (pointwise nat_eq) rows name value ≡ rows ++ (name, value) ∷ []
-  new_name_last rows name value none =
-      insert_entry-absent (pointwise nat_eq) name value rows (absent_from_lookup (pointwise nat_eq name) rows none)
+  pub found_row : (name : List ℕ) (rows : List (List ℕ × V)) → std_map.lookup (is_at (slice_cmp nat_cmp name)) rows ≡ lookup rows name
+  found_row name [] = refl
+  found_row name (row ∷ rows) = rw (is_eq-slice_cmp name row.0, found_row name rows) refl
 
   -- some rows and then others are all of them
   rows_and_more : (table rows more : List (List ℕ × V)) → with_rows table (rows ++ more) ≡ with_rows (with_rows table rows) more

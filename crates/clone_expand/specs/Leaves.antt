@@ -1,5 +1,5 @@
 -- The leaves of a configuration: each primitive is one, in the order of the text (rule of this project).
-use Rattle.std.specs.Prelude.{ℕ, ℤ, pos, Bool, false, true, not, ◌&&◌, if◌then◌else◌, List, [], ◌∷◌, codes, is_some, unwrap_or, Option}
+use Rattle.std.specs.Prelude.{ℕ, ℤ, pos, Bool, false, true, not, ◌&&◌, List, [], ◌∷◌, codes, is_some, unwrap_or}
 use Rattle.std.specs.List.{flat_map}
 use Rattle.score.specs.Total.{infinity}
 use Rattle.crm_parse.specs.declared.form.Form.{Form}

@@ -1,6 +1,11 @@
--- Names in use, and tables from names to what they stand for. A name that a table has already keeps what it stands for.
-use Rattle.std.specs.Prelude.{ℕ, Bool, if◌then◌else◌, List, [], ◌∷◌, ◌++◌, is_some, Option}
+-- Names in use, and tables from names to what they stand for, in the order of the bytes of the names. A name that a table has already keeps what it
+-- stands for.
+use Rattle.std.specs.Prelude.{ℕ, Bool, if◌then◌else◌, List, [], ◌∷◌, is_some, Option}
+use Rattle.std.specs.BTreeMap.{insert_entry}
+use Rattle.std.specs.BTreeSet.{insert_key}
+use Rattle.std.specs.Cmp.Lexicographic.{slice_cmp}
 use Rattle.std.specs.List.{list_any}
+use Rattle.std.specs.Ordering.{nat_cmp}
 use Rattle.std.specs.Map as std_map
 use Rattle.crm_parse.specs.Texts.{is}
 
@@ -10,7 +15,7 @@ has names name = list_any (is name) names
 
 -- some names, and one more
 abbrev pub with_name : List (List ℕ) → List ℕ → List (List ℕ)
-with_name names name = if has names name then names else names ++ name ∷ []
+with_name names name = insert_key (slice_cmp nat_cmp) names name
 
 -- some names, and some more
 abbrev pub with_names : List (List ℕ) → List (List ℕ) → List (List ℕ)
@@ -24,7 +29,7 @@ module _ {V : Type 0} where
 
   -- a table with one more row
   abbrev pub with_row : List (List ℕ × V) → List ℕ × V → List (List ℕ × V)
-  with_row table row = if is_some (lookup table row.0) then table else table ++ row ∷ []
+  with_row table row = if is_some (lookup table row.0) then table else insert_entry (slice_cmp nat_cmp) table row.0 row.1
 
   -- a table with some more rows
   abbrev pub with_rows : List (List ℕ × V) → List (List ℕ × V) → List (List ℕ × V)

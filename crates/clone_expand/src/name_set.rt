@@ -3,14 +3,14 @@ ghost use Rattle.clone_expand.specs.Tables.{has, with_name};
 
 use cluster_types::NoMemory;
 use crm_lex::Name;
-use indexmap::IndexSet;
 use std::alloc::Global;
+use std::collections::BTreeSet;
 use std::marker::Model;
 
-/// Names, in the order in which they were first added.
+/// Names, in the order of their bytes. However they are chosen, a name is found among n in the time of log n comparisons.
 #[derive(Drop)]
 pub(crate) struct NameSet {
-    names: IndexSet<Name>,
+    names: BTreeSet<Name>,
 }
 
 impl Model for NameSet {
@@ -26,11 +26,12 @@ impl NameSet {
         ensures { result ≡ [] }
     {
         NameSet {
-            names: IndexSet::new(alloc),
+            names: BTreeSet::new(alloc),
         }
     }
 
     /// Whether the name was added.
+    #[tactic(auto, using(crate::proofs::Rows::found_among))]
     pub fn has(&self, name: &Name) -> bool
         ensures { result ≡ has self.now name.now }
     {

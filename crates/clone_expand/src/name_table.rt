@@ -3,14 +3,14 @@ ghost use Rattle.clone_expand.specs.Tables.{lookup, with_row};
 
 use cluster_types::NoMemory;
 use crm_lex::Name;
-use indexmap::IndexMap;
 use std::alloc::Global;
+use std::collections::BTreeMap;
 use std::marker::Model;
 
-/// What names stand for, in the order in which they were first added. A name is found in the same time in a table of any size.
+/// What names stand for, in the order of their bytes. However they are chosen, a name is found among n in the time of log n comparisons.
 #[derive(Drop)]
 pub struct NameTable<V> {
-    rows: IndexMap<Name, V>,
+    rows: BTreeMap<Name, V>,
 }
 
 impl<V> Model for NameTable<V> {
@@ -27,29 +27,23 @@ impl<V: Copy> NameTable<V> {
         ensures { result ≡ [] }
     {
         NameTable {
-            rows: IndexMap::new(alloc),
+            rows: BTreeMap::new(alloc),
         }
     }
 
     /// What the name stands for, where it was added.
+    #[tactic(auto, using(crate::proofs::Rows::found_row))]
     pub fn get(&self, name: &Name) -> Option<V>
         ensures { result ≡ lookup self.now name.now }
     {
         self.rows.get(name).copied()
     }
 
-    fn has(&self, name: &Name) -> bool
-        ensures { result ≡ is_some (lookup self.now name.now) }
-    {
-        self.rows.contains_key(name)
-    }
-
     /// Adds what a name stands for. A name that was added before keeps what it stands for.
-    #[tactic(auto, using(crate::proofs::Rows::new_name_last))]
     pub fn add(&mut self, alloc: Global, name: &Name, value: V) -> Result<(), NoMemory>
         ensures { OnOk result (self.new ≡ with_row self.old (name.now, value)) }
     {
-        if self.has(name) {
+        if self.get(name).is_some() {
             return Ok(());
         }
         let name = Name::from_bytes(alloc, name.bytes()).map_err(|_| NoMemory)?;

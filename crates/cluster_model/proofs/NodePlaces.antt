@@ -1,7 +1,12 @@
 -- The node of a location is one of the nodes.
 use Rattle.std.proofs.Common.{arith, ◌≡◌, ◌<◌, ◌+◌, ℕ, Bool, true, false, List, [], ◌∷◌, ◌++◌, length, map, is_none, cond, refl, sym, ap, ◌∙◌, inl, inr, ◌⊎◌, Contains}
 use Rattle.std.specs.Prelude.{Some, is_some}
+use Rattle.std.specs.BTreeMap.{insert_entry}
+use Rattle.std.specs.Cmp.Lexicographic.{slice_cmp}
 use Rattle.std.specs.List.{AllByRecursion, flat_map}
+use Rattle.std.specs.Ordering.{match_ordering, nat_cmp}
+use Rattle.std.specs.declared.cmp.Ordering.{Ordering}
+use Rattle.std.specs.declared.cmp.Ordering.TheVariants.{Less, Equal, Greater}
 use Rattle.std.specs.Option.{option_map_or}
 use Rattle.std.proofs.lemmas.List.{length-map}
 use Rattle.cluster_types.specs.declared.node.Node.{Node}
@@ -25,15 +30,21 @@ use Rattle.cluster_model.proofs.Sound.{IsSound}
 abbrev pub AreBelow : ℕ → List (List ℕ × ℕ) → Type 0
 AreBelow n table = AllByRecursion (λ (row : List ℕ × ℕ). row.1 < n) table
 
-below-append : (n : ℕ) (table more : List (List ℕ × ℕ)) → AreBelow n table → AreBelow n more → AreBelow n (table ++ more)
-below-append n [] more t m = m
-below-append n (row ∷ table) more t m = (t.0, below-append n table more t.1 m)
+below-entry : (n : ℕ) (table : List (List ℕ × ℕ)) (name : List ℕ) (k : ℕ) → AreBelow n table → k < n
+    → AreBelow n (insert_entry (slice_cmp nat_cmp) table name k)
+below-entry n [] name k t r = (r, tt)
+below-entry n (row ∷ table) name k t r = on (slice_cmp nat_cmp name row.0) (below-entry n table name k t.1 r) where
+  on : (o : Ordering) → AreBelow n (insert_entry (slice_cmp nat_cmp) table name k)
+      → AreBelow n (match_ordering o ((name, k) ∷ row ∷ table) ((row.0, k) ∷ table) (row ∷ insert_entry (slice_cmp nat_cmp) table name k))
+  on Less more = (r, t)
+  on Equal more = (r, t.1)
+  on Greater more = (t.0, more)
 
 below-row : (n : ℕ) (table : List (List ℕ × ℕ)) (row : List ℕ × ℕ) → AreBelow n table → row.1 < n → AreBelow n (with_row table row)
 below-row n table row t r = on (is_some (lookup table row.0)) where
-  on : (b : Bool) → AreBelow n (cond b table (table ++ row ∷ []))
+  on : (b : Bool) → AreBelow n (cond b table (insert_entry (slice_cmp nat_cmp) table row.0 row.1))
   on true = t
-  on false = below-append n table (row ∷ []) t (r, tt)
+  on false = below-entry n table row.0 row.1 t r
 
 below-rows : (n : ℕ) (table rows : List (List ℕ × ℕ)) → AreBelow n table → AreBelow n rows → AreBelow n (with_rows table rows)
 below-rows n table [] t r = t
