@@ -7,7 +7,7 @@ ghost use Rattle.cluster_types.specs.Walks.{AreMarked, is_marked, joins};
 
 use crate::edges::{Edge, Edges};
 use crate::graph::Graph;
-use crate::memory::NoMemory;
+use faults::NoMemory;
 use std::alloc::{AllocError, Global};
 
 /// Marks the positions from which an edge leads to this one.

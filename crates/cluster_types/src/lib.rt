@@ -11,7 +11,6 @@ mod graph;
 mod journal;
 mod laws;
 mod leaf;
-mod memory;
 mod moment;
 mod node;
 mod placement;
@@ -23,6 +22,7 @@ mod states;
 pub use cells::{cell_place, is_same_cell};
 pub use cluster::{Cluster, Policy, Properties};
 pub use edges::{Edge, Edges};
+pub use faults::NoMemory;
 pub use graph::Graph;
 pub use journal::{Action, Answer, Event, Journal, Outcome, Promotion};
 pub use laws::{
@@ -33,7 +33,6 @@ pub use laws::{
     silent_ends_are_of_the_first_in_flight, transitions_are_eager,
 };
 pub use leaf::{Leaf, LeafId, Monitor, OnFail, Op, Role, TargetRole};
-pub use memory::NoMemory;
 pub use moment::moment_of;
 pub use node::{Node, NodeId};
 pub use placement::{Decided, Decision, NoReason, Pin, Placed, Table, Target};

@@ -6,10 +6,10 @@ ghost use Rattle.cluster_types.specs.Tables.{targets_of};
 
 use crate::cells::cell_place;
 use crate::leaf::{LeafId, Role};
-use crate::memory::NoMemory;
 use crate::node::NodeId;
 use crate::rules::Colocation;
 use crm_lex::Name;
+use faults::NoMemory;
 use listed::Listed;
 use score::Score;
 use std::alloc::Global;

@@ -2,33 +2,34 @@
 use Rattle.std.proofs.Common.{◌≡◌, ℕ, ◌+◌, ◌*◌, ◌≤◌, nat_lt, not, Bool, true, false, Err, List, [], ◌∷◌, ◌++◌, length, ap, arith}
 use Rattle.std.specs.List.{list_any, AllByRecursion}
 use Rattle.std.specs.Str.{is_utf8}
+use Rattle.faults.specs.Reading.{unless}
 use Rattle.crm_lex.specs.RawLines.{content, raw_lines}
 use Rattle.crm_lex.specs.Words.{is_open}
 use Rattle.crm_lex.specs.LogicalLines.{fault_if, content_length, line_text, is_control, byte_faults, all_byte_faults, faults}
-use Rattle.crm_lex.specs.Reading.{faults_from, first_fault, unless, rows_from, reads}
+use Rattle.crm_lex.specs.Reading.{faults_from, first_fault, rows_from, reads}
 use Rattle.crm_lex.specs.FaultOrder.{rank, NotAfter}
 use Rattle.crm_lex.specs.declared.line.Line.{Line}
 use Rattle.crm_lex.specs.declared.fault.LexCause.{LexCause}
 use Rattle.crm_lex.specs.declared.fault.LexCause.TheVariants.{NotUtf8, ControlByte, OpenQuote, LineTooLong}
-use Rattle.crm_lex.specs.declared.fault.LexFault.{LexFault}
-use Rattle.crm_lex.specs.declared.fault.LexFault.TheVariants.{At, NoMemory}
+use Rattle.faults.specs.declared.fault.Fault.{Fault}
+use Rattle.faults.specs.declared.fault.Fault.TheVariants.{At, NoMemory}
 
 -- one number for a line and a cause
 abbrev pub place : ℕ → LexCause → ℕ
 place n cause = 4 * n + rank cause
 
 -- faults at rising places, from the first number up to the second
-abbrev pub Rising : ℕ → ℕ → List LexFault → Type 0
+abbrev pub Rising : ℕ → ℕ → List (Fault LexCause) → Type 0
 Rising low high [] = low ≤ high
 Rising low high (At n cause ∷ found) = (low ≤ place n cause) × Rising (place n cause + 1) high found
 Rising low high (NoMemory ∷ found) = ⊥
 
-Rising-lower : (low lower high : ℕ) (found : List LexFault) → lower ≤ low → Rising low high found → Rising lower high found
+Rising-lower : (low lower high : ℕ) (found : List (Fault LexCause)) → lower ≤ low → Rising low high found → Rising lower high found
 Rising-lower low lower high [] le r = omega arith
 Rising-lower low lower high (At n cause ∷ found) le r = (omega (arith, r.0), r.1)
 Rising-lower low lower high (NoMemory ∷ found) le r = r
 
-Rising-append : (low middle next high : ℕ) (found more : List LexFault) → Rising low middle found → middle ≤ next → Rising next high more → Rising low high (found ++ more)
+Rising-append : (low middle next high : ℕ) (found more : List (Fault LexCause)) → Rising low middle found → middle ≤ next → Rising next high more → Rising low high (found ++ more)
 Rising-append low middle next high [] more f le m = Rising-lower next low high more (omega arith) m
 Rising-append low middle next high (At n cause ∷ found) more f le m = (f.0, Rising-append (place n cause + 1) middle next high found more f.1 le m)
 Rising-append low middle next high (NoMemory ∷ found) more f le m = absurd f
@@ -89,13 +90,13 @@ rank_bound OpenQuote = omega arith
 not_after : (n m : ℕ) (cause other : LexCause) → place n cause ≤ place m other → NotAfter n cause (At m other)
 not_after n m cause other le = let a = rank_bound cause in let b = rank_bound other in grind arith
 
-rest_not_after : (n : ℕ) (cause : LexCause) (low high : ℕ) (found : List LexFault) → place n cause ≤ low → Rising low high found → AllByRecursion (NotAfter n cause) found
+rest_not_after : (n : ℕ) (cause : LexCause) (low high : ℕ) (found : List (Fault LexCause)) → place n cause ≤ low → Rising low high found → AllByRecursion (NotAfter n cause) found
 rest_not_after n cause low high [] le r = tt
 rest_not_after n cause low high (At m other ∷ found) le r =
     (not_after n m cause other (omega (arith, r.0)), rest_not_after n cause (place m other + 1) high found (omega (arith, r.0)) r.1)
 rest_not_after n cause low high (NoMemory ∷ found) le r = absurd r
 
-first_not_after : (n : ℕ) (cause : LexCause) (low high : ℕ) (found : List LexFault) (rows : List Line) → Rising low high found
+first_not_after : (n : ℕ) (cause : LexCause) (low high : ℕ) (found : List (Fault LexCause)) (rows : List Line) → Rising low high found
     → unless (first_fault found) rows ≡ Err (At n cause) → AllByRecursion (NotAfter n cause) found
 first_not_after n cause low high [] rows r e = cc
 first_not_after n cause low high (At m other ∷ found) rows r e =

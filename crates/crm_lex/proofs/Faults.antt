@@ -4,15 +4,16 @@ use Rattle.std.proofs.lemmas.Bool.Decides.{nat_tests}
 use Rattle.crm_lex.specs.Words.{is_open}
 use Rattle.crm_lex.specs.LogicalLines.{content_length, line_text, byte_faults, all_byte_faults, faults}
 use Rattle.crm_lex.specs.Reading.{first_fault}
-use Rattle.crm_lex.specs.declared.fault.LexFault.{LexFault}
+use Rattle.faults.specs.declared.fault.Fault.{Fault}
+use Rattle.crm_lex.specs.declared.fault.LexCause.{LexCause}
 
 -- a fault comes before all behind it
-pub first_fault-some : (faults more : List LexFault) (fault : LexFault) → Some fault ≡ first_fault faults → first_fault (faults ++ more) ≡ Some fault
+pub first_fault-some : (faults more : List (Fault LexCause)) (fault : Fault LexCause) → Some fault ≡ first_fault faults → first_fault (faults ++ more) ≡ Some fault
 first_fault-some [] more fault e = cc
 first_fault-some (first ∷ faults) more fault e = sym e
 
 -- no faults are nothing
-pub first_fault-none : (faults more : List LexFault) → None ≡ first_fault faults → first_fault (faults ++ more) ≡ first_fault more
+pub first_fault-none : (faults more : List (Fault LexCause)) → None ≡ first_fault faults → first_fault (faults ++ more) ≡ first_fault more
 first_fault-none [] more e = refl
 first_fault-none (first ∷ faults) more e = cc
 

@@ -8,21 +8,21 @@ use Rattle.crm_lex.specs.LogicalLines.{fault_if, content_length, line_text, is_c
 use Rattle.crm_lex.specs.Reading.{first_fault}
 use Rattle.crm_lex.specs.declared.fault.LexCause.{LexCause}
 use Rattle.crm_lex.specs.declared.fault.LexCause.TheVariants.{NotUtf8, ControlByte, OpenQuote, LineTooLong}
-use Rattle.crm_lex.specs.declared.fault.LexFault.{LexFault}
-use Rattle.crm_lex.specs.declared.fault.LexFault.TheVariants.{At, NoMemory}
+use Rattle.faults.specs.declared.fault.Fault.{Fault}
+use Rattle.faults.specs.declared.fault.Fault.TheVariants.{At, NoMemory}
 
-abbrev stands : LexFault → Bool
+abbrev stands : Fault LexCause → Bool
 stands (At n cause) = true
 stands NoMemory = false
 
-abbrev All : List LexFault → Type 0
+abbrev All : List (Fault LexCause) → Type 0
 All found = list_all stands found ≡ true
 
 stands-if : (t : Bool) (n : ℕ) (cause : LexCause) → All (fault_if t n cause)
 stands-if true n cause = refl
 stands-if false n cause = refl
 
-stands-append : (found more : List LexFault) → All found → All more → All (found ++ more)
+stands-append : (found more : List (Fault LexCause)) → All found → All more → All (found ++ more)
 stands-append [] more f m = m
 stands-append (At n cause ∷ found) more f m = stands-append found more f m
 stands-append (NoMemory ∷ found) more f m = cc
@@ -45,10 +45,10 @@ stands-faults n (line ∷ lines) =
     (stands-append (byte_faults n line) (open_fault ++ later) (stands-bytes n line)
     (stands-append open_fault later (stands-if (is_open (line_text all)) n OpenQuote) (stands-all (n + 1) lines)))
 
-first-stands : (found : List LexFault) → All found → Some NoMemory ≡ first_fault found → ⊥
+first-stands : (found : List (Fault LexCause)) → All found → Some NoMemory ≡ first_fault found → ⊥
 first-stands [] f e = cc
 first-stands (At n cause ∷ found) f e = cc
 first-stands (NoMemory ∷ found) f e = cc
 
-pub never_memory : (n : ℕ) (lines : List (List ℕ)) (fault : LexFault) → Some fault ≡ first_fault (faults n lines) → fault ≡ NoMemory → ⊥
+pub never_memory : (n : ℕ) (lines : List (List ℕ)) (fault : Fault LexCause) → Some fault ≡ first_fault (faults n lines) → fault ≡ NoMemory → ⊥
 never_memory n lines fault e is = first-stands (faults n lines) (stands-faults n lines) (ap Some (sym is) ∙ e)

@@ -2,13 +2,15 @@
 use Rattle.std.proofs.Common.{◌≡◌, ℕ, ◌+◌, Bool, true, false, if◌then◌else◌, List, [], ◌∷◌, ◌++◌, length, map, refl, sym, ap, ◌∙◌, subst}
 use Rattle.std.specs.List.{concat, AllByRecursion}
 use Rattle.std.proofs.lemmas.List.Folds.{concat-append}
+use Rattle.faults.specs.Reading.{unless}
 use Rattle.crm_lex.specs.RawLines.{physical_lines, onto_group, goes_on, joined, raw_lines}
 use Rattle.crm_lex.specs.Words.{words_of}
 use Rattle.crm_lex.specs.LogicalLines.{line_text, faults}
-use Rattle.crm_lex.specs.Reading.{row, rows_from, faults_from, first_fault, unless, reads}
+use Rattle.crm_lex.specs.Reading.{row, rows_from, faults_from, first_fault, reads}
 use Rattle.crm_lex.specs.Pieces.{line_bytes, before_others, reads_each}
 use Rattle.crm_lex.specs.declared.line.Line.{Line}
-use Rattle.crm_lex.specs.declared.fault.LexFault.{LexFault}
+use Rattle.faults.specs.declared.fault.Fault.{Fault}
+use Rattle.crm_lex.specs.declared.fault.LexCause.{LexCause}
 use Rattle.crm_lex.proofs.PhysicalLines.{Whole, Whole-physical, Whole-front, Whole-back, lines-concat, concat-lines}
 
 -- the lines of all groups
@@ -40,7 +42,7 @@ own (group ∷ groups) w = (lines-concat group (Whole-front group (all_lines gro
 pub own_lines : (text : List ℕ) → AllOwn (raw_lines text)
 own_lines text = own (raw_lines text) (subst Whole (sym (all_lines-joined false (physical_lines text))) (Whole-physical text))
 
-step : (n : ℕ) (found later : List LexFault) (words : List (List ℕ)) (rows : List Line)
+step : (n : ℕ) (found later : List (Fault LexCause)) (words : List (List ℕ)) (rows : List Line)
     → unless (first_fault (found ++ later)) (row n words ++ rows) ≡ before_others n (unless (first_fault found) words) (unless (first_fault later) rows)
 step n [] [] words rows = refl
 step n [] (fault ∷ later) words rows = refl

@@ -3,13 +3,15 @@ use Rattle.std.proofs.Common.{◌≡◌, ℕ, ◌<◌, ◌≤◌, nat_lt, nat_le
 use Rattle.std.proofs.lemmas.Bool.Decides.{nat_tests}
 use Rattle.std.specs.List.{list_any, concat}
 use Rattle.std.proofs.lemmas.Bool.{or_parts}
+use Rattle.faults.specs.Reading.{unless, Gives}
 use Rattle.crm_lex.specs.RawLines.{physical_lines, content, begins_comment, ends_in_backslash}
 use Rattle.crm_lex.specs.Words.{is_quote, place_behind, is_open, words_of}
 use Rattle.crm_lex.specs.LogicalLines.{with_joint, line_text, content_length, byte_faults, faults}
 use Rattle.crm_lex.specs.Parts.{is_quote_or_backslash, is_plain_text, is_plain}
-use Rattle.crm_lex.specs.Reading.{first_fault, unless, reads_line, GivesWords}
-use Rattle.crm_lex.specs.declared.fault.LexFault.{LexFault}
-use Rattle.crm_lex.specs.declared.fault.LexFault.TheVariants.{At, NoMemory}
+use Rattle.crm_lex.specs.Reading.{first_fault, reads_line}
+use Rattle.faults.specs.declared.fault.Fault.{Fault}
+use Rattle.crm_lex.specs.declared.fault.LexCause.{LexCause}
+use Rattle.faults.specs.declared.fault.Fault.TheVariants.{At, NoMemory}
 use Rattle.crm_lex.specs.declared.quoting.Place.TheVariants.{Outside}
 use Rattle.crm_lex.proofs.PhysicalLines.{some_lines, concat-lines}
 use Rattle.crm_lex.proofs.Joints.{with_joint-none}
@@ -77,15 +79,15 @@ reads-plain n raw plain =
 
 -- what is answered of a plain line
 module _ (n : ℕ) (raw : List ℕ) (plain : is_plain (physical_lines raw) ≡ true) where
-  pub plain_fault : (fault : LexFault) → Some fault ≡ first_fault (byte_faults n raw) → GivesWords (Err fault) (reads_line n raw)
+  pub plain_fault : (fault : Fault LexCause) → Some fault ≡ first_fault (byte_faults n raw) → Gives (λ (words : List (List ℕ)). words) (Err fault) (reads_line n raw)
   plain_fault NoMemory e = tt
   plain_fault (At m cause) e = reads-plain n raw plain ∙ rw (← e) refl
 
   pub plain_comment : None ≡ first_fault (byte_faults n raw) → begins_comment (content raw) ≡ true → reads_line n raw ≡ Ok []
   plain_comment clean comment = reads-plain n raw plain ∙ rw (← clean, comment) refl
 
-  pub plain_words : (result : Result (List (List ℕ)) LexFault) → None ≡ first_fault (byte_faults n raw) → begins_comment (content raw) ≡ false
-      → IfOk result (λ words. words ≡ words_of (content raw)) → IfErr result (λ fault. fault ≡ NoMemory) → GivesWords result (reads_line n raw)
+  pub plain_words : (result : Result (List (List ℕ)) (Fault LexCause)) → None ≡ first_fault (byte_faults n raw) → begins_comment (content raw) ≡ false
+      → IfOk result (λ words. words ≡ words_of (content raw)) → IfErr result (λ fault. fault ≡ NoMemory) → Gives (λ (words : List (List ℕ)). words) result (reads_line n raw)
   plain_words (Ok words) clean comment read memory = reads-plain n raw plain ∙ rw (← clean, comment, read) refl
   plain_words (Err NoMemory) clean comment read memory = tt
   plain_words (Err (At m cause)) clean comment read memory = cc

@@ -2,8 +2,8 @@
 use Rattle.std.specs.Prelude.{◌≡◌, ℕ, ◌<◌, ◌≤◌, ◌⊎◌}
 use Rattle.crm_lex.specs.declared.fault.LexCause.{LexCause}
 use Rattle.crm_lex.specs.declared.fault.LexCause.TheVariants.{NotUtf8, ControlByte, OpenQuote, LineTooLong}
-use Rattle.crm_lex.specs.declared.fault.LexFault.{LexFault}
-use Rattle.crm_lex.specs.declared.fault.LexFault.TheVariants.{At, NoMemory}
+use Rattle.faults.specs.declared.fault.Fault.{Fault}
+use Rattle.faults.specs.declared.fault.Fault.TheVariants.{At, NoMemory}
 
 abbrev pub rank : LexCause → ℕ
 rank LineTooLong = 0
@@ -12,6 +12,6 @@ rank ControlByte = 2
 rank OpenQuote = 3
 
 -- a fault at this line of this cause doesn't come after that one
-abbrev pub NotAfter : ℕ → LexCause → LexFault → Type 0
+abbrev pub NotAfter : ℕ → LexCause → Fault LexCause → Type 0
 NotAfter n cause (At m other) = (n < m) ⊎ ((n ≡ m) × (rank cause ≤ rank other))
 NotAfter n cause NoMemory = ⊥

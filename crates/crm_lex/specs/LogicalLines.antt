@@ -7,8 +7,8 @@ use Rattle.crm_lex.specs.RawLines.{content, begins_comment}
 use Rattle.crm_lex.specs.Words.{is_open}
 use Rattle.crm_lex.specs.declared.fault.LexCause.{LexCause}
 use Rattle.crm_lex.specs.declared.fault.LexCause.TheVariants.{NotUtf8, ControlByte, OpenQuote, LineTooLong}
-use Rattle.crm_lex.specs.declared.fault.LexFault.{LexFault}
-use Rattle.crm_lex.specs.declared.fault.LexFault.TheVariants.{At}
+use Rattle.faults.specs.declared.fault.Fault.{Fault}
+use Rattle.faults.specs.declared.fault.Fault.TheVariants.{At}
 
 -- what a backslash at the end of a physical line becomes before these lines: a space, and nothing at the end of the input
 abbrev pub joint : List (List ℕ) → List ℕ
@@ -43,21 +43,21 @@ abbrev pub is_control : ℕ → Bool
 is_control b = nat_lt b 32 && not (b == 9) || b == 127
 
 -- the fault at this line where the test says so
-abbrev pub fault_if : Bool → ℕ → LexCause → List LexFault
+abbrev pub fault_if : Bool → ℕ → LexCause → List (Fault LexCause)
 fault_if true n cause = At n cause ∷ []
 fault_if false n cause = []
 
 -- the faults of the bytes of a physical line, which has this number
-abbrev pub byte_faults : ℕ → List ℕ → List LexFault
+abbrev pub byte_faults : ℕ → List ℕ → List (Fault LexCause)
 byte_faults n line = fault_if (not (is_utf8 (content line))) n NotUtf8 ++ fault_if (list_any is_control (content line)) n ControlByte
 
 -- the faults of the bytes of physical lines, of which the first has this number
-abbrev pub all_byte_faults : ℕ → List (List ℕ) → List LexFault
+abbrev pub all_byte_faults : ℕ → List (List ℕ) → List (Fault LexCause)
 all_byte_faults n [] = []
 all_byte_faults n (line ∷ lines) = byte_faults n line ++ all_byte_faults (n + 1) lines
 
 -- the faults of the logical line that has these physical lines, of which the first has this number: by their lines, and on one line in their order
-abbrev pub faults : ℕ → List (List ℕ) → List LexFault
+abbrev pub faults : ℕ → List (List ℕ) → List (Fault LexCause)
 faults n [] = []
 faults n (line ∷ lines) =
     fault_if (nat_lt 1048576 (content_length (line ∷ lines))) n LineTooLong ++ (byte_faults n line

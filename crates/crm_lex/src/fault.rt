@@ -1,5 +1,4 @@
-use crate::NoMemory;
-use std::alloc::{AllocError, AllocFailed};
+use faults::Fault;
 use thiserror::Error;
 
 /// Why a text has no words (rule of this project).
@@ -22,50 +21,4 @@ pub enum LexCause {
 }
 
 /// Why the words of a text could not be given.
-#[derive(Clone, Copy, Debug, PartialEq, Eq, Error)]
-pub enum LexFault {
-    /// A line is refused.
-    #[error("line {line}: {cause}")]
-    At {
-        /// The physical line, counted from 1.
-        line: u32,
-        /// The first cause of it.
-        cause: LexCause,
-    },
-    /// Memory was refused.
-    #[error("memory was refused")]
-    NoMemory,
-}
-
-impl From<AllocError> for LexFault {
-    ghost use Rattle.std.specs.Prelude.{◌≡◌};
-    ghost use Rattle.crm_lex.specs.declared.fault.LexFault.TheVariants.{NoMemory};
-
-    ghost from_gives = { λ _ fault. fault ≡ NoMemory };
-
-    fn from(_: AllocError) -> Self {
-        LexFault::NoMemory
-    }
-}
-
-impl<T: Drop> From<AllocFailed<T>> for LexFault {
-    ghost use Rattle.std.specs.Prelude.{◌≡◌};
-    ghost use Rattle.crm_lex.specs.declared.fault.LexFault.TheVariants.{NoMemory};
-
-    ghost from_gives = { λ _ fault. fault ≡ NoMemory };
-
-    fn from(_: AllocFailed<T>) -> Self {
-        LexFault::NoMemory
-    }
-}
-
-impl From<NoMemory> for LexFault {
-    ghost use Rattle.std.specs.Prelude.{◌≡◌};
-    ghost use Rattle.crm_lex.specs.declared.fault.LexFault.TheVariants.{NoMemory};
-
-    ghost from_gives = { λ _ fault. fault ≡ NoMemory };
-
-    fn from(_: NoMemory) -> Self {
-        LexFault::NoMemory
-    }
-}
+pub type LexFault = Fault<LexCause>;

@@ -5,7 +5,7 @@ ghost use Rattle.crm_lex.specs.Reading.{reads, faults_from};
 ghost use Rattle.crm_lex.specs.Pieces.{line_bytes, reads_each};
 ghost use Rattle.crm_lex.specs.FaultOrder.{NotAfter};
 ghost use Rattle.crm_lex.specs.declared.fault.LexCause.{LexCause as CauseOf};
-ghost use Rattle.crm_lex.specs.declared.fault.LexFault.TheVariants.{At};
+ghost use Rattle.faults.specs.declared.fault.Fault.TheVariants.{At};
 
 /// The lines of a text are the lines of its pieces: what `lex_one` says of each logical line with its number is what
 /// `logical_lines` says of the whole text, up to the first fault. The pieces joined are the text, and the physical lines of

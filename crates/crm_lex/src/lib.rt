@@ -14,9 +14,10 @@ mod word;
 mod word_buf;
 
 pub use fault::{LexCause, LexFault};
+pub use faults::NoMemory;
 pub use laws::{lines_of_pieces, the_first_fault_is_read};
 pub use line::Line;
 pub use logical::{LONGEST_LINE, line_count};
-pub use name::{Name, NoMemory};
+pub use name::Name;
 pub use reading::logical_lines;
 pub use word_buf::{WordBuf, lex_one};

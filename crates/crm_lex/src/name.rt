@@ -6,22 +6,13 @@ ghost use Rattle.std.specs.Cmp.Rules.{comparing, hashing};
 ghost use Rattle.std.specs.Hash as fed;
 ghost use Rattle.std.proofs.Common.{rules};
 
-use std::alloc::{AllocError, Global};
+use faults::NoMemory;
+use std::alloc::Global;
 use std::cmp::Ordering;
 use std::fmt;
 use std::fmt::Debug;
 use std::hash::{Hash, Hasher};
 use std::marker::Model;
-
-/// Memory was refused.
-#[derive(Clone, Copy, Debug, PartialEq, Eq, Hash)]
-pub struct NoMemory;
-
-impl From<AllocError> for NoMemory {
-    fn from(_: AllocError) -> Self {
-        NoMemory
-    }
-}
 
 /// A word of a configuration, as a name or a value. Contracts see it as its bytes.
 #[derive(Drop)]

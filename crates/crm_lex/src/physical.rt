@@ -5,6 +5,7 @@ ghost use Rattle.crm_lex.specs.RawLines as raw;
 ghost use Rattle.crm_lex.specs.LogicalLines as spec;
 ghost use Rattle.crm_lex.specs.Parts as parts;
 ghost use Rattle.crm_lex.specs.Reading.{first_fault};
+ghost use Rattle.faults.specs.declared.fault.Fault.TheVariants as fault;
 
 use crate::quoting::{is_blank, is_quote};
 use crate::{LexCause, LexFault};
@@ -114,7 +115,7 @@ fn is_text(content: &[u8]) -> bool
 
 /// The fault of a line that is refused.
 pub fn refused(line: u32, cause: LexCause) -> Option<LexFault>
-    ensures { result ≡ Some (LexFault.At line cause) }
+    ensures { result ≡ Some (fault.At line cause) }
 {
     Some(LexFault::At { line, cause })
 }

@@ -2,7 +2,9 @@ ghost use Rattle.std.specs.Prelude.{◌≡◌, ◌+◌, ◌<◌, ◌≤◌, ◌^
 ghost use Rattle.crm_lex.specs.RawLines.{is_blank, physical_lines};
 ghost use Rattle.crm_lex.specs.Words.{words_of};
 ghost use Rattle.crm_lex.specs.Parts.{is_plain};
-ghost use Rattle.crm_lex.specs.Reading.{Gives, GivesWords, reads, reads_line, row};
+ghost use Rattle.faults.specs.declared.fault.Fault.TheVariants as no;
+ghost use Rattle.faults.specs.Reading.{Gives};
+ghost use Rattle.crm_lex.specs.Reading.{reads, reads_line, row};
 
 use crate::logical::{LONGEST_LINE, first_logical_line, is_plain, line_count, line_text};
 use crate::physical::{begins_comment, byte_fault, content};
@@ -44,7 +46,7 @@ fn read_words(
 ) -> Result<Listed<Name>, LexFault>
     requires { length text.now ≤ vec_capacity word.old }
     ensures words { IfOk result (λ words. words ≡ words_of text.now) }
-    ensures memory { IfErr result (λ fault. fault ≡ LexFault.NoMemory) }
+    ensures memory { IfErr result (λ fault. fault ≡ no.NoMemory) }
     ensures capacity { vec_capacity word.new ≡ vec_capacity word.old }
 {
     found.clear();
@@ -69,7 +71,7 @@ fn read_plain_line(
 ) -> Result<Listed<Name>, LexFault>
     requires plain { is_plain (physical_lines raw.now) ≡ true }
     requires room { 1048576 ≤ vec_capacity word.old }
-    ensures words { GivesWords result (reads_line number raw.now) }
+    ensures words { Gives (λ words. words) result (reads_line number raw.now) }
     ensures capacity { vec_capacity word.new ≡ vec_capacity word.old }
 {
     if let Some(fault) = byte_fault(number, raw) {
@@ -96,7 +98,7 @@ fn read_line(
     requires numbers { number + length (physical_lines raw.now) ≤ 2 ^ 32 }
     requires text_room { 1048576 ≤ vec_capacity text.old }
     requires word_room { 1048576 ≤ vec_capacity word.old }
-    ensures words { GivesWords result (reads_line number raw.now) }
+    ensures words { Gives (λ words. words) result (reads_line number raw.now) }
     ensures text_room { vec_capacity text.new ≡ vec_capacity text.old }
     ensures word_room { vec_capacity word.new ≡ vec_capacity word.old }
 {
@@ -123,7 +125,7 @@ fn add_row(lines: &mut Vec<Line>, line: u32, words: Listed<Name>) -> Result<(), 
 /// (crmsh manual, continuation lines, comments and quoting; the faults and the limit are a rule of this project.)
 pub fn logical_lines(alloc: Global, bytes: &[u8]) -> Result<Vec<Line>, LexFault>
     requires { length bytes.now < 2 ^ 32 }
-    ensures { Gives result (reads bytes.now) }
+    ensures { Gives (λ lines. lines.items) result (reads bytes.now) }
 {
     let mut text = Vec::with_capacity(alloc, LONGEST_LINE)?;
     let mut word = Vec::with_capacity(alloc, LONGEST_LINE)?;

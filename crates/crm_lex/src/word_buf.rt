@@ -1,6 +1,7 @@
 ghost use Rattle.std.specs.Prelude.{◌≡◌, ◌≢◌, ◌+◌, ◌<◌, ◌≤◌, ◌^◌, ◌++◌, ◌∷◌, [], length, min, take, slice_get, vec_len, vec_capacity, IfOk, IfErr};
 ghost use Rattle.std.specs.Option.{option_copied};
 ghost use Rattle.crm_lex.specs.RawLines.{physical_lines};
+ghost use Rattle.faults.specs.declared.fault.Fault.TheVariants as no;
 ghost use Rattle.crm_lex.specs.Reading.{kept, kept_of, reads_line, without_words};
 ghost use Rattle.crm_lex.specs.Words.{words_of};
 ghost use Rattle.crm_lex.specs.WordRoom.{AllWithin, words_at};
@@ -120,7 +121,7 @@ pub fn lex_one(line: u32, raw: &[u8], into: &mut WordBuf) -> Result<(), LexFault
     requires { line + length (physical_lines raw.now) ≤ 2 ^ 32 }
     ensures answer { result ≡ without_words (reads_line line raw.now) }
     ensures words { into.new ≡ kept_of (reads_line line raw.now) }
-    ensures no_memory { IfErr result (λ fault. fault ≢ LexFault.NoMemory) }
+    ensures no_memory { IfErr result (λ fault. fault ≢ no.NoMemory) }
 {
     into.letters.clear();
     into.spans.clear();

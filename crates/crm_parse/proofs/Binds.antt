@@ -6,8 +6,9 @@ use Rattle.crm_lex.specs.Names.{is_name}
 use Rattle.crm_parse.specs.declared.fault.ParseCause.{ParseCause}
 use Rattle.crm_parse.specs.declared.fault.ParseCause.TheVariants.{BadValue}
 use Rattle.crm_parse.specs.Keys.{when}
-use Rattle.crm_parse.specs.Reading.{Words, ◌>>=◌, word_at, name_of, name_at, some_name, colon_at, given_at}
+use Rattle.crm_parse.specs.Reading.{Words, word_at, name_of, name_at, some_name, colon_at, given_at}
 use Rattle.crm_parse.specs.Texts.{is}
+use Rattle.faults.proofs.Steps.{bind-ok}
 
 -- a text is itself
 pub is-same : (word : List ℕ) → is word word ≡ true
@@ -25,10 +26,9 @@ is-true (b ∷ bs) (c ∷ cs) e =
     let t : bs ≡ cs = is-true bs cs p.1 in
     cc
 
--- a step that reads, and the next one
-pub bind-ok : {A B : Type 0} (r : Result A ParseCause) (f : A → Result B ParseCause) (y : B) → (r >>= f) ≡ Ok y → (x : A) × (r ≡ Ok x) × (f x ≡ Ok y)
-bind-ok (Ok x) f y e = (x, refl, e)
-bind-ok (Err cause) f y e = cc
+-- equal answers give equal values
+pub ok-same : {A : Type 0} (one other : A) → (let first : Result A ParseCause = Ok one in first) ≡ Ok other → one ≡ other
+ok-same one other e = cc
 
 -- a word was there
 pub word_at-ok : (words : Words) (read : List ℕ × Words) → word_at words ≡ Ok read → words ≡ read.0 ∷ read.1

@@ -2,18 +2,13 @@
 use Rattle.std.proofs.Common.{◌≡◌, ℕ, ◌≤◌, ◌<◌, zero, suc, Bool, List, [], ◌∷◌, length, Some, Result, Ok, Err, refl, arith}
 use Rattle.crm_parse.specs.declared.expression.Expression.{Expression}
 use Rattle.crm_parse.specs.declared.fault.ParseCause.{ParseCause}
-use Rattle.crm_parse.specs.declared.fault.Stop.{Stop}
-use Rattle.crm_parse.specs.declared.fault.Stop.TheVariants.{Fault, NoMemory}
+use Rattle.faults.specs.declared.stop.Stop.{Stop}
 use Rattle.crm_parse.specs.declared.rule_form.RuleForm.{RuleForm}
 use Rattle.crm_parse.specs.Location.{with_rule, with_rules}
-use Rattle.crm_parse.specs.Reading.{Words, IsFault}
+use Rattle.crm_parse.specs.Reading.{Words}
+use Rattle.faults.specs.Reading.{IsCause}
+use Rattle.faults.proofs.Steps.{cause_of_whole}
 use Rattle.crm_parse.specs.Rules.{joiner_at, with_joined, with_tests}
-
--- where a part is at fault, so is the whole
-fault_on : {X Y : Type 0} (stop : Stop) (part : Result X ParseCause) (whole : Result Y ParseCause)
-    → ((cause : ParseCause) → part ≡ Err cause → whole ≡ Err cause) → IsFault stop part → IsFault stop whole
-fault_on (Fault cause) part whole f h = f cause h
-fault_on NoMemory part whole f h = tt
 
 -- a rule that is at fault
 rules-cause : (most : ℕ) (before : List RuleForm) (words : Words) (cause : ParseCause) → 0 < length words → length words ≤ most
@@ -22,9 +17,9 @@ rules-cause zero before words cause l h r = absurd (omega (arith, l, h))
 rules-cause (suc most) before [] cause l h r = absurd (omega (arith, l))
 rules-cause (suc most) before (word ∷ words) cause l h r = rw r refl
 
-pub rules-fault : (stop : Stop) (most : ℕ) (before : List RuleForm) (words : Words) → 0 < length words → length words ≤ most
-    → IsFault stop (with_rule before words) → IsFault stop (with_rules most before words)
-rules-fault stop most before words l h f = fault_on stop _ _ (λ cause r. rules-cause most before words cause l h r) f
+pub rules-fault : (stop : Stop ParseCause) (most : ℕ) (before : List RuleForm) (words : Words) → 0 < length words → length words ≤ most
+    → IsCause stop (with_rule before words) → IsCause stop (with_rules most before words)
+rules-fault stop most before words l h f = cause_of_whole stop _ _ (λ cause r. rules-cause most before words cause l h r) f
 
 -- a word that joins is a word
 joins-some : (words : Words) (all : Bool) → joiner_at words ≡ Some all → 0 < length words
@@ -38,9 +33,9 @@ tests-cause : (most : ℕ) (before : Expression) (all : Bool) (words : Words) (c
 tests-cause zero before all words cause e h r = absurd (omega (arith, h, joins-some words all e))
 tests-cause (suc most) before all words cause e h r = rw (e, r) refl
 
-pub tests-fault : (stop : Stop) (most : ℕ) (before : Expression) (all : Bool) (words : Words) → joiner_at words ≡ Some all → length words ≤ most
-    → IsFault stop (with_joined before all words) → IsFault stop (with_tests most (joiner_at words) before words)
-tests-fault stop most before all words e h f = fault_on stop _ _ (λ cause r. tests-cause most before all words cause e h r) f
+pub tests-fault : (stop : Stop ParseCause) (most : ℕ) (before : Expression) (all : Bool) (words : Words) → joiner_at words ≡ Some all → length words ≤ most
+    → IsCause stop (with_joined before all words) → IsCause stop (with_tests most (joiner_at words) before words)
+tests-fault stop most before all words e h f = cause_of_whole stop _ _ (λ cause r. tests-cause most before all words cause e h r) f
 
 -- what two equal answers give is equal
 pub ok_value : {X : Type 0} (one other : X) → (the : Result X ParseCause) → the ≡ Ok one → the ≡ Ok other → one ≡ other

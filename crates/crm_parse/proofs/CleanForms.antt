@@ -12,7 +12,8 @@ use Rattle.crm_parse.specs.Primitive.{agent_of, colon_parts, primitive_at}
 use Rattle.crm_parse.specs.Reading.{Words, given_at, name_at, prefixed_at, word_at}
 use Rattle.crm_parse.specs.Sections.{sections_at}
 use Rattle.crm_parse.proofs.Affixes.{colon_at-words, given_words, noted_words, prefixed_at-words}
-use Rattle.crm_parse.proofs.Binds.{bind-ok, given_at-ok, name_at-ok, word_at-ok}
+use Rattle.crm_parse.proofs.Binds.{given_at-ok, name_at-ok, word_at-ok}
+use Rattle.faults.proofs.Steps.{bind-ok}
 use Rattle.crm_parse.proofs.Clean.{AllClean, Clean, clean-append, clean-ascii}
 use Rattle.crm_parse.proofs.CleanSections.{CleanSections, all-append, all-behind, all-front, clean-operation_words, clean-section_words, clean-sections}
 use Rattle.crm_parse.proofs.GroupAgain.{members_from-read}

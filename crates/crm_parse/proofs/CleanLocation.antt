@@ -16,7 +16,8 @@ use Rattle.crm_parse.specs.Reading.{Words, name_at, prefixed_at, resource_of, so
 use Rattle.crm_parse.specs.Rules.{expression_at}
 use Rattle.crm_parse.specs.Texts.{is}
 use Rattle.crm_parse.proofs.Affixes.{noted_words, prefixed_at-words}
-use Rattle.crm_parse.proofs.Binds.{bind-ok, name_at-ok, some_name-ok, word_at-ok}
+use Rattle.crm_parse.proofs.Binds.{name_at-ok, some_name-ok, word_at-ok, ok-same}
+use Rattle.faults.proofs.Steps.{bind-ok}
 use Rattle.crm_parse.proofs.Clean.{AllClean, Clean, clean-append, clean-ascii, clean-name}
 use Rattle.crm_parse.proofs.CleanNumbers.{score-clean}
 use Rattle.crm_parse.proofs.CleanSections.{all-append, all-behind, all-front}
@@ -85,7 +86,7 @@ rule-clean words read w e =
     let (word, at, e3) = bind-ok (word_at r.1) _ read e2 in
     let (points, is_score, e4) = bind-ok (rule_score_of word.0) _ read e3 in
     let (got, is_read, last) = bind-ok (expression_at word.1) _ read e4 in
-    let whole : (rule_of id.0 r.0 points got.0, got.1) ≡ read = cc in
+    let whole : (rule_of id.0 r.0 points got.0, got.1) ≡ read = ok-same _ read last in
     let i = rule_id-clean words id w is_id in
     let b = word-left r.1 word (rule_role-left id.1 r i.left is_role) at in
     let x = expression-clean word.1 got b.1 is_read in

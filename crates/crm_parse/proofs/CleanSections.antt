@@ -16,7 +16,8 @@ use Rattle.crm_parse.specs.Pairs.{with_pairs, with_section}
 use Rattle.crm_parse.specs.Reading.{Words}
 use Rattle.crm_parse.specs.Sections.{Part, cut, may_follow, no_sections, onto, place_of, section_of, sections_at, takes_name, with_cut, with_part, with_parts, with_words}
 use Rattle.crm_parse.specs.Texts.{is}
-use Rattle.crm_parse.proofs.Binds.{bind-ok, if-ok, unless-ok}
+use Rattle.crm_parse.proofs.Binds.{if-ok, unless-ok}
+use Rattle.faults.proofs.Steps.{bind-ok}
 use Rattle.crm_parse.proofs.Clean.{AllClean, Clean, clean-ascii}
 use Rattle.crm_parse.proofs.OperationWords.{op_words, operation_of-words}
 use Rattle.crm_parse.proofs.PairLists.{pair_words, with_pairs-adds}

@@ -29,7 +29,8 @@ use Rattle.crm_parse.specs.Primitive.{primitive_at}
 use Rattle.crm_parse.specs.Reading.{Words, name_at, score_of, word_at}
 use Rattle.crm_parse.specs.Settings.{settings_at}
 use Rattle.crm_parse.specs.Statements.{draft_after, draft_of, finished, keyword_of, order, whole, with_actions}
-use Rattle.crm_parse.proofs.Binds.{bind-ok, name_at-ok}
+use Rattle.crm_parse.proofs.Binds.{name_at-ok}
+use Rattle.faults.proofs.Steps.{bind-ok}
 use Rattle.crm_parse.proofs.Clean.{AllClean, Clean, clean-append, clean-ascii, clean-name}
 use Rattle.crm_parse.proofs.CleanForms.{clone-clean, group-clean, node-clean, primitive-clean}
 use Rattle.crm_parse.proofs.CleanLocation.{location-clean}

@@ -8,10 +8,12 @@ use Rattle.crm_parse.specs.declared.expression.DateTest.TheVariants as date
 use Rattle.crm_parse.specs.declared.expression.Expression.{Expression}
 use Rattle.crm_parse.specs.declared.fault.ParseCause.{ParseCause}
 use Rattle.crm_parse.specs.declared.fault.ParseCause.TheVariants.{BadValue}
-use Rattle.crm_parse.specs.Reading.{Words, ◌>>=◌, word_at}
+use Rattle.crm_parse.specs.Reading.{Words, word_at}
+use Rattle.faults.specs.Reading.{◌>>=◌}
 use Rattle.crm_parse.specs.Rules.{attribute_at, comparable, comparison_of, date_at, date_test_at, date_test_of, date_test_text, dates_at, defined_at, end_at, end_text, expression_at, filled, joined_alike, joiner_at, moment_of, no_tests, noted_at, start_at, test_after, test_at, with_joined, with_test, with_tests}
 use Rattle.crm_parse.specs.Texts.{after, is}
-use Rattle.crm_parse.proofs.Binds.{bind-ok, word_at-ok}
+use Rattle.crm_parse.proofs.Binds.{word_at-ok}
+use Rattle.faults.proofs.Steps.{bind-ok}
 use Rattle.crm_parse.proofs.Clean.{AllClean, Clean, clean-ascii}
 use Rattle.crm_parse.proofs.CleanSections.{all-append}
 use Rattle.crm_parse.proofs.TestAgain.{Reader}

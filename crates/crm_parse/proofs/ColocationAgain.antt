@@ -12,7 +12,8 @@ use Rattle.crm_parse.specs.Colocation.{colocation_at, no_attribute, no_third, si
 use Rattle.crm_parse.specs.Reading.{Words, name_at, resource_of, score_of, supported, word_at}
 use Rattle.crm_parse.specs.Texts.{cut_at}
 use Rattle.crm_parse.specs.Values.{role_of}
-use Rattle.crm_parse.proofs.Binds.{bind-ok, name_at-again, name_at-ok}
+use Rattle.crm_parse.proofs.Binds.{name_at-again, name_at-ok}
+use Rattle.faults.proofs.Steps.{bind-ok}
 use Rattle.crm_parse.proofs.PairWords.{cut_at-again, has}
 use Rattle.crm_parse.proofs.ResourceNames.{IsResource, cut_at-none, has-append, name-lacks, no_label, resource-ok}
 use Rattle.crm_parse.proofs.ScoreAgain.{IsRead, score-no_label, score-none, score_of-again, score_of-ok}

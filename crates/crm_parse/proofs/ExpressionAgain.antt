@@ -6,7 +6,7 @@ use Rattle.crm_parse.specs.declared.expression.Expression.{Expression}
 use Rattle.crm_parse.specs.declared.fault.ParseCause.{ParseCause}
 use Rattle.crm_parse.specs.Reading.{Words}
 use Rattle.crm_parse.specs.Rules.{expression_at, joined_alike, joiner_at, no_tests, noted_at, test_at, with_joined, with_test, with_tests}
-use Rattle.crm_parse.proofs.Binds.{bind-ok}
+use Rattle.faults.proofs.Steps.{bind-ok}
 use Rattle.crm_parse.proofs.TestAgain.{Rereads, test_at-faithful}
 
 -- a reader of more of an expression

@@ -11,7 +11,8 @@ use Rattle.crm_parse.specs.declared.pair.Operation.{Operation}
 use Rattle.crm_parse.specs.Keys.{when}
 use Rattle.crm_parse.specs.Monitors.{AreFew, recurring, recurring_in}
 use Rattle.crm_parse.specs.Operations.{has_room, interval_of, operation_of, recurs}
-use Rattle.crm_parse.proofs.Binds.{bind-ok, unless-ok, when-ok}
+use Rattle.crm_parse.proofs.Binds.{unless-ok, when-ok}
+use Rattle.faults.proofs.Steps.{bind-ok}
 use Rattle.crm_parse.proofs.OperationRoom.{Fits, operation-fits}
 use Rattle.crm_parse.proofs.OperationWords.{KeptOps, op_words, with_operations}
 

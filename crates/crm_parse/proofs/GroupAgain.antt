@@ -14,7 +14,8 @@ use Rattle.crm_parse.specs.Reading.{Words, name_at, name_of, prefixed_at}
 use Rattle.crm_parse.specs.Sections.{is_section, place_of, section_of, sections_at}
 use Rattle.crm_parse.specs.Texts.{after}
 use Rattle.crm_parse.proofs.Affixes.{after-again}
-use Rattle.crm_parse.proofs.Binds.{bind-ok, name_at-again, name_at-ok, name_of-ok}
+use Rattle.crm_parse.proofs.Binds.{name_at-again, name_at-ok, name_of-ok}
+use Rattle.faults.proofs.Steps.{bind-ok}
 use Rattle.crm_parse.proofs.MetaAgain.{description-last, label}
 use Rattle.crm_parse.proofs.PairLists.{Kept, pair_words}
 use Rattle.crm_parse.proofs.SectionsAgain.{Follows, meta_sections-again}

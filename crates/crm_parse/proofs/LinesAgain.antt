@@ -7,8 +7,8 @@ use Rattle.crm_parse.specs.declared.draft.Draft.{Draft}
 use Rattle.crm_parse.specs.declared.draft.Draft.TheVariants as draft
 use Rattle.crm_parse.specs.declared.draft.DraftStatement.{DraftStatement}
 use Rattle.crm_parse.specs.declared.fault.ParseCause.{ParseCause}
-use Rattle.crm_parse.specs.declared.fault.ParseFault.{ParseFault}
-use Rattle.crm_parse.specs.declared.fault.ParseFault.TheVariants.{At}
+use Rattle.faults.specs.declared.fault.Fault.{Fault}
+use Rattle.faults.specs.declared.fault.Fault.TheVariants.{At}
 use Rattle.crm_parse.specs.declared.statement.Crm.{Crm}
 use Rattle.crm_parse.specs.declared.statement.Statement.{Statement}
 use Rattle.crm_parse.specs.declared.words.SettingsWord.{SettingsWord}
@@ -149,7 +149,7 @@ statement_words s = written s.form
 abbrev pub SameForms : Crm → Crm → Type 0
 SameForms one other = map (λ (s : Statement). s.form) one.statements ≡ map (λ (s : Statement). s.form) other.statements
 
-pub read_of-ok : (read : Result (List DraftStatement) ParseFault) (crm : Crm) → read_of read ≡ Ok crm → (drafts : List DraftStatement) × (read ≡ Ok drafts) × (crm_of drafts ≡ crm)
+pub read_of-ok : (read : Result (List DraftStatement) (Fault ParseCause)) (crm : Crm) → read_of read ≡ Ok crm → (drafts : List DraftStatement) × (read ≡ Ok drafts) × (crm_of drafts ≡ crm)
 read_of-ok (Ok drafts) crm e = (drafts, refl, cc)
 read_of-ok (Err fault) crm e = cc
 

@@ -12,7 +12,8 @@ use Rattle.crm_parse.specs.declared.words.RoleWord.{RoleWord}
 use Rattle.crm_parse.specs.declared.words.RoleWord.TheVariants as role
 use Rattle.crm_parse.specs.Location.{begins_rule, discovery_at, location_at, place_at, plain_at, resource_at, role_at, ruled_at, with_rules}
 use Rattle.crm_parse.specs.Reading.{Words, end_at, name_at, prefixed_at, resource_of, rule_role_of, score_of, word_at}
-use Rattle.crm_parse.proofs.Binds.{bind-ok, is-true, name_at-again, name_at-ok}
+use Rattle.crm_parse.proofs.Binds.{is-true, name_at-again, name_at-ok}
+use Rattle.faults.proofs.Steps.{bind-ok}
 use Rattle.crm_parse.proofs.ResourceNames.{IsResource, resource-ok}
 use Rattle.crm_parse.proofs.RuleAgain.{SomeRules, rules-some, score_label, with_rules-again}
 use Rattle.crm_parse.proofs.ScoreAgain.{IsRead, first-none, score-no_label, score-none, score_of-again, score_of-ok}

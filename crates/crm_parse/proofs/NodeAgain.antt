@@ -11,7 +11,8 @@ use Rattle.crm_parse.specs.Node.{node_at}
 use Rattle.crm_parse.specs.Reading.{Words, given_at, name_at, some_name}
 use Rattle.crm_parse.specs.Sections.{place_of, sections_at}
 use Rattle.crm_parse.proofs.Affixes.{given_words, colon_at-again, name-no_colon_at}
-use Rattle.crm_parse.proofs.Binds.{bind-ok, given_at-again, given_at-ok, name_at-again, name_at-ok}
+use Rattle.crm_parse.proofs.Binds.{given_at-again, given_at-ok, name_at-again, name_at-ok}
+use Rattle.faults.proofs.Steps.{bind-ok}
 use Rattle.crm_parse.proofs.PairLists.{Kept}
 use Rattle.crm_parse.proofs.SectionsAgain.{node_sections-again}
 use Rattle.crm_parse.proofs.SectionsKept.{sections_at-kept}

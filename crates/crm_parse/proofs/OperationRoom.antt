@@ -15,7 +15,8 @@ use Rattle.crm_parse.specs.Pairs.{kv_of, pair_of, repeats, with_pair}
 use Rattle.crm_parse.specs.Reading.{Words}
 use Rattle.crm_parse.specs.Texts.{cut_at, is}
 use Rattle.crm_parse.specs.Values.{time_of}
-use Rattle.crm_parse.proofs.Binds.{bind-ok, is-true, unless-ok}
+use Rattle.crm_parse.proofs.Binds.{is-true, unless-ok}
+use Rattle.faults.proofs.Steps.{bind-ok}
 use Rattle.crm_parse.proofs.PairLists.{pair_words}
 use Rattle.crm_parse.proofs.PairWords.{kv_of-word, pair_word}
 

@@ -11,9 +11,11 @@ use Rattle.crm_parse.specs.declared.place.Place.TheVariants as place
 use Rattle.crm_parse.specs.Keys.{is_monitor}
 use Rattle.crm_parse.specs.Operations.{has_op, has_room, interval_in, is_off, is_single, new_name, op_name, op_pairs, operation_of, with_op_pair, with_op_pairs}
 use Rattle.crm_parse.specs.Pairs.{with_pair}
-use Rattle.crm_parse.specs.Reading.{Words, ◌>>=◌, name_of}
+use Rattle.crm_parse.specs.Reading.{Words, name_of}
+use Rattle.faults.specs.Reading.{◌>>=◌}
 use Rattle.crm_parse.specs.Texts.{is}
-use Rattle.crm_parse.proofs.Binds.{bind-ok, name_of-ok, unless-ok}
+use Rattle.crm_parse.proofs.Binds.{name_of-ok, unless-ok}
+use Rattle.faults.proofs.Steps.{bind-ok}
 use Rattle.crm_parse.proofs.PairLists.{Adds, AddsAll, adds_none, adds_more, pair_words, with_pair-adds}
 
 with_op_pair-adds : (ops : List Operation) (recurring : Bool) (p : Place) (before : List Kv) (word : List ℕ) (after : List Kv)

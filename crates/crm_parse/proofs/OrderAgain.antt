@@ -15,11 +15,13 @@ use Rattle.crm_parse.specs.declared.words.ActionWord.TheVariants.{Start, Stop, P
 use Rattle.crm_parse.specs.declared.words.KindWord.{KindWord}
 use Rattle.crm_parse.specs.declared.words.KindWord.TheVariants.{Mandatory, Optional, Serialize}
 use Rattle.crm_parse.specs.Order.{ends_steps, is_serialize, kind_at, kind_by_word, order_at, step_of, step_parts, steps_at, symmetrical_as, symmetrical_in, with_step, with_steps, written_action}
-use Rattle.crm_parse.specs.Reading.{Words, ◌>>=◌, end_at, name_at, prefixed_at, resource_of, word_at}
+use Rattle.crm_parse.specs.Reading.{Words, end_at, name_at, prefixed_at, resource_of, word_at}
+use Rattle.faults.specs.Reading.{◌>>=◌}
 use Rattle.crm_parse.specs.Statements.{action_after, finished, with_actions}
 use Rattle.crm_parse.specs.Texts.{after}
 use Rattle.crm_parse.specs.Values.{action_of, bool_of}
-use Rattle.crm_parse.proofs.Binds.{bind-ok, name_at-again, name_at-ok}
+use Rattle.crm_parse.proofs.Binds.{name_at-again, name_at-ok}
+use Rattle.faults.proofs.Steps.{bind-ok}
 use Rattle.crm_parse.proofs.PairWords.{cut_at-again, has}
 use Rattle.crm_parse.proofs.ResourceNames.{IsResource, has-append, name-lacks, no_label, resource-ok}
 use Rattle.crm_parse.proofs.Written.{action_word, bool_word, kind_word, step_word, written}

@@ -8,7 +8,8 @@ use Rattle.crm_parse.specs.declared.place.Place.{Place}
 use Rattle.crm_parse.specs.Pairs.{kv_of, repeats, with_pair, with_pairs, with_section}
 use Rattle.crm_parse.specs.Reading.{Words}
 use Rattle.crm_parse.specs.Texts.{is}
-use Rattle.crm_parse.proofs.Binds.{bind-ok, unless-ok}
+use Rattle.crm_parse.proofs.Binds.{unless-ok}
+use Rattle.faults.proofs.Steps.{bind-ok}
 use Rattle.crm_parse.proofs.PairWords.{pair_word, pair_word-differs, kv_of-word}
 
 -- the words of some pairs

@@ -11,7 +11,8 @@ use Rattle.crm_parse.specs.Keys.{accepts, stray}
 use Rattle.crm_parse.specs.Pairs.{kv_of, pair_of}
 use Rattle.crm_parse.specs.Texts.{cut_at, place_of, is}
 use Rattle.crm_parse.proofs.Affixes.{some-ok}
-use Rattle.crm_parse.proofs.Binds.{bind-ok, unless-ok, is-true}
+use Rattle.crm_parse.proofs.Binds.{unless-ok, is-true}
+use Rattle.faults.proofs.Steps.{bind-ok}
 
 -- the byte stands in the word
 abbrev pub has : ℕ → List ℕ → Bool

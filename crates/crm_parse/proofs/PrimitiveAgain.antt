@@ -14,7 +14,8 @@ use Rattle.crm_parse.specs.declared.pair.Operation.{Operation}
 use Rattle.crm_parse.specs.Primitive.{agent_of, colon_parts, is_agent, is_template, primitive_at, whole_agent}
 use Rattle.crm_parse.specs.Reading.{Words, name_at, prefixed_at, word_at}
 use Rattle.crm_parse.specs.Sections.{place_of, sections_at}
-use Rattle.crm_parse.proofs.Binds.{bind-ok, name_at-again, name_at-ok, test-ok, unless-ok}
+use Rattle.crm_parse.proofs.Binds.{name_at-again, name_at-ok, test-ok, unless-ok}
+use Rattle.faults.proofs.Steps.{bind-ok}
 use Rattle.crm_parse.proofs.MetaAgain.{NoDescription, description-again, label, no_description-operations, no_description-section}
 use Rattle.crm_parse.proofs.OperationWords.{KeptOps}
 use Rattle.crm_parse.proofs.PairLists.{Kept}

@@ -33,7 +33,8 @@ use Rattle.crm_parse.specs.ReadForms.{IsRead}
 use Rattle.crm_parse.specs.Sections.{sections_at}
 use Rattle.crm_parse.specs.Settings.{set_at, settings_at, settings_pairs}
 use Rattle.crm_parse.specs.Statements.{draft_after, draft_of, finished, keyword_of, order, statements_of, whole, with_actions}
-use Rattle.crm_parse.proofs.Binds.{bind-ok, name_at-ok}
+use Rattle.crm_parse.proofs.Binds.{name_at-ok}
+use Rattle.faults.proofs.Steps.{bind-ok}
 use Rattle.crm_parse.proofs.ColocationAgain.{side_at-ok}
 use Rattle.crm_parse.proofs.FewMonitors.{few-kept}
 use Rattle.crm_parse.proofs.GroupAgain.{IsMember, members_from-read}

@@ -14,7 +14,8 @@ use Rattle.crm_parse.specs.Reading.{Words, prefixed_at, rule_role_of, score_of, 
 use Rattle.crm_parse.specs.Rules.{expression_at, joiner_at}
 use Rattle.crm_parse.specs.Texts.{after, is}
 use Rattle.crm_parse.proofs.Affixes.{noted_words, prefixed_at-again}
-use Rattle.crm_parse.proofs.Binds.{bind-ok, some_name-ok, unless-ok}
+use Rattle.crm_parse.proofs.Binds.{some_name-ok, unless-ok, ok-same}
+use Rattle.faults.proofs.Steps.{bind-ok}
 use Rattle.crm_parse.proofs.ExpressionAgain.{ExpressionAgain, expression_at-again}
 use Rattle.crm_parse.proofs.ScoreAgain.{IsRead, score-no_label, score-none, score_of-again, score_of-ok}
 use Rattle.crm_parse.proofs.Written.{role_word, role_words, rule_words, ruled_words, score_word}
@@ -106,7 +107,7 @@ rule_at-ok words read e =
     let (word, at, e3) = bind-ok (word_at r.1) _ read e2 in
     let (points, is_score, e4) = bind-ok (rule_score_of word.0) _ read e3 in
     let (got, is_read, last) = bind-ok (expression_at word.1) _ read e4 in
-    let whole : (rule_of id.0 r.0 points got.0, got.1) ≡ read = cc in
+    let whole : (rule_of id.0 r.0 points got.0, got.1) ≡ read = ok-same _ read last in
     subst (λ (x : RuleForm × Words). IsRule x.0) whole
     (rule-made id.0 r.0 points got.0 (rule_id_at-ok words id is_id) (rule_score-case word.0 points is_score) (expression_at-again word.1 got is_read))
 

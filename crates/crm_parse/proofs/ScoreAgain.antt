@@ -14,7 +14,8 @@ use Rattle.crm_parse.specs.declared.fault.ParseCause.TheVariants.{BadScore}
 use Rattle.crm_parse.specs.Reading.{score_of}
 use Rattle.crm_parse.specs.Texts.{after, before}
 use Rattle.crm_parse.proofs.Affixes.{after-some, before-again}
-use Rattle.crm_parse.proofs.Binds.{bind-ok, ok_or-ok}
+use Rattle.crm_parse.proofs.Binds.{ok_or-ok}
+use Rattle.faults.proofs.Steps.{bind-ok}
 use Rattle.crm_parse.proofs.Written.{score_word}
 
 abbrev Within : ℤ → Type 0

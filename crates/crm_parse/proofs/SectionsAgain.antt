@@ -13,7 +13,7 @@ use Rattle.crm_parse.specs.declared.section.Sections.{Sections}
 use Rattle.crm_parse.specs.Operations.{operation_of}
 use Rattle.crm_parse.specs.Reading.{Words}
 use Rattle.crm_parse.specs.Sections.{Part, cut, may_follow, no_sections, place_of, section_of, sections_at, takes_name, with_part, with_parts, with_words}
-use Rattle.crm_parse.proofs.Binds.{bind-ok}
+use Rattle.faults.proofs.Steps.{bind-ok}
 use Rattle.crm_parse.proofs.OperationWords.{KeptOps, op_words, with_operations}
 use Rattle.crm_parse.proofs.PairLists.{Kept, pair_words, section-again}
 use Rattle.crm_parse.proofs.SectionCuts.{op_part, section_parts, cut-section, cut-last, cut-operations}

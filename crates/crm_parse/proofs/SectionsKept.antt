@@ -9,7 +9,8 @@ use Rattle.crm_parse.specs.Operations.{operation_of}
 use Rattle.crm_parse.specs.Pairs.{with_section}
 use Rattle.crm_parse.specs.Reading.{Words}
 use Rattle.crm_parse.specs.Sections.{Part, cut, may_follow, no_sections, place_of, sections_at, with_cut, with_part, with_parts, with_words}
-use Rattle.crm_parse.proofs.Binds.{bind-ok, if-ok}
+use Rattle.crm_parse.proofs.Binds.{if-ok}
+use Rattle.faults.proofs.Steps.{bind-ok}
 use Rattle.crm_parse.proofs.OperationWords.{KeptOps, kept_operation}
 use Rattle.crm_parse.proofs.PairLists.{Kept, kept_section}
 

@@ -10,10 +10,12 @@ use Rattle.crm_parse.specs.declared.form.Form.TheVariants as form
 use Rattle.crm_parse.specs.declared.pair.Kv.{Kv}
 use Rattle.crm_parse.specs.declared.words.SettingsWord.{SettingsWord}
 use Rattle.crm_parse.specs.Pairs.{kv_of, repeats}
-use Rattle.crm_parse.specs.Reading.{Words, ◌>>=◌, given_at}
+use Rattle.crm_parse.specs.Reading.{Words, given_at}
+use Rattle.faults.specs.Reading.{◌>>=◌}
 use Rattle.crm_parse.specs.Settings.{begins_pair, set_at, set_before, sets, settings_at, settings_pairs, settings_place, with_setting, with_settings}
 use Rattle.crm_parse.proofs.Affixes.{colon_at-words, given_words}
-use Rattle.crm_parse.proofs.Binds.{bind-ok, given_at-ok, unless-ok}
+use Rattle.crm_parse.proofs.Binds.{given_at-ok, unless-ok}
+use Rattle.faults.proofs.Steps.{bind-ok}
 use Rattle.crm_parse.proofs.PairLists.{Adds, AddsAll, adds_more, adds_none, pair_words}
 use Rattle.crm_parse.proofs.PairWords.{kv_of-word}
 use Rattle.crm_parse.proofs.Written.{settings_word, written}

@@ -8,10 +8,11 @@ use Rattle.crm_parse.specs.declared.expression.DateTest.{DateTest}
 use Rattle.crm_parse.specs.declared.expression.DateTest.TheVariants as date
 use Rattle.crm_parse.specs.declared.fault.ParseCause.{ParseCause}
 use Rattle.crm_parse.specs.declared.fault.ParseCause.TheVariants.{BadValue}
-use Rattle.crm_parse.specs.Reading.{Words, ◌>>=◌, word_at}
+use Rattle.crm_parse.specs.Reading.{Words, word_at}
+use Rattle.faults.specs.Reading.{◌>>=◌}
 use Rattle.crm_parse.specs.Rules.{attribute_at, comparable, comparison_of, date_at, date_test_at, date_test_of, date_test_text, dates_at, defined_at, end_at, end_text, filled, moment_of, noted_at, start_at, test_after, test_at}
 use Rattle.crm_parse.specs.Texts.{after, is}
-use Rattle.crm_parse.proofs.Binds.{bind-ok}
+use Rattle.faults.proofs.Steps.{bind-ok}
 
 -- a reader that notes words
 abbrev pub Reader : Type 0 → Type 0

@@ -8,7 +8,8 @@ use Rattle.crm_parse.specs.declared.form.Form.TheVariants as form
 use Rattle.crm_parse.specs.declared.form.Side.{Side}
 use Rattle.crm_parse.specs.declared.values.RoleName.{RoleName}
 use Rattle.crm_parse.specs.declared.words.RoleWord.TheVariants as role
-use Rattle.crm_parse.specs.Reading.{Words, ◌>>=◌, begins_set, name_at, resource_of, score_of, supported, word_at}
+use Rattle.crm_parse.specs.Reading.{Words, begins_set, name_at, resource_of, score_of, supported, word_at}
+use Rattle.faults.specs.Reading.{◌>>=◌}
 use Rattle.crm_parse.specs.Texts.{after, cut_at}
 use Rattle.crm_parse.specs.Values.{role_of}
 

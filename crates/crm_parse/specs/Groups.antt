@@ -5,7 +5,8 @@ use Rattle.crm_parse.specs.declared.form.Form.{Form}
 use Rattle.crm_parse.specs.declared.form.Form.TheVariants as form
 use Rattle.crm_parse.specs.declared.owner.Owner.{Owner}
 use Rattle.crm_parse.specs.declared.owner.Owner.TheVariants as owner
-use Rattle.crm_parse.specs.Reading.{Words, ◌>>=◌, description_at, name_at, name_of}
+use Rattle.crm_parse.specs.Reading.{Words, description_at, name_at, name_of}
+use Rattle.faults.specs.Reading.{◌>>=◌}
 use Rattle.crm_parse.specs.Sections.{is_section, sections_at}
 use Rattle.crm_parse.specs.Texts.{after}
 

@@ -8,7 +8,8 @@ use Rattle.crm_parse.specs.declared.form.Form.TheVariants as form
 use Rattle.crm_parse.specs.declared.rule_form.RuleForm.{RuleForm}
 use Rattle.crm_parse.specs.declared.words.RoleWord.{RoleWord}
 use Rattle.crm_parse.specs.Keys.{when}
-use Rattle.crm_parse.specs.Reading.{Words, ◌>>=◌, end_at, name_at, prefixed_at, resource_of, rule_role_of, score_of, some_name, word_at}
+use Rattle.crm_parse.specs.Reading.{Words, end_at, name_at, prefixed_at, resource_of, rule_role_of, score_of, some_name, word_at}
+use Rattle.faults.specs.Reading.{◌>>=◌}
 use Rattle.crm_parse.specs.Rules.{expression_at}
 use Rattle.crm_parse.specs.Texts.{after, is}
 

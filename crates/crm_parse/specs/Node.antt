@@ -4,7 +4,8 @@ use Rattle.crm_parse.specs.declared.fault.ParseCause.{ParseCause}
 use Rattle.crm_parse.specs.declared.form.Form.{Form}
 use Rattle.crm_parse.specs.declared.form.Form.TheVariants as form
 use Rattle.crm_parse.specs.declared.owner.Owner.TheVariants as owner
-use Rattle.crm_parse.specs.Reading.{Words, ◌>>=◌, given_at, name_at}
+use Rattle.crm_parse.specs.Reading.{Words, given_at, name_at}
+use Rattle.faults.specs.Reading.{◌>>=◌}
 use Rattle.crm_parse.specs.Sections.{sections_at}
 
 unfoldable pub node_at : Words → Result Form ParseCause

@@ -12,7 +12,8 @@ use Rattle.crm_parse.specs.declared.place.Place.{Place}
 use Rattle.crm_parse.specs.declared.place.Place.TheVariants as place
 use Rattle.crm_parse.specs.Keys.{Taken, is_monitor, when}
 use Rattle.crm_parse.specs.Pairs.{with_pair}
-use Rattle.crm_parse.specs.Reading.{Words, ◌>>=◌, name_of}
+use Rattle.crm_parse.specs.Reading.{Words, name_of}
+use Rattle.faults.specs.Reading.{◌>>=◌}
 use Rattle.crm_parse.specs.Texts.{after, cut_at, is}
 use Rattle.crm_parse.specs.Values.{bool_of, time_of}
 

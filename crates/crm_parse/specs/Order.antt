@@ -10,7 +10,8 @@ use Rattle.crm_parse.specs.declared.fault.ParseCause.TheVariants.{BadScore, BadV
 use Rattle.crm_parse.specs.declared.words.ActionWord.{ActionWord}
 use Rattle.crm_parse.specs.declared.words.KindWord.{KindWord}
 use Rattle.crm_parse.specs.declared.words.KindWord.TheVariants.{Mandatory, Optional, Serialize}
-use Rattle.crm_parse.specs.Reading.{Words, ◌>>=◌, colon_at, end_at, name_at, prefixed_at, resource_of, word_at}
+use Rattle.crm_parse.specs.Reading.{Words, colon_at, end_at, name_at, prefixed_at, resource_of, word_at}
+use Rattle.faults.specs.Reading.{◌>>=◌}
 use Rattle.crm_parse.specs.Texts.{after, cut_at}
 use Rattle.crm_parse.specs.Values.{action_of, bool_of, kind_of}
 

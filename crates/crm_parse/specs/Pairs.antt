@@ -6,7 +6,8 @@ use Rattle.crm_parse.specs.declared.fault.ParseCause.TheVariants.{MissingWord, R
 use Rattle.crm_parse.specs.declared.pair.Kv.{Kv}
 use Rattle.crm_parse.specs.declared.place.Place.{Place}
 use Rattle.crm_parse.specs.Keys.{accepts, is_clone_meta, is_promoted_max, stray}
-use Rattle.crm_parse.specs.Reading.{Words, ◌>>=◌}
+use Rattle.crm_parse.specs.Reading.{Words}
+use Rattle.faults.specs.Reading.{◌>>=◌}
 use Rattle.crm_parse.specs.Texts.{cut_at, is}
 
 -- the key and the value of a word, before and after its first `=`; the key isn't empty

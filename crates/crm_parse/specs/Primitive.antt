@@ -6,7 +6,8 @@ use Rattle.crm_parse.specs.declared.fault.ParseCause.TheVariants.{BadValue, Unsu
 use Rattle.crm_parse.specs.declared.form.Form.{Form}
 use Rattle.crm_parse.specs.declared.form.Form.TheVariants as form
 use Rattle.crm_parse.specs.declared.owner.Owner.TheVariants as owner
-use Rattle.crm_parse.specs.Reading.{Words, ◌>>=◌, description_at, name_at, word_at}
+use Rattle.crm_parse.specs.Reading.{Words, description_at, name_at, word_at}
+use Rattle.faults.specs.Reading.{◌>>=◌}
 use Rattle.crm_parse.specs.Sections.{sections_at}
 
 -- the parts of a word round its colons

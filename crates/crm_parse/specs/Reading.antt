@@ -1,13 +1,12 @@
 -- How the words of a statement are read, from the left: a reader gives what it read and the words that are left, or the cause at the first
 -- word that is faulty.
-use Rattle.std.specs.Prelude.{◌≡◌, ℕ, ◌==◌, Bool, true, false, if◌then◌else◌, List, [], ◌∷◌, codes, Option, Some, None, Result, Ok, Err, ℤ}
+use Rattle.std.specs.Prelude.{ℕ, ◌==◌, Bool, true, false, if◌then◌else◌, List, [], ◌∷◌, codes, Option, Some, None, Result, Ok, Err, ℤ}
 use Rattle.std.specs.Option.{ok_or}
 use Rattle.score.specs.ScoreText.{read_score}
+use Rattle.faults.specs.Reading.{◌>>=◌}
 use Rattle.crm_lex.specs.Names.{is_name}
 use Rattle.crm_parse.specs.declared.fault.ParseCause.{ParseCause}
 use Rattle.crm_parse.specs.declared.fault.ParseCause.TheVariants.{BadScore, BadValue, ExtraWord, MissingWord, Unsupported}
-use Rattle.crm_parse.specs.declared.fault.Stop.{Stop}
-use Rattle.crm_parse.specs.declared.fault.Stop.TheVariants.{Fault, NoMemory}
 use Rattle.crm_parse.specs.declared.values.RoleName.{RoleName}
 use Rattle.crm_parse.specs.declared.values.RoleName.TheVariants as named
 use Rattle.crm_parse.specs.declared.words.RoleWord.{RoleWord}
@@ -17,25 +16,6 @@ use Rattle.crm_parse.specs.Values.{role_of}
 
 abbrev pub Words : Type 0
 Words = List (List ℕ)
-
-infixl 10 ◌>>=◌
-abbrev pub ◌>>=◌ : {A B : Type 0} → Result A ParseCause → (A → Result B ParseCause) → Result B ParseCause
-(Ok x) >>= f = f x
-(Err cause) >>= f = Err cause
-
--- what a call returned, seen by view, is what the words read as
-abbrev pub Reads : {X Y : Type 0} → (X → Y) → Result X ParseCause → Result Y ParseCause → Type 0
-Reads view (Ok x) read = read ≡ Ok (view x)
-Reads view (Err cause) read = read ≡ Err cause
-
--- the same, unless memory was refused
-abbrev pub IsFault : {Y : Type 0} → Stop → Result Y ParseCause → Type 0
-IsFault (Fault cause) read = read ≡ Err cause
-IsFault NoMemory read = Unit {0}
-
-abbrev pub Gives : {X Y : Type 0} → (X → Y) → Result X Stop → Result Y ParseCause → Type 0
-Gives view (Ok x) read = read ≡ Ok (view x)
-Gives view (Err stop) read = IsFault stop read
 
 -- the next word
 abbrev pub word_at : Words → Result (List ℕ × Words) ParseCause

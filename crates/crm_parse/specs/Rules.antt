@@ -16,7 +16,8 @@ use Rattle.crm_parse.specs.declared.expression.Expression.{Expression}
 use Rattle.crm_parse.specs.declared.fault.ParseCause.{ParseCause}
 use Rattle.crm_parse.specs.declared.fault.ParseCause.TheVariants.{BadValue, Unsupported}
 use Rattle.crm_parse.specs.Keys.{Taken, when}
-use Rattle.crm_parse.specs.Reading.{Words, ◌>>=◌, word_at}
+use Rattle.crm_parse.specs.Reading.{Words, word_at}
+use Rattle.faults.specs.Reading.{◌>>=◌}
 use Rattle.crm_parse.specs.Texts.{after, cut_at, is, place_of}
 
 -- the next word, which is noted

@@ -13,7 +13,8 @@ use Rattle.crm_parse.specs.declared.section.Sections.{Sections}
 use Rattle.crm_parse.specs.Keys.{stray}
 use Rattle.crm_parse.specs.Operations.{operation_of}
 use Rattle.crm_parse.specs.Pairs.{with_section}
-use Rattle.crm_parse.specs.Reading.{Words, ◌>>=◌}
+use Rattle.crm_parse.specs.Reading.{Words}
+use Rattle.faults.specs.Reading.{◌>>=◌}
 use Rattle.crm_parse.specs.Texts.{is}
 
 -- the section that a word begins

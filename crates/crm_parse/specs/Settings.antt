@@ -13,7 +13,8 @@ use Rattle.crm_parse.specs.declared.place.Place.TheVariants as place
 use Rattle.crm_parse.specs.declared.words.SettingsWord.{SettingsWord}
 use Rattle.crm_parse.specs.declared.words.SettingsWord.TheVariants.{Property, RscDefaults, OpDefaults}
 use Rattle.crm_parse.specs.Pairs.{kv_of, repeats}
-use Rattle.crm_parse.specs.Reading.{Words, ◌>>=◌, given_at}
+use Rattle.crm_parse.specs.Reading.{Words, given_at}
+use Rattle.faults.specs.Reading.{◌>>=◌}
 use Rattle.crm_parse.specs.Texts.{cut_at, is}
 
 -- the place of the pairs

@@ -1,5 +1,5 @@
 -- The statements of a text, line by line (crmsh manual, configure).
-use Rattle.std.specs.Prelude.{◌≡◌, ℕ, ◌||◌, Bool, true, false, if◌then◌else◌, List, [], ◌∷◌, ◌++◌, map, codes, Option, Some, None, Result, Ok, Err}
+use Rattle.std.specs.Prelude.{ℕ, ◌||◌, Bool, true, false, if◌then◌else◌, List, [], ◌∷◌, ◌++◌, map, codes, Option, Some, None, Result, Ok, Err}
 use Rattle.std.specs.List.{flat_map, list_any}
 use Rattle.std.specs.Option.{option_map_or}
 use Rattle.crm_lex.specs.declared.line.Line.{Line}
@@ -9,8 +9,8 @@ use Rattle.crm_parse.specs.declared.draft.DraftStatement.{DraftStatement}
 use Rattle.crm_parse.specs.declared.draft.StepDraft.{StepDraft}
 use Rattle.crm_parse.specs.declared.fault.ParseCause.{ParseCause}
 use Rattle.crm_parse.specs.declared.fault.ParseCause.TheVariants.{UnknownStatement, Unsupported}
-use Rattle.crm_parse.specs.declared.fault.ParseFault.{ParseFault}
-use Rattle.crm_parse.specs.declared.fault.ParseFault.TheVariants.{At, NoMemory}
+use Rattle.faults.specs.declared.fault.Fault.{Fault}
+use Rattle.faults.specs.declared.fault.Fault.TheVariants.{At}
 use Rattle.crm_parse.specs.declared.form.Form.{Form}
 use Rattle.crm_parse.specs.declared.form.Form.TheVariants as form
 use Rattle.crm_parse.specs.declared.form.OrderStep.{OrderStep}
@@ -29,7 +29,8 @@ use Rattle.crm_parse.specs.Node.{node_at}
 use Rattle.crm_parse.specs.Operations.{value_of}
 use Rattle.crm_parse.specs.Order.{order_at}
 use Rattle.crm_parse.specs.Primitive.{primitive_at}
-use Rattle.crm_parse.specs.Reading.{Words, ◌>>=◌}
+use Rattle.crm_parse.specs.Reading.{Words}
+use Rattle.faults.specs.Reading.{◌>>=◌}
 use Rattle.crm_parse.specs.Settings.{settings_at}
 use Rattle.crm_parse.specs.Texts.{is}
 use Rattle.crm_parse.specs.Values.{bool_of}
@@ -95,15 +96,15 @@ draft_of before (word ∷ words) = do
   draft_after keyword before (word ∷ words) words
 
 -- some statements, and that of one more line
-abbrev pub with_draft : List DraftStatement → ℕ → Result Draft ParseCause → Result (List DraftStatement) ParseFault
+abbrev pub with_draft : List DraftStatement → ℕ → Result Draft ParseCause → Result (List DraftStatement) (Fault ParseCause)
 with_draft before line (Ok read) = Ok (before ++ record { line = line; draft = read } ∷ [])
 with_draft before line (Err cause) = Err (At line cause)
 
-unfoldable pub with_line : List DraftStatement → Line → Result (List DraftStatement) ParseFault
+unfoldable pub with_line : List DraftStatement → Line → Result (List DraftStatement) (Fault ParseCause)
 with_line before line = with_draft before line.line (draft_of before line.words)
 
 -- the statements of some lines, after some statements; the first line that is at fault counts
-abbrev pub with_lines : List DraftStatement → List Line → Result (List DraftStatement) ParseFault
+abbrev pub with_lines : List DraftStatement → List Line → Result (List DraftStatement) (Fault ParseCause)
 with_lines before [] = Ok before
 with_lines before (line ∷ lines) = elim (with_line before line) [
   | Err fault ↦ Err fault
@@ -163,18 +164,9 @@ abbrev pub crm_of : List DraftStatement → Crm
 crm_of drafts = record { statements = map (statement_of (promotable_by drafts)) drafts }
 
 -- the statements of some lines
-abbrev pub read_of : Result (List DraftStatement) ParseFault → Result Crm ParseFault
+abbrev pub read_of : Result (List DraftStatement) (Fault ParseCause) → Result Crm (Fault ParseCause)
 read_of (Ok drafts) = Ok (crm_of drafts)
 read_of (Err fault) = Err fault
 
-abbrev pub statements_of : List Line → Result Crm ParseFault
+abbrev pub statements_of : List Line → Result Crm (Fault ParseCause)
 statements_of lines = read_of (with_lines [] lines)
-
--- what a call returned, seen by view, is what some lines read as, unless memory was refused
-abbrev pub IsFaultAt : {Y : Type 0} → ParseFault → Result Y ParseFault → Type 0
-IsFaultAt (At line cause) read = read ≡ Err (At line cause)
-IsFaultAt NoMemory read = Unit {0}
-
-abbrev pub Parses : {X Y : Type 0} → (X → Y) → Result X ParseFault → Result Y ParseFault → Type 0
-Parses view (Ok x) read = read ≡ Ok (view x)
-Parses view (Err fault) read = IsFaultAt fault read

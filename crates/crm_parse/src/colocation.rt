@@ -2,7 +2,7 @@
 
 ghost use Rattle.std.specs.Prelude.{◌≡◌};
 ghost use Rattle.crm_parse.specs.Colocation.{before_colon, colocation_at, is_node_attribute, no_attribute, no_third, side_at, side_in, side_of, side_started};
-ghost use Rattle.crm_parse.specs.Reading.{Gives};
+ghost use Rattle.faults.specs.Reading.{GivesInLine};
 
 use crate::fault::Stop;
 use crate::reading::{
@@ -32,11 +32,11 @@ fn no_attribute(word: &[u8]) -> Result<(), ParseCause>
 /// The resource and its role. What isn't supported comes before what isn't a name or a role.
 #[tactic(auto, unfolding(crate::specs::Colocation::side_in))]
 fn side_in(alloc: Global, word: &[u8], name: Option<RoleName>) -> Result<Side, Stop>
-    ensures { Gives (λ side. side) result (side_in word.now name) }
+    ensures { GivesInLine (λ side. side) result (side_in word.now name) }
 {
     let Some(name) = name else {
         resource_of(word)?;
-        return Err(Stop::Fault(ParseCause::BadValue));
+        return Err(Stop::Cause(ParseCause::BadValue));
     };
     let role = supported(name)?;
     let resource = resource_of(word)?;
@@ -48,7 +48,7 @@ fn side_in(alloc: Global, word: &[u8], name: Option<RoleName>) -> Result<Side, S
 
 #[tactic(auto, unfolding(crate::specs::Colocation::side_started))]
 fn side_started(alloc: Global, word: &[u8]) -> Result<Side, Stop>
-    ensures { Gives (λ side. side) result (side_started word.now) }
+    ensures { GivesInLine (λ side. side) result (side_started word.now) }
 {
     let resource = resource_of(word)?;
     Ok(Side {
@@ -58,7 +58,7 @@ fn side_started(alloc: Global, word: &[u8]) -> Result<Side, Stop>
 }
 
 fn side_of(alloc: Global, word: &[u8]) -> Result<Side, Stop>
-    ensures { Gives (λ side. side) result (side_of word.now) }
+    ensures { GivesInLine (λ side. side) result (side_of word.now) }
 {
     match cut_at(b':', word) {
         Some((resource, role)) => side_in(alloc, resource, role_of(role)),
@@ -68,7 +68,7 @@ fn side_of(alloc: Global, word: &[u8]) -> Result<Side, Stop>
 
 #[tactic(auto, unfolding(crate::specs::Colocation::side_at))]
 fn side_at(alloc: Global, words: &[Name]) -> Result<(Side, &[Name]), Stop>
-    ensures { Gives (λ read. (read.0, read.1.now)) result (side_at words.now) }
+    ensures { GivesInLine (λ read. (read.0, read.1.now)) result (side_at words.now) }
 {
     let (word, rest) = word_at(words)?;
     no_attribute(word.bytes())?;
@@ -102,7 +102,7 @@ fn no_third(words: &[Name]) -> Result<(), ParseCause>
 /// Reads the words after `colocation`.
 #[tactic(auto, unfolding(crate::specs::Colocation::colocation_at))]
 pub fn colocation_at(alloc: Global, words: &[Name]) -> Result<Form, Stop>
-    ensures { Gives (λ form. form) result (colocation_at words.now) }
+    ensures { GivesInLine (λ form. form) result (colocation_at words.now) }
 {
     let (id, rest) = name_at(alloc, words)?;
     let (word, rest) = word_at(rest)?;

@@ -1,7 +1,7 @@
 //! The expression of a rule: tests that are joined.
 
 ghost use Rattle.std.specs.Prelude.{◌≡◌, ◌≤◌, ◌<◌, ◌++◌, ◌∷◌, [], length, not, IfOk};
-ghost use Rattle.crm_parse.specs.Reading.{Gives, Reads};
+ghost use Rattle.faults.specs.Reading.{GivesInLine, Reads};
 ghost use Rattle.crm_parse.specs.Rules.{attribute_at, comparable, compare_of, comparison_of, date_at, date_test_at, date_test_of, date_test_text, dates_at, defined_at, end_at, end_text, expression_at, filled, is_number_kind, joined_alike, joiner_at, joiner_of, moment_of, noted_at, start_at, test_after, test_at, type_of, typed, untyped, with_all_tests, with_joined, with_test};
 
 use crate::ParseCause;
@@ -38,7 +38,7 @@ fn noted_at<'a>(
     noted: &mut Listed<Name>,
     words: &'a [Name],
 ) -> Result<(&'a Name, &'a [Name]), Stop>
-    ensures read { Gives (λ read. (read.0.now, noted.new, read.1.now)) result (noted_at noted.old words.now) }
+    ensures read { GivesInLine (λ read. (read.0.now, noted.new, read.1.now)) result (noted_at noted.old words.now) }
     ensures shorter { IfOk result (λ read. length read.1.now < length words.now) }
 {
     let (word, rest) = word_at(words)?;
@@ -128,7 +128,7 @@ fn attribute_at<'a>(
     noted: &mut Listed<Name>,
     words: &'a [Name],
 ) -> Result<(Test, &'a [Name]), Stop>
-    ensures read { Gives (λ read. (read.0, noted.new, read.1.now)) result (attribute_at name.now noted.old words.now) }
+    ensures read { GivesInLine (λ read. (read.0, noted.new, read.1.now)) result (attribute_at name.now noted.old words.now) }
     ensures shorter { IfOk result (λ read. length read.1.now ≤ length words.now) }
 {
     filled(name)?;
@@ -153,7 +153,7 @@ fn defined_at<'a>(
     noted: &mut Listed<Name>,
     words: &'a [Name],
 ) -> Result<(Test, &'a [Name]), Stop>
-    ensures read { Gives (λ read. (read.0, noted.new, read.1.now)) result (defined_at defined noted.old words.now) }
+    ensures read { GivesInLine (λ read. (read.0, noted.new, read.1.now)) result (defined_at defined noted.old words.now) }
     ensures shorter { IfOk result (λ read. length read.1.now ≤ length words.now) }
 {
     let (name, rest) = noted_at(alloc, noted, words)?;
@@ -204,7 +204,7 @@ fn date_at<'a>(
     noted: &mut Listed<Name>,
     words: &'a [Name],
 ) -> Result<(i64, &'a [Name]), Stop>
-    ensures read { Gives (λ read. (read.0, noted.new, read.1.now)) result (date_at noted.old words.now) }
+    ensures read { GivesInLine (λ read. (read.0, noted.new, read.1.now)) result (date_at noted.old words.now) }
     ensures shorter { IfOk result (λ read. length read.1.now ≤ length words.now) }
 {
     let (word, rest) = noted_at(alloc, noted, words)?;
@@ -219,7 +219,7 @@ fn start_at<'a>(
     noted: &mut Listed<Name>,
     words: &'a [Name],
 ) -> Result<(i64, &'a [Name]), Stop>
-    ensures read { Gives (λ read. (read.0, noted.new, read.1.now)) result (start_at noted.old words.now) }
+    ensures read { GivesInLine (λ read. (read.0, noted.new, read.1.now)) result (start_at noted.old words.now) }
     ensures shorter { IfOk result (λ read. length read.1.now ≤ length words.now) }
 {
     let (word, rest) = noted_at(alloc, noted, words)?;
@@ -251,7 +251,7 @@ fn end_at<'a>(
     noted: &mut Listed<Name>,
     words: &'a [Name],
 ) -> Result<(i64, &'a [Name]), Stop>
-    ensures read { Gives (λ read. (read.0, noted.new, read.1.now)) result (end_at noted.old words.now) }
+    ensures read { GivesInLine (λ read. (read.0, noted.new, read.1.now)) result (end_at noted.old words.now) }
     ensures shorter { IfOk result (λ read. length read.1.now ≤ length words.now) }
 {
     let (word, rest) = noted_at(alloc, noted, words)?;
@@ -268,7 +268,7 @@ fn dates_at<'a>(
     noted: &mut Listed<Name>,
     words: &'a [Name],
 ) -> Result<(Test, &'a [Name]), Stop>
-    ensures read { Gives (λ read. (read.0, noted.new, read.1.now)) result (dates_at test noted.old words.now) }
+    ensures read { GivesInLine (λ read. (read.0, noted.new, read.1.now)) result (dates_at test noted.old words.now) }
     ensures shorter { IfOk result (λ read. length read.1.now ≤ length words.now) }
 {
     match test {
@@ -295,7 +295,7 @@ fn date_test_at<'a>(
     noted: &mut Listed<Name>,
     words: &'a [Name],
 ) -> Result<(Test, &'a [Name]), Stop>
-    ensures read { Gives (λ read. (read.0, noted.new, read.1.now)) result (date_test_at noted.old words.now) }
+    ensures read { GivesInLine (λ read. (read.0, noted.new, read.1.now)) result (date_test_at noted.old words.now) }
     ensures shorter { IfOk result (λ read. length read.1.now ≤ length words.now) }
 {
     let (word, rest) = word_at(words)?;
@@ -311,7 +311,7 @@ fn test_after<'a>(
     noted: &mut Listed<Name>,
     words: &'a [Name],
 ) -> Result<(Test, &'a [Name]), Stop>
-    ensures read { Gives (λ read. (read.0, noted.new, read.1.now)) result (test_after word.now noted.old words.now) }
+    ensures read { GivesInLine (λ read. (read.0, noted.new, read.1.now)) result (test_after word.now noted.old words.now) }
     ensures shorter { IfOk result (λ read. length read.1.now ≤ length words.now) }
 {
     if is(word, b"date") {
@@ -331,7 +331,7 @@ fn test_at<'a>(
     noted: &mut Listed<Name>,
     words: &'a [Name],
 ) -> Result<(Test, &'a [Name]), Stop>
-    ensures read { Gives (λ read. (read.0, noted.new, read.1.now)) result (test_at noted.old words.now) }
+    ensures read { GivesInLine (λ read. (read.0, noted.new, read.1.now)) result (test_at noted.old words.now) }
     ensures shorter { IfOk result (λ read. length read.1.now < length words.now) }
 {
     let (word, rest) = noted_at(alloc, noted, words)?;
@@ -345,7 +345,7 @@ fn add_test<'a>(
     expression: &mut Expression,
     words: &'a [Name],
 ) -> Result<&'a [Name], Stop>
-    ensures read { Gives (λ rest. (expression.new, rest.now)) result (with_test expression.old words.now) }
+    ensures read { GivesInLine (λ rest. (expression.new, rest.now)) result (with_test expression.old words.now) }
     ensures shorter { IfOk result (λ rest. length rest.now < length words.now) }
 {
     let (test, rest) = test_at(alloc, &mut expression.words, words)?;
@@ -395,7 +395,7 @@ fn add_joined<'a>(
     all: bool,
     words: &'a [Name],
 ) -> Result<&'a [Name], Stop>
-    ensures read { Gives (λ rest. (expression.new, rest.now)) result (with_joined expression.old all words.now) }
+    ensures read { GivesInLine (λ rest. (expression.new, rest.now)) result (with_joined expression.old all words.now) }
     ensures shorter { IfOk result (λ rest. length rest.now < length words.now) }
 {
     joined_alike(expression.joined, all)?;
@@ -410,7 +410,7 @@ fn add_tests<'a>(
     expression: &mut Expression,
     words: &'a [Name],
 ) -> Result<&'a [Name], Stop>
-    ensures read { Gives (λ rest. (expression.new, rest.now)) result (with_all_tests expression.old words.now) }
+    ensures read { GivesInLine (λ rest. (expression.new, rest.now)) result (with_all_tests expression.old words.now) }
     ensures shorter { IfOk result (λ rest. length rest.now ≤ length words.now) }
 {
     let mut rest = words;
@@ -423,7 +423,7 @@ fn add_tests<'a>(
 /// An expression.
 #[tactic(auto, unfolding(crate::specs::Rules::expression_at))]
 pub fn expression_at(alloc: Global, words: &[Name]) -> Result<(Expression, &[Name]), Stop>
-    ensures read { Gives (λ read. (read.0, read.1.now)) result (expression_at words.now) }
+    ensures read { GivesInLine (λ read. (read.0, read.1.now)) result (expression_at words.now) }
     ensures shorter { IfOk result (λ read. length read.1.now ≤ length words.now) }
 {
     let mut expression = Expression {

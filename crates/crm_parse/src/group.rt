@@ -2,7 +2,7 @@
 
 ghost use Rattle.std.specs.Prelude.{◌≡◌, []};
 ghost use Rattle.crm_parse.specs.Groups.{clone_at, clone_owner, ends_members, group_at, members_from};
-ghost use Rattle.crm_parse.specs.Reading.{Gives};
+ghost use Rattle.faults.specs.Reading.{GivesInLine};
 
 use crate::Form;
 use crate::fault::Stop;
@@ -21,7 +21,7 @@ fn ends_members(word: &Name) -> bool
 
 /// The members of a group, up to its description or its first section.
 fn members_at(alloc: Global, words: &[Name]) -> Result<(Listed<Name>, &[Name]), Stop>
-    ensures { Gives (λ read. (read.0, read.1.now)) result (members_from [] words.now) }
+    ensures { GivesInLine (λ read. (read.0, read.1.now)) result (members_from [] words.now) }
 {
     let mut members = Listed::new(alloc);
     let mut rest = words;
@@ -39,7 +39,7 @@ fn members_at(alloc: Global, words: &[Name]) -> Result<(Listed<Name>, &[Name]), 
 /// Reads the words after `group`.
 #[tactic(auto, unfolding(crate::specs::Groups::group_at))]
 pub fn group_at(alloc: Global, words: &[Name]) -> Result<Form, Stop>
-    ensures { Gives (λ form. form) result (group_at words.now) }
+    ensures { GivesInLine (λ form. form) result (group_at words.now) }
 {
     let (id, rest) = name_at(alloc, words)?;
     let (members, rest) = members_at(alloc, rest)?;
@@ -63,7 +63,7 @@ fn clone_owner(ms: bool) -> Owner
 /// Reads the words after `clone`, or after `ms` or `master`.
 #[tactic(auto, unfolding(crate::specs::Groups::clone_at))]
 pub fn clone_at(alloc: Global, ms: bool, words: &[Name]) -> Result<Form, Stop>
-    ensures { Gives (λ form. form) result (clone_at ms words.now) }
+    ensures { GivesInLine (λ form. form) result (clone_at ms words.now) }
 {
     let (id, rest) = name_at(alloc, words)?;
     let (child, rest) = name_at(alloc, rest)?;

@@ -1,7 +1,7 @@
 //! The statement of one line.
 
 ghost use Rattle.std.specs.Prelude.{◌≡◌, Ok};
-ghost use Rattle.crm_parse.specs.Reading.{Gives};
+ghost use Rattle.faults.specs.Reading.{GivesInLine};
 ghost use Rattle.crm_parse.specs.declared.form.Form.TheVariants as form;
 ghost use Rattle.crm_parse.specs.Statements.{draft_after, draft_of, is_kept, is_unsupported, keyword_of, order, whole};
 
@@ -80,7 +80,7 @@ fn keyword_of(word: &[u8]) -> Result<Keyword, ParseCause>
 }
 
 fn copies(alloc: Global, words: &[Name]) -> Result<Listed<Name>, Stop>
-    ensures { Gives (λ copies. copies) result (Ok words.now) }
+    ensures { GivesInLine (λ copies. copies) result (Ok words.now) }
 {
     let mut copies = Listed::new(alloc);
     for word in words {
@@ -90,7 +90,7 @@ fn copies(alloc: Global, words: &[Name]) -> Result<Listed<Name>, Stop>
 }
 
 fn kept(alloc: Global, line: &[Name]) -> Result<Draft, Stop>
-    ensures { Gives (λ draft. draft) result (whole (Ok (form.Kept line.now))) }
+    ensures { GivesInLine (λ draft. draft) result (whole (Ok (form.Kept line.now))) }
 {
     Ok(Draft::Whole(Form::Kept {
         words: copies(alloc, line)?,
@@ -98,7 +98,7 @@ fn kept(alloc: Global, line: &[Name]) -> Result<Draft, Stop>
 }
 
 fn order(alloc: Global, words: &[Name]) -> Result<Draft, Stop>
-    ensures { Gives (λ draft. draft) result (order words.now) }
+    ensures { GivesInLine (λ draft. draft) result (order words.now) }
 {
     Ok(Draft::Order(order_at(alloc, words)?))
 }
@@ -110,7 +110,7 @@ fn draft_after(
     line: &[Name],
     words: &[Name],
 ) -> Result<Draft, Stop>
-    ensures { Gives (λ draft. draft) result (draft_after keyword before.now line.now words.now) }
+    ensures { GivesInLine (λ draft. draft) result (draft_after keyword before.now line.now words.now) }
 {
     match keyword {
         Keyword::Node => Ok(Draft::Whole(node_at(alloc, words)?)),
@@ -129,10 +129,10 @@ fn draft_after(
 /// Reads the words of a line, which stands after some statements.
 #[tactic(auto, unfolding(crate::specs::Statements::draft_of))]
 pub fn draft_of(alloc: Global, before: &Drafts, line: &[Name]) -> Result<Draft, Stop>
-    ensures { Gives (λ draft. draft) result (draft_of before.now line.now) }
+    ensures { GivesInLine (λ draft. draft) result (draft_of before.now line.now) }
 {
     let [word, words @ ..] = line else {
-        return Err(Stop::Fault(ParseCause::UnknownStatement));
+        return Err(Stop::Cause(ParseCause::UnknownStatement));
     };
     let keyword = keyword_of(word.bytes())?;
     draft_after(alloc, keyword, before, line, words)

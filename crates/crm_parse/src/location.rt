@@ -3,7 +3,7 @@
 ghost use Rattle.std.specs.Prelude.{◌≡◌};
 ghost use Rattle.std.specs.Option.{option_copied};
 ghost use Rattle.crm_parse.specs.Location.{begins_rule, discovery_at, discovery_in, location_at, place_at, plain_at, resource_at, role_at, ruled_at};
-ghost use Rattle.crm_parse.specs.Reading.{Gives, Reads};
+ghost use Rattle.faults.specs.Reading.{GivesInLine, Reads};
 
 use crate::fault::Stop;
 use crate::reading::{end_at, is, name_at, prefixed_at, resource_of, score_of, word_at};
@@ -15,7 +15,7 @@ use std::alloc::Global;
 
 #[tactic(auto, unfolding(crate::specs::Location::resource_at))]
 fn resource_at(alloc: Global, words: &[Name]) -> Result<(Name, &[Name]), Stop>
-    ensures { Gives (λ read. (read.0, read.1.now)) result (resource_at words.now) }
+    ensures { GivesInLine (λ read. (read.0, read.1.now)) result (resource_at words.now) }
 {
     let (word, rest) = word_at(words)?;
     let resource = resource_of(word.bytes())?;
@@ -56,7 +56,7 @@ fn discovery_at(words: &[Name]) -> Result<(bool, &[Name]), ParseCause>
 /// A score and a node.
 #[tactic(auto, unfolding(crate::specs::Location::place_at))]
 fn place_at(alloc: Global, words: &[Name]) -> Result<(Score, Name), Stop>
-    ensures { Gives (λ read. read) result (place_at words.now) }
+    ensures { GivesInLine (λ read. read) result (place_at words.now) }
 {
     let (word, rest) = word_at(words)?;
     let score = score_of(word.bytes())?;
@@ -83,7 +83,7 @@ fn plain_at(
     discovery: bool,
     words: &[Name],
 ) -> Result<Form, Stop>
-    ensures { Gives (λ form. form) result (plain_at id resource role discovery words.now) }
+    ensures { GivesInLine (λ form. form) result (plain_at id resource role discovery words.now) }
 {
     let (score, node) = place_at(alloc, words)?;
     Ok(Form::Location {
@@ -105,7 +105,7 @@ fn ruled_at(
     discovery: bool,
     words: &[Name],
 ) -> Result<Form, Stop>
-    ensures { Gives (λ form. form) result (ruled_at id resource role discovery words.now) }
+    ensures { GivesInLine (λ form. form) result (ruled_at id resource role discovery words.now) }
 {
     let rules = rules_at(alloc, words)?;
     Ok(Form::RuledLocation {
@@ -120,7 +120,7 @@ fn ruled_at(
 /// Reads the words after `location`.
 #[tactic(auto, unfolding(crate::specs::Location::location_at))]
 pub fn location_at(alloc: Global, words: &[Name]) -> Result<Form, Stop>
-    ensures { Gives (λ form. form) result (location_at words.now) }
+    ensures { GivesInLine (λ form. form) result (location_at words.now) }
 {
     let (id, rest) = name_at(alloc, words)?;
     let (resource, rest) = resource_at(alloc, rest)?;

@@ -2,7 +2,7 @@
 
 ghost use Rattle.std.specs.Prelude.{◌≡◌};
 ghost use Rattle.crm_parse.specs.Node.{node_at};
-ghost use Rattle.crm_parse.specs.Reading.{Gives};
+ghost use Rattle.faults.specs.Reading.{GivesInLine};
 
 use crate::Form;
 use crate::fault::Stop;
@@ -15,7 +15,7 @@ use std::alloc::Global;
 /// Reads the words after `node`.
 #[tactic(auto, unfolding(crate::specs::Node::node_at))]
 pub fn node_at(alloc: Global, words: &[Name]) -> Result<Form, Stop>
-    ensures { Gives (λ form. form) result (node_at words.now) }
+    ensures { GivesInLine (λ form. form) result (node_at words.now) }
 {
     let (id, rest) = given_at(alloc, words)?;
     let (name, rest) = name_at(alloc, rest)?;

@@ -5,7 +5,7 @@ ghost use Rattle.std.specs.List.{list_any};
 ghost use Rattle.std.specs.Option.{option_and_then, option_copied, option_map_or};
 ghost use Rattle.crm_parse.specs.Keys.{is_monitor};
 ghost use Rattle.crm_parse.specs.Operations.{has_op, has_room, interval_in, interval_of, is_off, is_single, new_name, op_name, op_pairs, operation_of, recurs, says_no, value_of, with_op_pair, with_op_pairs};
-ghost use Rattle.crm_parse.specs.Reading.{Gives, Reads};
+ghost use Rattle.faults.specs.Reading.{GivesInLine, Reads};
 ghost use Rattle.crm_parse.specs.Texts.{is};
 ghost use Rattle.crm_parse.specs.Values.{time_of};
 
@@ -193,7 +193,7 @@ fn add_op_pair(
     pairs: &mut KeyedPairs,
     word: &Name,
 ) -> Result<(), Stop>
-    ensures { Gives (λ _. pairs.new) result (with_op_pair ops.now recurring place pairs.old word.now) }
+    ensures { GivesInLine (λ _. pairs.new) result (with_op_pair ops.now recurring place pairs.old word.now) }
 {
     add_pair(alloc, place, pairs, word)?;
     let interval = if recurring {
@@ -213,7 +213,7 @@ fn add_op_pairs(
     pairs: &mut KeyedPairs,
     words: &[Name],
 ) -> Result<(), Stop>
-    ensures { Gives (λ _. pairs.new) result (with_op_pairs ops.now recurring place pairs.old words.now) }
+    ensures { GivesInLine (λ _. pairs.new) result (with_op_pairs ops.now recurring place pairs.old words.now) }
 {
     for word in words {
         add_op_pair(alloc, ops, recurring, place, pairs, word)?;
@@ -228,10 +228,10 @@ fn op_pairs(
     name: OpName,
     words: &[Name],
 ) -> Result<Listed<Kv>, Stop>
-    ensures { Gives (λ pairs. pairs) result (op_pairs ops.now name words.now) }
+    ensures { GivesInLine (λ pairs. pairs) result (op_pairs ops.now name words.now) }
 {
     if words.is_empty() {
-        return Err(Stop::Fault(ParseCause::MissingWord));
+        return Err(Stop::Cause(ParseCause::MissingWord));
     }
     let recurring = is_monitor(name) && !is_off(words);
     let mut pairs = KeyedPairs::new(alloc);
@@ -249,10 +249,10 @@ fn op_pairs(
 /// An operation after some operations: its name and its pairs.
 #[tactic(auto, unfolding(crate::specs::Operations::operation_of))]
 pub fn operation_of(alloc: Global, ops: &[Operation], words: &[Name]) -> Result<Operation, Stop>
-    ensures { Gives (λ operation. operation) result (operation_of ops.now words.now) }
+    ensures { GivesInLine (λ operation. operation) result (operation_of ops.now words.now) }
 {
     let [word, rest @ ..] = words else {
-        return Err(Stop::Fault(ParseCause::MissingWord));
+        return Err(Stop::Cause(ParseCause::MissingWord));
     };
     let name = new_name(ops, word.bytes())?;
     let pairs = op_pairs(alloc, ops, op_name(name), rest)?;

@@ -3,7 +3,7 @@
 ghost use Rattle.std.specs.Prelude.{◌≡◌, []};
 ghost use Rattle.std.specs.Option.{option_copied};
 ghost use Rattle.crm_parse.specs.Order.{ends_steps, is_serialize, kind_at, kind_by_score, kind_by_word, kind_in, order_at, some_action, step_of, step_parts, steps_at, symmetrical_as, symmetrical_in, with_step, with_steps, written_action};
-ghost use Rattle.crm_parse.specs.Reading.{Gives, Reads};
+ghost use Rattle.faults.specs.Reading.{GivesInLine, Reads};
 
 use crate::draft::{OrderDraft, StepDraft};
 use crate::fault::Stop;
@@ -86,7 +86,7 @@ fn step_parts(word: &[u8]) -> (&[u8], Option<&[u8]>)
 /// A resource, and an action after a colon.
 #[tactic(auto, unfolding(crate::specs::Order::step_of))]
 fn step_of(alloc: Global, word: &[u8]) -> Result<StepDraft, Stop>
-    ensures { Gives (λ step. step) result (step_of word.now) }
+    ensures { GivesInLine (λ step. step) result (step_of word.now) }
 {
     let (resource, action) = step_parts(word);
     let resource = resource_of(resource)?;
@@ -103,7 +103,7 @@ fn add_step<'a>(
     steps: &mut Listed<StepDraft>,
     words: &'a [Name],
 ) -> Result<&'a [Name], Stop>
-    ensures { Gives (λ rest. (steps.new, rest.now)) result (with_step steps.old words.now) }
+    ensures { GivesInLine (λ rest. (steps.new, rest.now)) result (with_step steps.old words.now) }
 {
     let (word, rest) = word_at(words)?;
     let step = step_of(alloc, word.bytes())?;
@@ -122,7 +122,7 @@ fn add_steps<'a>(
     steps: &mut Listed<StepDraft>,
     words: &'a [Name],
 ) -> Result<&'a [Name], Stop>
-    ensures { Gives (λ rest. (steps.new, rest.now)) result (with_steps steps.old words.now) }
+    ensures { GivesInLine (λ rest. (steps.new, rest.now)) result (with_steps steps.old words.now) }
 {
     let mut rest = words;
     while let [word, after @ ..] = rest {
@@ -139,7 +139,7 @@ fn add_steps<'a>(
 /// Two resources or more.
 #[tactic(auto, unfolding(crate::specs::Order::steps_at))]
 fn steps_at(alloc: Global, words: &[Name]) -> Result<(Listed<StepDraft>, &[Name]), Stop>
-    ensures { Gives (λ read. (read.0, read.1.now)) result (steps_at words.now) }
+    ensures { GivesInLine (λ read. (read.0, read.1.now)) result (steps_at words.now) }
 {
     let mut steps = Listed::new(alloc);
     let rest = add_step(alloc, &mut steps, words)?;
@@ -173,7 +173,7 @@ fn symmetrical_in(kind: KindWord, word: Option<&[u8]>) -> Result<bool, ParseCaus
 /// Reads the words after `order`.
 #[tactic(auto, unfolding(crate::specs::Order::order_at))]
 pub fn order_at(alloc: Global, words: &[Name]) -> Result<OrderDraft, Stop>
-    ensures { Gives (λ order. order) result (order_at words.now) }
+    ensures { GivesInLine (λ order. order) result (order_at words.now) }
 {
     let (id, rest) = name_at(alloc, words)?;
     let (kind, rest) = kind_at(rest)?;

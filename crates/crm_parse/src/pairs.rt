@@ -2,7 +2,7 @@
 
 ghost use Rattle.std.specs.Prelude.{◌≡◌};
 ghost use Rattle.crm_parse.specs.Pairs.{kv_of, pair_of, with_pair, with_pairs, with_section};
-ghost use Rattle.crm_parse.specs.Reading.{Gives, Reads};
+ghost use Rattle.faults.specs.Reading.{GivesInLine, Reads};
 
 use crate::fault::Stop;
 use crate::keyed_pairs::KeyedPairs;
@@ -31,7 +31,7 @@ fn pair_of(place: Place, word: &[u8]) -> Result<(&[u8], &[u8]), ParseCause>
 /// Copies a pair whose value its key takes.
 #[tactic(auto, unfolding(crate::specs::Pairs::kv_of))]
 pub fn kv_of(alloc: Global, place: Place, word: &Name) -> Result<Kv, Stop>
-    ensures { Gives (λ pair. pair) result (kv_of place word.now) }
+    ensures { GivesInLine (λ pair. pair) result (kv_of place word.now) }
 {
     let (key, value) = pair_of(place, word.bytes())?;
     accepts(place, key, value)?;
@@ -49,11 +49,11 @@ pub fn add_pair(
     pairs: &mut KeyedPairs,
     word: &Name,
 ) -> Result<(), Stop>
-    ensures { Gives (λ _. pairs.new) result (with_pair place pairs.old word.now) }
+    ensures { GivesInLine (λ _. pairs.new) result (with_pair place pairs.old word.now) }
 {
     let pair = kv_of(alloc, place, word)?;
     if pairs.repeats(place, &pair.key) {
-        return Err(Stop::Fault(ParseCause::RepeatedKey));
+        return Err(Stop::Cause(ParseCause::RepeatedKey));
     }
     pairs.push(alloc, pair)?;
     Ok(())
@@ -65,7 +65,7 @@ fn add_pairs(
     pairs: &mut KeyedPairs,
     words: &[Name],
 ) -> Result<(), Stop>
-    ensures { Gives (λ _. pairs.new) result (with_pairs place pairs.old words.now) }
+    ensures { GivesInLine (λ _. pairs.new) result (with_pairs place pairs.old words.now) }
 {
     for word in words {
         add_pair(alloc, place, pairs, word)?;
@@ -80,13 +80,13 @@ pub fn add_section(
     pairs: &mut KeyedPairs,
     words: &[Name],
 ) -> Result<(), Stop>
-    ensures { Gives (λ _. pairs.new) result (with_section place pairs.old words.now) }
+    ensures { GivesInLine (λ _. pairs.new) result (with_section place pairs.old words.now) }
 {
     match words {
-        [] => Err(Stop::Fault(ParseCause::MissingWord)),
+        [] => Err(Stop::Cause(ParseCause::MissingWord)),
         [first, ..] => {
             if is(first.bytes(), b"rule") {
-                return Err(Stop::Fault(ParseCause::Unsupported));
+                return Err(Stop::Cause(ParseCause::Unsupported));
             }
             add_pairs(alloc, place, pairs, words)
         }

@@ -1,12 +1,12 @@
 //! The statements of a text.
 
 ghost use Rattle.std.specs.Prelude.{◌≡◌, [], IfOk, map};
-ghost use Rattle.crm_parse.specs.Statements.{crm_of, statement_of, statements_of, with_line, with_lines, Parses};
+ghost use Rattle.crm_parse.specs.Statements.{crm_of, statement_of, statements_of, with_line, with_lines};
+ghost use Rattle.faults.specs.Reading.{Gives};
 
 use crate::actions::{finished, promotable_by};
 use crate::draft::DraftStatement;
 use crate::drafts::Drafts;
-use crate::fault::Stop;
 use crate::line::draft_of;
 use crate::promotable::Promotable;
 use crate::{Crm, ParseFault, Statement};
@@ -17,7 +17,7 @@ use std::alloc::Global;
 /// Reads one more line.
 #[tactic(auto, unfolding(crate::specs::Statements::with_line))]
 fn with_line(alloc: Global, drafts: Drafts, line: &Line) -> Result<Drafts, ParseFault>
-    ensures { Parses (λ more. more) result (with_line drafts line.now) }
+    ensures { Gives (λ more. more) result (with_line drafts line.now) }
 {
     match draft_of(alloc, &drafts, line.words.as_slice()) {
         Ok(draft) => {
@@ -27,16 +27,12 @@ fn with_line(alloc: Global, drafts: Drafts, line: &Line) -> Result<Drafts, Parse
             };
             Ok(drafts.with(alloc, statement)?)
         }
-        Err(Stop::Fault(cause)) => Err(ParseFault::At {
-            line: line.line,
-            cause,
-        }),
-        Err(Stop::NoMemory) => Err(ParseFault::NoMemory),
+        Err(stop) => Err(stop.at(line.line)),
     }
 }
 
 fn with_lines(alloc: Global, lines: &[Line]) -> Result<Drafts, ParseFault>
-    ensures { Parses (λ drafts. drafts) result (with_lines [] lines.now) }
+    ensures { Gives (λ drafts. drafts) result (with_lines [] lines.now) }
 {
     let mut drafts = Drafts::new(alloc);
     for line in lines {
@@ -89,7 +85,7 @@ fn crm_of(alloc: Global, drafts: Drafts) -> Result<Crm, NoMemory>
 /// `MissingWord` where a statement or a section ends too early, `ExtraWord` at a word without a place, and `RepeatedKey` at a key that was
 /// given before. Where a word has several causes, the first in this order counts. `NoMemory` comes where memory is refused.
 pub fn parse(alloc: Global, lines: &[Line]) -> Result<Crm, ParseFault>
-    ensures { Parses (λ crm. crm) result (statements_of lines.now) }
+    ensures { Gives (λ crm. crm) result (statements_of lines.now) }
 {
     let drafts = with_lines(alloc, lines)?;
     Ok(crm_of(alloc, drafts)?)

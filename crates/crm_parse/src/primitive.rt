@@ -4,7 +4,7 @@ ghost use Rattle.std.specs.Prelude.{◌≡◌, ◌==◌, length, not, Ok};
 ghost use Rattle.std.specs.List.{list_all};
 ghost use Rattle.crm_parse.specs.declared.form.Form.TheVariants as form;
 ghost use Rattle.crm_parse.specs.Primitive.{agent_of, colon_parts, is_agent, is_template, primitive_at, whole_agent};
-ghost use Rattle.crm_parse.specs.Reading.{Gives};
+ghost use Rattle.faults.specs.Reading.{GivesInLine};
 
 use crate::fault::Stop;
 use crate::owner::Owner;
@@ -35,7 +35,7 @@ fn is_agent(word: &[u8]) -> bool
 
 /// An agent with all its parts.
 fn whole_agent(alloc: Global, word: &[u8]) -> Result<Name, Stop>
-    ensures { Gives (λ agent. agent) result (Ok (whole_agent word.now)) }
+    ensures { GivesInLine (λ agent. agent) result (Ok (whole_agent word.now)) }
 {
     if count_parts(word) != 1 {
         return Ok(Name::from_bytes(alloc, word)?);
@@ -55,14 +55,14 @@ fn is_template(word: &[u8]) -> bool
 }
 
 fn agent_of(alloc: Global, word: &[u8]) -> Result<Name, Stop>
-    ensures { Gives (λ agent. agent) result (agent_of word.now) }
+    ensures { GivesInLine (λ agent. agent) result (agent_of word.now) }
 {
     if is_template(word) {
-        Err(Stop::Fault(ParseCause::Unsupported))
+        Err(Stop::Cause(ParseCause::Unsupported))
     } else if is_agent(word) {
         whole_agent(alloc, word)
     } else {
-        Err(Stop::Fault(ParseCause::BadValue))
+        Err(Stop::Cause(ParseCause::BadValue))
     }
 }
 
@@ -84,7 +84,7 @@ fn primitive(id: Name, agent: Name, description: Option<Name>, sections: Section
 /// Reads the words after `primitive`.
 #[tactic(auto, unfolding(crate::specs::Primitive::primitive_at))]
 pub fn primitive_at(alloc: Global, words: &[Name]) -> Result<Form, Stop>
-    ensures { Gives (λ form. form) result (primitive_at words.now) }
+    ensures { GivesInLine (λ form. form) result (primitive_at words.now) }
 {
     let (id, rest) = name_at(alloc, words)?;
     let (word, rest) = word_at(rest)?;

@@ -4,7 +4,8 @@ ghost use Rattle.std.specs.Prelude.{◌≡◌, ◌<◌, length, option_map, IfOk
 ghost use Rattle.std.specs.List.{list_all, position_or_len};
 ghost use Rattle.std.specs.Option.{option_copied};
 ghost use Rattle.crm_lex.specs.Names.{is_name, is_name_byte};
-ghost use Rattle.crm_parse.specs.Reading.{begins_set, colon_at, description_at, end_at, given_at, name_at, name_of, prefixed_at, resource_of, rule_role_of, score_of, some_name, supported, word_at, Gives, Reads};
+ghost use Rattle.crm_parse.specs.Reading.{begins_set, colon_at, description_at, end_at, given_at, name_at, name_of, prefixed_at, resource_of, rule_role_of, score_of, some_name, supported, word_at};
+ghost use Rattle.faults.specs.Reading.{GivesInLine, Reads};
 ghost use Rattle.crm_parse.specs.Texts.{after, before, cut_at, is, place_of};
 
 use crate::fault::Stop;
@@ -103,7 +104,7 @@ pub fn name_of(word: &[u8]) -> Result<&[u8], ParseCause>
 /// Copies the next word, which is a name.
 #[tactic(auto, unfolding(crate::specs::Reading::name_at))]
 pub fn name_at(alloc: Global, words: &[Name]) -> Result<(Name, &[Name]), Stop>
-    ensures { Gives (λ read. (read.0, read.1.now)) result (name_at words.now) }
+    ensures { GivesInLine (λ read. (read.0, read.1.now)) result (name_at words.now) }
 {
     let (word, rest) = word_at(words)?;
     let name = name_of(word.bytes())?;
@@ -148,7 +149,7 @@ pub fn colon_at(words: &[Name]) -> (Option<&[u8]>, &[Name])
 
 /// Copies a text where there is one.
 pub fn copied(alloc: Global, text: Option<&[u8]>) -> Result<Option<Name>, Stop>
-    ensures { Gives (λ name. name) result (Ok (option_copied text.entry)) }
+    ensures { GivesInLine (λ name. name) result (Ok (option_copied text.entry)) }
 {
     match text {
         Some(text) => Ok(Some(Name::from_bytes(alloc, text)?)),
@@ -158,7 +159,7 @@ pub fn copied(alloc: Global, text: Option<&[u8]>) -> Result<Option<Name>, Stop>
 
 /// Copies a name where one was written.
 pub fn some_name(alloc: Global, word: Option<&[u8]>) -> Result<Option<Name>, Stop>
-    ensures { Gives (λ name. name) result (some_name (option_copied word.entry)) }
+    ensures { GivesInLine (λ name. name) result (some_name (option_copied word.entry)) }
 {
     match word {
         Some(word) => {
@@ -172,7 +173,7 @@ pub fn some_name(alloc: Global, word: Option<&[u8]>) -> Result<Option<Name>, Sto
 /// An id before its colon, where one is written.
 #[tactic(auto, unfolding(crate::specs::Reading::given_at))]
 pub fn given_at(alloc: Global, words: &[Name]) -> Result<(Option<Name>, &[Name]), Stop>
-    ensures { Gives (λ read. (read.0, read.1.now)) result (given_at words.now) }
+    ensures { GivesInLine (λ read. (read.0, read.1.now)) result (given_at words.now) }
 {
     let (id, rest) = colon_at(words);
     Ok((some_name(alloc, id)?, rest))
@@ -180,7 +181,7 @@ pub fn given_at(alloc: Global, words: &[Name]) -> Result<(Option<Name>, &[Name])
 
 /// A description, where one is written.
 pub fn description_at(alloc: Global, words: &[Name]) -> Result<(Option<Name>, &[Name]), Stop>
-    ensures { Gives (λ read. (read.0, read.1.now)) result (description_at words.now) }
+    ensures { GivesInLine (λ read. (read.0, read.1.now)) result (description_at words.now) }
 {
     let (description, rest) = prefixed_at(b"description=", words);
     Ok((copied(alloc, description)?, rest))

@@ -3,7 +3,7 @@
 ghost use Rattle.std.specs.Prelude.{◌≡◌, ◌≤◌, ◌<◌, [], length, IfOk};
 ghost use Rattle.std.specs.Option.{option_copied};
 ghost use Rattle.crm_parse.specs.Location.{all_of, either_at, rule_at, rule_id_at, rule_role_at, rule_score_of, some_role, with_rule, with_rules};
-ghost use Rattle.crm_parse.specs.Reading.{Gives, Reads};
+ghost use Rattle.faults.specs.Reading.{GivesInLine, Reads};
 
 use crate::accept::when;
 use crate::expression::expression_at;
@@ -31,7 +31,7 @@ pub fn some_role(word: Option<&[u8]>) -> Result<Option<RoleWord>, ParseCause>
 
 #[tactic(auto, unfolding(crate::specs::Location::rule_id_at))]
 fn rule_id_at(alloc: Global, words: &[Name]) -> Result<(Option<Name>, &[Name]), Stop>
-    ensures read { Gives (λ read. (read.0, read.1.now)) result (rule_id_at words.now) }
+    ensures read { GivesInLine (λ read. (read.0, read.1.now)) result (rule_id_at words.now) }
     ensures shorter { IfOk result (λ read. length read.1.now ≤ length words.now) }
 {
     let (id, rest) = prefixed_at(b"$id=", words);
@@ -76,7 +76,7 @@ fn all_of(joined: Option<bool>) -> bool
 /// Reads the words after `rule`.
 #[tactic(auto, unfolding(crate::specs::Location::rule_at))]
 fn rule_at(alloc: Global, words: &[Name]) -> Result<(RuleForm, &[Name]), Stop>
-    ensures read { Gives (λ read. (read.0, read.1.now)) result (rule_at words.now) }
+    ensures read { GivesInLine (λ read. (read.0, read.1.now)) result (rule_at words.now) }
     ensures shorter { IfOk result (λ read. length read.1.now ≤ length words.now) }
 {
     let (id, rest) = rule_id_at(alloc, words)?;
@@ -104,7 +104,7 @@ fn add_rule<'a>(
     rules: &mut Listed<RuleForm>,
     words: &'a [Name],
 ) -> Result<&'a [Name], Stop>
-    ensures read { Gives (λ rest. (rules.new, rest.now)) result (with_rule rules.old words.now) }
+    ensures read { GivesInLine (λ rest. (rules.new, rest.now)) result (with_rule rules.old words.now) }
     ensures shorter { IfOk result (λ rest. length rest.now < length words.now) }
 {
     let (word, rest) = word_at(words)?;
@@ -116,7 +116,7 @@ fn add_rule<'a>(
 
 /// The rules that the words of a location end with.
 pub fn rules_at(alloc: Global, words: &[Name]) -> Result<Listed<RuleForm>, Stop>
-    ensures { Gives (λ rules. rules) result (with_rules (length words.now) [] words.now) }
+    ensures { GivesInLine (λ rules. rules) result (with_rules (length words.now) [] words.now) }
 {
     let mut rules = Listed::new(alloc);
     let mut rest = words;

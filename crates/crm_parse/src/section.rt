@@ -1,7 +1,7 @@
 //! The sections of a statement.
 
 ghost use Rattle.std.specs.Prelude.{◌≡◌, ◌==◌, ◌≤◌, length, take, drop, [], Some, false, true};
-ghost use Rattle.crm_parse.specs.Reading.{Gives};
+ghost use Rattle.faults.specs.Reading.{GivesInLine};
 ghost use Rattle.crm_parse.specs.Sections.{allowed, allows, cut, is_section, may_follow, no_sections, place_of, section_of, section_word, sections_at, sections_from, takes_name, with_part, with_words};
 
 use crate::fault::Stop;
@@ -166,7 +166,7 @@ fn add_words(
     section: SectionWord,
     words: &[Name],
 ) -> Result<(), Stop>
-    ensures { Gives (λ _. sections.new) result (with_words place sections.old section words.now) }
+    ensures { GivesInLine (λ _. sections.new) result (with_words place sections.old section words.now) }
 {
     match section {
         SectionWord::Attributes => add_section(alloc, place, &mut sections.attributes, words),
@@ -191,10 +191,10 @@ fn add_part(
     section: SectionWord,
     words: &[Name],
 ) -> Result<(), Stop>
-    ensures { Gives (λ _. sections.new) result (with_part owner sections.old (section, words.now)) }
+    ensures { GivesInLine (λ _. sections.new) result (with_part owner sections.old (section, words.now)) }
 {
     if !may_follow(owner, sections, section) {
-        return Err(Stop::Fault(ParseCause::ExtraWord));
+        return Err(Stop::Cause(ParseCause::ExtraWord));
     }
     add_words(alloc, place_of(owner, section), sections, section, words)
 }
@@ -206,13 +206,13 @@ fn add_sections(
     sections: &mut Sections,
     words: &[Name],
 ) -> Result<(), Stop>
-    ensures { Gives (λ _. sections.new) result (sections_from owner sections.old words.now) }
+    ensures { GivesInLine (λ _. sections.new) result (sections_from owner sections.old words.now) }
 {
     let mut rest = words;
     while let [word, after @ ..] = rest {
         let Some(section) = section_of(owner, word.bytes()) else {
             let place = place_of(owner, SectionWord::Params);
-            return Err(Stop::Fault(stray(place, word.bytes())));
+            return Err(Stop::Cause(stray(place, word.bytes())));
         };
         let (own, next) = after.split_at(count_own(owner, section, after));
         add_part(alloc, owner, sections, section, own)?;
@@ -236,7 +236,7 @@ fn no_sections(alloc: Global) -> Sections
 
 /// The sections that the words of a statement end with.
 pub fn sections_at(alloc: Global, owner: Owner, words: &[Name]) -> Result<Sections, Stop>
-    ensures { Gives (λ sections. sections) result (sections_at owner words.now) }
+    ensures { GivesInLine (λ sections. sections) result (sections_at owner words.now) }
 {
     let mut sections = no_sections(alloc);
     add_sections(alloc, owner, &mut sections, words)?;

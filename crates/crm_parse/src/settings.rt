@@ -1,7 +1,7 @@
 //! `property [SET-ID:] KV..`, and `rsc_defaults` and `op_defaults` alike
 
 ghost use Rattle.std.specs.Prelude.{◌≡◌};
-ghost use Rattle.crm_parse.specs.Reading.{Gives};
+ghost use Rattle.faults.specs.Reading.{GivesInLine};
 ghost use Rattle.crm_parse.specs.Settings.{begins_pair, is_pair, set_at, settings_at, settings_pairs, settings_place, with_setting, with_settings};
 
 use crate::drafts::Drafts;
@@ -33,12 +33,12 @@ fn add_setting(
     pairs: &mut KeyedPairs,
     word: &Name,
 ) -> Result<(), Stop>
-    ensures { Gives (λ _. pairs.new) result (with_setting what before.now pairs.old word.now) }
+    ensures { GivesInLine (λ _. pairs.new) result (with_setting what before.now pairs.old word.now) }
 {
     let place = settings_place(what);
     let pair = kv_of(alloc, place, word)?;
     if pairs.repeats(place, &pair.key) || before.set_before(what, &pair.key) {
-        return Err(Stop::Fault(ParseCause::RepeatedKey));
+        return Err(Stop::Cause(ParseCause::RepeatedKey));
     }
     pairs.push(alloc, pair)?;
     Ok(())
@@ -51,7 +51,7 @@ fn add_settings(
     pairs: &mut KeyedPairs,
     words: &[Name],
 ) -> Result<(), Stop>
-    ensures { Gives (λ _. pairs.new) result (with_settings what before.now pairs.old words.now) }
+    ensures { GivesInLine (λ _. pairs.new) result (with_settings what before.now pairs.old words.now) }
 {
     for word in words {
         add_setting(alloc, what, before, pairs, word)?;
@@ -66,10 +66,10 @@ fn settings_pairs(
     before: &Drafts,
     words: &[Name],
 ) -> Result<Listed<Kv>, Stop>
-    ensures { Gives (λ pairs. pairs) result (settings_pairs what before.now words.now) }
+    ensures { GivesInLine (λ pairs. pairs) result (settings_pairs what before.now words.now) }
 {
     if words.is_empty() {
-        return Err(Stop::Fault(ParseCause::MissingWord));
+        return Err(Stop::Cause(ParseCause::MissingWord));
     }
     let mut pairs = KeyedPairs::new(alloc);
     add_settings(alloc, what, before, &mut pairs, words)?;
@@ -96,7 +96,7 @@ fn begins_pair(words: &[Name]) -> bool
 
 /// The id of the set, where one is written. A pair is none, though it ends in a colon.
 fn set_at(alloc: Global, words: &[Name]) -> Result<(Option<Name>, &[Name]), Stop>
-    ensures { Gives (λ read. (read.0, read.1.now)) result (set_at words.now) }
+    ensures { GivesInLine (λ read. (read.0, read.1.now)) result (set_at words.now) }
 {
     if begins_pair(words) {
         Ok((None, words))
@@ -113,7 +113,7 @@ pub fn settings_at(
     before: &Drafts,
     words: &[Name],
 ) -> Result<Form, Stop>
-    ensures { Gives (λ form. form) result (settings_at what before.now words.now) }
+    ensures { GivesInLine (λ form. form) result (settings_at what before.now words.now) }
 {
     let (set, rest) = set_at(alloc, words)?;
     let pairs = settings_pairs(alloc, what, before, rest)?;

@@ -6,20 +6,21 @@ use Rattle.std.specs.Str.{is_utf8}
 use Rattle.std.proofs.lemmas.Bool.{not-false}
 use Rattle.crm_lex.specs.RawLines.{begins_comment, content, raw_lines}
 use Rattle.crm_lex.specs.LogicalLines.{all_byte_faults, byte_faults, content_length, fault_if, faults, is_control, joined_text, joint, line_text, with_joint}
-use Rattle.crm_lex.specs.Reading.{faults_from, first_fault, reads, row, rows_from, unless}
+use Rattle.crm_lex.specs.Reading.{faults_from, first_fault, reads, row, rows_from}
+use Rattle.faults.specs.Reading.{unless}
 use Rattle.crm_lex.specs.Words.{is_open, words_of}
 use Rattle.crm_lex.specs.declared.fault.LexCause.{LexCause}
 use Rattle.crm_lex.specs.declared.fault.LexCause.TheVariants.{LineTooLong, NotUtf8, ControlByte, OpenQuote}
-use Rattle.crm_lex.specs.declared.fault.LexFault.{LexFault}
+use Rattle.faults.specs.declared.fault.Fault.{Fault}
 use Rattle.crm_lex.specs.declared.line.Line.{Line}
 use Rattle.crm_parse.proofs.Clean.{AllClean, Clean, clean-append, clean-ascii, clean-before, clean-nil}
 use Rattle.crm_print.proofs.CleanWords.{clean-words}
 
-nothing-front : (xs ys : List LexFault) → xs ++ ys ≡ [] → xs ≡ []
+nothing-front : (xs ys : List (Fault LexCause)) → xs ++ ys ≡ [] → xs ≡ []
 nothing-front [] ys e = refl
 nothing-front (x ∷ xs) ys e = cc
 
-nothing-back : (xs ys : List LexFault) → xs ++ ys ≡ [] → ys ≡ []
+nothing-back : (xs ys : List (Fault LexCause)) → xs ++ ys ≡ [] → ys ≡ []
 nothing-back [] ys e = e
 nothing-back (x ∷ xs) ys e = cc
 
@@ -121,7 +122,7 @@ clean_rows n (lines ∷ more) e =
 pub clean-reads : (text : List ℕ) (lines : List Line) → reads text ≡ Ok lines → AllByRecursion CleanLine lines
 clean-reads text lines e = split (faults_from 1 (raw_lines text)) refl e
   where
-    split : (faults : List LexFault) → faults_from 1 (raw_lines text) ≡ faults → unless (first_fault faults) (rows_from 1 (raw_lines text)) ≡ Ok lines
+    split : (faults : List (Fault LexCause)) → faults_from 1 (raw_lines text) ≡ faults → unless (first_fault faults) (rows_from 1 (raw_lines text)) ≡ Ok lines
         → AllByRecursion CleanLine lines
     split [] none e = let same : rows_from 1 (raw_lines text) ≡ lines = cc in subst (AllByRecursion CleanLine) same (clean_rows 1 (raw_lines text) none)
     split (fault ∷ faults) none e = cc

@@ -4,9 +4,10 @@ use Rattle.std.proofs.lemmas.Str.{is_utf8-from_IsUtf8}
 use Rattle.std.specs.List.{flat_map, list_any, list_all, AllByRecursion}
 use Rattle.std.specs.Str.{is_utf8}
 use Rattle.std.proofs.lemmas.Bool.{and_parts, or_parts}
+use Rattle.faults.specs.Reading.{unless}
 use Rattle.crm_lex.specs.RawLines.{begins_comment, content, ends_in_backslash, joined, physical_lines, raw_lines}
 use Rattle.crm_lex.specs.LogicalLines.{faults, is_control, line_text, with_joint}
-use Rattle.crm_lex.specs.Reading.{faults_from, first_fault, reads, row, rows_from, unless}
+use Rattle.crm_lex.specs.Reading.{faults_from, first_fault, reads, row, rows_from}
 use Rattle.crm_lex.specs.Words.{is_open, words_of}
 use Rattle.crm_lex.specs.declared.line.Line.{Line}
 use Rattle.crm_print.specs.Quoting.{Item, item_word, line_of}

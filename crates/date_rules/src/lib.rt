@@ -19,7 +19,8 @@ mod digits;
 mod moment;
 
 pub use evaluation::holds;
+pub use faults::NoMemory;
 pub use moment::instant;
 pub use number::whole_number;
 pub use rule::{Compare, Kind, Pair, Rule, Test};
-pub use text::{NoMemory, Text};
+pub use text::Text;

@@ -2,18 +2,9 @@ ghost use Rattle.std.specs.Prelude.{◌≡◌, IfOk, nat_eq};
 ghost use Rattle.std.specs.Cmp.{partial_equiv_from_equiv};
 ghost use Rattle.std.specs.Cmp.Lexicographic.{nat_list_eq_equiv, pointwise};
 
-use std::alloc::{AllocError, Global};
+use faults::NoMemory;
+use std::alloc::Global;
 use std::marker::Model;
-
-/// Memory was refused.
-#[derive(Clone, Copy, Debug, PartialEq, Eq)]
-pub struct NoMemory;
-
-impl From<AllocError> for NoMemory {
-    fn from(_: AllocError) -> Self {
-        NoMemory
-    }
-}
 
 /// The name or the value of an attribute. Contracts see it as its bytes, which may be any.
 #[derive(Drop)]

@@ -4,8 +4,8 @@ use Rattle.std.specs.Cmp.Lexicographic.{pointwise}
 use Rattle.crm_lex.specs.declared.line.Line.{Line}
 use Rattle.crm_lex.specs.declared.fault.LexCause.{LexCause}
 use Rattle.crm_lex.specs.declared.fault.LexCause.TheVariants.{NotUtf8, ControlByte, OpenQuote, LineTooLong}
-use Rattle.crm_lex.specs.declared.fault.LexFault.{LexFault}
-use Rattle.crm_lex.specs.declared.fault.LexFault.TheVariants.{At, NoMemory}
+use Rattle.faults.specs.declared.fault.Fault.{Fault}
+use Rattle.faults.specs.declared.fault.Fault.TheVariants.{At, NoMemory}
 
 -- how many words some lines have together
 abbrev pub words_in : List Line → ℕ
@@ -18,7 +18,7 @@ name_of OpenQuote = codes "OpenQuote"
 name_of LineTooLong = codes "LineTooLong"
 
 -- what is printed of what was read of a text: the number of its lines and of all their words, or the line and cause of its first fault
-abbrev pub report : Result (List Line) LexFault → List ℕ
+abbrev pub report : Result (List Line) (Fault LexCause) → List ℕ
 report (Ok lines) = decimal (length lines) ++ (codes " lines, " ++ (decimal (words_in lines) ++ codes " words"))
 report (Err (At line cause)) = codes "line " ++ (decimal line ++ (codes ": " ++ name_of cause))
 report (Err NoMemory) = []

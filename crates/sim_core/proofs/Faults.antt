@@ -4,8 +4,9 @@ use Rattle.std.specs.List.{list_any}
 use Rattle.std.specs.Str.{is_utf8}
 use Rattle.crm_lex.specs.declared.fault.LexCause.{LexCause}
 use Rattle.crm_lex.specs.declared.fault.LexCause.TheVariants.{ControlByte, LineTooLong, NotUtf8, OpenQuote}
-use Rattle.crm_lex.specs.declared.fault.LexFault.{LexFault}
-use Rattle.crm_lex.specs.declared.fault.LexFault.TheVariants as lex
+use Rattle.faults.specs.declared.fault.Fault.{Fault}
+use Rattle.faults.specs.declared.fault.Fault.TheVariants as lex
+use Rattle.faults.specs.Reading as faulty
 use Rattle.crm_lex.specs.declared.line.Line.{Line}
 use Rattle.crm_lex.specs.LogicalLines.{all_byte_faults, byte_faults, content_length, fault_if, faults, is_control, line_text}
 use Rattle.crm_lex.specs.RawLines.{content, raw_lines}
@@ -82,13 +83,13 @@ module _ {S L F : Type 0} (as_input : F → InputFault) (step : S → L → Resu
       subst (λ (r : Result S F). Stands (faulting as_input r)) (sym (some s l ls)) (go_on (step s l) ls (each s l) (λ more. all_stand more ls))
 
 -- the words of a text
-abbrev pub FirstAt : Option LexFault → Type 0
+abbrev pub FirstAt : Option (Fault LexCause) → Type 0
 FirstAt None = Unit {0}
 FirstAt (Some (lex.At n why)) = Unit {0}
 FirstAt (Some lex.NoMemory) = ⊥
 
 -- the first of some faults and of more
-first_of : (some more : List LexFault) → FirstAt (lines.first_fault some) → FirstAt (lines.first_fault more) → FirstAt (lines.first_fault (some ++ more))
+first_of : (some more : List (Fault LexCause)) → FirstAt (lines.first_fault some) → FirstAt (lines.first_fault more) → FirstAt (lines.first_fault (some ++ more))
 first_of [] more one other = other
 first_of (fault ∷ some) more one other = one
 
@@ -121,7 +122,7 @@ first_text n [] = tt
 first_text n (group ∷ groups) =
     first_of (faults n group) (faults_from (n + length group) groups) (first_group n group) (first_text (n + length group) groups)
 
-unless_first : (fault : Option LexFault) (rows : List Line) → FirstAt fault → Stands (faulting lex_fault (lines.unless fault rows))
+unless_first : (fault : Option (Fault LexCause)) (rows : List Line) → FirstAt fault → Stands (faulting lex_fault (faulty.unless fault rows))
 unless_first None rows h = tt
 unless_first (Some (lex.At n why)) rows h = tt
 unless_first (Some lex.NoMemory) rows h = absurd h

@@ -1,11 +1,11 @@
 -- A text has no more lines with words than bytes.
 use Rattle.std.proofs.Common.{◌≡◌, ℕ, ◌+◌, ◌≤◌, Bool, true, false, if◌then◌else◌, Option, Some, None, List, [], ◌∷◌, length, Ok, subst, arith}
 use Rattle.std.proofs.lemmas.List.{length-append}
-use Rattle.crm_lex.specs.declared.fault.LexFault.{LexFault}
+use Rattle.faults.proofs.Steps.{unless-ok}
 use Rattle.crm_lex.specs.declared.line.Line.{Line}
 use Rattle.crm_lex.specs.LogicalLines.{line_text}
 use Rattle.crm_lex.specs.RawLines.{goes_on, joined, onto_group, physical_lines, raw_lines}
-use Rattle.crm_lex.specs.Reading.{faults_from, first_fault, reads, row, rows_from, unless}
+use Rattle.crm_lex.specs.Reading.{faults_from, first_fault, reads, row, rows_from}
 use Rattle.crm_lex.specs.Words.{words_of}
 use Rattle.crm_lex.proofs.PhysicalLines.{few_lines}
 
@@ -34,12 +34,8 @@ few_groups continues (line ∷ lines) = split (goes_on continues line) (few_grou
     split true one other = omega (arith, one, few_onto line (joined true lines))
     split false one other = omega (arith, other)
 
-given : (fault : Option LexFault) (rows lines : List Line) → unless fault rows ≡ Ok lines → rows ≡ lines
-given None rows lines e = cc
-given (Some fault) rows lines e = absurd cc
-
 pub few_rows_read : (text : List ℕ) (lines : List Line) → reads text ≡ Ok lines → length lines ≤ length text
 few_rows_read text lines e =
-    let rows = given (first_fault (faults_from 1 (raw_lines text))) (rows_from 1 (raw_lines text)) lines e in
+    let rows = (unless-ok (first_fault (faults_from 1 (raw_lines text))) (rows_from 1 (raw_lines text)) lines e).1 in
     let short : length (rows_from 1 (raw_lines text)) ≤ length text = omega (arith, few_rows 1 (raw_lines text), few_groups false (physical_lines text), few_lines text) in
     subst (λ (found : List Line). length found ≤ length text) rows short
