@@ -1,23 +1,11 @@
 -- One more key.
-use Rattle.std.proofs.Common.{◌≡◌, ℕ, Bool, true, false, ◌&&◌, ◌||◌, cond, List, [], ◌∷◌, ◌++◌, refl}
+use Rattle.std.proofs.Common.{◌≡◌, ℕ, Bool, true, false, ◌&&◌, ◌||◌, List, [], ◌∷◌, refl}
 use Rattle.std.specs.List.{list_any}
-use Rattle.std.proofs.lemmas.List.Folds.{list_any-append}
 use Rattle.crm_parse.specs.declared.pair.Kv.{Kv}
 use Rattle.crm_parse.specs.declared.place.Place.{Place}
 use Rattle.crm_parse.specs.Keys.{is_clone_meta, is_promoted_max}
 use Rattle.crm_parse.specs.Pairs.{is_same_key}
 use Rattle.crm_parse.specs.Texts.{is}
-
-or_more : (here before : Bool) → cond here true before ≡ (before || (here || false))
-or_more true true = refl
-or_more true false = refl
-or_more false true = refl
-or_more false false = refl
-
--- with one more element, a test passes somewhere where it passes there, and where it passed before
-pub any_more : {X : Type 0} (test : X → Bool) (xs : List X) (x : X) (before : Bool) → before ≡ list_any test xs
-    → cond (test x) true before ≡ list_any test (xs ++ x ∷ [])
-any_more test xs x before e = rw (list_any-append test xs (x ∷ []), e) (or_more (test x) (list_any test xs))
 
 or_last : (here before : Bool) → (before || here) ≡ (before || (here || false))
 or_last true before = refl

@@ -1,11 +1,11 @@
--- The keys that settings give, found by hashing.
+-- The keys that settings give.
 use Rattle.std.specs.Prelude.{◌≡◌, ◌||◌, ℕ, Bool, List}
 use Rattle.std.specs.List.{list_any}
 use Rattle.crm_parse.specs.declared.draft.DraftStatement.{DraftStatement}
 use Rattle.crm_parse.specs.declared.setting_keys.SettingKeys.{SettingKeys}
 use Rattle.crm_parse.specs.declared.words.SettingsWord.{SettingsWord}
 use Rattle.crm_parse.specs.declared.words.SettingsWord.TheVariants.{Property, RscDefaults, OpDefaults}
-use Rattle.crm_parse.specs.KeySets.{has}
+use Rattle.name_sets.specs.NameSets.{has}
 use Rattle.crm_parse.specs.Settings.{sets}
 
 -- the set of these settings has the key

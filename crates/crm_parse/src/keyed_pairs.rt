@@ -1,4 +1,4 @@
-//! Pairs whose keys are found by hashing.
+//! Pairs with the set of their keys.
 
 ghost use Rattle.std.specs.Prelude.{◌≡◌, ◌&&◌, ◌||◌, ◌++◌, ◌∷◌, [], OnOk};
 ghost use Rattle.std.specs.List.{list_any};
@@ -12,15 +12,15 @@ use crate::place::Place;
 use crate::reading::is;
 use crm_lex::{Name, NoMemory};
 use listed::Listed;
+use name_sets::NameSet;
 use std::alloc::Global;
-use std::collections::HashSet;
 use std::marker::Model;
 
 /// The pairs of a section in their order, with the set of their keys beside them. Contracts see the pairs.
 #[derive(Drop)]
 pub(crate) struct KeyedPairs {
-    pairs: Listed<Kv>,
-    keys: HashSet<Name>,
+    pairs: Vec<Kv>,
+    keys: NameSet,
     /// Whether a key says how many copies may be promoted.
     has_promoted_max: bool,
 }
@@ -34,9 +34,9 @@ impl Model for KeyedPairs {
 
     ghost Value = { List Kv };
 
-    ghost view = { λ keyed. keyed.pairs };
+    ghost view = { λ keyed. keyed.pairs.items };
 
-    ghost invariant = { λ keyed. HasKeysOf keyed.keys keyed.pairs × (keyed.has_promoted_max ≡ list_any (λ pair. is_promoted_max pair.key) keyed.pairs) };
+    ghost invariant = { λ keyed. HasKeysOf keyed.keys keyed.pairs.items × (keyed.has_promoted_max ≡ list_any (λ pair. is_promoted_max pair.key) keyed.pairs.items) };
 }
 
 /// Whether the key is another name of one that is there.
@@ -58,8 +58,8 @@ impl KeyedPairs {
         ensures { result ≡ [] }
     {
         KeyedPairs {
-            pairs: Listed::new(alloc),
-            keys: HashSet::new(alloc),
+            pairs: Vec::new(alloc),
+            keys: NameSet::new(alloc),
             has_promoted_max: false,
         }
     }
@@ -67,7 +67,7 @@ impl KeyedPairs {
     fn has_key(&self, place: Place, key: &Name) -> bool
         ensures { result ≡ list_any (λ pair. is_same_key place pair.key key.now) self.now }
     {
-        self.keys.contains(key) || is_other_name(place, key, self.has_promoted_max)
+        self.keys.has(key) || is_other_name(place, key, self.has_promoted_max)
     }
 
     /// Whether one of the pairs has the key, which may not be given again.
@@ -81,15 +81,12 @@ impl KeyedPairs {
     pub fn push(&mut self, alloc: Global, pair: Kv) -> Result<(), NoMemory>
         ensures { OnOk result (self.new ≡ self.old ++ pair ∷ []) }
     {
-        let key = Name::from_bytes(alloc, pair.key.bytes())?;
-        let has_promoted_max = or_promoted_max(self.has_promoted_max, key.bytes());
-        // Room for the key comes first, so that nothing fails between the changes.
-        self.keys.reserve(1).map_err(|_| NoMemory)?;
-        self.pairs.push(pair).map_err(|_| NoMemory)?;
+        let has_promoted_max = or_promoted_max(self.has_promoted_max, pair.key.bytes());
+        // Room for the pair comes first, so that nothing fails between the changes.
+        self.pairs.reserve(1)?;
+        self.keys.add(alloc, &pair.key)?;
+        self.pairs.push_reserved(pair);
         self.has_promoted_max = has_promoted_max;
-        let Ok(_) = self.keys.insert(key) else {
-            return Err(NoMemory);
-        };
         Ok(())
     }
 
@@ -97,13 +94,13 @@ impl KeyedPairs {
     pub fn is_empty(&self) -> bool
         ensures { result ≡ is_empty self.now }
     {
-        self.pairs.as_slice().is_empty()
+        self.pairs.is_empty()
     }
 
     /// The pairs.
     pub fn into_list(self) -> Listed<Kv>
         ensures { result ≡ self }
     {
-        self.pairs
+        Listed::from(self.pairs)
     }
 }

@@ -6,15 +6,15 @@ ghost use Rattle.crm_parse.specs.Texts.{is};
 
 use crm_lex::{Name, NoMemory};
 use listed::Listed;
+use name_sets::NameSet;
 use std::alloc::Global;
-use std::collections::HashSet;
 use std::marker::Model;
 
 /// Names of resources in the order of the text, with the set of them. Contracts see the names in order.
 #[derive(Drop)]
 pub(crate) struct Promotable {
     names: Listed<Name>,
-    known: HashSet<Name>,
+    known: NameSet,
 }
 
 impl Model for Promotable {
@@ -35,7 +35,7 @@ impl Promotable {
     {
         Promotable {
             names: Listed::new(alloc),
-            known: HashSet::new(alloc),
+            known: NameSet::new(alloc),
         }
     }
 
@@ -43,7 +43,7 @@ impl Promotable {
     pub fn has(&self, name: &Name) -> bool
         ensures { result ≡ list_any (λ each. is each name.now) self.now }
     {
-        self.known.contains(name)
+        self.known.has(name)
     }
 
     /// The names, and one more at the end.
@@ -54,8 +54,7 @@ impl Promotable {
             mut names,
             mut known,
         } = self;
-        let key = Name::from_bytes(alloc, name.bytes())?;
-        known.insert(key).map_err(|_| NoMemory)?;
+        known.add(alloc, name)?;
         names
             .push(Name::from_bytes(alloc, name.bytes())?)
             .map_err(|_| NoMemory)?;

@@ -4,31 +4,30 @@ ghost use Rattle.std.specs.Prelude.{◌≡◌, ◌||◌, ℕ, List, false, OnOk}
 ghost use Rattle.std.specs.List.{list_any};
 ghost use Rattle.crm_parse.specs.declared.words.SettingsWord.{SettingsWord as Kind};
 ghost use Rattle.crm_parse.specs.GivenKeys.{gives, AddsSettings};
-ghost use Rattle.crm_parse.specs.KeySets.{has};
+ghost use Rattle.name_sets.specs.NameSets.{has};
 ghost use Rattle.crm_parse.specs.Settings.{is_same_settings, sets};
 ghost use Rattle.crm_parse.specs.Texts.{is};
 
 use crate::draft::{Draft, DraftStatement};
 use crate::{Form, Kv, SettingsWord};
 use crm_lex::{Name, NoMemory};
+use name_sets::NameSet;
 use std::alloc::Global;
-use std::collections::HashSet;
 
 /// A set of keys for each kind of settings.
 #[derive(Drop)]
 pub(crate) struct SettingKeys {
-    property: HashSet<Name>,
-    rsc_defaults: HashSet<Name>,
-    op_defaults: HashSet<Name>,
+    property: NameSet,
+    rsc_defaults: NameSet,
+    op_defaults: NameSet,
 }
 
 /// Adds the keys of some pairs.
-fn add_keys(alloc: Global, keys: &mut HashSet<Name>, pairs: &[Kv]) -> Result<(), NoMemory>
+fn add_keys(alloc: Global, keys: &mut NameSet, pairs: &[Kv]) -> Result<(), NoMemory>
     ensures { OnOk result ((key : List ℕ) → has keys.new key ≡ (has keys.old key || list_any (λ pair. is pair.key key) pairs.now)) }
 {
     for pair in pairs {
-        let key = Name::from_bytes(alloc, pair.key.bytes())?;
-        keys.insert(key).map_err(|_| NoMemory)?;
+        keys.add(alloc, &pair.key)?;
     }
     Ok(())
 }
@@ -72,9 +71,9 @@ impl SettingKeys {
         ensures { (what : Kind) (key : List ℕ) → gives result what key ≡ false }
     {
         SettingKeys {
-            property: HashSet::new(alloc),
-            rsc_defaults: HashSet::new(alloc),
-            op_defaults: HashSet::new(alloc),
+            property: NameSet::new(alloc),
+            rsc_defaults: NameSet::new(alloc),
+            op_defaults: NameSet::new(alloc),
         }
     }
 
@@ -83,9 +82,9 @@ impl SettingKeys {
         ensures { result ≡ gives self.now what key.now }
     {
         match what {
-            SettingsWord::Property => self.property.contains(key),
-            SettingsWord::RscDefaults => self.rsc_defaults.contains(key),
-            SettingsWord::OpDefaults => self.op_defaults.contains(key),
+            SettingsWord::Property => self.property.has(key),
+            SettingsWord::RscDefaults => self.rsc_defaults.has(key),
+            SettingsWord::OpDefaults => self.op_defaults.has(key),
         }
     }
 
