@@ -9,7 +9,8 @@ use Rattle.cluster_io.specs.NextLine.{has_feed, first_of, first_line, content_wi
 use Rattle.cluster_io.specs.Scanning.{Joins, content_length, before_feed}
 use Rattle.cluster_io.specs.declared.line_step.LineStep.TheVariants.{Line, TooLong, TooLarge}
 use Rattle.cluster_io.proofs.Texts.{content_at_feed, content_begun, content_without_feed, length-before_feed}
-use Rattle.cluster_io.proofs.PhysicalLines.{concat-physical_lines, content_within-append, content_within_none, continues_after, first_line_after, first_alone, first_ends, fronts, begun, physical_at_feed, physical_open, lines_more, Begun}
+use Rattle.cluster_io.proofs.PhysicalLines.{content_within-append, content_within_none, continues_after, first_line_after, first_alone, first_ends, fronts, begun, physical_at_feed, physical_open, lines_more, Begun}
+use Rattle.crm_lex.proofs.PhysicalLines.{concat-lines}
 
 pub answer_some : (room longest : ℕ) (text : List ℕ) → 0 < length text
     → answer_of room longest text ≡ line_answer room longest (first_line text)
@@ -44,7 +45,7 @@ module _ (done text : List ℕ) (others : List (List ℕ)) (room longest : ℕ) 
 
   pub within_is : content_within room (first_line (done ++ text)) ≡ content_length (physical_lines done) + content_within (room - length done) others
   within_is =
-      let same = concat-physical_lines done in
+      let same = concat-lines done in
       ap (content_within room) first_is
       ∙ (content_within-append (physical_lines done) others room (rw same fits)
       ∙ ap (λ (t : List ℕ). content_length (physical_lines done) + content_within (room - length t) others) same)
@@ -53,7 +54,7 @@ module _ (done text : List ℕ) (others : List (List ℕ)) (room longest : ℕ) 
   length_is =
       ap (λ lines. length (concat lines)) first_is
       ∙ (ap length (concat-append (physical_lines done) others)
-      ∙ (ap (λ (t : List ℕ). length (t ++ concat others)) (concat-physical_lines done) ∙ length-append done (concat others)))
+      ∙ (ap (λ (t : List ℕ). length (t ++ concat others)) (concat-lines done) ∙ length-append done (concat others)))
 
 some_bytes : (done text rest : List ℕ) (b : ℕ) → 0 < length (done ++ (text ++ b ∷ rest))
 some_bytes done text rest b = omega (arith, length-append done (text ++ b ∷ rest), length-append text (b ∷ rest))

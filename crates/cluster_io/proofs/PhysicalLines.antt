@@ -8,18 +8,6 @@ use Rattle.cluster_io.specs.NextLine.{has_feed, first_of, first_line, content_wi
 use Rattle.cluster_io.specs.Scanning.{Joins, all_go_on, content_length}
 use Rattle.cluster_io.proofs.Texts.{length-content}
 
-concat-onto_first : (b : ℕ) (lines : List (List ℕ)) → concat (onto_first b lines) ≡ b ∷ concat lines
-concat-onto_first b [] = refl
-concat-onto_first b (line ∷ lines) = refl
-
--- the physical lines of a text are all of it
-pub concat-physical_lines : (text : List ℕ) → concat (physical_lines text) ≡ text
-concat-physical_lines [] = refl
-concat-physical_lines (b ∷ bs) =
-    cond_both (b == 10) ((b ∷ []) ∷ physical_lines bs) (onto_first b (physical_lines bs)) (λ lines. concat lines ≡ b ∷ bs)
-    (λ _. ap (λ (t : List ℕ). b ∷ t) (concat-physical_lines bs))
-    (λ _. concat-onto_first b (physical_lines bs) ∙ ap (λ (t : List ℕ). b ∷ t) (concat-physical_lines bs))
-
 -- bytes up to the first line feed are a physical line
 pub physical_at_feed : (text rest : List ℕ) → has_feed text ≡ false
     → physical_lines (text ++ 10 ∷ rest) ≡ (text ++ 10 ∷ []) ∷ physical_lines rest

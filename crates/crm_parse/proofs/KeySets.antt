@@ -7,10 +7,6 @@ use Rattle.crm_parse.specs.Keys.{is_clone_meta, is_promoted_max}
 use Rattle.crm_parse.specs.Pairs.{is_same_key}
 use Rattle.crm_parse.specs.Texts.{is}
 
-or_last : (here before : Bool) → (before || here) ≡ (before || (here || false))
-or_last true before = refl
-or_last false before = refl
-
 either_one : (a b p q r s : Bool) → ((p || a && q && b) || (r || a && b && s)) ≡ ((p || r) || a && b && (q || s))
 either_one false b true q r s = refl
 either_one false b false q true s = refl

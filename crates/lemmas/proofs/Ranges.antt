@@ -36,6 +36,15 @@ map-same f g (suc n) h =
     subst (λ k. map f (range_with_len 0 k) ≡ map g (range_with_len 0 k)) on
     (map-more f n ∙ (ap (λ xs. xs ++ f n ∷ []) before ∙ (ap (λ x. map g (range_with_len 0 n) ++ x ∷ []) (h n (omega arith)) ∙ sym (map-more g n))))
 
+pub flat_map-same : {X : Type 0} (f g : ℕ → List X) (n : ℕ) → ((i : ℕ) → i < n → f i ≡ g i)
+    → flat_map f (range_with_len 0 n) ≡ flat_map g (range_with_len 0 n)
+flat_map-same f g zero h = refl
+flat_map-same f g (suc n) h =
+    let on : n + 1 ≡ suc n = omega arith in
+    let before = flat_map-same f g n (λ i low. h i (omega (arith, low))) in
+    subst (λ k. flat_map f (range_with_len 0 k) ≡ flat_map g (range_with_len 0 k)) on
+    (flat_map-more f n ∙ (ap (λ xs. xs ++ f n) before ∙ (ap (λ x. flat_map g (range_with_len 0 n) ++ x) (h n (omega arith)) ∙ sym (flat_map-more g n))))
+
 pub filter-same : (p q : ℕ → Bool) (n : ℕ) → ((i : ℕ) → i < n → p i ≡ q i) → filter p (range_with_len 0 n) ≡ filter q (range_with_len 0 n)
 filter-same p q zero h = refl
 filter-same p q (suc n) h =

@@ -6,9 +6,9 @@ use Rattle.std.proofs.lemmas.Map.Keys.{IsDistinct-cons}
 use Rattle.std.proofs.lemmas.Map.Made.{is_member-filter}
 use Rattle.std.proofs.Math.Bool.{and-true}
 use Rattle.lemmas.proofs.Booleans.{sooner, later}
+use Rattle.lemmas.proofs.Counts.{count_none, count_agree}
 use Rattle.loops.specs.declared.edge.Edge.{Edge}
 use Rattle.loops.specs.Clearing.{Clears, has, edges_from}
-use Rattle.loops.proofs.Counts.{count_agree, count_none}
 use Rattle.loops.proofs.Members.{equal_laws, has_at, none_all}
 
 -- a range has the numbers from its first on

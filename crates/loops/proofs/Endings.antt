@@ -9,12 +9,13 @@ use Rattle.std.proofs.lemmas.Map.Keys.{IsDistinct-cons, IsDistinct-from_apart}
 use Rattle.std.proofs.lemmas.Map.Made.{length-le_from_is_member}
 use Rattle.std.proofs.lemmas.Map.Steps.{length-le_from_distinct_below}
 use Rattle.lemmas.proofs.Booleans.{sooner, later}
+use Rattle.lemmas.proofs.Counts.{count_some}
 use Rattle.loops.specs.declared.edge.Edge.{Edge}
 use Rattle.loops.specs.Loops.{Leads, direct, through, leads_within, EndWithin, HasLoop, HasNoLoop}
 use Rattle.loops.specs.Clearing.{Clears, has, edges_beyond}
 use Rattle.loops.specs.Longest.{AreCleared, IsBackward}
 use Rattle.loops.proofs.Beginnings.{of_range}
-use Rattle.loops.proofs.Counts.{count_some, beyond}
+use Rattle.loops.proofs.Counts.{beyond}
 use Rattle.loops.proofs.Leading.{leads-from_computed}
 use Rattle.loops.proofs.Members.{equal_laws, none_all}
 use Rattle.loops.proofs.Rising.{no_loop}

@@ -5,10 +5,10 @@ use Rattle.std.proofs.lemmas.Bool.{eqb-true, or_right}
 use Rattle.std.proofs.lemmas.List.FromFn.{length-range_with_len, get_or-range_with_len}
 use Rattle.std.proofs.lemmas.Map.Keys.{IsDistinct-cons}
 use Rattle.std.proofs.lemmas.Map.Steps.{length-le_from_distinct_below}
+use Rattle.lemmas.proofs.Counts.{count_one_more}
 use Rattle.loops.specs.declared.edge.Edge.{Edge}
 use Rattle.loops.specs.Loops.{EndWithin, HasNoLoop, Leads, direct, through, leads_within, RiseSomehow}
 use Rattle.loops.specs.Clearing.{has}
-use Rattle.loops.proofs.Counts.{count_one_more}
 use Rattle.loops.proofs.Endings.{begins_within}
 use Rattle.loops.proofs.Leading.{leads_directly, leads-from_computed, of_step}
 use Rattle.loops.proofs.Members.{none_all}

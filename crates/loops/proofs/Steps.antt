@@ -6,10 +6,11 @@ use Rattle.std.proofs.lemmas.List.Folds.{Any-from_list_any}
 use Rattle.std.proofs.lemmas.Map.Keys.{IsDistinct-push}
 use Rattle.std.proofs.Math.Bool.{or-false}
 use Rattle.lemmas.proofs.Booleans.{sooner, unless}
+use Rattle.lemmas.proofs.Counts.{count-is, count_none, count_some}
 use Rattle.loops.specs.declared.edge.Edge.{Edge}
 use Rattle.loops.specs.Loops.{EndWithin}
 use Rattle.loops.specs.Clearing.{Clears, LeadsBack, cleared_then, less_one, has, sources_of, edges_beyond}
-use Rattle.loops.proofs.Counts.{count-is, count_none, count_some, beyond, beyond_more}
+use Rattle.loops.proofs.Counts.{beyond, beyond_more}
 use Rattle.loops.proofs.Members.{equal_laws, has_push, has_front, not_before}
 
 -- A position is taken: the edges into it are to be counted off.

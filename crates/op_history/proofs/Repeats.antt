@@ -1,16 +1,10 @@
 -- One more line.
-use Rattle.std.proofs.Common.{◌≡◌, ℕ, Bool, true, false, ◌||◌, cond, List, [], ◌∷◌, ◌++◌, refl, ◌∙◌}
+use Rattle.std.proofs.Common.{◌≡◌, ℕ, Bool, true, false, ◌||◌, cond, refl, ◌∙◌}
 use Rattle.std.specs.HashSet.{contains}
-use Rattle.std.specs.List.{list_any}
-use Rattle.std.proofs.lemmas.List.Folds.{list_any-append}
 use Rattle.cluster_types.specs.declared.journal.Promotion.{Promotion}
 use Rattle.op_history.specs.declared.told.Told.TheVariants.{Now, Quorum, Node, Past, Promoting}
 use Rattle.op_history.specs.declared.told_keys.ToldKeys.{ToldKeys}
 use Rattle.op_history.specs.Repeats.{is_same, Adds}
-
-or_last : (here before : Bool) → (before || here) ≡ (before || (here || false))
-or_last true before = refl
-or_last false before = refl
 
 or_none : (before : Bool) → before ≡ (before || false)
 or_none true = refl

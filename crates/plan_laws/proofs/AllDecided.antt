@@ -1,5 +1,6 @@
 -- All decisions can be made: while one is ready, one is next, and each step leaves fewer that aren't made.
 use Rattle.std.proofs.Common.{arith, ◌≡◌, ◌≢◌, ◌<◌, ◌≤◌, not, ℕ, suc, zero, Bool, true, false, List, [], ◌∷◌, ◌++◌, ◌⊎◌, inl, inr, refl, sym, ◌∙◌, count_by, Contains}
+use Rattle.std.proofs.lemmas.Bool.{false_from_ne_true}
 use Rattle.lemmas.proofs.Counts.{count_one_more}
 use Rattle.rule_loops.proofs.Members.{head_or_rest, in_none}
 use Rattle.cluster_types.specs.declared.cluster.Cluster.{Cluster}
@@ -8,7 +9,7 @@ use Rattle.cluster_types.specs.declared.journal.Promotion.{Promotion}
 use Rattle.cluster_types.specs.declared.placement.Decision.{Decision}
 use Rattle.cluster_types.specs.Decisions.{Decides, IsMadeNext, all_made, decisions, is_made_before, is_ready, one_more}
 use Rattle.plan_laws.proofs.MadeBefore.{made_onward, made_some_way}
-use Rattle.plan_laws.proofs.MadeOnes.{never_both, none_is, now_made, still_made, there, was_made}
+use Rattle.plan_laws.proofs.MadeOnes.{never_both, now_made, still_made, there, was_made}
 use Rattle.plan_laws.proofs.OneOrder.{same_or_other}
 use Rattle.plan_laws.proofs.Ready.{ready_is_new, ready_is_one}
 
@@ -93,7 +94,7 @@ module _ (c : Cluster) (es : List Event) (ps : List Promotion) where
   none_ready : (made : List Decision) → ((d : Decision) → Contains (decisions c es) d → is_ready c es made d ≡ false) → AllDecisions made
   none_ready made none = record {
     all = made;
-    in_order = all_made made (λ d. none_is (is_ready c es made d) (λ ready.
+    in_order = all_made made (λ d. false_from_ne_true (is_ready c es made d) (λ ready.
         never_both (is_ready c es made d) ready (none d (there c es d (ready_is_one c es made d ready)))));
   }
 

@@ -2,7 +2,7 @@
 use Rattle.std.proofs.Common.{arith, ◌≡◌, ◌<◌, ◌&&◌, ◌||◌, not, ℕ, suc, zero, Bool, true, false, List, length, inl, inr, refl, Contains}
 use Rattle.std.proofs.lemmas.Bool.{and_from, or_right}
 use Rattle.lemmas.proofs.Booleans.{sooner}
-use Rattle.lemmas.proofs.Searches.{passes_by}
+use Rattle.lemmas.proofs.Searches.{passes_by, each_passes}
 use Rattle.rule_loops.proofs.Needs.{decision_there, is_itself}
 use Rattle.rule_loops.proofs.FromValid.{valid_join}
 use Rattle.cluster_types.specs.declared.cluster.Cluster.{Cluster}
@@ -21,7 +21,6 @@ use Rattle.cluster_types.specs.Valid.{IsValid}
 use Rattle.plan_laws.proofs.CameFrom.{BothHeld, Met, at_once, first_there, met, second_there}
 use Rattle.plan_laws.proofs.MadeOnes.{never_both}
 use Rattle.plan_laws.proofs.OneStep.{Fits, fits}
-use Rattle.plan_laws.proofs.Ready.{each_passes}
 
 -- what the test for one separation says
 not_with_primary : (s d h q k : Bool) → not s || not (d && h) && not (q && k) ≡ true → s ≡ true → d ≡ true → h ≡ true → ⊥

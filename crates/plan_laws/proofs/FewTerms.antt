@@ -5,7 +5,7 @@ use Rattle.std.specs.List.{AllByRecursion, IsDistinct, list_any}
 use Rattle.std.specs.Option.{option_map_or}
 use Rattle.std.specs.Ordering.{int_eq}
 use Rattle.std.proofs.lemmas.List.Sums.{count_by-le-length, sum_by-append, sum_by-cons}
-use Rattle.lemmas.proofs.Counts.{count-is}
+use Rattle.lemmas.proofs.Counts.{count-is, count-append}
 use Rattle.score.specs.Total.{infinity, minus_infinity}
 use Rattle.cluster_types.specs.declared.cluster.Cluster.{Cluster}
 use Rattle.cluster_types.specs.declared.journal.Event.{Event}
@@ -21,9 +21,6 @@ use Rattle.plan_laws.proofs.MadeOnes.{never_both}
 -- neither INFINITY nor -INFINITY
 abbrev pub is_finite_term : ℤ → Bool
 is_finite_term x = not (int_eq x minus_infinity) && not (int_eq x infinity)
-
-count_by-append : {X : Type 0} (p : X → Bool) (xs ys : List X) → count_by p (xs ++ ys) ≡ count_by p xs + count_by p ys
-count_by-append p xs ys = sum_by-append (λ x. cond (p x) 1 0) xs ys
 
 -- of the scores of those that pass a test no more are finite than pass another, where what passes the one passes the other
 module _ {X : Type 0} (score : X → ℤ) (p q : X → Bool) (more : (x : X) → p x ≡ true → q x ≡ true) where
@@ -107,7 +104,7 @@ module _ (c : Cluster) (es : List Event) (n : ℕ) where
 
   few_located : (r : ℕ) → count_by is_finite_term (location_scores c es is_started r n) ≤ located r + ruled r
   few_located r =
-      let a = count_by-append is_finite_term
+      let a = count-append is_finite_term
       (map (λ (l : Location). l.score) (filter (λ (l : Location). l.leaf == r && l.node == n && is_started l.role) c.locations))
       (map (λ (l : RuleLocation). l.score) (filter (λ (l : RuleLocation). l.leaf == r && is_started l.role && rule_holds c es l n) c.rule_locations)) in
       let one = few_scores (λ (l : Location). l.score) (λ l. l.leaf == r && l.node == n && is_started l.role) (λ l. l.leaf == r)
@@ -133,9 +130,9 @@ module _ (c : Cluster) (es : List Event) (n : ℕ) where
 
   few_own : (r : ℕ) → count_by is_finite_term (own_terms c es r n) ≤ located r + ruled r + 1
   few_own r =
-      let one = count_by-append is_finite_term (location_scores c es is_started r n ++ stickiness_scores c es r n ++ ban_scores c es r n) (opt_in_scores c es r n) in
-      let two = count_by-append is_finite_term (location_scores c es is_started r n ++ stickiness_scores c es r n) (ban_scores c es r n) in
-      let three = count_by-append is_finite_term (location_scores c es is_started r n) (stickiness_scores c es r n) in
+      let one = count-append is_finite_term (location_scores c es is_started r n ++ stickiness_scores c es r n ++ ban_scores c es r n) (opt_in_scores c es r n) in
+      let two = count-append is_finite_term (location_scores c es is_started r n ++ stickiness_scores c es r n) (ban_scores c es r n) in
+      let three = count-append is_finite_term (location_scores c es is_started r n) (stickiness_scores c es r n) in
       let a = few_located r in
       let b = one_sticks r in
       let d = no_finite (is_banned c r n es) in
@@ -145,7 +142,7 @@ module _ (c : Cluster) (es : List Event) (n : ℕ) where
   few_by_leaf : (rs : List ℕ) → count_by is_finite_term (terms_of c es rs n) ≤ sum_by located rs + sum_by ruled rs + length rs
   few_by_leaf [] = omega arith
   few_by_leaf (r ∷ rs) =
-      let a = count_by-append is_finite_term (own_terms c es r n) (terms_of c es rs n) in
+      let a = count-append is_finite_term (own_terms c es r n) (terms_of c es rs n) in
       let own = few_own r in
       let rest = few_by_leaf rs in
       let s = sum_by-cons located r rs in

@@ -3,6 +3,7 @@ use Rattle.std.proofs.Common.{arith, ◌≡◌, ◌<◌, ◌≤◌, ◌+◌, ◌
 use Rattle.std.specs.List.{flat_map, list_any, range_with_len}
 use Rattle.std.proofs.lemmas.List.Folds.{Any-from_list_any}
 use Rattle.std.proofs.lemmas.List.Sums.{count_by-le-length}
+use Rattle.std.proofs.lemmas.Bool.{false_from_ne_true}
 use Rattle.lemmas.proofs.Booleans.{sooner, later}
 use Rattle.lemmas.proofs.Counts.{count_one_more}
 use Rattle.lemmas.proofs.Searches.{passes_by}
@@ -19,7 +20,7 @@ use Rattle.cluster_types.specs.Held.{Held, IsClosed, by_colocation, by_order, by
 use Rattle.cluster_types.specs.Tables.{Targets, holds_role}
 use Rattle.plan_laws.specs.HeldMarks.{Marks, is_held_by}
 use Rattle.plan_laws.proofs.HeldRounds.{rules_give, stable_is_closed}
-use Rattle.plan_laws.proofs.MadeOnes.{never_both, none_is}
+use Rattle.plan_laws.proofs.MadeOnes.{never_both}
 use Rattle.plan_laws.proofs.OneStep.{below}
 use Rattle.plan_laws.proofs.StayHeld.{has, holds_is, nowhere_has_none}
 use Rattle.plan_laws.proofs.TablesWithin.{StaysWithin, is_cell}
@@ -96,7 +97,7 @@ module _ (c : Cluster) (es : List Event) (table : Targets) (inside : StaysWithin
     closed = stable_is_closed c es table marks (λ d n h.
         let w : IsWithin d n = held_within d n (rules_give c es table marks sound d n h) in
         not_new (is_held_by c es table marks d n) (marks d n) h
-        (none_is (is_held_by c es table marks d n && not (marks d n)) (λ new.
+        (false_from_ne_true (is_held_by c es table marks d n && not (marks d n)) (λ new.
         never_both (list_any (is_new marks) spots) (passes_by (is_new marks) spots (record { decision = d; node = n }) (in_spots d n w.leaf w.node) new) none)));
   }
 

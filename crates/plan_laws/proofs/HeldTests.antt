@@ -3,6 +3,7 @@ use Rattle.std.proofs.Common.{arith, ◌≡◌, ◌<◌, ◌&&◌, ◌||◌, not
 use Rattle.std.specs.List.{list_all, range_with_len}
 use Rattle.std.proofs.lemmas.Bool.{and_from}
 use Rattle.lemmas.proofs.Booleans.{implied, later, sooner}
+use Rattle.lemmas.proofs.Searches.{each_passes}
 use Rattle.rule_loops.proofs.Members.{at_head, in_range, in_rest, of_range}
 use Rattle.cluster_types.specs.declared.cluster.Cluster.{Cluster}
 use Rattle.cluster_types.specs.declared.journal.Event.{Event}
@@ -22,7 +23,6 @@ use Rattle.cluster_types.specs.Precedence.{is_up}
 use Rattle.cluster_types.specs.Tables.{Targets, holds_role, is_in_scope}
 use Rattle.plan_laws.specs.HeldMarks.{Marks, is_mandatory_order, lacks_first, lacks_primary, may_colocation, may_order, role_by}
 use Rattle.plan_laws.proofs.OneStep.{below}
-use Rattle.plan_laws.proofs.Ready.{each_passes}
 
 pub all_pass : {X : Type 0} (p : X → Bool) (xs : List X) → ((x : X) → Contains xs x → p x ≡ true) → list_all p xs ≡ true
 all_pass p [] each = refl

@@ -1,6 +1,6 @@
 -- What the targets in the end keep of a table.
 use Rattle.std.proofs.Common.{arith, ◌≡◌, ◌&&◌, ℕ, ◌<◌, Bool, true, false, List, length, refl, Contains, Any, slice_index_or}
-use Rattle.std.proofs.lemmas.Bool.{and_from, and_parts}
+use Rattle.std.proofs.lemmas.Bool.{and_from, and_parts, false_from_ne_true}
 use Rattle.std.specs.List.{range_with_len, list_any}
 use Rattle.std.proofs.lemmas.List.Folds.{Any-from_list_any}
 use Rattle.std.proofs.lemmas.List.FromFn.{length-range_with_len, get_or-range_with_len}
@@ -26,10 +26,6 @@ somewhere_too : (t : Target) → is_promoted_target t ≡ true → is_somewhere 
 somewhere_too target.Nowhere h = h
 somewhere_too target.Started h = refl
 somewhere_too target.Promoted h = refl
-
-none : (b : Bool) → (b ≡ true → ⊥) → b ≡ false
-none true f = absurd (f refl)
-none false f = refl
 
 module _ (c : Cluster) (es : List Event) (table : Targets) where
   module _ (r n : ℕ) where
@@ -131,7 +127,7 @@ module _ (c : Cluster) (es : List Event) (table : Targets) where
 
       missing : list_any there all ≡ false → (m : ℕ) → m < length c.nodes → is_in_scope o n m ≡ true → holds_role targets o.first first m ≡ false
       missing e m lt scope =
-          none (holds_role targets o.first first m) (λ held.
+          false_from_ne_true (holds_role targets o.first first m) (λ held.
           let long = length-range_with_len 0 (length c.nodes) in
           let is : slice_index_or all m m ≡ m = let f = get_or-range_with_len 0 (length c.nodes) m m lt in omega (arith, f) in
           let some = passes_by there all m (m, omega arith, is) (and_from (is_in_scope o n m) (holds_role targets o.first first m) scope held) in cc)

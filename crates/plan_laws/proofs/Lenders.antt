@@ -4,7 +4,7 @@ use Rattle.std.specs.List.{AllByRecursion, IsDistinct, range_with_len}
 use Rattle.std.proofs.lemmas.List.{append-nil, append_assoc}
 use Rattle.std.proofs.lemmas.List.FromFn.{length-range_with_len}
 use Rattle.std.proofs.lemmas.List.Sums.{count_by-le-length, length-filter}
-use Rattle.std.proofs.lemmas.Bool.{and_from}
+use Rattle.std.proofs.lemmas.Bool.{and_from, false_from_ne_true}
 use Rattle.lemmas.proofs.Booleans.{later, sooner}
 use Rattle.loops.proofs.Booleans.{onward}
 use Rattle.lemmas.proofs.Searches.{passes_by}
@@ -21,7 +21,7 @@ use Rattle.cluster_types.specs.Decisions.{all_decisions, decision_of, is_same_de
 use Rattle.cluster_types.specs.Terms.{is_started, is_tie, is_tied, leaves_a_node, lenders, with_lender, with_lenders}
 use Rattle.cluster_types.specs.Valid.{IsValid}
 use Rattle.plan_laws.proofs.BoundedChains.{FirstWay, first_way, with_more}
-use Rattle.plan_laws.proofs.MadeOnes.{never_both, none_is}
+use Rattle.plan_laws.proofs.MadeOnes.{never_both}
 
 -- a number is apart from each of a list that is among others from which it is apart
 among_all : (s : ℕ) (more ss : List ℕ) → ((x : ℕ) → Contains more x → Contains ss x) → AllByRecursion (λ y. (s == y) ≡ false) ss → AllByRecursion (λ y. (s == y) ≡ false) more
@@ -161,6 +161,6 @@ lenders_join c es valid r =
     not_itself : (xs : List ℕ) → ((s : ℕ) → Contains xs s → Contains (lenders c r) s) → AllByRecursion (λ y. (r == y) ≡ false) xs
     not_itself [] sub = tt
     not_itself (x ∷ xs) sub = (
-      none_is (r == x) (λ e. let same : r ≡ x = grind arith in never_own_lender c valid r (sub r (at_head x xs r (sym same)))),
+      false_from_ne_true (r == x) (λ e. let same : r ≡ x = grind arith in never_own_lender c valid r (sub r (at_head x xs r (sym same)))),
       not_itself xs (λ s h. sub s (in_rest x xs s h)),
     )

@@ -2,6 +2,7 @@
 use Rattle.std.proofs.Common.{◌≡◌, ◌<◌, ℕ, true, false, List, [], ◌∷◌, ◌++◌, sym, ◌∙◌, ap, subst, length, Contains, Any}
 use Rattle.std.proofs.lemmas.List.Folds.{Any-from_list_any}
 use Rattle.std.proofs.lemmas.List.Sums.{fold-append}
+use Rattle.std.proofs.lemmas.Bool.{false_from_ne_true}
 use Rattle.rule_loops.proofs.Needs.{same_decision}
 use Rattle.cluster_types.specs.declared.cluster.Cluster.{Cluster}
 use Rattle.cluster_types.specs.declared.journal.Event.{Event}
@@ -17,7 +18,7 @@ use Rattle.cluster_types.specs.Tables.{Targets, holds_role}
 use Rattle.cluster_types.specs.Valid.{IsValid}
 use Rattle.plan_laws.specs.Placing.{table_after}
 use Rattle.plan_laws.proofs.Following.{Follow, follow_later, follow_of, was_next}
-use Rattle.plan_laws.proofs.MadeOnes.{is_placed, is_promoted, never_both, none_is, was_made}
+use Rattle.plan_laws.proofs.MadeOnes.{is_placed, is_promoted, never_both, was_made}
 use Rattle.plan_laws.proofs.Ready.{needed_is_made, place_is_made, ready_is_new}
 use Rattle.plan_laws.proofs.SomeReady.{each_is_made}
 use Rattle.plan_laws.proofs.StayHeld.{stay_held, untouched_first, untouched_later}
@@ -31,7 +32,7 @@ among ds d h = at (Any-from_list_any (is_same_decision d) ds h)
     at (k, x, lt, there, same) = let e : d ≡ x = same_decision d x same in rw e (k, lt, there)
 
 pub unmade : (made : List Decision) (d : Decision) → (Contains made d → ⊥) → was_made made d ≡ false
-unmade made d h = none_is (was_made made d) (λ t. h (among made d t))
+unmade made d h = false_from_ne_true (was_made made d) (λ t. h (among made d t))
 
 module _ (c : Cluster) (es : List Event) (ps : List Promotion) (ds : List Decision) (in_order : Decides c es ps [] ds) where
   module _ (before later : List Decision) (d : Decision) (split : ds ≡ before ++ d ∷ later) where

@@ -1,6 +1,6 @@
 -- Which decisions there are, and which of them were made.
 use Rattle.std.proofs.Common.{arith, ◌≡◌, ◌≢◌, ◌<◌, ◌||◌, ℕ, Bool, true, false, if◌then◌else◌, List, [], ◌∷◌, ◌++◌, ◌⊎◌, inl, inr, refl, sym, ◌∙◌, length, Contains, Any}
-use Rattle.std.proofs.lemmas.Bool.{or_left}
+use Rattle.std.proofs.lemmas.Bool.{or_left, false_from_ne_true}
 use Rattle.std.specs.List.{list_any, range_with_len}
 use Rattle.std.proofs.lemmas.List.Folds.{Any-from_list_any, list_any-append}
 use Rattle.lemmas.proofs.Searches.{passes_by}
@@ -28,10 +28,6 @@ second_of_two : (a b : Bool) → b ≡ true → a || (b || false) ≡ true
 second_of_two true b h = refl
 second_of_two false b h = rw h refl
 
-pub none_is : (b : Bool) → (b ≡ true → ⊥) → b ≡ false
-none_is true f = absurd (f refl)
-none_is false f = refl
-
 pub never_both : (b : Bool) → b ≡ true → b ≡ false → ⊥
 never_both true h g = cc
 never_both false h g = cc
@@ -52,13 +48,13 @@ module _ (made : List Decision) (d e : Decision) where
       ]
 
   pub unmade_still : was_made made d ≡ false → d ≢ e → was_made (made ++ e ∷ []) d ≡ false
-  unmade_still h other = none_is (was_made (made ++ e ∷ []) d) (λ t. elim (made_then t) [
+  unmade_still h other = false_from_ne_true (was_made (made ++ e ∷ []) d) (λ t. elim (made_then t) [
     | inl before ↦ never_both (was_made made d) before h
     | inr same ↦ absurd (other same)
   ])
 
   pub unmade_before : was_made (made ++ e ∷ []) d ≡ false → was_made made d ≡ false
-  unmade_before h = none_is (was_made made d) (λ t. never_both (was_made (made ++ e ∷ []) d) (still_made t) h)
+  unmade_before h = false_from_ne_true (was_made made d) (λ t. never_both (was_made (made ++ e ∷ []) d) (still_made t) h)
 
 module _ (c : Cluster) (es : List Event) where
   -- what is known of a decision that there is

@@ -4,7 +4,8 @@ use Rattle.std.proofs.lemmas.List.Sums.{fold-append}
 use Rattle.std.specs.List.{range_with_len}
 use Rattle.std.proofs.lemmas.Option.{slice_get_within}
 use Rattle.std.specs.Prelude.{slice_get}
-use Rattle.std.proofs.lemmas.Bool.{and_from}
+use Rattle.std.proofs.lemmas.Bool.{and_from, false_from_ne_true}
+use Rattle.lemmas.proofs.Searches.{each_passes}
 use Rattle.rule_loops.proofs.Members.{in_range}
 use Rattle.rule_loops.proofs.Needs.{same_decision}
 use Rattle.cluster_types.specs.declared.cluster.Cluster.{Cluster}
@@ -28,8 +29,7 @@ use Rattle.cluster_types.specs.Valid.{IsValid}
 use Rattle.plan_laws.specs.Placing.{NoneFits}
 use Rattle.plan_laws.proofs.FewChosen.{FirstCandidate, first_candidate}
 use Rattle.plan_laws.proofs.Following.{Follow, First, first_of_rest, follow_later, follow_of}
-use Rattle.plan_laws.proofs.MadeOnes.{is_placed, none_is, was_made}
-use Rattle.plan_laws.proofs.Ready.{each_passes}
+use Rattle.plan_laws.proofs.MadeOnes.{is_placed, was_made}
 use Rattle.plan_laws.proofs.SomeReady.{each_is_made}
 use Rattle.plan_laws.proofs.StayHeld.{IsUntouched, stay_held, untouched_first, untouched_later, untouched_next}
 
@@ -154,7 +154,7 @@ module _ (c : Cluster) (es : List Event) (ps : List Promotion) where
 
     none_there : (n : ℕ) → n < length c.nodes → is_candidate c es ps at (Place r) n ≡ false
     none_there n within =
-        none_is (is_candidate c es ps at (Place r) n)
+        false_from_ne_true (is_candidate c es ps at (Place r) n)
         (λ fits. never_chosen (some_chosen at (Place r) n within fits (some_cap c es table r m)))
 
     pub no_node_fits : NoneFits c es ps ds r

@@ -3,6 +3,7 @@ use Rattle.std.proofs.Common.{◌≡◌, ℕ, Bool, true, false, if◌then◌els
 use Rattle.std.specs.Prelude.{ℤ, pos, int_le}
 use Rattle.std.specs.Ordering.{int_eq}
 use Rattle.std.proofs.lemmas.List.Elements.{Contains-append_left, Contains-append_right}
+use Rattle.std.proofs.lemmas.Bool.{false_from_ne_true}
 use Rattle.score.specs.Total.{has, minus_infinity, total_of}
 use Rattle.lemmas.proofs.Searches.{passes_by}
 use Rattle.rule_loops.proofs.Members.{at_head, in_flat}
@@ -14,7 +15,7 @@ use Rattle.cluster_types.specs.Choice.{preference, total_on}
 use Rattle.cluster_types.specs.Failures.{is_banned}
 use Rattle.cluster_types.specs.Tables.{Targets}
 use Rattle.cluster_types.specs.Terms.{ban_scores, base, is_started, leaves_a_node, lenders, location_scores, opt_in_scores, own_terms, stickiness_scores, terms_of, with_lender, with_lenders}
-use Rattle.plan_laws.proofs.MadeOnes.{never_both, none_is}
+use Rattle.plan_laws.proofs.MadeOnes.{never_both}
 
 total_of_minus : (terms : List ℤ) → has minus_infinity terms ≡ true → total_of terms ≡ minus_infinity
 total_of_minus terms h = rw h refl
@@ -64,6 +65,6 @@ module _ (c : Cluster) (es : List Event) where
 
   pub not_banned : (ps : List Promotion) (table : Targets) (r n : ℕ) → int_le (pos 0) (total_on c es ps table (Place r) n) ≡ true → is_banned c r n es ≡ false
   not_banned ps table r n h =
-      none_is (is_banned c r n es) (λ banned.
+      false_from_ne_true (is_banned c r n es) (λ banned.
       never_both (int_le (pos 0) (total_on c es ps table (Place r) n)) h
       (negative (total_on c es ps table (Place r) n) (banned_total ps table r n banned)))

@@ -3,10 +3,10 @@
 use Rattle.std.proofs.Common.{arith, ◌≡◌, ◌<◌, ◌≤◌, ◌&&◌, nat_lt, ℕ, Bool, true, false, refl, count_by, slice_index_or}
 use Rattle.std.specs.List.{range_with_len}
 use Rattle.std.proofs.lemmas.List.FromFn.{length-range_with_len, get_or-range_with_len}
-use Rattle.std.proofs.lemmas.Bool.{and_from}
+use Rattle.std.proofs.lemmas.Bool.{and_from, false_from_ne_true}
 use Rattle.lemmas.proofs.Booleans.{sooner, later}
 use Rattle.lemmas.proofs.Counts.{count_more, count_one_more}
-use Rattle.plan_laws.proofs.MadeOnes.{never_both, none_is}
+use Rattle.plan_laws.proofs.MadeOnes.{never_both}
 
 module _ (n : ℕ) (among : ℕ → Bool) (before : ℕ → ℕ → Bool) (one_way : (x y : ℕ) → before x y ≡ true → before y x ≡ true → ⊥)
     (picked : ℕ → Bool) (fits : (x : ℕ) → picked x ≡ true → among x ≡ true)
@@ -32,7 +32,7 @@ module _ (n : ℕ) (among : ℕ → Bool) (before : ℕ → ℕ → Bool) (one_w
   few_ahead x low p =
       let long = length-range_with_len 0 n in
       count_one_more (λ y. among y && before y x) picked (λ y h. picked_too x y p h) (range_with_len 0 n) x x (omega arith) (at_place x low)
-      (none_is (among x && before x x) (λ h. let b = later (among x) (before x x) h in one_way x x b b)) p
+      (false_from_ne_true (among x && before x x) (λ h. let b = later (among x) (before x x) h in one_way x x b b)) p
 
   -- and all that was goes before what wasn't
   many_ahead : (x : ℕ) → among x ≡ true → picked x ≡ false → how_many ≤ ahead x
@@ -60,6 +60,6 @@ module _ (n : ℕ) (among : ℕ → Bool) (before : ℕ → ℕ → Bool) (one_w
       go false e true f =
           let many = many_ahead x f e in
           let full = enough x low f e in
-          let no : nat_lt (ahead x) cap ≡ false = none_is (nat_lt (ahead x) cap) (λ h. let l = less h in absurd (let g : ⊥ = omega arith in g)) in
+          let no : nat_lt (ahead x) cap ≡ false = false_from_ne_true (nat_lt (ahead x) cap) (λ h. let l = less h in absurd (let g : ⊥ = omega arith in g)) in
           rw (e, f, no) refl
       go false e false f = rw (e, f) refl

@@ -1,7 +1,9 @@
 -- What holds where a decision can be made.
 use Rattle.std.proofs.Common.{◌≡◌, ◌||◌, not, ℕ, Bool, true, false, List, [], ◌∷◌, inl, inr, refl, Contains}
 use Rattle.std.specs.List.{list_all}
+use Rattle.std.proofs.lemmas.Bool.{not-true}
 use Rattle.lemmas.proofs.Booleans.{implied, later, sooner}
+use Rattle.lemmas.proofs.Searches.{each_passes}
 use Rattle.rule_loops.proofs.Members.{head_or_rest, in_none}
 use Rattle.rule_loops.proofs.Needs.{is_itself}
 use Rattle.cluster_types.specs.declared.cluster.Cluster.{Cluster}
@@ -11,24 +13,12 @@ use Rattle.cluster_types.specs.declared.placement.Decision.TheVariants.{Place, P
 use Rattle.cluster_types.specs.Decisions.{decisions, is_decision, is_ready, needs}
 use Rattle.plan_laws.proofs.MadeOnes.{Known, known, is_placed, there, was_made}
 
-opposite : (b : Bool) → not b ≡ true → b ≡ false
-opposite true h = cc
-opposite false h = refl
-
--- what holds of each element of a list
-pub each_passes : {X : Type 0} (p : X → Bool) (xs : List X) (x : X) → list_all p xs ≡ true → Contains xs x → p x ≡ true
-each_passes p [] x h k = absurd (in_none [] x refl k)
-each_passes p (y ∷ ys) x h k = elim (head_or_rest y ys x k) [
-  | inl same ↦ rw (← same) (sooner (p y) _ h)
-  | inr rest ↦ each_passes p ys x (later (p y) _ h) rest
-]
-
 module _ (c : Cluster) (es : List Event) (made : List Decision) (d : Decision) (ready : is_ready c es made d ≡ true) where
   pub ready_is_one : is_decision c es d ≡ true
   ready_is_one = sooner _ _ (sooner _ _ ready)
 
   pub ready_is_new : was_made made d ≡ false
-  ready_is_new = opposite (was_made made d) (later _ _ (sooner _ _ ready))
+  ready_is_new = not-true (was_made made d) (later _ _ (sooner _ _ ready))
 
   pub needed_is_made : (e : Decision) → is_decision c es e ≡ true → needs c d e ≡ true → was_made made e ≡ true
   needed_is_made e is wants =

@@ -2,6 +2,7 @@
 use Rattle.std.proofs.Common.{arith, ◌≡◌, ◌<◌, ◌==◌, not, ℕ, Bool, true, false, if◌then◌else◌, Option, Some, None, List, inl, inr, refl, length, Any}
 use Rattle.std.specs.List.{list_any, range_with_len}
 use Rattle.std.proofs.lemmas.List.Folds.{Any-from_list_any}
+use Rattle.std.proofs.lemmas.Bool.{false_from_ne_true}
 use Rattle.lemmas.proofs.Searches.{passes_by}
 use Rattle.rule_loops.proofs.Members.{in_range, of_range}
 use Rattle.cluster_types.specs.declared.cluster.Cluster.{Cluster}
@@ -23,7 +24,7 @@ use Rattle.cluster_types.specs.Tables.{Targets, is_somewhere}
 use Rattle.plan_laws.specs.HeldMarks.{Marks}
 use Rattle.plan_laws.proofs.Firsts.{LeastOf, least_of}
 use Rattle.plan_laws.proofs.HeldReason.{FirstRule, first_rule}
-use Rattle.plan_laws.proofs.MadeOnes.{never_both, none_is}
+use Rattle.plan_laws.proofs.MadeOnes.{never_both}
 use Rattle.plan_laws.proofs.SomeReady.{Fails, some_fails}
 
 is_nowhere : (t : Target) → is_somewhere t ≡ false → t ≡ target.Nowhere
@@ -124,7 +125,7 @@ module _ (c : Cluster) (es : List Event) (table targets : Targets) (are : AreTar
 
   none_there : list_any (λ n. is_somewhere (targets r n)) (range_with_len 0 (length c.nodes)) ≡ false → (n : ℕ) → n < length c.nodes → is_somewhere (targets r n) ≡ false
   none_there e n within =
-      none_is (is_somewhere (targets r n)) (λ there.
+      false_from_ne_true (is_somewhere (targets r n)) (λ there.
       never_both (list_any (λ n. is_somewhere (targets r n)) (range_with_len 0 (length c.nodes)))
       (passes_by (λ n. is_somewhere (targets r n)) (range_with_len 0 (length c.nodes)) n (in_range 0 (length c.nodes) n (omega arith) (omega arith)) there) e)
 

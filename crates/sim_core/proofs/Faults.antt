@@ -2,6 +2,8 @@
 use Rattle.std.proofs.Common.{◌≡◌, ◌≢◌, ℕ, ◌+◌, nat_lt, not, Bool, true, false, if◌then◌else◌, Option, Some, None, List, [], ◌∷◌, ◌++◌, length, codes, Result, Ok, Err, ◌⊎◌, inl, inr, refl, sym, subst}
 use Rattle.std.specs.List.{list_any}
 use Rattle.std.specs.Str.{is_utf8}
+use Rattle.lemmas.proofs.Results.{by_result}
+use Rattle.lemmas.proofs.Booleans.{by_test}
 use Rattle.crm_lex.specs.declared.fault.LexCause.{LexCause}
 use Rattle.crm_lex.specs.declared.fault.LexCause.TheVariants.{ControlByte, LineTooLong, NotUtf8, OpenQuote}
 use Rattle.faults.specs.declared.fault.Fault.{Fault}
@@ -58,14 +60,6 @@ stands_bind : {A B : Type 0} (read : Result A InputFault) (next : A → Result B
 stands_bind (Ok x) next h all = all x
 stands_bind (Err (At line why)) next h all = tt
 stands_bind (Err NoMemory) next h all = absurd h
-
-by_result : {X C : Type 0} (P : Result X C → Type 0) → ((x : X) → P (Ok x)) → ((why : C) → P (Err why)) → (read : Result X C) → P read
-by_result P ok err (Ok x) = ok x
-by_result P ok err (Err why) = err why
-
-by_test : (P : Bool → Type 0) (test : Bool) → P true → P false → P test
-by_test P true one other = one
-by_test P false one other = other
 
 -- lines that are read one after the other stand where each step does
 module _ {S L F : Type 0} (as_input : F → InputFault) (step : S → L → Result S F) (run : S → List L → Result S F)

@@ -1,13 +1,12 @@
 -- What is known of cells and nodes is what the events tell, where what is kept is what they tell.
-use Rattle.std.proofs.Common.{◌≡◌, ℕ, suc, zero, ◌+◌, ◌*◌, ◌^◌, ◌<◌, ◌≤◌, nat_lt, nat_le, Bool, true, false, not, ◌&&◌, ◌||◌, if◌then◌else◌, is_some, is_none, Option, Some, None, unwrap_or, List, [], ◌∷◌, ◌++◌, length, map, slice_get, sum_by, refl, sym, ap, subst, ◌∙◌, arith}
+use Rattle.std.proofs.Common.{◌≡◌, ℕ, suc, zero, ◌+◌, ◌*◌, ◌^◌, ◌<◌, ◌≤◌, nat_lt, nat_le, Bool, true, false, not, ◌&&◌, if◌then◌else◌, is_some, is_none, Option, Some, None, unwrap_or, List, [], ◌∷◌, length, map, slice_get, sum_by, refl, ap, ◌∙◌, arith}
 use Rattle.std.proofs.lemmas.Bool.Decides.{nat_tests}
 use Rattle.std.proofs.lemmas.List.FromFn.{get_or-map-range_with_len, length-map-range_with_len}
 use Rattle.std.proofs.lemmas.Option.{slice_get-get_or, slice_get_within, get_or_from_slice_get}
 use Rattle.std.specs.List.{list_all, list_any, last_or, enumerate_from, flat_map, range_with_len}
 use Rattle.std.specs.Option.{option_map, option_map_or}
 use Rattle.std.proofs.lemmas.Bool.{and_parts}
-use Rattle.lemmas.proofs.Searches.{any-more}
-use Rattle.lemmas.proofs.Ranges.{map-more, range-more, flat_map-more}
+use Rattle.lemmas.proofs.Ranges.{map-same, any-same, flat_map-same}
 use Rattle.cluster_types.specs.declared.cluster.Cluster.{Cluster}
 use Rattle.cluster_types.specs.declared.journal.Event.{Event}
 use Rattle.cluster_types.specs.declared.leaf.Leaf.{Leaf}
@@ -28,26 +27,6 @@ use Rattle.state_unpack.specs.Facts.{facts_of, no_facts}
 use Rattle.state_unpack.specs.Kept.{Keeps, cell_in}
 use Rattle.state_unpack.specs.Signs.{as_sign, Shows, state_by_sign}
 use Rattle.state_unpack.specs.CellsKept.{bits_of, counted_of, state_from, cell_from, somewhere, is_fatal, is_stopping, is_blamed, node_from, is_online_in, row_from, has_few_monitors}
-
--- lists of numbers up to a number, by what is the same for each of them
-pub map-same : {X : Type 0} (f g : ℕ → X) (n : ℕ) → ((i : ℕ) → i < n → f i ≡ g i) → map f (range_with_len 0 n) ≡ map g (range_with_len 0 n)
-map-same f g zero h = refl
-map-same f g (suc n) h =
-    let on : suc n ≡ n + 1 = omega arith in
-    subst (λ k. map f (range_with_len 0 k) ≡ map g (range_with_len 0 k)) (sym on) (map-more f n ∙ (ap (λ xs. xs ++ f n ∷ []) (map-same f g n (λ i low. h i (omega (arith, low)))) ∙ (ap (λ x. map g (range_with_len 0 n) ++ x ∷ []) (h n (omega arith)) ∙ sym (map-more g n))))
-
-pub flat_map-same : {X : Type 0} (f g : ℕ → List X) (n : ℕ) → ((i : ℕ) → i < n → f i ≡ g i) → flat_map f (range_with_len 0 n) ≡ flat_map g (range_with_len 0 n)
-flat_map-same f g zero h = refl
-flat_map-same f g (suc n) h =
-    let on : suc n ≡ n + 1 = omega arith in
-    subst (λ k. flat_map f (range_with_len 0 k) ≡ flat_map g (range_with_len 0 k)) (sym on) (flat_map-more f n ∙ (ap (λ xs. xs ++ f n) (flat_map-same f g n (λ i low. h i (omega (arith, low)))) ∙ (ap (λ x. flat_map g (range_with_len 0 n) ++ x) (h n (omega arith)) ∙ sym (flat_map-more g n))))
-
-pub any-same : (p q : ℕ → Bool) (n : ℕ) → ((i : ℕ) → i < n → p i ≡ q i) → list_any p (range_with_len 0 n) ≡ list_any q (range_with_len 0 n)
-any-same p q zero h = refl
-any-same p q (suc n) h =
-    let on : suc n ≡ n + 1 = omega arith in
-    let more = λ (t : ℕ → Bool). ap (list_any t) (range-more n) ∙ any-more t (range_with_len 0 n) n in
-    subst (λ k. list_any p (range_with_len 0 k) ≡ list_any q (range_with_len 0 k)) (sym on) (more p ∙ (ap (λ b. b || p n) (any-same p q n (λ i low. h i (omega (arith, low)))) ∙ (ap (λ b. list_any q (range_with_len 0 n) || b) (h n (omega arith)) ∙ sym (more q))))
 
 -- the failures that count, by those in force
 module _ (c : Cluster) (r n : ℕ) (es : List Event) where
