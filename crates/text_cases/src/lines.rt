@@ -360,15 +360,9 @@ fn faults_print_their_line(rt: HostRuntime) -> Result<(), Fail> {
         line: 7,
         cause: LexCause::OpenQuote,
     };
-    assert_eq!(rt;
-        format!(in alloc; "{fault}")?.as_str(),
-        "line 7: a quote is open at its end"
-    );
+    assert_eq!(rt; format!(in alloc; "{fault}")?.as_str(), "line 7: OpenQuote");
     let fault = LexFault::NoMemory;
-    assert_eq!(rt;
-        format!(in alloc; "{fault}")?.as_str(),
-        "memory was refused"
-    );
+    assert_eq!(rt; format!(in alloc; "{fault}")?.as_str(), "out of memory");
     Ok(())
 }
 
