@@ -2,12 +2,9 @@
 -- sections, the lines of the status and of the results, and the order of the steps are rules of this project).
 use Rattle.std.specs.Prelude.{◌≡◌, ℕ, ◌+◌, List, slice_range, take, Result, Ok, Err}
 use Rattle.crm_lex.specs.declared.line.Line.{Line}
-use Rattle.faults.specs.declared.fault.Fault.{Fault}
 use Rattle.crm_lex.specs.declared.fault.LexCause.{LexCause}
-use Rattle.faults.specs.declared.fault.Fault.TheVariants as lex
 use Rattle.crm_lex.specs.Reading.{reads}
 use Rattle.crm_parse.specs.declared.fault.ParseCause.{ParseCause}
-use Rattle.faults.specs.declared.fault.Fault.TheVariants as parse
 use Rattle.crm_parse.specs.declared.marks.SectionMarks.{SectionMarks}
 use Rattle.crm_parse.specs.declared.statement.Crm.{Crm}
 use Rattle.crm_parse.specs.Marks.{sections_of}
@@ -26,6 +23,8 @@ use Rattle.op_history.specs.declared.fault.StatusFault.{StatusFault}
 use Rattle.op_history.specs.declared.fault.StatusFault.TheVariants as status
 use Rattle.op_history.specs.FirstJournal.{status_of}
 use Rattle.op_history.specs.Results.{results_of}
+use Rattle.faults.specs.declared.fault.Fault as reader
+use Rattle.faults.specs.declared.fault.Fault.TheVariants as found
 use Rattle.sim_core.specs.declared.cause.InputCause.{InputCause}
 use Rattle.sim_core.specs.declared.cause.InputCause.TheVariants as cause
 use Rattle.sim_core.specs.declared.fault.InputFault.{InputFault}
@@ -35,13 +34,13 @@ use Rattle.sim_core.specs.declared.reading.Head.{Head}
 use Rattle.sim_core.specs.declared.reading.Input.{Input}
 
 -- the fault of a step as one of the input
-abbrev pub lex_fault : Fault LexCause → InputFault
-lex_fault (lex.At line why) = At line (cause.Words why)
-lex_fault lex.NoMemory = NoMemory
+abbrev pub lex_fault : reader.Fault LexCause → InputFault
+lex_fault (found.At line why) = At line (cause.Words why)
+lex_fault found.NoMemory = NoMemory
 
-abbrev pub parse_fault : Fault ParseCause → InputFault
-parse_fault (parse.At line why) = At line (cause.Statements why)
-parse_fault parse.NoMemory = NoMemory
+abbrev pub parse_fault : reader.Fault ParseCause → InputFault
+parse_fault (found.At line why) = At line (cause.Statements why)
+parse_fault found.NoMemory = NoMemory
 
 abbrev pub expand_fault : ExpandFault → InputFault
 expand_fault (expand.At line why) = At line (cause.Leaves why)
@@ -83,7 +82,7 @@ following_lines marks lines = slice_range lines (marks.results_at + 1) marks.end
 
 -- what is read of a text before its names are resolved: its lines, the places of its sections, its statements and their leaves, or the fault of the
 -- first of these steps that fails
-unfoldable pub configuration_of : (List Line → Result SectionMarks (Fault ParseCause)) → List ℕ → Result Configuration InputFault
+unfoldable pub configuration_of : (List Line → Result SectionMarks (reader.Fault ParseCause)) → List ℕ → Result Configuration InputFault
 configuration_of sections text = do
   lines ← faulting lex_fault (reads text)
   marks ← faulting parse_fault (sections lines)
