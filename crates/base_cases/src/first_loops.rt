@@ -1,6 +1,6 @@
 //! What `loops` finds: the first edge that closes a loop.
 
-use loops::{Edge, end_within, first_loop, is_loop_free};
+use loops::{Edge, end_within, first_loop, is_loop_free, longest_ways};
 use std::alloc::Global;
 use std::test::Fail;
 
@@ -71,5 +71,30 @@ fn ends_are_positions(rt: HostRuntime) -> Result<(), Fail> {
     assert!(rt; end_within(2, edges.as_slice()));
     assert!(rt; !end_within(1, edges.as_slice()));
     assert!(rt; end_within(0, &[]));
+    Ok(())
+}
+
+/// The longest ways of edges that have no loop.
+fn ways(alloc: Global, positions: u32, pairs: &[(u32, u32)]) -> Result<Vec<u32>, Fail> {
+    let edges = edges(alloc, pairs)?;
+    let edges = edges.as_slice();
+    if positions > 1_000_000_000 {
+        return Err(Fail::from("too many positions"));
+    }
+    if !end_within(positions, edges) {
+        return Err(Fail::from("an end is no position"));
+    }
+    let free = is_loop_free(alloc, positions, edges)?;
+    if !free {
+        return Err(Fail::from("the edges have a loop"));
+    }
+    Ok(longest_ways(alloc, positions, edges)?)
+}
+
+#[test]
+fn longest_ways_to_each_position(rt: HostRuntime) -> Result<(), Fail> {
+    let alloc = rt.alloc();
+    let found = ways(alloc, 4, &[(0, 1), (1, 2), (0, 2), (3, 2)])?;
+    assert_eq!(rt; found.as_slice(), [0, 1, 2, 0].as_slice());
     Ok(())
 }

@@ -3,7 +3,7 @@
 ghost use Rattle.std.specs.Prelude.{◌≡◌};
 
 use cluster_types::{
-    Action, Cell, CellState, Edge, Edges, Graph, NodeState, States, Table, Target,
+    Action, Cell, CellState, Edge, Edges, Graph, NodeState, Role, States, Table, Target,
 };
 use listed::Listed;
 use std::alloc::{AllocError, Global};
@@ -65,5 +65,34 @@ fn an_action_comes_before_others_through_gates_alone(rt: HostRuntime) -> Result<
     ] {
         assert_eq!(rt; graph.is_before(x, y), before);
     }
+    Ok(())
+}
+
+#[test]
+fn the_numbers_before_one(rt: HostRuntime) -> Result<(), Fail> {
+    let graph = joined(rt.alloc())?;
+    assert_eq!(rt; graph.count(), 4);
+    let Ok(before_the_third) = graph.befores(rt.alloc(), 3) else {
+        return Err(Fail::from("no memory"));
+    };
+    assert_eq!(rt; before_the_third.as_slice(), [1, 2].as_slice());
+    let Ok(before_the_last) = graph.befores(rt.alloc(), 4) else {
+        return Err(Fail::from("no memory"));
+    };
+    assert_eq!(rt; before_the_last.as_slice(), [3].as_slice());
+    Ok(())
+}
+
+#[test]
+fn a_leaf_holds_the_roles_of_its_target(rt: HostRuntime) -> Result<(), Fail> {
+    let Ok(table) = Table::nowhere(rt.alloc(), 2, 3) else {
+        return Err(Fail::from("no memory"));
+    };
+    assert_eq!(rt; table.targets.len(), 6);
+    let table = table.with_target(1, 2, Target::Promoted);
+    assert_eq!(rt; table.holds_role(1, Role::Started, 2), true);
+    assert_eq!(rt; table.holds_role(1, Role::Promoted, 2), true);
+    assert_eq!(rt; table.holds_role(0, Role::Started, 2), false);
+    assert_eq!(rt; table.target(7, 9), Target::Nowhere);
     Ok(())
 }
