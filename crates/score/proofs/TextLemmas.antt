@@ -10,7 +10,7 @@ use Rattle.std.proofs.lemmas.Int.{ints}
 use Rattle.std.proofs.lemmas.Str.Parse.{digit_at, without_leading_plus_none}
 use Rattle.score.specs.ScoreText.{read_points, read_score, score_text}
 use Rattle.score.specs.Total.{infinity}
-use Rattle.score.proofs.NumberLemmas.{digits, is_number-true}
+use Rattle.digits.proofs.Numbers.{digits, is_number-true}
 
 -- digits have no minus
 digits_minus : (word : List ℕ) → IsNumeral 10 word → starts_with_minus word ≡ false
@@ -26,7 +26,7 @@ digits_sign word h =
 read_points-decimal : (n : ℕ) → n ≤ 1000000 → read_points (decimal n) ≡ Some (pos n)
 read_points-decimal n h =
     let numeral = decimal_is_IsNumeral n (omega arith) in
-    rw (is_number-true (decimal n) (digits.from (decimal n) numeral.0.1) numeral.0.0 (omega (arith, numeral.1)), numeral.1) (ap Some (grind (arith, nat_tests)))
+    rw (is_number-true 4294967295 (decimal n) (digits.from (decimal n) numeral.0.1) numeral.0.0 (omega (arith, numeral.1)), numeral.1) (ap Some (grind (arith, nat_tests)))
 
 -- and so is one with a minus
 read_score-decimal : (points : ℤ) → neg_ℤ infinity ≤ℤ points → points ≤ℤ infinity → read_score (signed_decimal points) ≡ Some points

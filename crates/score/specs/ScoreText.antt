@@ -1,27 +1,22 @@
 -- The text of a score, as it is read and as it is written.
-use Rattle.std.specs.Prelude.{ℕ, ℤ, pos, neg_ℤ, Bool, not, ◌==◌, ◌&&◌, ◌||◌, nat_le, if◌then◌else◌, Option, Some, None, option_map, List, length, codes}
+use Rattle.std.specs.Prelude.{ℕ, ℤ, pos, neg_ℤ, Bool, ◌||◌, if◌then◌else◌, Option, Some, None, option_map, List, codes}
 use Rattle.std.specs.Fmt.{signed_decimal}
-use Rattle.std.specs.Char.{is_ascii_digit}
-use Rattle.std.specs.List.{list_all}
 use Rattle.std.specs.Int.{int_min}
 use Rattle.std.specs.Ordering.{int_eq}
 use Rattle.std.specs.Str.{str_eq_ignore_ascii_case}
 use Rattle.std.specs.Str.Parse.{digits_value, starts_with_minus, without_leading_sign}
+use Rattle.digits.specs.Digits.{is_number}
 use Rattle.score.specs.Total.{infinity}
-
--- some digits and nothing else, of a value up to 4,294,967,295 (rule of this project)
-abbrev pub is_number : List ℕ → Bool
-is_number word = not (length word == 0) && list_all is_ascii_digit word && nat_le (digits_value 10 word) 4294967295
 
 -- `inf` (crmsh manual, location) or `infinity` (Pacemaker Explained, "Scores"); that letters may be of either case is a rule of this project
 abbrev pub is_infinity : List ℕ → Bool
 is_infinity word = str_eq_ignore_ascii_case word (codes "inf") || str_eq_ignore_ascii_case word (codes "infinity")
 
 -- the points that a word without a sign stands for: the number that it writes, up to the points of INFINITY, or those points where it
--- names INFINITY; none where it does neither
+-- names INFINITY; none where it does neither (that a number is at most 4,294,967,295 is a rule of this project)
 abbrev pub read_points : List ℕ → Option ℤ
 read_points word =
-    if is_number word then Some (int_min infinity (pos (digits_value 10 word))) else (if is_infinity word then Some infinity else None)
+    if is_number 4294967295 word then Some (int_min infinity (pos (digits_value 10 word))) else (if is_infinity word then Some infinity else None)
 
 -- the points that a text is read as: those of the word after its sign, if it has one, and as many below zero if the sign is a minus
 abbrev pub read_score : List ℕ → Option ℤ

@@ -1,31 +1,10 @@
-ghost use Rattle.std.specs.Prelude.{◌≡◌, ◌≤◌, Option, Some, None, if◌then◌else◌, length, take, drop, option_map, neg_ℤ};
-ghost use Rattle.std.specs.Char.{is_ascii_digit};
-ghost use Rattle.std.specs.List.{list_all};
-ghost use Rattle.std.specs.Str.Parse.{digits_value, starts_with_minus, without_leading_sign};
-ghost use Rattle.score.specs.ScoreText.{is_infinity, is_number, read_points, read_score, score_text};
+ghost use Rattle.std.specs.Prelude.{◌≡◌, ◌≤◌, length, take, drop, neg_ℤ};
+ghost use Rattle.std.specs.Str.Parse.{starts_with_minus, without_leading_sign};
+ghost use Rattle.score.specs.ScoreText.{is_infinity, read_points, read_score, score_text};
 
 use crate::points::Score;
+use digits::number_up_to;
 use itoa::Buffer;
-use std::str;
-
-fn are_digits(word: &[u8]) -> bool
-    ensures { result ≡ list_all is_ascii_digit word.now }
-{
-    word.iter().all(|byte| byte.is_ascii_digit())
-}
-
-/// The number that digits write. None at other bytes, at none at all, and at a number above 4,294,967,295.
-fn number(word: &[u8]) -> Option<u32>
-    ensures { result ≡ (if is_number word.now then Some (digits_value 10 word.now) else None) }
-{
-    if !are_digits(word) {
-        return None;
-    }
-    match str::from_utf8(word) {
-        Ok(digits) => digits.parse().ok(),
-        Err(_) => None,
-    }
-}
 
 fn is_infinity(word: &[u8]) -> bool
     ensures { result ≡ is_infinity word.now }
@@ -37,7 +16,7 @@ fn is_infinity(word: &[u8]) -> bool
 fn score_of_word(word: &[u8]) -> Option<Score>
     ensures { result ≡ read_points word.now }
 {
-    match number(word) {
+    match number_up_to(4_294_967_295, word) {
         Some(number) => Some(Score {
             points: number.min(1_000_000) as i32,
         }),

@@ -1,8 +1,8 @@
 use Rattle.std.proofs.Common.{◌≡◌, true, ◌∙◌}
 use Rattle.std.specs.Char.{is_ascii_digit}
 use Rattle.std.specs.List.{list_all}
-use Rattle.score.proofs.NumberLemmas.{digits_utf8, number_parsed}
-use Rattle.score.proofs.text.number.Goals as goal
+use Rattle.digits.proofs.Numbers.{digits_utf8, number_parsed}
+use Rattle.digits.proofs.number.number_of.Goals as goal
 
 pub returns-in-Ok : goal.returns-in-Ok
 returns-in-Ok c =
