@@ -7,7 +7,8 @@ use Rattle.std.specs.Option.{ok_or}
 use Rattle.std.specs.Str.Parse.{digits_value, starts_with_minus, without_leading_sign}
 use Rattle.std.proofs.lemmas.Bool.Decides.{nat_tests}
 use Rattle.std.proofs.lemmas.Int.{ints}
-use Rattle.score.specs.ScoreText.{is_infinity, is_number, read_points, read_score, score_text}
+use Rattle.digits.specs.Digits.{is_number}
+use Rattle.score.specs.ScoreText.{is_infinity, read_points, read_score, score_text}
 use Rattle.score.specs.Total.{infinity, IsScore}
 use Rattle.score.proofs.TextLemmas.{read_score-score_text}
 use Rattle.crm_parse.specs.declared.fault.ParseCause.TheVariants.{BadScore}
@@ -29,7 +30,7 @@ chosen false false n points e = cc
 
 -- the points that are read lie within those of INFINITY
 points_within : (word : List ℕ) (points : ℤ) → read_points word ≡ Some points → Within points
-points_within word points e = chosen (is_number word) (is_infinity word) (digits_value 10 word) points e
+points_within word points e = chosen (is_number 4294967295 word) (is_infinity word) (digits_value 10 word) points e
 
 signed : (minus : Bool) (read : Option ℤ) (points : ℤ) → ((p : ℤ) → read ≡ Some p → Within p)
     → option_map (λ p. if minus then neg_ℤ p else p) read ≡ Some points → IsScore points
@@ -59,7 +60,7 @@ pub score_of-again : (points : ℤ) → IsRead points → score_of (score_word p
 unfolding score_of
 score_of-again points h = rw (before-again (codes ":") (score_text points), h) refl
 
-number-none : (b : ℕ) (text : List ℕ) → is_ascii_digit b ≡ false → is_number (b ∷ text) ≡ false
+number-none : (b : ℕ) (text : List ℕ) → is_ascii_digit b ≡ false → is_number 4294967295 (b ∷ text) ≡ false
 number-none b text h = grind (arith, nat_tests)
 
 -- a text that begins with a byte that is no digit and no sign, and isn't INFINITY, is no score

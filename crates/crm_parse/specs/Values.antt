@@ -3,8 +3,7 @@ use Rattle.std.specs.Prelude.{ℕ, ◌*◌, ◌||◌, nat_le, Bool, true, false,
 use Rattle.std.specs.Char.{is_ascii_digit}
 use Rattle.std.specs.List.{prefix_len}
 use Rattle.std.specs.Str.{str_eq_ignore_ascii_case}
-use Rattle.std.specs.Str.Parse.{digits_value}
-use Rattle.score.specs.ScoreText.{is_number}
+use Rattle.digits.specs.Digits.{number_up_to}
 use Rattle.crm_parse.specs.declared.words.ActionWord.{ActionWord}
 use Rattle.crm_parse.specs.declared.words.ActionWord.TheVariants as action
 use Rattle.crm_parse.specs.declared.words.KindWord.{KindWord}
@@ -57,19 +56,9 @@ action_of word =
     else if is word (codes "demote") then Some action.Demote
     else None
 
--- the number that digits write, of a value up to 4,294,967,295 (rule of this project)
-abbrev pub number_of : List ℕ → Option ℕ
-number_of word = if is_number word then Some (digits_value 10 word) else None
-
--- a number that is at most as great
-abbrev pub up_to : ℕ → ℕ → Option ℕ
-up_to most n = if nat_le n most then Some n else None
-
 -- a count: digits of a value up to 1,000,000 (rule of this project)
 abbrev pub count_of : List ℕ → Option ℕ
-count_of word = do
-  n ← number_of word
-  up_to 1000000 n
+count_of word = number_up_to 1000000 word
 
 -- the milliseconds of a unit of time; without a unit a time is in seconds (crmsh manual, time values; Pacemaker Explained, time units)
 abbrev pub unit_of : List ℕ → Option ℕ
@@ -84,9 +73,13 @@ unit_of word =
 abbrev pub digits_before : List ℕ → ℕ
 digits_before word = prefix_len is_ascii_digit word
 
+-- a number that is at most as great
+abbrev pub up_to : ℕ → ℕ → Option ℕ
+up_to most n = if nat_le n most then Some n else None
+
 -- a time in milliseconds: digits and a unit, up to 4,294,967,295 ms (that bound is a rule of this project)
 abbrev pub time_of : List ℕ → Option ℕ
 time_of word = do
-  number ← number_of (take (digits_before word) word)
+  number ← number_up_to 4294967295 (take (digits_before word) word)
   unit ← unit_of (drop (digits_before word) word)
   up_to 4294967295 (number * unit)

@@ -1,13 +1,14 @@
 //! What the words of a value stand for.
 
-ghost use Rattle.std.specs.Prelude.{◌≡◌, ◌≤◌, option_map, IfSome};
-ghost use Rattle.std.specs.Char.{is_ascii_digit};
-ghost use Rattle.std.specs.List.{list_all};
-ghost use Rattle.crm_parse.specs.Texts.{is};
-ghost use Rattle.crm_parse.specs.Values.{action_of, bool_of, count_of, digits_before, kind_of, number_of, role_of, says, time_of, unit_of};
+ghost use Rattle.std.specs.Prelude.{◌≡◌};
+ghost use Rattle.crm_parse.specs.Values.{action_of, bool_of, count_of, digits_before, kind_of, role_of, says, time_of, unit_of};
 
 use crate::{ActionWord, KindWord};
-use std::str;
+use digits::number_up_to;
+
+const MOST_OF_A_COUNT: u64 = 1_000_000;
+
+const MOST_MILLISECONDS: u64 = 4_294_967_295;
 
 /// A role as values name it (Pacemaker Explained, "Promotable clones" and target-role).
 #[derive(Clone, Copy, Debug, PartialEq, Eq)]
@@ -98,35 +99,12 @@ pub fn action_of(word: &[u8]) -> Option<ActionWord>
     }
 }
 
-fn are_digits(word: &[u8]) -> bool
-    ensures { result ≡ list_all is_ascii_digit word.now }
-{
-    word.iter().all(|byte| byte.is_ascii_digit())
-}
-
-/// The number that digits write. None at other bytes, at none at all, and at a number above 4,294,967,295.
-fn number_of(word: &[u8]) -> Option<u32>
-    ensures { result ≡ number_of word.now }
-{
-    if !are_digits(word) {
-        return None;
-    }
-    match str::from_utf8(word) {
-        Ok(digits) => digits.parse().ok(),
-        Err(_) => None,
-    }
-}
-
 /// A count: digits of a value up to 1,000,000, and leading zeros are allowed. None at any other word.
 pub fn count_of(word: &[u8]) -> Option<u32>
     ensures { result ≡ count_of word.now }
 {
-    let number = number_of(word)?;
-    if number <= 1_000_000 {
-        Some(number)
-    } else {
-        None
-    }
+    let count = number_up_to(MOST_OF_A_COUNT, word)?;
+    Some(count as u32)
 }
 
 /// The milliseconds of a unit of time: those of a second without a unit.
@@ -158,7 +136,7 @@ pub fn time_of(word: &[u8]) -> Option<u32>
     ensures { result ≡ time_of word.now }
 {
     let (digits, unit) = word.split_at_checked(digits_before(word))?;
-    let number = number_of(digits)?;
+    let number = number_up_to(MOST_MILLISECONDS, digits)?;
     let unit = unit_of(unit)?;
-    number.checked_mul(unit)
+    (number as u32).checked_mul(unit)
 }
