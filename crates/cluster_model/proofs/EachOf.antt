@@ -2,12 +2,12 @@
 use Rattle.std.proofs.Common.{arith, ◌≡◌, ◌<◌, ℕ, zero, suc, List, [], ◌∷◌, ◌++◌, length, map, slice_index_or, refl, subst, inl, inr, ◌⊎◌, AllPairs, Contains}
 use Rattle.std.specs.List.{AllByRecursion, flat_map}
 use Rattle.std.proofs.lemmas.List.{length-map}
-use Rattle.rule_loops.proofs.Members.{head_or_rest, in_none}
+use Rattle.lemmas.proofs.Members.{head_or_rest, in_none}
 
 module _ {X : Type 0} (P : X → Type 0) where
   -- what holds of each holds of one that stands in the list
   pub of_all : (xs : List X) (x : X) → AllByRecursion P xs → Contains xs x → P x
-  of_all [] x h k = absurd (in_none [] x refl k)
+  of_all [] x h k = absurd (in_none x k)
   of_all (y ∷ xs) x h k = on (head_or_rest y xs x k) (of_all xs x h.1) where
     on : (y ≡ x) ⊎ Contains xs x → (Contains xs x → P x) → P x
     on (inl e) next = subst P e h.0

@@ -4,7 +4,7 @@ use Rattle.std.specs.Prelude.{Option, Some, None}
 use Rattle.std.specs.List.{list_any}
 use Rattle.std.specs.Option.{option_and_then, option_map_or}
 use Rattle.std.proofs.lemmas.Bool.{ltb-true}
-use Rattle.rule_loops.proofs.Members.{head_or_rest, in_none}
+use Rattle.lemmas.proofs.Members.{head_or_rest, in_none}
 use Rattle.cluster_model.specs.declared.directory.Directory.{Directory}
 use Rattle.cluster_model.specs.declared.directory.Ends.{Ends}
 use Rattle.cluster_model.specs.Chains.{pairs_after, successive}
@@ -47,7 +47,7 @@ module _ {X : Type 0} (p : X → Bool) where
     pub after : p pair.1 ≡ false
 
   after-none : (x : X) (xs : List X) → p x ≡ false → list_any p xs ≡ false → (pair : X × X) → Contains (pairs_after x xs) pair → Neither pair
-  after-none x [] e h pair k = absurd (in_none [] pair refl k)
+  after-none x [] e h pair k = absurd (in_none pair k)
   after-none x (y ∷ ys) e h pair k =
       on (head_or_rest (x, y) (pairs_after y ys) pair k) (after-none y ys (sooner (p y) (list_any p ys) h) (later (p y) (list_any p ys) h) pair) where
         here : Neither (x, y)
@@ -59,5 +59,5 @@ module _ {X : Type 0} (p : X → Bool) where
 
   -- where no element passes the test, none of a successive pair does
   pub pairs-none : (xs : List X) → list_any p xs ≡ false → (pair : X × X) → Contains (successive xs) pair → Neither pair
-  pairs-none [] h pair k = absurd (in_none [] pair refl k)
+  pairs-none [] h pair k = absurd (in_none pair k)
   pairs-none (x ∷ xs) h pair k = after-none x xs (sooner (p x) (list_any p xs) h) (later (p x) (list_any p xs) h) pair k

@@ -18,7 +18,7 @@ use Rattle.crm_parse.specs.Texts.{is}
 use Rattle.clone_expand.specs.declared.leaves.Leaves.{Leaves}
 use Rattle.clone_expand.specs.Settings.{nodes_in}
 use Rattle.clone_expand.specs.Tables.{lookup, with_row, with_rows}
-use Rattle.rule_loops.proofs.Members.{head_or_rest, in_none}
+use Rattle.lemmas.proofs.Members.{head_or_rest, in_none}
 use Rattle.cluster_model.specs.declared.directory.Directory.{Directory}
 use Rattle.cluster_model.specs.Directories.{directory_of, first_named, is_unknown, is_unknown_node, node_named, nodes_of, numbered_from}
 use Rattle.cluster_model.specs.Locations.{location_in, role_written}
@@ -105,10 +105,10 @@ location-same n one other e h = rw e at h
 -- the node of a location that isn't at fault
 pub location-node : (leaves : Leaves) (statements : List Statement) (f : Form) → IsSound (directory_of leaves statements) f
     → (l : Location) → Contains (location_in (directory_of leaves statements) f) l → l.node < length (nodes_by statements)
-location-node leaves statements (form.Node id name attributes utilization) s l k = absurd (in_none [] l refl k)
-location-node leaves statements (form.Primitive id agent description params meta utilization operations ops) s l k = absurd (in_none [] l refl k)
-location-node leaves statements (form.Group id members description params meta) s l k = absurd (in_none [] l refl k)
-location-node leaves statements (form.Cloned id child ms description params meta) s l k = absurd (in_none [] l refl k)
+location-node leaves statements (form.Node id name attributes utilization) s l k = absurd (in_none l k)
+location-node leaves statements (form.Primitive id agent description params meta utilization operations ops) s l k = absurd (in_none l k)
+location-node leaves statements (form.Group id members description params meta) s l k = absurd (in_none l k)
+location-node leaves statements (form.Cloned id child ms description params meta) s l k = absurd (in_none l k)
 location-node leaves statements (form.Location id resource written discovery score node) s l k = on (head_or_rest one [] l k) where
   d : Directory
   d = directory_of leaves statements
@@ -120,9 +120,9 @@ location-node leaves statements (form.Location id resource written discovery sco
   on (inl same) =
       location-same (length (nodes_by statements)) one l same
       (node-below leaves statements node (later (is_unknown d resource) (is_unknown_node d node) s.known))
-  on (inr r) = absurd (in_none [] l refl r)
-location-node leaves statements (form.RuledLocation id resource written discovery rules) s l k = absurd (in_none [] l refl k)
-location-node leaves statements (form.Colocation id score dependent primary) s l k = absurd (in_none [] l refl k)
-location-node leaves statements (form.Order id kind steps symmetrical) s l k = absurd (in_none [] l refl k)
-location-node leaves statements (form.Settings what set pairs) s l k = absurd (in_none [] l refl k)
-location-node leaves statements (form.Kept words) s l k = absurd (in_none [] l refl k)
+  on (inr r) = absurd (in_none l r)
+location-node leaves statements (form.RuledLocation id resource written discovery rules) s l k = absurd (in_none l k)
+location-node leaves statements (form.Colocation id score dependent primary) s l k = absurd (in_none l k)
+location-node leaves statements (form.Order id kind steps symmetrical) s l k = absurd (in_none l k)
+location-node leaves statements (form.Settings what set pairs) s l k = absurd (in_none l k)
+location-node leaves statements (form.Kept words) s l k = absurd (in_none l k)

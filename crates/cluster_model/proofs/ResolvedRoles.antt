@@ -10,7 +10,7 @@ use Rattle.cluster_types.specs.declared.rules.RuleLocation.{RuleLocation}
 use Rattle.cluster_types.specs.Valid.{MayHaveRole}
 use Rattle.crm_parse.specs.declared.statement.Statement.{Statement}
 use Rattle.clone_expand.specs.declared.leaves.Leaves.{Leaves}
-use Rattle.rule_loops.proofs.Members.{of_flat}
+use Rattle.lemmas.proofs.Members.{of_flat}
 use Rattle.cluster_model.specs.declared.directory.Directory.{Directory}
 use Rattle.cluster_model.specs.Checks.{first_fault}
 use Rattle.cluster_model.specs.Colocations.{colocations_in}

@@ -22,7 +22,7 @@ use Rattle.crm_parse.specs.declared.words.ActionWord.{ActionWord}
 use Rattle.crm_parse.specs.declared.words.ActionWord.TheVariants as action
 use Rattle.crm_parse.specs.declared.statement.Statement.{Statement}
 use Rattle.clone_expand.specs.declared.leaves.Leaves.{Leaves}
-use Rattle.rule_loops.proofs.Members.{head_or_rest, in_none, of_map}
+use Rattle.lemmas.proofs.Members.{head_or_rest, in_none, of_map}
 use Rattle.cluster_model.specs.declared.colocations.Bearer.{Bearer}
 use Rattle.cluster_model.specs.declared.directory.Directory.{Directory}
 use Rattle.cluster_model.specs.declared.directory.Traits.{Traits}
@@ -38,7 +38,7 @@ use Rattle.cluster_model.proofs.Sound.{IsSound, first-point-there, then-point-th
 
 -- no element passes the test
 none-of : {X : Type 0} (p : X → Bool) (xs : List X) (x : X) → list_any p xs ≡ false → Contains xs x → p x ≡ false
-none-of p [] x h k = absurd (in_none [] x refl k)
+none-of p [] x h k = absurd (in_none x k)
 none-of p (y ∷ ys) x h k = on (head_or_rest y ys x k) (none-of p ys x (later (p y) (list_any p ys) h)) where
   on : (y ≡ x) ⊎ Contains ys x → (Contains ys x → p x ≡ false) → p x ≡ false
   on (inl e) next = sym (ap p e) ∙ sooner (p y) (list_any p ys) h
@@ -90,8 +90,8 @@ module _ (d : Directory) (c : Cluster) (agrees : Agrees d c) where
   roles-same one other e h = rw e at h
 
   pub colocation-roles : (f : Form) → IsSound d f → (col : Colocation) → Contains (colocations_in d f) col → HasRoles col
-  colocation-roles (form.Node id name attributes utilization) s col k = absurd (in_none [] col refl k)
-  colocation-roles (form.Primitive id agent description params meta utilization operations ops) s col k = absurd (in_none [] col refl k)
+  colocation-roles (form.Node id name attributes utilization) s col k = absurd (in_none col k)
+  colocation-roles (form.Primitive id agent description params meta utilization operations ops) s col k = absurd (in_none col k)
   colocation-roles (form.Group id members description params meta) s col k =
       let m = of_map (member_colocation d id) (successive members) col k in
       let t = pairs-none (is_unknown d) members s.known m.source m.among in
@@ -99,9 +99,9 @@ module _ (d : Directory) (c : Cluster) (agrees : Agrees d c) where
         dependent = role-may (first_named d m.source.1) role.Started (first-there d m.source.1 t.after) refl;
         primary = role-may (last_named d m.source.0) role.Started (last-there d m.source.0 t.before) refl;
       })
-  colocation-roles (form.Cloned id child ms description params meta) s col k = absurd (in_none [] col refl k)
-  colocation-roles (form.Location id resource role discovery score node) s col k = absurd (in_none [] col refl k)
-  colocation-roles (form.RuledLocation id resource role discovery rules) s col k = absurd (in_none [] col refl k)
+  colocation-roles (form.Cloned id child ms description params meta) s col k = absurd (in_none col k)
+  colocation-roles (form.Location id resource role discovery score node) s col k = absurd (in_none col k)
+  colocation-roles (form.RuledLocation id resource role discovery rules) s col k = absurd (in_none col k)
   colocation-roles (form.Colocation id score dependent primary) s col k =
       on (head_or_rest (colocation_of id score one other) [] col k) where
         one : Bearer
@@ -120,10 +120,10 @@ module _ (d : Directory) (c : Cluster) (agrees : Agrees d c) where
                   (last-there d primary.resource (later (is_unknown d dependent.resource) (is_unknown d primary.resource) s.known))
                   (later (side_lacks d one) (side_lacks d other) s.promotable);
             })
-        on (inr r) = absurd (in_none [] col refl r)
-  colocation-roles (form.Order id kind steps symmetrical) s col k = absurd (in_none [] col refl k)
-  colocation-roles (form.Settings what set pairs) s col k = absurd (in_none [] col refl k)
-  colocation-roles (form.Kept words) s col k = absurd (in_none [] col refl k)
+        on (inr r) = absurd (in_none col r)
+  colocation-roles (form.Order id kind steps symmetrical) s col k = absurd (in_none col k)
+  colocation-roles (form.Settings what set pairs) s col k = absurd (in_none col k)
+  colocation-roles (form.Kept words) s col k = absurd (in_none col k)
 
   pub record HasWords (o : Order) : Type 0 where
     pub first : MayHaveWord c o.first o.first_op
@@ -147,8 +147,8 @@ module _ (d : Directory) (c : Cluster) (agrees : Agrees d c) where
   goes-up action.Demote action.Demote h u = cc
 
   pub order-words : (f : Form) → IsSound d f → (o : Order) → Contains (orders_in d f) o → HasWords o
-  order-words (form.Node id name attributes utilization) s o k = absurd (in_none [] o refl k)
-  order-words (form.Primitive id agent description params meta utilization operations ops) s o k = absurd (in_none [] o refl k)
+  order-words (form.Node id name attributes utilization) s o k = absurd (in_none o k)
+  order-words (form.Primitive id agent description params meta utilization operations ops) s o k = absurd (in_none o k)
   order-words (form.Group id members description params meta) s o k =
       let m = of_map (member_order d id) (successive members) o k in
       let t = pairs-none (is_unknown d) members s.known m.source m.among in
@@ -157,10 +157,10 @@ module _ (d : Directory) (c : Cluster) (agrees : Agrees d c) where
         later = word-may (then_point d m.source.1 action.Start).leaf action.Start (then-point-there d m.source.1 action.Start t.after) refl;
         upward = λ u. refl;
       })
-  order-words (form.Cloned id child ms description params meta) s o k = absurd (in_none [] o refl k)
-  order-words (form.Location id resource role discovery score node) s o k = absurd (in_none [] o refl k)
-  order-words (form.RuledLocation id resource role discovery rules) s o k = absurd (in_none [] o refl k)
-  order-words (form.Colocation id score dependent primary) s o k = absurd (in_none [] o refl k)
+  order-words (form.Cloned id child ms description params meta) s o k = absurd (in_none o k)
+  order-words (form.Location id resource role discovery score node) s o k = absurd (in_none o k)
+  order-words (form.RuledLocation id resource role discovery rules) s o k = absurd (in_none o k)
+  order-words (form.Colocation id score dependent primary) s o k = absurd (in_none o k)
   order-words (form.Order id kind steps symmetrical) s o k =
       let m = of_map (step_order d id (kind_of_word kind) symmetrical) (successive steps) o k in
       let t = pairs-none (λ step. is_unknown d step.resource) steps s.known m.source m.among in
@@ -175,17 +175,17 @@ module _ (d : Directory) (c : Cluster) (agrees : Agrees d c) where
             (later (lacks_action d one) (lacks_action d other) able);
         upward = goes-up m.source.0.action m.source.1.action turned;
       })
-  order-words (form.Settings what set pairs) s o k = absurd (in_none [] o refl k)
-  order-words (form.Kept words) s o k = absurd (in_none [] o refl k)
+  order-words (form.Settings what set pairs) s o k = absurd (in_none o k)
+  order-words (form.Kept words) s o k = absurd (in_none o k)
 
   location-same : (one other : Location) → one ≡ other → MayHaveRole c one.leaf one.role → MayHaveRole c other.leaf other.role
   location-same one other e h = rw e at h
 
   pub location-role : (f : Form) → IsSound d f → (l : Location) → Contains (location_in d f) l → MayHaveRole c l.leaf l.role
-  location-role (form.Node id name attributes utilization) s l k = absurd (in_none [] l refl k)
-  location-role (form.Primitive id agent description params meta utilization operations ops) s l k = absurd (in_none [] l refl k)
-  location-role (form.Group id members description params meta) s l k = absurd (in_none [] l refl k)
-  location-role (form.Cloned id child ms description params meta) s l k = absurd (in_none [] l refl k)
+  location-role (form.Node id name attributes utilization) s l k = absurd (in_none l k)
+  location-role (form.Primitive id agent description params meta utilization operations ops) s l k = absurd (in_none l k)
+  location-role (form.Group id members description params meta) s l k = absurd (in_none l k)
+  location-role (form.Cloned id child ms description params meta) s l k = absurd (in_none l k)
   location-role (form.Location id resource written discovery score node) s l k = on (head_or_rest one [] l k) where
     one : Location
     one = record { id = id; leaf = first_named d resource; role = role_written written; score = score; node = node_named d node }
@@ -194,28 +194,28 @@ module _ (d : Directory) (c : Cluster) (agrees : Agrees d c) where
     on (inl same) =
         location-same one l same
         (role-may one.leaf one.role (first-there d resource (sooner (is_unknown d resource) (is_unknown_node d node) s.known)) s.promotable)
-    on (inr r) = absurd (in_none [] l refl r)
-  location-role (form.RuledLocation id resource written discovery rules) s l k = absurd (in_none [] l refl k)
-  location-role (form.Colocation id score dependent primary) s l k = absurd (in_none [] l refl k)
-  location-role (form.Order id kind steps symmetrical) s l k = absurd (in_none [] l refl k)
-  location-role (form.Settings what set pairs) s l k = absurd (in_none [] l refl k)
-  location-role (form.Kept words) s l k = absurd (in_none [] l refl k)
+    on (inr r) = absurd (in_none l r)
+  location-role (form.RuledLocation id resource written discovery rules) s l k = absurd (in_none l k)
+  location-role (form.Colocation id score dependent primary) s l k = absurd (in_none l k)
+  location-role (form.Order id kind steps symmetrical) s l k = absurd (in_none l k)
+  location-role (form.Settings what set pairs) s l k = absurd (in_none l k)
+  location-role (form.Kept words) s l k = absurd (in_none l k)
 
   rule-same : (one other : RuleLocation) → one ≡ other → MayHaveRole c one.leaf one.role → MayHaveRole c other.leaf other.role
   rule-same one other e h = rw e at h
 
   pub rule-role : (f : Form) → IsSound d f → (l : RuleLocation) → Contains (rule_locations_in d f) l → MayHaveRole c l.leaf l.role
-  rule-role (form.Node id name attributes utilization) s l k = absurd (in_none [] l refl k)
-  rule-role (form.Primitive id agent description params meta utilization operations ops) s l k = absurd (in_none [] l refl k)
-  rule-role (form.Group id members description params meta) s l k = absurd (in_none [] l refl k)
-  rule-role (form.Cloned id child ms description params meta) s l k = absurd (in_none [] l refl k)
-  rule-role (form.Location id resource written discovery score node) s l k = absurd (in_none [] l refl k)
+  rule-role (form.Node id name attributes utilization) s l k = absurd (in_none l k)
+  rule-role (form.Primitive id agent description params meta utilization operations ops) s l k = absurd (in_none l k)
+  rule-role (form.Group id members description params meta) s l k = absurd (in_none l k)
+  rule-role (form.Cloned id child ms description params meta) s l k = absurd (in_none l k)
+  rule-role (form.Location id resource written discovery score node) s l k = absurd (in_none l k)
   rule-role (form.RuledLocation id resource written discovery rules) s l k =
       let m = of_map (rule_location_of d id resource written) rules l k in
       let able = none-of (λ rule. lacks_role d (first_named d resource) (role_written (option_or rule.role written))) rules m.source s.promotable m.among in
       rule-same (rule_location_of d id resource written m.source) l m.gives
       (role-may (first_named d resource) (role_written (option_or m.source.role written)) (first-there d resource s.known) able)
-  rule-role (form.Colocation id score dependent primary) s l k = absurd (in_none [] l refl k)
-  rule-role (form.Order id kind steps symmetrical) s l k = absurd (in_none [] l refl k)
-  rule-role (form.Settings what set pairs) s l k = absurd (in_none [] l refl k)
-  rule-role (form.Kept words) s l k = absurd (in_none [] l refl k)
+  rule-role (form.Colocation id score dependent primary) s l k = absurd (in_none l k)
+  rule-role (form.Order id kind steps symmetrical) s l k = absurd (in_none l k)
+  rule-role (form.Settings what set pairs) s l k = absurd (in_none l k)
+  rule-role (form.Kept words) s l k = absurd (in_none l k)

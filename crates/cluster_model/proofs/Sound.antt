@@ -16,7 +16,7 @@ use Rattle.crm_parse.specs.declared.words.ActionWord.{ActionWord}
 use Rattle.crm_parse.specs.declared.words.ActionWord.TheVariants as action
 use Rattle.clone_expand.specs.declared.leaves.Leaves.{Leaves}
 use Rattle.rule_loops.specs.FirstLoops.{JoinsLeaves, OrdersSteps}
-use Rattle.rule_loops.proofs.Members.{head_or_rest, in_none, of_flat, of_map}
+use Rattle.lemmas.proofs.Members.{head_or_rest, in_none, of_flat, of_map}
 use Rattle.cluster_model.specs.declared.checks.Checked.{Checked}
 use Rattle.cluster_model.specs.declared.counts.Counts.{Counts}
 use Rattle.cluster_model.specs.declared.directory.Directory.{Directory}
@@ -53,9 +53,9 @@ none-sound d counts f h = on (has_unknown d f) (has_unpromotable d f) (is_unsupp
 -- the statements before the first that is at fault are sound
 pub all-sound : (d : Directory) (n : ℕ) (counts : Counts) (statements : List Statement) (k : ℕ) → n + k ≡ (fault_after d n counts statements).sound
     → (s : Statement) → Contains (take k statements) s → IsSound d s.form
-all-sound d n counts [] zero e s h = absurd (in_none [] s refl h)
-all-sound d n counts [] (suc k) e s h = absurd (in_none [] s refl h)
-all-sound d n counts (x ∷ statements) zero e s h = absurd (in_none [] s refl h)
+all-sound d n counts [] zero e s h = absurd (in_none s h)
+all-sound d n counts [] (suc k) e s h = absurd (in_none s h)
+all-sound d n counts (x ∷ statements) zero e s h = absurd (in_none s h)
 all-sound d n counts (x ∷ statements) (suc k) e s h =
     on (cause_of d counted x.form) refl e (head_or_rest x (take k statements) s h) (λ f. all-sound d (n + 1) counted statements k f s) where
       counted : Counts
@@ -76,16 +76,16 @@ joins-same : (d : Directory) (one other : Colocation) → one ≡ other → Join
 joins-same d one other e j = rw e at j
 
 colocations-join : (d : Directory) (f : Form) → has_unknown d f ≡ false → (col : Colocation) → Contains (colocations_in d f) col → Joins d col
-colocations-join d (form.Node id name attributes utilization) h col k = absurd (in_none [] col refl k)
-colocations-join d (form.Primitive id agent description params meta utilization operations ops) h col k = absurd (in_none [] col refl k)
+colocations-join d (form.Node id name attributes utilization) h col k = absurd (in_none col k)
+colocations-join d (form.Primitive id agent description params meta utilization operations ops) h col k = absurd (in_none col k)
 colocations-join d (form.Group id members description params meta) h col k =
     let m = of_map (member_colocation d id) (successive members) col k in
     let t = pairs-none (is_unknown d) members h m.source m.among in
     joins-same d (member_colocation d id m.source) col m.gives
     (record { dependent = first-there d m.source.1 t.after; primary = last-there d m.source.0 t.before })
-colocations-join d (form.Cloned id child ms description params meta) h col k = absurd (in_none [] col refl k)
-colocations-join d (form.Location id resource role discovery score node) h col k = absurd (in_none [] col refl k)
-colocations-join d (form.RuledLocation id resource role discovery rules) h col k = absurd (in_none [] col refl k)
+colocations-join d (form.Cloned id child ms description params meta) h col k = absurd (in_none col k)
+colocations-join d (form.Location id resource role discovery score node) h col k = absurd (in_none col k)
+colocations-join d (form.RuledLocation id resource role discovery rules) h col k = absurd (in_none col k)
 colocations-join d (form.Colocation id score dependent primary) h col k =
     on (head_or_rest (colocation_of id score (dependent_at d dependent.resource (role_of_word dependent.role))
     (primary_at d primary.resource (role_of_word primary.role))) [] col k) where
@@ -96,10 +96,10 @@ colocations-join d (form.Colocation id score dependent primary) h col k =
             dependent = first-there d dependent.resource (sooner (is_unknown d dependent.resource) (is_unknown d primary.resource) h);
             primary = last-there d primary.resource (later (is_unknown d dependent.resource) (is_unknown d primary.resource) h);
           })
-      on (inr r) = absurd (in_none [] col refl r)
-colocations-join d (form.Order id kind steps symmetrical) h col k = absurd (in_none [] col refl k)
-colocations-join d (form.Settings what set pairs) h col k = absurd (in_none [] col refl k)
-colocations-join d (form.Kept words) h col k = absurd (in_none [] col refl k)
+      on (inr r) = absurd (in_none col r)
+colocations-join d (form.Order id kind steps symmetrical) h col k = absurd (in_none col k)
+colocations-join d (form.Settings what set pairs) h col k = absurd (in_none col k)
+colocations-join d (form.Kept words) h col k = absurd (in_none col k)
 
 record Steps (d : Directory) (o : Order) : Type 0 where
   pub first : o.first < length d.leaves
@@ -129,8 +129,8 @@ then-point-there d name action.Promote h = first-there d name h
 then-point-there d name action.Demote h = last-there d name h
 
 orders-step : (d : Directory) (f : Form) → has_unknown d f ≡ false → (o : Order) → Contains (orders_in d f) o → Steps d o
-orders-step d (form.Node id name attributes utilization) h o k = absurd (in_none [] o refl k)
-orders-step d (form.Primitive id agent description params meta utilization operations ops) h o k = absurd (in_none [] o refl k)
+orders-step d (form.Node id name attributes utilization) h o k = absurd (in_none o k)
+orders-step d (form.Primitive id agent description params meta utilization operations ops) h o k = absurd (in_none o k)
 orders-step d (form.Group id members description params meta) h o k =
     let m = of_map (member_order d id) (successive members) o k in
     let t = pairs-none (is_unknown d) members h m.source m.among in
@@ -140,10 +140,10 @@ orders-step d (form.Group id members description params meta) h o k =
       first_word = no-monitor action.Start;
       later_word = no-monitor action.Start;
     })
-orders-step d (form.Cloned id child ms description params meta) h o k = absurd (in_none [] o refl k)
-orders-step d (form.Location id resource role discovery score node) h o k = absurd (in_none [] o refl k)
-orders-step d (form.RuledLocation id resource role discovery rules) h o k = absurd (in_none [] o refl k)
-orders-step d (form.Colocation id score dependent primary) h o k = absurd (in_none [] o refl k)
+orders-step d (form.Cloned id child ms description params meta) h o k = absurd (in_none o k)
+orders-step d (form.Location id resource role discovery score node) h o k = absurd (in_none o k)
+orders-step d (form.RuledLocation id resource role discovery rules) h o k = absurd (in_none o k)
+orders-step d (form.Colocation id score dependent primary) h o k = absurd (in_none o k)
 orders-step d (form.Order id kind steps symmetrical) h o k =
     let m = of_map (step_order d id (kind_of_word kind) symmetrical) (successive steps) o k in
     let t = pairs-none (λ step. is_unknown d step.resource) steps h m.source m.among in
@@ -153,8 +153,8 @@ orders-step d (form.Order id kind steps symmetrical) h o k =
       first_word = no-monitor m.source.0.action;
       later_word = no-monitor m.source.1.action;
     })
-orders-step d (form.Settings what set pairs) h o k = absurd (in_none [] o refl k)
-orders-step d (form.Kept words) h o k = absurd (in_none [] o refl k)
+orders-step d (form.Settings what set pairs) h o k = absurd (in_none o k)
+orders-step d (form.Kept words) h o k = absurd (in_none o k)
 
 pub as-many : (d : Directory) (leaves : Leaves) (statements : List Statement) → d ≡ directory_of leaves statements → length d.leaves ≡ length leaves.leaves
 unfolding directory_of

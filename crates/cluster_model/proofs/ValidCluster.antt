@@ -22,7 +22,7 @@ use Rattle.clone_expand.specs.Faults.{fault_of}
 use Rattle.clone_expand.specs.Leaves.{leaves_of}
 use Rattle.clone_expand.proofs.NameLaws.{names_differ}
 use Rattle.clone_expand.proofs.NodeNames.{node_names_differ}
-use Rattle.rule_loops.proofs.Members.{of_flat}
+use Rattle.lemmas.proofs.Members.{of_flat}
 use Rattle.cluster_model.specs.declared.directory.Directory.{Directory}
 use Rattle.cluster_model.specs.Colocations.{colocations_of}
 use Rattle.cluster_model.specs.Directories.{directory_of}

@@ -1,6 +1,6 @@
 //! Cells. A cell is a leaf on a node.
 
-ghost use Rattle.std.specs.Prelude.{◌≡◌, ◌+◌, ◌*◌};
+ghost use Rattle.std.specs.Prelude.{◌≡◌, ◌+◌, ◌*◌, ◌<◌, ◌^◌};
 ghost use Rattle.cluster_types.specs.Cells as cells;
 
 use crate::journal::{Action, Event};
@@ -8,10 +8,11 @@ use crate::leaf::LeafId;
 use crate::node::NodeId;
 
 /// The place of a cell in a list that has those of so many nodes, leaf by leaf and node by node.
-pub fn cell_place(nodes: u32, leaf: LeafId, node: NodeId) -> usize
+pub fn cell_place(nodes: usize, leaf: LeafId, node: NodeId) -> usize
+    requires { leaf * nodes + node < 2 ^ 64 }
     ensures { result ≡ leaf * nodes + node }
 {
-    leaf as usize * nodes as usize + node as usize
+    leaf as usize * nodes + node as usize
 }
 
 /// Whether the two cells are one.

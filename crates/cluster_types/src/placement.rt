@@ -54,7 +54,7 @@ impl Table {
         match self
             .targets
             .as_slice()
-            .get(cell_place(self.nodes, leaf, node))
+            .get(cell_place(self.nodes as usize, leaf, node))
         {
             Some(target) => *target,
             None => Target::Nowhere,
@@ -80,7 +80,7 @@ impl Table {
         ensures size { length result.targets ≡ length self.targets }
         ensures targets { (r n : ℕ) → targets_of result r n ≡ (if r == leaf && n == node then target else targets_of self r n) }
     {
-        let place = cell_place(self.nodes, leaf, node);
+        let place = cell_place(self.nodes as usize, leaf, node);
         let mut targets = self.targets.into_vec();
         targets[place] = target;
         Table {

@@ -1,6 +1,7 @@
 ghost use Rattle.std.specs.Prelude.{◌≡◌, ◌+◌, ◌*◌, ◌<◌, Some, length, slice_get};
 ghost use Rattle.cluster_types.specs.Terms.{is_active};
 
+use crate::cells::cell_place;
 use crate::journal::Promotion;
 use crate::leaf::LeafId;
 use crate::node::NodeId;
@@ -79,8 +80,7 @@ impl States {
         ensures { slice_get self.now.cells (leaf * length self.now.nodes + node) ≡ Some result }
     {
         let cells = self.cells.as_slice();
-        let place = leaf as usize * self.nodes.len() + node as usize;
-        cells[place]
+        cells[cell_place(self.nodes.len(), leaf, node)]
     }
 }
 

@@ -1,13 +1,12 @@
 -- Lists made of the numbers up to a number.
-use Rattle.std.proofs.Common.{◌≡◌, ◌≢◌, ◌⊎◌, inl, inr, ℕ, zero, suc, ◌+◌, ◌<◌, ◌≤◌, ◌==◌, ◌||◌, Bool, true, false, if◌then◌else◌, List, [], ◌∷◌, ◌++◌, map, filter, count_by, get_or, set, refl, sym, ap, subst, ◌∙◌, map-id, append-nil, arith}
+use Rattle.std.proofs.Common.{◌≡◌, ◌≢◌, ◌⊎◌, inl, inr, ℕ, zero, suc, ◌+◌, ◌<◌, ◌≤◌, ◌==◌, Bool, true, false, if◌then◌else◌, List, [], ◌∷◌, ◌++◌, map, filter, count_by, get_or, set, refl, sym, ap, subst, ◌∙◌, map-id, append-nil, arith}
 use Rattle.std.proofs.lemmas.Bool.{and_from, cases_eq, or_right}
 use Rattle.std.proofs.lemmas.Grind.{flat_map-append}
 use Rattle.std.proofs.lemmas.List.{length-set, get_or-set_same, get_or-set_other, ext_get_or}
 use Rattle.std.proofs.lemmas.List.Elements.{filter-append}
 use Rattle.std.proofs.lemmas.List.FromFn.{map-range_with_len_more, get_or-map-range_with_len, length-map-range_with_len}
 use Rattle.std.specs.List.{flat_map, list_all, list_any, range_with_len}
-use Rattle.lemmas.proofs.Counts.{count-append}
-use Rattle.lemmas.proofs.Searches.{any-more}
+use Rattle.lemmas.proofs.Counts.{count-is}
 
 -- one number more
 pub map-more : {X : Type 0} (f : ℕ → X) (n : ℕ) → map f (range_with_len 0 (n + 1)) ≡ map f (range_with_len 0 n) ++ f n ∷ []
@@ -27,52 +26,51 @@ pub filter-more : (p : ℕ → Bool) (n : ℕ) (here : Bool) → p n ≡ here
 filter-more p n true e = ap (filter p) (range-more n) ∙ (filter-append p (range_with_len 0 n) (n ∷ []) ∙ rw e refl)
 filter-more p n false e = ap (filter p) (range-more n) ∙ (filter-append p (range_with_len 0 n) (n ∷ []) ∙ rw e refl)
 
--- what is the same of each number below the bound gives the same list, and the same answer
-pub map-same : {X : Type 0} (f g : ℕ → X) (n : ℕ) → ((i : ℕ) → i < n → f i ≡ g i) → map f (range_with_len 0 n) ≡ map g (range_with_len 0 n)
-map-same f g zero h = refl
-map-same f g (suc n) h =
-    let on : n + 1 ≡ suc n = omega arith in
-    let before = map-same f g n (λ i low. h i (omega (arith, low))) in
-    subst (λ k. map f (range_with_len 0 k) ≡ map g (range_with_len 0 k)) on
-    (map-more f n ∙ (ap (λ xs. xs ++ f n ∷ []) before ∙ (ap (λ x. map g (range_with_len 0 n) ++ x ∷ []) (h n (omega arith)) ∙ sym (map-more g n))))
+-- where two functions or tests agree on the numbers from one on, what is made of these numbers is the same
+module _ {X : Type 0} (f g : ℕ → X) where
+  pub map-same : (from n : ℕ) → ((k : ℕ) → from ≤ k → k < from + n → f k ≡ g k) → map f (range_with_len from n) ≡ map g (range_with_len from n)
+  map-same from zero same = refl
+  map-same from (suc n) same =
+      rw (same from (omega arith) (omega arith), map-same (from + 1) n (λ k ge lt. same k (omega arith) (omega arith))) refl
 
-pub flat_map-same : {X : Type 0} (f g : ℕ → List X) (n : ℕ) → ((i : ℕ) → i < n → f i ≡ g i)
-    → flat_map f (range_with_len 0 n) ≡ flat_map g (range_with_len 0 n)
-flat_map-same f g zero h = refl
-flat_map-same f g (suc n) h =
-    let on : n + 1 ≡ suc n = omega arith in
-    let before = flat_map-same f g n (λ i low. h i (omega (arith, low))) in
-    subst (λ k. flat_map f (range_with_len 0 k) ≡ flat_map g (range_with_len 0 k)) on
-    (flat_map-more f n ∙ (ap (λ xs. xs ++ f n) before ∙ (ap (λ x. flat_map g (range_with_len 0 n) ++ x) (h n (omega arith)) ∙ sym (flat_map-more g n))))
+module _ {X : Type 0} (f g : ℕ → List X) where
+  pub flat_map-same : (from n : ℕ) → ((k : ℕ) → from ≤ k → k < from + n → f k ≡ g k) → flat_map f (range_with_len from n) ≡ flat_map g (range_with_len from n)
+  flat_map-same from zero same = refl
+  flat_map-same from (suc n) same =
+      rw (same from (omega arith) (omega arith), flat_map-same (from + 1) n (λ k ge lt. same k (omega arith) (omega arith))) refl
 
-pub filter-same : (p q : ℕ → Bool) (n : ℕ) → ((i : ℕ) → i < n → p i ≡ q i) → filter p (range_with_len 0 n) ≡ filter q (range_with_len 0 n)
-filter-same p q zero h = refl
-filter-same p q (suc n) h =
-    let on : n + 1 ≡ suc n = omega arith in
-    let before = filter-same p q n (λ i low. h i (omega (arith, low))) in
-    subst (λ k. filter p (range_with_len 0 k) ≡ filter q (range_with_len 0 k)) on
-    (filter-more p n (q n) (h n (omega arith)) ∙ (ap (λ xs. xs ++ (if q n then n ∷ [] else [])) before ∙ sym (filter-more q n (q n) refl)))
+module _ (p q : ℕ → Bool) where
+  abbrev AgreeOn : ℕ → ℕ → Type 0
+  AgreeOn from n = (k : ℕ) → from ≤ k → k < from + n → p k ≡ q k
+
+  pub filter-same : (from n : ℕ) → AgreeOn from n → filter p (range_with_len from n) ≡ filter q (range_with_len from n)
+  filter-same from zero same = refl
+  filter-same from (suc n) same =
+      rw (same from (omega arith) (omega arith), filter-same (from + 1) n (λ k ge lt. same k (omega arith) (omega arith))) refl
+
+  pub any-same : (from n : ℕ) → AgreeOn from n → list_any p (range_with_len from n) ≡ list_any q (range_with_len from n)
+  any-same from zero same = refl
+  any-same from (suc n) same =
+      rw (same from (omega arith) (omega arith), any-same (from + 1) n (λ k ge lt. same k (omega arith) (omega arith))) refl
+
+  pub all-same : (from n : ℕ) → AgreeOn from n → list_all p (range_with_len from n) ≡ list_all q (range_with_len from n)
+  all-same from zero same = refl
+  all-same from (suc n) same =
+      rw (same from (omega arith) (omega arith), all-same (from + 1) n (λ k ge lt. same k (omega arith) (omega arith))) refl
+
+  pub count-same : (from n : ℕ) → AgreeOn from n → count_by p (range_with_len from n) ≡ count_by q (range_with_len from n)
+  count-same from zero same = refl
+  count-same from (suc n) same =
+      let c = count-is p from (range_with_len (from + 1) n) (q from) (same from (omega arith) (omega arith)) in
+      let d = count-is q from (range_with_len (from + 1) n) (q from) refl in
+      let rest = count-same (from + 1) n (λ k ge lt. same k (omega arith) (omega arith)) in
+      omega arith
 
 pub filter-none : (n : ℕ) → filter (λ (i : ℕ). false) (range_with_len 0 n) ≡ []
 filter-none zero = refl
 filter-none (suc n) =
     let on : n + 1 ≡ suc n = omega arith in
     subst (λ k. filter (λ (i : ℕ). false) (range_with_len 0 k) ≡ []) on (filter-more (λ i. false) n false refl ∙ (append-nil _ ∙ filter-none n))
-
-pub any-same : (p q : ℕ → Bool) (n : ℕ) → ((i : ℕ) → i < n → p i ≡ q i) → list_any p (range_with_len 0 n) ≡ list_any q (range_with_len 0 n)
-any-same p q zero h = refl
-any-same p q (suc n) h =
-    let before = any-same p q n (λ i low. h i (omega (arith, low))) in
-    ap (list_any p) (range-suc n) ∙ (any-more p (range_with_len 0 n) n ∙ (ap (λ b. b || p n) before ∙ (ap (λ b. list_any q (range_with_len 0 n) || b) (h n (omega arith))
-    ∙ sym (ap (list_any q) (range-suc n) ∙ any-more q (range_with_len 0 n) n))))
-
-pub count-same : (p q : ℕ → Bool) (n : ℕ) → ((i : ℕ) → i < n → p i ≡ q i) → count_by p (range_with_len 0 n) ≡ count_by q (range_with_len 0 n)
-count-same p q zero h = refl
-count-same p q (suc n) h =
-    let before = count-same p q n (λ i low. h i (omega (arith, low))) in
-    let one : count_by p (n ∷ []) ≡ count_by q (n ∷ []) = rw (h n (omega arith)) refl in
-    ap (count_by p) (range-suc n) ∙ (count-append p (range_with_len 0 n) (n ∷ []) ∙ (ap (λ k. k + count_by p (n ∷ [])) before
-    ∙ (ap (λ k. count_by q (range_with_len 0 n) + k) one ∙ sym (ap (count_by q) (range-suc n) ∙ count-append q (range_with_len 0 n) (n ∷ [])))))
 
 -- a test over the numbers from one on: it passes for all, or for one of them
 pub all_in_range : (p : ℕ → Bool) (from count : ℕ) → ((j : ℕ) → from ≤ j → j < from + count → p j ≡ true) → list_all p (range_with_len from count) ≡ true

@@ -5,10 +5,6 @@ use Rattle.std.proofs.lemmas.Bool.{and_parts}
 use Rattle.std.specs.List.{list_all, list_any}
 use Rattle.std.proofs.lemmas.List.Folds.{list_any-append, list_any_at}
 
--- an element of the rest is one of the list
-pub in_rest : {X : Type 0} (x : X) (xs : List X) (a : X) → Contains xs a → Contains (x ∷ xs) a
-in_rest x xs a (k, lt, at) = (suc k, omega (arith, lt), at)
-
 -- an empty list has no element
 pub of_none : {X : Type 0} (P : X → Type 0) (x : X) → Contains [] x → P x
 of_none P x (k, lt, at) = absurd (omega (arith, lt))

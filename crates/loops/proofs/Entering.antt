@@ -1,22 +1,9 @@
 -- The edges into a position, and where they begin.
 use Rattle.std.proofs.Common.{arith, ◌≡◌, ◌==◌, ℕ, suc, zero, Bool, true, false, List, [], ◌∷◌, map, filter, cond, refl, ap, ◌⊎◌, inl, inr, Contains}
 use Rattle.std.proofs.lemmas.Bool.{eqb-true}
+use Rattle.lemmas.proofs.Members.{at_head, head_or_rest, in_none, in_rest}
 use Rattle.loops.specs.declared.edge.Edge.{Edge}
 use Rattle.loops.specs.Clearing.{sources_of}
-
-module _ {X : Type 0} where
-  pub head_or_rest : (x : X) (xs : List X) (a : X) → Contains (x ∷ xs) a → (x ≡ a) ⊎ Contains xs a
-  head_or_rest x xs a (zero, l, e) = inl e
-  head_or_rest x xs a (suc k, l, e) = inr (k, omega arith, e)
-
-  pub at_head : (x : X) (xs : List X) (a : X) → x ≡ a → Contains (x ∷ xs) a
-  at_head x xs a e = (0, omega arith, e)
-
-  pub in_rest : (x : X) (xs : List X) (a : X) → Contains xs a → Contains (x ∷ xs) a
-  in_rest x xs a (k, l, e) = (suc k, omega arith, e)
-
-  pub in_none : (a : X) → Contains [] a → ⊥
-  in_none a (k, l, f) = absurd (let f : ⊥ = omega arith in f)
 
 -- an edge leads from s to x
 pub record Enters (edges : List Edge) (x s : ℕ) : Type 0 where

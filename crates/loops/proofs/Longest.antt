@@ -8,7 +8,8 @@ use Rattle.loops.specs.declared.edge.Edge.{Edge}
 use Rattle.loops.specs.Loops.{EndWithin, HasNoLoop, leads_within}
 use Rattle.loops.specs.Clearing.{sources_of}
 use Rattle.loops.specs.Longest.{AreHeights, above, longest, longest_within}
-use Rattle.loops.proofs.Entering.{Enters, at_head, enters_of, head_or_rest, in_none, in_rest, source_of_edge}
+use Rattle.lemmas.proofs.Members.{at_head, head_or_rest, in_none, in_rest}
+use Rattle.loops.proofs.Entering.{Enters, enters_of, source_of_edge}
 use Rattle.loops.proofs.Heights.{height, rises}
 
 -- heights that agree on a list have the same above it

@@ -2,7 +2,7 @@
 use Rattle.std.proofs.Common.{arith, ◌≡◌, ◌≢◌, ◌<◌, ◌≤◌, not, ℕ, suc, zero, Bool, true, false, List, [], ◌∷◌, ◌++◌, ◌⊎◌, inl, inr, refl, sym, ◌∙◌, count_by, Contains}
 use Rattle.std.proofs.lemmas.Bool.{false_from_ne_true}
 use Rattle.lemmas.proofs.Counts.{count_one_more}
-use Rattle.rule_loops.proofs.Members.{head_or_rest, in_none}
+use Rattle.lemmas.proofs.Members.{head_or_rest, in_none}
 use Rattle.cluster_types.specs.declared.cluster.Cluster.{Cluster}
 use Rattle.cluster_types.specs.declared.journal.Event.{Event}
 use Rattle.cluster_types.specs.declared.journal.Promotion.{Promotion}
@@ -60,7 +60,7 @@ module _ (c : Cluster) (es : List Event) (ps : List Promotion) where
         go (inr other) false f = keep (λ _. made_some_way c es ps x d other f)
 
     pub best : (xs : List Decision) → Best xs
-    best [] = nothing (λ d h. absurd (in_none [] d refl h))
+    best [] = nothing (λ d h. absurd (in_none d h))
     best (x ∷ xs) = with_one x xs (is_ready c es made x) refl (best xs)
 
   abbrev unmade : List Decision → Decision → Bool

@@ -7,7 +7,7 @@ use Rattle.std.proofs.lemmas.Bool.{false_from_ne_true}
 use Rattle.lemmas.proofs.Booleans.{sooner, later}
 use Rattle.lemmas.proofs.Counts.{count_one_more}
 use Rattle.lemmas.proofs.Searches.{passes_by}
-use Rattle.rule_loops.proofs.Members.{in_flat, in_map, in_range}
+use Rattle.lemmas.proofs.Members.{in_flat, in_map, in_range}
 use Rattle.rule_loops.proofs.Needs.{decision_there}
 use Rattle.cluster_types.specs.declared.cluster.Cluster.{Cluster}
 use Rattle.cluster_types.specs.declared.journal.Event.{Event}

@@ -4,7 +4,7 @@ use Rattle.std.specs.List.{list_all, range_with_len}
 use Rattle.std.proofs.lemmas.Bool.{and_from}
 use Rattle.lemmas.proofs.Booleans.{implied, later, sooner}
 use Rattle.lemmas.proofs.Searches.{each_passes}
-use Rattle.rule_loops.proofs.Members.{at_head, in_range, in_rest, of_range}
+use Rattle.lemmas.proofs.Members.{at_head, in_range, in_rest, of_range}
 use Rattle.cluster_types.specs.declared.cluster.Cluster.{Cluster}
 use Rattle.cluster_types.specs.declared.journal.Event.{Event}
 use Rattle.cluster_types.specs.declared.leaf.Op.{Op}

@@ -9,7 +9,7 @@ use Rattle.lemmas.proofs.Booleans.{later, sooner}
 use Rattle.loops.proofs.Booleans.{onward}
 use Rattle.lemmas.proofs.Searches.{passes_by}
 use Rattle.rule_loops.proofs.FromValid.{valid_join}
-use Rattle.rule_loops.proofs.Members.{Kept, at_head, head_or_rest, in_none, in_rest, of_filter}
+use Rattle.lemmas.proofs.Members.{Kept, at_head, head_or_rest, in_none, in_rest, of_filter}
 use Rattle.rule_loops.proofs.Needs.{count_of_decisions, decision_there, is_itself}
 use Rattle.cluster_types.specs.declared.cluster.Cluster.{Cluster}
 use Rattle.cluster_types.specs.declared.journal.Event.{Event}
@@ -29,7 +29,7 @@ among_all s [] ss sub all = tt
 among_all s (x ∷ more) ss sub all = (each ss x all (sub x (at_head x more x refl)), among_all s more ss (λ y h. sub y (in_rest x more y h)) all)
   where
     each : (ss : List ℕ) (x : ℕ) → AllByRecursion (λ y. (s == y) ≡ false) ss → Contains ss x → (s == x) ≡ false
-    each [] x all h = absurd (in_none [] x refl h)
+    each [] x all h = absurd (in_none x h)
     each (y ∷ ss) x all h = elim (head_or_rest y ss x h) [
       | inl same ↦ rw (← same) all.0
       | inr rest ↦ each ss x all.1 rest

@@ -38,6 +38,5 @@ pub mod HeldReason
 pub mod Firsts
 pub mod SomeReason
 pub mod SomePlacement
-pub mod RangeSame
 pub mod Lenders
 pub mod FewTerms

@@ -4,7 +4,7 @@ use Rattle.std.proofs.lemmas.Bool.{or_left, false_from_ne_true}
 use Rattle.std.specs.List.{list_any, range_with_len}
 use Rattle.std.proofs.lemmas.List.Folds.{Any-from_list_any, list_any-append}
 use Rattle.lemmas.proofs.Searches.{passes_by}
-use Rattle.rule_loops.proofs.Members.{Flat, at_head, head_or_rest, in_flat, in_none, in_range, in_rest, of_flat, of_range}
+use Rattle.lemmas.proofs.Members.{Flat, at_head, head_or_rest, in_flat, in_none, in_range, in_rest, of_flat, of_range}
 use Rattle.rule_loops.proofs.Needs.{is_itself, same_decision}
 use Rattle.cluster_types.specs.declared.cluster.Cluster.{Cluster}
 use Rattle.cluster_types.specs.declared.journal.Event.{Event}
@@ -65,7 +65,7 @@ module _ (c : Cluster) (es : List Event) where
 
   known_of : (r : ℕ) (d : Decision) → r < length c.leaves → (pinned promotable : Bool) → is_pinned c es r ≡ pinned → is_promotable c r ≡ promotable
       → Contains (if pinned then [] else Place r ∷ (if promotable then Promote r ∷ [] else [])) d → Known d
-  known_of r d low true p e f h = absurd (in_none [] d refl h)
+  known_of r d low true p e f h = absurd (in_none d h)
   known_of r d low false p e f h = elim (head_or_rest (Place r) _ d h) [
     | inl same ↦ rw (← same) (record { within = low; free = e; promotable = λ (g : true ≡ false). cc })
     | inr rest ↦ promoted p f rest
@@ -73,9 +73,9 @@ module _ (c : Cluster) (es : List Event) where
     promoted : (p : Bool) → is_promotable c r ≡ p → Contains (if p then Promote r ∷ [] else []) d → Known d
     promoted true f h = elim (head_or_rest (Promote r) [] d h) [
       | inl same ↦ rw (← same) (record { within = low; free = e; promotable = λ g. f })
-      | inr none ↦ absurd (in_none [] d refl none)
+      | inr none ↦ absurd (in_none d none)
     ]
-    promoted false f h = absurd (in_none [] d refl h)
+    promoted false f h = absurd (in_none d h)
 
   member : (d : Decision) → Any (λ x. is_same_decision d x ≡ true) (decisions c es) → Contains (decisions c es) d
   member d (k, x, lt, at, same) = let e : d ≡ x = same_decision d x same in rw e (k, lt, at)

@@ -2,7 +2,7 @@
 use Rattle.std.proofs.Common.{◌≡◌, ◌<◌, ◌&&◌, ◌||◌, not, ℕ, Bool, true, false, if◌then◌else◌, List, [], length, inl, inr, refl, ◌∙◌, Contains}
 use Rattle.std.specs.Prelude.{nat_le}
 use Rattle.lemmas.proofs.Booleans.{sooner}
-use Rattle.rule_loops.proofs.Members.{in_none}
+use Rattle.lemmas.proofs.Members.{in_none}
 use Rattle.cluster_types.specs.declared.cluster.Cluster.{Cluster}
 use Rattle.cluster_types.specs.declared.journal.Action.TheVariants.{Cell, MigrateTo, MigrateFrom}
 use Rattle.cluster_types.specs.declared.journal.Event.{Event}
@@ -61,7 +61,7 @@ module _ (c : Cluster) (es : List Event) where
     steps r n o cycled h = go (is_pinned c es r) refl h
       where
         go : (b : Bool) → is_pinned c es r ≡ b → Contains (if b then [] else steps_of (cell_state c r n es) (targets r n) cycled) o → Steps r n o cycled
-        go true e h = absurd (in_none [] o refl h)
+        go true e h = absurd (in_none o h)
         go false e h = record { free = e; among = h }
 
     cycled_may : (r n : ℕ) → Cycled c es targets r n → may_start c es ≡ true

@@ -6,7 +6,7 @@ use Rattle.std.proofs.lemmas.List.Elements.{Contains-append_left, Contains-appen
 use Rattle.std.proofs.lemmas.Bool.{false_from_ne_true}
 use Rattle.score.specs.Total.{has, minus_infinity, total_of}
 use Rattle.lemmas.proofs.Searches.{passes_by}
-use Rattle.rule_loops.proofs.Members.{at_head, in_flat}
+use Rattle.lemmas.proofs.Members.{at_head, in_flat}
 use Rattle.cluster_types.specs.declared.cluster.Cluster.{Cluster}
 use Rattle.cluster_types.specs.declared.journal.Event.{Event}
 use Rattle.cluster_types.specs.declared.journal.Promotion.{Promotion}

@@ -9,7 +9,7 @@ use Rattle.loops.proofs.Relations.{EdgeFor}
 use Rattle.rule_loops.specs.Edges.{decision_position, need_edges}
 use Rattle.rule_loops.specs.FirstLoops.{AllJoin, NeedsHaveLoop}
 use Rattle.rule_loops.proofs.FromValid.{valid_join}
-use Rattle.rule_loops.proofs.Members.{at_head, in_rest}
+use Rattle.lemmas.proofs.Members.{at_head, in_rest}
 use Rattle.rule_loops.proofs.NeedLoops.{needs_loop, needs_within}
 use Rattle.rule_loops.proofs.Needs.{decision_there, edge_for, is_itself}
 use Rattle.lemmas.proofs.Searches.{passes_by}

@@ -4,7 +4,7 @@ use Rattle.std.specs.List.{list_any, range_with_len}
 use Rattle.std.proofs.lemmas.List.Folds.{Any-from_list_any}
 use Rattle.std.proofs.lemmas.Bool.{false_from_ne_true}
 use Rattle.lemmas.proofs.Searches.{passes_by}
-use Rattle.rule_loops.proofs.Members.{in_range, of_range}
+use Rattle.lemmas.proofs.Members.{in_range, of_range}
 use Rattle.cluster_types.specs.declared.cluster.Cluster.{Cluster}
 use Rattle.cluster_types.specs.declared.journal.Event.{Event}
 use Rattle.cluster_types.specs.declared.placement.Decision.{Decision}

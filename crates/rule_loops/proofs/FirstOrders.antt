@@ -21,7 +21,7 @@ use Rattle.rule_loops.specs.Edges.{counts, edges_of, link_edge, order_ends, step
 use Rattle.rule_loops.specs.FirstLoops.{AllOrder, ClosesSteps, IsFirstOrder, with_orders}
 use Rattle.rule_loops.proofs.LinkEdges.{edges_joined}
 use Rattle.rule_loops.proofs.LinkLoops.{steps_free, steps_loop}
-use Rattle.rule_loops.proofs.Members.{contains_first, contains_shorter, head_or_rest, in_none, of_filter, of_flat, of_map}
+use Rattle.lemmas.proofs.Members.{contains_first, contains_shorter, head_or_rest, in_none, of_filter, of_flat, of_map}
 
 -- where a test passes somewhere, it passes somewhere first
 
@@ -62,7 +62,7 @@ rises_in_leaf r l h = elim (head_or_rest (link Demote r Stop r) (link Start r Pr
   | inl e ↦ rw (← e) (omega arith)
   | inr t ↦ elim (head_or_rest (link Start r Promote r) [] l t) [
     | inl e ↦ rw (← e) (omega arith)
-    | inr f ↦ absurd (in_none [] l refl f)
+    | inr f ↦ absurd (in_none l f)
   ]
 ]
 

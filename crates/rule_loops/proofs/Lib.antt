@@ -1,4 +1,3 @@
-pub mod Members
 pub mod Needs
 pub mod NeedLoops
 pub mod LinkEdges

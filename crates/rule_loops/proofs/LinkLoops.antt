@@ -13,7 +13,7 @@ use Rattle.cluster_types.specs.Numbers.{HasNoLoop, Link, StepOf, inverse_links, 
 use Rattle.cluster_types.specs.Precedence.{inverse, is_serialize, is_up, takers}
 use Rattle.rule_loops.specs.Edges.{counts, link_edge, step_edges, step_position}
 use Rattle.rule_loops.specs.FirstLoops.{AllOrder, OrdersSteps, StepsHaveLoop}
-use Rattle.rule_loops.proofs.Members.{head_or_rest, in_map, in_none, of_filter, of_flat, of_map, of_range}
+use Rattle.lemmas.proofs.Members.{head_or_rest, in_map, in_none, of_filter, of_flat, of_map, of_range}
 use Rattle.rule_loops.proofs.StepPlaces.{Stands, inverse_changes, position_is, position_within, same_spot, same_step, spot, step_itself, steps_alike}
 
 -- both steps of the link are of leaves that are there
@@ -31,25 +31,25 @@ of_leaf n r l lt h = elim (head_or_rest (link Demote r Stop r) (link Start r Pro
   | inl e ↦ both_stand n Demote r Stop r l e (λ x. cc) lt (λ x. cc) lt
   | inr t ↦ elim (head_or_rest (link Start r Promote r) [] l t) [
     | inl e ↦ both_stand n Start r Promote r l e (λ x. cc) lt (λ x. cc) lt
-    | inr f ↦ absurd (in_none [] l refl f)
+    | inr f ↦ absurd (in_none l f)
   ]
 ]
 
 takers_change : (o p : Op) → Contains (takers o) p → p ≢ Monitor
 takers_change Start p h e = elim (head_or_rest Stop [] p h) [
   | inl s ↦ cc
-  | inr f ↦ in_none [] p refl f
+  | inr f ↦ in_none p f
 ]
 takers_change Promote p h e = elim (head_or_rest Demote (Stop ∷ []) p h) [
   | inl s ↦ cc
   | inr t ↦ elim (head_or_rest Stop [] p t) [
     | inl s ↦ cc
-    | inr f ↦ in_none [] p refl f
+    | inr f ↦ in_none p f
   ]
 ]
-takers_change Stop p h e = in_none [] p refl h
-takers_change Demote p h e = in_none [] p refl h
-takers_change Monitor p h e = in_none [] p refl h
+takers_change Stop p h e = in_none p h
+takers_change Demote p h e = in_none p h
+takers_change Monitor p h e = in_none p h
 
 module _ (c : Cluster) (o : Order) (ordered : OrdersSteps c o) where
   of_takers : (l : Link)
@@ -70,19 +70,19 @@ module _ (c : Cluster) (o : Order) (ordered : OrdersSteps c o) where
     on false g = elim (head_or_rest (link (inverse o.then_op) o.then_leaf (inverse o.first_op) o.first) [] l g) [
       | inl e ↦ both_stand (length c.leaves) (inverse o.then_op) o.then_leaf (inverse o.first_op) o.first l e
           (inverse_changes o.then_op ordered.later_word) ordered.later (inverse_changes o.first_op ordered.first_word) ordered.first
-      | inr f ↦ absurd (in_none [] l refl f)
+      | inr f ↦ absurd (in_none l f)
     ]
 
   of_symmetrical : (b : Bool) (l : Link) → Contains (cond b (inverse_links o) []) l → BothStand (length c.leaves) l
   of_symmetrical true l h = of_inverse l h
-  of_symmetrical false l h = absurd (in_none [] l refl h)
+  of_symmetrical false l h = absurd (in_none l h)
 
   of_order : (l : Link) → Contains (order_links o) l → BothStand (length c.leaves) l
   of_order l h = on (is_serialize o.kind) h where
     on : (b : Bool)
         → Contains (cond b [] (link o.first_op o.first o.then_op o.then_leaf ∷ cond o.symmetrical (inverse_links o) [])) l
         → BothStand (length c.leaves) l
-    on true g = absurd (in_none [] l refl g)
+    on true g = absurd (in_none l g)
     on false g = elim (head_or_rest (link o.first_op o.first o.then_op o.then_leaf) (cond o.symmetrical (inverse_links o) []) l g) [
       | inl e ↦ both_stand (length c.leaves) o.first_op o.first o.then_op o.then_leaf l e ordered.first_word ordered.first
           ordered.later_word ordered.later

@@ -19,7 +19,7 @@ use Rattle.cluster_types.specs.declared.placement.Decision.TheVariants.{Promote}
 use Rattle.cluster_types.specs.Decisions.{NeedsHaveNoLoop, all_decisions, decision_of, is_same_decision, needs, needs_through}
 use Rattle.rule_loops.specs.Edges.{colocation_edge, decision_position, leaf_edge, leaf_edges, need_edges}
 use Rattle.rule_loops.specs.FirstLoops.{AllJoin, ClosesNeeds, NeedsHaveLoop, with_colocations}
-use Rattle.rule_loops.proofs.Members.{of_map, of_range, contains_first}
+use Rattle.lemmas.proofs.Members.{of_map, of_range, contains_first}
 use Rattle.rule_loops.proofs.Needs.{alike, count_of_decisions, edge_for, way_for}
 
 module _ (c : Cluster) (joined : AllJoin c) where

@@ -18,7 +18,7 @@ use Rattle.cluster_types.specs.declared.rules.Colocation.{Colocation}
 use Rattle.cluster_types.specs.Decisions.{all_decisions, decision_of, is_place, is_same_decision, joins, leaf_of, needs}
 use Rattle.rule_loops.specs.Edges.{colocation_edge, decision_position, leaf_edge, leaf_edges, need_edges}
 use Rattle.rule_loops.specs.FirstLoops.{JoinsLeaves}
-use Rattle.rule_loops.proofs.Members.{Mapped, at_head, head_or_rest, in_flat, in_map, in_none, in_range, in_rest, of_flat, of_map, of_range}
+use Rattle.lemmas.proofs.Members.{Mapped, at_head, head_or_rest, in_flat, in_map, in_none, in_range, in_rest, of_flat, of_map, of_range}
 
 pub leaves_more : (n : ℕ) → map leaf_edge (range_with_len 0 (n + 1)) ≡ map leaf_edge (range_with_len 0 n) ++ leaf_edge n ∷ []
 leaves_more n = map-range_with_len_more leaf_edge 0 n n (omega arith)
@@ -61,7 +61,7 @@ module _ (c : Cluster) where
     | inl e ↦ sym (ap leaf_of e)
     | inr t ↦ elim (head_or_rest (Promote r) [] d t) [
       | inl e ↦ sym (ap leaf_of e)
-      | inr n ↦ absurd (in_none [] d refl n)
+      | inr n ↦ absurd (in_none d n)
     ]
   ]
 

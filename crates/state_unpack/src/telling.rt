@@ -7,7 +7,7 @@ ghost use Rattle.state_unpack.specs.Kept.{IsFull, Keeps, Tells};
 ghost use Rattle.state_unpack.specs.Touching.{action_touches, touches};
 
 use crate::facts::Facts;
-use cluster_types::{Action, Cluster, Event, LeafId, NodeId};
+use cluster_types::{cell_place, Action, Cluster, Event, LeafId, NodeId};
 use std::alloc::{AllocError, Global};
 
 /// Tells the cell of one more event, if there is such a cell.
@@ -17,7 +17,7 @@ fn tell_cell(cluster: &Cluster, leaf: LeafId, node: NodeId, event: Event, cells:
 {
     let nodes = cluster.nodes.len();
     if (leaf as usize) < cluster.leaves.len() && (node as usize) < nodes {
-        let place = leaf as usize * nodes + node as usize;
+        let place = cell_place(nodes, leaf, node);
         cells[place] = cells[place].after(cluster, leaf, node, event);
     }
 }

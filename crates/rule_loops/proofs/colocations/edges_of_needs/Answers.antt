@@ -1,5 +1,5 @@
 use Rattle.std.proofs.Common.{arith}
-use Rattle.rule_loops.proofs.Members.{read_there}
+use Rattle.lemmas.proofs.Members.{read_there}
 use Rattle.rule_loops.proofs.colocations.edges_of_needs.Goals as goal
 
 pub edge_of-requires-clause-dependent : goal.edge_of-requires-clause-dependent

@@ -1,7 +1,7 @@
 use Rattle.std.proofs.Common.{◌≤◌, IsTrue, length, refl}
 use Rattle.std.proofs.lemmas.List.{take_all}
 use Rattle.rule_loops.specs.FirstLoops.{JoinsLeaves}
-use Rattle.rule_loops.proofs.Members.{all_more, read_there}
+use Rattle.lemmas.proofs.Members.{all_more, read_there}
 use Rattle.rule_loops.proofs.colocations.joins_leaves.Goals as goal
 
 pub returns-then-not-is_among : goal.returns-then-not-is_among

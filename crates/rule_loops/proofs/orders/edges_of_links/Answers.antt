@@ -2,7 +2,7 @@ use Rattle.std.proofs.Common.{arith, ◌≡◌, ◌+◌, length, ap, ◌∙◌}
 use Rattle.rule_loops.specs.Edges.{step_edges}
 use Rattle.rule_loops.specs.FirstLoops.{with_orders}
 use Rattle.rule_loops.proofs.LinkEdges.{end_then, order_then}
-use Rattle.rule_loops.proofs.Members.{read_there}
+use Rattle.lemmas.proofs.Members.{read_there}
 use Rattle.rule_loops.proofs.orders.edges_of_links.Goals as goal
 
 pub push_order-requires-clause-first : goal.push_order-requires-clause-first

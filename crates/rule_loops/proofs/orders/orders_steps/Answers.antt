@@ -1,7 +1,7 @@
 use Rattle.std.proofs.Common.{◌≤◌, IsTrue, length, refl}
 use Rattle.std.proofs.lemmas.List.{take_all}
 use Rattle.rule_loops.specs.FirstLoops.{OrdersSteps}
-use Rattle.rule_loops.proofs.Members.{all_more, read_there}
+use Rattle.lemmas.proofs.Members.{all_more, read_there}
 use Rattle.rule_loops.proofs.orders.orders_steps.Goals as goal
 
 pub returns-then-not-is_of_steps : goal.returns-then-not-is_of_steps

@@ -16,9 +16,8 @@ module _ {X : Type 0} where
   pub in_rest : (x : X) (xs : List X) (a : X) → Contains xs a → Contains (x ∷ xs) a
   in_rest x xs a (k, l, e) = (suc k, omega arith, e)
 
-  pub in_none : (xs : List X) (a : X) → xs ≡ [] → Contains xs a → ⊥
-  in_none [] a e (k, l, f) = absurd (let f : ⊥ = omega arith in f)
-  in_none (x ∷ xs) a e h = cc
+  pub in_none : (a : X) → Contains [] a → ⊥
+  in_none a (k, l, f) = absurd (let f : ⊥ = omega arith in f)
 
   -- what a loop reads
   pub read_there : {xs ys : List X} {k : ℕ} {x : X} → ys ≡ xs → k < length ys → x ≡ slice_index_or ys k x → Contains xs x
@@ -47,7 +46,6 @@ module _ {X : Type 0} where
       ]
 
   -- of a list, what a test keeps
-
   pub in_filter : (p : X → Bool) (xs : List X) (a : X) → Contains xs a → p a ≡ true → Contains (filter p xs) a
   in_filter p [] a h t = h
   in_filter p (x ∷ xs) a h t = on (p x) refl (head_or_rest x xs a h) (in_filter p xs a) where
@@ -64,7 +62,7 @@ module _ {X : Type 0} where
     pub passes : p a ≡ true
 
   pub of_filter : (p : X → Bool) (xs : List X) (a : X) → Contains (filter p xs) a → Kept p xs a
-  of_filter p [] a h = absurd (in_none [] a refl h)
+  of_filter p [] a h = absurd (in_none a h)
   of_filter p (x ∷ xs) a h = on (p x) refl h (of_filter p xs a) where
     more : Kept p xs a → Kept p (x ∷ xs) a
     more k = record { among = in_rest x xs a k.among; passes = k.passes }
@@ -80,7 +78,7 @@ module _ {X : Type 0} where
 
 module _ {X Y : Type 0} where
   pub in_map : (f : X → Y) (xs : List X) (x : X) → Contains xs x → Contains (map f xs) (f x)
-  in_map f [] x h = absurd (in_none [] x refl h)
+  in_map f [] x h = absurd (in_none x h)
   in_map f (y ∷ xs) x h = on (head_or_rest y xs x h) (in_map f xs x) where
     on : (y ≡ x) ⊎ Contains xs x → (Contains xs x → Contains (map f xs) (f x)) → Contains (map f (y ∷ xs)) (f x)
     on (inl e) next = at_head (f y) (map f xs) (f x) (ap f e)
@@ -93,14 +91,14 @@ module _ {X Y : Type 0} where
     pub gives : f source ≡ y
 
   pub of_map : (f : X → Y) (xs : List X) (y : Y) → Contains (map f xs) y → Mapped f xs y
-  of_map f [] y h = absurd (in_none [] y refl h)
+  of_map f [] y h = absurd (in_none y h)
   of_map f (x ∷ xs) y h = on (head_or_rest (f x) (map f xs) y h) (of_map f xs y) where
     on : (f x ≡ y) ⊎ Contains (map f xs) y → (Contains (map f xs) y → Mapped f xs y) → Mapped f (x ∷ xs) y
     on (inl e) next = record { source = x; among = at_head x xs x refl; gives = e }
     on (inr r) next = let m = next r in record { source = m.source; among = in_rest x xs m.source m.among; gives = m.gives }
 
   pub in_flat : (f : X → List Y) (xs : List X) (x : X) (y : Y) → Contains xs x → Contains (f x) y → Contains (flat_map f xs) y
-  in_flat f [] x y h g = absurd (in_none [] x refl h)
+  in_flat f [] x y h g = absurd (in_none x h)
   in_flat f (z ∷ xs) x y h g = on (head_or_rest z xs x h) (in_flat f xs x y) where
     on : (z ≡ x) ⊎ Contains xs x → (Contains xs x → Contains (f x) y → Contains (flat_map f xs) y) → Contains (flat_map f (z ∷ xs)) y
     on (inl e) next = Contains-append_left (f z) (flat_map f xs) y (rw e g)
@@ -113,7 +111,7 @@ module _ {X Y : Type 0} where
     pub gives : Contains (f source) y
 
   pub of_flat : (f : X → List Y) (xs : List X) (y : Y) → Contains (flat_map f xs) y → Flat f xs y
-  of_flat f [] y h = absurd (in_none [] y refl h)
+  of_flat f [] y h = absurd (in_none y h)
   of_flat f (x ∷ xs) y h = on (Contains-append_cases (f x) (flat_map f xs) y h) (of_flat f xs y) where
     on : Contains (f x) y ⊎ Contains (flat_map f xs) y → (Contains (flat_map f xs) y → Flat f xs y) → Flat f (x ∷ xs) y
     on (inl e) next = record { source = x; among = at_head x xs x refl; gives = e }
@@ -128,7 +126,7 @@ in_range a (suc n) x le lt = elim (cases_order a x) [
 ]
 
 pub of_range : (a n x : ℕ) → Contains (range_with_len a n) x → x < a + n
-of_range a zero x h = absurd (in_none [] x refl h)
+of_range a zero x h = absurd (in_none x h)
 of_range a (suc n) x h = on (head_or_rest a (range_with_len (a + 1) n) x h) (of_range (a + 1) n x) where
   on : (a ≡ x) ⊎ Contains (range_with_len (a + 1) n) x → (Contains (range_with_len (a + 1) n) x → x < a + 1 + n) → x < a + suc n
   on (inl e) next = omega arith
