@@ -6,7 +6,7 @@ use Rattle.std.proofs.lemmas.List.{length-append}
 use Rattle.crm_lex.specs.RawLines.{physical_lines, onto_first, onto_group, joined, goes_on}
 use Rattle.cluster_io.specs.NextLine.{has_feed, first_of, first_line, content_within, is_whole}
 use Rattle.cluster_io.specs.Scanning.{Joins, all_go_on, content_length}
-use Rattle.cluster_io.proofs.Texts.{length-content}
+use Rattle.crm_lex.proofs.Ends.{length-content}
 
 -- bytes up to the first line feed are a physical line
 pub physical_at_feed : (text rest : List ℕ) → has_feed text ≡ false

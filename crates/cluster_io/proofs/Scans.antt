@@ -10,7 +10,7 @@ use Rattle.cluster_io.specs.Scanning.{Joins, content_length, before_feed, Looked
 use Rattle.cluster_io.specs.declared.line_scan.Scan.{Scan}
 use Rattle.cluster_io.specs.declared.line_scan.Bounds.{Bounds}
 use Rattle.cluster_io.specs.declared.line_step.LineStep.TheVariants.{Line, TooLong, TooLarge}
-use Rattle.cluster_io.proofs.Texts.{content_at_feed, length-before_feed, ends_in_backslash_is, ends_in_some}
+use Rattle.cluster_io.proofs.Texts.{content_at_feed, length-before_feed, ends_in_some}
 use Rattle.cluster_io.proofs.PhysicalLines.{continues_after, continues_by_length, lines_more, Joins-more, content_length-append, holds_line_after, open_not_whole, physical_open, first_line_after, first_alone}
 use Rattle.cluster_io.proofs.LineAnswers.{feed_too_long, feed_too_large, feed_first, feed_line, open_too_long, open_too_large, last_joined, last_too_long, last_line}
 
@@ -138,7 +138,7 @@ module _ (bounds : Bounds) (held : List ℕ) (s : Scan) (feed : ℕ) (l : Looked
     at_feed_next goes h k =
         let text = slice_range held s.line feed in
         let backslash = (and_parts _ _ (sym is ∙ goes)).0 in
-        let some : 0 < length (before_feed text) = ends_in_some 92 (before_feed text) (ends_in_backslash_is (before_feed text) ∙ backslash) in
+        let some : 0 < length (before_feed text) = ends_in_some 92 (before_feed text) backslash in
         let short = length-before_feed text in
         let zero : feed + 1 - (feed + 1) ≡ 0 = omega arith in
         record {

@@ -2,37 +2,14 @@
 use Rattle.std.proofs.Common.{◌≡◌, ℕ, suc, ◌+◌, ◌-◌, ◌≤◌, ◌<◌, Bool, true, false, ◌==◌, ◌&&◌, ◌||◌, cond, List, [], ◌∷◌, ◌++◌, length, take, get_or, arith, refl, ap, sym, ◌∙◌}
 use Rattle.std.proofs.lemmas.Bool.{cond-false, cond_both, or_parts, and_right, both_ways}
 use Rattle.std.proofs.lemmas.List.{length-take-le}
-use Rattle.crm_lex.specs.RawLines.{ends_in_backslash, content, is_line_end}
+use Rattle.crm_lex.specs.RawLines.{content, ends_in, is_line_end}
 use Rattle.cluster_io.specs.NextLine.{has_feed}
-use Rattle.cluster_io.specs.Scanning.{ends_in, before_feed}
-
--- the last byte by its place
-ends_in_at : (byte b : ℕ) (bs : List ℕ) → (get_or (b ∷ bs) (length bs) 0 == byte) ≡ ends_in byte (b ∷ bs)
-ends_in_at byte b [] = refl
-ends_in_at byte b (d ∷ bs) = ends_in_at byte d bs
-
-pub ends_in_by_place : (byte : ℕ) (text : List ℕ) → 0 < length text → (get_or text (length text - 1) 0 == byte) ≡ ends_in byte text
-ends_in_by_place byte [] h = absurd (omega arith)
-ends_in_by_place byte (b ∷ bs) h =
-    let e : length (b ∷ bs) - 1 ≡ length bs = omega arith in
-    ap (λ n. get_or (b ∷ bs) n 0 == byte) e ∙ ends_in_at byte b bs
-
-pub ends_in_backslash_is : (text : List ℕ) → ends_in 92 text ≡ ends_in_backslash text
-ends_in_backslash_is [] = refl
-ends_in_backslash_is (b ∷ []) = refl
-ends_in_backslash_is (b ∷ d ∷ bs) = ends_in_backslash_is (d ∷ bs)
+use Rattle.cluster_io.specs.Scanning.{before_feed}
 
 -- a text that ends in a byte has one
 pub ends_in_some : (byte : ℕ) (text : List ℕ) → ends_in byte text ≡ true → 0 < length text
 ends_in_some byte [] h = absurd (both_ways false refl h)
 ends_in_some byte (b ∷ bs) h = omega arith
-
--- content is no longer than its line
-pub length-content : (line : List ℕ) → length (content line) ≤ length line
-length-content [] = omega arith
-length-content (b ∷ bs) =
-    cond_both (is_line_end (b ∷ bs)) [] (b ∷ content bs) (λ xs. length xs ≤ length (b ∷ bs)) (λ _. omega arith)
-    (λ _. omega (arith, length-content bs))
 
 -- bytes without a line feed are no line end
 no_line_end : (b : ℕ) (bs : List ℕ) → has_feed (b ∷ bs) ≡ false → is_line_end (b ∷ bs) ≡ false

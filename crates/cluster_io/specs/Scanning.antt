@@ -1,18 +1,12 @@
 -- How far a reader of lines has looked through what it holds. No public clause cites this module.
 use Rattle.std.specs.Prelude.{◌≡◌, ℕ, ◌+◌, ◌-◌, ◌*◌, ◌≤◌, ◌<◌, ◌==◌, ◌&&◌, Bool, false, true, if◌then◌else◌, List, [], ◌∷◌, ◌++◌, length, take, slice_range, slice_index}
-use Rattle.crm_lex.specs.RawLines.{physical_lines, content, goes_on}
+use Rattle.crm_lex.specs.RawLines.{physical_lines, content, ends_in, goes_on}
 use Rattle.cluster_io.specs.NextLine.{answer_of, first_line, has_feed, holds_line}
 use Rattle.cluster_io.specs.declared.line_scan.Scan.{Scan}
 use Rattle.cluster_io.specs.declared.line_scan.Bounds.{Bounds}
 use Rattle.cluster_io.specs.declared.line_scan.Found.{Found}
 use Rattle.cluster_io.specs.declared.line_scan.Found.TheVariants as found
 use Rattle.cluster_io.specs.declared.line_step.LineStep.TheVariants as step
-
--- the last byte is this one
-abbrev pub ends_in : ℕ → List ℕ → Bool
-ends_in byte [] = false
-ends_in byte (b ∷ []) = b == byte
-ends_in byte (b ∷ bs) = ends_in byte bs
 
 -- what stands before the line end, of what stands before a line feed
 abbrev pub before_feed : List ℕ → List ℕ

@@ -1,7 +1,7 @@
 ghost use Rattle.std.specs.Prelude.{◌≡◌, ℕ, ◌+◌, ◌≤◌, ◌<◌, ◌&&◌, ◌||◌, not, false, drop, length, MatchOption, IfOk, IfErr};
-ghost use Rattle.crm_lex.specs.RawLines.{begins_comment, ends_in_backslash, is_blank};
+ghost use Rattle.crm_lex.specs.RawLines.{begins_comment, ends_in, ends_in_backslash, is_blank};
 ghost use Rattle.cluster_io.specs.NextLine.{has_feed};
-ghost use Rattle.cluster_io.specs.Scanning.{Looked, Finds, FeedAt, FeedIn, FindsLast, ends_in, before_feed};
+ghost use Rattle.cluster_io.specs.Scanning.{Looked, Finds, FeedAt, FeedIn, FindsLast, before_feed};
 
 /// How far a reader has looked through what it holds: all before `scanned`.
 #[derive(Clone, Copy)]
@@ -94,7 +94,6 @@ fn begins_comment(text: &[u8]) -> bool
 }
 
 /// A physical line with this content goes on with the next one.
-#[tactic(auto, using(crate::proofs::Texts::ends_in_backslash_is))]
 fn goes_on(continues: bool, text: &[u8]) -> bool
     ensures { result ≡ (ends_in_backslash text.now && (continues || not (begins_comment text.now))) }
 {

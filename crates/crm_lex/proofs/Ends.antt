@@ -1,7 +1,7 @@
 -- Line ends and last bytes.
-use Rattle.std.proofs.Common.{◌≡◌, ℕ, suc, ◌-◌, ◌<◌, Bool, true, false, ◌&&◌, ◌==◌, if◌then◌else◌, List, [], ◌∷◌, ◌++◌, length, get_or, take, refl, sym, ap, ◌∙◌, append_assoc, arith, eqb-true}
-use Rattle.crm_lex.specs.RawLines.{content, ends_in_backslash}
-use Rattle.crm_lex.specs.Parts.{ends_in}
+use Rattle.std.proofs.Common.{◌≡◌, ℕ, suc, ◌-◌, ◌<◌, ◌≤◌, Bool, true, false, ◌&&◌, ◌==◌, if◌then◌else◌, List, [], ◌∷◌, ◌++◌, length, get_or, take, refl, sym, ap, ◌∙◌, append_assoc, arith, eqb-true}
+use Rattle.std.proofs.lemmas.Bool.{cond_both}
+use Rattle.crm_lex.specs.RawLines.{content, ends_in, is_line_end}
 
 -- the last byte, by its place
 pub ends_in-last : (n : ℕ) (bs : List ℕ) → 0 < length bs → (get_or bs (length bs - 1) 0 == n) ≡ ends_in n bs
@@ -11,11 +11,6 @@ ends_in-last n (b ∷ c ∷ cs) some =
     let place : length (b ∷ c ∷ cs) - 1 ≡ suc (length (c ∷ cs) - 1) = omega arith in
     rw place (ends_in-last n (c ∷ cs) (omega arith))
 
-pub ends_in_backslash-is : (bs : List ℕ) → ends_in 92 bs ≡ ends_in_backslash bs
-ends_in_backslash-is [] = refl
-ends_in_backslash-is (b ∷ []) = refl
-ends_in_backslash-is (b ∷ c ∷ cs) = ends_in_backslash-is (c ∷ cs)
-
 -- what ends in a byte is its front and this byte
 pub front_and_last : (n : ℕ) (bs : List ℕ) → ends_in n bs ≡ true → bs ≡ take (length bs - 1) bs ++ n ∷ []
 front_and_last n [] e = cc
@@ -23,6 +18,13 @@ front_and_last n (b ∷ []) e = ap (λ x. x ∷ []) (eqb-true b n e)
 front_and_last n (b ∷ c ∷ cs) e =
     let place : length (b ∷ c ∷ cs) - 1 ≡ suc (length (c ∷ cs) - 1) = omega arith in
     rw place (ap (λ xs. b ∷ xs) (front_and_last n (c ∷ cs) e))
+
+-- content is no longer than its line
+pub length-content : (line : List ℕ) → length (content line) ≤ length line
+length-content [] = omega arith
+length-content (b ∷ bs) =
+    cond_both (is_line_end (b ∷ bs)) [] (b ∷ content bs) (λ xs. length xs ≤ length (b ∷ bs)) (λ _. omega arith)
+    (λ _. omega (arith, length-content bs))
 
 -- a line without a line end
 pub content-none : (bs : List ℕ) → ends_in 10 bs ≡ false → content bs ≡ bs

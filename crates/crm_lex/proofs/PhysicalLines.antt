@@ -1,8 +1,7 @@
 -- The first physical line of a text, and the lines of a text in two parts.
 use Rattle.std.proofs.Common.{◌≡◌, ℕ, zero, suc, ◌<◌, ◌≤◌, Bool, true, false, ◌==◌, if◌then◌else◌, List, [], ◌∷◌, ◌++◌, length, get_or, take, drop, refl, ap, ◌∙◌, append-nil, arith}
 use Rattle.std.specs.List.{concat}
-use Rattle.crm_lex.specs.RawLines.{physical_lines, onto_first}
-use Rattle.crm_lex.specs.Parts.{ends_in}
+use Rattle.crm_lex.specs.RawLines.{ends_in, onto_first, physical_lines}
 
 -- the first line feed stands at place k
 pub first_line-feed : (bs : List ℕ) (k : ℕ) → k < length bs → ((j : ℕ) → j < k → (get_or bs j 0 == 10) ≡ false) → (get_or bs k 0 == 10) ≡ true

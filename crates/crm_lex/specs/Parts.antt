@@ -1,4 +1,4 @@
--- What the private functions say: the last byte, a text as its first word and the words behind it, and lines that are read as they stand.
+-- What the private functions say: a text as its first word and the words behind it, and lines that are read as they stand.
 use Rattle.std.specs.Prelude.{◌≡◌, ℕ, nat_le, ◌==◌, ◌&&◌, ◌||◌, not, Bool, true, false, Option, Some, None, List, [], ◌∷◌, ◌++◌, length, drop, slice_range, map, filter}
 use Rattle.std.specs.List.{list_any, slice_split}
 use Rattle.crm_lex.specs.RawLines.{is_blank, content}
@@ -6,12 +6,6 @@ use Rattle.crm_lex.specs.Words.{is_quote, pieces, is_gap, has_pieces, letters}
 use Rattle.crm_lex.specs.declared.quoting.Place.{Place}
 use Rattle.crm_lex.specs.declared.quoting.Place.TheVariants.{Outside}
 use Rattle.crm_lex.specs.declared.quoting.Piece.{Piece}
-
--- the last byte is this one
-abbrev pub ends_in : ℕ → List ℕ → Bool
-ends_in n [] = false
-ends_in n (b ∷ []) = b == n
-ends_in n (b ∷ bs) = ends_in n bs
 
 -- the letters of the first part, and the words of the others
 abbrev pub first_letters : List (List Piece) → List ℕ

@@ -32,11 +32,14 @@ abbrev pub begins_comment : List ℕ → Bool
 begins_comment [] = false
 begins_comment (b ∷ bs) = b == 35 || is_blank b && begins_comment bs
 
--- the last byte is a backslash
+-- the last byte is this one
+abbrev pub ends_in : ℕ → List ℕ → Bool
+ends_in byte [] = false
+ends_in byte (b ∷ []) = b == byte
+ends_in byte (b ∷ bs) = ends_in byte bs
+
 abbrev pub ends_in_backslash : List ℕ → Bool
-ends_in_backslash [] = false
-ends_in_backslash (b ∷ []) = b == 92
-ends_in_backslash (b ∷ bs) = ends_in_backslash bs
+ends_in_backslash text = ends_in 92 text
 
 -- a physical line goes on with the next one: it ends in a backslash, and it is no comment. A line that continues another is no comment
 abbrev pub goes_on : Bool → List ℕ → Bool

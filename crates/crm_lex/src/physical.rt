@@ -37,7 +37,7 @@ pub fn first_line(text: &[u8]) -> (&[u8], &[u8])
 
 /// Whether the last byte is this one.
 fn ends_in(byte: u8, bytes: &[u8]) -> bool
-    ensures { result ≡ parts.ends_in byte bytes.now }
+    ensures { result ≡ raw.ends_in byte bytes.now }
 {
     match bytes {
         [.., last] => *last == byte,

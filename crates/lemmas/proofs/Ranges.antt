@@ -28,43 +28,60 @@ filter-more p n false e = ap (filter p) (range-more n) ∙ (filter-append p (ran
 
 -- where two functions or tests agree on the numbers from one on, what is made of these numbers is the same
 module _ {X : Type 0} (f g : ℕ → X) where
-  pub map-same : (from n : ℕ) → ((k : ℕ) → from ≤ k → k < from + n → f k ≡ g k) → map f (range_with_len from n) ≡ map g (range_with_len from n)
-  map-same from zero same = refl
-  map-same from (suc n) same =
-      rw (same from (omega arith) (omega arith), map-same (from + 1) n (λ k ge lt. same k (omega arith) (omega arith))) refl
+  pub map-alike : (from n : ℕ) → ((k : ℕ) → from ≤ k → k < from + n → f k ≡ g k) → map f (range_with_len from n) ≡ map g (range_with_len from n)
+  map-alike from zero same = refl
+  map-alike from (suc n) same =
+      rw (same from (omega arith) (omega arith), map-alike (from + 1) n (λ k ge lt. same k (omega arith) (omega arith))) refl
 
 module _ {X : Type 0} (f g : ℕ → List X) where
-  pub flat_map-same : (from n : ℕ) → ((k : ℕ) → from ≤ k → k < from + n → f k ≡ g k) → flat_map f (range_with_len from n) ≡ flat_map g (range_with_len from n)
-  flat_map-same from zero same = refl
-  flat_map-same from (suc n) same =
-      rw (same from (omega arith) (omega arith), flat_map-same (from + 1) n (λ k ge lt. same k (omega arith) (omega arith))) refl
+  pub flat_map-alike : (from n : ℕ) → ((k : ℕ) → from ≤ k → k < from + n → f k ≡ g k) → flat_map f (range_with_len from n) ≡ flat_map g (range_with_len from n)
+  flat_map-alike from zero same = refl
+  flat_map-alike from (suc n) same =
+      rw (same from (omega arith) (omega arith), flat_map-alike (from + 1) n (λ k ge lt. same k (omega arith) (omega arith))) refl
 
 module _ (p q : ℕ → Bool) where
   abbrev AgreeOn : ℕ → ℕ → Type 0
   AgreeOn from n = (k : ℕ) → from ≤ k → k < from + n → p k ≡ q k
 
-  pub filter-same : (from n : ℕ) → AgreeOn from n → filter p (range_with_len from n) ≡ filter q (range_with_len from n)
-  filter-same from zero same = refl
-  filter-same from (suc n) same =
-      rw (same from (omega arith) (omega arith), filter-same (from + 1) n (λ k ge lt. same k (omega arith) (omega arith))) refl
+  pub filter-alike : (from n : ℕ) → AgreeOn from n → filter p (range_with_len from n) ≡ filter q (range_with_len from n)
+  filter-alike from zero same = refl
+  filter-alike from (suc n) same =
+      rw (same from (omega arith) (omega arith), filter-alike (from + 1) n (λ k ge lt. same k (omega arith) (omega arith))) refl
 
-  pub any-same : (from n : ℕ) → AgreeOn from n → list_any p (range_with_len from n) ≡ list_any q (range_with_len from n)
-  any-same from zero same = refl
-  any-same from (suc n) same =
-      rw (same from (omega arith) (omega arith), any-same (from + 1) n (λ k ge lt. same k (omega arith) (omega arith))) refl
+  pub any-alike : (from n : ℕ) → AgreeOn from n → list_any p (range_with_len from n) ≡ list_any q (range_with_len from n)
+  any-alike from zero same = refl
+  any-alike from (suc n) same =
+      rw (same from (omega arith) (omega arith), any-alike (from + 1) n (λ k ge lt. same k (omega arith) (omega arith))) refl
 
-  pub all-same : (from n : ℕ) → AgreeOn from n → list_all p (range_with_len from n) ≡ list_all q (range_with_len from n)
-  all-same from zero same = refl
-  all-same from (suc n) same =
-      rw (same from (omega arith) (omega arith), all-same (from + 1) n (λ k ge lt. same k (omega arith) (omega arith))) refl
+  pub all-alike : (from n : ℕ) → AgreeOn from n → list_all p (range_with_len from n) ≡ list_all q (range_with_len from n)
+  all-alike from zero same = refl
+  all-alike from (suc n) same =
+      rw (same from (omega arith) (omega arith), all-alike (from + 1) n (λ k ge lt. same k (omega arith) (omega arith))) refl
 
-  pub count-same : (from n : ℕ) → AgreeOn from n → count_by p (range_with_len from n) ≡ count_by q (range_with_len from n)
-  count-same from zero same = refl
-  count-same from (suc n) same =
+  pub count-alike : (from n : ℕ) → AgreeOn from n → count_by p (range_with_len from n) ≡ count_by q (range_with_len from n)
+  count-alike from zero same = refl
+  count-alike from (suc n) same =
       let c = count-is p from (range_with_len (from + 1) n) (q from) (same from (omega arith) (omega arith)) in
       let d = count-is q from (range_with_len (from + 1) n) (q from) refl in
-      let rest = count-same (from + 1) n (λ k ge lt. same k (omega arith) (omega arith)) in
+      let rest = count-alike (from + 1) n (λ k ge lt. same k (omega arith) (omega arith)) in
       omega arith
+
+-- the same below a bound
+pub map-same : {X : Type 0} (f g : ℕ → X) (n : ℕ) → ((i : ℕ) → i < n → f i ≡ g i) → map f (range_with_len 0 n) ≡ map g (range_with_len 0 n)
+map-same f g n same = map-alike f g 0 n (λ i least most. same i (omega (arith, most)))
+
+pub flat_map-same : {X : Type 0} (f g : ℕ → List X) (n : ℕ) → ((i : ℕ) → i < n → f i ≡ g i)
+    → flat_map f (range_with_len 0 n) ≡ flat_map g (range_with_len 0 n)
+flat_map-same f g n same = flat_map-alike f g 0 n (λ i least most. same i (omega (arith, most)))
+
+pub filter-same : (p q : ℕ → Bool) (n : ℕ) → ((i : ℕ) → i < n → p i ≡ q i) → filter p (range_with_len 0 n) ≡ filter q (range_with_len 0 n)
+filter-same p q n same = filter-alike p q 0 n (λ i least most. same i (omega (arith, most)))
+
+pub any-same : (p q : ℕ → Bool) (n : ℕ) → ((i : ℕ) → i < n → p i ≡ q i) → list_any p (range_with_len 0 n) ≡ list_any q (range_with_len 0 n)
+any-same p q n same = any-alike p q 0 n (λ i least most. same i (omega (arith, most)))
+
+pub count-same : (p q : ℕ → Bool) (n : ℕ) → ((i : ℕ) → i < n → p i ≡ q i) → count_by p (range_with_len 0 n) ≡ count_by q (range_with_len 0 n)
+count-same p q n same = count-alike p q 0 n (λ i least most. same i (omega (arith, most)))
 
 pub filter-none : (n : ℕ) → filter (λ (i : ℕ). false) (range_with_len 0 n) ≡ []
 filter-none zero = refl

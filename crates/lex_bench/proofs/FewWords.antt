@@ -13,6 +13,7 @@ use Rattle.crm_lex.specs.declared.line.Line.{Line}
 use Rattle.crm_lex.specs.declared.quoting.Piece.{Piece}
 use Rattle.crm_lex.specs.declared.quoting.Place.{Place}
 use Rattle.crm_lex.specs.declared.quoting.Place.TheVariants.{Outside}
+use Rattle.crm_lex.proofs.Ends.{length-content}
 use Rattle.crm_lex.proofs.Pieces.{whole_by_pieces}
 use Rattle.lex_bench.specs.Counting.{words_in}
 
@@ -42,14 +43,6 @@ few_words text =
     omega (arith, few_parts (pieces Outside text), length-map parts letters, length-pieces Outside text)
 
 -- the text of a logical line is no longer than its physical lines
-short_content : (line : List ℕ) → length (content line) ≤ length line
-short_content [] = omega arith
-short_content (b ∷ bs) = split (is_line_end (b ∷ bs)) (short_content bs)
-  where
-    split : (t : Bool) → length (content bs) ≤ length bs → length (if t then [] else b ∷ content bs) ≤ length (b ∷ bs)
-    split true h = omega arith
-    split false h = omega (arith, h)
-
 short_joint : (lines : List (List ℕ)) → length (joint lines) ≤ 1
 short_joint [] = omega arith
 short_joint (line ∷ lines) = omega arith
@@ -68,7 +61,7 @@ short_joined [] = omega arith
 short_joined (line ∷ lines) =
     let front = short_with (joint lines) (content line) (short_joint lines) in
     let joint_size = length-append (with_joint (joint lines) (content line)) (joined_text lines) in
-    omega (arith, front, short_content line, joint_size, length-append line (concat lines), short_joined lines)
+    omega (arith, front, length-content line, joint_size, length-append line (concat lines), short_joined lines)
 
 short_text : (lines : List (List ℕ)) → length (line_text lines) ≤ length (concat lines)
 short_text lines = split (is_comment lines)

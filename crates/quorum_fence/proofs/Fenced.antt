@@ -22,10 +22,10 @@ module _ (c : Cluster) (es : List Event) (promotions : List Promotion) (states :
 
   -- the cluster may not fence
   pub fences-none : may_fence c es ≡ false → [] ≡ filter (λ n. is_to_be_fenced c n es) (range_with_len 0 (length c.nodes))
-  fences-none never = sym (filter-same (λ n. is_to_be_fenced c n es) (λ i. false) 0 (length c.nodes) (λ i least low. rw never refl) ∙ filter-none (length c.nodes))
+  fences-none never = sym (filter-same (λ n. is_to_be_fenced c n es) (λ i. false) (length c.nodes) (λ i low. rw never refl) ∙ filter-none (length c.nodes))
 
   -- it may
   pub fences-unclean : may_fence c es ≡ true → unclean_in states.nodes ≡ filter (λ n. is_to_be_fenced c n es) (range_with_len 0 (length c.nodes))
   fences-unclean may =
       ap (λ k. filter (λ n. option_map_or is_unclean_state (slice_get states.nodes n) false) (range_with_len 0 k)) size
-      ∙ filter-same _ (λ n. is_to_be_fenced c n es) 0 (length c.nodes) (λ i least low. rw (state-is i low, may) refl)
+      ∙ filter-same _ (λ n. is_to_be_fenced c n es) (length c.nodes) (λ i low. rw (state-is i low, may) refl)

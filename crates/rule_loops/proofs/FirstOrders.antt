@@ -74,7 +74,7 @@ module _ (c : Cluster) where
       let up : step_position m.source.before < step_position m.source.after
       = elim (Contains-append_cases (flat_map leaf_links (range_with_len 0 (length c.leaves))) [] m.source k.among) [
         | inl own ↦ let f = of_flat leaf_links (range_with_len 0 (length c.leaves)) m.source own in rises_in_leaf f.source m.source f.gives
-        | inr other ↦ absurd (in_none [] m.source refl other)
+        | inr other ↦ absurd (in_none m.source other)
       ] in
       rw (← m.gives) up
 

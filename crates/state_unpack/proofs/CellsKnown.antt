@@ -78,18 +78,18 @@ module _ (c : Cluster) (es : List Event) (cells : List Facts) (keeps : Keeps c e
   fatal-there r n h k = rw (keeps.told r n h k, counted-is c r n es) refl
 
   fatal-is : (r : ℕ) → r < length c.leaves → somewhere is_fatal c r (moment_of es) cells ≡ has_somewhere (has_code fatal_codes) c r es
-  fatal-is r h = any-same _ _ 0 (length c.nodes) (λ n low k. fatal-there r n h k)
+  fatal-is r h = any-same _ _ (length c.nodes) (λ n k. fatal-there r n h k)
 
   stop-there : (r n : ℕ) → r < length c.leaves → n < length c.nodes
       → option_map_or (λ facts. is_stopping (counted_of c r (moment_of es) facts)) (cell_in c cells r n) false ≡ list_any (wants_stop c) (counted c r n es)
   stop-there r n h k = rw (keeps.told r n h k, counted-is c r n es) refl
 
   pub stops-are : map (λ r. somewhere is_stopping c r (moment_of es) cells) (range_with_len 0 (length c.leaves)) ≡ map (λ r. is_fail_stopped c r es) (range_with_len 0 (length c.leaves))
-  stops-are = map-same _ _ 0 (length c.leaves) (λ r low h. any-same _ _ 0 (length c.nodes) (λ n low k. stop-there r n h k))
+  stops-are = map-same _ _ (length c.leaves) (λ r h. any-same _ _ (length c.nodes) (λ n k. stop-there r n h k))
 
   -- the states of the nodes
   pub blamed-is : (n : ℕ) → n < length c.nodes → is_blamed c n cells ≡ is_to_blame c n es
-  blamed-is n k = any-same _ _ 0 (length c.leaves) (λ r low h. rw (keeps.told r n h k) refl)
+  blamed-is n k = any-same _ _ (length c.leaves) (λ r h. rw (keeps.told r n h k) refl)
 
   module _ (signs : List (Option Sign)) (shows : Shows (length c.nodes) es signs) where
     pub by-sign : (n : ℕ) (blamed : Bool) (found : Option (Option Sign)) (last : Option NodeSign) → blamed ≡ is_to_blame c n es → option_map (option_map as_sign) found ≡ Some last
@@ -102,7 +102,7 @@ module _ (c : Cluster) (es : List Event) (cells : List Facts) (keeps : Keeps c e
     by-sign n blamed (Some (Some sign.WasFenced)) last b e = let is : last ≡ Some was_fenced = cc in rw is refl
 
     pub nodes-are : map (node_from c cells signs) (range_with_len 0 (length c.nodes)) ≡ map (λ n. node_state c n es) (range_with_len 0 (length c.nodes))
-    nodes-are = map-same _ _ 0 (length c.nodes) (λ n low k. by-sign n (is_blamed c n cells) (slice_get signs n) (last_sign n es) (blamed-is n k) (shows.last n k))
+    nodes-are = map-same _ _ (length c.nodes) (λ n k. by-sign n (is_blamed c n cells) (slice_get signs n) (last_sign n es) (blamed-is n k) (shows.last n k))
 
   -- the cells of a leaf, and all cells
   module _ (nodes : List NodeState) (are : nodes ≡ map (λ n. node_state c n es) (range_with_len 0 (length c.nodes))) (few : (r : ℕ) → length (monitors c r) ≤ 8) where
@@ -114,13 +114,13 @@ module _ (c : Cluster) (es : List Event) (cells : List Facts) (keeps : Keeps c e
         ap (λ xs. is_online_in xs n) are ∙ ap (λ o. option_map_or is_online_state o false) here
 
     row-is : (r : ℕ) → r < length c.leaves → row_from c cells nodes (moment_of es) r ≡ map (cell_at c es r) (range_with_len 0 (length c.nodes))
-    row-is r h = map-same _ _ 0 (length c.nodes) (λ n low k.
+    row-is r h = map-same _ _ (length c.nodes) (λ n k.
         ap (λ o. cell_from c r (moment_of es) (somewhere is_fatal c r (moment_of es) cells) (is_online_in nodes n) (unwrap_or o no_facts)) (keeps.told r n h k)
         ∙ cell-is c r n es (few r) _ _ (fatal-is r h) (online-is n k))
 
     pub cells-are : flat_map (row_from c cells nodes (moment_of es)) (range_with_len 0 (length c.leaves))
         ≡ flat_map (λ r. map (cell_at c es r) (range_with_len 0 (length c.nodes))) (range_with_len 0 (length c.leaves))
-    cells-are = flat_map-same _ _ 0 (length c.leaves) (λ r low h. row-is r h)
+    cells-are = flat_map-same _ _ (length c.leaves) row-is
 
 -- a leaf has few monitors, where each one has
 pub few-monitors : (c : Cluster) → has_few_monitors c ≡ true → (r : ℕ) → length (monitors c r) ≤ 8
