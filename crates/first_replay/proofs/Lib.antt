@@ -1,7 +1,6 @@
 -- Reading.
 pub mod LineLemmas
 pub mod NameLemmas
-pub mod SecondsLemmas
 pub mod FirstLines
 pub mod FormLemmas
 pub mod ReadLemmas

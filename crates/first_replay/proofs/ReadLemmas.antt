@@ -6,7 +6,7 @@ use Rattle.std.proofs.lemmas.List.{length-map}
 use Rattle.first_replay.specs.declared.cluster.Cluster.{Cluster}
 use Rattle.first_replay.specs.Form.{Says, form_lines}
 use Rattle.crm_lex.specs.Names.{is_name}
-use Rattle.first_replay.specs.Lines.{is_plain, words_of, is_agent, IsSeconds}
+use Rattle.first_replay.specs.Lines.{is_plain, words_of, is_agent, is_seconds}
 use Rattle.first_replay.proofs.FirstLines.{all_found, found_all}
 use Rattle.first_replay.proofs.FormLemmas.{length-form_lines, short_lines}
 
@@ -18,7 +18,7 @@ first_words_of text = map (λ line. take 4 (words_of line)) (take 133 (lines tex
 abbrev pub Allowed : Cluster → List ℕ → List ℕ → Type 0
 Allowed cluster agent seconds =
     (0 < length cluster.nodes) × (list_all is_name cluster.nodes ≡ true) × AllPairs (λ one other. one ≢ other) cluster.nodes × (is_name cluster.resource ≡ true)
-    × (is_agent agent ≡ true) × IsSeconds seconds
+    × (is_agent agent ≡ true) × (is_seconds seconds ≡ true)
 
 module _ (text : List ℕ) (found : List (List (List ℕ))) (is : found ≡ first_words_of text) where
   -- the first lines of a text of the form are those of the form

@@ -3,7 +3,7 @@ use Rattle.std.specs.Prelude.{◌≡◌, ◌≢◌, ℕ, ◌<◌, ◌≤◌, tru
 use Rattle.std.specs.List.{list_all}
 use Rattle.first_replay.specs.declared.cluster.Cluster.{Cluster}
 use Rattle.crm_lex.specs.Names.{is_name}
-use Rattle.first_replay.specs.Lines.{is_plain, word_lines, is_agent, IsSeconds}
+use Rattle.first_replay.specs.Lines.{is_plain, word_lines, is_agent, is_seconds}
 
 -- `node NAME`
 abbrev pub node_line : List ℕ → List (List ℕ)
@@ -43,4 +43,4 @@ pub record Says (text : List ℕ) (cluster : Cluster) : Type 0 where
   pub all_differ : AllPairs (λ one other. one ≢ other) cluster.nodes
   pub resource_name : is_name cluster.resource ≡ true
   pub agent_form : is_agent agent ≡ true
-  pub seconds_form : IsSeconds seconds
+  pub seconds_form : is_seconds seconds ≡ true

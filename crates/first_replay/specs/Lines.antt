@@ -1,8 +1,8 @@
 -- The words of a text, and what an agent and a number of seconds are.
-use Rattle.std.specs.Prelude.{◌≡◌, ℕ, ◌^◌, ◌<◌, Bool, false, not, ◌==◌, ◌&&◌, ◌||◌, nat_le, List, [], ◌∷◌, length, filter, map}
+use Rattle.std.specs.Prelude.{ℕ, Bool, false, not, ◌==◌, ◌&&◌, ◌||◌, nat_le, List, [], ◌∷◌, length, filter, map}
 use Rattle.std.specs.List.{list_all, slice_split}
 use Rattle.std.specs.Str.Lines.{lines}
-use Rattle.std.specs.Str.Parse.{AllDigits, digits_value}
+use Rattle.digits.specs.Digits.{is_number}
 
 -- a tab, a line feed, or a printable ASCII byte that is no quote and no backslash
 abbrev pub is_plain : ℕ → Bool
@@ -38,7 +38,5 @@ is_agent word =
     nat_le (length (colon_parts word)) 3 && list_all (λ part. not (is_empty part)) (colon_parts word) && not (starts_with_at word)
 
 -- a number of seconds: digits of a value below 2^40 (rule of this project)
-pub record IsSeconds (word : List ℕ) : Type 0 where
-  pub some : is_empty word ≡ false
-  pub digits : AllDigits 10 word
-  pub value : digits_value 10 word < 2 ^ 40
+abbrev pub is_seconds : List ℕ → Bool
+is_seconds word = is_number 1099511627775 word

@@ -4,7 +4,7 @@ ghost use Rattle.std.specs.List.{list_all};
 ghost use Rattle.first_replay.specs.declared.cluster.Cluster.{Cluster as ClusterOf};
 ghost use Rattle.first_replay.specs.Form.{Says, node_line, online_line, form_lines};
 ghost use Rattle.crm_lex.specs.Names.{is_name};
-ghost use Rattle.first_replay.specs.Lines.{is_agent, IsSeconds};
+ghost use Rattle.first_replay.specs.Lines.{is_agent, is_seconds};
 
 use crate::cluster::Cluster;
 use crate::lines::{Words, first_lines, plain_text};
@@ -89,7 +89,7 @@ fn is_allowed(draft: &Draft) -> bool
         × AllPairs (λ one other. one ≢ other) draft.now.cluster.nodes
         × (is_name draft.now.cluster.resource ≡ true)
         × (is_agent draft.now.agent ≡ true)
-        × IsSeconds draft.now.seconds) }
+        × (is_seconds draft.now.seconds ≡ true)) }
 {
     let nodes = draft.cluster.nodes.as_slice();
     !nodes.is_empty()

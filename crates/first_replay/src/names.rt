@@ -1,15 +1,16 @@
 ghost use Rattle.std.specs.Prelude.{◌≡◌, ◌≢◌, ◌↔◌, not, length, IsTrue, AllPairs};
 ghost use Rattle.std.specs.List.{list_all};
 ghost use Rattle.crm_lex.specs.Names.{is_name, is_name_byte};
-ghost use Rattle.first_replay.specs.Lines.{is_empty, colon_parts, starts_with_at, is_agent, IsSeconds};
+ghost use Rattle.first_replay.specs.Lines.{is_empty, colon_parts, starts_with_at, is_agent, is_seconds};
 
 use crm_lex::Name;
+use digits::number_up_to;
 
 /// The most bytes of a name.
 const LONGEST_NAME: usize = 256;
 
-/// The first value that is too great for a number of seconds.
-const SECONDS_END: u64 = 1 << 40;
+/// The greatest number of seconds.
+const MOST_SECONDS: u64 = 1_099_511_627_775;
 
 fn is_name_byte(byte: u8) -> bool
     ensures { result ≡ is_name_byte byte }
@@ -85,17 +86,7 @@ pub fn is_agent(word: &[u8]) -> bool
 
 /// Whether the word is a number of seconds: digits, of a value below 2^40.
 pub fn is_seconds(word: &[u8]) -> bool
-    ensures { IsTrue result ↔ IsSeconds word.now }
+    ensures { result ≡ is_seconds word.now }
 {
-    let mut seconds: u64 = 0;
-    for byte in word {
-        if !byte.is_ascii_digit() {
-            return false;
-        }
-        seconds = 10 * seconds + u64::from(*byte - b'0');
-        if seconds >= SECONDS_END {
-            return false;
-        }
-    }
-    !word.is_empty()
+    number_up_to(MOST_SECONDS, word).is_some()
 }
