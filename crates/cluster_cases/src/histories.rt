@@ -3,9 +3,8 @@
 ghost use Rattle.std.specs.Prelude.{◌≡◌};
 ghost use Rattle.cluster_types.specs.Valid.{KeepsLimits};
 
-use crate::plain::{leaf, properties};
-use crate::reading::name;
-use cluster_types::{Answer, Cluster, Journal, Monitor, Node, OnFail, Role};
+use crate::plain::cluster_of;
+use cluster_types::{Answer, Cluster, Journal};
 use crm_lex::{Line, WordBuf, lex_one, logical_lines};
 use listed::Listed;
 use op_history::{
@@ -16,49 +15,13 @@ use std::alloc::Global;
 use std::process::Abort;
 use std::test::Fail;
 
-fn node(alloc: Global, text: &str) -> Result<Node, Fail> {
-    Ok(Node {
-        name: name(alloc, text)?,
-        standby: false,
-        attributes: Listed::new(alloc),
-    })
-}
-
-fn monitor(interval_ms: u32, role: Role) -> Monitor {
-    Monitor {
-        interval_ms,
-        role,
-        on_fail: OnFail::Restart,
-    }
-}
-
-/// A monitor of each role, of ten and of eleven seconds.
-fn monitors(alloc: Global) -> Result<Listed<Monitor>, Fail> {
-    let monitors = [
-        monitor(10_000, Role::Started),
-        monitor(11_000, Role::Promoted),
-    ];
-    Ok(Listed::from(monitors.to_vec(alloc)?))
-}
-
 /// The nodes `n1` and `n2`, the plain leaf `vip` and the promotable leaf `db`.
-fn cluster(rt: &impl Abort, alloc: Global, startup_fencing: bool) -> Result<Cluster, Fail> {
-    let mut nodes = Listed::new(alloc);
-    nodes.push(node(alloc, "n1")?)?;
-    nodes.push(node(alloc, "n2")?)?;
-    let mut leaves = Listed::new(alloc);
-    leaves.push(leaf(alloc, "vip", false, monitors(alloc)?)?)?;
-    leaves.push(leaf(alloc, "db", true, monitors(alloc)?)?)?;
-    Ok(Cluster {
-        nodes,
-        leaves,
-        locations: Listed::new(alloc),
-        rule_locations: Listed::new(alloc),
-        colocations: Listed::new(alloc),
-        orders: Listed::new(alloc),
-        properties: properties(startup_fencing),
-    })
-}
+const CONFIGURATION: &str =
+    "node n1\nnode n2\nprimitive vip ocf:heartbeat:IPaddr2 op monitor interval=10s\n\
+    primitive db ocf:heartbeat:pgsql op monitor interval=10s op monitor interval=11s role=Promoted\n\
+    clone dbs db meta promotable=true\n";
+
+const WITHOUT_STARTUP_FENCING: &str = "node n1\nnode n2\nproperty startup-fencing=false\n";
 
 fn keeps_limits(rt: &impl Abort, cluster: &Cluster)
     ensures { KeepsLimits cluster.now }
@@ -221,7 +184,7 @@ fn status(rt: &impl Abort, alloc: Global, cluster: &Cluster, text: &str) -> Resu
 #[test]
 fn statuses_are_read(rt: HostRuntime) -> Result<(), Fail> {
     let alloc = rt.alloc();
-    let cluster = cluster(&rt, alloc, true)?;
+    let cluster = cluster_of(&rt, alloc, CONFIGURATION)?;
     for rows in [JOURNALS.as_slice(), STATUS_FAULTS.as_slice()] {
         for (text, expected) in rows {
             let read = status(&rt, alloc, &cluster, text)?;
@@ -234,7 +197,7 @@ fn statuses_are_read(rt: HostRuntime) -> Result<(), Fail> {
 #[test]
 fn unsaid_nodes_are_down_without_startup_fencing(rt: HostRuntime) -> Result<(), Fail> {
     let alloc = rt.alloc();
-    let cluster = cluster(&rt, alloc, false)?;
+    let cluster = cluster_of(&rt, alloc, WITHOUT_STARTUP_FENCING)?;
     let read = status(&rt, alloc, &cluster, "node n1 online\n")?;
     assert_eq!(rt;
         read.as_str(),
@@ -330,7 +293,7 @@ fn results(rt: &impl Abort, alloc: Global, cluster: &Cluster, text: &str) -> Res
 #[test]
 fn results_are_read(rt: HostRuntime) -> Result<(), Fail> {
     let alloc = rt.alloc();
-    let cluster = cluster(&rt, alloc, true)?;
+    let cluster = cluster_of(&rt, alloc, CONFIGURATION)?;
     for (text, expected) in RESULTS.as_slice() {
         let read = results(&rt, alloc, &cluster, text)?;
         assert_eq!(rt; read.as_str(), *expected, "{text:?}");
@@ -351,7 +314,7 @@ fn waits(alloc: Global, count: u32, last: &str) -> Result<String, Fail> {
 #[test]
 fn ten_thousand_results_are_read(rt: HostRuntime) -> Result<(), Fail> {
     let alloc = rt.alloc();
-    let cluster = cluster(&rt, alloc, true)?;
+    let cluster = cluster_of(&rt, alloc, CONFIGURATION)?;
     let text = waits(alloc, 9_999, "wait x\n")?;
     let read = results(&rt, alloc, &cluster, text.as_str())?;
     assert_eq!(rt; read.as_str(), "10000 BadValue");
@@ -435,7 +398,7 @@ fn one_result(
 #[test]
 fn results_are_read_line_by_line(rt: HostRuntime) -> Result<(), Fail> {
     let alloc = rt.alloc();
-    let cluster = cluster(&rt, alloc, true)?;
+    let cluster = cluster_of(&rt, alloc, CONFIGURATION)?;
     let Ok(mut words) = WordBuf::new(alloc) else {
         return Err(Fail::from("no memory"));
     };

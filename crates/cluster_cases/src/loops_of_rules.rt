@@ -1,33 +1,29 @@
 //! Which rule closes a loop.
 
-use crate::plain::{leaf, properties};
+use crate::plain::cluster_of;
 use crate::reading::name;
 use cluster_types::{Cluster, Colocation, LeafId, Op, Order, OrderKind, Role};
 use listed::Listed;
-use rule_loops::{colocation_loop, joins_leaves, order_loop, orders_steps};
+use rule_loops::{colocation_loop, joins_leaves, link_edges, order_loop, orders_steps};
 use score::Score;
 use std::alloc::Global;
+use std::process::Abort;
 use std::test::Fail;
+
+const LEAVES: &str = "node n\nprimitive a ocf:pacemaker:Dummy\nprimitive b ocf:pacemaker:Dummy\n\
+    primitive c ocf:pacemaker:Stateful\nclone cs c meta promotable=true\n";
 
 /// Three leaves, of which the last is promotable, with these rules among them.
 fn cluster(
+    rt: &impl Abort,
     alloc: Global,
     colocations: Listed<Colocation>,
     orders: Listed<Order>,
 ) -> Result<Cluster, Fail> {
-    let mut leaves = Listed::new(alloc);
-    for promotable in [false, false, true] {
-        leaves.push(leaf(alloc, "x", promotable, Listed::new(alloc))?)?;
-    }
-    Ok(Cluster {
-        nodes: Listed::new(alloc),
-        leaves,
-        locations: Listed::new(alloc),
-        rule_locations: Listed::new(alloc),
-        colocations,
-        orders,
-        properties: properties(true),
-    })
+    let mut cluster = cluster_of(rt, alloc, LEAVES)?;
+    cluster.colocations = colocations;
+    cluster.orders = orders;
+    Ok(cluster)
 }
 
 fn closing_colocation(alloc: Global, cluster: &Cluster) -> Result<Option<usize>, Fail> {
@@ -51,7 +47,11 @@ fn closing_order(alloc: Global, cluster: &Cluster) -> Result<Option<usize>, Fail
 }
 
 /// Which colocation closes a loop, of those of finite scores between these leaves and roles, the dependent first.
-fn colocated(alloc: Global, pairs: &[(LeafId, Role, LeafId, Role)]) -> Result<Option<usize>, Fail> {
+fn colocated(
+    rt: &impl Abort,
+    alloc: Global,
+    pairs: &[(LeafId, Role, LeafId, Role)],
+) -> Result<Option<usize>, Fail> {
     let mut colocations = Listed::new(alloc);
     for (dependent, dependent_role, primary, primary_role) in pairs {
         colocations.push(Colocation {
@@ -63,11 +63,12 @@ fn colocated(alloc: Global, pairs: &[(LeafId, Role, LeafId, Role)]) -> Result<Op
             score: Score { points: 5 },
         })?;
     }
-    closing_colocation(alloc, &cluster(alloc, colocations, Listed::new(alloc))?)
+    closing_colocation(alloc, &cluster(rt, alloc, colocations, Listed::new(alloc))?)
 }
 
 /// Which order closes a loop, of those of this kind between these steps, the first before the second.
 fn ordered(
+    rt: &impl Abort,
     alloc: Global,
     kind: OrderKind,
     symmetrical: bool,
@@ -86,7 +87,7 @@ fn ordered(
             local: false,
         })?;
     }
-    closing_order(alloc, &cluster(alloc, Listed::new(alloc), orders)?)
+    closing_order(alloc, &cluster(rt, alloc, Listed::new(alloc), orders)?)
 }
 
 #[test]
@@ -94,13 +95,18 @@ fn colocations_that_need_each_other(rt: HostRuntime) -> Result<(), Fail> {
     let alloc = rt.alloc();
     let started = Role::Started;
     let promoted = Role::Promoted;
-    assert_eq!(rt; colocated(alloc, &[])?, None);
+    assert_eq!(rt; colocated(&rt, alloc, &[])?, None);
     assert_eq!(rt;
-        colocated(alloc, &[(0, started, 1, started), (1, started, 0, started)])?,
+        colocated(
+            &rt,
+            alloc,
+            &[(0, started, 1, started), (1, started, 0, started)]
+        )?,
         Some(1)
     );
     assert_eq!(rt;
         colocated(
+            &rt,
             alloc,
             &[
                 (0, started, 1, started),
@@ -112,6 +118,7 @@ fn colocations_that_need_each_other(rt: HostRuntime) -> Result<(), Fail> {
     );
     assert_eq!(rt;
         colocated(
+            &rt,
             alloc,
             &[(2, promoted, 2, started), (2, started, 0, started)]
         )?,
@@ -119,6 +126,7 @@ fn colocations_that_need_each_other(rt: HostRuntime) -> Result<(), Fail> {
     );
     assert_eq!(rt;
         colocated(
+            &rt,
             alloc,
             &[
                 (2, promoted, 0, started),
@@ -135,16 +143,19 @@ fn colocations_that_need_each_other(rt: HostRuntime) -> Result<(), Fail> {
 fn orders_that_come_before_each_other(rt: HostRuntime) -> Result<(), Fail> {
     let alloc = rt.alloc();
     let starts = [(Op::Start, 0, Op::Start, 1), (Op::Start, 1, Op::Start, 0)];
-    assert_eq!(rt; ordered(alloc, OrderKind::Mandatory, true, &[])?, None);
+    assert_eq!(rt; ordered(&rt, alloc, OrderKind::Mandatory, true, &[])?, None);
     assert_eq!(rt;
-        ordered(alloc, OrderKind::Mandatory, true, &starts)?,
+        ordered(&rt, alloc, OrderKind::Mandatory, true, &starts)?,
         Some(1)
     );
     assert_eq!(rt;
-        ordered(alloc, OrderKind::Optional, false, &starts)?,
+        ordered(&rt, alloc, OrderKind::Optional, false, &starts)?,
         Some(1)
     );
-    assert_eq!(rt; ordered(alloc, OrderKind::Serialize, true, &starts)?, None);
+    assert_eq!(rt;
+        ordered(&rt, alloc, OrderKind::Serialize, true, &starts)?,
+        None
+    );
     Ok(())
 }
 
@@ -153,15 +164,21 @@ fn orders_of_stops_and_promotes(rt: HostRuntime) -> Result<(), Fail> {
     let alloc = rt.alloc();
     let mixed = [(Op::Start, 0, Op::Start, 1), (Op::Stop, 0, Op::Stop, 1)];
     assert_eq!(rt;
-        ordered(alloc, OrderKind::Mandatory, true, &mixed)?,
+        ordered(&rt, alloc, OrderKind::Mandatory, true, &mixed)?,
         Some(1)
     );
-    assert_eq!(rt; ordered(alloc, OrderKind::Mandatory, false, &mixed)?, None);
+    assert_eq!(rt;
+        ordered(&rt, alloc, OrderKind::Mandatory, false, &mixed)?,
+        None
+    );
     let across = [(Op::Stop, 0, Op::Start, 1), (Op::Stop, 1, Op::Start, 0)];
-    assert_eq!(rt; ordered(alloc, OrderKind::Mandatory, true, &across)?, None);
+    assert_eq!(rt;
+        ordered(&rt, alloc, OrderKind::Mandatory, true, &across)?,
+        None
+    );
     let promotes = [(Op::Promote, 2, Op::Start, 0), (Op::Start, 0, Op::Start, 2)];
     assert_eq!(rt;
-        ordered(alloc, OrderKind::Mandatory, false, &promotes)?,
+        ordered(&rt, alloc, OrderKind::Mandatory, false, &promotes)?,
         Some(1)
     );
     let not_there = [
@@ -169,8 +186,34 @@ fn orders_of_stops_and_promotes(rt: HostRuntime) -> Result<(), Fail> {
         (Op::Start, 0, Op::Promote, 1),
     ];
     assert_eq!(rt;
-        ordered(alloc, OrderKind::Mandatory, false, &not_there)?,
+        ordered(&rt, alloc, OrderKind::Mandatory, false, &not_there)?,
         None
     );
+    Ok(())
+}
+
+/// Demote, stop, start and promote of a leaf have four positions in a row. Only the last leaf is promotable.
+#[test]
+fn links_join_the_steps_of_leaves(rt: HostRuntime) -> Result<(), Fail> {
+    let alloc = rt.alloc();
+    let mut orders = Listed::new(alloc);
+    orders.push(Order {
+        id: name(alloc, "x")?,
+        kind: OrderKind::Mandatory,
+        first: 0,
+        first_op: Op::Start,
+        then_leaf: 1,
+        then_op: Op::Start,
+        symmetrical: true,
+        local: false,
+    })?;
+    let cluster = cluster(&rt, alloc, Listed::new(alloc), orders)?;
+    assert!(rt; cluster.leaves.len() == 3 && orders_steps(&cluster));
+    let edges = link_edges(alloc, &cluster)?;
+    let mut found = Vec::new(alloc);
+    for edge in &edges {
+        found.push((edge.before, edge.after))?;
+    }
+    assert!(rt; found.as_slice() == [(8, 9), (10, 11), (2, 6), (5, 1)].as_slice());
     Ok(())
 }

@@ -1,7 +1,7 @@
 //! Which node is fenced after it was lost.
 
-use crate::plain::{cluster, is_small};
-use cluster_types::{Action, Event, Journal, Op, Outcome, Policy, Role, moment_of};
+use crate::plain::cluster_of;
+use cluster_types::{Action, Event, Journal, Op, Outcome, Role, moment_of};
 use listed::Listed;
 use quorum_fence::{rights, to_fence};
 use state_unpack::unpack;
@@ -42,21 +42,28 @@ fn journal(alloc: Global, quorum: bool) -> Result<Journal, Fail> {
     })
 }
 
-/// Whether there is quorum, whether the cluster fences, its policy, and whether the lost node is fenced.
-const ROWS: [(bool, bool, Policy, bool); 4] = [
-    (true, true, Policy::Stop, true),
-    (true, false, Policy::Stop, false),
-    (false, true, Policy::Freeze, false),
-    (false, true, Policy::Ignore, true),
+const FENCES: &str = "node n1\nnode n2\nprimitive a ocf:pacemaker:Dummy\n";
+
+const FENCES_NOT: &str =
+    "node n1\nnode n2\nprimitive a ocf:pacemaker:Dummy\nproperty stonith-enabled=false no-quorum-policy=freeze\n";
+
+const FENCES_WITHOUT_QUORUM: &str =
+    "node n1\nnode n2\nprimitive a ocf:pacemaker:Dummy\nproperty no-quorum-policy=ignore\n";
+
+/// The configuration, whether there is quorum, and whether the lost node is fenced.
+const ROWS: [(&str, bool, bool); 4] = [
+    (FENCES, true, true),
+    (FENCES, false, false),
+    (FENCES_NOT, true, false),
+    (FENCES_WITHOUT_QUORUM, false, true),
 ];
 
 #[test]
 fn a_lost_node_is_fenced_with_the_right_to(rt: HostRuntime) -> Result<(), Fail> {
     let alloc = rt.alloc();
     for row in &ROWS {
-        let (quorum, fencing, policy, fenced) = *row;
-        let cluster = cluster(alloc, &["n1", "n2"], fencing, policy)?;
-        is_small(&rt, &cluster);
+        let (text, quorum, fenced) = *row;
+        let cluster = cluster_of(&rt, alloc, text)?;
         let journal = journal(alloc, quorum)?;
         assert!(rt; moment_of(journal.events.as_slice()) < 18_446_744_073_709_551_616);
         let states = unpack(alloc, &cluster, &journal)?;

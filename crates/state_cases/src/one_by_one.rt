@@ -1,7 +1,7 @@
 //! What a journal tells while it goes on.
 
-use crate::plain::{cluster, is_small};
-use cluster_types::{Action, Event, NodeState, Op, Outcome, Policy, Role, moment_of};
+use crate::plain::cluster_of;
+use cluster_types::{Action, Event, NodeState, Op, Outcome, Role, moment_of};
 use state_unpack::Known;
 use std::process::Abort;
 use std::test::Fail;
@@ -71,8 +71,7 @@ fn asked(rt: &impl Abort, known: &Known<'_>) -> (NodeState, bool, bool, bool) {
 #[test]
 fn each_event_changes_what_is_known(rt: HostRuntime) -> Result<(), Fail> {
     let alloc = rt.alloc();
-    let cluster = cluster(alloc, &["n"], true, Policy::Stop)?;
-    is_small(&rt, &cluster);
+    let cluster = cluster_of(&rt, alloc, "node n\nprimitive a ocf:pacemaker:Dummy\n")?;
     let joined = [Event::Up { node: 0 }];
     assert!(rt; moment_of(joined.as_slice()) < 18_446_744_073_709_551_616);
     let mut known = Known::new(alloc, &cluster, joined.as_slice())?;

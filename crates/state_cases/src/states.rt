@@ -1,9 +1,7 @@
 //! What a journal tells of one leaf on one node.
 
-use crate::plain::{cluster, is_small};
-use cluster_types::{
-    Action, Cell, CellState, Event, Journal, Op, Outcome, Policy, Role, moment_of,
-};
+use crate::plain::cluster_of;
+use cluster_types::{Action, Cell, CellState, Event, Journal, Op, Outcome, Role, moment_of};
 use fail_counts::banned;
 use listed::Listed;
 use state_unpack::unpack;
@@ -47,15 +45,20 @@ fn journal(alloc: Global, records: &[Record]) -> Result<Journal, Fail> {
     })
 }
 
-/// The records after the join, whether the cluster fences, and the state: what it is, whether it is banned, whether the leaf may run there, and which
+const FENCES: &str = "node n\nprimitive a ocf:pacemaker:Dummy op monitor interval=10s\n";
+
+const FENCES_NOT: &str = "node n\nprimitive a ocf:pacemaker:Dummy op monitor interval=10s\n\
+    property stonith-enabled=false\n";
+
+/// The records after the join, the configuration, and the state: what it is, whether it is banned, whether the leaf may run there, and which
 /// monitors are running.
-type Row = (&'static [Record], bool, CellState, bool, bool, u8);
+type Row = (&'static [Record], &'static str, CellState, bool, bool, u8);
 
 const ROWS: [Row; 8] = [
-    (&[], true, CellState::Unprobed, false, true, 0),
+    (&[], FENCES, CellState::Unprobed, false, true, 0),
     (
         &[(Op::Monitor, 0, Outcome::Code(7))],
-        true,
+        FENCES,
         CellState::Off,
         false,
         false,
@@ -63,7 +66,7 @@ const ROWS: [Row; 8] = [
     ),
     (
         &[(Op::Monitor, 0, Outcome::Code(5))],
-        true,
+        FENCES,
         CellState::Off,
         true,
         false,
@@ -71,7 +74,7 @@ const ROWS: [Row; 8] = [
     ),
     (
         &[(Op::Monitor, 0, Outcome::Code(0))],
-        true,
+        FENCES,
         CellState::On,
         false,
         true,
@@ -79,7 +82,7 @@ const ROWS: [Row; 8] = [
     ),
     (
         &[(Op::Start, 0, Outcome::TimedOut)],
-        true,
+        FENCES,
         CellState::Failed,
         true,
         true,
@@ -90,7 +93,7 @@ const ROWS: [Row; 8] = [
             (Op::Start, 0, Outcome::Code(0)),
             (Op::Stop, 0, Outcome::Code(1)),
         ],
-        false,
+        FENCES_NOT,
         CellState::Blocked,
         false,
         true,
@@ -101,7 +104,7 @@ const ROWS: [Row; 8] = [
             (Op::Start, 0, Outcome::Code(0)),
             (Op::Monitor, 10_000, Outcome::Code(190)),
         ],
-        true,
+        FENCES,
         CellState::On,
         false,
         true,
@@ -112,7 +115,7 @@ const ROWS: [Row; 8] = [
             (Op::Start, 0, Outcome::Code(0)),
             (Op::Monitor, 10_000, Outcome::Code(7)),
         ],
-        true,
+        FENCES,
         CellState::Off,
         false,
         false,
@@ -124,9 +127,8 @@ const ROWS: [Row; 8] = [
 fn states_of_one_leaf_on_one_node(rt: HostRuntime) -> Result<(), Fail> {
     let alloc = rt.alloc();
     for row in &ROWS {
-        let (records, fencing, state, ban, may, running) = *row;
-        let cluster = cluster(alloc, &["n"], fencing, Policy::Stop)?;
-        is_small(&rt, &cluster);
+        let (records, text, state, ban, may, running) = *row;
+        let cluster = cluster_of(&rt, alloc, text)?;
         let journal = journal(alloc, records)?;
         assert!(rt; moment_of(journal.events.as_slice()) < 18_446_744_073_709_551_616);
         let states = unpack(alloc, &cluster, &journal)?;
