@@ -447,7 +447,7 @@ fn faults_print_their_line(rt: HostRuntime) -> Result<(), Fail> {
     let fault = StatusFault::NoMemory;
     assert_eq!(rt;
         format!(in alloc; "{fault}")?.as_str(),
-        "memory was refused"
+        "out of memory"
     );
     Ok(())
 }

@@ -1,19 +1,15 @@
 -- A result line is read by its first eight words.
-use Rattle.std.proofs.Common.{◌≡◌, ℕ, ◌<◌, zero, suc, List, [], ◌∷◌, take, refl, ap, arith, Result, Ok, Err}
+use Rattle.std.proofs.Common.{◌≡◌, ℕ, List, take, refl, ap, arith, Result, Ok, Err}
 use Rattle.std.specs.List.{slice_get}
 use Rattle.cluster_types.specs.declared.cluster.Cluster.{Cluster}
 use Rattle.crm_lex.specs.Reading.{Kept, kept}
+use Rattle.faults.specs.Reading.{◌>>=◌}
+use Rattle.line_words.specs.declared.cause.WordCause.{WordCause}
+use Rattle.line_words.specs.Places.{Words, code_at, end_at, leaf_at, node_at, number_at, seconds_at, word_at, yes_at}
+use Rattle.line_words.proofs.Kept.{get_within}
 use Rattle.op_history.specs.declared.answers.ResultWord.{ResultWord}
-use Rattle.op_history.specs.declared.fault.WordCause.{WordCause}
 use Rattle.op_history.specs.declared.answers.ResultWord.TheVariants.{End, Timeout, Lost, Up, Quorum, Wait, Report}
-use Rattle.op_history.specs.Reading.{Words, ◌>>=◌, code_at, end_at, leaf_at, node_at, number_at, seconds_at, word_at, yes_at}
 use Rattle.op_history.specs.Results.{answer_as, answer_of, end_line, lost_line, quorum_line, report_line, result_of, result_word, timeout_line, up_line, wait_line}
-
-get_within : {X : Type 0} (n place : ℕ) (xs : List X) → place < n → slice_get (take n xs) place ≡ slice_get xs place
-get_within zero place xs h = absurd (omega (arith, h))
-get_within (suc n) place [] h = refl
-get_within (suc n) zero (x ∷ xs) h = refl
-get_within (suc n) (suc place) (x ∷ xs) h = get_within n place xs (omega (arith, h))
 
 -- two lists of words say the same at the places that a result line has
 pub record SaySame (some all : Words) : Type 0 where

@@ -1,4 +1,3 @@
-pub mod Digits
 pub mod ResultsSoFar
 pub mod Leaving
 pub mod FirstJournals

@@ -1,9 +1,6 @@
 -- The first journal that a status says is in order and has nothing in flight.
-use Rattle.std.proofs.Common.{◌≡◌, ℕ, nat_lt, nat_le, ◌==◌, ◌&&◌, Bool, true, false, if◌then◌else◌, Option, Some, None, List, [], ◌∷◌, length, codes, Result, Ok, Err, IfOk, IfSome, refl, sym, subst, arith, ◌^◌}
-use Rattle.std.specs.List.{list_all, position_or_len}
-use Rattle.std.specs.Str.Parse.{digits_value}
-use Rattle.std.specs.Option.{ok_or}
-use Rattle.std.proofs.lemmas.Bool.Decides.{nat_tests}
+use Rattle.std.proofs.Common.{◌≡◌, ℕ, nat_lt, ◌==◌, Bool, true, false, if◌then◌else◌, List, [], ◌∷◌, length, codes, Result, Ok, Err, IfOk, refl, sym, subst}
+use Rattle.std.specs.List.{list_all}
 use Rattle.lemmas.proofs.Results.{by_result}
 use Rattle.crm_lex.specs.declared.line.Line.{Line}
 use Rattle.cluster_types.specs.declared.cluster.Cluster.{Cluster}
@@ -18,60 +15,16 @@ use Rattle.cluster_types.specs.declared.leaf.Role.{Role}
 use Rattle.cluster_types.specs.Fields.{monitors}
 use Rattle.cluster_types.specs.Answering.{role_of_interval}
 use Rattle.cluster_types.specs.Journals.{Orderly, in_flight, is_reported}
+use Rattle.faults.specs.Reading.{◌>>=◌, faulting, on_line}
+use Rattle.line_words.specs.Names.{is}
+use Rattle.line_words.specs.Places.{Words, end_at, leaf_at, node_at, seconds_at, word_at, yes_at}
+use Rattle.line_words.proofs.Bounds.{node_known, seconds_small}
+use Rattle.line_words.proofs.Steps.{any_step, either_way, step}
 use Rattle.op_history.specs.FirstJournal as journals
 use Rattle.op_history.specs.FirstJournal.{is_known, is_repeated, status_of}
-use Rattle.op_history.specs.Names.{node_of, place_of}
-use Rattle.op_history.specs.Numbers.{is, seconds_of, writes_number}
-use Rattle.op_history.specs.Reading.{Words, ◌>>=◌, end_at, leaf_at, node_at, seconds_at, word_at, yes_at}
+use Rattle.op_history.specs.Causes.{status_cause}
 use Rattle.op_history.specs.Status.{action_as, cleanup_line, interval_at, node_line, now_line, op_at, op_line, outcome_at, promotable_at, promotion_line, quorum_line, score_at, state_at, status_word, told_as, told_of}
 use Rattle.op_history.proofs.FirstJournals.{journal_in_order, journal_is_idle, one_more_known}
-
--- what holds of the value of each step that is passed
-module _ {A B : Type 0} (P : B → Type 0) where
-  step : (Q : A → Type 0) (read : Result A _) (next : A → Result B _) → IfOk read Q → ((x : A) → Q x → IfOk (next x) P)
-      → IfOk (read >>= next) P
-  step Q (Ok x) next q all = all x q
-  step Q (Err w) next q all = tt
-
-  any_step : (read : Result A _) (next : A → Result B _) → ((x : A) → IfOk (next x) P) → IfOk (read >>= next) P
-  any_step (Ok x) next all = all x
-  any_step (Err w) next all = tt
-
-given : {A W : Type 0} (P : A → Type 0) (found : Option A) (why : W) → IfSome found P → IfOk (ok_or found why) P
-given P (Some x) why h = h
-given P None why h = tt
-
-where_true : {A : Type 0} (P : A → Type 0) (test : Bool) (x : A) → (test ≡ true → P x) → IfSome (if test then Some x else None) P
-where_true P true x h = h refl
-where_true P false x h = tt
-
-either_way : {A W : Type 0} (P : A → Type 0) (test : Bool) (one other : Result A W) → IfOk one P → IfOk other P
-    → IfOk (if test then one else other) P
-either_way P true one other h k = h
-either_way P false one other h k = k
-
--- a node that is named is one of the cluster
-place_within : {X : Type 0} (test : X → Bool) (xs : List X) → IfSome (place_of test xs) (λ n. nat_lt n (length xs) ≡ true)
-place_within test xs =
-    where_true (λ n. nat_lt n (length xs) ≡ true) (nat_lt (position_or_len test xs) (length xs)) (position_or_len test xs) (λ h. h)
-
-node_known : (c : Cluster) (place : ℕ) (words : Words) → IfOk (node_at c place words) (λ n. nat_lt n (length c.nodes) ≡ true)
-unfolding node_at
-node_known c place words = any_step _ (word_at place words) _ (λ word. given _ (node_of c word) _ (place_within _ c.nodes))
-
--- seconds are below 2^40
-small : (a : Bool) (n : ℕ) → a && nat_le n 1099511627775 ≡ true → nat_lt n (2 ^ 40) ≡ true
-small true n h = grind (arith, nat_tests)
-small false n h = cc
-
-below : (word : List ℕ) → writes_number 0 1099511627775 word ≡ true → nat_lt (digits_value 10 word) (2 ^ 40) ≡ true
-below word h = small _ (digits_value 10 word) h
-
-seconds_small : (place : ℕ) (words : Words) → IfOk (seconds_at place words) (λ s. nat_lt s (2 ^ 40) ≡ true)
-unfolding seconds_at
-seconds_small place words =
-    any_step _ (word_at place words) _ (λ word. given _ (seconds_of word) _
-    (where_true (λ s. nat_lt s (2 ^ 40) ≡ true) (writes_number 0 1099511627775 word) (digits_value 10 word) (below word)))
 
 -- what an operation says of its node
 action_known : (c : Cluster) (op : Op) (r n interval : ℕ) (outcome : Outcome) (moment : ℕ) → nat_lt n (length c.nodes) ≡ true
@@ -143,10 +96,10 @@ told_known c words =
 -- lines that are read one after the other keep what each of them keeps
 module _ {S L F : Type 0} (Kept : S → Type 0) (next : S → L → Result S F) (run : S → List L → Result S F)
     (none : (s : S) → run s [] ≡ Ok s)
-    (some : (s : S) (l : L) (ls : List L) → run s (l ∷ ls) ≡ elim (next s l) [ Err fault ↦ Err fault | Ok more ↦ run more ls ])
+    (some : (s : S) (l : L) (ls : List L) → run s (l ∷ ls) ≡ (next s l >>= (λ more. run more ls)))
     (each : (s : S) (l : L) → Kept s → IfOk (next s l) Kept) where
   go_on : (read : Result S F) (ls : List L) → IfOk read Kept → ((more : S) → Kept more → IfOk (run more ls) Kept)
-      → IfOk (elim read [ Err fault ↦ Err fault | Ok more ↦ run more ls ]) Kept
+      → IfOk (read >>= (λ more. run more ls)) Kept
   go_on (Ok more) ls h all = all more h
   go_on (Err fault) ls h all = tt
 
@@ -161,7 +114,7 @@ lines_known c lines =
     let n = length c.nodes in
     all_kept (λ told. list_all (is_known n) told ≡ true) (journals.with_line c) (journals.with_lines c) (λ s. refl) (λ s l ls. refl)
     (λ s l h.
-    by_result (λ r. IfOk r (λ t. is_known n t ≡ true) → IfOk (journals.with_told s l.line r) (λ told. list_all (is_known n) told ≡ true))
+    by_result (λ r. IfOk r (λ t. is_known n t ≡ true) → IfOk (faulting status_cause (on_line l.line r) >>= journals.with_told s l.line) (λ told. list_all (is_known n) told ≡ true))
     (λ x k. either_way _ (is_repeated s x) _ _ tt (one_more_known n s x h k)) (λ why k. tt) (told_of c l.words) (told_known c l.words))
     [] lines refl
 
@@ -169,7 +122,7 @@ lines_known c lines =
 by_lines : (c : Cluster) (P : List Event → Type 0) (lines : List Line) (journal : Journal)
     → IfOk (journals.with_lines c [] lines) (λ told. P (journals.events_of c told)) → status_of c lines ≡ Ok journal → P journal.events
 by_lines c P lines journal =
-    by_result (λ r. IfOk r (λ told. P (journals.events_of c told)) → journals.read_of c r ≡ Ok journal → P journal.events)
+    by_result (λ r. IfOk r (λ told. P (journals.events_of c told)) → (r >>= (λ told. Ok (journals.journal_of c told))) ≡ Ok journal → P journal.events)
     (λ told h e. let same : journals.journal_of c told ≡ journal = cc in subst (λ (j : Journal). P j.events) same h)
     (λ fault h e. absurd cc) (journals.with_lines c [] lines)
 

@@ -1,5 +1,5 @@
 -- The first journal: what a status tells as a whole (Pacemaker Administration, operation history; the form of a journal is a rule of this project).
-use Rattle.std.specs.Prelude.{◌≡◌, ℕ, ◌^◌, nat_lt, ◌==◌, ◌&&◌, not, Bool, true, false, if◌then◌else◌, List, [], ◌∷◌, ◌++◌, length, map, Option, Some, None, unwrap_or, Result, Ok, Err}
+use Rattle.std.specs.Prelude.{ℕ, ◌^◌, nat_lt, ◌==◌, ◌&&◌, not, Bool, true, false, if◌then◌else◌, List, [], ◌∷◌, ◌++◌, length, map, Option, Some, None, unwrap_or, Result, Ok, Err}
 use Rattle.std.specs.List.{enumerate_from, filter_map, flat_map, list_any, range_with_len}
 use Rattle.crm_lex.specs.declared.line.Line.{Line}
 use Rattle.cluster_types.specs.declared.cluster.Cluster.{Cluster}
@@ -8,15 +8,16 @@ use Rattle.cluster_types.specs.declared.journal.Journal.{Journal}
 use Rattle.cluster_types.specs.declared.journal.Promotion.{Promotion}
 use Rattle.cluster_types.specs.Journals as journals
 use Rattle.cluster_types.specs.Journals.{first_events, is_reported}
+use Rattle.faults.specs.declared.fault.Fault.{Fault}
+use Rattle.faults.specs.declared.fault.Fault.TheVariants.{At}
+use Rattle.faults.specs.Reading.{◌>>=◌, faulting, on_line}
+use Rattle.op_history.specs.declared.fault.StatusCause.{StatusCause}
 use Rattle.op_history.specs.declared.fault.StatusCause.TheVariants.{Repeated}
-use Rattle.op_history.specs.declared.fault.StatusFault.{StatusFault}
-use Rattle.op_history.specs.declared.fault.StatusFault.TheVariants.{At, NoMemory}
-use Rattle.op_history.specs.declared.fault.WordCause.{WordCause}
 use Rattle.op_history.specs.declared.told.NodeWord.{NodeWord}
 use Rattle.op_history.specs.declared.told.NodeWord.TheVariants as said
 use Rattle.op_history.specs.declared.told.Told.{Told}
 use Rattle.op_history.specs.declared.told.Told.TheVariants.{Now, Quorum, Node, Past, Promoting}
-use Rattle.op_history.specs.Reading.{status_cause}
+use Rattle.op_history.specs.Causes.{status_cause}
 use Rattle.op_history.specs.Status.{told_of}
 
 abbrev pub is_same_cell : Promotion → Promotion → Bool
@@ -34,20 +35,16 @@ abbrev pub is_repeated : List Told → Told → Bool
 is_repeated before told = list_any (λ earlier. is_again earlier told) before
 
 -- what some lines tell, and what one more line tells
-abbrev pub with_told : List Told → ℕ → Result Told WordCause → Result (List Told) StatusFault
-with_told before line (Ok told) = if is_repeated before told then Err (At line Repeated) else Ok (before ++ told ∷ [])
-with_told before line (Err cause) = Err (At line (status_cause cause))
+abbrev pub with_told : List Told → ℕ → Told → Result (List Told) (Fault StatusCause)
+with_told before line told = if is_repeated before told then Err (At line Repeated) else Ok (before ++ told ∷ [])
 
-abbrev pub with_line : Cluster → List Told → Line → Result (List Told) StatusFault
-with_line c before line = with_told before line.line (told_of c line.words)
+abbrev pub with_line : Cluster → List Told → Line → Result (List Told) (Fault StatusCause)
+with_line c before line = faulting status_cause (on_line line.line (told_of c line.words)) >>= with_told before line.line
 
 -- what some lines tell, and what further lines do; the first line that is at fault counts
-abbrev pub with_lines : Cluster → List Told → List Line → Result (List Told) StatusFault
+abbrev pub with_lines : Cluster → List Told → List Line → Result (List Told) (Fault StatusCause)
 with_lines c before [] = Ok before
-with_lines c before (line ∷ lines) = elim (with_line c before line) [
-  | Err fault ↦ Err fault
-  | Ok more ↦ with_lines c more lines
-]
+with_lines c before (line ∷ lines) = with_line c before line >>= (λ more. with_lines c more lines)
 
 -- the first that is said of something
 abbrev pub first_said : {X : Type 0} → (Told → Option X) → List Told → Option X
@@ -103,22 +100,9 @@ events_of c told = first_events c (history_of told) (map (word_of told) (range_w
 abbrev pub journal_of : Cluster → List Told → Journal
 journal_of c told = record { events = events_of c told; promotions = filter_map promotion_in told }
 
-abbrev pub read_of : Cluster → Result (List Told) StatusFault → Result Journal StatusFault
-read_of c (Ok told) = Ok (journal_of c told)
-read_of c (Err fault) = Err fault
-
 -- the first journal of the lines of a status, or their first fault
-abbrev pub status_of : Cluster → List Line → Result Journal StatusFault
-status_of c lines = read_of c (with_lines c [] lines)
-
--- what a call returned, seen by view, is what some lines read as, unless memory was refused
-abbrev pub IsFaultOf : {Y : Type 0} → StatusFault → Result Y StatusFault → Type 0
-IsFaultOf (At line cause) read = read ≡ Err (At line cause)
-IsFaultOf NoMemory read = Unit {0}
-
-abbrev pub Tells : {X Y : Type 0} → (X → Y) → Result X StatusFault → Result Y StatusFault → Type 0
-Tells view (Ok x) read = read ≡ Ok (view x)
-Tells view (Err fault) read = IsFaultOf fault read
+abbrev pub status_of : Cluster → List Line → Result Journal (Fault StatusCause)
+status_of c lines = with_lines c [] lines >>= (λ told. Ok (journal_of c told))
 
 -- the line tells of a node of the cluster, and of seconds below 2^40, where it tells of some that count
 abbrev pub is_known : ℕ → Told → Bool

@@ -1,7 +1,5 @@
-pub mod Numbers
-pub mod Names
+pub mod Causes
 pub mod Recovery
-pub mod Reading
 pub mod Results
 pub mod Status
 pub mod FirstJournal

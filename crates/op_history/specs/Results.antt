@@ -1,19 +1,22 @@
 -- The result lines: what each of them answers (rule of this project).
-use Rattle.std.specs.Prelude.{◌≡◌, ℕ, ◌+◌, ◌^◌, nat_lt, if◌then◌else◌, List, [], ◌∷◌, ◌++◌, length, sum_by, codes, Result, Ok, Err}
+use Rattle.std.specs.Prelude.{ℕ, ◌+◌, ◌^◌, nat_lt, if◌then◌else◌, List, [], ◌∷◌, ◌++◌, length, sum_by, codes, Result, Ok, Err}
 use Rattle.crm_lex.specs.declared.line.Line.{Line}
 use Rattle.cluster_types.specs.declared.cluster.Cluster.{Cluster}
 use Rattle.cluster_types.specs.declared.journal.Answer.{Answer}
 use Rattle.cluster_types.specs.declared.journal.Answer.TheVariants as answer
 use Rattle.op_history.specs.declared.answers.ResultWord.{ResultWord}
 use Rattle.op_history.specs.declared.answers.ResultWord.TheVariants.{End, Timeout, Lost, Up, Quorum, Wait, Report}
+use Rattle.faults.specs.declared.fault.Fault.{Fault}
+use Rattle.faults.specs.declared.fault.Fault.TheVariants.{At}
+use Rattle.faults.specs.Reading.{◌>>=◌, faulting, on_line}
+use Rattle.line_words.specs.declared.cause.WordCause.{WordCause}
+use Rattle.line_words.specs.declared.cause.WordCause.TheVariants.{BadValue, UnknownStatement}
+use Rattle.line_words.specs.Names.{is}
+use Rattle.line_words.specs.Places.{Words, code_at, end_at, leaf_at, node_at, number_at, seconds_at, word_at, yes_at}
+use Rattle.op_history.specs.declared.fault.ResultCause.{ResultCause}
 use Rattle.op_history.specs.declared.fault.ResultCause.TheVariants.{TooManyResults}
-use Rattle.op_history.specs.declared.fault.ResultFault.{ResultFault}
-use Rattle.op_history.specs.declared.fault.ResultFault.TheVariants.{At, NoMemory}
-use Rattle.op_history.specs.declared.fault.WordCause.{WordCause}
-use Rattle.op_history.specs.declared.fault.WordCause.TheVariants.{BadValue, UnknownStatement}
 use Rattle.op_history.specs.declared.results.ResultLine.{ResultLine}
-use Rattle.op_history.specs.Numbers.{is}
-use Rattle.op_history.specs.Reading.{Words, ◌>>=◌, code_at, end_at, leaf_at, node_at, number_at, result_cause, seconds_at, word_at, yes_at}
+use Rattle.op_history.specs.Causes.{result_cause}
 
 -- what a first word begins
 unfoldable pub result_word : List ℕ → Result ResultWord WordCause
@@ -105,14 +108,10 @@ answer_of c moment words = do
 abbrev pub most_results : ℕ
 most_results = 10000
 
-abbrev pub on_line : ℕ → Result Answer WordCause → Result Answer ResultFault
-on_line line (Ok given) = Ok given
-on_line line (Err cause) = Err (At line (result_cause cause))
-
 -- what a result line answers, at a moment and after so many result lines
-abbrev pub result_of : Cluster → ℕ → ℕ → ℕ → Words → Result Answer ResultFault
+abbrev pub result_of : Cluster → ℕ → ℕ → ℕ → Words → Result Answer (Fault ResultCause)
 result_of c moment before line words =
-    if nat_lt before most_results then on_line line (answer_of c moment words) else Err (At line TooManyResults)
+    if nat_lt before most_results then faulting result_cause (on_line line (answer_of c moment words)) else Err (At line TooManyResults)
 
 -- the seconds that an answer lets go by
 abbrev pub seconds_in : Answer → ℕ
@@ -124,31 +123,16 @@ abbrev pub moment_after : ℕ → List ResultLine → ℕ
 moment_after start results = start + sum_by (λ (result : ResultLine). seconds_in result.answer) results
 
 -- some results, and what one more line answers
-abbrev pub with_answer : List ResultLine → ℕ → Result Answer ResultFault → Result (List ResultLine) ResultFault
-with_answer results line (Ok given) = Ok (results ++ record { line = line; answer = given } ∷ [])
-with_answer results line (Err fault) = Err fault
-
-abbrev pub with_result : Cluster → ℕ → List ResultLine → Line → Result (List ResultLine) ResultFault
-with_result c start results line =
-    with_answer results line.line (result_of c (moment_after start results) (length results) line.line line.words)
+abbrev pub with_result : Cluster → ℕ → List ResultLine → Line → Result (List ResultLine) (Fault ResultCause)
+with_result c start results line = do
+  given ← result_of c (moment_after start results) (length results) line.line line.words
+  Ok (results ++ record { line = line.line; answer = given } ∷ [])
 
 -- some results, and those of further lines; the first line that is at fault counts
-abbrev pub with_results : Cluster → ℕ → List ResultLine → List Line → Result (List ResultLine) ResultFault
+abbrev pub with_results : Cluster → ℕ → List ResultLine → List Line → Result (List ResultLine) (Fault ResultCause)
 with_results c start results [] = Ok results
-with_results c start results (line ∷ lines) = elim (with_result c start results line) [
-  | Err fault ↦ Err fault
-  | Ok more ↦ with_results c start more lines
-]
+with_results c start results (line ∷ lines) = with_result c start results line >>= (λ more. with_results c start more lines)
 
 -- the results of some lines, of which the first is taken at a moment
-abbrev pub results_of : Cluster → ℕ → List Line → Result (List ResultLine) ResultFault
+abbrev pub results_of : Cluster → ℕ → List Line → Result (List ResultLine) (Fault ResultCause)
 results_of c start lines = with_results c start [] lines
-
--- what a call returned, seen by view, is what some lines read as, unless memory was refused
-abbrev pub IsFaultOf : {Y : Type 0} → ResultFault → Result Y ResultFault → Type 0
-IsFaultOf (At line cause) read = read ≡ Err (At line cause)
-IsFaultOf NoMemory read = Unit {0}
-
-abbrev pub Answers : {X Y : Type 0} → (X → Y) → Result X ResultFault → Result Y ResultFault → Type 0
-Answers view (Ok x) read = read ≡ Ok (view x)
-Answers view (Err fault) read = IsFaultOf fault read

@@ -13,16 +13,19 @@ use Rattle.cluster_types.specs.declared.leaf.Op.TheVariants.{Start, Stop, Promot
 use Rattle.cluster_types.specs.declared.leaf.Role.TheVariants as role
 use Rattle.cluster_types.specs.Fields.{is_promotable, monitors}
 use Rattle.cluster_types.specs.Answering.{role_of_interval}
-use Rattle.op_history.specs.declared.fault.WordCause.{WordCause}
-use Rattle.op_history.specs.declared.fault.WordCause.TheVariants.{BadValue, UnknownStatement}
+use Rattle.digits.specs.Digits.{number_up_to}
+use Rattle.faults.specs.Reading.{◌>>=◌}
+use Rattle.line_words.specs.declared.cause.WordCause.{WordCause}
+use Rattle.line_words.specs.declared.cause.WordCause.TheVariants.{BadValue, UnknownStatement}
+use Rattle.line_words.specs.Names.{is}
+use Rattle.line_words.specs.Numbers.{code_of, interval_of}
+use Rattle.line_words.specs.Places.{Words, end_at, leaf_at, node_at, seconds_at, word_at, yes_at}
 use Rattle.op_history.specs.declared.status_lines.StatusWord.{StatusWord}
 use Rattle.op_history.specs.declared.status_lines.StatusWord.TheVariants as first
 use Rattle.op_history.specs.declared.told.NodeWord.{NodeWord}
 use Rattle.op_history.specs.declared.told.NodeWord.TheVariants.{Online, Offline, Unclean}
 use Rattle.op_history.specs.declared.told.Told.{Told}
 use Rattle.op_history.specs.declared.told.Told.TheVariants.{Now, Quorum, Node, Past, Promoting}
-use Rattle.op_history.specs.Numbers.{code_of, interval_of, is, number_within}
-use Rattle.op_history.specs.Reading.{Words, ◌>>=◌, end_at, leaf_at, node_at, seconds_at, word_at, yes_at}
 
 -- what a first word begins
 unfoldable pub status_word : List ℕ → Result StatusWord WordCause
@@ -97,7 +100,7 @@ op_at c r place words = do
 -- the milliseconds of an operation: 0 but for a monitor
 abbrev pub interval_as : Op → List ℕ → Option ℕ
 interval_as Monitor word = interval_of word
-interval_as _ word = number_within 0 0 word
+interval_as _ word = number_up_to 0 word
 
 unfoldable pub interval_at : Op → ℕ → Words → Result ℕ WordCause
 interval_at op place words = do

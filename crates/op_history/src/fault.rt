@@ -1,9 +1,5 @@
-ghost use Rattle.std.specs.Prelude.{◌≡◌};
-ghost use Rattle.op_history.specs.Reading.{result_cause, status_cause};
-
-use cluster_types::NoMemory;
-use std::alloc::AllocFailed;
-use thiserror::Error;
+use faults::Fault;
+use line_words::WordCause;
 
 /// Why a status isn't read.
 #[derive(Clone, Copy, Debug, PartialEq, Eq)]
@@ -22,16 +18,8 @@ pub enum StatusCause {
     Repeated,
 }
 
-/// Why there is no journal: a fault of the status, or want of memory.
-#[derive(Clone, Copy, Debug, PartialEq, Eq, Error)]
-pub enum StatusFault {
-    /// The first faulty line, with the cause of its leftmost faulty word.
-    #[error("line {line}: {cause:?}")]
-    At { line: u32, cause: StatusCause },
-    /// Memory was refused.
-    #[error("memory was refused")]
-    NoMemory,
-}
+/// Why there is no journal: the first faulty line of the status, with the cause of its leftmost faulty word, or out of memory.
+pub type StatusFault = Fault<StatusCause>;
 
 /// Why a result line isn't read.
 #[derive(Clone, Copy, Debug, PartialEq, Eq)]
@@ -50,65 +38,17 @@ pub enum ResultCause {
     TooManyResults,
 }
 
-/// Why there are no results: a fault of a result line, or want of memory.
-#[derive(Clone, Copy, Debug, PartialEq, Eq, Error)]
-pub enum ResultFault {
-    /// The first faulty line, with the cause of its leftmost faulty word.
-    #[error("line {line}: {cause:?}")]
-    At { line: u32, cause: ResultCause },
-    /// Memory was refused.
-    #[error("memory was refused")]
-    NoMemory,
-}
+/// Why there are no results: the first faulty result line, with the cause of its leftmost faulty word, or out of memory.
+pub type ResultFault = Fault<ResultCause>;
 
-impl From<NoMemory> for StatusFault {
+impl From<WordCause> for StatusCause {
     ghost use Rattle.std.specs.Prelude.{◌≡◌};
-    ghost use Rattle.op_history.specs.declared.fault.StatusFault.TheVariants.{NoMemory};
+    ghost use Rattle.op_history.specs.Causes.{status_cause};
 
-    ghost from_gives = { λ _ fault. fault ≡ NoMemory };
+    ghost from_gives = { λ word cause. cause ≡ status_cause word };
 
-    fn from(_: NoMemory) -> Self {
-        StatusFault::NoMemory
-    }
-}
-
-impl<T: Drop> From<AllocFailed<T>> for StatusFault {
-    ghost use Rattle.std.specs.Prelude.{◌≡◌};
-    ghost use Rattle.op_history.specs.declared.fault.StatusFault.TheVariants.{NoMemory};
-
-    ghost from_gives = { λ _ fault. fault ≡ NoMemory };
-
-    fn from(_: AllocFailed<T>) -> Self {
-        StatusFault::NoMemory
-    }
-}
-
-impl<T: Drop> From<AllocFailed<T>> for ResultFault {
-    ghost use Rattle.std.specs.Prelude.{◌≡◌};
-    ghost use Rattle.op_history.specs.declared.fault.ResultFault.TheVariants.{NoMemory};
-
-    ghost from_gives = { λ _ fault. fault ≡ NoMemory };
-
-    fn from(_: AllocFailed<T>) -> Self {
-        ResultFault::NoMemory
-    }
-}
-
-/// Why the words of a line aren't read, in a status and among results.
-#[derive(Clone, Copy, Debug, PartialEq, Eq)]
-pub(crate) enum WordCause {
-    UnknownStatement,
-    MissingWord,
-    ExtraWord,
-    BadValue,
-    UnknownName,
-}
-
-impl WordCause {
-    pub fn in_status(self) -> StatusCause
-        ensures { result ≡ status_cause self }
-    {
-        match self {
+    fn from(cause: WordCause) -> Self {
+        match cause {
             WordCause::UnknownStatement => StatusCause::UnknownStatement,
             WordCause::MissingWord => StatusCause::MissingWord,
             WordCause::ExtraWord => StatusCause::ExtraWord,
@@ -116,11 +56,16 @@ impl WordCause {
             WordCause::UnknownName => StatusCause::UnknownName,
         }
     }
+}
 
-    pub fn in_results(self) -> ResultCause
-        ensures { result ≡ result_cause self }
-    {
-        match self {
+impl From<WordCause> for ResultCause {
+    ghost use Rattle.std.specs.Prelude.{◌≡◌};
+    ghost use Rattle.op_history.specs.Causes.{result_cause};
+
+    ghost from_gives = { λ word cause. cause ≡ result_cause word };
+
+    fn from(cause: WordCause) -> Self {
+        match cause {
             WordCause::UnknownStatement => ResultCause::UnknownStatement,
             WordCause::MissingWord => ResultCause::MissingWord,
             WordCause::ExtraWord => ResultCause::ExtraWord,

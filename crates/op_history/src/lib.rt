@@ -7,12 +7,6 @@ mod fault;
 // What exit codes mean.
 mod recovery;
 
-// How words are read.
-mod names;
-mod numbers;
-mod reading;
-mod words;
-
 // The result lines.
 mod answers;
 mod results;

@@ -4,13 +4,15 @@ ghost use Rattle.std.specs.Prelude.{◌≡◌, ◌≢◌, ◌<◌, ◌^◌, ◌+
 ghost use Rattle.crm_lex.specs.Reading.{kept};
 ghost use Rattle.cluster_types.specs.Journals as journals;
 ghost use Rattle.cluster_types.specs.Valid.{KeepsLimits};
-ghost use Rattle.op_history.specs.Results.{Answers, result_of, results_of, seconds_in};
+ghost use Rattle.faults.specs.declared.fault.Fault.TheVariants as found;
+ghost use Rattle.faults.specs.Reading.{Gives};
+ghost use Rattle.op_history.specs.Results.{result_of, results_of, seconds_in};
 
 use crate::answers::answer_of;
-use crate::words::Words;
 use crate::{ResultCause, ResultFault};
 use cluster_types::{Answer, Cluster, Event, Journal};
 use crm_lex::{Line, WordBuf};
+use line_words::Words;
 use std::alloc::Global;
 
 /// How many result lines there may be.
@@ -66,7 +68,7 @@ fn result_of<W: Words>(
     requires moment { moment < 2 ^ 40 }
     ensures value { result ≡ result_of cluster.now moment before line (W.words words.now) }
     ensures within { IfOk result (λ answer. moment + seconds_in answer < 2 ^ 40) }
-    ensures no_memory { IfErr result (λ fault. fault ≢ ResultFault.NoMemory) }
+    ensures no_memory { IfErr result (λ fault. fault ≢ found.NoMemory) }
 {
     if before >= MOST_RESULTS {
         return Err(ResultFault::At {
@@ -78,7 +80,7 @@ fn result_of<W: Words>(
         Ok(answer) => Ok(answer),
         Err(cause) => Err(ResultFault::At {
             line,
-            cause: cause.in_results(),
+            cause: cause.into(),
         }),
     }
 }
@@ -102,13 +104,14 @@ pub fn read_result(
     requires moment { moment < 2 ^ 40 }
     ensures answer { result ≡ result_of cluster.now moment before line words.now.first }
     ensures whole { (all : List (List ℕ)) → words.now ≡ kept all → result ≡ result_of cluster.now moment before line all }
-    ensures no_memory { IfErr result (λ fault. fault ≢ ResultFault.NoMemory) }
+    ensures no_memory { IfErr result (λ fault. fault ≢ found.NoMemory) }
 {
     result_of(cluster, moment, before as usize, line, words)
 }
 
 /// Reads result lines, of which the first is taken at the moment of the journal. Each line is read as by `read_result`, after the lines before
-/// it and their waits. The fault is that of the first faulty line; `NoMemory` comes where memory is refused.
+/// it and their waits. The fault is that of the first faulty line; `NoMemory` comes when
+/// memory runs out.
 pub fn read_results(
     alloc: Global,
     cluster: &Cluster,
@@ -117,7 +120,7 @@ pub fn read_results(
 ) -> Result<Vec<ResultLine>, ResultFault>
     requires limits { KeepsLimits cluster.now }
     requires moment { journals.moment_of journal.now.events < 2 ^ 40 }
-    ensures { Answers (λ results. results.items) result (results_of cluster.now (journals.moment_of journal.now.events) lines.now) }
+    ensures { Gives (λ results. results.items) result (results_of cluster.now (journals.moment_of journal.now.events) lines.now) }
 {
     let mut moment = moment_of(journal.events.as_slice());
     let mut results = Vec::new(alloc);

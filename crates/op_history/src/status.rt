@@ -5,7 +5,8 @@ ghost use Rattle.std.specs.List.{list_all};
 ghost use Rattle.cluster_types.specs.declared.journal.Promotion.{Promotion as PromotionOf};
 ghost use Rattle.cluster_types.specs.Journals.{Orderly, in_flight, moment_of};
 ghost use Rattle.cluster_types.specs.Valid.{KeepsLimits};
-ghost use Rattle.op_history.specs.FirstJournal.{all_differ, is_known, is_same_cell, status_of, with_line, with_lines, Tells};
+ghost use Rattle.faults.specs.Reading.{Gives};
+ghost use Rattle.op_history.specs.FirstJournal.{all_differ, is_known, is_same_cell, status_of, with_line, with_lines};
 
 use crate::first_journal::journal_of;
 use crate::status_lines::told_of;
@@ -19,7 +20,7 @@ use std::alloc::Global;
 #[tactic(auto, using(crate::proofs::FirstJournals::one_more_known, crate::proofs::FirstJournals::one_more_differs))]
 fn with_line(cluster: &Cluster, told: ToldLines, line: &Line) -> Result<ToldLines, StatusFault>
     requires { KeepsLimits cluster.now }
-    ensures read { Tells (λ more. more) result (with_line cluster.now told line.now) }
+    ensures read { Gives (λ more. more) result (with_line cluster.now told line.now) }
     ensures known { IfOk result (λ more. list_all (is_known (length cluster.now.nodes)) told ≡ true
         → list_all (is_known (length cluster.now.nodes)) more ≡ true) }
     ensures once { IfOk result (λ more. all_differ told ≡ true → all_differ more ≡ true) }
@@ -32,7 +33,7 @@ fn with_line(cluster: &Cluster, told: ToldLines, line: &Line) -> Result<ToldLine
         Ok(one) => Ok(told.with(one)?),
         Err(cause) => Err(StatusFault::At {
             line: line.line,
-            cause: cause.in_status(),
+            cause: cause.into(),
         }),
     }
 }
@@ -40,7 +41,7 @@ fn with_line(cluster: &Cluster, told: ToldLines, line: &Line) -> Result<ToldLine
 #[tactic(auto, using(crate::proofs::LinesSoFar::one_more))]
 fn with_lines(alloc: Global, cluster: &Cluster, lines: &[Line]) -> Result<ToldLines, StatusFault>
     requires { KeepsLimits cluster.now }
-    ensures read { Tells (λ told. told) result (with_lines cluster.now [] lines.now) }
+    ensures read { Gives (λ told. told) result (with_lines cluster.now [] lines.now) }
     ensures known { IfOk result (λ told. list_all (is_known (length cluster.now.nodes)) told ≡ true) }
     ensures once { IfOk result (λ told. all_differ told ≡ true) }
 {
@@ -64,11 +65,11 @@ fn with_lines(alloc: Global, cluster: &Cluster, lines: &[Line]) -> Result<ToldLi
 /// A fault is that of the first faulty line, at its leftmost faulty word: `UnknownStatement` at a first word that begins no line of a status,
 /// `MissingWord` where the line ends too early, `ExtraWord` past its end, `UnknownName` at a NODE or LEAF that the cluster doesn't have, and
 /// `BadValue` at any other word that isn't one of its place. `Repeated` comes where all words of a line are read, and a line before it said the
-/// moment, quorum, the state of this node or the score of this cell. `NoMemory` comes where memory is refused.
+/// moment, quorum, the state of this node or the score of this cell. `NoMemory` comes when memory runs out.
 #[tactic(auto, using(crate::proofs::FirstJournals::journal_in_order, crate::proofs::FirstJournals::journal_is_idle, crate::proofs::FirstJournals::journal_moment, crate::proofs::FirstJournals::promotions_differ))]
 pub fn read_status(alloc: Global, cluster: &Cluster, lines: &[Line]) -> Result<Journal, StatusFault>
     requires { KeepsLimits cluster.now }
-    ensures read { Tells (λ journal. journal) result (status_of cluster.now lines.now) }
+    ensures read { Gives (λ journal. journal) result (status_of cluster.now lines.now) }
     ensures orderly { IfOk result (λ journal. Orderly journal.events) }
     ensures idle { IfOk result (λ journal. in_flight journal.events ≡ []) }
     ensures moment { IfOk result (λ journal. moment_of journal.events < 2 ^ 40) }

@@ -1,21 +1,23 @@
 //! What one line of a status tells.
 
 ghost use Rattle.std.specs.Prelude.{◌≡◌, ◌<◌, ◌^◌, ℕ, length, true, IfOk};
-ghost use Rattle.cluster_types.specs.Fields.{is_promotable, monitors};
+ghost use Rattle.cluster_types.specs.Fields.{monitors};
 ghost use Rattle.cluster_types.specs.Answering.{role_of_interval};
 ghost use Rattle.cluster_types.specs.Journals.{is_reported};
 ghost use Rattle.cluster_types.specs.declared.journal.Event.TheVariants as event;
 ghost use Rattle.cluster_types.specs.Valid.{KeepsLimits};
+ghost use Rattle.digits.specs.Digits.{number_up_to};
 ghost use Rattle.op_history.specs.FirstJournal.{is_known};
 ghost use Rattle.op_history.specs.Status.{action_as, cleanup_line, fitting, interval_as, interval_at, may_have, node_line, node_word, now_line, op_at, op_line, op_of, outcome_at, outcome_of, promotable, promotable_at, promotion_line, quorum_line, score_at, state_at, status_word, told_as, told_of};
 
-use crate::fault::WordCause;
-use crate::numbers::{code_of, interval_of, no_interval_of};
-use crate::reading::{end_at, is, leaf_at, node_at, seconds_at, word_at, yes_at};
 use crate::told::{NodeWord, Told};
-use crate::words::Words;
 use cluster_types::{
     Action, Cluster, Event, LeafId, Monitor, NodeId, Op, Outcome, Promotion, Role,
+};
+use digits::number_up_to;
+use line_words::{
+    WordCause, Words, code_of, end_at, interval_of, is, leaf_at, node_at, seconds_at, word_at,
+    yes_at,
 };
 use score::Score;
 
@@ -123,21 +125,12 @@ fn op_of(word: &[u8]) -> Option<Op>
     }
 }
 
-fn is_promotable(cluster: &Cluster, leaf: LeafId) -> bool
-    ensures { result ≡ is_promotable cluster.now leaf }
-{
-    match cluster.leaves.as_slice().get(leaf as usize) {
-        Some(leaf) => leaf.promotable,
-        None => false,
-    }
-}
-
 /// Whether the leaf may have had the operation: only a promotable leaf is promoted and demoted.
 fn may_have(cluster: &Cluster, leaf: LeafId, op: Op) -> bool
     ensures { result ≡ may_have cluster.now leaf op }
 {
     match op {
-        Op::Promote | Op::Demote => is_promotable(cluster, leaf),
+        Op::Promote | Op::Demote => cluster.is_promotable(leaf),
         Op::Start | Op::Stop | Op::Monitor => true,
     }
 }
@@ -164,6 +157,14 @@ fn op_at<W: Words>(
     let word = word_at(place, words)?;
     let op = op_of(word).ok_or(WordCause::BadValue)?;
     fitting(cluster, leaf, op)
+}
+
+/// The interval of an operation that has none: 0.
+fn no_interval_of(word: &[u8]) -> Option<u32>
+    ensures { result ≡ number_up_to 0 word.now }
+{
+    let interval = number_up_to(0, word)?;
+    Some(interval as u32)
 }
 
 /// The milliseconds of an operation: 0 but for a monitor.
@@ -217,10 +218,7 @@ fn role_in(monitors: &[Monitor], interval_ms: u32) -> Role
 fn role_of(cluster: &Cluster, leaf: LeafId, interval_ms: u32) -> Role
     ensures { result ≡ role_of_interval (monitors cluster.now leaf) interval_ms }
 {
-    match cluster.leaves.as_slice().get(leaf as usize) {
-        Some(leaf) => role_in(leaf.monitors.as_slice(), interval_ms),
-        None => Role::Started,
-    }
+    role_in(cluster.monitors(leaf), interval_ms)
 }
 
 /// The operation as an action of the cell.
@@ -284,7 +282,7 @@ fn cleanup_line<W: Words>(cluster: &Cluster, words: &W) -> Result<Told, WordCaus
 fn promotable(cluster: &Cluster, leaf: LeafId) -> Result<LeafId, WordCause>
     ensures { result ≡ promotable cluster.now leaf }
 {
-    if is_promotable(cluster, leaf) {
+    if cluster.is_promotable(leaf) {
         Ok(leaf)
     } else {
         Err(WordCause::BadValue)

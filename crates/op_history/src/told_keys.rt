@@ -5,7 +5,8 @@ ghost use Rattle.op_history.specs.declared.told.Told.{Told as ToldOf};
 ghost use Rattle.op_history.specs.Repeats.{has, Adds};
 
 use crate::told::Told;
-use cluster_types::{LeafId, NoMemory, NodeId};
+use cluster_types::{LeafId, NodeId};
+use faults::NoMemory;
 use std::alloc::Global;
 use std::collections::HashSet;
 

@@ -5,7 +5,7 @@ ghost use Rattle.op_history.specs.FirstJournal.{is_repeated};
 
 use crate::told::Told;
 use crate::told_keys::ToldKeys;
-use cluster_types::NoMemory;
+use faults::NoMemory;
 use listed::Listed;
 use std::alloc::Global;
 use std::marker::Model;

@@ -9,6 +9,7 @@ use Rattle.crm_lex.specs.declared.fault.LexCause.TheVariants.{ControlByte, LineT
 use Rattle.faults.specs.declared.fault.Fault.{Fault}
 use Rattle.faults.specs.declared.fault.Fault.TheVariants as lex
 use Rattle.faults.specs.Reading as faulty
+use Rattle.faults.specs.Reading.{on_line, ◌>>=◌ as and_then}
 use Rattle.crm_lex.specs.declared.line.Line.{Line}
 use Rattle.crm_lex.specs.LogicalLines.{all_byte_faults, byte_faults, content_length, fault_if, faults, is_control, line_text}
 use Rattle.crm_lex.specs.RawLines.{content, raw_lines}
@@ -35,9 +36,8 @@ use Rattle.cluster_model.proofs.SomeResolution.{some_resolution}
 use Rattle.cluster_types.specs.declared.cluster.Cluster.{Cluster}
 use Rattle.cluster_types.specs.Journals.{moment_of}
 use Rattle.op_history.specs.declared.fault.ResultCause.TheVariants.{TooManyResults}
-use Rattle.op_history.specs.declared.fault.ResultFault.TheVariants as results
 use Rattle.op_history.specs.declared.fault.StatusCause.TheVariants.{Repeated}
-use Rattle.op_history.specs.declared.fault.StatusFault.TheVariants as status
+use Rattle.op_history.specs.Causes.{result_cause, status_cause}
 use Rattle.op_history.specs.FirstJournal as journals
 use Rattle.op_history.specs.FirstJournal.{is_repeated, status_of}
 use Rattle.op_history.specs.Results as answers
@@ -180,24 +180,31 @@ model_stands (Ok cluster) h = tt
 model_stands (Err (model.At line why)) h = tt
 model_stands (Err model.NoMemory) h = absurd (h refl)
 
+-- one step after another, by its cases
+by_cases : {A B E : Type 0} (read : Result A E) (next : A → Result B E) → and_then read next ≡ elim read [ Err fault ↦ Err fault | Ok x ↦ next x ]
+by_cases (Ok x) next = refl
+by_cases (Err fault) next = refl
+
 -- the status
 status_stands : (c : Cluster) (found : List Line) → Stands (faulting status_fault (status_of c found))
 status_stands c found =
-    let told = all_stand status_fault (journals.with_line c) (journals.with_lines c) (λ s. refl) (λ s l ls. refl)
-    (λ s l. by_result (λ r. Stands (faulting status_fault (journals.with_told s l.line r)))
-    (λ x. by_test (λ test. Stands (faulting status_fault (if test then Err (status.At l.line Repeated) else Ok (s ++ x ∷ [])))) (is_repeated s x) tt tt) (λ why. tt) (told_of c l.words)) [] found in
-    by_result (λ r. Stands (faulting status_fault r) → Stands (faulting status_fault (journals.read_of c r))) (λ x h. tt) (λ fault h. h)
+    let told = all_stand status_fault (journals.with_line c) (journals.with_lines c) (λ s. refl) (λ s l ls. by_cases (journals.with_line c s l) _)
+    (λ s l. by_result (λ r. Stands (faulting status_fault (and_then (faulty.faulting status_cause (on_line l.line r)) (journals.with_told s l.line))))
+    (λ x. by_test (λ test. Stands (faulting status_fault (if test then Err (lex.At l.line Repeated) else Ok (s ++ x ∷ [])))) (is_repeated s x) tt tt) (λ why. tt) (told_of c l.words)) [] found in
+    by_result (λ r. Stands (faulting status_fault r) → Stands (faulting status_fault (and_then r (λ told. Ok (journals.journal_of c told))))) (λ x h. tt) (λ fault h. h)
     (journals.with_lines c [] found) told
 
 -- the results
 results_stand : (c : Cluster) (start : ℕ) (found : List Line) → Stands (faulting result_fault (results_of c start found))
 results_stand c start found =
-    all_stand result_fault (answers.with_result c start) (answers.with_results c start) (λ s. refl) (λ s l ls. refl)
+    all_stand result_fault (answers.with_result c start) (answers.with_results c start) (λ s. refl) (λ s l ls. by_cases (answers.with_result c start s l) _)
     (λ s l. by_test
-    (λ test. Stands (faulting result_fault (answers.with_answer s l.line
-    (if test then answers.on_line l.line (answer_of c (moment_after start s) l.words) else Err (results.At l.line TooManyResults)))))
+    (λ test. Stands (faulting result_fault (and_then
+    (if test then faulty.faulting result_cause (on_line l.line (answer_of c (moment_after start s) l.words)) else Err (lex.At l.line TooManyResults))
+    (λ given. Ok (s ++ record { line = l.line; answer = given } ∷ [])))))
     (nat_lt (length s) most_results)
-    (by_result (λ r. Stands (faulting result_fault (answers.with_answer s l.line (answers.on_line l.line r)))) (λ x. tt) (λ why. tt)
+    (by_result (λ r. Stands (faulting result_fault (and_then (faulty.faulting result_cause (on_line l.line r))
+    (λ given. Ok (s ++ record { line = l.line; answer = given } ∷ []))))) (λ x. tt) (λ why. tt)
     (answer_of c (moment_after start s) l.words))
     tt) [] found
 

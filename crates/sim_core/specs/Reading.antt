@@ -17,10 +17,8 @@ use Rattle.cluster_model.specs.declared.fault.ModelFault.TheVariants as model
 use Rattle.cluster_model.specs.Resolution.{ResolvesTo}
 use Rattle.cluster_types.specs.declared.cluster.Cluster.{Cluster}
 use Rattle.cluster_types.specs.Journals.{moment_of}
-use Rattle.op_history.specs.declared.fault.ResultFault.{ResultFault}
-use Rattle.op_history.specs.declared.fault.ResultFault.TheVariants as results
-use Rattle.op_history.specs.declared.fault.StatusFault.{StatusFault}
-use Rattle.op_history.specs.declared.fault.StatusFault.TheVariants as status
+use Rattle.op_history.specs.declared.fault.ResultCause.{ResultCause}
+use Rattle.op_history.specs.declared.fault.StatusCause.{StatusCause}
 use Rattle.op_history.specs.FirstJournal.{status_of}
 use Rattle.op_history.specs.Results.{results_of}
 use Rattle.faults.specs.declared.fault.Fault as reader
@@ -50,13 +48,13 @@ abbrev pub model_fault : ModelFault → InputFault
 model_fault (model.At line why) = At line (cause.Cluster why)
 model_fault model.NoMemory = NoMemory
 
-abbrev pub status_fault : StatusFault → InputFault
-status_fault (status.At line why) = At line (cause.Status why)
-status_fault status.NoMemory = NoMemory
+abbrev pub status_fault : reader.Fault StatusCause → InputFault
+status_fault (found.At line why) = At line (cause.Status why)
+status_fault found.NoMemory = NoMemory
 
-abbrev pub result_fault : ResultFault → InputFault
-result_fault (results.At line why) = At line (cause.Results why)
-result_fault results.NoMemory = NoMemory
+abbrev pub result_fault : reader.Fault ResultCause → InputFault
+result_fault (found.At line why) = At line (cause.Results why)
+result_fault found.NoMemory = NoMemory
 
 -- what a step gives, its fault as one of the input
 abbrev pub faulting : {A F : Type 0} → (F → InputFault) → Result A F → Result A InputFault

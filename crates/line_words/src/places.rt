@@ -1,23 +1,24 @@
-//! What stands at a place of a line.
+//! What stands at a place of a line, counted from 0. `MissingWord` comes when the line ends before it.
 
 ghost use Rattle.std.specs.Prelude.{◌≡◌, ◌<◌, ◌^◌, length, IfOk};
 ghost use Rattle.cluster_types.specs.Valid.{KeepsLimits};
-ghost use Rattle.op_history.specs.Numbers.{is};
-ghost use Rattle.op_history.specs.Reading.{Reads, code_at, end_at, leaf_at, node_at, number_at, seconds_at, word_at, yes_at, yes_or_no};
+ghost use Rattle.faults.specs.Reading.{Reads};
+ghost use Rattle.line_words.specs.Names.{is};
+ghost use Rattle.line_words.specs.Places.{code_at, end_at, leaf_at, node_at, number_at, seconds_at, word_at, yes_at, yes_or_no};
 
-use crate::fault::WordCause;
 use crate::names::{leaf_of, node_of};
 use crate::numbers::{code_of, number_of, seconds_of};
-use crate::words::Words;
+use crate::{WordCause, Words};
 use cluster_types::{Cluster, LeafId, NodeId};
 
-/// Whether the word is this text.
+/// Whether the word is this text, byte by byte.
 pub fn is(word: &[u8], text: &[u8]) -> bool
     ensures { result ≡ is word.now text.now }
 {
     word == text
 }
 
+/// The word at this place.
 pub fn word_at<W: Words>(place: usize, words: &W) -> Result<&[u8], WordCause>
     ensures { Reads (λ word. word.now) result (word_at place (W.words words.now)) }
 {
@@ -27,6 +28,7 @@ pub fn word_at<W: Words>(place: usize, words: &W) -> Result<&[u8], WordCause>
     }
 }
 
+/// Takes a line that ends before this place. `ExtraWord` comes when it doesn't.
 pub fn end_at<W: Words>(place: usize, words: &W) -> Result<(), WordCause>
     ensures { result ≡ end_at place (W.words words.now) }
 {
@@ -36,7 +38,8 @@ pub fn end_at<W: Words>(place: usize, words: &W) -> Result<(), WordCause>
     }
 }
 
-#[tactic(auto, unfolding(crate::specs::Reading::node_at))]
+/// The node that is named at this place. `UnknownName` comes when the cluster doesn't have it.
+#[tactic(auto, unfolding(crate::specs::Places::node_at))]
 pub fn node_at<W: Words>(cluster: &Cluster, place: usize, words: &W) -> Result<NodeId, WordCause>
     requires { KeepsLimits cluster.now }
     ensures value { result ≡ node_at cluster.now place (W.words words.now) }
@@ -46,7 +49,8 @@ pub fn node_at<W: Words>(cluster: &Cluster, place: usize, words: &W) -> Result<N
     node_of(cluster, word).ok_or(WordCause::UnknownName)
 }
 
-#[tactic(auto, unfolding(crate::specs::Reading::leaf_at))]
+/// The leaf that is named at this place. `UnknownName` comes when the cluster doesn't have it.
+#[tactic(auto, unfolding(crate::specs::Places::leaf_at))]
 pub fn leaf_at<W: Words>(cluster: &Cluster, place: usize, words: &W) -> Result<LeafId, WordCause>
     requires { KeepsLimits cluster.now }
     ensures value { result ≡ leaf_at cluster.now place (W.words words.now) }
@@ -56,7 +60,8 @@ pub fn leaf_at<W: Words>(cluster: &Cluster, place: usize, words: &W) -> Result<L
     leaf_of(cluster, word).ok_or(WordCause::UnknownName)
 }
 
-#[tactic(auto, unfolding(crate::specs::Reading::number_at))]
+/// The number of an action, from 1 to 4,294,967,295. `BadValue` comes at any other word.
+#[tactic(auto, unfolding(crate::specs::Places::number_at))]
 pub fn number_at<W: Words>(place: usize, words: &W) -> Result<u32, WordCause>
     ensures { result ≡ number_at place (W.words words.now) }
 {
@@ -64,7 +69,8 @@ pub fn number_at<W: Words>(place: usize, words: &W) -> Result<u32, WordCause>
     number_of(word).ok_or(WordCause::BadValue)
 }
 
-#[tactic(auto, unfolding(crate::specs::Reading::code_at))]
+/// An exit code, from 0 to 255. `BadValue` comes at any other word.
+#[tactic(auto, unfolding(crate::specs::Places::code_at))]
 pub fn code_at<W: Words>(place: usize, words: &W) -> Result<u8, WordCause>
     ensures { result ≡ code_at place (W.words words.now) }
 {
@@ -72,7 +78,8 @@ pub fn code_at<W: Words>(place: usize, words: &W) -> Result<u8, WordCause>
     code_of(word).ok_or(WordCause::BadValue)
 }
 
-#[tactic(auto, unfolding(crate::specs::Reading::seconds_at))]
+/// Seconds, below 1,099,511,627,776. `BadValue` comes at any other word.
+#[tactic(auto, unfolding(crate::specs::Places::seconds_at))]
 pub fn seconds_at<W: Words>(place: usize, words: &W) -> Result<u64, WordCause>
     ensures value { result ≡ seconds_at place (W.words words.now) }
     ensures range { IfOk result (λ seconds. seconds < 2 ^ 40) }
@@ -93,7 +100,8 @@ fn yes_or_no(word: &[u8]) -> Option<bool>
     }
 }
 
-#[tactic(auto, unfolding(crate::specs::Reading::yes_at))]
+/// Whether `yes` or `no` stands there. `BadValue` comes at any other word.
+#[tactic(auto, unfolding(crate::specs::Places::yes_at))]
 pub fn yes_at<W: Words>(place: usize, words: &W) -> Result<bool, WordCause>
     ensures { result ≡ yes_at place (W.words words.now) }
 {

@@ -1,9 +1,8 @@
 //! The nodes and leaves of a cluster by their names.
 
-ghost use Rattle.std.specs.Prelude.{◌≡◌, ◌<◌, ◌^◌, length, IfSome};
-ghost use Rattle.op_history.specs.Names.{leaf_of, node_of};
-ghost use Rattle.op_history.specs.Numbers.{is};
+ghost use Rattle.std.specs.Prelude.{◌≡◌, ◌<◌, length, IfSome};
 ghost use Rattle.cluster_types.specs.Valid.{KeepsLimits};
+ghost use Rattle.line_words.specs.Names.{is, leaf_of, node_of};
 
 use cluster_types::{Cluster, LeafId, NodeId};
 use crm_lex::Name;
@@ -28,7 +27,7 @@ fn place_of_leaf(cluster: &Cluster, word: &[u8]) -> Option<usize>
     cluster.leaves.iter().position(|leaf| is(&leaf.name, word))
 }
 
-/// The node of this name.
+/// The number of the node with this name. None when the cluster has no such node. The time grows with the number of nodes.
 pub fn node_of(cluster: &Cluster, word: &[u8]) -> Option<NodeId>
     requires { KeepsLimits cluster.now }
     ensures value { result ≡ node_of cluster.now word.now }
@@ -38,7 +37,7 @@ pub fn node_of(cluster: &Cluster, word: &[u8]) -> Option<NodeId>
     Some(place as NodeId)
 }
 
-/// The leaf of this name.
+/// The number of the leaf with this name. None when the cluster has no such leaf. The time grows with the number of leaves.
 pub fn leaf_of(cluster: &Cluster, word: &[u8]) -> Option<LeafId>
     requires { KeepsLimits cluster.now }
     ensures value { result ≡ leaf_of cluster.now word.now }

@@ -4,11 +4,11 @@ ghost use Rattle.std.specs.Option.{option_copied};
 use crm_lex::{Line, WordBuf};
 
 /// The words of one line, of which a form looks at the first eight at most.
-pub(crate) trait Words {
+pub trait Words {
     /// The words, in order.
     ghost words: { Self → List (List ℕ) };
 
-    /// The word at this place, counted from 0.
+    /// The word at this place, counted from 0. None past the last.
     fn word(&self, place: usize) -> Option<&[u8]>
         ensures { option_copied result ≡ slice_get (words self.now) place };
 }
@@ -22,6 +22,7 @@ impl Words for Line {
     }
 }
 
+/// The words that a buffer kept: the first eight at most.
 impl Words for WordBuf {
     ghost words = { λ buf. buf.first };
 
