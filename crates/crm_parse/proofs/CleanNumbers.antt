@@ -26,7 +26,7 @@ digit_bytes (x ∷ xs) h =
     let (one, rest) = and_parts (is_ascii_digit x) (list_all is_ascii_digit xs) h in
     and_from (is_clean_byte x) (list_all is_clean_byte xs) (digit_byte x one) (digit_bytes xs rest)
 
-decimal-clean : (n : ℕ) → n ≤ 1000000 → Clean (decimal n)
+pub decimal-clean : (n : ℕ) → n ≤ 1000000 → Clean (decimal n)
 decimal-clean n h =
     let numeral = decimal_is_IsNumeral n (omega arith) in
     clean-ascii (decimal n) (digit_bytes (decimal n) (digits.from (decimal n) numeral.0.1))

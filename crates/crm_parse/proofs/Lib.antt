@@ -41,3 +41,4 @@ pub mod LineForms
 pub mod OperationRoom
 pub mod FewMonitors
 pub mod ReadForms
+pub mod NoSections

@@ -1,5 +1,5 @@
 -- What is printed reads again as the same statements.
-use Rattle.std.proofs.Common.{◌≡◌, ℕ, ◌+◌, nat_le, true, List, [], ◌∷◌, ◌++◌, length, map, Ok, refl, sym, ap, subst, ◌∙◌}
+use Rattle.std.proofs.Common.{◌≡◌, ℕ, ◌+◌, nat_le, true, List, [], ◌∷◌, ◌++◌, length, map, Ok, refl, sym, ap, subst, ◌∙◌, append-nil}
 use Rattle.std.specs.List.{flat_map, list_all, AllByRecursion}
 use Rattle.std.proofs.lemmas.Bool.{and_parts}
 use Rattle.crm_lex.specs.declared.line.Line.{Line}
@@ -12,7 +12,7 @@ use Rattle.crm_parse.proofs.Clean.{Clean}
 use Rattle.crm_parse.proofs.CleanLines.{CleanLine, CleanStatement, statements-clean}
 use Rattle.crm_parse.proofs.LinesAgain.{statement_words, statements-again}
 use Rattle.crm_parse.proofs.SomeWords.{HasWords, has_words, statements-words}
-use Rattle.crm_print.specs.Again.{ReadsAs, forms_of, has_short_lines}
+use Rattle.crm_print.specs.Again.{IsComment, ReadsAs, forms_of, has_short_lines}
 use Rattle.crm_print.specs.Items.{items_of}
 use Rattle.crm_print.specs.Quoting.{Item, item_word, line_of}
 use Rattle.crm_print.specs.Text.{canonical_line, canonical_text, ended_line}
@@ -20,7 +20,7 @@ use Rattle.crm_print.proofs.CleanItems.{items-clean}
 use Rattle.crm_print.proofs.CleanReading.{clean-reads}
 use Rattle.crm_print.proofs.FilledItems.{filled-items}
 use Rattle.crm_print.proofs.Lines.{is_filled}
-use Rattle.crm_print.proofs.TextReads.{Readable, ended_lines, numbered, text-reads}
+use Rattle.crm_print.proofs.TextReads.{Readable, ended_lines, numbered, text-reads, text-reads-before-comment}
 use Rattle.crm_print.proofs.WrittenWords.{canonical_words-written}
 
 all-first : {X : Type 0} (P : X → Type 0) (xs ys : List X) → AllByRecursion P (xs ++ ys) → AllByRecursion P xs
@@ -67,9 +67,12 @@ text-is : (statements : List Statement) → flat_map ended_line statements ≡ e
 text-is [] = refl
 text-is (s ∷ statements) = ap (λ text. ended_line s ++ text) (text-is statements)
 
-pub reads-again : (text : List ℕ) (lines rest : List Line) (crm : Crm) → reads text ≡ Ok (lines ++ rest) → statements_of lines ≡ Ok crm
-    → has_short_lines crm ≡ true → ReadsAs (canonical_text crm) crm
-reads-again text lines rest crm e p s =
+-- what is printed, with some text behind it, reads again where its lines are read of the whole
+reads-so : (text behind : List ℕ) (lines rest : List Line) (crm : Crm) → reads text ≡ Ok (lines ++ rest) → statements_of lines ≡ Ok crm
+    → has_short_lines crm ≡ true
+    → ((all : List (List Item)) → AllByRecursion Readable all → reads (ended_lines all ++ behind) ≡ Ok (numbered 1 all))
+    → ReadsAs (canonical_text crm ++ behind) crm
+reads-so text behind lines rest crm e p s so =
     let all = all_items crm.statements in
     let clean = statements-clean lines crm (all-first CleanLine lines rest (clean-reads text (lines ++ rest) e)) p in
     let (again, read, same) = statements-again lines (numbered 1 all) crm p (numbered-words 1 crm.statements) in
@@ -77,10 +80,21 @@ reads-again text lines rest crm e p s =
     record {
       lines = numbered 1 all;
       again = again;
-      are_lines = ap reads (text-is crm.statements) ∙ text-reads all (readable 1 crm.statements clean words s);
+      are_lines = ap (λ canonical. reads (canonical ++ behind)) (text-is crm.statements) ∙ so all (readable 1 crm.statements clean words s);
       are_statements = read;
       same = same;
     }
+
+pub reads-again : (text : List ℕ) (lines rest : List Line) (crm : Crm) → reads text ≡ Ok (lines ++ rest) → statements_of lines ≡ Ok crm
+    → has_short_lines crm ≡ true → ReadsAs (canonical_text crm) crm
+reads-again text lines rest crm e p s =
+    subst (λ written. ReadsAs written crm) (append-nil (canonical_text crm))
+    (reads-so text [] lines rest crm e p s (λ all h. ap reads (append-nil (ended_lines all)) ∙ text-reads all h))
+
+pub reads-again-commented : (text comment : List ℕ) (lines rest : List Line) (crm : Crm) → reads text ≡ Ok (lines ++ rest) → statements_of lines ≡ Ok crm
+    → has_short_lines crm ≡ true → IsComment comment → ReadsAs (canonical_text crm ++ (comment ++ 10 ∷ [])) crm
+reads-again-commented text comment lines rest crm e p s c =
+    reads-so text (comment ++ 10 ∷ []) lines rest crm e p s (λ all h. text-reads-before-comment all comment h c)
 
 form-text : (statements : List Statement) → flat_map ended_line statements ≡ flat_map (λ f. canonical_line f ++ 10 ∷ []) (map (λ (s : Statement). s.form) statements)
 form-text [] = refl

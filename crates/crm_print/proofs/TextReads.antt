@@ -1,8 +1,9 @@
 -- A text of lines of clean items is read as their words, line by line.
-use Rattle.std.proofs.Common.{◌≡◌, ℕ, ◌+◌, nat_lt, nat_le, Bool, true, false, ◌==◌, Result, Ok, Err, List, [], ◌∷◌, ◌++◌, length, map, refl, sym, ap, subst, ◌∙◌, arith, append_assoc, append-nil}
+use Rattle.std.proofs.Common.{◌≡◌, ℕ, ◌+◌, nat_lt, nat_le, Bool, true, false, ◌==◌, ◌&&◌, Result, Ok, Err, List, [], ◌∷◌, ◌++◌, length, map, refl, sym, ap, subst, ◌∙◌, arith, append_assoc, append-nil}
 use Rattle.std.proofs.lemmas.Str.{is_utf8-from_IsUtf8}
 use Rattle.std.specs.List.{flat_map, list_any, list_all, AllByRecursion}
 use Rattle.std.specs.Str.{is_utf8}
+use Rattle.std.proofs.Math.Bool.{and-false}
 use Rattle.std.proofs.lemmas.Bool.{and_parts, or_parts}
 use Rattle.faults.specs.Reading.{unless}
 use Rattle.crm_lex.specs.RawLines.{begins_comment, content, ends_in_backslash, joined, physical_lines, raw_lines}
@@ -10,6 +11,7 @@ use Rattle.crm_lex.specs.LogicalLines.{faults, is_control, line_text, with_joint
 use Rattle.crm_lex.specs.Reading.{faults_from, first_fault, reads, row, rows_from}
 use Rattle.crm_lex.specs.Words.{is_open, words_of}
 use Rattle.crm_lex.specs.declared.line.Line.{Line}
+use Rattle.crm_print.specs.Again.{IsComment}
 use Rattle.crm_print.specs.Quoting.{Item, item_word, line_of}
 use Rattle.crm_parse.proofs.Clean.{Clean, EachClean}
 use Rattle.crm_print.proofs.CleanLines.{clean_line, line_begins, line_closes}
@@ -114,22 +116,29 @@ abbrev pub numbered : ℕ → List (List Item) → List Line
 numbered n [] = []
 numbered n (items ∷ more) = record { line = n; words = map item_word items } ∷ numbered (n + 1) more
 
--- the physical lines of the text, each of which is a logical line
-single_lines : (all : List (List Item)) → AllByRecursion Readable all → raw_lines (ended_lines all) ≡ map (λ items. (line_of items ++ 10 ∷ []) ∷ []) all
-single_lines [] h = refl
-single_lines (items ∷ more) h =
+-- the physical line of some items
+abbrev lone : List Item → List (List ℕ)
+lone items = (line_of items ++ 10 ∷ []) ∷ []
+
+-- the physical lines of the text, each of which is a logical line, before some text
+single_lines : (all : List (List Item)) (rest : List ℕ) → AllByRecursion Readable all
+    → raw_lines (ended_lines all ++ rest) ≡ map lone all ++ raw_lines rest
+single_lines [] rest h = refl
+single_lines (items ∷ more) rest h =
     let l = line1 items h.0 in
-    let rest = single_lines more h.1 in
-    let fed = ap (joined false) (ap physical_lines (append_assoc (line_of items) (10 ∷ []) (ended_lines more)) ∙ feed (line_of items) (ended_lines more) l.clean.allowed) in
+    let later = single_lines more rest h.1 in
+    let text = append_assoc (line_of items ++ 10 ∷ []) (ended_lines more) rest ∙ append_assoc (line_of items) (10 ∷ []) (ended_lines more ++ rest) in
+    let fed = ap (joined false) (ap physical_lines text ∙ feed (line_of items) (ended_lines more ++ rest) l.clean.allowed) in
     let same = content_is (line_of items) l.clean.allowed in
     let closes = l.closes in
-    fed ∙ rw (same, closes) (ap (λ groups. ((line_of items ++ 10 ∷ []) ∷ []) ∷ groups) rest)
+    fed ∙ rw (same, closes) (ap (λ groups. lone items ∷ groups) later)
 
-no_faults_from : (n : ℕ) (all : List (List Item)) → AllByRecursion Readable all → faults_from n (map (λ items. (line_of items ++ 10 ∷ []) ∷ []) all) ≡ []
-no_faults_from n [] h = refl
-no_faults_from n (items ∷ more) h =
+no_faults_before : (n : ℕ) (all : List (List Item)) (groups : List (List (List ℕ))) → AllByRecursion Readable all
+    → ((m : ℕ) → faults_from m groups ≡ []) → faults_from n (map lone all ++ groups) ≡ []
+no_faults_before n [] groups h later = later n
+no_faults_before n (items ∷ more) groups h later =
     let none = no_faults n (line_of items) (line1 items h.0) in
-    let rest = no_faults_from (n + 1) more h.1 in
+    let rest = no_faults_before (n + 1) more groups h.1 later in
     rw (none, rest) refl
 
 row_of : (n : ℕ) (items : List Item) → Readable items → row n (words_of (line_of items)) ≡ record { line = n; words = map item_word items } ∷ []
@@ -137,17 +146,51 @@ row_of n items r =
     subst (λ items. row n (words_of (line_of items)) ≡ record { line = n; words = map item_word items } ∷ []) (sym r.are)
     (ap (row n) (line-words r.first r.others r.filled))
 
-rows_are : (n : ℕ) (all : List (List Item)) → AllByRecursion Readable all → rows_from n (map (λ items. (line_of items ++ 10 ∷ []) ∷ []) all) ≡ numbered n all
-rows_are n [] h = refl
-rows_are n (items ∷ more) h =
+rows_before : (n : ℕ) (all : List (List Item)) (groups : List (List (List ℕ))) → AllByRecursion Readable all
+    → ((m : ℕ) → rows_from m groups ≡ []) → rows_from n (map lone all ++ groups) ≡ numbered n all
+rows_before n [] groups h later = later n
+rows_before n (items ∷ more) groups h later =
     let whole = text_is (line_of items) (line1 items h.0) in
     let one = row_of n items h.0 in
-    let rest = rows_are (n + 1) more h.1 in
+    let rest = rows_before (n + 1) more groups h.1 later in
     rw (whole, one, rest) refl
 
--- a text of such lines is read as their words
+-- a text of such lines is read as their words, where nothing is read of what stands behind them
+text-reads-before : (all : List (List Item)) (rest : List ℕ) → AllByRecursion Readable all → ((m : ℕ) → faults_from m (raw_lines rest) ≡ [])
+    → ((m : ℕ) → rows_from m (raw_lines rest) ≡ []) → reads (ended_lines all ++ rest) ≡ Ok (numbered 1 all)
+text-reads-before all rest h clean empty =
+    let groups = map lone all ++ raw_lines rest in
+    ap (λ groups. unless (first_fault (faults_from 1 groups)) (rows_from 1 groups)) (single_lines all rest h)
+    ∙ (ap (λ faults. unless (first_fault faults) (rows_from 1 groups)) (no_faults_before 1 all (raw_lines rest) h clean)
+    ∙ ap Ok (rows_before 1 all (raw_lines rest) h empty))
+
+-- a text of such lines alone
 pub text-reads : (all : List (List Item)) → AllByRecursion Readable all → reads (ended_lines all) ≡ Ok (numbered 1 all)
-text-reads all h =
-    let groups = map (λ items. (line_of items ++ 10 ∷ []) ∷ []) all in
-    ap (λ groups. unless (first_fault (faults_from 1 groups)) (rows_from 1 groups)) (single_lines all h)
-    ∙ (ap (λ faults. unless (first_fault faults) (rows_from 1 groups)) (no_faults_from 1 all h) ∙ ap Ok (rows_are 1 all h))
+text-reads all h = ap reads (sym (append-nil (ended_lines all))) ∙ text-reads-before all [] h (λ m. refl) (λ m. refl)
+
+-- and before a comment
+comment-lines : (text : List ℕ) → IsComment text → raw_lines (text ++ 10 ∷ []) ≡ ((text ++ 10 ∷ []) ∷ []) ∷ []
+comment-lines text c =
+    let same = content_is text c.allowed in
+    let begins = c.begins in
+    let closes : (ends_in_backslash text && false) ≡ false = and-false (ends_in_backslash text) in
+    ap (joined false) (feed text [] c.allowed) ∙ rw (same, begins, closes) refl
+
+comment-clean : (text : List ℕ) → IsComment text → (m : ℕ) → faults_from m (raw_lines (text ++ 10 ∷ [])) ≡ []
+comment-clean text c m =
+    let same = content_is text c.allowed in
+    let begins = c.begins in
+    let utf8 = c.utf8 in
+    let allowed = c.allowed in
+    let short = not_long 1048576 (0 + length text) (length text) c.short (omega arith) in
+    ap (faults_from m) (comment-lines text c) ∙ rw (same, begins, utf8, allowed, short) refl
+
+comment-empty : (text : List ℕ) → IsComment text → (m : ℕ) → rows_from m (raw_lines (text ++ 10 ∷ [])) ≡ []
+comment-empty text c m =
+    let same = content_is text c.allowed in
+    let begins = c.begins in
+    ap (rows_from m) (comment-lines text c) ∙ rw (same, begins) refl
+
+pub text-reads-before-comment : (all : List (List Item)) (text : List ℕ) → AllByRecursion Readable all → IsComment text
+    → reads (ended_lines all ++ (text ++ 10 ∷ [])) ≡ Ok (numbered 1 all)
+text-reads-before-comment all text h c = text-reads-before all (text ++ 10 ∷ []) h (comment-clean text c) (comment-empty text c)

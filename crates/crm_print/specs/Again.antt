@@ -1,7 +1,10 @@
 -- What is printed reads again as the same statements (rule of this project).
-use Rattle.std.specs.Prelude.{◌≡◌, ℕ, nat_le, Bool, List, map, length, Ok}
-use Rattle.std.specs.List.{list_all}
+use Rattle.std.specs.Prelude.{◌≡◌, ℕ, nat_le, Bool, true, false, List, map, length, Ok}
+use Rattle.std.specs.List.{list_all, list_any}
+use Rattle.std.specs.Str.{is_utf8}
 use Rattle.crm_lex.specs.declared.line.Line.{Line}
+use Rattle.crm_lex.specs.LogicalLines.{is_control}
+use Rattle.crm_lex.specs.RawLines.{begins_comment}
 use Rattle.crm_lex.specs.Reading.{reads}
 use Rattle.crm_parse.specs.declared.form.Form.{Form}
 use Rattle.crm_parse.specs.declared.statement.Crm.{Crm}
@@ -23,3 +26,10 @@ pub record ReadsAs (text : List ℕ) (crm : Crm) : Type 0 where
   pub are_lines : reads text ≡ Ok lines
   pub are_statements : statements_of lines ≡ Ok again
   pub same : forms_of again ≡ forms_of crm
+
+-- a comment, without its line feed
+pub record IsComment (text : List ℕ) : Type 0 where
+  pub begins : begins_comment text ≡ true
+  pub utf8 : is_utf8 text ≡ true
+  pub allowed : list_any is_control text ≡ false
+  pub short : nat_le (length text) 1048576 ≡ true

@@ -17,5 +17,8 @@ mod text;
 // What follows from the definitions.
 mod laws;
 
-pub use laws::{canonical_text_is_canonical, what_is_printed_reads_again};
+pub use laws::{
+    canonical_text_is_canonical, what_is_printed_before_a_comment_reads_again,
+    what_is_printed_reads_again,
+};
 pub use text::print;
