@@ -40,6 +40,7 @@ impl Cluster {
         }
     }
 
+    /// Whether the leaf may be promoted.
     pub fn is_promotable(&self, leaf: LeafId) -> bool
         ensures { result ≡ fields.is_promotable self.now leaf }
     {
@@ -79,6 +80,7 @@ impl Cluster {
         }
     }
 
+    /// How much the leaf matters: 0 where none was set.
     pub fn priority(&self, leaf: LeafId) -> Score
         ensures { result ≡ fields.priority self.now leaf }
     {
@@ -118,6 +120,7 @@ impl Cluster {
         }
     }
 
+    /// The role that was asked for: `Started` where none was.
     pub fn target_role(&self, leaf: LeafId) -> TargetRole
         ensures { result ≡ fields.target_role_of self.now leaf }
     {
@@ -127,6 +130,7 @@ impl Cluster {
         }
     }
 
+    /// The name of the leaf, which is that of its primitive.
     pub fn leaf_name(&self, leaf: LeafId) -> &[u8]
         ensures { result.now ≡ fields.leaf_name self.now leaf }
     {

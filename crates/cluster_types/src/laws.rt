@@ -52,7 +52,7 @@ pub fn first_journal_is_in_order()
         → list_all (is_reported (length c.nodes)) history ≡ true → Orderly (first_events c history words quorum now) }
 {}
 
-/// Of a graph is computed what its edges say: one action comes before another exactly where the edges lead from it to the other through gates
+/// Of a graph is computed what its edges say: one action comes before another when the edges lead from it to the other through gates
 /// alone.
 pub fn paths_are_computed()
     ensures { (g : GraphOf) (x y : ℕ) → IsGraph g → is_before g x y ≡ true ↔ IsBefore g x y }

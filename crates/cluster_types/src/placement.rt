@@ -17,7 +17,9 @@ use std::alloc::Global;
 /// What a leaf is to be on a node.
 #[derive(Clone, Copy, Debug, PartialEq, Eq)]
 pub enum Target {
+    /// It has no target there.
     Nowhere,
+    /// Started, and not promoted.
     Started,
     Promoted,
 }
@@ -135,13 +137,16 @@ impl Decision {
 /// Why a leaf is left as it is.
 #[derive(Clone, Copy, Debug, PartialEq, Eq)]
 pub enum Pin {
+    /// The cluster doesn't manage it.
     Unmanaged,
+    /// A failure blocks it where it may run.
     Blocked,
 }
 
 /// Why a leaf has no target. The first reason that holds counts.
 #[derive(PartialEq, Eq, Drop)]
 pub enum NoReason {
+    /// It may have no copy: `clone-max` is 0.
     NoCopies,
     /// Its target role.
     Stopped,
@@ -149,6 +154,7 @@ pub enum NoReason {
     OnFail,
     /// `stop-all-resources`.
     StopAll,
+    /// There is no quorum, and the policy lets nothing start.
     NoQuorum,
     /// No node may have it.
     NoNode,

@@ -15,7 +15,7 @@ pub enum PassedEnd {
     Cut,
 }
 
-/// A transition of a run, with its events by their positions in the journal, from `begins_at` up to `ends_at`.
+/// A transition of a run, with its events by their positions in the journal: the first is at `begins_at`, and the last before `ends_at`.
 #[derive(PartialEq, Eq, Drop)]
 pub struct Passed {
     pub pins: Listed<Option<Pin>>,
@@ -36,13 +36,21 @@ pub struct Run {
 /// What a line of a printed run says.
 #[derive(PartialEq, Eq, Drop)]
 pub enum RunLine {
+    /// A transition begins: its number, from 1.
     Transition(u32),
     Pinned(LeafId, Pin),
+    /// The target of a leaf on a node.
     Goal(LeafId, NodeId, Target),
+    /// A leaf without a target.
     Lacking(LeafId, NoReason),
+    /// An action begins: its number in the transition, from 1.
     Begin(u32, Action),
+    /// An answer that was taken.
     Taken(Answer),
+    /// The transition with this number is complete.
     Complete(u32),
+    /// It was aborted.
     Aborted(u32),
+    /// The answer at this line isn't one that may come.
     Unexpected(u32),
 }

@@ -1,7 +1,7 @@
 use faults::Fault;
 use thiserror::Error;
 
-/// Why a text has no words (rule of this project).
+/// Why the words of a text can't be read (rule of this project).
 #[derive(Clone, Copy, Debug, PartialEq, Eq, Error)]
 pub enum LexCause {
     /// The bytes of a physical line are not UTF-8.

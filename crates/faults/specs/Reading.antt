@@ -21,6 +21,7 @@ abbrev pub on_line : {A C : Type 0} → ℕ → Result A C → Result A (Fault C
 on_line line (Ok x) = Ok x
 on_line line (Err cause) = Err (At line cause)
 
+-- the fault of a line whose words aren't read
 abbrev pub as_fault : {C : Type 0} → ℕ → Stop C → Fault C
 as_fault line (stop.Cause cause) = At line cause
 as_fault line stop.NoMemory = NoMemory
@@ -34,7 +35,7 @@ abbrev pub faulting : {A C D : Type 0} → (C → D) → Result A (Fault C) → 
 faulting cause_of (Ok x) = Ok x
 faulting cause_of (Err fault) = Err (caused cause_of fault)
 
--- the second fault is the first, with a cause that stands so to its own
+-- the second fault is the first with another cause, where this relation holds between the two causes
 abbrev pub IsCaused : {C D : Type 0} → (C → D → Type 0) → Fault C → Fault D → Type 0
 IsCaused Stands (At line cause) (At other why) = (line ≡ other) × Stands cause why
 IsCaused Stands (At line cause) NoMemory = ⊥

@@ -74,7 +74,7 @@ module _ {A W : Type 0} (starts : W → A → Bool) (target : W → A) (same : A
       = onward (pos (target w.way) == pos t) _ _ (of_leads way_for n (target w.way) t) on in
       more n s t ∙ passes_by (way_by n s t) ways w.way w.among (and_from (starts w.way s) _ w.begins (rw (alike w.way t w.among) then))
 
-  -- so edges have no loop just where nothing follows itself
+  -- so edges have no loop when nothing follows itself, and only then
 
   pub nothing_follows_itself : ((w : W) (s : A) → Contains ways w → starts w s ≡ true → EdgeFor target edges pos w s) → (positions : ℕ)
       → HasNoLoop positions edges

@@ -30,7 +30,7 @@ pub record IsBackward (positions : ℕ) (edges : List Edge) (order : List ℕ) :
   pub all : (x : ℕ) → x < positions → has order x ≡ true
   pub back : LeadsBack edges order
 
--- as many positions as can be taken so: all of them just where there is no loop
+-- as many positions as can be taken so: all of them when there is no loop, and only then
 pub record AreCleared (positions : ℕ) (edges : List Edge) (taken : List ℕ) : Type 0 where
   pub some : length taken < positions → HasLoop positions edges
   pub none : positions ≤ length taken → HasNoLoop positions edges

@@ -58,7 +58,7 @@ impl Clearing {
 
 /// The positions that can be taken one after the other, each once all to which its edges lead were taken.
 ///
-/// All can be taken just where there is no loop. The time is linear in the positions and the edges.
+/// All can be taken when there is no loop, and only then. The time is linear in the positions and the edges.
 pub fn backward_order(alloc: Global, positions: u32, edges: &[Edge]) -> Result<Vec<u32>, AllocError>
     requires { EndWithin positions edges.now }
     ensures { IfOk result (λ order. AreCleared positions edges.now order.items) }

@@ -10,7 +10,7 @@ pub fn loops_are_paths()
     ensures { (positions : ℕ) (edges : List Edge) → EndWithin positions edges → HasLoop positions edges ↔ HasPathBack edges }
 {}
 
-/// Edges have no loop just where some height rises along each of them.
+/// Edges have no loop when some height rises along each of them, and only then.
 pub fn edges_without_a_loop_rise()
     ensures { (positions : ℕ) (edges : List Edge) → EndWithin positions edges → HasNoLoop positions edges ↔ RiseSomehow edges }
 {}

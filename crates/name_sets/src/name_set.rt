@@ -38,7 +38,7 @@ impl NameSet {
         self.names.contains(name)
     }
 
-    /// Adds a name. One that was added before changes nothing.
+    /// Adds a name. Adding one that is there changes no answer.
     pub fn add(&mut self, alloc: Global, name: &Name) -> Result<(), NoMemory>
         ensures ok { OnOk result (IsWith self.old name.now self.new) }
         ensures err { OnErr result (self.new ≡ self.old) }

@@ -27,6 +27,7 @@ pub struct Known<'c> {
     cluster: &'c Cluster,
     /// Leaf by leaf, node by node.
     cells: Vec<Facts>,
+    /// Per node, the last sign of it.
     signs: Vec<Option<Sign>>,
     quorum: bool,
     /// In seconds.
@@ -62,7 +63,7 @@ impl<'c> Known<'c> {
     }
 
     /// What these events tell of the cluster. It asks for a cluster within the limits, of which each leaf has at most eight recurring monitors, as each
-    /// valid cluster is, and for a moment that fits 64 bits. The events are gone through once, however many cells there are.
+    /// valid cluster is, and for a moment in seconds that fits 64 bits. The events are gone through once, however many cells there are.
     pub fn new(alloc: Global, cluster: &'c Cluster, events: &[Event]) -> Result<Known<'c>, NoMemory>
         requires limits { KeepsLimits cluster.now }
         requires monitors { has_few_monitors cluster.now ≡ true }
@@ -108,7 +109,7 @@ impl<'c> Known<'c> {
         )
     }
 
-    /// Whether the last that is known of a node of the cluster is that it joined.
+    /// Whether the last sign of a node of the cluster is that it joined.
     pub fn has_joined(&self, node: NodeId) -> bool
         requires { node < length self.now.cluster.nodes }
         ensures { (c : ClusterOf) (es : List EventOf) → Knows c es self.now → result ≡ is_joined (journals.last_sign node es) }
