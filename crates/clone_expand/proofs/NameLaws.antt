@@ -16,7 +16,7 @@ use Rattle.crm_parse.specs.Texts.{is}
 use Rattle.cluster_types.specs.declared.leaf.Leaf.{Leaf}
 use Rattle.clone_expand.specs.declared.fault.ExpandCause.{ExpandCause}
 use Rattle.clone_expand.specs.declared.fault.ExpandCause.TheVariants.{DuplicateName}
-use Rattle.clone_expand.specs.declared.fault.ExpandFault.{ExpandFault}
+use Rattle.faults.specs.declared.fault.Fault.{Fault}
 use Rattle.clone_expand.specs.declared.kinds.Kind.{Kind}
 use Rattle.clone_expand.specs.declared.seen.Seen.{Seen}
 use Rattle.clone_expand.specs.declared.surroundings.Surroundings.{Surroundings}
@@ -100,7 +100,7 @@ unfolding cause_of
 new_id kinds seen f h = or_right (list_any (has seen.nodes) (nodes_in f)) _ (not_first _ _ h)
 
 module _ (s : Surroundings) (kinds : List (List ℕ × Kind)) where
-  fresh_by : (seen : Seen) (st : Statement) (leaves : List Leaf) (cause : Option ExpandCause) (later : Option ExpandFault)
+  fresh_by : (seen : Seen) (st : Statement) (leaves : List Leaf) (cause : Option ExpandCause) (later : Option (Fault ExpandCause))
       → cause_of kinds seen st.form ≡ cause → fault_at st.line cause later ≡ None
       → (later ≡ None → Fresh (seen_after seen st.form).ids leaves) → Fresh seen.ids (leaf_in s st.form ++ leaves)
   unfolding seen_after

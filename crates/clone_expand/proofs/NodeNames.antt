@@ -7,7 +7,7 @@ use Rattle.crm_parse.specs.declared.form.Form.{Form}
 use Rattle.crm_parse.specs.declared.form.Form.TheVariants as form
 use Rattle.crm_parse.specs.declared.statement.Statement.{Statement}
 use Rattle.clone_expand.specs.declared.fault.ExpandCause.{ExpandCause}
-use Rattle.clone_expand.specs.declared.fault.ExpandFault.{ExpandFault}
+use Rattle.faults.specs.declared.fault.Fault.{Fault}
 use Rattle.clone_expand.specs.declared.kinds.Kind.{Kind}
 use Rattle.clone_expand.specs.declared.seen.Seen.{Seen}
 use Rattle.clone_expand.specs.Faults.{cause_of, fault_at, fault_of, first_fault, ids_in, kinds_of, nothing_seen, seen_after}
@@ -42,7 +42,7 @@ unfolding cause_of
 new_node kinds seen f h = or_left (list_any (has seen.nodes) (nodes_in f)) (list_any (has seen.ids) (ids_in f)) (not_first _ _ h)
 
 module _ (kinds : List (List ℕ × Kind)) where
-  fresh_by : (seen : Seen) (st : Statement) (names : List (List ℕ)) (cause : Option ExpandCause) (later : Option ExpandFault)
+  fresh_by : (seen : Seen) (st : Statement) (names : List (List ℕ)) (cause : Option ExpandCause) (later : Option (Fault ExpandCause))
       → cause_of kinds seen st.form ≡ cause → fault_at st.line cause later ≡ None
       → (later ≡ None → Fresh (seen_after seen st.form).nodes names) → Fresh seen.nodes (nodes_in st.form ++ names)
   unfolding seen_after

@@ -2,6 +2,8 @@
 use Rattle.std.specs.Prelude.{ℕ, Bool, true, false, not, ◌&&◌, ◌||◌, if◌then◌else◌, List, [], ◌∷◌, ◌++◌, is_none, Option, Some, None}
 use Rattle.std.specs.List.{flat_map, list_any}
 use Rattle.std.specs.Option.{option_map_or}
+use Rattle.faults.specs.declared.fault.Fault.{Fault}
+use Rattle.faults.specs.declared.fault.Fault.TheVariants.{At}
 use Rattle.crm_parse.specs.declared.form.Form.{Form}
 use Rattle.crm_parse.specs.declared.form.Form.TheVariants as form
 use Rattle.crm_parse.specs.declared.statement.Statement.{Statement}
@@ -9,8 +11,6 @@ use Rattle.crm_parse.specs.Statements.{is_promotable}
 use Rattle.clone_expand.specs.declared.fault.ExpandCause.{ExpandCause}
 use Rattle.clone_expand.specs.declared.fault.ExpandCause.TheVariants.{DuplicateName, UnknownName, NestedTwice}
 use Rattle.clone_expand.specs.declared.fault.ExpandCause.TheVariants.{EmptyGroup, MemberTwice, UnsupportedMeta}
-use Rattle.clone_expand.specs.declared.fault.ExpandFault.{ExpandFault}
-use Rattle.clone_expand.specs.declared.fault.ExpandFault.TheVariants.{At}
 use Rattle.clone_expand.specs.declared.kinds.Kind.{Kind}
 use Rattle.clone_expand.specs.declared.kinds.Kind.TheVariants as kind
 use Rattle.clone_expand.specs.declared.seen.Seen.{Seen}
@@ -110,15 +110,15 @@ cause_of kinds seen form =
     else None
 
 -- the fault of a line, if it has a cause, and else a later one
-abbrev pub fault_at : ℕ → Option ExpandCause → Option ExpandFault → Option ExpandFault
+abbrev pub fault_at : ℕ → Option ExpandCause → Option (Fault ExpandCause) → Option (Fault ExpandCause)
 fault_at line (Some cause) later = Some (At line cause)
 fault_at line None later = later
 
 -- the fault of the first statement that is at fault
-abbrev pub first_fault : List (List ℕ × Kind) → Seen → List Statement → Option ExpandFault
+abbrev pub first_fault : List (List ℕ × Kind) → Seen → List Statement → Option (Fault ExpandCause)
 first_fault kinds seen [] = None
 first_fault kinds seen (s ∷ statements) =
     fault_at s.line (cause_of kinds seen s.form) (first_fault kinds (seen_after seen s.form) statements)
 
-unfoldable pub fault_of : List Statement → Option ExpandFault
+unfoldable pub fault_of : List Statement → Option (Fault ExpandCause)
 fault_of statements = first_fault (kinds_of statements) nothing_seen statements

@@ -1,5 +1,6 @@
 ghost use Rattle.std.specs.Prelude.{◌≡◌, IfOk};
-ghost use Rattle.clone_expand.specs.Expansion.{expansion_of, leaves_with_spans, Expands};
+ghost use Rattle.faults.specs.Reading.{Gives};
+ghost use Rattle.clone_expand.specs.Expansion.{expansion_of, leaves_with_spans};
 
 use crate::checks::fault_of;
 use crate::leaf::leaves_of;
@@ -24,9 +25,9 @@ fn leaves_with_spans(alloc: Global, statements: &[Statement]) -> Result<Leaves, 
 /// resource or rule its id; `UnknownName` where a member or a child isn't the id of a resource; `NestedTwice` where a member isn't a
 /// primitive, or a child is neither a primitive nor a group; `EmptyGroup` at a group without members; `MemberTwice` where a member or a
 /// child belongs already to this or an earlier group or clone; and `UnsupportedMeta` where the child of a promotable clone is a group.
-/// Where a statement has several causes, the first in this order counts. `NoMemory` comes where memory is refused.
+/// Where a statement has several causes, the first in this order counts. `NoMemory` comes when memory runs out.
 pub fn expand(alloc: Global, crm: &Crm) -> Result<Leaves, ExpandFault>
-    ensures { Expands result (expansion_of crm.now.statements) }
+    ensures { Gives (λ leaves. leaves) result (expansion_of crm.now.statements) }
 {
     let statements = crm.statements.as_slice();
     if let Some(fault) = fault_of(alloc, statements)? {

@@ -1,5 +1,4 @@
-use cluster_types::NoMemory;
-use thiserror::Error;
+use faults::Fault;
 
 /// Why the groups and clones of a configuration don't stand for leaves.
 #[derive(Clone, Copy, Debug, PartialEq, Eq)]
@@ -18,24 +17,5 @@ pub enum ExpandCause {
     UnsupportedMeta,
 }
 
-/// Why there are no leaves: a fault of the configuration, or want of memory.
-#[derive(Clone, Copy, Debug, PartialEq, Eq, Error)]
-pub enum ExpandFault {
-    /// The line of the first statement that is at fault, with the first of its causes in their order.
-    #[error("line {line}: {cause:?}")]
-    At { line: u32, cause: ExpandCause },
-    /// Memory was refused.
-    #[error("no memory")]
-    NoMemory,
-}
-
-impl From<NoMemory> for ExpandFault {
-    ghost use Rattle.std.specs.Prelude.{◌≡◌};
-    ghost use Rattle.clone_expand.specs.declared.fault.ExpandFault.TheVariants.{NoMemory};
-
-    ghost from_gives = { λ _ fault. fault ≡ NoMemory };
-
-    fn from(_: NoMemory) -> Self {
-        ExpandFault::NoMemory
-    }
-}
+/// Why there are no leaves. The line is that of the first statement that is at fault, and the cause the first of its causes in their order.
+pub type ExpandFault = Fault<ExpandCause>;

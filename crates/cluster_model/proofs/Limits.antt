@@ -10,9 +10,8 @@ use Rattle.crm_parse.specs.declared.statement.Statement.{Statement}
 use Rattle.cluster_types.specs.declared.cluster.Cluster.{Cluster}
 use Rattle.cluster_types.specs.declared.leaf.Leaf.{Leaf}
 use Rattle.cluster_types.specs.Valid.{KeepsLimits}
-use Rattle.clone_expand.specs.declared.fault.ExpandFault.{ExpandFault}
+use Rattle.clone_expand.specs.declared.fault.ExpandCause.{ExpandCause}
 use Rattle.clone_expand.specs.declared.leaves.Leaves.{Leaves}
-use Rattle.clone_expand.specs.Expansion as expansion
 use Rattle.clone_expand.specs.Expansion.{expansion_of, leaves_with_spans}
 use Rattle.clone_expand.specs.Faults.{fault_of}
 use Rattle.clone_expand.specs.Leaves.{leaf_in, leaves_of, surroundings_of}
@@ -20,7 +19,7 @@ use Rattle.cluster_model.specs.declared.counts.Counts.{Counts}
 use Rattle.cluster_model.specs.declared.directory.Directory.{Directory}
 use Rattle.cluster_model.specs.declared.fault.ModelCause.{ModelCause}
 use Rattle.cluster_model.specs.declared.fault.ModelCause.TheVariants.{UnknownName, NotPromotable, UnsupportedOrder, TooManyNodes, TooManyLeaves, TooManyRules}
-use Rattle.cluster_model.specs.declared.fault.ModelFault.{ModelFault}
+use Rattle.faults.specs.declared.fault.Fault.{Fault}
 use Rattle.cluster_model.specs.Chains.{pairs_after, successive}
 use Rattle.cluster_model.specs.Checks.{cause_of, excess_of, fault_after, first_fault, has_unknown, has_unpromotable, is_unsupported, unless_cause}
 use Rattle.cluster_model.specs.Colocations.{colocations_in, colocations_of}
@@ -29,7 +28,8 @@ use Rattle.cluster_model.specs.Directories.{directory_of}
 use Rattle.cluster_model.specs.Locations.{location_in, locations_of, rule_location_of, rule_locations_in, rule_locations_of}
 use Rattle.cluster_model.specs.Nodes.{node_in, nodes_by}
 use Rattle.cluster_model.specs.Orders.{orders_in, orders_of}
-use Rattle.cluster_model.specs.Resolution.{ResolvesTo, cluster_of, unless_fault}
+use Rattle.cluster_model.specs.Resolution.{ResolvesTo, cluster_of}
+use Rattle.faults.specs.Reading.{unless}
 
 -- so much there may be
 pub record Within (counts : Counts) : Type 0 where
@@ -145,7 +145,7 @@ rules_counted d counts (s ∷ statements) =
     let four = length-append (orders_in d s.form) (orders_of d statements) in
     omega (arith, more, one, two, three, four, locations_are d s.form, colocations_are d s.form, orders_are d s.form)
 
-resolved : (loop fault : Option ModelFault) (made cluster : Cluster) → Ok cluster ≡ unless_fault (option_or loop fault) made → (fault ≡ None) × (made ≡ cluster)
+resolved : (loop fault : Option (Fault ModelCause)) (made cluster : Cluster) → Ok cluster ≡ unless (option_or loop fault) made → (fault ≡ None) × (made ≡ cluster)
 resolved None None made cluster e = (refl, cc)
 resolved None (Some fault) made cluster e = absurd cc
 resolved (Some loop) fault made cluster e = absurd cc
@@ -158,7 +158,7 @@ resolved_within leaves statements cluster r =
     let (sound, same) = resolved r.loop (first_fault d statements).fault (cluster_of d leaves.leaves statements) cluster r.resolved in
     (same, sound_counts d 0 nothing_counted statements (record { nodes = omega arith; leaves = omega arith; rules = omega arith }) sound)
 
-expanded : (fault : Option ExpandFault) (statements : List Statement) (leaves : Leaves) → expansion.unless_fault fault statements ≡ Ok leaves
+expanded : (fault : Option (Fault ExpandCause)) (statements : List Statement) (leaves : Leaves) → unless fault (leaves_with_spans statements) ≡ Ok leaves
     → leaves ≡ leaves_with_spans statements
 expanded None statements leaves e = cc
 expanded (Some fault) statements leaves e = absurd cc

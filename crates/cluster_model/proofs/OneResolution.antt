@@ -5,15 +5,17 @@ use Rattle.crm_parse.specs.declared.statement.Statement.{Statement}
 use Rattle.clone_expand.specs.declared.leaves.Leaves.{Leaves}
 use Rattle.cluster_types.specs.declared.cluster.Cluster.{Cluster}
 use Rattle.rule_loops.proofs.OneFirst.{one_colocation, one_order}
-use Rattle.cluster_model.specs.declared.fault.ModelFault.{ModelFault}
+use Rattle.faults.specs.declared.fault.Fault.{Fault}
+use Rattle.cluster_model.specs.declared.fault.ModelCause.{ModelCause}
 use Rattle.cluster_model.specs.Checks.{first_fault}
 use Rattle.cluster_model.specs.Counting.{colocation_count, line_at, order_count}
 use Rattle.cluster_model.specs.Directories.{directory_of}
-use Rattle.cluster_model.specs.Resolution.{ResolvesTo, cluster_of, earlier_loop, sound_part, unless_fault}
+use Rattle.cluster_model.specs.Resolution.{ResolvesTo, cluster_of, earlier_loop, sound_part}
+use Rattle.faults.specs.Reading.{unless}
 use Rattle.cluster_model.proofs.Sound.{joined, ordered}
 
 -- the fault of two loops, by their places
-abbrev pub loop_at : List Statement → Option ℕ → Option ℕ → Option ModelFault
+abbrev pub loop_at : List Statement → Option ℕ → Option ℕ → Option (Fault ModelCause)
 loop_at statements colocation order =
     earlier_loop (option_map (λ place. line_at colocation_count place statements) colocation) (option_map (λ place. line_at order_count place statements) order)
 
@@ -21,11 +23,11 @@ same_loop : (statements : List Statement) (one other first second : Option ℕ) 
     → loop_at statements one first ≡ loop_at statements other second
 same_loop statements one other first second e f = rw e (rw f refl)
 
-same_resolution : (one other fault : Option ModelFault) (made : Cluster) → one ≡ other
-    → unless_fault (option_or one fault) made ≡ unless_fault (option_or other fault) made
+same_resolution : (one other fault : Option (Fault ModelCause)) (made : Cluster) → one ≡ other
+    → unless (option_or one fault) made ≡ unless (option_or other fault) made
 same_resolution one other fault made e = rw e refl
 
-pub one_resolution : (leaves : Leaves) (statements : List Statement) (one other : Result Cluster ModelFault) → ResolvesTo leaves statements one
+pub one_resolution : (leaves : Leaves) (statements : List Statement) (one other : Result Cluster (Fault ModelCause)) → ResolvesTo leaves statements one
     → ResolvesTo leaves statements other → one ≡ other
 one_resolution leaves statements one other r s =
     let d = directory_of leaves statements in

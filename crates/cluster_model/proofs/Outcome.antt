@@ -12,12 +12,13 @@ use Rattle.cluster_model.specs.declared.counts.Counts.{Counts}
 use Rattle.cluster_model.specs.declared.directory.Directory.{Directory}
 use Rattle.cluster_model.specs.declared.fault.ModelCause.{ModelCause}
 use Rattle.cluster_model.specs.declared.fault.ModelCause.TheVariants.{ColocationLoop, OrderLoop}
-use Rattle.cluster_model.specs.declared.fault.ModelFault.{ModelFault}
-use Rattle.cluster_model.specs.declared.fault.ModelFault.TheVariants.{At}
+use Rattle.faults.specs.declared.fault.Fault.{Fault}
+use Rattle.faults.specs.declared.fault.Fault.TheVariants.{At}
 use Rattle.cluster_model.specs.Checks.{cause_of, fault_after, first_fault, unless_cause}
 use Rattle.cluster_model.specs.Counting.{counted_with, nothing_counted}
 use Rattle.cluster_model.specs.Directories.{directory_of}
-use Rattle.cluster_model.specs.Resolution.{FirstLoop, ResolvesTo, cluster_of, earlier_loop, sound_part, unless_fault}
+use Rattle.cluster_model.specs.Resolution.{FirstLoop, ResolvesTo, cluster_of, earlier_loop, sound_part}
+use Rattle.faults.specs.Reading.{unless}
 
 pub none-whole : (d : Directory) (n : ℕ) (counts : Counts) (statements : List Statement) → (fault_after d n counts statements).fault ≡ None
     → (fault_after d n counts statements).sound ≡ n + length statements
@@ -33,12 +34,12 @@ none-whole d n counts (x ∷ statements) h = on (cause_of d counted x.form) h (n
   on None h next = let e = next h in omega arith
 
 -- nothing stands in the way of a cluster
-pub record IsClean (loop fault : Option ModelFault) (c whole : Cluster) : Type 0 where
+pub record IsClean (loop fault : Option (Fault ModelCause)) (c whole : Cluster) : Type 0 where
   pub no_loop : loop ≡ None
   pub no_fault : fault ≡ None
   pub is_whole : c ≡ whole
 
-pub clean : (loop fault : Option ModelFault) (c whole : Cluster) → Ok c ≡ unless_fault (option_or loop fault) whole → IsClean loop fault c whole
+pub clean : (loop fault : Option (Fault ModelCause)) (c whole : Cluster) → Ok c ≡ unless (option_or loop fault) whole → IsClean loop fault c whole
 clean (Some one) fault c whole h = cc
 clean None (Some other) c whole h = cc
 clean None None c whole h = record { no_loop = refl; no_fault = refl; is_whole = cc }
@@ -74,9 +75,9 @@ first-none c statements first =
 pub sound-all : (n m : ℕ) → n ≡ 0 + m → n ≡ m
 sound-all n m h = omega arith
 
-loopless : (leaves : Leaves) (statements : List Statement) (c : Cluster) (d : Directory) (loop : Option ModelFault)
+loopless : (leaves : Leaves) (statements : List Statement) (c : Cluster) (d : Directory) (loop : Option (Fault ModelCause))
     → FirstLoop (cluster_of d leaves.leaves (sound_part d statements)) (sound_part d statements) loop
-    → Ok c ≡ unless_fault (option_or loop (first_fault d statements).fault) (cluster_of d leaves.leaves statements) → IsLoopless c
+    → Ok c ≡ unless (option_or loop (first_fault d statements).fault) (cluster_of d leaves.leaves statements) → IsLoopless c
 loopless leaves statements c d loop first resolved =
     let ok = clean loop (first_fault d statements).fault c (cluster_of d leaves.leaves statements) resolved in
     let sound = sound-all (first_fault d statements).sound (length statements) (none-whole d 0 nothing_counted statements ok.no_fault) in

@@ -10,12 +10,13 @@ use Rattle.cluster_model.specs.declared.counts.Counts.{Counts}
 use Rattle.cluster_model.specs.declared.directory.Directory.{Directory}
 use Rattle.cluster_model.specs.declared.fault.ModelCause.{ModelCause}
 use Rattle.cluster_model.specs.declared.fault.ModelCause.TheVariants.{ColocationLoop, OrderLoop}
-use Rattle.cluster_model.specs.declared.fault.ModelFault.{ModelFault}
-use Rattle.cluster_model.specs.declared.fault.ModelFault.TheVariants.{At, NoMemory}
+use Rattle.faults.specs.declared.fault.Fault.{Fault}
+use Rattle.faults.specs.declared.fault.Fault.TheVariants.{At, NoMemory}
 use Rattle.cluster_model.specs.Checks.{cause_of, fault_after, first_fault, unless_cause}
 use Rattle.cluster_model.specs.Counting.{colocation_count, counted_with, line_at, nothing_counted, order_count}
 use Rattle.cluster_model.specs.Directories.{directory_of}
-use Rattle.cluster_model.specs.Resolution.{FirstLoop, ResolvesTo, cluster_of, earlier_loop, sound_part, unless_fault}
+use Rattle.cluster_model.specs.Resolution.{FirstLoop, ResolvesTo, cluster_of, earlier_loop, sound_part}
+use Rattle.faults.specs.Reading.{unless}
 use Rattle.cluster_model.proofs.OneResolution.{loop_at}
 use Rattle.cluster_model.proofs.Sound.{joined, ordered}
 use Rattle.cluster_types.specs.declared.cluster.Cluster.{Cluster}
@@ -90,7 +91,7 @@ some_order c ordered = given (some_first (4 * length c.leaves) (step_edges c) (s
     given found = by_place found.place found.is_first
 
 -- a fault that stands at a line
-abbrev pub StandsAt : Option ModelFault → Type 0
+abbrev pub StandsAt : Option (Fault ModelCause) → Type 0
 StandsAt None = Unit {0}
 StandsAt (Some (At line why)) = Unit {0}
 StandsAt (Some NoMemory) = ⊥
@@ -105,7 +106,7 @@ first_stands d n counts (s ∷ statements) =
     after_cause (cause_of d (counted_with counts s.form) s.form) n s.line (fault_after d (n + 1) (counted_with counts s.form) statements)
     (first_stands d (n + 1) (counted_with counts s.form) statements)
 
-one_stands : (test : Bool) (one other : Option ModelFault) → StandsAt one → StandsAt other → StandsAt (if test then one else other)
+one_stands : (test : Bool) (one other : Option (Fault ModelCause)) → StandsAt one → StandsAt other → StandsAt (if test then one else other)
 one_stands true one other x y = x
 one_stands false one other x y = y
 
@@ -119,17 +120,17 @@ loop_at_stands : (statements : List Statement) (colocation order : Option ℕ) �
 loop_at_stands statements colocation order =
     loop_stands (option_map (λ place. line_at colocation_count place statements) colocation) (option_map (λ place. line_at order_count place statements) order)
 
-either_stands : (loop fault : Option ModelFault) → StandsAt loop → StandsAt fault → StandsAt (option_or loop fault)
+either_stands : (loop fault : Option (Fault ModelCause)) → StandsAt loop → StandsAt fault → StandsAt (option_or loop fault)
 either_stands None fault x y = y
 either_stands (Some loop) fault x y = x
 
-not_memory : (fault : Option ModelFault) (made : Cluster) → StandsAt fault → unless_fault fault made ≢ Err NoMemory
+not_memory : (fault : Option (Fault ModelCause)) (made : Cluster) → StandsAt fault → unless fault made ≢ Err NoMemory
 not_memory None made h e = absurd cc
 not_memory (Some (At line why)) made h e = absurd cc
 not_memory (Some NoMemory) made h e = absurd h
 
 pub record HasResolution (leaves : Leaves) (statements : List Statement) : Type 0 where
-  pub resolution : Result Cluster ModelFault
+  pub resolution : Result Cluster (Fault ModelCause)
   pub resolves : ResolvesTo leaves statements resolution
   pub stands : resolution ≢ Err NoMemory
 
@@ -146,9 +147,9 @@ some_resolution leaves statements =
     let loop = loop_at part colocation.place order.place in
     let first : FirstLoop c part loop =
     record { colocation = colocation.place; order = order.place; needs = colocation.is_first; steps = order.is_first; earlier = refl } in
-    let resolves : ResolvesTo leaves statements (unless_fault (option_or loop found.fault) made) = record { loop = loop; first = first; resolved = refl } in
+    let resolves : ResolvesTo leaves statements (unless (option_or loop found.fault) made) = record { loop = loop; first = first; resolved = refl } in
     record {
-      resolution = unless_fault (option_or loop found.fault) made;
+      resolution = unless (option_or loop found.fault) made;
       resolves = resolves;
       stands = not_memory (option_or loop found.fault) made (either_stands loop found.fault (loop_at_stands part colocation.place order.place) (first_stands d 0 nothing_counted statements));
     }

@@ -20,8 +20,8 @@ use Rattle.lemmas.proofs.Members.{head_or_rest, in_none, of_flat, of_map}
 use Rattle.cluster_model.specs.declared.checks.Checked.{Checked}
 use Rattle.cluster_model.specs.declared.counts.Counts.{Counts}
 use Rattle.cluster_model.specs.declared.directory.Directory.{Directory}
-use Rattle.cluster_model.specs.declared.fault.ModelFault.{ModelFault}
-use Rattle.cluster_model.specs.declared.fault.ModelFault.TheVariants.{At, NoMemory}
+use Rattle.faults.specs.declared.fault.Fault.{Fault}
+use Rattle.faults.specs.declared.fault.Fault.TheVariants.{At, NoMemory}
 use Rattle.cluster_model.specs.declared.fault.ModelCause.{ModelCause}
 use Rattle.cluster_model.specs.declared.fault.ModelCause.TheVariants.{UnknownName, NotPromotable, UnsupportedOrder}
 use Rattle.cluster_model.specs.Chains.{successive}
@@ -31,7 +31,8 @@ use Rattle.cluster_model.specs.Counting.{counted_with, nothing_counted}
 use Rattle.cluster_model.specs.Directories.{directory_of, groups_of, is_unknown, traits_of}
 use Rattle.cluster_model.specs.Locations.{role_of_word}
 use Rattle.cluster_model.specs.Orders.{first_point, kind_of_word, member_order, op_of, orders_in, orders_of, step_order, then_point}
-use Rattle.cluster_model.specs.Resolution.{FirstLoop, Resolves, ResolvesTo, cluster_of, sound_part, unless_fault}
+use Rattle.cluster_model.specs.Resolution.{FirstLoop, Resolves, ResolvesTo, cluster_of, sound_part}
+use Rattle.faults.specs.Reading.{unless}
 use Rattle.cluster_model.proofs.Known.{first-there, last-there, later, pairs-none, sooner}
 
 -- a statement without these faults
@@ -178,7 +179,7 @@ all-step d statements k e o h =
     let t = all-sound d 0 nothing_counted statements k (from-none k (first_fault d statements).sound e) m.source m.among in
     orders-step d m.source.form t.known o m.gives
 
-second-none : (one other : Option ModelFault) → option_or one other ≡ None → other ≡ None
+second-none : (one other : Option (Fault ModelCause)) → option_or one other ≡ None → other ≡ None
 second-none None other h = h
 second-none (Some fault) other h = cc
 
@@ -223,18 +224,18 @@ module _ (leaves : Leaves) (all : List Leaf) (statements part : List Statement) 
   part-sound : part ≡ sound_part d statements
   part-sound = is_part ∙ ap (λ k. take k statements) sound-found
 
-  found-fault : (loop : Option ModelFault) → option_or loop (first_fault d statements).fault ≡ option_or loop found.fault
+  found-fault : (loop : Option (Fault ModelCause)) → option_or loop (first_fault d statements).fault ≡ option_or loop found.fault
   found-fault loop = sym (ap (λ (found : Checked). option_or loop found.fault) is_found)
 
   -- where there is neither a loop nor another fault, the cluster is that of all statements
-  pub resolves : (loop : Option ModelFault) → FirstLoop c part loop → option_or loop found.fault ≡ None
+  pub resolves : (loop : Option (Fault ModelCause)) → FirstLoop c part loop → option_or loop found.fault ≡ None
       → (found.fault ≡ None → found.sound ≡ length statements) → ResolvesTo leaves statements (Ok c)
   resolves loop first none whole =
       let all_of : part ≡ statements = is_part ∙ ap (λ k. take k statements) (whole (second-none loop found.fault none)) ∙ take-length statements in
       let whole_cluster : c ≡ cluster_of d leaves.leaves statements
       = is_cluster ∙ ap (λ all. cluster_of d all part) is_all ∙ ap (cluster_of d leaves.leaves) all_of in
-      let resolved : Ok c ≡ unless_fault (option_or loop (first_fault d statements).fault) (cluster_of d leaves.leaves statements)
-      = ap Ok whole_cluster ∙ sym (ap (λ fault. unless_fault fault (cluster_of d leaves.leaves statements)) (found-fault loop ∙ none)) in
+      let resolved : Ok c ≡ unless (option_or loop (first_fault d statements).fault) (cluster_of d leaves.leaves statements)
+      = ap Ok whole_cluster ∙ sym (ap (λ fault. unless fault (cluster_of d leaves.leaves statements)) (found-fault loop ∙ none)) in
       record {
         loop = loop;
         first = rw is_directory at (rw sound_cluster at (rw part-sound at first));
@@ -242,18 +243,18 @@ module _ (leaves : Leaves) (all : List Leaf) (statements part : List Statement) 
       }
 
   -- a loop, and else the other fault, stands in place of a cluster
-  pub refuses : (loop : Option ModelFault) (fault : ModelFault) → FirstLoop c part loop → option_or loop found.fault ≡ Some fault
+  pub refuses : (loop : Option (Fault ModelCause)) (fault : Fault ModelCause) → FirstLoop c part loop → option_or loop found.fault ≡ Some fault
       → ResolvesTo leaves statements (Err fault)
   refuses loop fault first some =
-      let resolved : Err fault ≡ unless_fault (option_or loop (first_fault d statements).fault) (cluster_of d leaves.leaves statements)
-      = sym (ap (λ fault. unless_fault fault (cluster_of d leaves.leaves statements)) (found-fault loop ∙ some)) in
+      let resolved : Err fault ≡ unless (option_or loop (first_fault d statements).fault) (cluster_of d leaves.leaves statements)
+      = sym (ap (λ fault. unless fault (cluster_of d leaves.leaves statements)) (found-fault loop ∙ some)) in
       record {
         loop = loop;
         first = rw is_directory at (rw sound_cluster at (rw part-sound at first));
         resolved = rw is_directory at resolved;
       }
 
-pub is-answer : (leaves : Leaves) (statements : List Statement) (fault : ModelFault) → ResolvesTo leaves statements (Err fault)
+pub is-answer : (leaves : Leaves) (statements : List Statement) (fault : Fault ModelCause) → ResolvesTo leaves statements (Err fault)
     → Resolves leaves statements (Err fault)
 is-answer leaves statements (At line cause) r = r
 is-answer leaves statements NoMemory r = tt

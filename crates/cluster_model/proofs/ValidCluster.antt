@@ -14,9 +14,10 @@ use Rattle.crm_parse.specs.declared.statement.Crm.{Crm}
 use Rattle.crm_parse.specs.declared.statement.Statement.{Statement}
 use Rattle.crm_parse.specs.Statements.{statements_of}
 use Rattle.crm_parse.proofs.ReadForms.{statements-read}
-use Rattle.clone_expand.specs.declared.fault.ExpandFault.{ExpandFault}
+use Rattle.faults.specs.declared.fault.Fault.{Fault}
+use Rattle.faults.specs.Reading.{unless}
+use Rattle.clone_expand.specs.declared.fault.ExpandCause.{ExpandCause}
 use Rattle.clone_expand.specs.declared.leaves.Leaves.{Leaves}
-use Rattle.clone_expand.specs.Expansion as expansion
 use Rattle.clone_expand.specs.Expansion.{expansion_of, leaves_with_spans}
 use Rattle.clone_expand.specs.Faults.{fault_of}
 use Rattle.clone_expand.specs.Leaves.{leaves_of}
@@ -43,8 +44,8 @@ record IsExpanded (statements : List Statement) (leaves : Leaves) : Type 0 where
   none : fault_of statements ≡ None
   are : leaves.leaves ≡ leaves_of statements
 
-expanded-by : (fault : Option ExpandFault) (statements : List Statement) (leaves : Leaves) → fault_of statements ≡ fault
-    → expansion.unless_fault fault statements ≡ Ok leaves → IsExpanded statements leaves
+expanded-by : (fault : Option (Fault ExpandCause)) (statements : List Statement) (leaves : Leaves) → fault_of statements ≡ fault
+    → unless fault (leaves_with_spans statements) ≡ Ok leaves → IsExpanded statements leaves
 expanded-by None statements leaves f e =
     let made : leaves ≡ leaves_with_spans statements = cc in
     record { none = f; are = ap (λ (l : Leaves). l.leaves) made }

@@ -2,6 +2,7 @@
 use Rattle.std.specs.Prelude.{ℕ, ◌+◌, nat_lt, Bool, false, not, ◌&&◌, ◌||◌, if◌then◌else◌, List, [], ◌∷◌, Option, Some, None}
 use Rattle.std.specs.List.{list_any}
 use Rattle.std.specs.Option.{option_or}
+use Rattle.faults.specs.declared.fault.Fault.TheVariants.{At}
 use Rattle.crm_parse.specs.declared.form.Form.{Form}
 use Rattle.crm_parse.specs.declared.form.Form.TheVariants as form
 use Rattle.crm_parse.specs.declared.form.OrderStep.{OrderStep}
@@ -15,7 +16,6 @@ use Rattle.cluster_model.specs.declared.counts.Counts.{Counts}
 use Rattle.cluster_model.specs.declared.directory.Directory.{Directory}
 use Rattle.cluster_model.specs.declared.fault.ModelCause.{ModelCause}
 use Rattle.cluster_model.specs.declared.fault.ModelCause.TheVariants.{UnknownName, NotPromotable, UnsupportedOrder, TooManyNodes, TooManyLeaves, TooManyRules}
-use Rattle.cluster_model.specs.declared.fault.ModelFault.TheVariants.{At}
 use Rattle.cluster_model.specs.declared.orders.Point.{Point}
 use Rattle.cluster_model.specs.Chains.{successive}
 use Rattle.cluster_model.specs.Colocations.{dependent_at, primary_at}

@@ -1,5 +1,4 @@
-use cluster_types::NoMemory;
-use thiserror::Error;
+use faults::Fault;
 
 /// Why a configuration says no cluster.
 #[derive(Clone, Copy, Debug, PartialEq, Eq)]
@@ -22,24 +21,5 @@ pub enum ModelCause {
     OrderLoop,
 }
 
-/// Why there is no cluster: a fault of the configuration, or want of memory.
-#[derive(Clone, Copy, Debug, PartialEq, Eq, Error)]
-pub enum ModelFault {
-    /// The line of the first statement that is at fault, with the first of its causes in their order.
-    #[error("line {line}: {cause:?}")]
-    At { line: u32, cause: ModelCause },
-    /// Memory was refused.
-    #[error("no memory")]
-    NoMemory,
-}
-
-impl From<NoMemory> for ModelFault {
-    ghost use Rattle.std.specs.Prelude.{◌≡◌};
-    ghost use Rattle.cluster_model.specs.declared.fault.ModelFault.TheVariants.{NoMemory};
-
-    ghost from_gives = { λ _ fault. fault ≡ NoMemory };
-
-    fn from(_: NoMemory) -> Self {
-        ModelFault::NoMemory
-    }
-}
+/// Why there is no cluster. The line is that of the first statement that is at fault, and the cause the first of its causes in their order.
+pub type ModelFault = Fault<ModelCause>;

@@ -47,7 +47,7 @@ fn cluster_of(
 /// `NotPromotable` where it promotes or demotes a leaf that isn't promotable; `UnsupportedOrder` where a stop or a demote waits for a start or
 /// a promote; `TooManyNodes` at the 257th node; `TooManyLeaves` at the 1,001st primitive; `TooManyRules` where the rules pass 2,000;
 /// `ColocationLoop` and `OrderLoop` where the rules so far need or await each other in a circle. Where a statement has several causes, the
-/// first in this order counts. `NoMemory` comes where memory is refused.
+/// first in this order counts. `NoMemory` comes when memory runs out.
 pub fn resolve(alloc: Global, crm: &Crm, leaves: &Leaves) -> Result<Cluster, ModelFault>
     ensures { Resolves leaves.now crm.now.statements result }
 {

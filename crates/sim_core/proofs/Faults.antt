@@ -7,9 +7,7 @@ use Rattle.lemmas.proofs.Booleans.{by_test}
 use Rattle.crm_lex.specs.declared.fault.LexCause.{LexCause}
 use Rattle.crm_lex.specs.declared.fault.LexCause.TheVariants.{ControlByte, LineTooLong, NotUtf8, OpenQuote}
 use Rattle.faults.specs.declared.fault.Fault.{Fault}
-use Rattle.faults.specs.declared.fault.Fault.TheVariants as lex
-use Rattle.faults.specs.Reading as faulty
-use Rattle.faults.specs.Reading.{on_line, ◌>>=◌ as and_then}
+use Rattle.faults.specs.Reading.{faulting, unless, ◌>>=◌}
 use Rattle.crm_lex.specs.declared.line.Line.{Line}
 use Rattle.crm_lex.specs.LogicalLines.{all_byte_faults, byte_faults, content_length, fault_if, faults, is_control, line_text}
 use Rattle.crm_lex.specs.RawLines.{content, raw_lines}
@@ -24,63 +22,60 @@ use Rattle.crm_parse.specs.Marks.{last_at, misplaced, sections_of, status_at}
 use Rattle.crm_parse.specs.Statements as statements
 use Rattle.crm_parse.specs.Statements.{draft_of, statements_of}
 use Rattle.clone_expand.specs.declared.fault.ExpandCause.{ExpandCause}
-use Rattle.clone_expand.specs.declared.fault.ExpandFault.{ExpandFault}
-use Rattle.clone_expand.specs.declared.fault.ExpandFault.TheVariants as expand
-use Rattle.clone_expand.specs.Expansion as expansion
-use Rattle.clone_expand.specs.Expansion.{expansion_of}
+use Rattle.clone_expand.specs.Expansion.{expansion_of, leaves_with_spans}
 use Rattle.clone_expand.specs.Faults as expanding
 use Rattle.clone_expand.specs.Faults.{fault_of, kinds_of, nothing_seen, seen_after}
-use Rattle.cluster_model.specs.declared.fault.ModelFault.{ModelFault}
-use Rattle.cluster_model.specs.declared.fault.ModelFault.TheVariants as model
+use Rattle.cluster_model.specs.declared.fault.ModelCause.{ModelCause}
 use Rattle.cluster_model.proofs.SomeResolution.{some_resolution}
 use Rattle.cluster_types.specs.declared.cluster.Cluster.{Cluster}
 use Rattle.cluster_types.specs.Journals.{moment_of}
 use Rattle.op_history.specs.declared.fault.ResultCause.TheVariants.{TooManyResults}
+use Rattle.op_history.specs.declared.fault.ResultFault.TheVariants as results
 use Rattle.op_history.specs.declared.fault.StatusCause.TheVariants.{Repeated}
-use Rattle.op_history.specs.Causes.{result_cause, status_cause}
+use Rattle.op_history.specs.declared.fault.StatusFault.TheVariants as status
 use Rattle.op_history.specs.FirstJournal as journals
 use Rattle.op_history.specs.FirstJournal.{is_repeated, status_of}
 use Rattle.op_history.specs.Results as answers
 use Rattle.op_history.specs.Results.{answer_of, moment_after, most_results, results_of}
 use Rattle.op_history.specs.Status.{told_of}
-use Rattle.sim_core.specs.declared.fault.InputFault.{InputFault}
-use Rattle.sim_core.specs.declared.fault.InputFault.TheVariants.{At, NoMemory}
+use Rattle.faults.specs.declared.fault.Fault.TheVariants.{At, NoMemory}
+use Rattle.sim_core.specs.declared.cause.InputCause.TheVariants as cause
 use Rattle.sim_core.specs.declared.reading.Configuration.{Configuration}
 use Rattle.sim_core.specs.declared.reading.Head.{Head}
 use Rattle.sim_core.specs.declared.reading.Input.{Input}
-use Rattle.sim_core.specs.Reading.{IsFaulty, IsReadAfter, IsReadOf, IsReadable, configuration_lines, configuration_of, expand_fault, faulting, following_lines, head_of, lex_fault, model_fault, parse_fault, result_fault, status_fault, status_lines, with_cluster, with_results, ◌>>=◌}
+use Rattle.sim_core.specs.Reading.{IsFaulty, IsReadAfter, IsReadOf, IsReadable, configuration_lines, configuration_of, faulting_so, following_lines, head_of, result_fault, status_fault, status_lines, with_cluster, with_results}
 
 -- read, or a fault at a line
-abbrev pub Stands : {A : Type 0} → Result A InputFault → Type 0
+abbrev pub Stands : {A : Type 0} → Result A (Fault InputCause) → Type 0
 Stands (Ok x) = Unit {0}
 Stands (Err (At line why)) = Unit {0}
 Stands (Err NoMemory) = ⊥
 
-stands_bind : {A B : Type 0} (read : Result A InputFault) (next : A → Result B InputFault) → Stands read → ((x : A) → Stands (next x)) → Stands (read >>= next)
+stands_bind : {A B : Type 0} (read : Result A (Fault InputCause)) (next : A → Result B (Fault InputCause)) → Stands read → ((x : A) → Stands (next x)) → Stands (read >>= next)
 stands_bind (Ok x) next h all = all x
 stands_bind (Err (At line why)) next h all = tt
 stands_bind (Err NoMemory) next h all = absurd h
 
 -- lines that are read one after the other stand where each step does
-module _ {S L F : Type 0} (as_input : F → InputFault) (step : S → L → Result S F) (run : S → List L → Result S F)
+module _ {S L F : Type 0} (Holds : Result S F → Type 0) (step : S → L → Result S F) (run : S → List L → Result S F)
+    (ok : (s : S) → Holds (Ok s))
     (none : (s : S) → run s [] ≡ Ok s)
     (some : (s : S) (l : L) (ls : List L) → run s (l ∷ ls) ≡ elim (step s l) [ Err fault ↦ Err fault | Ok more ↦ run more ls ])
-    (each : (s : S) (l : L) → Stands (faulting as_input (step s l))) where
-  go_on : (read : Result S F) (ls : List L) → Stands (faulting as_input read) → ((more : S) → Stands (faulting as_input (run more ls)))
-      → Stands (faulting as_input (elim read [ Err fault ↦ Err fault | Ok more ↦ run more ls ]))
+    (each : (s : S) (l : L) → Holds (step s l)) where
+  go_on : (read : Result S F) (ls : List L) → Holds read → ((more : S) → Holds (run more ls))
+      → Holds (elim read [ Err fault ↦ Err fault | Ok more ↦ run more ls ])
   go_on (Ok more) ls h all = all more
   go_on (Err fault) ls h all = h
 
-  all_stand : (s : S) (ls : List L) → Stands (faulting as_input (run s ls))
-  all_stand s [] = subst (λ (r : Result S F). Stands (faulting as_input r)) (sym (none s)) tt
-  all_stand s (l ∷ ls) =
-      subst (λ (r : Result S F). Stands (faulting as_input r)) (sym (some s l ls)) (go_on (step s l) ls (each s l) (λ more. all_stand more ls))
+  all_hold : (s : S) (ls : List L) → Holds (run s ls)
+  all_hold s [] = subst Holds (sym (none s)) (ok s)
+  all_hold s (l ∷ ls) = subst Holds (sym (some s l ls)) (go_on (step s l) ls (each s l) (λ more. all_hold more ls))
 
 -- the words of a text
 abbrev pub FirstAt : Option (Fault LexCause) → Type 0
 FirstAt None = Unit {0}
-FirstAt (Some (lex.At n why)) = Unit {0}
-FirstAt (Some lex.NoMemory) = ⊥
+FirstAt (Some (At n why)) = Unit {0}
+FirstAt (Some NoMemory) = ⊥
 
 -- the first of some faults and of more
 first_of : (some more : List (Fault LexCause)) → FirstAt (lines.first_fault some) → FirstAt (lines.first_fault more) → FirstAt (lines.first_fault (some ++ more))
@@ -116,57 +111,57 @@ first_text n [] = tt
 first_text n (group ∷ groups) =
     first_of (faults n group) (faults_from (n + length group) groups) (first_group n group) (first_text (n + length group) groups)
 
-unless_first : (fault : Option (Fault LexCause)) (rows : List Line) → FirstAt fault → Stands (faulting lex_fault (faulty.unless fault rows))
+unless_first : (fault : Option (Fault LexCause)) (rows : List Line) → FirstAt fault → Stands (faulting cause.Words (unless fault rows))
 unless_first None rows h = tt
-unless_first (Some (lex.At n why)) rows h = tt
-unless_first (Some lex.NoMemory) rows h = absurd h
+unless_first (Some (At n why)) rows h = tt
+unless_first (Some NoMemory) rows h = absurd h
 
-words_stand : (text : List ℕ) → Stands (faulting lex_fault (reads text))
+words_stand : (text : List ℕ) → Stands (faulting cause.Words (reads text))
 words_stand text = unless_first (lines.first_fault (faults_from 1 (raw_lines text))) (rows_from 1 (raw_lines text)) (first_text 1 (raw_lines text))
 
 -- the sections
-unless_misplaced : (wrong : Option ℕ) (found : SectionMarks) → Stands (faulting parse_fault (marks.unless wrong found))
+unless_misplaced : (wrong : Option ℕ) (found : SectionMarks) → Stands (faulting cause.Statements (marks.unless wrong found))
 unless_misplaced None found = tt
 unless_misplaced (Some line) found = tt
 
-sections_stand : (found : List Line) → Stands (faulting parse_fault (sections_of found))
+sections_stand : (found : List Line) → Stands (faulting cause.Statements (sections_of found))
 sections_stand found =
     let last = codes "%results" in
     unless_misplaced (misplaced last [] found) (record { status_at = status_at last found; results_at = last_at last found; end = length found })
 
 -- the statements
-statements_stand : (found : List Line) → Stands (faulting parse_fault (statements_of found))
+statements_stand : (found : List Line) → Stands (faulting cause.Statements (statements_of found))
 unfolding statements.with_line
 statements_stand found =
-    let drafts = all_stand parse_fault statements.with_line statements.with_lines (λ s. refl) (λ s l ls. refl)
-    (λ s l. by_result (λ r. Stands (faulting parse_fault (statements.with_draft s l.line r))) (λ x. tt) (λ why. tt) (draft_of s l.words)) [] found in
-    by_result (λ r. Stands (faulting parse_fault r) → Stands (faulting parse_fault (statements.read_of r))) (λ x h. tt) (λ fault h. h)
+    let drafts = all_hold (λ r. Stands (faulting cause.Statements r)) statements.with_line statements.with_lines (λ s. tt) (λ s. refl) (λ s l ls. refl)
+    (λ s l. by_result (λ r. Stands (faulting cause.Statements (statements.with_draft s l.line r))) (λ x. tt) (λ why. tt) (draft_of s l.words)) [] found in
+    by_result (λ r. Stands (faulting cause.Statements r) → Stands (faulting cause.Statements (statements.read_of r))) (λ x h. tt) (λ fault h. h)
     (statements.with_lines [] found) drafts
 
 -- the leaves
-abbrev pub FirstExpands : Option ExpandFault → Type 0
+abbrev pub FirstExpands : Option (Fault ExpandCause) → Type 0
 FirstExpands None = Unit {0}
-FirstExpands (Some (expand.At n why)) = Unit {0}
-FirstExpands (Some expand.NoMemory) = ⊥
+FirstExpands (Some (At n why)) = Unit {0}
+FirstExpands (Some NoMemory) = ⊥
 
-module _ {S : Type 0} (cause : S → Statement → Option ExpandCause) (after : S → Statement → S) (first : S → List Statement → Option ExpandFault)
+module _ {S : Type 0} (cause : S → Statement → Option ExpandCause) (after : S → Statement → S) (first : S → List Statement → Option (Fault ExpandCause))
     (none : (s : S) → first s [] ≡ None)
     (some : (s : S) (l : Statement) (ls : List Statement) → first s (l ∷ ls) ≡ expanding.fault_at l.line (cause s l) (first (after s l) ls)) where
-  next_expands : (line : ℕ) (found : Option ExpandCause) (more : Option ExpandFault) → FirstExpands more → FirstExpands (expanding.fault_at line found more)
+  next_expands : (line : ℕ) (found : Option ExpandCause) (more : Option (Fault ExpandCause)) → FirstExpands more → FirstExpands (expanding.fault_at line found more)
   next_expands line (Some why) more h = tt
   next_expands line None more h = h
 
   first_expands : (s : S) (ls : List Statement) → FirstExpands (first s ls)
-  first_expands s [] = subst (λ (o : Option ExpandFault). FirstExpands o) (sym (none s)) tt
+  first_expands s [] = subst (λ (o : Option (Fault ExpandCause)). FirstExpands o) (sym (none s)) tt
   first_expands s (l ∷ ls) =
-      subst (λ (o : Option ExpandFault). FirstExpands o) (sym (some s l ls)) (next_expands l.line (cause s l) (first (after s l) ls) (first_expands (after s l) ls))
+      subst (λ (o : Option (Fault ExpandCause)). FirstExpands o) (sym (some s l ls)) (next_expands l.line (cause s l) (first (after s l) ls) (first_expands (after s l) ls))
 
-unless_expands : (fault : Option ExpandFault) (found : List Statement) → FirstExpands fault → Stands (faulting expand_fault (expansion.unless_fault fault found))
+unless_expands : (fault : Option (Fault ExpandCause)) (found : List Statement) → FirstExpands fault → Stands (faulting cause.Leaves (unless fault (leaves_with_spans found)))
 unless_expands None found h = tt
-unless_expands (Some (expand.At n why)) found h = tt
-unless_expands (Some expand.NoMemory) found h = absurd h
+unless_expands (Some (At n why)) found h = tt
+unless_expands (Some NoMemory) found h = absurd h
 
-leaves_stand : (found : List Statement) → Stands (faulting expand_fault (expansion_of found))
+leaves_stand : (found : List Statement) → Stands (faulting cause.Leaves (expansion_of found))
 unfolding fault_of
 leaves_stand found =
     let kinds = kinds_of found in
@@ -175,36 +170,29 @@ leaves_stand found =
     (expanding.first_fault kinds) (λ s. refl) (λ s l ls. refl) nothing_seen found)
 
 -- the cluster
-model_stands : (read : Result Cluster ModelFault) → read ≢ Err model.NoMemory → Stands (faulting model_fault read)
+model_stands : (read : Result Cluster (Fault ModelCause)) → read ≢ Err NoMemory → Stands (faulting cause.Cluster read)
 model_stands (Ok cluster) h = tt
-model_stands (Err (model.At line why)) h = tt
-model_stands (Err model.NoMemory) h = absurd (h refl)
-
--- one step after another, by its cases
-by_cases : {A B E : Type 0} (read : Result A E) (next : A → Result B E) → and_then read next ≡ elim read [ Err fault ↦ Err fault | Ok x ↦ next x ]
-by_cases (Ok x) next = refl
-by_cases (Err fault) next = refl
+model_stands (Err (At line why)) h = tt
+model_stands (Err NoMemory) h = absurd (h refl)
 
 -- the status
-status_stands : (c : Cluster) (found : List Line) → Stands (faulting status_fault (status_of c found))
+status_stands : (c : Cluster) (found : List Line) → Stands (faulting_so status_fault (status_of c found))
 status_stands c found =
-    let told = all_stand status_fault (journals.with_line c) (journals.with_lines c) (λ s. refl) (λ s l ls. by_cases (journals.with_line c s l) _)
-    (λ s l. by_result (λ r. Stands (faulting status_fault (and_then (faulty.faulting status_cause (on_line l.line r)) (journals.with_told s l.line))))
-    (λ x. by_test (λ test. Stands (faulting status_fault (if test then Err (lex.At l.line Repeated) else Ok (s ++ x ∷ [])))) (is_repeated s x) tt tt) (λ why. tt) (told_of c l.words)) [] found in
-    by_result (λ r. Stands (faulting status_fault r) → Stands (faulting status_fault (and_then r (λ told. Ok (journals.journal_of c told))))) (λ x h. tt) (λ fault h. h)
+    let told = all_hold (λ r. Stands (faulting_so status_fault r)) (journals.with_line c) (journals.with_lines c) (λ s. tt) (λ s. refl) (λ s l ls. refl)
+    (λ s l. by_result (λ r. Stands (faulting_so status_fault (journals.with_told s l.line r)))
+    (λ x. by_test (λ test. Stands (faulting_so status_fault (if test then Err (status.At l.line Repeated) else Ok (s ++ x ∷ [])))) (is_repeated s x) tt tt) (λ why. tt) (told_of c l.words)) [] found in
+    by_result (λ r. Stands (faulting_so status_fault r) → Stands (faulting_so status_fault (journals.read_of c r))) (λ x h. tt) (λ fault h. h)
     (journals.with_lines c [] found) told
 
 -- the results
-results_stand : (c : Cluster) (start : ℕ) (found : List Line) → Stands (faulting result_fault (results_of c start found))
+results_stand : (c : Cluster) (start : ℕ) (found : List Line) → Stands (faulting_so result_fault (results_of c start found))
 results_stand c start found =
-    all_stand result_fault (answers.with_result c start) (answers.with_results c start) (λ s. refl) (λ s l ls. by_cases (answers.with_result c start s l) _)
+    all_hold (λ r. Stands (faulting_so result_fault r)) (answers.with_result c start) (answers.with_results c start) (λ s. tt) (λ s. refl) (λ s l ls. refl)
     (λ s l. by_test
-    (λ test. Stands (faulting result_fault (and_then
-    (if test then faulty.faulting result_cause (on_line l.line (answer_of c (moment_after start s) l.words)) else Err (lex.At l.line TooManyResults))
-    (λ given. Ok (s ++ record { line = l.line; answer = given } ∷ [])))))
+    (λ test. Stands (faulting_so result_fault (answers.with_answer s l.line
+    (if test then answers.on_line l.line (answer_of c (moment_after start s) l.words) else Err (results.At l.line TooManyResults)))))
     (nat_lt (length s) most_results)
-    (by_result (λ r. Stands (faulting result_fault (and_then (faulty.faulting result_cause (on_line l.line r))
-    (λ given. Ok (s ++ record { line = l.line; answer = given } ∷ []))))) (λ x. tt) (λ why. tt)
+    (by_result (λ r. Stands (faulting_so result_fault (answers.with_answer s l.line (answers.on_line l.line r)))) (λ x. tt) (λ why. tt)
     (answer_of c (moment_after start s) l.words))
     tt) [] found
 
@@ -212,42 +200,42 @@ results_stand c start found =
 configuration_stands : (text : List ℕ) → Stands (configuration_of sections_of text)
 unfolding configuration_of
 configuration_stands text =
-    stands_bind (faulting lex_fault (reads text)) _ (words_stand text) (λ found.
-    stands_bind (faulting parse_fault (sections_of found)) _ (sections_stand found) (λ at.
-    stands_bind (faulting parse_fault (statements_of (configuration_lines at found))) _ (statements_stand (configuration_lines at found)) (λ crm.
-    stands_bind (faulting expand_fault (expansion_of crm.statements)) _ (leaves_stand crm.statements) (λ leaves. tt))))
+    stands_bind (faulting cause.Words (reads text)) _ (words_stand text) (λ found.
+    stands_bind (faulting cause.Statements (sections_of found)) _ (sections_stand found) (λ at.
+    stands_bind (faulting cause.Statements (statements_of (configuration_lines at found))) _ (statements_stand (configuration_lines at found)) (λ crm.
+    stands_bind (faulting cause.Leaves (expansion_of crm.statements)) _ (leaves_stand crm.statements) (λ leaves. tt))))
 
 head_stands : (crm : Crm) (cluster : Cluster) (found : List Line) → Stands (head_of crm cluster found)
 unfolding head_of
-head_stands crm cluster found = stands_bind (faulting status_fault (status_of cluster found)) _ (status_stands cluster found) (λ journal. tt)
+head_stands crm cluster found = stands_bind (faulting_so status_fault (status_of cluster found)) _ (status_stands cluster found) (λ journal. tt)
 
 with_results_stands : (head : Head) (found : List Line) → Stands (with_results head found)
 unfolding with_results
 with_results_stands head found =
     let start = moment_of head.journal.events in
-    stands_bind (faulting result_fault (results_of head.cluster start found)) _ (results_stand head.cluster start found) (λ given. tt)
+    stands_bind (faulting_so result_fault (results_of head.cluster start found)) _ (results_stand head.cluster start found) (λ given. tt)
 
 with_cluster_stands : (found : Configuration) (cluster : Cluster) → Stands (with_cluster with_results found cluster)
 with_cluster_stands found cluster =
     stands_bind (head_of found.crm cluster (status_lines found.marks found.lines)) _ (head_stands found.crm cluster (status_lines found.marks found.lines))
     (λ head. with_results_stands head (following_lines found.marks found.lines))
 
-either : (text : List ℕ) (read : Result Input InputFault) → IsReadAfter with_results (configuration_of sections_of text) read → Stands read → IsReadable text ⊎ IsFaulty text
+either : (text : List ℕ) (read : Result Input (Fault InputCause)) → IsReadAfter with_results (configuration_of sections_of text) read → Stands read → IsReadable text ⊎ IsFaulty text
 either text (Ok input) r h = inl (record { whole = input; reads = r })
 either text (Err (At line why)) r h = inr (record { line = line; why = why; fault = r })
 either text (Err NoMemory) r h = absurd h
 
-by_configuration : (text : List ℕ) (found : Result Configuration InputFault) → configuration_of sections_of text ≡ found → Stands found → IsReadable text ⊎ IsFaulty text
+by_configuration : (text : List ℕ) (found : Result Configuration (Fault InputCause)) → configuration_of sections_of text ≡ found → Stands found → IsReadable text ⊎ IsFaulty text
 by_configuration text (Err (At line why)) e h =
-    inr (record { line = line; why = why; fault = subst (λ (f : Result Configuration InputFault). IsReadAfter with_results f (Err (At line why))) (sym e) refl })
+    inr (record { line = line; why = why; fault = subst (λ (f : Result Configuration (Fault InputCause)). IsReadAfter with_results f (Err (At line why))) (sym e) refl })
 by_configuration text (Err NoMemory) e h = absurd h
 by_configuration text (Ok found) e h =
     let made = some_resolution found.leaves found.crm.statements in
-    let after = faulting model_fault made.resolution >>= with_cluster with_results found in
+    let after = faulting cause.Cluster made.resolution >>= with_cluster with_results found in
     let one : IsReadOf with_results found after = record { resolution = made.resolution; resolves = made.resolves; goes_on = refl } in
-    let read : IsReadAfter with_results (configuration_of sections_of text) after = subst (λ (f : Result Configuration InputFault). IsReadAfter with_results f after) (sym e) one in
+    let read : IsReadAfter with_results (configuration_of sections_of text) after = subst (λ (f : Result Configuration (Fault InputCause)). IsReadAfter with_results f after) (sym e) one in
     either text after read
-    (stands_bind (faulting model_fault made.resolution) (with_cluster with_results found) (model_stands made.resolution made.stands) (λ cluster. with_cluster_stands found cluster))
+    (stands_bind (faulting cause.Cluster made.resolution) (with_cluster with_results found) (model_stands made.resolution made.stands) (λ cluster. with_cluster_stands found cluster))
 
 -- each text is read or has a fault
 pub read_or_faulty : (text : List ℕ) → IsReadable text ⊎ IsFaulty text

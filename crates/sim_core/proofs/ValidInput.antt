@@ -6,7 +6,7 @@ use Rattle.crm_parse.specs.declared.statement.Crm.{Crm}
 use Rattle.crm_parse.specs.Marks.{sections_of}
 use Rattle.crm_parse.specs.Statements.{statements_of}
 use Rattle.clone_expand.specs.Expansion.{expansion_of}
-use Rattle.cluster_model.specs.declared.fault.ModelFault.{ModelFault}
+use Rattle.cluster_model.specs.declared.fault.ModelCause.{ModelCause}
 use Rattle.cluster_model.specs.Resolution.{ResolvesTo}
 use Rattle.cluster_model.proofs.ValidCluster.{resolved_valid}
 use Rattle.cluster_types.specs.declared.cluster.Cluster.{Cluster}
@@ -15,30 +15,38 @@ use Rattle.cluster_types.specs.Valid.{IsValid}
 use Rattle.op_history.specs.FirstJournal.{status_of}
 use Rattle.op_history.specs.Results.{results_of}
 use Rattle.op_history.proofs.StatusJournals.{journal_idle, journal_orderly}
-use Rattle.sim_core.specs.declared.fault.InputFault.{InputFault}
+use Rattle.faults.specs.declared.fault.Fault.{Fault}
+use Rattle.faults.specs.Reading.{Gives, faulting, ◌>>=◌}
+use Rattle.sim_core.specs.declared.cause.InputCause.{InputCause}
+use Rattle.sim_core.specs.declared.cause.InputCause.TheVariants as cause
 use Rattle.sim_core.specs.declared.reading.Configuration.{Configuration}
 use Rattle.sim_core.specs.declared.reading.Head.{Head}
 use Rattle.sim_core.specs.declared.reading.Input.{Input}
-use Rattle.sim_core.specs.Reading.{Gives, IsReadAfter, Reads, configuration_lines, configuration_of, expand_fault, faulting, following_lines, head_of, lex_fault, model_fault, parse_fault, result_fault, status_fault, status_lines, with_cluster, with_results, ◌>>=◌}
+use Rattle.sim_core.specs.Reading.{IsReadAfter, Reads, configuration_lines, configuration_of, faulting_so, following_lines, head_of, result_fault, status_fault, status_lines, with_cluster, with_results}
 
 -- a step that was passed: what it gave, and what the steps behind it give
-record IsPassed {A B F : Type 0} (step : Result A F) (next : A → Result B InputFault) (end : B) : Type 0 where
+record IsPassed {A B F : Type 0} (step : Result A F) (next : A → Result B (Fault InputCause)) (end : B) : Type 0 where
   gave : A
   is : step ≡ Ok gave
   goes_on : next gave ≡ Ok end
 
-passed : {A B F : Type 0} (as_input : F → InputFault) (step : Result A F) (next : A → Result B InputFault) (end : B)
-    → faulting as_input step >>= next ≡ Ok end → IsPassed step next end
-passed as_input (Ok x) next end e = record { gave = x; is = refl; goes_on = e }
-passed as_input (Err fault) next end e = absurd cc
+passed : {A B C : Type 0} (cause_of : C → InputCause) (step : Result A (Fault C)) (next : A → Result B (Fault InputCause)) (end : B)
+    → faulting cause_of step >>= next ≡ Ok end → IsPassed step next end
+passed cause_of (Ok x) next end e = record { gave = x; is = refl; goes_on = e }
+passed cause_of (Err fault) next end e = absurd cc
+
+passed_so : {A B F : Type 0} (as_input : F → Fault InputCause) (step : Result A F) (next : A → Result B (Fault InputCause)) (end : B)
+    → faulting_so as_input step >>= next ≡ Ok end → IsPassed step next end
+passed_so as_input (Ok x) next end e = record { gave = x; is = refl; goes_on = e }
+passed_so as_input (Err fault) next end e = absurd cc
 
 -- a step that was passed, with faults of the input
-record IsPassedOn {A B : Type 0} (step : Result A InputFault) (next : A → Result B InputFault) (end : B) : Type 0 where
+record IsPassedOn {A B : Type 0} (step : Result A (Fault InputCause)) (next : A → Result B (Fault InputCause)) (end : B) : Type 0 where
   gave : A
   is : step ≡ Ok gave
   goes_on : next gave ≡ Ok end
 
-passed_on : {A B : Type 0} (step : Result A InputFault) (next : A → Result B InputFault) (end : B) → step >>= next ≡ Ok end → IsPassedOn step next end
+passed_on : {A B : Type 0} (step : Result A (Fault InputCause)) (next : A → Result B (Fault InputCause)) (end : B) → step >>= next ≡ Ok end → IsPassedOn step next end
 passed_on (Ok x) next end e = record { gave = x; is = refl; goes_on = e }
 passed_on (Err fault) next end e = absurd cc
 
@@ -51,10 +59,10 @@ record IsReadFrom (found : Configuration) : Type 0 where
 read_from : (text : List ℕ) (found : Configuration) → configuration_of sections_of text ≡ Ok found → IsReadFrom found
 unfolding configuration_of
 read_from text found e =
-    let lines = passed lex_fault (reads text) _ found e in
-    let marks = passed parse_fault (sections_of lines.gave) _ found lines.goes_on in
-    let crm = passed parse_fault (statements_of (configuration_lines marks.gave lines.gave)) _ found marks.goes_on in
-    let leaves = passed expand_fault (expansion_of crm.gave.statements) _ found crm.goes_on in
+    let lines = passed cause.Words (reads text) _ found e in
+    let marks = passed cause.Statements (sections_of lines.gave) _ found lines.goes_on in
+    let crm = passed cause.Statements (statements_of (configuration_lines marks.gave lines.gave)) _ found marks.goes_on in
+    let leaves = passed cause.Leaves (expansion_of crm.gave.statements) _ found crm.goes_on in
     let made : found ≡ record { lines = lines.gave; marks = marks.gave; crm = crm.gave; leaves = leaves.gave } = cc in
     rw made (record { lines = configuration_lines marks.gave lines.gave; statements = crm.is; leaves = leaves.is })
 
@@ -72,14 +80,14 @@ record IsHead (cluster : Cluster) (lines : List Line) (head : Head) : Type 0 whe
 head_made : (crm : Crm) (cluster : Cluster) (lines : List Line) (head : Head) → head_of crm cluster lines ≡ Ok head → IsHead cluster lines head
 unfolding head_of
 head_made crm cluster lines head e =
-    let journal = passed status_fault (status_of cluster lines) _ head e in
+    let journal = passed_so status_fault (status_of cluster lines) _ head e in
     let made : head ≡ record { crm = crm; cluster = cluster; journal = journal.gave } = cc in
     rw made (record { same = refl; journal = journal.is })
 
 results_keep_head : (head : Head) (lines : List Line) (input : Input) → with_results head lines ≡ Ok input → input.head ≡ head
 unfolding with_results
 results_keep_head head lines input e =
-    let answers = passed result_fault (results_of head.cluster (moment_of head.journal.events) lines) _ input e in
+    let answers = passed_so result_fault (results_of head.cluster (moment_of head.journal.events) lines) _ input e in
     let made : input ≡ record { head = head; results = answers.gave } = cc in
     rw made refl
 
@@ -110,7 +118,7 @@ module _ (text : List ℕ) (found : Configuration) (cluster : Cluster) (input : 
 pub ruleset inputs_made = (made_valid, made_idle)
 
 -- what the last step returned
-pub orderly_where_made : (text : List ℕ) (found : Configuration) (cluster : Cluster) (read : Result Input InputFault)
+pub orderly_where_made : (text : List ℕ) (found : Configuration) (cluster : Cluster) (read : Result Input (Fault InputCause))
     → configuration_of sections_of text ≡ Ok found → ResolvesTo found.leaves found.crm.statements (Ok cluster)
     → Gives (λ (i : Input). i) read (with_cluster with_results found cluster) → IfOk read (λ input. Orderly input.head.journal.events)
 orderly_where_made text found cluster (Ok input) e r w = made_orderly text found cluster input e r w
@@ -124,16 +132,16 @@ record IsStepped (text : List ℕ) (input : Input) : Type 0 where
   resolves : ResolvesTo found.leaves found.crm.statements (Ok cluster)
   made : with_cluster with_results found cluster ≡ Ok input
 
-stepped : (text : List ℕ) (read : Result Configuration InputFault) (input : Input) → configuration_of sections_of text ≡ read
+stepped : (text : List ℕ) (read : Result Configuration (Fault InputCause)) (input : Input) → configuration_of sections_of text ≡ read
     → IsReadAfter with_results read (Ok input) → IsStepped text input
 stepped text (Err fault) input e r = absurd cc
 stepped text (Ok found) input e r =
-    let resolved = passed model_fault r.resolution (with_cluster with_results found) input (sym r.goes_on) in
+    let resolved = passed cause.Cluster r.resolution (with_cluster with_results found) input (sym r.goes_on) in
     record {
       found = found;
       cluster = resolved.gave;
       configuration = e;
-      resolves = subst (λ (m : Result Cluster ModelFault). ResolvesTo found.leaves found.crm.statements m) resolved.is r.resolves;
+      resolves = subst (λ (m : Result Cluster (Fault ModelCause)). ResolvesTo found.leaves found.crm.statements m) resolved.is r.resolves;
       made = resolved.goes_on;
     }
 

@@ -7,7 +7,7 @@ use Rattle.sim_core.specs.declared.reading.Input.{Input}
 use Rattle.sim_core.specs.declared.status.Status.{Status}
 use Rattle.sim_core.specs.declared.status.Status.TheVariants.{Done, Refused}
 use Rattle.sim_core.specs.Causes.{cause_name}
-use Rattle.sim_core.specs.Reading.{Reads, Fault}
+use Rattle.sim_core.specs.Reading.{IsRefused, Reads}
 
 -- the rules of a cluster: its locations, colocations and orders, those of groups among them
 abbrev pub rules_in : Cluster → ℕ
@@ -36,7 +36,7 @@ pub record IsCheckText (input text : List ℕ) : Type 0 where
 pub record IsRefusalText (input text : List ℕ) : Type 0 where
   pub line : ℕ
   pub why : InputCause
-  pub fault : Fault input line why
+  pub fault : IsRefused input line why
   pub printed : text ≡ refusal_text line why
 
 -- with the word `check` an input of this content gets this status and this text

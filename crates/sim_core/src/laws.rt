@@ -3,7 +3,7 @@
 ghost use Rattle.std.specs.Prelude.{◌≡◌, ◌⊎◌, ℕ, List, []};
 ghost use Rattle.cluster_types.specs.Journals.{Orderly, in_flight};
 ghost use Rattle.cluster_types.specs.Valid.{IsValid};
-ghost use Rattle.sim_core.specs.Reading.{Fault, IsFaulty, IsReadable, Reads};
+ghost use Rattle.sim_core.specs.Reading.{IsFaulty, IsReadable, IsRefused, Reads};
 ghost use Rattle.sim_core.specs.declared.cause.InputCause.{InputCause as CauseOf};
 ghost use Rattle.sim_core.specs.declared.reading.Input.{Input as InputOf};
 
@@ -13,7 +13,7 @@ pub fn one_reading()
     ensures either { (text : List ℕ) → IsReadable text ⊎ IsFaulty text }
     ensures not_both { (text : List ℕ) → IsReadable text → ¬ IsFaulty text }
     ensures one_input { (text : List ℕ) (one other : InputOf) → Reads text one → Reads text other → one ≡ other }
-    ensures one_fault { (text : List ℕ) (line other : ℕ) (why cause : CauseOf) → Fault text line why → Fault text other cause
+    ensures one_fault { (text : List ℕ) (line other : ℕ) (why cause : CauseOf) → IsRefused text line why → IsRefused text other cause
         → (line ≡ other) × (why ≡ cause) }
 {}
 

@@ -11,9 +11,12 @@ ghost use Rattle.crm_parse.specs.Statements.{statements_of};
 ghost use Rattle.op_history.specs.FirstJournal.{status_of};
 ghost use Rattle.op_history.specs.Results.{results_of};
 ghost use Rattle.sim_core.specs.Answers.{most_bytes};
-ghost use Rattle.sim_core.specs.Reading.{Gives, IsReading, configuration_of, expand_fault, faulting, head_of, lex_fault, parse_fault, result_fault, status_fault, with_cluster, with_results};
+ghost use Rattle.faults.specs.Reading.{Gives, faulting};
+ghost use Rattle.sim_core.specs.declared.cause.InputCause.TheVariants.{Leaves as OfLeaves, Statements as OfStatements, Words as OfWords};
+ghost use Rattle.sim_core.specs.Reading.{IsReading, configuration_of, faulting_so, head_of, result_fault, status_fault, with_cluster, with_results};
 
-use crate::fault::InputFault;
+use crate::cause::InputCause;
+use crate::fault::{InputFault, result_fault, status_fault};
 use clone_expand::{Leaves, expand};
 use cluster_model::{ModelFault, resolve};
 use cluster_types::{Cluster, Journal};
@@ -52,21 +55,21 @@ pub(crate) struct Configuration {
 #[tactic(auto, using(crate::proofs::FewLines::few_rows_read))]
 fn lines_of(alloc: Global, text: &[u8]) -> Result<Vec<Line>, InputFault>
     requires { length text.now ≤ most_bytes }
-    ensures lines { Gives (λ lines. lines.items) result (faulting lex_fault (reads text.now)) }
+    ensures lines { Gives (λ lines. lines.items) result (faulting OfWords (reads text.now)) }
     ensures few { IfOk result (λ lines. length lines.items < 2 ^ 32) }
 {
-    Ok(logical_lines(alloc, text)?)
+    logical_lines(alloc, text).map_err(|fault| fault.map(InputCause::Words))
 }
 
 #[tactic(auto, using(crate::proofs::Marks::in_order))]
 fn sections_in(lines: &[Line]) -> Result<SectionMarks, InputFault>
     requires { length lines.now < 2 ^ 32 }
-    ensures marks { Gives (λ marks. marks) result (faulting parse_fault (sections_of lines.now)) }
+    ensures marks { Gives (λ marks. marks) result (faulting OfStatements (sections_of lines.now)) }
     ensures status { IfOk result (λ marks. marks.status_at ≤ marks.results_at) }
     ensures results { IfOk result (λ marks. marks.results_at ≤ marks.end) }
     ensures end { IfOk result (λ marks. marks.end ≡ length lines.now) }
 {
-    Ok(sections(lines)?)
+    sections(lines).map_err(|fault| fault.map(InputCause::Statements))
 }
 
 /// The lines after the section line at this position, up to the next section.
@@ -81,16 +84,16 @@ fn lines_after(lines: &[Line], mark: u32, until: u32) -> &[Line]
 }
 
 fn statements_in(alloc: Global, lines: &[Line]) -> Result<Crm, InputFault>
-    ensures { Gives (λ crm. crm) result (faulting parse_fault (statements_of lines.now)) }
+    ensures { Gives (λ crm. crm) result (faulting OfStatements (statements_of lines.now)) }
 {
-    Ok(parse(alloc, lines)?)
+    parse(alloc, lines).map_err(|fault| fault.map(InputCause::Statements))
 }
 
 fn leaves_in(alloc: Global, crm: &Crm) -> Result<Leaves, InputFault>
-    ensures given { Gives (λ leaves. leaves) result (faulting expand_fault (expansion_of crm.now.statements)) }
+    ensures given { Gives (λ leaves. leaves) result (faulting OfLeaves (expansion_of crm.now.statements)) }
     ensures leaves { IfOk result (λ leaves. expansion_of crm.now.statements ≡ Ok leaves) }
 {
-    Ok(expand(alloc, crm)?)
+    expand(alloc, crm).map_err(|fault| fault.map(InputCause::Leaves))
 }
 
 /// The sections of some lines, in their order.
@@ -116,10 +119,10 @@ fn configuration_of(alloc: Global, text: &[u8]) -> Result<Configuration, InputFa
 
 fn status_in(alloc: Global, cluster: &Cluster, lines: &[Line]) -> Result<Journal, InputFault>
     requires { KeepsLimits cluster.now }
-    ensures journal { Gives (λ journal. journal) result (faulting status_fault (status_of cluster.now lines.now)) }
+    ensures journal { Gives (λ journal. journal) result (faulting_so status_fault (status_of cluster.now lines.now)) }
     ensures moment { IfOk result (λ journal. moment_of journal.events < 2 ^ 40) }
 {
-    Ok(read_status(alloc, cluster, lines)?)
+    read_status(alloc, cluster, lines).map_err(status_fault)
 }
 
 fn results_in(
@@ -130,9 +133,10 @@ fn results_in(
 ) -> Result<Listed<ResultLine>, InputFault>
     requires limits { KeepsLimits cluster.now }
     requires moment { moment_of journal.now.events < 2 ^ 40 }
-    ensures { Gives (λ results. results) result (faulting result_fault (results_of cluster.now (moment_of journal.now.events) lines.now)) }
+    ensures { Gives (λ results. results) result (faulting_so result_fault (results_of cluster.now (moment_of journal.now.events) lines.now)) }
 {
-    Ok(Listed::from(read_results(alloc, cluster, journal, lines)?))
+    let results = read_results(alloc, cluster, journal, lines).map_err(result_fault)?;
+    Ok(Listed::from(results))
 }
 
 /// The head of an input with these lines of the status.
@@ -196,7 +200,7 @@ fn cluster_in(alloc: Global, found: &Configuration) -> Result<Cluster, ModelFaul
 ///
 /// The steps are the words of all lines, the sections, the statements of the configuration, its leaves, its cluster, the lines of the
 /// status and the result lines. A fault is that of the first step that fails, at the lowest line that is at fault in it, with the cause
-/// that the reader of that step gives. `NoMemory` comes where memory is refused.
+/// that the reader of that step gives. `NoMemory` comes when memory runs out.
 ///
 /// What is read is valid: the cluster is, and the first journal is in order and has nothing in flight.
 #[tactic(auto, using(crate::proofs::Readings::readings, crate::proofs::ValidInput::inputs_made))]
@@ -208,6 +212,6 @@ pub fn read_input(alloc: Global, text: &[u8]) -> Result<Input, InputFault>
     ensures idle { IfOk result (λ input. in_flight input.head.journal.events ≡ []) }
 {
     let found = configuration_of(alloc, text)?;
-    let cluster = cluster_in(alloc, &found)?;
+    let cluster = cluster_in(alloc, &found).map_err(|fault| fault.map(InputCause::Cluster))?;
     with_cluster(alloc, found, cluster)
 }
