@@ -1,11 +1,12 @@
 pub mod Known
+pub mod Passes
+pub mod Split
 pub mod Sound
 pub mod Outcome
 pub mod Roles
 pub mod ResolvedRoles
 pub mod Limits
-pub mod OneResolution
-pub mod SomeResolution
+pub mod Closing
 pub mod NodePlaces
 pub mod EachOf
 pub mod ReadNames

@@ -1,7 +1,6 @@
 -- The cluster of a configuration keeps the limits.
 use Rattle.std.proofs.Common.{◌≡◌, ℕ, suc, ◌+◌, ◌-◌, ◌≤◌, nat_lt, Bool, true, false, if◌then◌else◌, Option, Some, None, List, [], ◌∷◌, length, Ok, refl, sym, ap, ◌∙◌, subst, arith}
 use Rattle.std.specs.List.{flat_map}
-use Rattle.std.specs.Option.{option_or}
 use Rattle.std.proofs.lemmas.Bool.Decides.{nat_tests}
 use Rattle.std.proofs.lemmas.List.{length-append, length-map}
 use Rattle.crm_parse.specs.declared.form.Form.{Form}
@@ -15,20 +14,23 @@ use Rattle.clone_expand.specs.declared.leaves.Leaves.{Leaves}
 use Rattle.clone_expand.specs.Expansion.{expansion_of, leaves_with_spans}
 use Rattle.clone_expand.specs.Faults.{fault_of}
 use Rattle.clone_expand.specs.Leaves.{leaf_in, leaves_of, surroundings_of}
+use Rattle.cluster_model.specs.declared.checks.Checked.{Checked}
 use Rattle.cluster_model.specs.declared.counts.Counts.{Counts}
 use Rattle.cluster_model.specs.declared.directory.Directory.{Directory}
 use Rattle.cluster_model.specs.declared.fault.ModelCause.{ModelCause}
 use Rattle.cluster_model.specs.declared.fault.ModelCause.TheVariants.{UnknownName, NotPromotable, UnsupportedOrder, TooManyNodes, TooManyLeaves, TooManyRules}
 use Rattle.faults.specs.declared.fault.Fault.{Fault}
 use Rattle.cluster_model.specs.Chains.{pairs_after, successive}
-use Rattle.cluster_model.specs.Checks.{cause_of, excess_of, fault_after, first_fault, has_unknown, has_unpromotable, is_unsupported, unless_cause}
+use Rattle.cluster_model.specs.Checks.{cause_of, excess_of, has_unknown, has_unpromotable, is_unsupported}
 use Rattle.cluster_model.specs.Colocations.{colocations_in, colocations_of}
-use Rattle.cluster_model.specs.Counting.{colocation_count, counted_with, leaf_count, location_count, node_count, nothing_counted, order_count}
+use Rattle.cluster_model.specs.Counting.{all_counted, colocation_count, counted_with, counts_of, leaf_count, location_count, node_count, nothing_counted, order_count}
 use Rattle.cluster_model.specs.Directories.{directory_of}
 use Rattle.cluster_model.specs.Locations.{location_in, locations_of, rule_location_of, rule_locations_in, rule_locations_of}
 use Rattle.cluster_model.specs.Nodes.{node_in, nodes_by}
 use Rattle.cluster_model.specs.Orders.{orders_in, orders_of}
-use Rattle.cluster_model.specs.Resolution.{ResolvesTo, cluster_of}
+use Rattle.cluster_model.specs.Resolution.{cluster_of, resolution_of}
+use Rattle.cluster_model.proofs.Outcome.{clean, none-own}
+use Rattle.cluster_model.proofs.Passes.{fault_after, passes, unless_cause}
 use Rattle.faults.specs.Reading.{unless}
 
 -- so much there may be
@@ -58,11 +60,6 @@ no_excess d counts f e = split (has_unknown d f) (has_unpromotable d f) (is_unsu
     split false true c e = absurd cc
     split false false true e = absurd cc
     split false false false e = e
-
--- what some statements have, after what was counted before them
-abbrev pub all_counted : Counts → List Statement → Counts
-all_counted counts [] = counts
-all_counted counts (s ∷ statements) = all_counted (counted_with counts s.form) statements
 
 sound_counts : (d : Directory) (n : ℕ) (counts : Counts) (statements : List Statement) → Within counts
     → (fault_after d n counts statements).fault ≡ None → Within (all_counted counts statements)
@@ -102,12 +99,12 @@ locations_are d (form.RuledLocation id resource role discovery rules) =
     let same = length-map rules (rule_location_of d id resource role) in omega (arith, same)
 locations_are d _ = refl
 
-colocations_are : (d : Directory) (f : Form) → colocation_count f ≡ length (colocations_in d f)
+pub colocations_are : (d : Directory) (f : Form) → colocation_count f ≡ length (colocations_in d f)
 colocations_are d (form.Colocation id score dependent primary) = refl
 colocations_are d (form.Group id members description params meta) = sym (length-map (successive members) _ ∙ length-successive members)
 colocations_are d _ = refl
 
-orders_are : (d : Directory) (f : Form) → order_count f ≡ length (orders_in d f)
+pub orders_are : (d : Directory) (f : Form) → order_count f ≡ length (orders_in d f)
 orders_are d (form.Order id kind steps symmetrical) = sym (length-map (successive steps) _ ∙ length-successive steps)
 orders_are d (form.Group id members description params meta) = sym (length-map (successive members) _ ∙ length-successive members)
 orders_are d _ = refl
@@ -145,29 +142,25 @@ rules_counted d counts (s ∷ statements) =
     let four = length-append (orders_in d s.form) (orders_of d statements) in
     omega (arith, more, one, two, three, four, locations_are d s.form, colocations_are d s.form, orders_are d s.form)
 
-resolved : (loop fault : Option (Fault ModelCause)) (made cluster : Cluster) → Ok cluster ≡ unless (option_or loop fault) made → (fault ≡ None) × (made ≡ cluster)
-resolved None None made cluster e = (refl, cc)
-resolved None (Some fault) made cluster e = absurd cc
-resolved (Some loop) fault made cluster e = absurd cc
-
 -- the counts of a configuration that is resolved are within the limits
-pub resolved_within : (leaves : Leaves) (statements : List Statement) (cluster : Cluster) → ResolvesTo leaves statements (Ok cluster)
-    → (cluster_of (directory_of leaves statements) leaves.leaves statements ≡ cluster) × Within (all_counted nothing_counted statements)
+pub resolved_within : (leaves : Leaves) (statements : List Statement) (cluster : Cluster) → resolution_of leaves statements ≡ Ok cluster
+    → (cluster_of (directory_of leaves statements) leaves.leaves statements ≡ cluster) × Within (counts_of statements)
 resolved_within leaves statements cluster r =
     let d = directory_of leaves statements in
-    let (sound, same) = resolved r.loop (first_fault d statements).fault (cluster_of d leaves.leaves statements) cluster r.resolved in
-    (same, sound_counts d 0 nothing_counted statements (record { nodes = omega arith; leaves = omega arith; rules = omega arith }) sound)
+    let ok = clean leaves statements cluster r in
+    let sound = ap (λ (found : Checked). found.fault) (passes d statements) ∙ none-own d leaves.leaves statements cluster ok in
+    (sym ok.is_whole, sound_counts d 0 nothing_counted statements (record { nodes = omega arith; leaves = omega arith; rules = omega arith }) sound)
 
 expanded : (fault : Option (Fault ExpandCause)) (statements : List Statement) (leaves : Leaves) → unless fault (leaves_with_spans statements) ≡ Ok leaves
     → leaves ≡ leaves_with_spans statements
 expanded None statements leaves e = cc
 expanded (Some fault) statements leaves e = absurd cc
 
-leaves_within : (statements : List Statement) → Within (all_counted nothing_counted statements) → length (leaves_of statements) ≤ 1000
+leaves_within : (statements : List Statement) → Within (counts_of statements) → length (leaves_of statements) ≤ 1000
 unfolding leaves_of
 leaves_within statements w = let counted = leaves_counted (leaf_in (surroundings_of statements)) (leaf_is statements) nothing_counted statements in omega (arith, counted, w.leaves)
 
-cluster_within : (d : Directory) (leaves : List Leaf) (statements : List Statement) → Within (all_counted nothing_counted statements) → length leaves ≤ 1000
+cluster_within : (d : Directory) (leaves : List Leaf) (statements : List Statement) → Within (counts_of statements) → length leaves ≤ 1000
     → KeepsLimits (cluster_of d leaves statements)
 unfolding cluster_of
 cluster_within d leaves statements w few =
@@ -177,7 +170,7 @@ cluster_within d leaves statements w few =
 
 -- the cluster of the leaves of a configuration keeps the limits
 pub limits_kept : (statements : List Statement) (leaves : Leaves) (cluster : Cluster) → expansion_of statements ≡ Ok leaves
-    → ResolvesTo leaves statements (Ok cluster) → KeepsLimits cluster
+    → resolution_of leaves statements ≡ Ok cluster → KeepsLimits cluster
 limits_kept statements leaves cluster e r =
     let made = expanded (fault_of statements) statements leaves e in
     let (same, w) = resolved_within leaves statements cluster r in

@@ -1,5 +1,5 @@
 -- The roles and words of the rules of a cluster that a configuration resolves to.
-use Rattle.std.proofs.Common.{◌≡◌, List, length, refl, ap, sym, ◌∙◌, Contains}
+use Rattle.std.proofs.Common.{arith, ◌≡◌, List, [], length, refl, ap, sym, ◌∙◌, Contains}
 use Rattle.std.specs.Prelude.{Ok}
 use Rattle.std.proofs.Math.Seq.{take-length}
 use Rattle.cluster_types.specs.declared.cluster.Cluster.{Cluster}
@@ -11,24 +11,26 @@ use Rattle.cluster_types.specs.Valid.{MayHaveRole}
 use Rattle.crm_parse.specs.declared.statement.Statement.{Statement}
 use Rattle.clone_expand.specs.declared.leaves.Leaves.{Leaves}
 use Rattle.lemmas.proofs.Members.{of_flat}
+use Rattle.cluster_model.specs.declared.checks.Checked.{Checked}
 use Rattle.cluster_model.specs.declared.directory.Directory.{Directory}
-use Rattle.cluster_model.specs.Checks.{first_fault}
 use Rattle.cluster_model.specs.Colocations.{colocations_in}
 use Rattle.cluster_model.specs.Counting.{nothing_counted}
 use Rattle.cluster_model.specs.Directories.{directory_of}
 use Rattle.cluster_model.specs.Locations.{location_in, rule_locations_in}
 use Rattle.cluster_model.specs.Orders.{orders_in}
-use Rattle.cluster_model.specs.Resolution.{ResolvesTo, cluster_of}
-use Rattle.cluster_model.proofs.Outcome.{IsClean, clean, none-whole}
+use Rattle.cluster_model.specs.Resolution.{cluster_of, own_cause, resolution_of}
+use Rattle.cluster_model.proofs.Outcome.{IsClean, clean, none-own}
+use Rattle.cluster_model.proofs.Passes.{passes}
+use Rattle.cluster_model.proofs.Split.{none_all}
 use Rattle.cluster_model.proofs.Roles.{Agrees, HasRoles, HasWords, colocation-roles, location-role, order-words, promotes-alike, rule-role}
 use Rattle.cluster_model.proofs.Sound.{IsSound, all-sound, as-many}
 
-module _ (leaves : Leaves) (statements : List Statement) (c : Cluster) (r : ResolvesTo leaves statements (Ok c)) where
+module _ (leaves : Leaves) (statements : List Statement) (c : Cluster) (r : resolution_of leaves statements ≡ Ok c) where
   abbrev pub d : Directory
   d = directory_of leaves statements
 
-  pub is-clean : IsClean r.loop (first_fault d statements).fault c (cluster_of d leaves.leaves statements)
-  is-clean = clean r.loop (first_fault d statements).fault c (cluster_of d leaves.leaves statements) r.resolved
+  pub is-clean : IsClean d leaves.leaves statements c
+  is-clean = clean leaves statements c r
 
   has-leaves : c.leaves ≡ leaves.leaves
   unfolding cluster_of
@@ -42,8 +44,8 @@ module _ (leaves : Leaves) (statements : List Statement) (c : Cluster) (r : Reso
 
   pub sound : (s : Statement) → Contains statements s → IsSound d s.form
   sound s h =
-      let whole = none-whole d 0 nothing_counted statements is-clean.no_fault in
-      all-sound d 0 nothing_counted statements (length statements) (sym whole) s (rw (sym (take-length statements)) at h)
+      let whole = ap (λ (found : Checked). found.sound) (passes d statements) ∙ none_all (own_cause d) [] statements (none-own d leaves.leaves statements c is-clean) in
+      all-sound d 0 nothing_counted statements (length statements) (omega (arith, whole)) s (rw (sym (take-length statements)) at h)
 
   pub colocations : (col : Colocation) → Contains c.colocations col → HasRoles d c agrees col
   unfolding cluster_of

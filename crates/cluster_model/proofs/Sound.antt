@@ -25,14 +25,17 @@ use Rattle.faults.specs.declared.fault.Fault.TheVariants.{At, NoMemory}
 use Rattle.cluster_model.specs.declared.fault.ModelCause.{ModelCause}
 use Rattle.cluster_model.specs.declared.fault.ModelCause.TheVariants.{UnknownName, NotPromotable, UnsupportedOrder}
 use Rattle.cluster_model.specs.Chains.{successive}
-use Rattle.cluster_model.specs.Checks.{cause_of, excess_of, fault_after, first_fault, has_unknown, has_unpromotable, is_unsupported, unless_cause}
+use Rattle.cluster_model.specs.Checks.{cause_of, excess_of, has_unknown, has_unpromotable, is_unsupported}
 use Rattle.cluster_model.specs.Colocations.{colocation_of, colocations_in, colocations_of, dependent_at, member_colocation, primary_at}
 use Rattle.cluster_model.specs.Counting.{counted_with, nothing_counted}
 use Rattle.cluster_model.specs.Directories.{directory_of, groups_of, is_unknown, traits_of}
 use Rattle.cluster_model.specs.Locations.{role_of_word}
 use Rattle.cluster_model.specs.Orders.{first_point, kind_of_word, member_order, op_of, orders_in, orders_of, step_order, then_point}
-use Rattle.cluster_model.specs.Resolution.{FirstLoop, Resolves, ResolvesTo, cluster_of, sound_part}
-use Rattle.faults.specs.Reading.{unless}
+use Rattle.cluster_model.specs.FirstFaults.{first_fault, sound_count}
+use Rattle.cluster_model.specs.Resolution.{cause_after, cluster_of, loop_cause, own_cause, resolution_of}
+use Rattle.faults.specs.Reading.{UnlessMemory, unless}
+use Rattle.cluster_model.proofs.Passes.{check_all, fault_after, passes, unless_cause}
+use Rattle.cluster_model.proofs.Split.{none_all, split}
 use Rattle.cluster_model.proofs.Known.{first-there, last-there, later, pairs-none, sooner}
 
 -- a statement without these faults
@@ -165,96 +168,86 @@ as-many d leaves statements e =
 from-none : (k n : ℕ) → k ≡ n → 0 + k ≡ n
 from-none k n e = omega arith
 
-all-join : (d : Directory) (statements : List Statement) (k : ℕ) → k ≡ (first_fault d statements).sound → (col : Colocation)
+all-join : (d : Directory) (statements : List Statement) (k : ℕ) → k ≡ (check_all d statements).sound → (col : Colocation)
     → Contains (colocations_of d (take k statements)) col → Joins d col
 all-join d statements k e col h =
     let m = of_flat (λ s. colocations_in d s.form) (take k statements) col h in
-    let t = all-sound d 0 nothing_counted statements k (from-none k (first_fault d statements).sound e) m.source m.among in
+    let t = all-sound d 0 nothing_counted statements k (from-none k (check_all d statements).sound e) m.source m.among in
     colocations-join d m.source.form t.known col m.gives
 
-all-step : (d : Directory) (statements : List Statement) (k : ℕ) → k ≡ (first_fault d statements).sound → (o : Order)
+all-step : (d : Directory) (statements : List Statement) (k : ℕ) → k ≡ (check_all d statements).sound → (o : Order)
     → Contains (orders_of d (take k statements)) o → Steps d o
 all-step d statements k e o h =
     let m = of_flat (λ s. orders_in d s.form) (take k statements) o h in
-    let t = all-sound d 0 nothing_counted statements k (from-none k (first_fault d statements).sound e) m.source m.among in
+    let t = all-sound d 0 nothing_counted statements k (from-none k (check_all d statements).sound e) m.source m.among in
     orders-step d m.source.form t.known o m.gives
 
-second-none : (one other : Option (Fault ModelCause)) → option_or one other ≡ None → other ≡ None
+pub second-none : (one other : Option (Fault ModelCause)) → option_or one other ≡ None → other ≡ None
 second-none None other h = h
 second-none (Some fault) other h = cc
 
-module _ (leaves : Leaves) (all : List Leaf) (statements part : List Statement) (d : Directory) (found : Checked) (c : Cluster)
-    (is_all : all ≡ leaves.leaves) (is_directory : d ≡ directory_of leaves statements) (is_found : found ≡ first_fault d statements)
-    (is_part : part ≡ take found.sound statements) (is_cluster : c ≡ cluster_of d all part) where
+-- unless memory ran out, as it is
+pub is-answer : (fault : Fault ModelCause) (P : Type 0) → P → UnlessMemory fault P
+is-answer (At line cause) P h = h
+is-answer NoMemory P h = tt
+
+module _ (leaves : Leaves) (all : List Leaf) (statements part : List Statement) (d : Directory) (count : ℕ) (c : Cluster)
+    (is_all : all ≡ leaves.leaves) (is_directory : d ≡ directory_of leaves statements) (is_count : count ≡ sound_count (own_cause d) [] statements)
+    (is_part : part ≡ take count statements) (is_cluster : c ≡ cluster_of d all part) where
   has_leaves : c.leaves ≡ leaves.leaves
   unfolding cluster_of
   has_leaves = ap (λ (c : Cluster). c.leaves) is_cluster ∙ is_all
 
-  has_colocations : c.colocations ≡ colocations_of d (take found.sound statements)
+  has_colocations : c.colocations ≡ colocations_of d (take count statements)
   unfolding cluster_of
   has_colocations = ap (λ (c : Cluster). c.colocations) is_cluster ∙ ap (colocations_of d) is_part
 
-  has_orders : c.orders ≡ orders_of d (take found.sound statements)
+  has_orders : c.orders ≡ orders_of d (take count statements)
   unfolding cluster_of
   has_orders = ap (λ (c : Cluster). c.orders) is_cluster ∙ ap (orders_of d) is_part
 
   as-many-leaves : length d.leaves ≡ length c.leaves
   as-many-leaves = as-many d leaves statements is_directory ∙ ap length (sym has_leaves)
 
-  sound-found : found.sound ≡ (first_fault d statements).sound
-  sound-found = ap (λ (found : Checked). found.sound) is_found
+  sound-found : count ≡ (check_all d statements).sound
+  sound-found = is_count ∙ sym (ap (λ (found : Checked). found.sound) (passes d statements))
 
   pub joined : (col : Colocation) → Contains c.colocations col → JoinsLeaves c col
   joined col h =
       let many = as-many-leaves in
-      let j = all-join d statements found.sound sound-found col (rw has_colocations at h) in
+      let j = all-join d statements count sound-found col (rw has_colocations at h) in
       record { dependent = rw many at j.dependent; primary = rw many at j.primary }
 
   pub ordered : (o : Order) → Contains c.orders o → OrdersSteps c o
   ordered o h =
       let many = as-many-leaves in
-      let j = all-step d statements found.sound sound-found o (rw has_orders at h) in
+      let j = all-step d statements count sound-found o (rw has_orders at h) in
       record { first = rw many at j.first; later = rw many at j.later; first_word = j.first_word; later_word = j.later_word }
 
-  sound_cluster : c ≡ cluster_of d leaves.leaves (sound_part d statements)
-  sound_cluster =
-      is_cluster ∙ ap (λ all. cluster_of d all part) is_all
-      ∙ ap (cluster_of d leaves.leaves) (is_part ∙ ap (λ k. take k statements) sound-found)
+  pub is_sound : c ≡ cluster_of d leaves.leaves part
+  is_sound = is_cluster ∙ ap (λ all. cluster_of d all part) is_all
 
-  part-sound : part ≡ sound_part d statements
-  part-sound = is_part ∙ ap (λ k. take k statements) sound-found
+  module _ (loop fault : Option (Fault ModelCause)) (is_loop : loop ≡ first_fault (loop_cause d leaves.leaves) [] part)
+      (is_fault : fault ≡ first_fault (own_cause d) [] statements) where
+    -- the first loop among the statements before the first fault otherwise, and else that fault
+    resolved-by : resolution_of leaves statements ≡ unless (option_or loop fault) (cluster_of d leaves.leaves statements)
+    unfolding resolution_of
+    resolved-by =
+        let found = split (own_cause d) (loop_cause d leaves.leaves) [] statements in
+        let first : first_fault (loop_cause d leaves.leaves) [] (take (sound_count (own_cause d) [] statements) statements) ≡ loop
+        = ap (first_fault (loop_cause d leaves.leaves) []) (ap (λ k. take k statements) (sym is_count) ∙ sym is_part) ∙ sym is_loop in
+        let both : first_fault (cause_after d leaves.leaves) [] statements ≡ option_or loop fault
+        = found ∙ ap (λ one. option_or one (first_fault (own_cause d) [] statements)) first ∙ ap (option_or loop) (sym is_fault) in
+        let resolution : resolution_of leaves statements ≡ unless (first_fault (cause_after d leaves.leaves) [] statements) (cluster_of d leaves.leaves statements)
+        = ap (λ (d : Directory). unless (first_fault (cause_after d leaves.leaves) [] statements) (cluster_of d leaves.leaves statements)) (sym is_directory) in
+        resolution ∙ ap (λ found. unless found (cluster_of d leaves.leaves statements)) both
 
-  found-fault : (loop : Option (Fault ModelCause)) → option_or loop (first_fault d statements).fault ≡ option_or loop found.fault
-  found-fault loop = sym (ap (λ (found : Checked). option_or loop found.fault) is_found)
+    -- where there is neither, the cluster is that of all statements
+    pub resolves : option_or loop fault ≡ None → resolution_of leaves statements ≡ Ok c
+    resolves none =
+        let whole = none_all (own_cause d) [] statements (sym is_fault ∙ second-none loop fault none) in
+        let all_of : part ≡ statements = is_part ∙ ap (λ k. take k statements) (is_count ∙ whole) ∙ take-length statements in
+        resolved-by ∙ ap (λ found. unless found (cluster_of d leaves.leaves statements)) none ∙ ap Ok (sym (is_sound ∙ ap (cluster_of d leaves.leaves) all_of))
 
-  -- where there is neither a loop nor another fault, the cluster is that of all statements
-  pub resolves : (loop : Option (Fault ModelCause)) → FirstLoop c part loop → option_or loop found.fault ≡ None
-      → (found.fault ≡ None → found.sound ≡ length statements) → ResolvesTo leaves statements (Ok c)
-  resolves loop first none whole =
-      let all_of : part ≡ statements = is_part ∙ ap (λ k. take k statements) (whole (second-none loop found.fault none)) ∙ take-length statements in
-      let whole_cluster : c ≡ cluster_of d leaves.leaves statements
-      = is_cluster ∙ ap (λ all. cluster_of d all part) is_all ∙ ap (cluster_of d leaves.leaves) all_of in
-      let resolved : Ok c ≡ unless (option_or loop (first_fault d statements).fault) (cluster_of d leaves.leaves statements)
-      = ap Ok whole_cluster ∙ sym (ap (λ fault. unless fault (cluster_of d leaves.leaves statements)) (found-fault loop ∙ none)) in
-      record {
-        loop = loop;
-        first = rw is_directory at (rw sound_cluster at (rw part-sound at first));
-        resolved = rw is_directory at resolved;
-      }
-
-  -- a loop, and else the other fault, stands in place of a cluster
-  pub refuses : (loop : Option (Fault ModelCause)) (fault : Fault ModelCause) → FirstLoop c part loop → option_or loop found.fault ≡ Some fault
-      → ResolvesTo leaves statements (Err fault)
-  refuses loop fault first some =
-      let resolved : Err fault ≡ unless (option_or loop (first_fault d statements).fault) (cluster_of d leaves.leaves statements)
-      = sym (ap (λ fault. unless fault (cluster_of d leaves.leaves statements)) (found-fault loop ∙ some)) in
-      record {
-        loop = loop;
-        first = rw is_directory at (rw sound_cluster at (rw part-sound at first));
-        resolved = rw is_directory at resolved;
-      }
-
-pub is-answer : (leaves : Leaves) (statements : List Statement) (fault : Fault ModelCause) → ResolvesTo leaves statements (Err fault)
-    → Resolves leaves statements (Err fault)
-is-answer leaves statements (At line cause) r = r
-is-answer leaves statements NoMemory r = tt
+    pub refuses : (found : Fault ModelCause) → option_or loop fault ≡ Some found → resolution_of leaves statements ≡ Err found
+    refuses found some = resolved-by ∙ ap (λ found. unless found (cluster_of d leaves.leaves statements)) some

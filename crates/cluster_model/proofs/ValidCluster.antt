@@ -30,7 +30,7 @@ use Rattle.cluster_model.specs.Directories.{directory_of}
 use Rattle.cluster_model.specs.Locations.{location_in, locations_of, rule_locations_of}
 use Rattle.cluster_model.specs.Nodes.{nodes_by}
 use Rattle.cluster_model.specs.Orders.{orders_of}
-use Rattle.cluster_model.specs.Resolution.{ResolvesTo, cluster_of}
+use Rattle.cluster_model.specs.Resolution.{cluster_of, resolution_of}
 use Rattle.cluster_model.proofs.EachOf.{of_all, pairs_map}
 use Rattle.cluster_model.proofs.LeavesValid.{leaves-valid}
 use Rattle.cluster_model.proofs.Limits.{limits_kept}
@@ -59,7 +59,7 @@ nodes-apart statements h =
     (subst (AllPairs (λ (one other : List ℕ). one ≢ other)) (sym (node_names statements)) (node_names_differ statements h))
 
 module _ (statements : List Statement) (leaves : Leaves) (c : Cluster) (read : AreRead statements) (e : expansion_of statements ≡ Ok leaves)
-    (r : ResolvesTo leaves statements (Ok c)) where
+    (r : resolution_of leaves statements ≡ Ok c) where
   abbrev d : Directory
   d = directory_of leaves statements
 
@@ -160,5 +160,5 @@ module _ (statements : List Statement) (leaves : Leaves) (c : Cluster) (read : A
 
 -- the cluster that some lines resolve to is valid
 pub resolved_valid : (lines : List Line) (crm : Crm) (leaves : Leaves) (c : Cluster) → statements_of lines ≡ Ok crm → expansion_of crm.statements ≡ Ok leaves
-    → ResolvesTo leaves crm.statements (Ok c) → IsValid c
+    → resolution_of leaves crm.statements ≡ Ok c → IsValid c
 resolved_valid lines crm leaves c p e r = statements-valid crm.statements leaves c (statements-read lines crm p) e r

@@ -1,16 +1,13 @@
 -- Which statements are at fault, loops aside (the causes and their order are rules of this project).
-use Rattle.std.specs.Prelude.{ℕ, ◌+◌, nat_lt, Bool, false, not, ◌&&◌, ◌||◌, if◌then◌else◌, List, [], ◌∷◌, Option, Some, None}
+use Rattle.std.specs.Prelude.{ℕ, nat_lt, Bool, false, not, ◌&&◌, ◌||◌, if◌then◌else◌, Option, Some, None}
 use Rattle.std.specs.List.{list_any}
 use Rattle.std.specs.Option.{option_or}
-use Rattle.faults.specs.declared.fault.Fault.TheVariants.{At}
 use Rattle.crm_parse.specs.declared.form.Form.{Form}
 use Rattle.crm_parse.specs.declared.form.Form.TheVariants as form
 use Rattle.crm_parse.specs.declared.form.OrderStep.{OrderStep}
-use Rattle.crm_parse.specs.declared.statement.Statement.{Statement}
 use Rattle.cluster_types.specs.declared.leaf.Role.{Role}
 use Rattle.cluster_types.specs.declared.leaf.Role.TheVariants as role
 use Rattle.cluster_types.specs.declared.leaf.Op.TheVariants as op
-use Rattle.cluster_model.specs.declared.checks.Checked.{Checked}
 use Rattle.cluster_model.specs.declared.colocations.Bearer.{Bearer}
 use Rattle.cluster_model.specs.declared.counts.Counts.{Counts}
 use Rattle.cluster_model.specs.declared.directory.Directory.{Directory}
@@ -19,7 +16,6 @@ use Rattle.cluster_model.specs.declared.fault.ModelCause.TheVariants.{UnknownNam
 use Rattle.cluster_model.specs.declared.orders.Point.{Point}
 use Rattle.cluster_model.specs.Chains.{successive}
 use Rattle.cluster_model.specs.Colocations.{dependent_at, primary_at}
-use Rattle.cluster_model.specs.Counting.{counted_with, nothing_counted}
 use Rattle.cluster_model.specs.Directories.{first_named, is_unknown, is_unknown_node, may_promote}
 use Rattle.cluster_model.specs.Locations.{role_of_word, role_written}
 use Rattle.cluster_model.specs.Orders.{first_point, is_down, then_point}
@@ -89,18 +85,3 @@ cause_of d counts form =
     else if has_unpromotable d form then Some NotPromotable
     else if is_unsupported form then Some UnsupportedOrder
     else excess_of counts
-
--- the line and the cause of a statement that is at fault, behind so many that aren't, and else what comes of the others
-abbrev pub unless_cause : Option ModelCause → ℕ → ℕ → Checked → Checked
-unless_cause (Some cause) sound line others = record { sound = sound; fault = Some (At line cause) }
-unless_cause None sound line others = others
-
--- the first statement that is at fault, where some statements before are sound and have so much
-abbrev pub fault_after : Directory → ℕ → Counts → List Statement → Checked
-fault_after d sound counts [] = record { sound = sound; fault = None }
-fault_after d sound counts (s ∷ statements) =
-    let counted = counted_with counts s.form in
-    unless_cause (cause_of d counted s.form) sound s.line (fault_after d (sound + 1) counted statements)
-
-abbrev pub first_fault : Directory → List Statement → Checked
-first_fault d statements = fault_after d 0 nothing_counted statements

@@ -1,5 +1,5 @@
 -- How many nodes, leaves and rules statements have (their limits are rules of this project).
-use Rattle.std.specs.Prelude.{ℕ, ◌+◌, ◌-◌, nat_lt, if◌then◌else◌, List, [], ◌∷◌, length}
+use Rattle.std.specs.Prelude.{ℕ, ◌+◌, ◌-◌, List, [], ◌∷◌, length, sum_by}
 use Rattle.crm_parse.specs.declared.form.Form.{Form}
 use Rattle.crm_parse.specs.declared.form.Form.TheVariants as form
 use Rattle.crm_parse.specs.declared.statement.Statement.{Statement}
@@ -33,12 +33,6 @@ order_count _ = 0
 abbrev pub rule_count : Form → ℕ
 rule_count form = location_count form + colocation_count form + order_count form
 
--- the line of the statement with the rule at this place, where each statement has so many
-abbrev pub line_at : (Form → ℕ) → ℕ → List Statement → ℕ
-line_at count place [] = 0
-line_at count place (s ∷ statements) =
-    if nat_lt place (count s.form) then s.line else line_at count (place - count s.form) statements
-
 -- nothing stands before the first statement
 abbrev pub nothing_counted : Counts
 nothing_counted = record { nodes = 0; leaves = 0; rules = 0 }
@@ -50,3 +44,18 @@ counted_with counts form = record {
   leaves = counts.leaves + leaf_count form;
   rules = counts.rules + rule_count form;
 }
+
+-- what some statements have, after what was counted before them
+abbrev pub all_counted : Counts → List Statement → Counts
+all_counted counts [] = counts
+all_counted counts (s ∷ statements) = all_counted (counted_with counts s.form) statements
+
+abbrev pub counts_of : List Statement → Counts
+counts_of statements = all_counted nothing_counted statements
+
+-- how many colocations and how many orders some statements have
+abbrev pub colocations_in_all : List Statement → ℕ
+colocations_in_all statements = sum_by (λ s. colocation_count s.form) statements
+
+abbrev pub orders_in_all : List Statement → ℕ
+orders_in_all statements = sum_by (λ s. order_count s.form) statements

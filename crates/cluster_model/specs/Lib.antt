@@ -7,4 +7,5 @@ pub mod Colocations
 pub mod Orders
 pub mod Counting
 pub mod Checks
+pub mod FirstFaults
 pub mod Resolution

@@ -1,21 +1,21 @@
--- The cluster that a configuration says.
-use Rattle.std.specs.Prelude.{◌≡◌, ℕ, nat_le, if◌then◌else◌, List, take, Option, Some, None, Result}
-use Rattle.std.specs.Option.{option_map, option_or}
+-- The cluster that a configuration says, or its first fault (the causes and their order are rules of this project).
+use Rattle.std.specs.Prelude.{ℕ, if◌then◌else◌, List, [], ◌∷◌, ◌++◌, Option, Some, None, Result}
+use Rattle.std.specs.Option.{option_or}
 use Rattle.faults.specs.declared.fault.Fault.{Fault}
-use Rattle.faults.specs.declared.fault.Fault.TheVariants.{At}
-use Rattle.faults.specs.Reading.{IsAsSaid, unless}
+use Rattle.faults.specs.Reading.{unless}
 use Rattle.crm_parse.specs.declared.statement.Statement.{Statement}
 use Rattle.cluster_types.specs.declared.cluster.Cluster.{Cluster}
 use Rattle.cluster_types.specs.declared.leaf.Leaf.{Leaf}
-use Rattle.rule_loops.specs.FirstLoops.{IsFirstColocation, IsFirstOrder}
+use Rattle.rule_loops.specs.FirstLoops.{has_need_loop, has_step_loop, is_closed_by}
 use Rattle.clone_expand.specs.declared.leaves.Leaves.{Leaves}
 use Rattle.cluster_model.specs.declared.directory.Directory.{Directory}
 use Rattle.cluster_model.specs.declared.fault.ModelCause.{ModelCause}
 use Rattle.cluster_model.specs.declared.fault.ModelCause.TheVariants.{ColocationLoop, OrderLoop}
-use Rattle.cluster_model.specs.Checks.{first_fault}
+use Rattle.cluster_model.specs.Checks.{cause_of}
 use Rattle.cluster_model.specs.Colocations.{colocations_of}
-use Rattle.cluster_model.specs.Counting.{colocation_count, line_at, order_count}
+use Rattle.cluster_model.specs.Counting.{colocations_in_all, counts_of, orders_in_all}
 use Rattle.cluster_model.specs.Directories.{directory_of}
+use Rattle.cluster_model.specs.FirstFaults.{first_fault}
 use Rattle.cluster_model.specs.Locations.{locations_of, rule_locations_of}
 use Rattle.cluster_model.specs.Nodes.{nodes_by}
 use Rattle.cluster_model.specs.Options.{properties_of}
@@ -33,35 +33,33 @@ cluster_of d leaves statements = record {
   properties = properties_of statements;
 }
 
--- where loops are looked for: among the statements before the first that is at fault otherwise
-abbrev pub sound_part : Directory → List Statement → List Statement
-sound_part d statements = take (first_fault d statements).sound statements
+-- the cause of a statement, loops aside
+abbrev pub own_cause : Directory → List Statement → Statement → Option ModelCause
+own_cause d before s = cause_of d (counts_of (before ++ s ∷ [])) s.form
 
--- of the lines where the needs and the steps get their first loops, the lower one
-abbrev pub earlier_loop : Option ℕ → Option ℕ → Option (Fault ModelCause)
-earlier_loop None None = None
-earlier_loop None (Some line) = Some (At line OrderLoop)
-earlier_loop (Some line) None = Some (At line ColocationLoop)
-earlier_loop (Some line) (Some other) = if nat_le line other then Some (At line ColocationLoop) else Some (At other OrderLoop)
+-- the cause where the rules of a cluster have a loop
+abbrev pub cause_of_loops : Cluster → Option ModelCause
+cause_of_loops c = if has_need_loop c then Some ColocationLoop else if has_step_loop c then Some OrderLoop else None
 
--- the fault of the first statement with which the needs or the steps of a cluster have a loop
-pub record FirstLoop (c : Cluster) (statements : List Statement) (fault : Option (Fault ModelCause)) : Type 0 where
-  pub colocation : Option ℕ
-  pub order : Option ℕ
-  pub needs : IsFirstColocation c colocation
-  pub steps : IsFirstOrder c order
-  pub earlier : fault
-      ≡ earlier_loop
-      (option_map (λ place. line_at colocation_count place statements) colocation)
-      (option_map (λ place. line_at order_count place statements) order)
+-- the cause of a statement whose rules have a loop with those before it
+abbrev pub loop_cause : Directory → List Leaf → List Statement → Statement → Option ModelCause
+loop_cause d leaves before s = cause_of_loops (cluster_of d leaves (before ++ s ∷ []))
 
--- the cluster of a configuration, or its first fault: a loop stands before what is at fault otherwise
-pub record ResolvesTo (leaves : Leaves) (statements : List Statement) (resolution : Result Cluster (Fault ModelCause)) : Type 0 where
-  pub loop : Option (Fault ModelCause)
-  pub first : let d = directory_of leaves statements in FirstLoop (cluster_of d leaves.leaves (sound_part d statements)) (sound_part d statements) loop
-  pub resolved : let d = directory_of leaves statements in
-      resolution ≡ unless (option_or loop (first_fault d statements).fault) (cluster_of d leaves.leaves statements)
+-- the cause of a statement after those before it
+abbrev pub cause_after : Directory → List Leaf → List Statement → Statement → Option ModelCause
+cause_after d leaves before s = option_or (own_cause d before s) (loop_cause d leaves before s)
 
--- what a call returned is the resolution, unless memory ran out
-abbrev pub Resolves : Leaves → List Statement → Result Cluster (Fault ModelCause) → Type 0
-Resolves leaves statements given = IsAsSaid (ResolvesTo leaves statements) given
+-- the cluster of a configuration, or the fault of the first statement with a cause
+unfoldable pub resolution_of : Leaves → List Statement → Result Cluster (Fault ModelCause)
+resolution_of leaves statements =
+    let d = directory_of leaves statements in
+    unless (first_fault (cause_after d leaves.leaves) [] statements) (cluster_of d leaves.leaves statements)
+
+-- the cause where the first loops are closed by the colocation at one place and the order at the other, and so many rules were added
+abbrev pub closed_by : Option ℕ → Option ℕ → ℕ → ℕ → Option ModelCause
+closed_by colocation order colocations orders =
+    if is_closed_by colocation colocations then Some ColocationLoop else if is_closed_by order orders then Some OrderLoop else None
+
+abbrev pub closing_cause : Option ℕ → Option ℕ → List Statement → Statement → Option ModelCause
+closing_cause colocation order before s =
+    closed_by colocation order (colocations_in_all (before ++ s ∷ [])) (orders_in_all (before ++ s ∷ []))

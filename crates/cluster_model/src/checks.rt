@@ -1,12 +1,14 @@
 //! Which statement is at fault, loops aside.
 
-ghost use Rattle.std.specs.Prelude.{◌≡◌, ◌≤◌, length, None, IfOk};
+ghost use Rattle.std.specs.Prelude.{◌≡◌, ◌≤◌, [], length, IfOk};
 ghost use Rattle.std.specs.List.{list_any};
 ghost use Rattle.std.specs.Option.{option_or};
 ghost use Rattle.cluster_model.specs.Chains.{successive};
 ghost use Rattle.cluster_model.specs.Locations.{role_written};
 ghost use Rattle.cluster_model.specs.Directories.{is_unknown};
-ghost use Rattle.cluster_model.specs.Checks.{cause_of, first_fault, excess_of, has_unknown, has_unpromotable, is_unsupported, lacks_action, lacks_in_pair, lacks_role, side_lacks, turns_down};
+ghost use Rattle.cluster_model.specs.Checks.{cause_of, excess_of, has_unknown, has_unpromotable, is_unsupported, lacks_action, lacks_in_pair, lacks_role, side_lacks, turns_down};
+ghost use Rattle.cluster_model.specs.FirstFaults.{first_fault, sound_count};
+ghost use Rattle.cluster_model.specs.Resolution.{own_cause};
 
 use crate::colocations::{Bearer, dependent_at, primary_at};
 use crate::counts::{Counts, counted_with, nothing_counted};
@@ -232,9 +234,9 @@ fn cause_of(directory: &Directory, counts: Counts, form: &Form) -> Option<ModelC
 
 /// The first statement that is at fault.
 pub fn first_fault(directory: &Directory, statements: &[Statement]) -> Result<Checked, NoMemory>
-    ensures found { IfOk result (λ found. found ≡ first_fault directory.now statements.now) }
+    ensures fault { IfOk result (λ found. found.fault ≡ first_fault (own_cause directory.now) [] statements.now) }
+    ensures sound { IfOk result (λ found. found.sound ≡ sound_count (own_cause directory.now) [] statements.now) }
     ensures within { IfOk result (λ found. found.sound ≤ length statements.now) }
-    ensures whole { IfOk result (λ found. found.fault ≡ None → found.sound ≡ length statements.now) }
 {
     let mut counts = nothing_counted();
     let mut sound: usize = 0;

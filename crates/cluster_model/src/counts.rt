@@ -74,7 +74,7 @@ pub fn order_count(form: &Form) -> usize
 }
 
 /// The sum of two counts. More than a number can tell are more than memory can hold.
-fn sum(one: usize, other: usize) -> Result<usize, NoMemory>
+pub fn sum(one: usize, other: usize) -> Result<usize, NoMemory>
     ensures { IfOk result (λ total. total ≡ one + other) }
 {
     one.checked_add(other).ok_or(NoMemory)

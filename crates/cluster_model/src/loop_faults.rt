@@ -1,13 +1,15 @@
 //! Rules that need each other in a circle.
 
-ghost use Rattle.std.specs.Prelude.{◌≡◌, IfOk, Contains};
+ghost use Rattle.std.specs.Prelude.{◌≡◌, [], List, IfOk, Contains};
+ghost use Rattle.cluster_types.specs.declared.leaf.Leaf.{Leaf};
 ghost use Rattle.cluster_types.specs.declared.rules.Colocation.{Colocation};
 ghost use Rattle.cluster_types.specs.declared.rules.Order.{Order};
-ghost use Rattle.rule_loops.specs.FirstLoops.{JoinsLeaves, OrdersSteps};
-ghost use Rattle.cluster_model.specs.Counting.{colocation_count, line_at, order_count};
-ghost use Rattle.cluster_model.specs.Resolution.{FirstLoop, earlier_loop};
+ghost use Rattle.rule_loops.specs.FirstLoops.{JoinsLeaves, OrdersSteps, is_closed_by};
+ghost use Rattle.cluster_model.specs.declared.directory.Directory.{Directory};
+ghost use Rattle.cluster_model.specs.FirstFaults.{first_fault};
+ghost use Rattle.cluster_model.specs.Resolution.{closed_by, closing_cause, cluster_of, loop_cause};
 
-use crate::counts::{colocation_count, order_count};
+use crate::counts::{colocation_count, order_count, sum};
 use crate::{ModelCause, ModelFault};
 use cluster_types::{Cluster, NoMemory};
 use crm_parse::Statement;
@@ -17,56 +19,56 @@ use std::alloc::Global;
 /// More leaves than these are more than memory can hold.
 const MOST_LEAVES: usize = 1_000_000_000;
 
-/// The line of the statement with the colocation at this place.
-fn colocation_line(place: usize, statements: &[Statement]) -> u32
-    ensures { result ≡ line_at colocation_count place statements.now }
+/// Whether the place is one of the first so many.
+fn is_among(place: Option<usize>, count: usize) -> bool
+    ensures { result ≡ is_closed_by place count }
 {
-    let mut left = place;
-    for statement in statements {
-        let count = colocation_count(&statement.form);
-        if left < count {
-            return statement.line;
-        }
-        left -= count;
+    match place {
+        Some(place) => place < count,
+        None => false,
     }
-    0
 }
 
-/// The line of the statement with the order at this place.
-fn order_line(place: usize, statements: &[Statement]) -> u32
-    ensures { result ≡ line_at order_count place statements.now }
+/// The cause, where the first loops are closed by the colocation at one place and the order at the other, and so many rules were added.
+fn closed_by(
+    colocation: Option<usize>,
+    order: Option<usize>,
+    colocations: usize,
+    orders: usize,
+) -> Option<ModelCause>
+    ensures { result ≡ closed_by colocation order colocations orders }
 {
-    let mut left = place;
-    for statement in statements {
-        let count = order_count(&statement.form);
-        if left < count {
-            return statement.line;
-        }
-        left -= count;
+    if is_among(colocation, colocations) {
+        Some(ModelCause::ColocationLoop)
+    } else if is_among(order, orders) {
+        Some(ModelCause::OrderLoop)
+    } else {
+        None
     }
-    0
 }
 
-/// Of the lines where the needs and the steps get their first loops, the lower one.
-fn earlier_loop(colocation: Option<u32>, order: Option<u32>) -> Option<ModelFault>
-    ensures { result ≡ earlier_loop colocation order }
+/// The fault of the statement with the colocation at one place or the order at the other, whichever comes first.
+fn fault_at(
+    colocation: Option<usize>,
+    order: Option<usize>,
+    statements: &[Statement],
+) -> Result<Option<ModelFault>, NoMemory>
+    ensures { IfOk result (λ fault. fault ≡ first_fault (closing_cause colocation order) [] statements.now) }
 {
-    let (line, cause) = match (colocation, order) {
-        (None, None) => return None,
-        (None, Some(line)) => (line, ModelCause::OrderLoop),
-        (Some(line), None) => (line, ModelCause::ColocationLoop),
-        (Some(line), Some(other)) => {
-            if line <= other {
-                (line, ModelCause::ColocationLoop)
-            } else {
-                (other, ModelCause::OrderLoop)
-            }
+    let mut colocations = 0;
+    let mut orders = 0;
+    for statement in statements {
+        colocations = sum(colocations, colocation_count(&statement.form))?;
+        orders = sum(orders, order_count(&statement.form))?;
+        if let Some(cause) = closed_by(colocation, order, colocations, orders) {
+            let line = statement.line;
+            return Ok(Some(ModelFault::At { line, cause }));
         }
-    };
-    Some(ModelFault::At { line, cause })
+    }
+    Ok(None)
 }
 
-/// The fault of the first statement with which the needs or the steps of a cluster have a loop.
+/// The fault of the first statement with which the needs or the steps of a cluster, which some statements say, have a loop.
 pub fn loop_fault(
     alloc: Global,
     cluster: &Cluster,
@@ -74,18 +76,13 @@ pub fn loop_fault(
 ) -> Result<Option<ModelFault>, NoMemory>
     requires joined { (col : Colocation) → Contains cluster.now.colocations col → JoinsLeaves cluster.now col }
     requires ordered { (o : Order) → Contains cluster.now.orders o → OrdersSteps cluster.now o }
-    ensures { IfOk result (λ fault. FirstLoop cluster.now statements.now fault) }
+    ensures { IfOk result (λ fault. (d : Directory) (leaves : List Leaf) → cluster.now ≡ cluster_of d leaves statements.now
+        → fault ≡ first_fault (loop_cause d leaves) [] statements.now) }
 {
     if cluster.leaves.len() > MOST_LEAVES {
         return Err(NoMemory);
     }
-    let colocation = match colocation_loop(alloc, cluster)? {
-        Some(place) => Some(colocation_line(place, statements)),
-        None => None,
-    };
-    let order = match order_loop(alloc, cluster)? {
-        Some(place) => Some(order_line(place, statements)),
-        None => None,
-    };
-    Ok(earlier_loop(colocation, order))
+    let colocation = colocation_loop(alloc, cluster)?;
+    let order = order_loop(alloc, cluster)?;
+    fault_at(colocation, order, statements)
 }

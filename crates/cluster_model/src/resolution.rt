@@ -1,5 +1,6 @@
 ghost use Rattle.std.specs.Prelude.{◌≡◌, IfOk};
-ghost use Rattle.cluster_model.specs.Resolution.{cluster_of, Resolves};
+ghost use Rattle.faults.specs.Reading.{Gives};
+ghost use Rattle.cluster_model.specs.Resolution.{cluster_of, resolution_of};
 
 use crate::ModelFault;
 use crate::checks::first_fault;
@@ -49,7 +50,7 @@ fn cluster_of(
 /// `ColocationLoop` and `OrderLoop` where the rules so far need or await each other in a circle. Where a statement has several causes, the
 /// first in this order counts. `NoMemory` comes when memory runs out.
 pub fn resolve(alloc: Global, crm: &Crm, leaves: &Leaves) -> Result<Cluster, ModelFault>
-    ensures { Resolves leaves.now crm.now.statements result }
+    ensures { Gives (λ cluster. cluster) result (resolution_of leaves.now crm.now.statements) }
 {
     let statements = crm.statements.as_slice();
     let directory = directory_of(alloc, leaves, statements)?;

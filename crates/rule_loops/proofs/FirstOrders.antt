@@ -78,7 +78,7 @@ module _ (c : Cluster) where
       ] in
       rw (← m.gives) up
 
-  own_free : (positions : ℕ) → NoLoopOfEdges positions (step_edges (with_orders c 0))
+  pub own_free : (positions : ℕ) → NoLoopOfEdges positions (step_edges (with_orders c 0))
   own_free positions = none_where_rising positions (step_edges (with_orders c 0)) (λ x. x) own_rise
 
   -- the edges of the first orders, and then those of the others

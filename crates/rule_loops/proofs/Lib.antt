@@ -6,3 +6,4 @@ pub mod LinkLoops
 pub mod FirstOrders
 pub mod OneFirst
 pub mod FromValid
+pub mod LoopTests

@@ -85,7 +85,7 @@ leaves_rise k n e h =
     let m = of_map leaf_edge (range_with_len 0 n) e (contains_front k (map leaf_edge (range_with_len 0 n)) e h) in
     rw (← m.gives) (omega arith)
 
-leaves_free : (positions k n : ℕ) → HasNoLoop positions (take k (map leaf_edge (range_with_len 0 n)))
+pub leaves_free : (positions k n : ℕ) → HasNoLoop positions (take k (map leaf_edge (range_with_len 0 n)))
 leaves_free positions k n = none_where_rising positions (take k (map leaf_edge (range_with_len 0 n))) (λ x. x) (leaves_rise k n)
 
 module _ (c : Cluster) (joined : AllJoin c) where

@@ -19,7 +19,7 @@ use Rattle.rule_loops.proofs.LinkLoops.{loop_of_steps, steps_loop}
 use Rattle.lemmas.proofs.Members.{contains_shorter, in_filter, in_flat, in_map, of_filter, of_flat, of_map}
 use Rattle.rule_loops.proofs.NeedLoops.{first_edges, first_joined, loop_of_needs, needs_loop}
 
-needs_apart : (c : Cluster) → NeedsHaveLoop c → NeedsHaveNoLoop c → ⊥
+pub needs_apart : (c : Cluster) → NeedsHaveLoop c → NeedsHaveNoLoop c → ⊥
 needs_apart c l free = both_ways _ (free l.decision) l.needed
 
 pub steps_apart : (c : Cluster) → StepsHaveLoop c → HasNoLoop c → ⊥
@@ -27,7 +27,7 @@ steps_apart c l free = both_ways _ (free l.step) l.reached
 
 module _ (c : Cluster) (joined : AllJoin c) where
   -- more colocations keep a loop
-  needs_stay : (j k : ℕ) → j ≤ k → NeedsHaveLoop (with_colocations c j) → NeedsHaveLoop (with_colocations c k)
+  pub needs_stay : (j k : ℕ) → j ≤ k → NeedsHaveLoop (with_colocations c j) → NeedsHaveLoop (with_colocations c k)
   needs_stay j k le l =
       let fewer : List Edge = take (length c.leaves + j) (need_edges c) in
       let more : List Edge = take (length c.leaves + k) (need_edges c) in
@@ -39,7 +39,7 @@ module _ (c : Cluster) (joined : AllJoin c) where
       (2 * length c.leaves) before) in
       needs_loop (with_colocations c k) (first_joined c joined k) after
 
-  all_colocations : NeedsHaveLoop (with_colocations c (length c.colocations)) → NeedsHaveLoop c
+  pub all_colocations : NeedsHaveLoop (with_colocations c (length c.colocations)) → NeedsHaveLoop c
   all_colocations l = subst (λ (cs : List Colocation). NeedsHaveLoop record c { colocations = cs }) (take-length c.colocations) l
 
   some_needs : (k : ℕ) → ClosesNeeds c k → NeedsHaveLoop c
@@ -79,13 +79,13 @@ more_edges c j k le e h =
 
 module _ (c : Cluster) (ordered : AllOrder c) where
   -- more orders keep a loop
-  steps_stay : (j k : ℕ) → j ≤ k → StepsHaveLoop (with_orders c j) → StepsHaveLoop (with_orders c k)
+  pub steps_stay : (j k : ℕ) → j ≤ k → StepsHaveLoop (with_orders c j) → StepsHaveLoop (with_orders c k)
   steps_stay j k le l =
       steps_loop (with_orders c k) (first_ordered c ordered k)
       (loop_with_more (step_edges (with_orders c j)) (step_edges (with_orders c k)) (more_edges c j k le) (4 * length c.leaves)
       (loop_of_steps (with_orders c j) (first_ordered c ordered j) l))
 
-  all_orders_loop : StepsHaveLoop (with_orders c (length c.orders)) → StepsHaveLoop c
+  pub all_orders_loop : StepsHaveLoop (with_orders c (length c.orders)) → StepsHaveLoop c
   all_orders_loop l = subst (λ (os : List Order). StepsHaveLoop record c { orders = os }) (take-length c.orders) l
 
   some_steps : (k : ℕ) → ClosesSteps c k → StepsHaveLoop c

@@ -1,12 +1,13 @@
 -- The first rule with which the rules of a cluster have a loop (rule of this project).
-use Rattle.std.specs.Prelude.{◌≡◌, ◌≢◌, ◌<◌, ◌+◌, ◌*◌, ℕ, true, Option, Some, None, length, take, Contains}
+use Rattle.std.specs.Prelude.{◌≡◌, ◌≢◌, ◌<◌, ◌+◌, ◌*◌, ℕ, nat_lt, Bool, true, false, Option, Some, None, length, take, Contains}
+use Rattle.std.specs.List.{list_any}
 use Rattle.cluster_types.specs.declared.cluster.Cluster.{Cluster}
 use Rattle.cluster_types.specs.declared.leaf.Op.TheVariants.{Monitor}
 use Rattle.cluster_types.specs.declared.placement.Decision.{Decision}
 use Rattle.cluster_types.specs.declared.rules.Colocation.{Colocation}
 use Rattle.cluster_types.specs.declared.rules.Order.{Order}
 use Rattle.cluster_types.specs.Decisions.{NeedsHaveNoLoop, all_decisions, needs_through}
-use Rattle.cluster_types.specs.Numbers.{HasNoLoop, StepOf, reaches}
+use Rattle.cluster_types.specs.Numbers.{HasNoLoop, StepOf, links, reaches}
 
 -- both leaves of the colocation are there
 pub record JoinsLeaves (c : Cluster) (col : Colocation) : Type 0 where
@@ -33,6 +34,14 @@ with_colocations c count = record c { colocations = take count c.colocations }
 -- the cluster with so many of its orders, the first ones
 abbrev pub with_orders : Cluster → ℕ → Cluster
 with_orders c count = record c { orders = take count c.orders }
+
+-- some decision needs itself
+abbrev pub has_need_loop : Cluster → Bool
+has_need_loop c = list_any (λ d. needs_through c (all_decisions c) (length (all_decisions c)) d d) (all_decisions c)
+
+-- some step is reached from itself: a step with which a link begins
+abbrev pub has_step_loop : Cluster → Bool
+has_step_loop c = list_any (λ l. reaches c (4 * length c.leaves) l.before l.before) (links c)
 
 -- some decision needs itself
 pub record NeedsHaveLoop (c : Cluster) : Type 0 where
@@ -65,3 +74,8 @@ IsFirstColocation c (Some place) = ClosesNeeds c place
 abbrev pub IsFirstOrder : Cluster → Option ℕ → Type 0
 IsFirstOrder c None = HasNoLoop c
 IsFirstOrder c (Some place) = ClosesSteps c place
+
+-- the first loop is closed among so many rules
+abbrev pub is_closed_by : Option ℕ → ℕ → Bool
+is_closed_by None count = false
+is_closed_by (Some place) count = nat_lt place count

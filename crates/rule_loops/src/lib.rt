@@ -13,5 +13,7 @@ mod pushing;
 mod laws;
 
 pub use colocations::{colocation_loop, joins_leaves};
-pub use laws::{first_colocation_is_one, first_order_is_one};
+pub use laws::{
+    first_colocation_is_one, first_order_is_one, first_rules_have_the_loop, tests_find_loops,
+};
 pub use orders::{link_edges, order_loop, orders_steps};

@@ -1,4 +1,4 @@
--- No text has the fault that memory was refused: it is read, or has a fault at a line.
+-- No text has the fault that memory ran out: it is read, or has a fault at a line.
 use Rattle.std.proofs.Common.{◌≡◌, ◌≢◌, ℕ, ◌+◌, nat_lt, not, Bool, true, false, if◌then◌else◌, Option, Some, None, List, [], ◌∷◌, ◌++◌, length, codes, Result, Ok, Err, ◌⊎◌, inl, inr, refl, sym, subst}
 use Rattle.std.specs.List.{list_any}
 use Rattle.std.specs.Str.{is_utf8}
@@ -7,7 +7,7 @@ use Rattle.lemmas.proofs.Booleans.{by_test}
 use Rattle.crm_lex.specs.declared.fault.LexCause.{LexCause}
 use Rattle.crm_lex.specs.declared.fault.LexCause.TheVariants.{ControlByte, LineTooLong, NotUtf8, OpenQuote}
 use Rattle.faults.specs.declared.fault.Fault.{Fault}
-use Rattle.faults.specs.Reading.{faulting, unless, ◌>>=◌}
+use Rattle.faults.specs.Reading.{faulting, on_line, unless, ◌>>=◌}
 use Rattle.crm_lex.specs.declared.line.Line.{Line}
 use Rattle.crm_lex.specs.LogicalLines.{all_byte_faults, byte_faults, content_length, fault_if, faults, is_control, line_text}
 use Rattle.crm_lex.specs.RawLines.{content, raw_lines}
@@ -25,25 +25,30 @@ use Rattle.clone_expand.specs.declared.fault.ExpandCause.{ExpandCause}
 use Rattle.clone_expand.specs.Expansion.{expansion_of, leaves_with_spans}
 use Rattle.clone_expand.specs.Faults as expanding
 use Rattle.clone_expand.specs.Faults.{fault_of, kinds_of, nothing_seen, seen_after}
+use Rattle.clone_expand.specs.declared.kinds.Kind.{Kind}
+use Rattle.clone_expand.specs.declared.leaves.Leaves.{Leaves}
+use Rattle.clone_expand.specs.declared.seen.Seen.{Seen}
 use Rattle.cluster_model.specs.declared.fault.ModelCause.{ModelCause}
-use Rattle.cluster_model.proofs.SomeResolution.{some_resolution}
+use Rattle.cluster_model.specs.Directories.{directory_of}
+use Rattle.cluster_model.specs.FirstFaults as modelling
+use Rattle.cluster_model.specs.Resolution.{cause_after, cluster_of, resolution_of}
 use Rattle.cluster_types.specs.declared.cluster.Cluster.{Cluster}
 use Rattle.cluster_types.specs.Journals.{moment_of}
 use Rattle.op_history.specs.declared.fault.ResultCause.TheVariants.{TooManyResults}
-use Rattle.op_history.specs.declared.fault.ResultFault.TheVariants as results
 use Rattle.op_history.specs.declared.fault.StatusCause.TheVariants.{Repeated}
-use Rattle.op_history.specs.declared.fault.StatusFault.TheVariants as status
+use Rattle.op_history.specs.Causes.{result_cause, status_cause}
 use Rattle.op_history.specs.FirstJournal as journals
 use Rattle.op_history.specs.FirstJournal.{is_repeated, status_of}
 use Rattle.op_history.specs.Results as answers
 use Rattle.op_history.specs.Results.{answer_of, moment_after, most_results, results_of}
 use Rattle.op_history.specs.Status.{told_of}
 use Rattle.faults.specs.declared.fault.Fault.TheVariants.{At, NoMemory}
+use Rattle.sim_core.specs.declared.cause.InputCause.{InputCause}
 use Rattle.sim_core.specs.declared.cause.InputCause.TheVariants as cause
 use Rattle.sim_core.specs.declared.reading.Configuration.{Configuration}
 use Rattle.sim_core.specs.declared.reading.Head.{Head}
 use Rattle.sim_core.specs.declared.reading.Input.{Input}
-use Rattle.sim_core.specs.Reading.{IsFaulty, IsReadAfter, IsReadOf, IsReadable, configuration_lines, configuration_of, faulting_so, following_lines, head_of, result_fault, status_fault, status_lines, with_cluster, with_results}
+use Rattle.sim_core.specs.Reading.{IsFaulty, IsReadable, configuration_lines, configuration_of, following_lines, head_of, input_of, status_lines, with_cluster, with_results}
 
 -- read, or a fault at a line
 abbrev pub Stands : {A : Type 0} → Result A (Fault InputCause) → Type 0
@@ -60,10 +65,10 @@ stands_bind (Err NoMemory) next h all = absurd h
 module _ {S L F : Type 0} (Holds : Result S F → Type 0) (step : S → L → Result S F) (run : S → List L → Result S F)
     (ok : (s : S) → Holds (Ok s))
     (none : (s : S) → run s [] ≡ Ok s)
-    (some : (s : S) (l : L) (ls : List L) → run s (l ∷ ls) ≡ elim (step s l) [ Err fault ↦ Err fault | Ok more ↦ run more ls ])
+    (some : (s : S) (l : L) (ls : List L) → run s (l ∷ ls) ≡ (step s l >>= λ more. run more ls))
     (each : (s : S) (l : L) → Holds (step s l)) where
   go_on : (read : Result S F) (ls : List L) → Holds read → ((more : S) → Holds (run more ls))
-      → Holds (elim read [ Err fault ↦ Err fault | Ok more ↦ run more ls ])
+      → Holds (read >>= λ more. run more ls)
   go_on (Ok more) ls h all = all more
   go_on (Err fault) ls h all = h
 
@@ -71,31 +76,37 @@ module _ {S L F : Type 0} (Holds : Result S F → Type 0) (step : S → L → Re
   all_hold s [] = subst Holds (sym (none s)) (ok s)
   all_hold s (l ∷ ls) = subst Holds (sym (some s l ls)) (go_on (step s l) ls (each s l) (λ more. all_hold more ls))
 
--- the words of a text
-abbrev pub FirstAt : Option (Fault LexCause) → Type 0
-FirstAt None = Unit {0}
-FirstAt (Some (At n why)) = Unit {0}
-FirstAt (Some NoMemory) = ⊥
+-- what has no fault, or one at a line
+abbrev pub StandsAt : {C : Type 0} → Option (Fault C) → Type 0
+StandsAt None = Unit {0}
+StandsAt (Some (At n why)) = Unit {0}
+StandsAt (Some NoMemory) = ⊥
 
+unless_stands : {A C : Type 0} (cause_of : C → InputCause) (fault : Option (Fault C)) (given : A) → StandsAt fault → Stands (faulting cause_of (unless fault given))
+unless_stands cause_of None given h = tt
+unless_stands cause_of (Some (At n why)) given h = tt
+unless_stands cause_of (Some NoMemory) given h = absurd h
+
+-- the words of a text
 -- the first of some faults and of more
-first_of : (some more : List (Fault LexCause)) → FirstAt (lines.first_fault some) → FirstAt (lines.first_fault more) → FirstAt (lines.first_fault (some ++ more))
+first_of : (some more : List (Fault LexCause)) → StandsAt (lines.first_fault some) → StandsAt (lines.first_fault more) → StandsAt (lines.first_fault (some ++ more))
 first_of [] more one other = other
 first_of (fault ∷ some) more one other = one
 
-first_if : (test : Bool) (n : ℕ) (why : LexCause) → FirstAt (lines.first_fault (fault_if test n why))
+first_if : (test : Bool) (n : ℕ) (why : LexCause) → StandsAt (lines.first_fault (fault_if test n why))
 first_if true n why = tt
 first_if false n why = tt
 
-first_bytes : (n : ℕ) (line : List ℕ) → FirstAt (lines.first_fault (byte_faults n line))
+first_bytes : (n : ℕ) (line : List ℕ) → StandsAt (lines.first_fault (byte_faults n line))
 first_bytes n line =
     first_of (fault_if (not (is_utf8 (content line))) n NotUtf8) (fault_if (list_any is_control (content line)) n ControlByte)
     (first_if (not (is_utf8 (content line))) n NotUtf8) (first_if (list_any is_control (content line)) n ControlByte)
 
-first_all : (n : ℕ) (group : List (List ℕ)) → FirstAt (lines.first_fault (all_byte_faults n group))
+first_all : (n : ℕ) (group : List (List ℕ)) → StandsAt (lines.first_fault (all_byte_faults n group))
 first_all n [] = tt
 first_all n (line ∷ group) = first_of (byte_faults n line) (all_byte_faults (n + 1) group) (first_bytes n line) (first_all (n + 1) group)
 
-first_group : (n : ℕ) (group : List (List ℕ)) → FirstAt (lines.first_fault (faults n group))
+first_group : (n : ℕ) (group : List (List ℕ)) → StandsAt (lines.first_fault (faults n group))
 first_group n [] = tt
 first_group n (line ∷ group) =
     let all = line ∷ group in
@@ -106,18 +117,13 @@ first_group n (line ∷ group) =
     (first_of (byte_faults n line) (fault_if quote_open n OpenQuote ++ others) (first_bytes n line)
     (first_of (fault_if quote_open n OpenQuote) others (first_if quote_open n OpenQuote) (first_all (n + 1) group)))
 
-first_text : (n : ℕ) (groups : List (List (List ℕ))) → FirstAt (lines.first_fault (faults_from n groups))
+first_text : (n : ℕ) (groups : List (List (List ℕ))) → StandsAt (lines.first_fault (faults_from n groups))
 first_text n [] = tt
 first_text n (group ∷ groups) =
     first_of (faults n group) (faults_from (n + length group) groups) (first_group n group) (first_text (n + length group) groups)
 
-unless_first : (fault : Option (Fault LexCause)) (rows : List Line) → FirstAt fault → Stands (faulting cause.Words (unless fault rows))
-unless_first None rows h = tt
-unless_first (Some (At n why)) rows h = tt
-unless_first (Some NoMemory) rows h = absurd h
-
 words_stand : (text : List ℕ) → Stands (faulting cause.Words (reads text))
-words_stand text = unless_first (lines.first_fault (faults_from 1 (raw_lines text))) (rows_from 1 (raw_lines text)) (first_text 1 (raw_lines text))
+words_stand text = unless_stands cause.Words (lines.first_fault (faults_from 1 (raw_lines text))) (rows_from 1 (raw_lines text)) (first_text 1 (raw_lines text))
 
 -- the sections
 unless_misplaced : (wrong : Option ℕ) (found : SectionMarks) → Stands (faulting cause.Statements (marks.unless wrong found))
@@ -139,61 +145,55 @@ statements_stand found =
     (statements.with_lines [] found) drafts
 
 -- the leaves
-abbrev pub FirstExpands : Option (Fault ExpandCause) → Type 0
-FirstExpands None = Unit {0}
-FirstExpands (Some (At n why)) = Unit {0}
-FirstExpands (Some NoMemory) = ⊥
+expands_at : (line : ℕ) (found : Option ExpandCause) (more : Option (Fault ExpandCause)) → StandsAt more → StandsAt (expanding.fault_at line found more)
+expands_at line (Some why) more h = tt
+expands_at line None more h = h
 
-module _ {S : Type 0} (cause : S → Statement → Option ExpandCause) (after : S → Statement → S) (first : S → List Statement → Option (Fault ExpandCause))
-    (none : (s : S) → first s [] ≡ None)
-    (some : (s : S) (l : Statement) (ls : List Statement) → first s (l ∷ ls) ≡ expanding.fault_at l.line (cause s l) (first (after s l) ls)) where
-  next_expands : (line : ℕ) (found : Option ExpandCause) (more : Option (Fault ExpandCause)) → FirstExpands more → FirstExpands (expanding.fault_at line found more)
-  next_expands line (Some why) more h = tt
-  next_expands line None more h = h
-
-  first_expands : (s : S) (ls : List Statement) → FirstExpands (first s ls)
-  first_expands s [] = subst (λ (o : Option (Fault ExpandCause)). FirstExpands o) (sym (none s)) tt
-  first_expands s (l ∷ ls) =
-      subst (λ (o : Option (Fault ExpandCause)). FirstExpands o) (sym (some s l ls)) (next_expands l.line (cause s l) (first (after s l) ls) (first_expands (after s l) ls))
-
-unless_expands : (fault : Option (Fault ExpandCause)) (found : List Statement) → FirstExpands fault → Stands (faulting cause.Leaves (unless fault (leaves_with_spans found)))
-unless_expands None found h = tt
-unless_expands (Some (At n why)) found h = tt
-unless_expands (Some NoMemory) found h = absurd h
+first_expands : (kinds : List (List ℕ × Kind)) (seen : Seen) (ls : List Statement) → StandsAt (expanding.first_fault kinds seen ls)
+first_expands kinds seen [] = tt
+first_expands kinds seen (l ∷ ls) =
+    expands_at l.line (expanding.cause_of kinds seen l.form) (expanding.first_fault kinds (seen_after seen l.form) ls) (first_expands kinds (seen_after seen l.form) ls)
 
 leaves_stand : (found : List Statement) → Stands (faulting cause.Leaves (expansion_of found))
 unfolding fault_of
-leaves_stand found =
-    let kinds = kinds_of found in
-    unless_expands (fault_of found) found
-    (first_expands (λ s l. expanding.cause_of kinds s l.form) (λ s l. seen_after s l.form)
-    (expanding.first_fault kinds) (λ s. refl) (λ s l ls. refl) nothing_seen found)
+leaves_stand found = unless_stands cause.Leaves (fault_of found) (leaves_with_spans found) (first_expands (kinds_of found) nothing_seen found)
 
 -- the cluster
-model_stands : (read : Result Cluster (Fault ModelCause)) → read ≢ Err NoMemory → Stands (faulting cause.Cluster read)
-model_stands (Ok cluster) h = tt
-model_stands (Err (At line why)) h = tt
-model_stands (Err NoMemory) h = absurd (h refl)
+model_at : (line : ℕ) (found : Option ModelCause) (more : Option (Fault ModelCause)) → StandsAt more → StandsAt (modelling.fault_at line found more)
+model_at line (Some why) more h = tt
+model_at line None more h = h
+
+first_model : (cause : List Statement → Statement → Option ModelCause) (before ls : List Statement) → StandsAt (modelling.first_fault cause before ls)
+first_model cause before [] = tt
+first_model cause before (l ∷ ls) = model_at l.line (cause before l) (modelling.first_fault cause (before ++ l ∷ []) ls) (first_model cause (before ++ l ∷ []) ls)
+
+cluster_stands : (leaves : Leaves) (found : List Statement) → Stands (faulting cause.Cluster (resolution_of leaves found))
+unfolding resolution_of
+cluster_stands leaves found =
+    let d = directory_of leaves found in
+    unless_stands cause.Cluster (modelling.first_fault (cause_after d leaves.leaves) [] found) (cluster_of d leaves.leaves found)
+    (first_model (cause_after d leaves.leaves) [] found)
 
 -- the status
-status_stands : (c : Cluster) (found : List Line) → Stands (faulting_so status_fault (status_of c found))
+status_stands : (c : Cluster) (found : List Line) → Stands (faulting cause.Status (status_of c found))
 status_stands c found =
-    let told = all_hold (λ r. Stands (faulting_so status_fault r)) (journals.with_line c) (journals.with_lines c) (λ s. tt) (λ s. refl) (λ s l ls. refl)
-    (λ s l. by_result (λ r. Stands (faulting_so status_fault (journals.with_told s l.line r)))
-    (λ x. by_test (λ test. Stands (faulting_so status_fault (if test then Err (status.At l.line Repeated) else Ok (s ++ x ∷ [])))) (is_repeated s x) tt tt) (λ why. tt) (told_of c l.words)) [] found in
-    by_result (λ r. Stands (faulting_so status_fault r) → Stands (faulting_so status_fault (journals.read_of c r))) (λ x h. tt) (λ fault h. h)
+    let told = all_hold (λ r. Stands (faulting cause.Status r)) (journals.with_line c) (journals.with_lines c) (λ s. tt) (λ s. refl) (λ s l ls. refl)
+    (λ s l. by_result (λ r. Stands (faulting cause.Status (faulting status_cause (on_line l.line r) >>= journals.with_told s l.line)))
+    (λ x. by_test (λ test. Stands (faulting cause.Status (if test then Err (At l.line Repeated) else Ok (s ++ x ∷ [])))) (is_repeated s x) tt tt) (λ why. tt) (told_of c l.words)) [] found in
+    by_result (λ r. Stands (faulting cause.Status r) → Stands (faulting cause.Status (r >>= (λ told. Ok (journals.journal_of c told))))) (λ x h. tt) (λ fault h. h)
     (journals.with_lines c [] found) told
 
 -- the results
-results_stand : (c : Cluster) (start : ℕ) (found : List Line) → Stands (faulting_so result_fault (results_of c start found))
+results_stand : (c : Cluster) (start : ℕ) (found : List Line) → Stands (faulting cause.Results (results_of c start found))
 results_stand c start found =
-    all_hold (λ r. Stands (faulting_so result_fault r)) (answers.with_result c start) (answers.with_results c start) (λ s. tt) (λ s. refl) (λ s l ls. refl)
+    all_hold (λ r. Stands (faulting cause.Results r)) (answers.with_result c start) (answers.with_results c start) (λ s. tt) (λ s. refl) (λ s l ls. refl)
     (λ s l. by_test
-    (λ test. Stands (faulting_so result_fault (answers.with_answer s l.line
-    (if test then answers.on_line l.line (answer_of c (moment_after start s) l.words) else Err (results.At l.line TooManyResults)))))
+    (λ test. Stands (faulting cause.Results (
+    (if test then faulting result_cause (on_line l.line (answer_of c (moment_after start s) l.words)) else Err (At l.line TooManyResults))
+    >>= (λ given. Ok (s ++ record { line = l.line; answer = given } ∷ [])))))
     (nat_lt (length s) most_results)
-    (by_result (λ r. Stands (faulting_so result_fault (answers.with_answer s l.line (answers.on_line l.line r)))) (λ x. tt) (λ why. tt)
-    (answer_of c (moment_after start s) l.words))
+    (by_result (λ r. Stands (faulting cause.Results (faulting result_cause (on_line l.line r) >>= (λ given. Ok (s ++ record { line = l.line; answer = given } ∷ [])))))
+    (λ x. tt) (λ why. tt) (answer_of c (moment_after start s) l.words))
     tt) [] found
 
 -- the whole text
@@ -207,36 +207,31 @@ configuration_stands text =
 
 head_stands : (crm : Crm) (cluster : Cluster) (found : List Line) → Stands (head_of crm cluster found)
 unfolding head_of
-head_stands crm cluster found = stands_bind (faulting_so status_fault (status_of cluster found)) _ (status_stands cluster found) (λ journal. tt)
+head_stands crm cluster found = stands_bind (faulting cause.Status (status_of cluster found)) _ (status_stands cluster found) (λ journal. tt)
 
 with_results_stands : (head : Head) (found : List Line) → Stands (with_results head found)
 unfolding with_results
 with_results_stands head found =
     let start = moment_of head.journal.events in
-    stands_bind (faulting_so result_fault (results_of head.cluster start found)) _ (results_stand head.cluster start found) (λ given. tt)
+    stands_bind (faulting cause.Results (results_of head.cluster start found)) _ (results_stand head.cluster start found) (λ given. tt)
 
 with_cluster_stands : (found : Configuration) (cluster : Cluster) → Stands (with_cluster with_results found cluster)
 with_cluster_stands found cluster =
     stands_bind (head_of found.crm cluster (status_lines found.marks found.lines)) _ (head_stands found.crm cluster (status_lines found.marks found.lines))
     (λ head. with_results_stands head (following_lines found.marks found.lines))
 
-either : (text : List ℕ) (read : Result Input (Fault InputCause)) → IsReadAfter with_results (configuration_of sections_of text) read → Stands read → IsReadable text ⊎ IsFaulty text
+input_stands : (text : List ℕ) → Stands (input_of text)
+unfolding input_of
+input_stands text =
+    stands_bind (configuration_of sections_of text) _ (configuration_stands text) (λ found.
+    stands_bind (faulting cause.Cluster (resolution_of found.leaves found.crm.statements)) _ (cluster_stands found.leaves found.crm.statements) (λ cluster.
+    with_cluster_stands found cluster))
+
+either : (text : List ℕ) (read : Result Input (Fault InputCause)) → input_of text ≡ read → Stands read → IsReadable text ⊎ IsFaulty text
 either text (Ok input) r h = inl (record { whole = input; reads = r })
 either text (Err (At line why)) r h = inr (record { line = line; why = why; fault = r })
 either text (Err NoMemory) r h = absurd h
 
-by_configuration : (text : List ℕ) (found : Result Configuration (Fault InputCause)) → configuration_of sections_of text ≡ found → Stands found → IsReadable text ⊎ IsFaulty text
-by_configuration text (Err (At line why)) e h =
-    inr (record { line = line; why = why; fault = subst (λ (f : Result Configuration (Fault InputCause)). IsReadAfter with_results f (Err (At line why))) (sym e) refl })
-by_configuration text (Err NoMemory) e h = absurd h
-by_configuration text (Ok found) e h =
-    let made = some_resolution found.leaves found.crm.statements in
-    let after = faulting cause.Cluster made.resolution >>= with_cluster with_results found in
-    let one : IsReadOf with_results found after = record { resolution = made.resolution; resolves = made.resolves; goes_on = refl } in
-    let read : IsReadAfter with_results (configuration_of sections_of text) after = subst (λ (f : Result Configuration (Fault InputCause)). IsReadAfter with_results f after) (sym e) one in
-    either text after read
-    (stands_bind (faulting cause.Cluster made.resolution) (with_cluster with_results found) (model_stands made.resolution made.stands) (λ cluster. with_cluster_stands found cluster))
-
 -- each text is read or has a fault
 pub read_or_faulty : (text : List ℕ) → IsReadable text ⊎ IsFaulty text
-read_or_faulty text = by_configuration text (configuration_of sections_of text) refl (configuration_stands text)
+read_or_faulty text = either text (input_of text) refl (input_stands text)

@@ -1,7 +1,6 @@
 -- A whole input.
 pub mod FewLines
 pub mod Marks
-pub mod Readings
 pub mod OneReading
 pub mod Faults
 pub mod ValidInput

@@ -6,8 +6,7 @@ use Rattle.crm_parse.specs.declared.statement.Crm.{Crm}
 use Rattle.crm_parse.specs.Marks.{sections_of}
 use Rattle.crm_parse.specs.Statements.{statements_of}
 use Rattle.clone_expand.specs.Expansion.{expansion_of}
-use Rattle.cluster_model.specs.declared.fault.ModelCause.{ModelCause}
-use Rattle.cluster_model.specs.Resolution.{ResolvesTo}
+use Rattle.cluster_model.specs.Resolution.{resolution_of}
 use Rattle.cluster_model.proofs.ValidCluster.{resolved_valid}
 use Rattle.cluster_types.specs.declared.cluster.Cluster.{Cluster}
 use Rattle.cluster_types.specs.Journals.{Orderly, in_flight, moment_of}
@@ -16,13 +15,13 @@ use Rattle.op_history.specs.FirstJournal.{status_of}
 use Rattle.op_history.specs.Results.{results_of}
 use Rattle.op_history.proofs.StatusJournals.{journal_idle, journal_orderly}
 use Rattle.faults.specs.declared.fault.Fault.{Fault}
-use Rattle.faults.specs.Reading.{Gives, faulting, ◌>>=◌}
+use Rattle.faults.specs.Reading.{faulting, ◌>>=◌}
 use Rattle.sim_core.specs.declared.cause.InputCause.{InputCause}
 use Rattle.sim_core.specs.declared.cause.InputCause.TheVariants as cause
 use Rattle.sim_core.specs.declared.reading.Configuration.{Configuration}
 use Rattle.sim_core.specs.declared.reading.Head.{Head}
 use Rattle.sim_core.specs.declared.reading.Input.{Input}
-use Rattle.sim_core.specs.Reading.{IsReadAfter, Reads, configuration_lines, configuration_of, faulting_so, following_lines, head_of, result_fault, status_fault, status_lines, with_cluster, with_results}
+use Rattle.sim_core.specs.Reading.{Reads, configuration_lines, configuration_of, following_lines, head_of, input_of, status_lines, with_cluster, with_results}
 
 -- a step that was passed: what it gave, and what the steps behind it give
 record IsPassed {A B F : Type 0} (step : Result A F) (next : A → Result B (Fault InputCause)) (end : B) : Type 0 where
@@ -34,11 +33,6 @@ passed : {A B C : Type 0} (cause_of : C → InputCause) (step : Result A (Fault 
     → faulting cause_of step >>= next ≡ Ok end → IsPassed step next end
 passed cause_of (Ok x) next end e = record { gave = x; is = refl; goes_on = e }
 passed cause_of (Err fault) next end e = absurd cc
-
-passed_so : {A B F : Type 0} (as_input : F → Fault InputCause) (step : Result A F) (next : A → Result B (Fault InputCause)) (end : B)
-    → faulting_so as_input step >>= next ≡ Ok end → IsPassed step next end
-passed_so as_input (Ok x) next end e = record { gave = x; is = refl; goes_on = e }
-passed_so as_input (Err fault) next end e = absurd cc
 
 -- a step that was passed, with faults of the input
 record IsPassedOn {A B : Type 0} (step : Result A (Fault InputCause)) (next : A → Result B (Fault InputCause)) (end : B) : Type 0 where
@@ -80,14 +74,14 @@ record IsHead (cluster : Cluster) (lines : List Line) (head : Head) : Type 0 whe
 head_made : (crm : Crm) (cluster : Cluster) (lines : List Line) (head : Head) → head_of crm cluster lines ≡ Ok head → IsHead cluster lines head
 unfolding head_of
 head_made crm cluster lines head e =
-    let journal = passed_so status_fault (status_of cluster lines) _ head e in
+    let journal = passed cause.Status (status_of cluster lines) _ head e in
     let made : head ≡ record { crm = crm; cluster = cluster; journal = journal.gave } = cc in
     rw made (record { same = refl; journal = journal.is })
 
 results_keep_head : (head : Head) (lines : List Line) (input : Input) → with_results head lines ≡ Ok input → input.head ≡ head
 unfolding with_results
 results_keep_head head lines input e =
-    let answers = passed_so result_fault (results_of head.cluster (moment_of head.journal.events) lines) _ input e in
+    let answers = passed cause.Results (results_of head.cluster (moment_of head.journal.events) lines) _ input e in
     let made : input ≡ record { head = head; results = answers.gave } = cc in
     rw made refl
 
@@ -99,64 +93,39 @@ made_of found cluster input e =
     let made = head_made found.crm cluster lines head.gave head.is in
     record { same = rw kept made.same; lines = lines; journal = rw kept made.journal }
 
--- what the steps give
-module _ (text : List ℕ) (found : Configuration) (cluster : Cluster) (input : Input) (e : configuration_of sections_of text ≡ Ok found)
-    (r : ResolvesTo found.leaves found.crm.statements (Ok cluster)) (w : with_cluster with_results found cluster ≡ Ok input) where
-  pub made_valid : IsValid input.head.cluster
-  made_valid =
-      let from = read_from text found e in
-      let made = made_of found cluster input w in
-      subst (λ (c : Cluster). IsValid c) (sym made.same)
-      (resolved_valid from.lines found.crm found.leaves cluster from.statements from.leaves r)
-
-  pub made_orderly : Orderly input.head.journal.events
-  made_orderly = let made = made_of found cluster input w in journal_orderly cluster made.lines input.head.journal made.journal
-
-  pub made_idle : in_flight input.head.journal.events ≡ []
-  made_idle = let made = made_of found cluster input w in journal_idle cluster made.lines input.head.journal made.journal
-
-pub ruleset inputs_made = (made_valid, made_idle)
-
--- what the last step returned
-pub orderly_where_made : (text : List ℕ) (found : Configuration) (cluster : Cluster) (read : Result Input (Fault InputCause))
-    → configuration_of sections_of text ≡ Ok found → ResolvesTo found.leaves found.crm.statements (Ok cluster)
-    → Gives (λ (i : Input). i) read (with_cluster with_results found cluster) → IfOk read (λ input. Orderly input.head.journal.events)
-orderly_where_made text found cluster (Ok input) e r w = made_orderly text found cluster input e r w
-orderly_where_made text found cluster (Err fault) e r w = tt
-
 -- the steps of a text that is read
 record IsStepped (text : List ℕ) (input : Input) : Type 0 where
   found : Configuration
   cluster : Cluster
   configuration : configuration_of sections_of text ≡ Ok found
-  resolves : ResolvesTo found.leaves found.crm.statements (Ok cluster)
+  resolves : resolution_of found.leaves found.crm.statements ≡ Ok cluster
   made : with_cluster with_results found cluster ≡ Ok input
 
-stepped : (text : List ℕ) (read : Result Configuration (Fault InputCause)) (input : Input) → configuration_of sections_of text ≡ read
-    → IsReadAfter with_results read (Ok input) → IsStepped text input
-stepped text (Err fault) input e r = absurd cc
-stepped text (Ok found) input e r =
-    let resolved = passed cause.Cluster r.resolution (with_cluster with_results found) input (sym r.goes_on) in
-    record {
-      found = found;
-      cluster = resolved.gave;
-      configuration = e;
-      resolves = subst (λ (m : Result Cluster (Fault ModelCause)). ResolvesTo found.leaves found.crm.statements m) resolved.is r.resolves;
-      made = resolved.goes_on;
-    }
+stepped : (text : List ℕ) (input : Input) → Reads text input → IsStepped text input
+unfolding input_of
+stepped text input r =
+    let found = passed_on (configuration_of sections_of text) _ input r in
+    let cluster = passed cause.Cluster (resolution_of found.gave.leaves found.gave.crm.statements) _ input found.goes_on in
+    record { found = found.gave; cluster = cluster.gave; configuration = found.is; resolves = cluster.is; made = cluster.goes_on }
 
 -- what is read is valid
 module _ (text : List ℕ) (input : Input) (r : Reads text input) where
   steps : IsStepped text input
-  steps = stepped text (configuration_of sections_of text) input refl r
+  steps = stepped text input r
+
+  made : IsMade steps.cluster input
+  made = made_of steps.found steps.cluster input steps.made
 
   pub cluster_valid : IsValid input.head.cluster
-  cluster_valid = made_valid text steps.found steps.cluster input steps.configuration steps.resolves steps.made
+  cluster_valid =
+      let from = read_from text steps.found steps.configuration in
+      subst (λ (c : Cluster). IsValid c) (sym made.same)
+      (resolved_valid from.lines steps.found.crm steps.found.leaves steps.cluster from.statements from.leaves steps.resolves)
 
   pub journal_ordered : Orderly input.head.journal.events
-  journal_ordered = made_orderly text steps.found steps.cluster input steps.configuration steps.resolves steps.made
+  journal_ordered = journal_orderly steps.cluster made.lines input.head.journal made.journal
 
   pub journal_rests : in_flight input.head.journal.events ≡ []
-  journal_rests = made_idle text steps.found steps.cluster input steps.configuration steps.resolves steps.made
+  journal_rests = journal_idle steps.cluster made.lines input.head.journal made.journal
 
 pub ruleset inputs_valid = (cluster_valid, journal_ordered, journal_rests)

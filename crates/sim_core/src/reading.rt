@@ -4,7 +4,7 @@ ghost use Rattle.std.specs.Prelude.{◌≡◌, ◌+◌, ◌<◌, ◌≤◌, ◌^
 ghost use Rattle.clone_expand.specs.Expansion.{expansion_of};
 ghost use Rattle.cluster_types.specs.Journals.{Orderly, in_flight, moment_of};
 ghost use Rattle.cluster_types.specs.Valid.{IsValid, KeepsLimits};
-ghost use Rattle.cluster_model.specs.Resolution.{Resolves};
+ghost use Rattle.cluster_model.specs.Resolution.{resolution_of};
 ghost use Rattle.crm_lex.specs.Reading.{reads};
 ghost use Rattle.crm_parse.specs.Marks.{sections_of};
 ghost use Rattle.crm_parse.specs.Statements.{statements_of};
@@ -12,13 +12,13 @@ ghost use Rattle.op_history.specs.FirstJournal.{status_of};
 ghost use Rattle.op_history.specs.Results.{results_of};
 ghost use Rattle.sim_core.specs.Answers.{most_bytes};
 ghost use Rattle.faults.specs.Reading.{Gives, faulting};
-ghost use Rattle.sim_core.specs.declared.cause.InputCause.TheVariants.{Leaves as OfLeaves, Statements as OfStatements, Words as OfWords};
-ghost use Rattle.sim_core.specs.Reading.{IsReading, configuration_of, faulting_so, head_of, result_fault, status_fault, with_cluster, with_results};
+ghost use Rattle.sim_core.specs.declared.cause.InputCause.TheVariants as cause;
+ghost use Rattle.sim_core.specs.Reading.{configuration_of, head_of, input_of, with_cluster, with_results};
 
 use crate::cause::InputCause;
-use crate::fault::{InputFault, result_fault, status_fault};
+use crate::fault::InputFault;
 use clone_expand::{Leaves, expand};
-use cluster_model::{ModelFault, resolve};
+use cluster_model::resolve;
 use cluster_types::{Cluster, Journal};
 use crm_lex::{Line, logical_lines};
 use crm_parse::{Crm, SectionMarks, parse, sections};
@@ -55,7 +55,7 @@ pub(crate) struct Configuration {
 #[tactic(auto, using(crate::proofs::FewLines::few_rows_read))]
 fn lines_of(alloc: Global, text: &[u8]) -> Result<Vec<Line>, InputFault>
     requires { length text.now ≤ most_bytes }
-    ensures lines { Gives (λ lines. lines.items) result (faulting OfWords (reads text.now)) }
+    ensures lines { Gives (λ lines. lines.items) result (faulting cause.Words (reads text.now)) }
     ensures few { IfOk result (λ lines. length lines.items < 2 ^ 32) }
 {
     logical_lines(alloc, text).map_err(|fault| fault.map(InputCause::Words))
@@ -64,7 +64,7 @@ fn lines_of(alloc: Global, text: &[u8]) -> Result<Vec<Line>, InputFault>
 #[tactic(auto, using(crate::proofs::Marks::in_order))]
 fn sections_in(lines: &[Line]) -> Result<SectionMarks, InputFault>
     requires { length lines.now < 2 ^ 32 }
-    ensures marks { Gives (λ marks. marks) result (faulting OfStatements (sections_of lines.now)) }
+    ensures marks { Gives (λ marks. marks) result (faulting cause.Statements (sections_of lines.now)) }
     ensures status { IfOk result (λ marks. marks.status_at ≤ marks.results_at) }
     ensures results { IfOk result (λ marks. marks.results_at ≤ marks.end) }
     ensures end { IfOk result (λ marks. marks.end ≡ length lines.now) }
@@ -84,13 +84,13 @@ fn lines_after(lines: &[Line], mark: u32, until: u32) -> &[Line]
 }
 
 fn statements_in(alloc: Global, lines: &[Line]) -> Result<Crm, InputFault>
-    ensures { Gives (λ crm. crm) result (faulting OfStatements (statements_of lines.now)) }
+    ensures { Gives (λ crm. crm) result (faulting cause.Statements (statements_of lines.now)) }
 {
     parse(alloc, lines).map_err(|fault| fault.map(InputCause::Statements))
 }
 
 fn leaves_in(alloc: Global, crm: &Crm) -> Result<Leaves, InputFault>
-    ensures given { Gives (λ leaves. leaves) result (faulting OfLeaves (expansion_of crm.now.statements)) }
+    ensures given { Gives (λ leaves. leaves) result (faulting cause.Leaves (expansion_of crm.now.statements)) }
     ensures leaves { IfOk result (λ leaves. expansion_of crm.now.statements ≡ Ok leaves) }
 {
     expand(alloc, crm).map_err(|fault| fault.map(InputCause::Leaves))
@@ -119,10 +119,10 @@ fn configuration_of(alloc: Global, text: &[u8]) -> Result<Configuration, InputFa
 
 fn status_in(alloc: Global, cluster: &Cluster, lines: &[Line]) -> Result<Journal, InputFault>
     requires { KeepsLimits cluster.now }
-    ensures journal { Gives (λ journal. journal) result (faulting_so status_fault (status_of cluster.now lines.now)) }
+    ensures journal { Gives (λ journal. journal) result (faulting cause.Status (status_of cluster.now lines.now)) }
     ensures moment { IfOk result (λ journal. moment_of journal.events < 2 ^ 40) }
 {
-    read_status(alloc, cluster, lines).map_err(status_fault)
+    read_status(alloc, cluster, lines).map_err(|fault| fault.map(InputCause::Status))
 }
 
 fn results_in(
@@ -133,9 +133,10 @@ fn results_in(
 ) -> Result<Listed<ResultLine>, InputFault>
     requires limits { KeepsLimits cluster.now }
     requires moment { moment_of journal.now.events < 2 ^ 40 }
-    ensures { Gives (λ results. results) result (faulting_so result_fault (results_of cluster.now (moment_of journal.now.events) lines.now)) }
+    ensures { Gives (λ results. results) result (faulting cause.Results (results_of cluster.now (moment_of journal.now.events) lines.now)) }
 {
-    let results = read_results(alloc, cluster, journal, lines).map_err(result_fault)?;
+    let results = read_results(alloc, cluster, journal, lines)
+        .map_err(|fault| fault.map(InputCause::Results))?;
     Ok(Listed::from(results))
 }
 
@@ -187,12 +188,23 @@ fn with_cluster(alloc: Global, found: Configuration, cluster: Cluster) -> Result
 
 /// The cluster that a configuration says.
 #[tactic(auto, using(cluster_model::proofs::Limits::limits_kept))]
-fn cluster_in(alloc: Global, found: &Configuration) -> Result<Cluster, ModelFault>
+fn cluster_in(alloc: Global, found: &Configuration) -> Result<Cluster, InputFault>
     requires { expansion_of found.now.crm.statements ≡ Ok found.now.leaves }
-    ensures resolved { Resolves found.now.leaves found.now.crm.statements result }
+    ensures cluster { Gives (λ cluster. cluster) result (faulting cause.Cluster (resolution_of found.now.leaves found.now.crm.statements)) }
     ensures limits { IfOk result (λ cluster. KeepsLimits cluster) }
 {
-    resolve(alloc, &found.crm, &found.leaves)
+    resolve(alloc, &found.crm, &found.leaves).map_err(|fault| fault.map(InputCause::Cluster))
+}
+
+/// All steps, one after the other.
+#[tactic(auto, unfolding(crate::specs::Reading::input_of))]
+fn input_of(alloc: Global, text: &[u8]) -> Result<Input, InputFault>
+    requires { length text.now ≤ most_bytes }
+    ensures { Gives (λ input. input) result (input_of text.now) }
+{
+    let found = configuration_of(alloc, text)?;
+    let cluster = cluster_in(alloc, &found)?;
+    with_cluster(alloc, found, cluster)
 }
 
 /// Reads a whole input of at most 16,777,216 bytes (crmsh manual, `configure`; the status, the results and the order of the steps
@@ -203,15 +215,13 @@ fn cluster_in(alloc: Global, found: &Configuration) -> Result<Cluster, ModelFaul
 /// that the reader of that step gives. `NoMemory` comes when memory runs out.
 ///
 /// What is read is valid: the cluster is, and the first journal is in order and has nothing in flight.
-#[tactic(auto, using(crate::proofs::Readings::readings, crate::proofs::ValidInput::inputs_made))]
+#[tactic(auto, using(crate::proofs::ValidInput::inputs_valid))]
 pub fn read_input(alloc: Global, text: &[u8]) -> Result<Input, InputFault>
     requires { length text.now ≤ most_bytes }
-    ensures read { IsReading text.now result }
+    ensures read { Gives (λ input. input) result (input_of text.now) }
     ensures valid { IfOk result (λ input. IsValid input.head.cluster) }
     ensures orderly { IfOk result (λ input. Orderly input.head.journal.events) }
     ensures idle { IfOk result (λ input. in_flight input.head.journal.events ≡ []) }
 {
-    let found = configuration_of(alloc, text)?;
-    let cluster = cluster_in(alloc, &found).map_err(|fault| fault.map(InputCause::Cluster))?;
-    with_cluster(alloc, found, cluster)
+    input_of(alloc, text)
 }

@@ -1,9 +1,12 @@
-use Rattle.std.proofs.Common.{◌≡◌, drop}
-use Rattle.cluster_model.specs.Checks.{fault_after, first_fault}
+use Rattle.std.proofs.Common.{◌≡◌, [], drop}
+use Rattle.cluster_model.specs.FirstFaults.{first_fault, sound_count}
+use Rattle.cluster_model.specs.Resolution.{own_cause}
+use Rattle.cluster_model.proofs.Passes.{fault_after}
 use Rattle.cluster_model.proofs.checks.first_fault.Given as goal
 
 abbrev pub invariant-loop-statement : goal.invariant-loop-statement
 invariant-loop-statement l = record {
-  so_far : first_fault l.directory l.statements ≡ fault_after l.directory l.sound l.counts (drop l.statement-index l.statements);
-  sound : l.sound ≡ l.statement-index;
+  fault : first_fault (own_cause l.directory) [] l.statements ≡ (fault_after l.directory l.sound l.counts (drop l.statement-index l.statements)).fault;
+  sound : sound_count (own_cause l.directory) [] l.statements ≡ (fault_after l.directory l.sound l.counts (drop l.statement-index l.statements)).sound;
+  so_many : l.sound ≡ l.statement-index;
 }
