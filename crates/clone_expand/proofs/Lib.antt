@@ -3,3 +3,4 @@ pub mod LeafLaws
 pub mod NameLaws
 pub mod NodeNames
 pub mod Twice
+pub mod SameLeaves

@@ -12,3 +12,4 @@ pub mod EachOf
 pub mod ReadNames
 pub mod LeavesValid
 pub mod ValidCluster
+pub mod SameCluster

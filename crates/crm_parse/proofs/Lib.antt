@@ -42,3 +42,4 @@ pub mod OperationRoom
 pub mod FewMonitors
 pub mod ReadForms
 pub mod NoSections
+pub mod SameForms

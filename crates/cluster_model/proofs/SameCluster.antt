@@ -1,0 +1,97 @@
+-- Statements that say the same say the same cluster.
+use Rattle.std.proofs.Common.{◌≡◌, ℕ, ◌+◌, Bool, true, is_none, Option, Some, None, List, [], ◌∷◌, ◌++◌, map, codes, Result, Ok, Err, refl, sym, ap, ◌∙◌}
+use Rattle.std.specs.Option.{option_or}
+use Rattle.std.proofs.lemmas.List.{map-append}
+use Rattle.crm_parse.specs.declared.statement.Statement.{Statement}
+use Rattle.crm_parse.specs.Operations.{value_of}
+use Rattle.clone_expand.specs.declared.leaves.Leaves.{Leaves}
+use Rattle.clone_expand.specs.Settings.{nodes_in, properties_in}
+use Rattle.clone_expand.specs.Tables.{table_of, with_rows}
+use Rattle.cluster_types.specs.declared.cluster.Cluster.{Cluster}
+use Rattle.cluster_types.specs.declared.leaf.Leaf.{Leaf}
+use Rattle.cluster_model.specs.declared.counts.Counts.{Counts}
+use Rattle.cluster_model.specs.declared.directory.Directory.{Directory}
+use Rattle.cluster_model.specs.declared.fault.ModelCause.{ModelCause}
+use Rattle.cluster_model.specs.Checks.{cause_of}
+use Rattle.cluster_model.specs.Colocations.{colocations_in}
+use Rattle.cluster_model.specs.Counting.{all_counted, counted_with, counts_of, nothing_counted}
+use Rattle.cluster_model.specs.Directories.{directory_of, members_in, numbered_from, with_members}
+use Rattle.cluster_model.specs.FirstFaults.{fault_at, first_fault}
+use Rattle.cluster_model.specs.Locations.{location_in, rule_locations_in}
+use Rattle.cluster_model.specs.Nodes.{node_in}
+use Rattle.cluster_model.specs.Options.{properties_of, setting_of}
+use Rattle.cluster_model.specs.Orders.{orders_in}
+use Rattle.cluster_model.specs.Resolution.{cause_after, cause_of_loops, cluster_of, resolution_of}
+use Rattle.faults.specs.declared.fault.Fault.{Fault}
+use Rattle.faults.specs.Reading.{unless}
+use Rattle.faults.proofs.Steps.{unless-ok}
+use Rattle.crm_parse.proofs.SameForms.{IsLineless, alike, clear, cleared, each-lineless, forms, unless-none}
+
+setting-lineless : (key : List ℕ) → IsLineless (setting_of key)
+setting-lineless key [] = refl
+setting-lineless key (s ∷ statements) = ap (λ (o : Option (List ℕ)). option_or (value_of key (properties_in s.form)) o) (setting-lineless key statements)
+
+properties-lineless : IsLineless properties_of
+unfolding properties_of
+properties-lineless statements =
+    rw (setting-lineless (codes "symmetric-cluster") statements, setting-lineless (codes "stonith-enabled") statements,
+    setting-lineless (codes "startup-fencing") statements, setting-lineless (codes "no-quorum-policy") statements,
+    setting-lineless (codes "start-failure-is-fatal") statements, setting-lineless (codes "stop-all-resources") statements,
+    setting-lineless (codes "batch-limit") statements) refl
+
+members-lineless : (groups : List (List ℕ × ℕ)) (n : ℕ) → IsLineless (with_members groups n)
+members-lineless groups n [] = refl
+members-lineless groups n (s ∷ statements) = members-lineless (with_rows groups (map (λ member. (member, n)) (members_in s.form))) (n + 1) statements
+
+directory-lineless : (leaves : Leaves) → IsLineless (directory_of leaves)
+unfolding directory_of
+directory-lineless leaves statements =
+    rw (ap (λ (names : List (List ℕ)). table_of (numbered_from 0 names)) (each-lineless nodes_in statements), members-lineless [] 0 statements) refl
+
+cluster-lineless : (d : Directory) (leaves : List Leaf) → IsLineless (cluster_of d leaves)
+unfolding cluster_of
+cluster-lineless d leaves statements =
+    rw (each-lineless node_in statements, each-lineless (location_in d) statements, each-lineless (rule_locations_in d) statements,
+    each-lineless (colocations_in d) statements, each-lineless (orders_in d) statements, properties-lineless statements) refl
+
+counted-lineless : (counts : Counts) → IsLineless (all_counted counts)
+counted-lineless counts [] = refl
+counted-lineless counts (s ∷ statements) = counted-lineless (counted_with counts s.form) statements
+
+module _ (d : Directory) (leaves : List Leaf) where
+  one-more : (before : List Statement) (s : Statement) → cleared before ++ clear s ∷ [] ≡ cleared (before ++ s ∷ [])
+  one-more before s = sym (map-append clear before (s ∷ []))
+
+  cause-lineless : (before : List Statement) (s : Statement) → cause_after d leaves (cleared before) (clear s) ≡ cause_after d leaves before s
+  cause-lineless before s =
+      let more = one-more before s in
+      let counts = ap counts_of more ∙ counted-lineless nothing_counted (before ++ s ∷ []) in
+      let cluster = ap (cluster_of d leaves) more ∙ cluster-lineless d leaves (before ++ s ∷ []) in
+      rw (counts, cluster) refl
+
+  none-at : (line other : ℕ) (cause why : Option ModelCause) (more again : Option (Fault ModelCause)) → why ≡ cause → is_none again ≡ is_none more
+      → is_none (fault_at other why again) ≡ is_none (fault_at line cause more)
+  none-at line other None why more again e h = rw e h
+  none-at line other (Some cause) why more again e h = rw e refl
+
+  sound-lineless : (before : List Statement) → (statements : List Statement)
+      → is_none (first_fault (cause_after d leaves) (cleared before) (cleared statements)) ≡ is_none (first_fault (cause_after d leaves) before statements)
+  sound-lineless before [] = refl
+  sound-lineless before (s ∷ statements) =
+      let rest = ap (λ done. is_none (first_fault (cause_after d leaves) done (cleared statements))) (one-more before s) ∙ sound-lineless (before ++ s ∷ []) statements in
+      none-at s.line 0 (cause_after d leaves before s) (cause_after d leaves (cleared before) (clear s))
+      (first_fault (cause_after d leaves) (before ++ s ∷ []) statements)
+      (first_fault (cause_after d leaves) (cleared before ++ clear s ∷ []) (cleared statements)) (cause-lineless before s) rest
+
+-- statements that say the same say the same cluster
+pub same-resolution : (leaves : Leaves) (one other : List Statement) (cluster : Cluster) → forms one ≡ forms other
+    → resolution_of leaves one ≡ Ok cluster → resolution_of leaves other ≡ Ok cluster
+unfolding resolution_of
+same-resolution leaves one other cluster same e =
+    let d = directory_of leaves one in
+    let there = alike (directory_of leaves) (directory-lineless leaves) one other same in
+    let found = unless-ok (first_fault (cause_after d leaves.leaves) [] one) (cluster_of d leaves.leaves one) cluster e in
+    let none = sym (alike (λ statements. is_none (first_fault (cause_after d leaves.leaves) [] statements)) (sound-lineless d leaves.leaves []) one other same) ∙ ap is_none found.0 in
+    let given = sym (alike (cluster_of d leaves.leaves) (cluster-lineless d leaves.leaves) one other same) ∙ found.1 in
+    ap (λ d. unless (first_fault (cause_after d leaves.leaves) [] other) (cluster_of d leaves.leaves other)) (sym there)
+    ∙ (unless-none (first_fault (cause_after d leaves.leaves) [] other) (cluster_of d leaves.leaves other) none ∙ ap Ok given)
