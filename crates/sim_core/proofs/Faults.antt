@@ -1,5 +1,5 @@
 -- No text has the fault that memory ran out: it is read, or has a fault at a line.
-use Rattle.std.proofs.Common.{◌≡◌, ◌≢◌, ℕ, ◌+◌, nat_lt, not, Bool, true, false, if◌then◌else◌, Option, Some, None, List, [], ◌∷◌, ◌++◌, length, codes, Result, Ok, Err, ◌⊎◌, inl, inr, refl, sym, subst}
+use Rattle.std.proofs.Common.{◌≡◌, ℕ, ◌+◌, nat_lt, not, Bool, true, false, if◌then◌else◌, Option, Some, None, List, [], ◌∷◌, ◌++◌, length, codes, Result, Ok, Err, ◌⊎◌, inl, inr, refl, sym, subst}
 use Rattle.std.specs.List.{list_any}
 use Rattle.std.specs.Str.{is_utf8}
 use Rattle.lemmas.proofs.Results.{by_result}
@@ -25,9 +25,7 @@ use Rattle.clone_expand.specs.declared.fault.ExpandCause.{ExpandCause}
 use Rattle.clone_expand.specs.Expansion.{expansion_of, leaves_with_spans}
 use Rattle.clone_expand.specs.Faults as expanding
 use Rattle.clone_expand.specs.Faults.{fault_of, kinds_of, nothing_seen, seen_after}
-use Rattle.clone_expand.specs.declared.kinds.Kind.{Kind}
 use Rattle.clone_expand.specs.declared.leaves.Leaves.{Leaves}
-use Rattle.clone_expand.specs.declared.seen.Seen.{Seen}
 use Rattle.cluster_model.specs.declared.fault.ModelCause.{ModelCause}
 use Rattle.cluster_model.specs.Directories.{directory_of}
 use Rattle.cluster_model.specs.FirstFaults as modelling
@@ -61,14 +59,19 @@ stands_bind (Ok x) next h all = all x
 stands_bind (Err (At line why)) next h all = tt
 stands_bind (Err NoMemory) next h all = absurd h
 
+-- one step after another, by cases
+by_cases : {S F : Type 0} (read : Result S F) (next : S → Result S F) → (read >>= next) ≡ elim read [ Err fault ↦ Err fault | Ok more ↦ next more ]
+by_cases (Ok more) next = refl
+by_cases (Err fault) next = refl
+
 -- lines that are read one after the other stand where each step does
 module _ {S L F : Type 0} (Holds : Result S F → Type 0) (step : S → L → Result S F) (run : S → List L → Result S F)
     (ok : (s : S) → Holds (Ok s))
     (none : (s : S) → run s [] ≡ Ok s)
-    (some : (s : S) (l : L) (ls : List L) → run s (l ∷ ls) ≡ (step s l >>= λ more. run more ls))
+    (some : (s : S) (l : L) (ls : List L) → run s (l ∷ ls) ≡ elim (step s l) [ Err fault ↦ Err fault | Ok more ↦ run more ls ])
     (each : (s : S) (l : L) → Holds (step s l)) where
   go_on : (read : Result S F) (ls : List L) → Holds read → ((more : S) → Holds (run more ls))
-      → Holds (read >>= λ more. run more ls)
+      → Holds (elim read [ Err fault ↦ Err fault | Ok more ↦ run more ls ])
   go_on (Ok more) ls h all = all more
   go_on (Err fault) ls h all = h
 
@@ -149,14 +152,21 @@ expands_at : (line : ℕ) (found : Option ExpandCause) (more : Option (Fault Exp
 expands_at line (Some why) more h = tt
 expands_at line None more h = h
 
-first_expands : (kinds : List (List ℕ × Kind)) (seen : Seen) (ls : List Statement) → StandsAt (expanding.first_fault kinds seen ls)
-first_expands kinds seen [] = tt
-first_expands kinds seen (l ∷ ls) =
-    expands_at l.line (expanding.cause_of kinds seen l.form) (expanding.first_fault kinds (seen_after seen l.form) ls) (first_expands kinds (seen_after seen l.form) ls)
+module _ {S : Type 0} (cause_at : S → Statement → Option ExpandCause) (after : S → Statement → S) (first : S → List Statement → Option (Fault ExpandCause))
+    (none : (s : S) → first s [] ≡ None)
+    (some : (s : S) (l : Statement) (ls : List Statement) → first s (l ∷ ls) ≡ expanding.fault_at l.line (cause_at s l) (first (after s l) ls)) where
+  first_expands : (s : S) (ls : List Statement) → StandsAt (first s ls)
+  first_expands s [] = subst (λ (o : Option (Fault ExpandCause)). StandsAt o) (sym (none s)) tt
+  first_expands s (l ∷ ls) =
+      subst (λ (o : Option (Fault ExpandCause)). StandsAt o) (sym (some s l ls)) (expands_at l.line (cause_at s l) (first (after s l) ls) (first_expands (after s l) ls))
 
 leaves_stand : (found : List Statement) → Stands (faulting cause.Leaves (expansion_of found))
 unfolding fault_of
-leaves_stand found = unless_stands cause.Leaves (fault_of found) (leaves_with_spans found) (first_expands (kinds_of found) nothing_seen found)
+leaves_stand found =
+    let kinds = kinds_of found in
+    unless_stands cause.Leaves (fault_of found) (leaves_with_spans found)
+    (first_expands (λ s l. expanding.cause_of kinds s l.form) (λ s l. seen_after s l.form)
+    (expanding.first_fault kinds) (λ s. refl) (λ s l ls. refl) nothing_seen found)
 
 -- the cluster
 model_at : (line : ℕ) (found : Option ModelCause) (more : Option (Fault ModelCause)) → StandsAt more → StandsAt (modelling.fault_at line found more)
@@ -177,7 +187,7 @@ cluster_stands leaves found =
 -- the status
 status_stands : (c : Cluster) (found : List Line) → Stands (faulting cause.Status (status_of c found))
 status_stands c found =
-    let told = all_hold (λ r. Stands (faulting cause.Status r)) (journals.with_line c) (journals.with_lines c) (λ s. tt) (λ s. refl) (λ s l ls. refl)
+    let told = all_hold (λ r. Stands (faulting cause.Status r)) (journals.with_line c) (journals.with_lines c) (λ s. tt) (λ s. refl) (λ s l ls. by_cases (journals.with_line c s l) _)
     (λ s l. by_result (λ r. Stands (faulting cause.Status (faulting status_cause (on_line l.line r) >>= journals.with_told s l.line)))
     (λ x. by_test (λ test. Stands (faulting cause.Status (if test then Err (At l.line Repeated) else Ok (s ++ x ∷ [])))) (is_repeated s x) tt tt) (λ why. tt) (told_of c l.words)) [] found in
     by_result (λ r. Stands (faulting cause.Status r) → Stands (faulting cause.Status (r >>= (λ told. Ok (journals.journal_of c told))))) (λ x h. tt) (λ fault h. h)
@@ -186,7 +196,7 @@ status_stands c found =
 -- the results
 results_stand : (c : Cluster) (start : ℕ) (found : List Line) → Stands (faulting cause.Results (results_of c start found))
 results_stand c start found =
-    all_hold (λ r. Stands (faulting cause.Results r)) (answers.with_result c start) (answers.with_results c start) (λ s. tt) (λ s. refl) (λ s l ls. refl)
+    all_hold (λ r. Stands (faulting cause.Results r)) (answers.with_result c start) (answers.with_results c start) (λ s. tt) (λ s. refl) (λ s l ls. by_cases (answers.with_result c start s l) _)
     (λ s l. by_test
     (λ test. Stands (faulting cause.Results (
     (if test then faulting result_cause (on_line l.line (answer_of c (moment_after start s) l.words)) else Err (At l.line TooManyResults))

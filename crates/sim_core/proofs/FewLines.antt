@@ -1,5 +1,5 @@
 -- A text has no more lines with words than bytes.
-use Rattle.std.proofs.Common.{◌≡◌, ℕ, ◌+◌, ◌≤◌, Bool, true, false, if◌then◌else◌, Option, Some, None, List, [], ◌∷◌, length, Ok, subst, arith}
+use Rattle.std.proofs.Common.{◌≡◌, ℕ, ◌+◌, ◌≤◌, Bool, true, false, if◌then◌else◌, List, [], ◌∷◌, length, Ok, subst, arith}
 use Rattle.std.proofs.lemmas.List.{length-append}
 use Rattle.faults.proofs.Steps.{unless-ok}
 use Rattle.crm_lex.specs.declared.line.Line.{Line}

@@ -1,9 +1,8 @@
 -- A text is read in one way: as one input, or with one fault.
-use Rattle.std.proofs.Common.{◌≡◌, ℕ, List, Ok, Err, sym, ◌∙◌}
-use Rattle.faults.specs.declared.fault.Fault.TheVariants.{At}
+use Rattle.std.proofs.Common.{◌≡◌, ℕ, List, sym, ◌∙◌}
 use Rattle.sim_core.specs.declared.cause.InputCause.{InputCause}
 use Rattle.sim_core.specs.declared.reading.Input.{Input}
-use Rattle.sim_core.specs.Reading.{IsFaulty, IsReadable, IsRefused, Reads, input_of}
+use Rattle.sim_core.specs.Reading.{IsFaulty, IsReadable, IsRefused, Reads}
 
 -- a text says one thing
 pub one_input : (text : List ℕ) (one other : Input) → Reads text one → Reads text other → one ≡ other

@@ -3,6 +3,8 @@ use Rattle.std.proofs.Common.{◌≡◌, ℕ, List, [], Result, Ok, Err, IfOk, r
 use Rattle.crm_lex.specs.declared.line.Line.{Line}
 use Rattle.crm_lex.specs.Reading.{reads}
 use Rattle.crm_parse.specs.declared.statement.Crm.{Crm}
+use Rattle.crm_parse.specs.declared.statement.Statement.{Statement}
+use Rattle.clone_expand.specs.declared.leaves.Leaves.{Leaves}
 use Rattle.crm_parse.specs.Marks.{sections_of}
 use Rattle.crm_parse.specs.Statements.{statements_of}
 use Rattle.clone_expand.specs.Expansion.{expansion_of}
@@ -15,7 +17,9 @@ use Rattle.op_history.specs.FirstJournal.{status_of}
 use Rattle.op_history.specs.Results.{results_of}
 use Rattle.op_history.proofs.StatusJournals.{journal_idle, journal_orderly}
 use Rattle.faults.specs.declared.fault.Fault.{Fault}
-use Rattle.faults.specs.Reading.{faulting, ◌>>=◌}
+use Rattle.faults.specs.Reading.{Gives, faulting, ◌>>=◌}
+use Rattle.faults.proofs.Steps.{faulting-ok}
+use Rattle.lemmas.proofs.Results.{by_result}
 use Rattle.sim_core.specs.declared.cause.InputCause.{InputCause}
 use Rattle.sim_core.specs.declared.cause.InputCause.TheVariants as cause
 use Rattle.sim_core.specs.declared.reading.Configuration.{Configuration}
@@ -128,4 +132,20 @@ module _ (text : List ℕ) (input : Input) (r : Reads text input) where
   pub journal_rests : in_flight input.head.journal.events ≡ []
   journal_rests = journal_idle steps.cluster made.lines input.head.journal made.journal
 
-pub ruleset inputs_valid = (cluster_valid, journal_ordered, journal_rests)
+-- what a call that read a text returned
+module _ (text : List ℕ) (given : Result Input (Fault InputCause)) where
+  pub valid_given : Gives (λ (input : Input). input) given (input_of text) → IfOk given (λ input. IsValid input.head.cluster)
+  valid_given h = by_result (λ (r : Result Input (Fault InputCause)). Gives (λ (input : Input). input) r (input_of text) → IfOk r (λ input. IsValid input.head.cluster))
+      (λ input read. cluster_valid text input read) (λ fault read. tt) given h
+
+  pub ordered_given : Gives (λ (input : Input). input) given (input_of text) → IfOk given (λ input. Orderly input.head.journal.events)
+  ordered_given h = by_result (λ (r : Result Input (Fault InputCause)). Gives (λ (input : Input). input) r (input_of text) → IfOk r (λ input. Orderly input.head.journal.events))
+      (λ input read. journal_ordered text input read) (λ fault read. tt) given h
+
+  pub idle_given : Gives (λ (input : Input). input) given (input_of text) → IfOk given (λ input. in_flight input.head.journal.events ≡ [])
+  idle_given h = by_result (λ (r : Result Input (Fault InputCause)). Gives (λ (input : Input). input) r (input_of text) → IfOk r (λ input. in_flight input.head.journal.events ≡ []))
+      (λ input read. journal_rests text input read) (λ fault read. tt) given h
+
+-- the leaves that a step gave
+pub leaves_given : (statements : List Statement) (leaves : Leaves) → faulting cause.Leaves (expansion_of statements) ≡ Ok leaves → expansion_of statements ≡ Ok leaves
+leaves_given statements leaves e = faulting-ok cause.Leaves (expansion_of statements) leaves e

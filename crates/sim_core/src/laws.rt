@@ -8,7 +8,6 @@ ghost use Rattle.sim_core.specs.declared.cause.InputCause.{InputCause as CauseOf
 ghost use Rattle.sim_core.specs.declared.reading.Input.{Input as InputOf};
 
 /// A text is read as one input, or it has one fault, and never both.
-#[tactic(auto, using(crate::proofs::Faults::read_or_faulty, crate::proofs::OneReading::one_input, crate::proofs::OneReading::one_fault, crate::proofs::OneReading::not_both))]
 pub fn one_reading()
     ensures either { (text : List ℕ) → IsReadable text ⊎ IsFaulty text }
     ensures not_both { (text : List ℕ) → IsReadable text → ¬ IsFaulty text }
@@ -18,7 +17,6 @@ pub fn one_reading()
 {}
 
 /// What is read of a text is valid: its cluster is, and its first journal is in order and has nothing in flight.
-#[tactic(auto, using(crate::proofs::ValidInput::inputs_valid))]
 pub fn what_is_read_is_valid()
     ensures cluster { (text : List ℕ) (input : InputOf) → Reads text input → IsValid input.head.cluster }
     ensures orderly { (text : List ℕ) (input : InputOf) → Reads text input → Orderly input.head.journal.events }

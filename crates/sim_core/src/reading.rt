@@ -90,14 +90,13 @@ fn statements_in(alloc: Global, lines: &[Line]) -> Result<Crm, InputFault>
 }
 
 fn leaves_in(alloc: Global, crm: &Crm) -> Result<Leaves, InputFault>
-    ensures given { Gives (λ leaves. leaves) result (faulting cause.Leaves (expansion_of crm.now.statements)) }
-    ensures leaves { IfOk result (λ leaves. expansion_of crm.now.statements ≡ Ok leaves) }
+    ensures { Gives (λ leaves. leaves) result (faulting cause.Leaves (expansion_of crm.now.statements)) }
 {
     expand(alloc, crm).map_err(|fault| fault.map(InputCause::Leaves))
 }
 
 /// The sections of some lines, in their order.
-#[tactic(auto, unfolding(crate::specs::Reading::configuration_of))]
+#[tactic(auto, unfolding(crate::specs::Reading::configuration_of), using(crate::proofs::ValidInput::leaves_given))]
 fn configuration_of(alloc: Global, text: &[u8]) -> Result<Configuration, InputFault>
     requires { length text.now ≤ most_bytes }
     ensures given { Gives (λ found. found) result (configuration_of sections_of text.now) }
@@ -135,8 +134,9 @@ fn results_in(
     requires moment { moment_of journal.now.events < 2 ^ 40 }
     ensures { Gives (λ results. results) result (faulting cause.Results (results_of cluster.now (moment_of journal.now.events) lines.now)) }
 {
-    let results = read_results(alloc, cluster, journal, lines)
-        .map_err(|fault| fault.map(InputCause::Results))?;
+    let results = read_results(alloc, cluster, journal, lines).map_err(|fault| fault.map(
+        InputCause::Results,
+    ))?;
     Ok(Listed::from(results))
 }
 
@@ -215,7 +215,6 @@ fn input_of(alloc: Global, text: &[u8]) -> Result<Input, InputFault>
 /// that the reader of that step gives. `NoMemory` comes when memory runs out.
 ///
 /// What is read is valid: the cluster is, and the first journal is in order and has nothing in flight.
-#[tactic(auto, using(crate::proofs::ValidInput::inputs_valid))]
 pub fn read_input(alloc: Global, text: &[u8]) -> Result<Input, InputFault>
     requires { length text.now ≤ most_bytes }
     ensures read { Gives (λ input. input) result (input_of text.now) }
