@@ -1,0 +1,43 @@
+-- The totals of all cells, put together (follows from the definition of a decision's base).
+use Rattle.std.specs.Prelude.{ℕ, ◌+◌, ◌*◌, ℤ, pos, List, length, map, slice_index_or}
+use Rattle.std.specs.List.{flat_map, range_with_len}
+use Rattle.cluster_types.specs.declared.cluster.Cluster.{Cluster}
+use Rattle.cluster_types.specs.declared.journal.Event.{Event}
+use Rattle.cluster_types.specs.declared.journal.Promotion.{Promotion}
+use Rattle.cluster_types.specs.declared.placement.Decision.{Decision}
+use Rattle.cluster_types.specs.declared.placement.Decision.TheVariants.{Place, Promote}
+use Rattle.cluster_types.specs.declared.states.States.{States}
+use Rattle.cluster_types.specs.Terms.{base}
+use Rattle.score.specs.Total.{total_of}
+use Rattle.score_table.specs.declared.table.ScoreTable.{ScoreTable}
+use Rattle.score_table.specs.Lending.{all_joined}
+use Rattle.score_table.specs.OwnRows.{terms_by}
+use Rattle.score_table.specs.Promotions.{wished_by}
+
+-- a list of all cells, leaf by leaf, node by node
+abbrev pub cells_of : {X : Type 0} → Cluster → (ℕ → ℕ → X) → List X
+cells_of c f = flat_map (λ r. map (f r) (range_with_len 0 (length c.nodes))) (range_with_len 0 (length c.leaves))
+
+-- the totals of all decisions, before colocations
+abbrev pub scores_of : Cluster → List Event → List Promotion → ScoreTable
+scores_of c es promotions = record {
+  nodes = length c.nodes;
+  places = cells_of c (λ r. base c es promotions (Place r));
+  promotes = cells_of c (λ r. base c es promotions (Promote r));
+}
+
+-- the total of a decision on a node
+abbrev pub score_in : ScoreTable → Decision → ℕ → ℤ
+score_in table (Place r) n = slice_index_or table.places (r * table.nodes + n) (pos 0)
+score_in table (Promote r) n = slice_index_or table.promotes (r * table.nodes + n) (pos 0)
+
+-- the same by the states of the cluster
+module _ (c : Cluster) (states : States) where
+  abbrev pub place_by : ℕ → ℕ → ℤ
+  place_by r n = total_of (terms_by c states (all_joined c states r) n)
+
+  abbrev pub promote_by : ℕ → ℕ → ℤ
+  promote_by r n = total_of (wished_by c states.moment states.promotions r n)
+
+  abbrev pub table_by : ScoreTable
+  table_by = record { nodes = length c.nodes; places = cells_of c place_by; promotes = cells_of c promote_by }

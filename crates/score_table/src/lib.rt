@@ -1,0 +1,28 @@
+//! The total of each decision on each node, before colocations.
+#![tactic(auto)]
+
+// Sets of nodes, and rows of the terms that each node has.
+mod adding;
+mod fitting;
+mod node_sets;
+mod putting;
+mod row_totals;
+
+// What a leaf has of its own.
+mod locations;
+mod own;
+mod own_rows;
+
+// What others lend to it.
+mod lending;
+mod ties;
+
+// How much it wants to be promoted.
+mod promotions;
+
+// The totals of all decisions.
+mod laws;
+mod table;
+
+pub use laws::scores_are_totals;
+pub use table::{ScoreTable, rows};

@@ -1,0 +1,122 @@
+//! The totals of all decisions.
+
+ghost use Rattle.std.specs.Prelude.{◌≡◌, ◌+◌, ◌*◌, ◌<◌, ℕ, List, length, IfOk};
+ghost use Rattle.cluster_types.specs.declared.journal.Event.{Event};
+ghost use Rattle.cluster_types.specs.declared.journal.Promotion.{Promotion as PromotionOf};
+ghost use Rattle.cluster_types.specs.declared.placement.Decision.TheVariants.{Place, Promote};
+ghost use Rattle.cluster_types.specs.Unpacked.{states_of};
+ghost use Rattle.cluster_types.specs.Valid.{IsValid};
+ghost use Rattle.score_table.specs.Scores as spec;
+
+use crate::lending::lent_row;
+use crate::own_rows::OwnRows;
+use crate::promotions::{first_said, promote_row};
+use crate::row_totals::totals_of;
+use cluster_types::{Cluster, Decision, LeafId, NoMemory, NodeId, States, cell_place};
+use listed::Listed;
+use score::Score;
+use std::alloc::Global;
+
+/// The totals of all decisions, leaf by leaf and node by node.
+#[derive(PartialEq, Eq, Drop)]
+pub struct ScoreTable {
+    /// How many nodes there are.
+    pub nodes: u32,
+    /// The totals of placing the leaves.
+    pub places: Listed<Score>,
+    /// The totals of promoting them.
+    pub promotes: Listed<Score>,
+}
+
+impl ScoreTable {
+    fn place_at(&self, leaf: LeafId, node: NodeId) -> Score
+        requires { leaf * self.now.nodes + node < length self.now.places }
+        ensures { result ≡ spec.score_in self.now (Place leaf) node }
+    {
+        self.places.as_slice()[cell_place(self.nodes as usize, leaf, node)]
+    }
+
+    fn promote_at(&self, leaf: LeafId, node: NodeId) -> Score
+        requires { leaf * self.now.nodes + node < length self.now.promotes }
+        ensures { result ≡ spec.score_in self.now (Promote leaf) node }
+    {
+        self.promotes.as_slice()[cell_place(self.nodes as usize, leaf, node)]
+    }
+
+    /// The total of a decision on a node, before colocations. The leaf and the node are there.
+    pub fn total_at(&self, decision: Decision, node: NodeId) -> Score
+        requires placed { (leaf : ℕ) → decision ≡ Place leaf → leaf * self.now.nodes + node < length self.now.places }
+        requires promoted { (leaf : ℕ) → decision ≡ Promote leaf → leaf * self.now.nodes + node < length self.now.promotes }
+        ensures { result ≡ spec.score_in self.now decision node }
+    {
+        match decision {
+            Decision::Place(leaf) => self.place_at(leaf, node),
+            Decision::Promote(leaf) => self.promote_at(leaf, node),
+        }
+    }
+}
+
+/// The totals of placing each leaf, leaf by leaf and node by node.
+fn place_totals(alloc: Global, own: &OwnRows) -> Result<Vec<Score>, lane_rows::NoMemory>
+    requires { IsValid own.now.cluster.now }
+    ensures { IfOk result (λ all. all.items ≡ spec.cells_of own.now.cluster.now (spec.place_by own.now.cluster.now own.now.states.now)) }
+{
+    let cluster = own.cluster;
+    let mut all = Vec::with_capacity(alloc, cluster.leaves.len() * cluster.nodes.len())?;
+    for leaf in 0..cluster.leaves.len() {
+        let row = lent_row(alloc, own, leaf as u32)?;
+        let of_leaf = totals_of(alloc, &row, cluster.nodes.len() as u32)?;
+        all.extend_from_slice(&of_leaf)?;
+    }
+    Ok(all)
+}
+
+/// The totals of promoting each leaf, leaf by leaf and node by node.
+fn promote_totals(
+    alloc: Global,
+    cluster: &Cluster,
+    states: &States,
+) -> Result<Vec<Score>, lane_rows::NoMemory>
+    requires { IsValid cluster.now }
+    ensures { IfOk result (λ all. all.items ≡ spec.cells_of cluster.now (spec.promote_by cluster.now states.now)) }
+{
+    let said = first_said(alloc, cluster, states.promotions.as_slice())?;
+    let mut all = Vec::with_capacity(alloc, cluster.leaves.len() * cluster.nodes.len())?;
+    for leaf in 0..cluster.leaves.len() {
+        let row = promote_row(alloc, cluster, &said, leaf as u32, states.moment)?;
+        let of_leaf = totals_of(alloc, &row, cluster.nodes.len() as u32)?;
+        all.extend_from_slice(&of_leaf)?;
+    }
+    Ok(all)
+}
+
+/// The table of what is known by these states.
+fn table_by(
+    alloc: Global,
+    cluster: &Cluster,
+    states: &States,
+) -> Result<ScoreTable, lane_rows::NoMemory>
+    requires { IsValid cluster.now }
+    ensures { IfOk result (λ table. table ≡ spec.table_by cluster.now states.now) }
+{
+    let own = OwnRows::new(alloc, cluster, states)?;
+    let places = place_totals(alloc, &own)?;
+    let promotes = promote_totals(alloc, cluster, states)?;
+    Ok(ScoreTable {
+        nodes: cluster.nodes.len() as u32,
+        places: Listed::from(places),
+        promotes: Listed::from(promotes),
+    })
+}
+
+/// The total of each decision on each node, before colocations. That of placing a leaf is of what its locations, its stickiness, what keeps
+/// it away and its lenders give. That of promoting it is of how much it wants to be promoted and of what its locations in the role Promoted
+/// give (Pacemaker Explained, "Scores" and "Promotable Clones"; which leaves lend is a rule of this project). It asks for a valid cluster.
+/// Out of memory is the only other answer.
+pub fn rows(alloc: Global, cluster: &Cluster, states: &States) -> Result<ScoreTable, NoMemory>
+    requires { IsValid cluster.now }
+    ensures { (events : List Event) (promotions : List PromotionOf) → states.now ≡ states_of cluster.now events promotions
+        → IfOk result (λ table. table ≡ spec.scores_of cluster.now events promotions) }
+{
+    table_by(alloc, cluster, states).map_err(|_| NoMemory)
+}
