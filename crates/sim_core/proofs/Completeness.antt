@@ -1,4 +1,4 @@
--- Where no count rose and the input has room, each answer but want of memory is the one that the input gets.
+-- Where no count rose and the input has room, each answer but out of memory is the one that the input gets.
 use Rattle.std.proofs.Common.{◌≡◌, ◌≢◌, ◌↔◌, ℕ, ◌≤◌, Option, Some, None, List, length, refl, subst, IfSome, arith}
 use Rattle.cluster_io.specs.Streams.{Rose}
 use Rattle.sim_core.specs.declared.status.Status.{Status}

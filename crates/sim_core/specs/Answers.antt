@@ -87,7 +87,7 @@ abbrev pub Answers : Command → Option (List ℕ) → Option (List ℕ) → Opt
 Answers word told left before after status =
     IfSome (input_of (intake word) told) (λ input. SaysOf (intake word) (Gets word) input left before after status)
 
--- where no count rose and the input has room, each answer but want of memory is the one that the input gets
+-- where no count rose and the input has room, each answer but out of memory is the one that the input gets
 abbrev pub IsComplete : Command → Option (List ℕ) → Status → Type 0
 IsComplete word told status = IfSome (input_of (intake word) told) (λ input. length input ≤ most_bytes → status ≢ NoMemory
     → (due : Status) → (status ≡ due) ↔ IsDue (Gets word input) due)

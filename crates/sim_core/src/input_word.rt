@@ -19,7 +19,7 @@ pub(crate) trait InputWord {
     /// An input of this content gets this status and this text.
     ghost gets: { Self → List ℕ → StatusOf → List ℕ → Type 0 };
 
-    /// The status and the text that an input gets. The only error is that memory was refused.
+    /// The status and the text that an input gets. The only error is out of memory.
     fn answer(&self, alloc: Global, input: &[u8]) -> Result<(Status, Vec<u8>), NoMemory>
         requires { length input.now ≤ most_bytes }
         ensures output { IfOk result (λ answer. gets self.now input.now answer.0 answer.1.items) }

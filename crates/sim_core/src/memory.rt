@@ -1,6 +1,6 @@
 use std::alloc::AllocError;
 
-/// Memory was refused.
+/// Out of memory.
 #[derive(Clone, Copy, Debug, PartialEq, Eq)]
 pub struct NoMemory;
 
