@@ -49,7 +49,7 @@ impl<'s, S: Source> LineReader<'s, S> {
     }
 
     /// A reader of the source with memory that was taken before. `new` does both; apart, a caller
-    /// knows that the source is as it was where memory is refused.
+    /// knows that the source is as it was when memory runs out.
     pub fn over(src: &'s mut S, lines: HeldLines) -> LineReader<'s, S>
         ensures reading { reading_of result ≡ lines }
         ensures source { source_of result ≡ src.old }

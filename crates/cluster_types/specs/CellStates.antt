@@ -1,4 +1,4 @@
--- What a journal tells of a cell, a leaf on a node (Pacemaker Administration, operation history; the states and their order are a rule of this
+-- What a journal tells of a cell, a leaf on a node (Pacemaker Explained, operation history; the states and their order are a rule of this
 -- project).
 use Rattle.std.specs.Prelude.{ℕ, Bool, true, false, not, ◌==◌, ◌&&◌, ◌||◌, if◌then◌else◌, Option, None, is_none, List}
 use Rattle.std.specs.List.{list_any, after_last, last_or}

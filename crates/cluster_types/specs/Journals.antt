@@ -1,5 +1,5 @@
 -- What a journal tells as a whole: the moment, quorum, what is in flight, which journals are in order, and the first journal (after the operation
--- history of the status section, Pacemaker Administration; the form of a journal and which are in order are rules of this project).
+-- history of the status section, Pacemaker Explained; the form of a journal and which are in order are rules of this project).
 use Rattle.std.specs.Prelude.{◌≡◌, ◌↔◌, ◌<◌, ℕ, ◌==◌, ◌&&◌, ◌||◌, Bool, true, false, if◌then◌else◌, nat_lt, Option, Some, None, unwrap_or, List, [], ◌∷◌, ◌++◌, length, map, sum_by, Contains, AllPairs}
 use Rattle.std.specs.List.{list_any, filter_map, flat_map, last_or, range_with_len, enumerate_from}
 use Rattle.cluster_types.specs.declared.cluster.Cluster.{Cluster}

@@ -1,5 +1,5 @@
--- What has to be done: fences, probes, the steps of each cell, monitors (Pacemaker Administration, "Probes" and recovery; which steps a state
--- and a target need is this project's table).
+-- What has to be done: fences, probes, the steps of each cell, monitors (Pacemaker Explained, "Monitoring Resources for Failure", and recovery;
+-- which steps a state and a target need is this project's table).
 use Rattle.std.specs.Prelude.{◌≡◌, ◌≢◌, ◌⊎◌, ℕ, ◌<◌, nat_lt, ◌&&◌, Bool, true, false, not, if◌then◌else◌, List, [], ◌∷◌, length, Contains}
 use Rattle.std.specs.List.{list_any}
 use Rattle.cluster_types.specs.declared.cluster.Cluster.{Cluster}

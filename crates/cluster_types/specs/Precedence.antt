@@ -1,5 +1,5 @@
--- Which action must have succeeded before which may begin (Pacemaker Explained, "Resource Ordering", "Promotable Clones", "Fencing"; what holds
--- besides orders is a rule of this project).
+-- Which action must have succeeded before which may begin (Pacemaker Explained, "Specifying the Order in which Resources Should Start/Stop",
+-- "Promotable Clones", "Fencing"; what holds besides orders is a rule of this project).
 use Rattle.std.specs.Prelude.{ℕ, nat_lt, ◌==◌, ◌&&◌, ◌||◌, Bool, true, false, not, if◌then◌else◌, Option, Some, None, List, [], ◌∷◌, length}
 use Rattle.std.specs.List.{list_any}
 use Rattle.cluster_types.specs.declared.cluster.Cluster.{Cluster}

@@ -65,7 +65,7 @@ at_end name (line ∷ lines) h =
     rw (other, rest) long
 
 -- the lines of statements are the whole text
-abbrev whole_text : List Line → SectionMarks
+abbrev pub whole_text : List Line → SectionMarks
 whole_text lines = record { status_at = length lines; results_at = length lines; end = length lines }
 
 pub statements-alone : (lines : List Line) (crm : Crm) → statements_of lines ≡ Ok crm → sections_of lines ≡ Ok (whole_text lines)

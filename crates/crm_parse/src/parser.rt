@@ -83,7 +83,7 @@ fn crm_of(alloc: Global, drafts: Drafts) -> Result<Crm, NoMemory>
 /// A fault is that of the first faulty line, at its leftmost faulty word: `UnknownStatement` at a first word that begins no statement,
 /// `Unsupported` at what this project doesn't carry out, `BadScore`, `BadTime` and `BadValue` at a value that isn't one of its kind,
 /// `MissingWord` where a statement or a section ends too early, `ExtraWord` at a word without a place, and `RepeatedKey` at a key that was
-/// given before. Where a word has several causes, the first in this order counts. `NoMemory` comes where memory is refused.
+/// given before. Where a word has several causes, the first in this order counts. `NoMemory` comes when memory runs out.
 pub fn parse(alloc: Global, lines: &[Line]) -> Result<Crm, ParseFault>
     ensures { Gives (λ crm. crm) result (statements_of lines.now) }
 {

@@ -20,7 +20,7 @@ fn push_statement(text: &mut Vec<u8>, statement: &Statement) -> Result<(), NoMem
 /// statement, in their order, with its words parted by one space and a line feed at its end.
 ///
 /// Sections stand in the order description, params, meta, utilization, operations, op, and several sections of one kind are one. An order
-/// has its kind, the action of each resource, and whether it is symmetrical. `NoMemory` comes where memory is refused.
+/// has its kind, the action of each resource, and whether it is symmetrical. `NoMemory` comes when memory runs out.
 pub fn print(alloc: Global, crm: &Crm) -> Result<Vec<u8>, NoMemory>
     ensures { IfOk result (λ text. text.items ≡ canonical_text crm.now) }
 {

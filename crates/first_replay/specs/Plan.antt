@@ -5,7 +5,7 @@ use Rattle.first_replay.specs.declared.plan.Action.{Action}
 use Rattle.first_replay.specs.declared.plan.Action.TheVariants.{Probe, Start}
 
 -- the action is needed. The resource is probed on each node that is online and where nothing is known of it: on each node, since the
--- status tells of no operation. It is started where it goes (Pacemaker Administration, "Probes" and "Transitions")
+-- status tells of no operation. It is started where it goes (Pacemaker Explained, "Monitoring Resources for Failure"; Pacemaker Administration, "Transitions")
 abbrev pub Needed : Cluster → ℕ → Action → Type 0
 Needed cluster target (Probe n) = n < length cluster.nodes
 Needed cluster target (Start n) = n ≡ target

@@ -7,7 +7,7 @@ use Rattle.first_replay.specs.declared.transition.Event.{Event}
 use Rattle.first_replay.specs.declared.transition.Event.TheVariants.{Begin, Ended}
 
 -- the first action must have succeeded before the second begins: each probe of a resource before its start, so that it is not started
--- while it may run elsewhere (Pacemaker Explained, "Probes")
+-- while it may run elsewhere (Pacemaker Explained, "Monitoring Resources for Failure")
 abbrev pub MustPrecede : Action → Action → Type 0
 MustPrecede (Probe n) (Start m) = Unit {0}
 MustPrecede (Probe n) (Probe m) = ⊥

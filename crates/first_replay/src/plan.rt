@@ -16,7 +16,7 @@ pub enum Action {
 }
 
 /// The actions that the cluster needs, in the order of their numbers: a probe on each node, then the start on the target. An action's number
-/// is its place in the list, from 1. The only error is that memory was refused.
+/// is its place in the list, from 1. The only error is that memory ran out.
 pub fn plan_actions(
     alloc: Global,
     cluster: &Cluster,

@@ -24,7 +24,7 @@ fn run_cluster(alloc: Global, cluster: &Cluster) -> Result<Vec<u8>, NoMemory>
     print_run(alloc, cluster, target, &events)
 }
 
-/// The text of the run of an input of the form, or `None` where the input is outside it. The only error is that memory was refused.
+/// The text of the run of an input of the form, or `None` where the input is outside it. The only error is that memory ran out.
 pub fn run_text(alloc: Global, input: &[u8]) -> Result<Option<Vec<u8>>, NoMemory>
     ensures run { IfOk result (λ run. IfSome run (λ text. IsRunText input.now text.items)) }
     ensures outside { IfOk result (λ run. IfNone run (IsOutside input.now)) }

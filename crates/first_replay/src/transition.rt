@@ -183,7 +183,7 @@ fn next_event(actions: &[Action], events: &[Event]) -> Option<Event>
 }
 
 /// The events of the transition with these actions, in their order. No result is given, so each action ends with its expected code, and all
-/// of them succeed. The only error is that memory was refused.
+/// of them succeed. The only error is that memory ran out.
 #[tactic(auto, using(crate::proofs::Progress::progress, crate::proofs::Measure::remaining_less))]
 pub fn run_transition(alloc: Global, actions: &[Action]) -> Result<Vec<Event>, NoMemory>
     requires { length actions.now < 2 ^ 32 - 1 }

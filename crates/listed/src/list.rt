@@ -68,7 +68,7 @@ impl<T> Listed<T> {
         self.items.is_empty()
     }
 
-    /// Adds an element at the end. Where memory is refused the list stays as it was, and the element is handed back.
+    /// Adds an element at the end. When memory runs out the list stays as it was, and the element is handed back.
     pub fn push(&mut self, item: T) -> Result<(), AllocFailed<T>>
         ensures ok { OnOk result (self.new ≡ self.old ++ item ∷ []) }
         ensures err { OnErr result (self.new ≡ self.old) }

@@ -1,4 +1,4 @@
--- The first journal: what a status tells as a whole (Pacemaker Administration, operation history; the form of a journal is a rule of this project).
+-- The first journal: what a status tells as a whole (Pacemaker Explained, operation history; the form of a journal is a rule of this project).
 use Rattle.std.specs.Prelude.{ℕ, ◌^◌, nat_lt, ◌==◌, ◌&&◌, not, Bool, true, false, if◌then◌else◌, List, [], ◌∷◌, ◌++◌, length, map, Option, Some, None, unwrap_or, Result, Ok, Err}
 use Rattle.std.specs.List.{enumerate_from, filter_map, flat_map, list_any, range_with_len}
 use Rattle.crm_lex.specs.declared.line.Line.{Line}

@@ -1,4 +1,4 @@
--- The lines of a status: what each of them tells (Pacemaker Administration, operation history; the lines are a rule of this project).
+-- The lines of a status: what each of them tells (Pacemaker Explained, operation history; the lines are a rule of this project).
 use Rattle.std.specs.Prelude.{ℕ, ◌==◌, Bool, true, if◌then◌else◌, List, codes, Option, Some, None, option_map, Result, Ok, Err, ℤ}
 use Rattle.std.specs.Option.{ok_or}
 use Rattle.score.specs.ScoreText.{read_score}

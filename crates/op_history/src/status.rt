@@ -52,7 +52,7 @@ fn with_lines(alloc: Global, cluster: &Cluster, lines: &[Line]) -> Result<ToldLi
     Ok(told)
 }
 
-/// Reads the status of a cluster as its first journal (Pacemaker Administration, operation history; the lines are a rule of this project).
+/// Reads the status of a cluster as its first journal (Pacemaker Explained, operation history; the lines are a rule of this project).
 ///
 /// The lines are those between `%status` and the next section. Each is `now SECONDS`, `quorum yes` or `quorum no`, `node NODE` and `online`,
 /// `offline` or `unclean`, `op NODE LEAF OP MS CODE SECONDS`, `cleanup NODE LEAF` or `promotion NODE LEAF SCORE`. SECONDS are below

@@ -7,3 +7,5 @@ pub mod ValidInput
 -- The top call.
 pub mod OneOutcome
 pub mod Completeness
+pub mod Comments
+pub mod ReadsAgain

@@ -28,23 +28,23 @@ use Rattle.sim_core.specs.declared.reading.Input.{Input}
 use Rattle.sim_core.specs.Reading.{Reads, configuration_lines, configuration_of, following_lines, head_of, input_of, status_lines, with_cluster, with_results}
 
 -- a step that was passed: what it gave, and what the steps behind it give
-record IsPassed {A B F : Type 0} (step : Result A F) (next : A → Result B (Fault InputCause)) (end : B) : Type 0 where
-  gave : A
-  is : step ≡ Ok gave
-  goes_on : next gave ≡ Ok end
+pub record IsPassed {A B F : Type 0} (step : Result A F) (next : A → Result B (Fault InputCause)) (end : B) : Type 0 where
+  pub gave : A
+  pub is : step ≡ Ok gave
+  pub goes_on : next gave ≡ Ok end
 
-passed : {A B C : Type 0} (cause_of : C → InputCause) (step : Result A (Fault C)) (next : A → Result B (Fault InputCause)) (end : B)
+pub passed : {A B C : Type 0} (cause_of : C → InputCause) (step : Result A (Fault C)) (next : A → Result B (Fault InputCause)) (end : B)
     → faulting cause_of step >>= next ≡ Ok end → IsPassed step next end
 passed cause_of (Ok x) next end e = record { gave = x; is = refl; goes_on = e }
 passed cause_of (Err fault) next end e = absurd cc
 
 -- a step that was passed, with faults of the input
-record IsPassedOn {A B : Type 0} (step : Result A (Fault InputCause)) (next : A → Result B (Fault InputCause)) (end : B) : Type 0 where
-  gave : A
-  is : step ≡ Ok gave
-  goes_on : next gave ≡ Ok end
+pub record IsPassedOn {A B : Type 0} (step : Result A (Fault InputCause)) (next : A → Result B (Fault InputCause)) (end : B) : Type 0 where
+  pub gave : A
+  pub is : step ≡ Ok gave
+  pub goes_on : next gave ≡ Ok end
 
-passed_on : {A B : Type 0} (step : Result A (Fault InputCause)) (next : A → Result B (Fault InputCause)) (end : B) → step >>= next ≡ Ok end → IsPassedOn step next end
+pub passed_on : {A B : Type 0} (step : Result A (Fault InputCause)) (next : A → Result B (Fault InputCause)) (end : B) → step >>= next ≡ Ok end → IsPassedOn step next end
 passed_on (Ok x) next end e = record { gave = x; is = refl; goes_on = e }
 passed_on (Err fault) next end e = absurd cc
 
@@ -82,7 +82,7 @@ head_made crm cluster lines head e =
     let made : head ≡ record { crm = crm; cluster = cluster; journal = journal.gave } = cc in
     rw made (record { same = refl; journal = journal.is })
 
-results_keep_head : (head : Head) (lines : List Line) (input : Input) → with_results head lines ≡ Ok input → input.head ≡ head
+pub results_keep_head : (head : Head) (lines : List Line) (input : Input) → with_results head lines ≡ Ok input → input.head ≡ head
 unfolding with_results
 results_keep_head head lines input e =
     let answers = passed cause.Results (results_of head.cluster (moment_of head.journal.events) lines) _ input e in
@@ -98,14 +98,14 @@ made_of found cluster input e =
     record { same = rw kept made.same; lines = lines; journal = rw kept made.journal }
 
 -- the steps of a text that is read
-record IsStepped (text : List ℕ) (input : Input) : Type 0 where
-  found : Configuration
-  cluster : Cluster
-  configuration : configuration_of sections_of text ≡ Ok found
-  resolves : resolution_of found.leaves found.crm.statements ≡ Ok cluster
-  made : with_cluster with_results found cluster ≡ Ok input
+pub record IsStepped (text : List ℕ) (input : Input) : Type 0 where
+  pub found : Configuration
+  pub cluster : Cluster
+  pub configuration : configuration_of sections_of text ≡ Ok found
+  pub resolves : resolution_of found.leaves found.crm.statements ≡ Ok cluster
+  pub made : with_cluster with_results found cluster ≡ Ok input
 
-stepped : (text : List ℕ) (input : Input) → Reads text input → IsStepped text input
+pub stepped : (text : List ℕ) (input : Input) → Reads text input → IsStepped text input
 unfolding input_of
 stepped text input r =
     let found = passed_on (configuration_of sections_of text) _ input r in

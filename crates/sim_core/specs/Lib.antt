@@ -7,3 +7,4 @@ pub mod OwnText
 pub mod Words
 pub mod Table
 pub mod Answers
+pub mod Again

@@ -12,17 +12,17 @@ use op_history::{ResultCause, StatusCause};
 /// Why an input is refused, by the step of reading that finds it.
 #[derive(Clone, Copy, Debug, PartialEq, Eq)]
 pub enum InputCause {
-    /// A line has no words.
+    /// The words of a line can't be read.
     Words(LexCause),
-    /// A section is out of its place, or a line is no statement.
+    /// A section line is out of its place, or a line is no statement that can be read.
     Statements(ParseCause),
     /// The groups and clones don't stand for leaves.
     Leaves(ExpandCause),
     /// The configuration says no cluster.
     Cluster(ModelCause),
-    /// A line of the status isn't one of its form.
+    /// A line of the status can't be read.
     Status(StatusCause),
-    /// A result line isn't one of its form.
+    /// A result line can't be read.
     Results(ResultCause),
 }
 

@@ -31,7 +31,7 @@ Not built yet (status 2):
 Exit status:
 
   0  done: the input was read to its end, and the whole text was written
-  1  memory was refused; a prefix of the text was written
+  1  memory ran out; a prefix of the text was written
   2  the words are none of the forms; nothing was written
   3  reading failed; nothing was written
   4  writing failed; a prefix of the text was written

@@ -23,7 +23,7 @@ mod reading;
 pub use cause::InputCause;
 pub use fault::InputFault;
 pub use help::{HELP, VERSION};
-pub use laws::{one_reading, what_is_read_is_valid};
+pub use laws::{one_reading, what_check_writes_is_read_again, what_is_read_is_valid};
 pub use reading::{Head, Input, read_input};
 pub use status::Status;
 pub use top::run;

@@ -11,7 +11,7 @@ use cluster_types::{Cluster, Journal, NoMemory, States};
 use std::alloc::Global;
 
 /// What a journal tells of a cluster: the states of its nodes and of each leaf on each node, where leaves may run and may be promoted, what bans
-/// them, which of their monitors are running, which leaves a failure keeps stopped, quorum and the moment (Pacemaker Administration, operation
+/// them, which of their monitors are running, which leaves a failure keeps stopped, quorum and the moment (Pacemaker Explained, operation
 /// history; the states are a rule of this project). It asks for a cluster within the limits, of which each leaf has at most eight recurring monitors,
 /// as each valid cluster is, and for a moment that fits 64 bits. The events are gone through once, however many cells there are.
 pub fn unpack(alloc: Global, cluster: &Cluster, journal: &Journal) -> Result<States, NoMemory>
