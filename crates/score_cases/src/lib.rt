@@ -1,0 +1,9 @@
+//! Tests of the crates that score and place: `score_table`.
+//!
+//! They stand in a crate of their own, since the tests of a crate are proved together with all of its code once more.
+#![tactic(auto)]
+
+#[cfg(test)]
+mod tables;
+#[cfg(test)]
+mod texts;

@@ -1,0 +1,36 @@
+//! What an input says, with all that its journal tells.
+
+ghost use Rattle.std.specs.Prelude.{IfOk};
+ghost use Rattle.cluster_types.specs.Valid.{IsValid};
+
+use cluster_types::{Cluster, States, moment_of};
+use sim_core::read_input;
+use state_unpack::{unpack, valid_clusters_have_few_monitors};
+use std::alloc::Global;
+use std::process::Abort;
+use std::test::Fail;
+
+/// A cluster, and what is known of it.
+#[derive(Drop)]
+pub struct Known {
+    pub cluster: Cluster,
+    pub states: States,
+}
+
+/// The cluster and the states of an input.
+pub fn known_by(rt: &impl Abort, alloc: Global, text: &str) -> Result<Known, Fail>
+    ensures { IfOk result (λ known. IsValid known.cluster) }
+{
+    valid_clusters_have_few_monitors();
+    assert!(rt; text.len() <= 16_777_216);
+    let head = match read_input(alloc, text.as_bytes()) {
+        Ok(input) => input.head,
+        Err(_) => return Err(Fail::from("the input is refused")),
+    };
+    assert!(rt; moment_of(head.journal.events.as_slice()) < 18_446_744_073_709_551_616);
+    let states = unpack(alloc, &head.cluster, &head.journal)?;
+    Ok(Known {
+        cluster: head.cluster,
+        states,
+    })
+}
