@@ -1,3 +1,4 @@
+pub mod SameNames
 pub mod Rows
 pub mod LeafLaws
 pub mod NameLaws

@@ -1,18 +1,13 @@
 -- Where no statement is at fault, no two leaves have one name.
-use Rattle.std.proofs.Common.{◌≡◌, ◌≢◌, ℕ, Bool, true, false, ◌||◌, if◌then◌else◌, List, [], ◌∷◌, ◌++◌, Option, None, Some, All, AllPairs, refl, sym, ap, subst, ◌∙◌, true≢false, arith}
+use Rattle.std.proofs.Common.{◌≡◌, ◌≢◌, ℕ, nat_eq, Bool, true, false, ◌||◌, if◌then◌else◌, List, [], ◌∷◌, ◌++◌, Option, None, Some, All, AllPairs, refl, sym, subst, ◌∙◌, true≢false, arith}
 use Rattle.std.specs.List.{list_any}
-use Rattle.std.specs.BTreeSet.{insert_key}
-use Rattle.std.specs.Cmp.Lexicographic.{nat_list_eq_equiv, slice_cmp}
-use Rattle.std.specs.Ordering.{match_ordering, nat_cmp}
-use Rattle.std.specs.declared.cmp.Ordering.{Ordering}
-use Rattle.std.specs.declared.cmp.Ordering.TheVariants.{Less, Equal, Greater}
-use Rattle.std.proofs.lemmas.Map.Lookups.{exact_bytes}
+use Rattle.std.specs.Cmp.Lexicographic.{nat_list_eq_equiv, pointwise}
+use Rattle.std.proofs.lemmas.List.{append-nil}
 use Rattle.std.proofs.lemmas.List.Elements.{All-cons}
 use Rattle.std.proofs.lemmas.List.Kept.{AllPairs-cons}
 use Rattle.crm_parse.specs.declared.form.Form.{Form}
 use Rattle.crm_parse.specs.declared.form.Form.TheVariants as form
 use Rattle.crm_parse.specs.declared.statement.Statement.{Statement}
-use Rattle.crm_parse.specs.Texts.{is}
 use Rattle.cluster_types.specs.declared.leaf.Leaf.{Leaf}
 use Rattle.clone_expand.specs.declared.fault.ExpandCause.{ExpandCause}
 use Rattle.clone_expand.specs.declared.fault.ExpandCause.TheVariants.{DuplicateName}
@@ -24,7 +19,8 @@ use Rattle.clone_expand.specs.Faults.{cause_of, fault_at, fault_of, first_fault,
 use Rattle.clone_expand.specs.Laws.{NamesDiffer}
 use Rattle.clone_expand.specs.Leaves.{leaf_in, leaf_of, leaves_in, leaves_of, surroundings_of}
 use Rattle.clone_expand.specs.Settings.{nodes_in}
-use Rattle.clone_expand.specs.Tables.{has, with_name, with_names}
+use Rattle.name_sets.specs.NameSets.{has}
+use Rattle.clone_expand.proofs.SameNames.{has-more}
 
 pub or_left : (b c : Bool) → (b || c) ≡ false → b ≡ false
 or_left true c h = absurd (true≢false h)
@@ -34,61 +30,44 @@ pub or_right : (b c : Bool) → (b || c) ≡ false → c ≡ false
 or_right true c h = absurd (true≢false h)
 or_right false c h = h
 
-is_itself : (name : List ℕ) → is name name ≡ true
+is_itself : (name : List ℕ) → pointwise nat_eq name name ≡ true
 is_itself name = nat_list_eq_equiv.refl name
 
--- among some names and one more are those, and that one
-pub one_more : (name x : List ℕ) (names : List (List ℕ)) → has (with_name names name) x ≡ (is x name || has names x)
-one_more name x [] = refl
-one_more name x (y ∷ names) = split (slice_cmp nat_cmp name y) refl (one_more name x names)
-  where
-    pushed : (a b c : Bool) → (b || (a || c)) ≡ (a || (b || c))
-    pushed true true c = refl
-    pushed true false c = refl
-    pushed false b c = refl
+pub kept : (names : List (List ℕ)) (name x : List ℕ) → has (names ++ name ∷ []) x ≡ false → has names x ≡ false
+kept names name x h = or_left (has names x) (has (name ∷ []) x) (sym (has-more names (name ∷ []) x) ∙ h)
 
-    twice : (a c : Bool) → (a || c) ≡ (a || (a || c))
-    twice true c = refl
-    twice false c = refl
-
-    split : (o : Ordering) → slice_cmp nat_cmp name y ≡ o → has (with_name names name) x ≡ (is x name || has names x)
-        → has (match_ordering o (name ∷ y ∷ names) (y ∷ names) (y ∷ insert_key (slice_cmp nat_cmp) names name)) x ≡ (is x name || (is x y || has names x))
-    split Less e rest = refl
-    split Equal e rest = let same = exact_bytes name y e in rw same (twice (is x y) (has names x))
-    split Greater e rest = ap (λ b. is x y || b) rest ∙ pushed (is x name) (is x y) (has names x)
-
-pub kept : (names : List (List ℕ)) (name x : List ℕ) → has (with_name names name) x ≡ false → has names x ≡ false
-kept names name x h = or_right (is x name) (has names x) (sym (one_more name x names) ∙ h)
-
-pub other : (names : List (List ℕ)) (name x : List ℕ) → has (with_name names name) x ≡ false → name ≢ x
+pub other : (names : List (List ℕ)) (name x : List ℕ) → has (names ++ name ∷ []) x ≡ false → name ≢ x
 other names name x h e =
-    let apart = or_left (is x name) (has names x) (sym (one_more name x names) ∙ h) in
-    true≢false (sym (is_itself x) ∙ subst (λ y. is x y ≡ false) e apart)
+    let apart = or_left (pointwise nat_eq name x) false (or_right (has names x) (has (name ∷ []) x) (sym (has-more names (name ∷ []) x) ∙ h)) in
+    true≢false (sym (is_itself x) ∙ subst (λ y. pointwise nat_eq y x ≡ false) e apart)
 
 record Fresh (ids : List (List ℕ)) (leaves : List Leaf) : Type 0 where
   new : All (λ leaf. has ids leaf.name ≡ false) leaves
   apart : AllPairs (λ (one other : Leaf). one.name ≢ other.name) leaves
 
-more : (ids : List (List ℕ)) (id : List ℕ) (leaves : List Leaf) → Fresh (with_name ids id) leaves → Fresh ids leaves
+no_more : (ids : List (List ℕ)) (leaves : List Leaf) → Fresh (ids ++ []) leaves → Fresh ids leaves
+no_more ids leaves h = subst (λ (names : List (List ℕ)). Fresh names leaves) (append-nil ids) h
+
+more : (ids : List (List ℕ)) (id : List ℕ) (leaves : List Leaf) → Fresh (ids ++ id ∷ []) leaves → Fresh ids leaves
 more ids id leaves h = record { new = λ k d l. kept ids id _ (h.new k d l); apart = h.apart }
 
 module _ (s : Surroundings) where
   step : (ids : List (List ℕ)) (f : Form) (leaves : List Leaf) → list_any (has ids) (ids_in f) ≡ false
-      → Fresh (with_names ids (ids_in f)) leaves → Fresh ids (leaf_in s f ++ leaves)
+      → Fresh (ids ++ ids_in f) leaves → Fresh ids (leaf_in s f ++ leaves)
   unfolding leaf_of
   step ids (form.Primitive id agent description params meta utilization operations ops) leaves n h = record {
     new = All-cons (λ (leaf : Leaf). has ids leaf.name ≡ false) _ _ (or_left (has ids id) false n) (λ k d l. kept ids id _ (h.new k d l));
     apart = AllPairs-cons (λ (one other : Leaf). one.name ≢ other.name) _ _ (λ k d l. other ids id _ (h.new k d l)) h.apart;
   }
-  step ids (form.Node id name attributes utilization) leaves n h = h
+  step ids (form.Node id name attributes utilization) leaves n h = no_more ids leaves h
   step ids (form.Group id members description params meta) leaves n h = more ids id leaves h
   step ids (form.Cloned id child ms description params meta) leaves n h = more ids id leaves h
   step ids (form.Location id resource role discovery score node) leaves n h = more ids id leaves h
   step ids (form.RuledLocation id resource role discovery rules) leaves n h = more ids id leaves h
   step ids (form.Colocation id score dependent primary) leaves n h = more ids id leaves h
   step ids (form.Order id kind steps symmetrical) leaves n h = more ids id leaves h
-  step ids (form.Settings what set pairs) leaves n h = h
-  step ids (form.Kept words) leaves n h = h
+  step ids (form.Settings what set pairs) leaves n h = no_more ids leaves h
+  step ids (form.Kept words) leaves n h = no_more ids leaves h
 
 -- a statement that isn't at fault has a new id
 pub not_first : (b : Bool) (rest : Option ExpandCause) → (if b then Some DuplicateName else rest) ≡ None → b ≡ false

@@ -1,6 +1,7 @@
 -- Where no statement is at fault, no two nodes have one name.
-use Rattle.std.proofs.Common.{◌≡◌, ◌≢◌, ℕ, false, List, [], ◌∷◌, ◌++◌, Option, None, Some, All, AllPairs, refl, arith}
+use Rattle.std.proofs.Common.{◌≡◌, ◌≢◌, ℕ, false, List, [], ◌∷◌, ◌++◌, Option, None, Some, All, AllPairs, refl, subst, arith}
 use Rattle.std.specs.List.{flat_map, list_any}
+use Rattle.std.proofs.lemmas.List.{append-nil}
 use Rattle.std.proofs.lemmas.List.Elements.{All-cons}
 use Rattle.std.proofs.lemmas.List.Kept.{AllPairs-cons}
 use Rattle.crm_parse.specs.declared.form.Form.{Form}
@@ -12,7 +13,7 @@ use Rattle.clone_expand.specs.declared.kinds.Kind.{Kind}
 use Rattle.clone_expand.specs.declared.seen.Seen.{Seen}
 use Rattle.clone_expand.specs.Faults.{cause_of, fault_at, fault_of, first_fault, ids_in, kinds_of, nothing_seen, seen_after}
 use Rattle.clone_expand.specs.Settings.{nodes_in}
-use Rattle.clone_expand.specs.Tables.{has, with_names}
+use Rattle.name_sets.specs.NameSets.{has}
 use Rattle.clone_expand.proofs.NameLaws.{kept, not_first, or_left, other}
 
 -- names that are none of those before and differ from each other
@@ -20,21 +21,24 @@ record Fresh (before names : List (List ℕ)) : Type 0 where
   new : All (λ name. has before name ≡ false) names
   apart : AllPairs (λ (one other : List ℕ). one ≢ other) names
 
+no_more : (before names : List (List ℕ)) → Fresh (before ++ []) names → Fresh before names
+no_more before names h = subst (λ (all : List (List ℕ)). Fresh all names) (append-nil before) h
+
 step : (before : List (List ℕ)) (f : Form) (names : List (List ℕ)) → list_any (has before) (nodes_in f) ≡ false
-    → Fresh (with_names before (nodes_in f)) names → Fresh before (nodes_in f ++ names)
+    → Fresh (before ++ nodes_in f) names → Fresh before (nodes_in f ++ names)
 step before (form.Node id name attributes utilization) names n h = record {
   new = All-cons (λ (x : List ℕ). has before x ≡ false) _ _ (or_left (has before name) false n) (λ k d l. kept before name _ (h.new k d l));
   apart = AllPairs-cons (λ (one other : List ℕ). one ≢ other) _ _ (λ k d l. other before name _ (h.new k d l)) h.apart;
 }
-step before (form.Primitive id agent description params meta utilization operations ops) names n h = h
-step before (form.Group id members description params meta) names n h = h
-step before (form.Cloned id child ms description params meta) names n h = h
-step before (form.Location id resource role discovery score node) names n h = h
-step before (form.RuledLocation id resource role discovery rules) names n h = h
-step before (form.Colocation id score dependent primary) names n h = h
-step before (form.Order id kind steps symmetrical) names n h = h
-step before (form.Settings what set pairs) names n h = h
-step before (form.Kept words) names n h = h
+step before (form.Primitive id agent description params meta utilization operations ops) names n h = no_more before names h
+step before (form.Group id members description params meta) names n h = no_more before names h
+step before (form.Cloned id child ms description params meta) names n h = no_more before names h
+step before (form.Location id resource role discovery score node) names n h = no_more before names h
+step before (form.RuledLocation id resource role discovery rules) names n h = no_more before names h
+step before (form.Colocation id score dependent primary) names n h = no_more before names h
+step before (form.Order id kind steps symmetrical) names n h = no_more before names h
+step before (form.Settings what set pairs) names n h = no_more before names h
+step before (form.Kept words) names n h = no_more before names h
 
 -- a statement that isn't at fault has a new node
 new_node : (kinds : List (List ℕ × Kind)) (seen : Seen) (f : Form) → cause_of kinds seen f ≡ None → list_any (has seen.nodes) (nodes_in f) ≡ false

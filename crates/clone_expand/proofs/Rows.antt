@@ -2,16 +2,11 @@
 use Rattle.std.proofs.Common.{◌≡◌, ℕ, List, [], ◌∷◌, ◌++◌, refl, ◌∙◌}
 use Rattle.std.specs.BTreeMap.{is_at}
 use Rattle.std.specs.Cmp.Lexicographic.{slice_cmp}
-use Rattle.std.specs.List.{flat_map, list_any}
+use Rattle.std.specs.List.{flat_map}
 use Rattle.std.specs.Map as std_map
 use Rattle.std.specs.Ordering.{nat_cmp}
 use Rattle.std.proofs.lemmas.Map.Text.{is_eq-slice_cmp}
-use Rattle.clone_expand.specs.Tables.{has, lookup, with_row, with_rows}
-
--- a name that compares as equal is the same
-pub found_among : (name : List ℕ) (names : List (List ℕ)) → list_any (is_at (slice_cmp nat_cmp name)) names ≡ has names name
-found_among name [] = refl
-found_among name (x ∷ names) = rw (is_eq-slice_cmp name x, found_among name names) refl
+use Rattle.clone_expand.specs.Tables.{lookup, with_row, with_rows}
 
 module _ {V : Type 0} where
   pub found_row : (name : List ℕ) (rows : List (List ℕ × V)) → std_map.lookup (is_at (slice_cmp nat_cmp name)) rows ≡ lookup rows name

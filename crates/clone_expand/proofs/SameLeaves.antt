@@ -1,8 +1,7 @@
 -- Statements that say the same stand for the same leaves.
-use Rattle.std.proofs.Common.{◌≡◌, ℕ, Bool, true, false, is_none, unwrap_or, Option, Some, None, List, [], ◌∷◌, length, codes, Result, Ok, Err, refl, sym, ap, ◌∙◌}
+use Rattle.std.proofs.Common.{◌≡◌, ℕ, Bool, true, false, is_none, unwrap_or, Option, Some, None, List, [], ◌∷◌, length, codes, Ok, refl, sym, ap, ◌∙◌}
 use Rattle.std.specs.List.{flat_map}
 use Rattle.std.specs.Option.{option_or}
-use Rattle.crm_parse.specs.declared.form.Form.{Form}
 use Rattle.crm_parse.specs.declared.statement.Statement.{Statement}
 use Rattle.crm_parse.specs.Values.{bool_of}
 use Rattle.clone_expand.specs.declared.fault.ExpandCause.{ExpandCause}
@@ -27,7 +26,7 @@ use Rattle.clone_expand.specs.Tables.{table_of}
 use Rattle.cluster_types.specs.declared.leaf.Leaf.{Leaf}
 use Rattle.faults.specs.declared.fault.Fault.{Fault}
 use Rattle.faults.proofs.Steps.{unless-ok}
-use Rattle.crm_parse.proofs.SameForms.{IsLineless, alike, clear, cleared, each-lineless, forms, unless-none}
+use Rattle.crm_parse.proofs.SameForms.{IsLineless, alike, cleared, each-lineless, forms, unless-none}
 
 option-lineless : (key : List ℕ) (found : Option Bool) → IsLineless (option_from key found)
 option-lineless key found [] = refl

@@ -1,9 +1,10 @@
 -- Which statements are at fault (crmsh manual, group, clone and ms; the causes and their order are rules of this project).
-use Rattle.std.specs.Prelude.{ℕ, Bool, true, false, not, ◌&&◌, ◌||◌, if◌then◌else◌, List, [], ◌∷◌, ◌++◌, is_none, Option, Some, None}
+use Rattle.std.specs.Prelude.{◌≡◌, ℕ, Bool, true, false, not, ◌&&◌, ◌||◌, if◌then◌else◌, List, [], ◌∷◌, ◌++◌, is_none, Option, Some, None}
 use Rattle.std.specs.List.{flat_map, list_any}
 use Rattle.std.specs.Option.{option_map_or}
 use Rattle.faults.specs.declared.fault.Fault.{Fault}
 use Rattle.faults.specs.declared.fault.Fault.TheVariants.{At}
+use Rattle.name_sets.specs.NameSets.{has}
 use Rattle.crm_parse.specs.declared.form.Form.{Form}
 use Rattle.crm_parse.specs.declared.form.Form.TheVariants as form
 use Rattle.crm_parse.specs.declared.statement.Statement.{Statement}
@@ -15,7 +16,7 @@ use Rattle.clone_expand.specs.declared.kinds.Kind.{Kind}
 use Rattle.clone_expand.specs.declared.kinds.Kind.TheVariants as kind
 use Rattle.clone_expand.specs.declared.seen.Seen.{Seen}
 use Rattle.clone_expand.specs.Settings.{nodes_in}
-use Rattle.clone_expand.specs.Tables.{has, lookup, table_of, with_names}
+use Rattle.clone_expand.specs.Tables.{lookup, table_of}
 
 -- the resource of a statement, with its kind
 abbrev pub kind_in : Form → List (List ℕ × Kind)
@@ -52,10 +53,19 @@ nothing_seen = record { nodes = []; ids = []; parts = [] }
 -- the names that statements use, after one more
 unfoldable pub seen_after : Seen → Form → Seen
 seen_after seen form = record {
-  nodes = with_names seen.nodes (nodes_in form);
-  ids = with_names seen.ids (ids_in form);
-  parts = with_names seen.parts (parts_in form);
+  nodes = seen.nodes ++ nodes_in form;
+  ids = seen.ids ++ ids_in form;
+  parts = seen.parts ++ parts_in form;
 }
+
+-- the sets have the same names
+abbrev pub HaveTheSame : List (List ℕ) → List (List ℕ) → Type 0
+HaveTheSame one other = (name : List ℕ) → has one name ≡ has other name
+
+pub record AreAlike (one other : Seen) : Type 0 where
+  pub nodes : HaveTheSame one.nodes other.nodes
+  pub ids : HaveTheSame one.ids other.ids
+  pub parts : HaveTheSame one.parts other.parts
 
 -- a name is used by an earlier node, or an id by an earlier resource or rule
 abbrev pub is_duplicate : Seen → Form → Bool

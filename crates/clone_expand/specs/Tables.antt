@@ -1,26 +1,10 @@
--- Names in use, and tables from names to what they stand for, in the order of the bytes of the names. A name that a table has already keeps what it
--- stands for.
-use Rattle.std.specs.Prelude.{ℕ, Bool, if◌then◌else◌, List, [], ◌∷◌, is_some, Option}
+-- Tables from names to what they stand for, in the order of the bytes of the names. A name that a table has already keeps what it stands for.
+use Rattle.std.specs.Prelude.{ℕ, if◌then◌else◌, List, [], ◌∷◌, is_some, Option}
 use Rattle.std.specs.BTreeMap.{insert_entry}
-use Rattle.std.specs.BTreeSet.{insert_key}
 use Rattle.std.specs.Cmp.Lexicographic.{slice_cmp}
-use Rattle.std.specs.List.{list_any}
 use Rattle.std.specs.Ordering.{nat_cmp}
 use Rattle.std.specs.Map as std_map
 use Rattle.crm_parse.specs.Texts.{is}
-
--- the name is among some names
-abbrev pub has : List (List ℕ) → List ℕ → Bool
-has names name = list_any (is name) names
-
--- some names, and one more
-abbrev pub with_name : List (List ℕ) → List ℕ → List (List ℕ)
-with_name names name = insert_key (slice_cmp nat_cmp) names name
-
--- some names, and some more
-abbrev pub with_names : List (List ℕ) → List (List ℕ) → List (List ℕ)
-with_names names [] = names
-with_names names (name ∷ more) = with_names (with_name names name) more
 
 module _ {V : Type 0} where
   -- what a name stands for

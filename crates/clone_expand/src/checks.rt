@@ -5,17 +5,17 @@ ghost use Rattle.std.specs.List.{list_any};
 ghost use Rattle.std.specs.Option.{option_map_or};
 ghost use Rattle.clone_expand.specs.Faults.{cause_of, fault_of, first_fault, has_twice, has_unknown, is_empty_group};
 ghost use Rattle.clone_expand.specs.Faults.{is_group, may_hold, nests, nothing_seen, promotes_group};
-ghost use Rattle.clone_expand.specs.Tables.{has, lookup};
+ghost use Rattle.clone_expand.specs.Tables.{lookup};
 
 use crate::clones::is_promotable;
 use crate::kinds::{Kind, is_group, kinds_of};
-use crate::name_set::NameSet;
 use crate::name_table::NameTable;
 use crate::seen::{Seen, nothing_seen, parts_in};
 use crate::{ExpandCause, ExpandFault};
 use cluster_types::NoMemory;
 use crm_lex::Name;
 use crm_parse::{Form, Statement};
+use name_sets::NameSet;
 use std::alloc::Global;
 
 fn has_unknown(kinds: &NameTable<Kind>, form: &Form) -> bool

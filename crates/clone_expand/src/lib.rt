@@ -5,8 +5,7 @@
 mod fault;
 mod leaves;
 
-// Names, and what they stand for.
-mod name_set;
+// What names stand for.
 mod name_table;
 
 // How values are read.

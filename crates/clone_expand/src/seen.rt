@@ -1,14 +1,14 @@
-ghost use Rattle.std.specs.Prelude.{◌≡◌, OnOk};
+ghost use Rattle.std.specs.Prelude.{◌≡◌, ◌++◌, OnOk};
 ghost use Rattle.std.specs.List.{list_any};
 ghost use Rattle.std.specs.Option.{option_copied, option_to_list};
-ghost use Rattle.clone_expand.specs.Faults.{ids_in, is_duplicate, nothing_seen, parts_in, seen_after};
+ghost use Rattle.clone_expand.specs.Faults.{AreAlike, HaveTheSame, ids_in, is_duplicate, nothing_seen, parts_in, seen_after};
 ghost use Rattle.clone_expand.specs.Settings.{nodes_in};
-ghost use Rattle.clone_expand.specs.Tables.{has, with_names};
+ghost use Rattle.name_sets.specs.NameSets.{has};
 
-use crate::name_set::NameSet;
 use cluster_types::NoMemory;
 use crm_lex::Name;
 use crm_parse::Form;
+use name_sets::NameSet;
 use std::alloc::Global;
 use std::slice;
 
@@ -79,8 +79,9 @@ fn has_some(names: &NameSet, name: Option<&Name>) -> bool
     }
 }
 
+#[tactic(auto, using(crate::proofs::SameNames::with_one, crate::proofs::SameNames::with_none))]
 fn add_some(alloc: Global, names: &mut NameSet, name: Option<&Name>) -> Result<(), NoMemory>
-    ensures { OnOk result (names.new ≡ with_names names.old (option_to_list (option_copied name.entry))) }
+    ensures { OnOk result (HaveTheSame names.new (names.old ++ option_to_list (option_copied name.entry))) }
 {
     match name {
         Some(name) => names.add(alloc, name),
@@ -89,7 +90,7 @@ fn add_some(alloc: Global, names: &mut NameSet, name: Option<&Name>) -> Result<(
 }
 
 fn add_all(alloc: Global, names: &mut NameSet, more: &[Name]) -> Result<(), NoMemory>
-    ensures { OnOk result (names.new ≡ with_names names.old more.now) }
+    ensures { OnOk result (HaveTheSame names.new (names.old ++ more.now)) }
 {
     for name in more {
         names.add(alloc, name)?;
@@ -108,7 +109,7 @@ impl Seen {
     /// Adds the names of a statement.
     #[tactic(auto, unfolding(crate::specs::Faults::seen_after))]
     pub fn add(&mut self, alloc: Global, form: &Form) -> Result<(), NoMemory>
-        ensures { OnOk result (self.new ≡ seen_after self.old form.now) }
+        ensures { OnOk result (AreAlike self.new (seen_after self.old form.now)) }
     {
         add_some(alloc, &mut self.nodes, node_in(form))?;
         add_some(alloc, &mut self.ids, id_in(form))?;

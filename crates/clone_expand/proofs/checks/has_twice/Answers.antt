@@ -1,7 +1,7 @@
 use Rattle.std.proofs.Common.{rules, ◌≡◌, ◌+◌, ◌++◌, ◌∷◌, false, drop, sym, ap, ◌∙◌}
 use Rattle.std.proofs.lemmas.List.{drop_more}
 use Rattle.clone_expand.specs.Faults.{has_twice}
-use Rattle.clone_expand.specs.Tables.{has, with_name}
+use Rattle.name_sets.specs.NameSets.{IsWith, has}
 use Rattle.clone_expand.proofs.Twice.{next_part}
 use Rattle.clone_expand.proofs.checks.has_twice.Goals as goal
 
@@ -13,7 +13,8 @@ loop-part-preserved c =
     let part = c.part-item.result in
     let new : has names part ≡ false = sym c.has.ensures ∙ c.if-has.false in
     let other : has l.before part ≡ false = sym c.has-else-has.ensures ∙ c.if-has-2.false in
-    let added : c.add.new.self ≡ with_name l.before part = search rules in
+    let added : IsWith l.before part c.add.new.self = search rules in
     let front : drop l.part-index parts ≡ part ∷ drop (l.part-index + 1) parts
     = drop_more parts l.part-index part c.loop-part-test.true ∙ ap (λ first. first ∷ drop (l.part-index + 1) parts) (sym c.part-item.is) in
-    rw added (l.invariant ∙ (ap (has_twice (names ++ l.before)) front ∙ next_part names l.before part (drop (l.part-index + 1) parts) new other))
+    l.invariant
+    ∙ (ap (has_twice (names ++ l.before)) front ∙ next_part names l.before c.add.new.self part (drop (l.part-index + 1) parts) new other added)
