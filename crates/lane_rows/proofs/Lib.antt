@@ -5,3 +5,4 @@ pub mod RowLaws
 pub mod SmallRows
 pub mod StoredTotals
 pub mod Tallies
+pub mod NodeSets

@@ -1,4 +1,4 @@
-ghost use Rattle.std.specs.Prelude.{◌≡◌, ℕ, ◌<◌, ◌&&◌, ◌||◌, ◌==◌, not, false};
+ghost use Rattle.std.specs.Prelude.{◌≡◌, ℕ, ◌<◌, ◌≤◌, ◌&&◌, ◌||◌, ◌==◌, not, false, true};
 ghost use Rattle.lane_rows.specs.NodeSet.{has};
 
 /// A set of node numbers below 256.
@@ -23,6 +23,31 @@ impl NodeSet {
         ensures { (n : ℕ) → has self.new n ≡ (n == node || has self.old n) }
     {
         self.flags[node as usize] = true;
+    }
+
+    /// Adds a node, if it is wanted.
+    pub fn put_if(&mut self, node: u32, wanted: bool)
+        requires { node < 256 }
+        ensures { (n : ℕ) → has self.new n ≡ (wanted && n == node || has self.old n) }
+    {
+        if wanted {
+            self.put(node);
+        }
+    }
+
+    /// The nodes that pass, of so many.
+    pub fn of<F: Fn(u32) -> bool>(nodes: u32, passes: F) -> NodeSet
+        requires few { nodes ≤ 256 }
+        requires passes { (n : ℕ) → n < nodes → F.pre passes n }
+        ensures passed { (n : ℕ) → n < nodes → F.post passes n (has result n) }
+        ensures there { (n : ℕ) → has result n ≡ true → n < nodes }
+    {
+        let mut set = NodeSet::none();
+        for node in 0..nodes {
+            let wanted = passes(node);
+            set.put_if(node, wanted);
+        }
+        set
     }
 
     /// Takes a node out, if it is in the set.

@@ -6,7 +6,6 @@ pub mod TriedLenders
 pub mod MoreRows
 pub mod FirstSaid
 pub mod Named
-pub mod NodeSets
 pub mod FewTerms
 pub mod Fits
 pub mod EachNode

@@ -1,10 +1,9 @@
 //! The total of each decision on each node, before colocations.
 #![tactic(auto)]
 
-// Sets of nodes, and rows of the terms that each node has.
+// Rows of the terms that each node has.
 mod adding;
 mod fitting;
-mod node_sets;
 mod putting;
 mod row_totals;
 
@@ -25,4 +24,5 @@ mod laws;
 mod table;
 
 pub use laws::scores_are_totals;
+pub use own_rows::usable_nodes;
 pub use table::{ScoreTable, rows};

@@ -7,7 +7,6 @@ ghost use Rattle.lane_rows.specs.Row.{finite_at};
 ghost use Rattle.score_table.specs.Locations as spec;
 ghost use Rattle.score_table.specs.Rows.{IsRow, IsRoomy, more_where};
 
-use crate::node_sets::{add_if, nodes_that};
 use crate::putting::{put_each, put_if};
 use cluster_types::{Cluster, LeafId, Location, NodeId, Role, RuleLocation};
 use date_rules::holds;
@@ -33,7 +32,7 @@ fn nodes_of(cluster: &Cluster, rule: &RuleLocation, moment: u64) -> NodeSet
     requires { length cluster.now.nodes ≤ 256 }
     ensures { (n : ℕ) → n < length cluster.now.nodes → has result n ≡ spec.rule_holds_by cluster.now moment rule.now n }
 {
-    nodes_that(cluster.nodes.len() as u32, |node| {
+    NodeSet::of(cluster.nodes.len() as u32, |node| {
         rule_holds(cluster, rule, node, moment)
     })
 }
@@ -118,7 +117,7 @@ fn name_located(cluster: &Cluster, leaf: LeafId, named: &mut NodeSet)
     ensures { (n : ℕ) → has named.new n ≡ (has named.old n || spec.is_named leaf cluster.now.locations n) }
 {
     for rule in cluster.locations.as_slice() {
-        add_if(named, rule.node, rule.leaf == leaf);
+        named.put_if(rule.node, rule.leaf == leaf);
     }
 }
 
@@ -137,7 +136,7 @@ fn with_rule(
     if rule.leaf != leaf {
         return named;
     }
-    nodes_that(cluster.nodes.len() as u32, |node| {
+    NodeSet::of(cluster.nodes.len() as u32, |node| {
         named.has(node) || rule_holds(cluster, rule, node, moment)
     })
 }
@@ -164,5 +163,5 @@ pub(crate) fn unnamed_nodes(cluster: &Cluster, leaf: LeafId, moment: u64) -> Nod
         return NodeSet::none();
     }
     let named = named_nodes(cluster, leaf, moment);
-    nodes_that(cluster.nodes.len() as u32, |node| !named.has(node))
+    NodeSet::of(cluster.nodes.len() as u32, |node| !named.has(node))
 }

@@ -7,10 +7,9 @@ ghost use Rattle.score_table.specs.OwnRows as spec;
 ghost use Rattle.score_table.specs.Rows.{IsRow};
 
 use crate::locations::{given_row, unnamed_nodes};
-use crate::node_sets::nodes_that;
 use crate::putting::put_each;
 use cluster_types::{Cluster, LeafId, NodeId, Role, States, cell_place};
-use lane_rows::{NoMemory, Row};
+use lane_rows::{NoMemory, NodeSet, Row};
 use score::Score;
 use std::alloc::Global;
 
@@ -52,7 +51,7 @@ fn put_stickiness(cluster: &Cluster, states: &States, leaf: LeafId, row: Row) ->
     ensures { IsRow (length cluster.now.nodes) (spec.sticky_by cluster.now states.now leaf) result }
 {
     let nodes = cluster.nodes.len() as u32;
-    let active = nodes_that(nodes, |node| is_active(cluster, states, leaf, node));
+    let active = NodeSet::of(nodes, |node| is_active(cluster, states, leaf, node));
     let mut row = row;
     put_each(&mut row, nodes, stickiness_of(cluster, leaf), &active);
     row
@@ -65,7 +64,7 @@ fn put_bans(cluster: &Cluster, states: &States, leaf: LeafId, row: Row) -> Row
     ensures { IsRow (length cluster.now.nodes) (spec.banned_by cluster.now states.now leaf) result }
 {
     let nodes = cluster.nodes.len() as u32;
-    let banned = nodes_that(nodes, |node| is_banned(cluster, states, leaf, node));
+    let banned = NodeSet::of(nodes, |node| is_banned(cluster, states, leaf, node));
     let mut row = row;
     put_each(&mut row, nodes, Score::MINUS_INFINITY, &banned);
     row

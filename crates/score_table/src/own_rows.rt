@@ -7,7 +7,6 @@ ghost use Rattle.score_table.specs.OwnRows.{AreOwnRows, own_by};
 ghost use Rattle.score_table.specs.Rows.{IsRow};
 ghost use Rattle.score_table.specs.Usable.{is_usable_by};
 
-use crate::node_sets::nodes_that;
 use crate::own::own_row;
 use cluster_types::{Cluster, LeafId, NodeId, NodeState, States};
 use lane_rows::{NoMemory, NodeSet, Row};
@@ -34,12 +33,12 @@ fn is_usable(cluster: &Cluster, states: &States, node: NodeId) -> bool
         && !cluster.is_standby(node)
 }
 
-/// The nodes that may run resources.
-fn usable_nodes(cluster: &Cluster, states: &States) -> NodeSet
+/// The nodes that may run resources: those that are online and not in standby (Pacemaker Explained, "standby").
+pub fn usable_nodes(cluster: &Cluster, states: &States) -> NodeSet
     requires { length cluster.now.nodes ≤ 256 }
     ensures { (n : ℕ) → has result n ≡ is_usable_by cluster.now states.now n }
 {
-    nodes_that(cluster.nodes.len() as u32, |node| {
+    NodeSet::of(cluster.nodes.len() as u32, |node| {
         is_usable(cluster, states, node)
     })
 }

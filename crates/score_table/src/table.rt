@@ -1,9 +1,8 @@
 //! The totals of all decisions.
 
-ghost use Rattle.std.specs.Prelude.{◌≡◌, ◌+◌, ◌*◌, ◌<◌, ℕ, List, length, IfOk};
+ghost use Rattle.std.specs.Prelude.{◌≡◌, ◌+◌, ◌*◌, ℕ, List, length, pos, slice_index_or, IfOk};
 ghost use Rattle.cluster_types.specs.declared.journal.Event.{Event};
 ghost use Rattle.cluster_types.specs.declared.journal.Promotion.{Promotion as PromotionOf};
-ghost use Rattle.cluster_types.specs.declared.placement.Decision.TheVariants.{Place, Promote};
 ghost use Rattle.cluster_types.specs.Unpacked.{states_of};
 ghost use Rattle.cluster_types.specs.Valid.{IsValid};
 ghost use Rattle.score_table.specs.Scores as spec;
@@ -28,30 +27,23 @@ pub struct ScoreTable {
     pub promotes: Listed<Score>,
 }
 
+fn score_at(scores: &[Score], nodes: u32, leaf: LeafId, node: NodeId) -> Score
+    ensures { result ≡ slice_index_or scores.now (leaf * nodes + node) (pos 0) }
+{
+    match scores.get(cell_place(nodes as usize, leaf, node)) {
+        Some(score) => *score,
+        None => Score { points: 0 },
+    }
+}
+
 impl ScoreTable {
-    fn place_at(&self, leaf: LeafId, node: NodeId) -> Score
-        requires { leaf * self.now.nodes + node < length self.now.places }
-        ensures { result ≡ spec.score_in self.now (Place leaf) node }
-    {
-        self.places.as_slice()[cell_place(self.nodes as usize, leaf, node)]
-    }
-
-    fn promote_at(&self, leaf: LeafId, node: NodeId) -> Score
-        requires { leaf * self.now.nodes + node < length self.now.promotes }
-        ensures { result ≡ spec.score_in self.now (Promote leaf) node }
-    {
-        self.promotes.as_slice()[cell_place(self.nodes as usize, leaf, node)]
-    }
-
-    /// The total of a decision on a node, before colocations. The leaf and the node are there.
+    /// The total of a decision on a node, before colocations. It is 0 for a cell that the table doesn't have.
     pub fn total_at(&self, decision: Decision, node: NodeId) -> Score
-        requires placed { (leaf : ℕ) → decision ≡ Place leaf → leaf * self.now.nodes + node < length self.now.places }
-        requires promoted { (leaf : ℕ) → decision ≡ Promote leaf → leaf * self.now.nodes + node < length self.now.promotes }
         ensures { result ≡ spec.score_in self.now decision node }
     {
         match decision {
-            Decision::Place(leaf) => self.place_at(leaf, node),
-            Decision::Promote(leaf) => self.promote_at(leaf, node),
+            Decision::Place(leaf) => score_at(self.places.as_slice(), self.nodes, leaf, node),
+            Decision::Promote(leaf) => score_at(self.promotes.as_slice(), self.nodes, leaf, node),
         }
     }
 }

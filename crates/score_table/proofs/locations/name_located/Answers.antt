@@ -11,8 +11,8 @@ use Rattle.score_table.proofs.locations.name_located.Goals as goal
 pub loop-rule-init : goal.loop-rule-init
 loop-rule-init c = λ n. sym (or-false (has c.args.named.now n))
 
-pub add_if-requires : goal.add_if-requires
-add_if-requires c =
+pub put_if-requires : goal.put_if-requires
+put_if-requires c =
     let items = c.as_slice-rule-items.result.now in
     let rule = c.rule-item.result in
     let within : Contains items rule = subst (Contains items) (sym c.rule-item.is) (Contains-get_or items c.loop-rule.rule-index rule c.loop-rule-test.true) in
@@ -24,7 +24,7 @@ loop-rule-preserved c = λ n.
     let l = c.loop-rule in
     let items = c.as_slice-rule-items.result.now in
     let rule = c.rule-item.result in
-    c.add_if.ensures n ∙ (ap (λ b. (rule.leaf == c.args.leaf) && n == rule.node || b) (l.invariant n)
+    c.put_if.ensures n ∙ (ap (λ b. (rule.leaf == c.args.leaf) && n == rule.node || b) (l.invariant n)
     ∙ named-more c.args.leaf items l.rule-index rule c.loop-rule-test.true c.rule-item.is (has c.args.named.now n) n)
 
 pub returns : goal.returns

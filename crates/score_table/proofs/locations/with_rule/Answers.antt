@@ -3,12 +3,12 @@ use Rattle.lane_rows.specs.NodeSet.{has}
 use Rattle.score_table.specs.Locations.{rule_holds_by}
 use Rattle.score_table.proofs.locations.with_rule.Goals as goal
 
-pub nodes_that-requires-clause-passes : goal.nodes_that-requires-clause-passes
-nodes_that-requires-clause-passes c = λ n low κs p e r d. omega (arith, low, c.len.ensures, c.requires)
+pub of-requires-clause-passes : goal.of-requires-clause-passes
+of-requires-clause-passes c = λ n low κs p e r d. omega (arith, low, c.len.ensures, c.requires)
 
 pub returns : goal.returns
 returns c = λ n low.
-    let passed = c.nodes_that.ensures.passed n (omega (arith, low, c.len.ensures)) in
-    let is : has c.nodes_that.result n ≡ (has c.args.named n || rule_holds_by c.args.cluster.now c.args.moment c.args.rule.now n) = search rules in
+    let passed = c.of.ensures.passed n (omega (arith, low, c.len.ensures)) in
+    let is : has c.of.result n ≡ (has c.args.named n || rule_holds_by c.args.cluster.now c.args.moment c.args.rule.now n) = search rules in
     let same : (c.args.rule.now.leaf == c.args.leaf) ≡ true = grind (arith, c.if-rule-leaf.false) in
     is ∙ ap (λ b. has c.args.named n || (b && rule_holds_by c.args.cluster.now c.args.moment c.args.rule.now n)) (sym same)

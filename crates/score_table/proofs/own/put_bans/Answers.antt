@@ -21,7 +21,7 @@ pub returns : goal.returns
 returns c =
     let cluster = c.args.cluster.now in
     let states = c.args.states.now in
-    put-each (length cluster.nodes) c.len-nodes.result (has c.nodes_that-banned.result) (is_banned_by cluster states c.args.leaf) minus_infinity minus_infinity
+    put-each (length cluster.nodes) c.len-nodes.result (has c.of-banned.result) (is_banned_by cluster states c.args.leaf) minus_infinity minus_infinity
     (sticky_by cluster states c.args.leaf) c.args.row c.put_each.new.row c.len-nodes.ensures
-    (λ n low. let passed = c.nodes_that-banned.ensures.passed n (omega (arith, low, c.len-nodes.ensures)) in search rules)
+    (λ n low. let passed = c.of-banned.ensures.passed n (omega (arith, low, c.len-nodes.ensures)) in search rules)
     refl c.put_each.ensures.terms c.requires.row

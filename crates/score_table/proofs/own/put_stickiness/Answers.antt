@@ -22,7 +22,7 @@ pub returns : goal.returns
 returns c =
     let cluster = c.args.cluster.now in
     let states = c.args.states.now in
-    put-each (length cluster.nodes) c.len-nodes.result (has c.nodes_that-active.result) (is_active_by cluster states c.args.leaf) c.stickiness_of.result (stickiness_of cluster c.args.leaf)
+    put-each (length cluster.nodes) c.len-nodes.result (has c.of-active.result) (is_active_by cluster states c.args.leaf) c.stickiness_of.result (stickiness_of cluster c.args.leaf)
     (given_by cluster states c.args.leaf) c.args.row c.put_each.new.row c.len-nodes.ensures
-    (λ n low. let passed = c.nodes_that-active.ensures.passed n (omega (arith, low, c.len-nodes.ensures)) in search rules)
+    (λ n low. let passed = c.of-active.ensures.passed n (omega (arith, low, c.len-nodes.ensures)) in search rules)
     c.stickiness_of.ensures c.put_each.ensures.terms c.requires.row

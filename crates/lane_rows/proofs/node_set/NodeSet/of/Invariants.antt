@@ -1,6 +1,6 @@
 use Rattle.std.proofs.Common.{◌≡◌, ◌<◌, ℕ, true}
 use Rattle.lane_rows.specs.NodeSet.{has}
-use Rattle.score_table.proofs.node_sets.nodes_that.Given as goal
+use Rattle.lane_rows.proofs.node_set.NodeSet.of.Given as goal
 
 abbrev pub invariant-loop-node : goal.invariant-loop-node
 invariant-loop-node g l = record {

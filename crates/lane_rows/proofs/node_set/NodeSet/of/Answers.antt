@@ -1,8 +1,8 @@
 use Rattle.std.proofs.Common.{inl, inr, sym, subst, ◌∙◌, arith}
 use Rattle.std.proofs.lemmas.Bool.{cases_eq, false≢true}
 use Rattle.lane_rows.specs.NodeSet.{has}
-use Rattle.score_table.proofs.NodeSets.{joins, outside, stays}
-use Rattle.score_table.proofs.node_sets.nodes_that.Goals as goal
+use Rattle.lane_rows.proofs.NodeSets.{joins, outside, stays}
+use Rattle.lane_rows.proofs.node_set.NodeSet.of.Goals as goal
 
 pub loop-node-init : goal.loop-node-init
 loop-node-init g c = record {
@@ -14,11 +14,11 @@ pub loop-node-preserved : goal.loop-node-preserved
 loop-node-preserved g c =
     let l = c.loop-node in
     let out = outside (has l.set) l.node l.invariant.there l.node (omega arith) in
-    let here = joins c.passes-wanted.result (has l.set) (has c.add_if.new.set) l.node c.add_if.ensures out in
-    let other = stays c.passes-wanted.result (has l.set) (has c.add_if.new.set) l.node c.add_if.ensures in
+    let here = joins c.passes-wanted.result (has l.set) (has c.put_if.new.self) l.node c.put_if.ensures out in
+    let other = stays c.passes-wanted.result (has l.set) (has c.put_if.new.self) l.node c.put_if.ensures in
     record {
       passed = λ n low. elim (cases_eq n l.node) [
-        | inl e ↦ subst (λ m. goal.F-post g c.args.passes m (has c.add_if.new.set m)) (sym e) (subst (goal.F-post g c.args.passes l.node) (sym here) c.passes-wanted.ensures)
+        | inl e ↦ subst (λ m. goal.F-post g c.args.passes m (has c.put_if.new.self m)) (sym e) (subst (goal.F-post g c.args.passes l.node) (sym here) c.passes-wanted.ensures)
         | inr e ↦ subst (goal.F-post g c.args.passes n) (sym (other n e)) (l.invariant.passed n (omega (arith, low, e)))
       ];
       there = λ n h. elim (cases_eq n l.node) [
