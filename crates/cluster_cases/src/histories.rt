@@ -445,9 +445,6 @@ fn faults_print_their_line(rt: HostRuntime) -> Result<(), Fail> {
         "line 7: TooManyResults"
     );
     let fault = StatusFault::NoMemory;
-    assert_eq!(rt;
-        format!(in alloc; "{fault}")?.as_str(),
-        "out of memory"
-    );
+    assert_eq!(rt; format!(in alloc; "{fault}")?.as_str(), "out of memory");
     Ok(())
 }

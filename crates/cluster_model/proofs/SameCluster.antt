@@ -34,10 +34,15 @@ setting-lineless key (s ∷ statements) = ap (λ (o : Option (List ℕ)). option
 properties-lineless : IsLineless properties_of
 unfolding properties_of
 properties-lineless statements =
-    rw (setting-lineless (codes "symmetric-cluster") statements, setting-lineless (codes "stonith-enabled") statements,
-    setting-lineless (codes "startup-fencing") statements, setting-lineless (codes "no-quorum-policy") statements,
-    setting-lineless (codes "start-failure-is-fatal") statements, setting-lineless (codes "stop-all-resources") statements,
-    setting-lineless (codes "batch-limit") statements) refl
+    rw (
+      setting-lineless (codes "symmetric-cluster") statements,
+      setting-lineless (codes "stonith-enabled") statements,
+      setting-lineless (codes "startup-fencing") statements,
+      setting-lineless (codes "no-quorum-policy") statements,
+      setting-lineless (codes "start-failure-is-fatal") statements,
+      setting-lineless (codes "stop-all-resources") statements,
+      setting-lineless (codes "batch-limit") statements,
+    ) refl
 
 members-lineless : (groups : List (List ℕ × ℕ)) (n : ℕ) → IsLineless (with_members groups n)
 members-lineless groups n [] = refl
@@ -51,8 +56,14 @@ directory-lineless leaves statements =
 cluster-lineless : (d : Directory) (leaves : List Leaf) → IsLineless (cluster_of d leaves)
 unfolding cluster_of
 cluster-lineless d leaves statements =
-    rw (each-lineless node_in statements, each-lineless (location_in d) statements, each-lineless (rule_locations_in d) statements,
-    each-lineless (colocations_in d) statements, each-lineless (orders_in d) statements, properties-lineless statements) refl
+    rw (
+      each-lineless node_in statements,
+      each-lineless (location_in d) statements,
+      each-lineless (rule_locations_in d) statements,
+      each-lineless (colocations_in d) statements,
+      each-lineless (orders_in d) statements,
+      properties-lineless statements,
+    ) refl
 
 counted-lineless : (counts : Counts) → IsLineless (all_counted counts)
 counted-lineless counts [] = refl

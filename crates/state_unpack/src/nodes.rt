@@ -11,7 +11,7 @@ ghost use Rattle.std.specs.Option.{option_map_or};
 use crate::cells::counted_of;
 use crate::facts::Facts;
 use crate::signs::{Sign, state_by_sign};
-use cluster_types::{cell_place, Cluster, LeafId, NodeId, NodeState};
+use cluster_types::{Cluster, LeafId, NodeId, NodeState, cell_place};
 
 /// What is kept of a cell.
 pub fn facts_at(cluster: &Cluster, cells: &[Facts], leaf: LeafId, node: NodeId) -> Option<Facts>

@@ -7,7 +7,7 @@ ghost use Rattle.state_unpack.specs.Kept.{IsFull, Keeps, Tells};
 ghost use Rattle.state_unpack.specs.Touching.{action_touches, touches};
 
 use crate::facts::Facts;
-use cluster_types::{cell_place, Action, Cluster, Event, LeafId, NodeId};
+use cluster_types::{Action, Cluster, Event, LeafId, NodeId, cell_place};
 use std::alloc::{AllocError, Global};
 
 /// Tells the cell of one more event, if there is such a cell.
