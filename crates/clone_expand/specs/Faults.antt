@@ -62,6 +62,7 @@ seen_after seen form = record {
 abbrev pub HaveTheSame : List (List ℕ) → List (List ℕ) → Type 0
 HaveTheSame one other = (name : List ℕ) → has one name ≡ has other name
 
+-- they have seen the same names
 pub record AreAlike (one other : Seen) : Type 0 where
   pub nodes : HaveTheSame one.nodes other.nodes
   pub ids : HaveTheSame one.ids other.ids

@@ -17,5 +17,6 @@ pub enum ExpandCause {
     UnsupportedMeta,
 }
 
-/// Why there are no leaves. The line is that of the first statement that is at fault, and the cause the first of its causes in their order.
+/// Why there are no leaves: out of memory, or a line and a cause. The line is that of the first statement that is at fault, and the cause the
+/// first of its causes in their order.
 pub type ExpandFault = Fault<ExpandCause>;

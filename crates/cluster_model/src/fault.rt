@@ -21,5 +21,6 @@ pub enum ModelCause {
     OrderLoop,
 }
 
-/// Why there is no cluster. The line is that of the first statement that is at fault, and the cause the first of its causes in their order.
+/// Why there is no cluster: out of memory, or a line and a cause. The line is that of the first statement that is at fault, and the cause the
+/// first of its causes in their order.
 pub type ModelFault = Fault<ModelCause>;

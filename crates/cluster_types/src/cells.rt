@@ -7,7 +7,7 @@ use crate::journal::{Action, Event};
 use crate::leaf::LeafId;
 use crate::node::NodeId;
 
-/// The place of a cell in a list that has those of so many nodes, leaf by leaf and node by node.
+/// The place of a cell in a list that has those of so many nodes, leaf by leaf and node by node. It asks that the place is below 2^64.
 pub fn cell_place(nodes: usize, leaf: LeafId, node: NodeId) -> usize
     requires { leaf * nodes + node < 2 ^ 64 }
     ensures { result ≡ leaf * nodes + node }

@@ -53,7 +53,7 @@ pub fn first_journal_is_in_order()
 {}
 
 /// Of a graph is computed what its edges say: one action comes before another when the edges lead from it to the other through gates
-/// alone.
+/// alone, and only then.
 pub fn paths_are_computed()
     ensures { (g : GraphOf) (x y : ℕ) → IsGraph g → is_before g x y ≡ true ↔ IsBefore g x y }
 {}

@@ -139,14 +139,14 @@ impl Decision {
 pub enum Pin {
     /// The cluster doesn't manage it.
     Unmanaged,
-    /// A failure blocks it where it may run.
+    /// A failure after which it must be left alone blocks it on a node.
     Blocked,
 }
 
 /// Why a leaf has no target. The first reason that holds counts.
 #[derive(PartialEq, Eq, Drop)]
 pub enum NoReason {
-    /// It may have no copy: `clone-max` is 0.
+    /// It may have no copy: `clone-max` is 0, or there is no node.
     NoCopies,
     /// Its target role.
     Stopped,

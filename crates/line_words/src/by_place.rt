@@ -3,7 +3,7 @@ ghost use Rattle.std.specs.Option.{option_copied};
 
 use crm_lex::{Line, WordBuf};
 
-/// The words of one line, of which a form looks at the first eight at most.
+/// The words of one line. A `WordBuf` has the first eight only, so with it `end_at` sees no ninth.
 pub trait Words {
     /// The words, in order.
     ghost words: { Self → List (List ℕ) };

@@ -1,4 +1,4 @@
-//! What stands at a place of a line, counted from 0. `MissingWord` comes when the line ends before it.
+//! What stands at a place of a line, counted from 0. `MissingWord` comes when the line ends before it, but not of `end_at`.
 
 ghost use Rattle.std.specs.Prelude.{◌≡◌, ◌<◌, ◌^◌, length, IfOk};
 ghost use Rattle.cluster_types.specs.Valid.{KeepsLimits};

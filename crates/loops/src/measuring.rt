@@ -22,7 +22,7 @@ fn above(ways: &[u32], places: &[u32]) -> u32
 
 /// For each position, how many edges the longest way to it has.
 ///
-/// Both ends of each edge are positions, and there is no loop. The time is linear in the positions and the edges.
+/// It asks for at most 1,000,000,000 positions, for edges whose ends are positions, and that there is no loop. The time is linear in the positions and the edges.
 pub fn longest_ways(alloc: Global, positions: u32, edges: &[Edge]) -> Result<Vec<u32>, AllocError>
     requires few { positions ≤ 1000000000 }
     requires ends { EndWithin positions edges.now }

@@ -7,7 +7,7 @@ use std::alloc::Global;
 use std::collections::BTreeSet;
 use std::marker::Model;
 
-/// Names, each once. Contracts see them in the order of their bytes.
+/// Names, each once. What contracts say of them is which names they have.
 #[derive(Drop)]
 pub struct NameSet {
     names: BTreeSet<Name>,

@@ -18,7 +18,7 @@ pub enum StatusCause {
     Repeated,
 }
 
-/// Why there is no journal: the first faulty line of the status, with the cause of its leftmost faulty word, or out of memory.
+/// Why there is no journal: the first faulty line of the status with its cause, or out of memory.
 pub type StatusFault = Fault<StatusCause>;
 
 /// Why a result line isn't read.
@@ -38,7 +38,7 @@ pub enum ResultCause {
     TooManyResults,
 }
 
-/// Why there are no results: the first faulty result line, with the cause of its leftmost faulty word, or out of memory.
+/// Why there are no results: the first faulty result line with its cause, or out of memory.
 pub type ResultFault = Fault<ResultCause>;
 
 impl From<WordCause> for StatusCause {

@@ -16,14 +16,14 @@ pub fn first_order_is_one()
     ensures { (c : Cluster) (a b : Option ℕ) → AllOrder c → IsFirstOrder c a → IsFirstOrder c b → a ≡ b }
 {}
 
-/// Where the tests find no loop, there is none.
+/// When the tests find no loop, there is none.
 #[tactic(auto, using(crate::proofs::LoopTests::need_of_none, crate::proofs::LoopTests::step_of_none))]
 pub fn tests_find_loops()
     ensures needs { (c : Cluster) → has_need_loop c ≡ false → NeedsHaveNoLoop c }
     ensures steps { (c : Cluster) → has_step_loop c ≡ false → HasNoLoop c }
 {}
 
-/// Some of the first rules have a loop just when the first rule with one is among them.
+/// The first `count` rules have a loop, as the test computes it, when the rule that closes the first loop is among them, and only then.
 pub fn first_rules_have_the_loop()
     ensures needs { (c : Cluster) (place : Option ℕ) (count : ℕ) → AllJoin c → IsFirstColocation c place → count ≤ length c.colocations
         → has_need_loop (with_colocations c count) ≡ is_closed_by place count }

@@ -104,7 +104,7 @@ fn table_by(
 /// The total of each decision on each node, before colocations. That of placing a leaf is of what its locations, its stickiness, what keeps
 /// it away and its lenders give. That of promoting it is of how much it wants to be promoted and of what its locations in the role Promoted
 /// give (Pacemaker Explained, "Scores" and "Promotable Clones"; which leaves lend is a rule of this project). It asks for a valid cluster.
-/// Out of memory is the only other answer.
+/// What it gives is said of states that `unpack` gives. Out of memory is the only other answer.
 pub fn rows(alloc: Global, cluster: &Cluster, states: &States) -> Result<ScoreTable, NoMemory>
     requires { IsValid cluster.now }
     ensures { (events : List Event) (promotions : List PromotionOf) → states.now ≡ states_of cluster.now events promotions

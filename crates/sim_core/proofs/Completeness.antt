@@ -4,7 +4,7 @@ use Rattle.cluster_io.specs.Streams.{Rose}
 use Rattle.sim_core.specs.declared.status.Status.{Status}
 use Rattle.sim_core.specs.declared.status.Status.TheVariants.{Done, NoMemory, Usage, ReadFault, WriteFault, Refused, Unexpected, TooLarge, NotLawful}
 use Rattle.sim_core.specs.declared.words.Command.{Command}
-use Rattle.sim_core.specs.Answers.{Answers, IsComplete, IsDue, IsWritten, SaysOf, Taken, Written, input_of, most_bytes}
+use Rattle.sim_core.specs.Answers.{Answers, IsComplete, IsDue, IsWritten, SaysOf, Taken, Written, told_input, most_bytes}
 use Rattle.sim_core.specs.Table.{Intake, nothing, whole, live, intake, Gets}
 use Rattle.sim_core.proofs.OneOutcome.{one_status}
 
@@ -37,12 +37,12 @@ module _ (word : Command) (input : List ℕ) where
       (λ same. subst (λ s. IsDue (Gets word input) s) same is, λ other. one_status word input is.text other.text status due is.due other.due)
 
 -- the input of a live word isn't told
-is_told : (kind : Intake) (told : Option (List ℕ)) (input : List ℕ) → input_of kind told ≡ Some input → kind ≢ live
+is_told : (kind : Intake) (told : Option (List ℕ)) (input : List ℕ) → told_input kind told ≡ Some input → kind ≢ live
 is_told nothing told input e l = cc
 is_told whole told input e l = cc
 is_told live told input e l = cc
 
-with_told : (word : Command) (told : Option (List ℕ)) (found : Option (List ℕ)) (left before after : Option (List ℕ)) (status : Status) → input_of (intake word) told ≡ found
+with_told : (word : Command) (told : Option (List ℕ)) (found : Option (List ℕ)) (left before after : Option (List ℕ)) (status : Status) → told_input (intake word) told ≡ found
     → IfSome found (λ input. SaysOf (intake word) (Gets word) input left before after status) → status ≢ ReadFault → status ≢ WriteFault
     → IfSome found (λ input. length input ≤ most_bytes → status ≢ NoMemory → (due : Status) → (status ≡ due) ↔ IsDue (Gets word input) due)
 with_told word told None left before after status e says read write = tt
@@ -55,4 +55,4 @@ pub complete : (word : Command) (told left before after : Option (List ℕ)) (st
     → (status ≡ ReadFault → Rose reads_before reads_after) → (status ≡ WriteFault → Rose writes_before writes_after)
     → ¬ Rose reads_before reads_after → ¬ Rose writes_before writes_after → IsComplete word told status
 complete word told left before after status _ _ _ _ says read_cause write_cause reads_quiet writes_quiet =
-    with_told word told (input_of (intake word) told) left before after status refl says (λ e. reads_quiet (read_cause e)) (λ e. writes_quiet (write_cause e))
+    with_told word told (told_input (intake word) told) left before after status refl says (λ e. reads_quiet (read_cause e)) (λ e. writes_quiet (write_cause e))

@@ -77,19 +77,19 @@ module _ (kind : Intake) (Output : List ℕ → Status → List ℕ → Type 0) 
     pub due : IsDue (Output input) status
 
 -- the input of a word, where it is told: all bytes of the source with a word that reads an input to its end, and none with one that reads nothing
-abbrev pub input_of : Intake → Option (List ℕ) → Option (List ℕ)
-input_of nothing left = Some []
-input_of whole left = left
-input_of live left = None
+abbrev pub told_input : Intake → Option (List ℕ) → Option (List ℕ)
+told_input nothing left = Some []
+told_input whole left = left
+told_input live left = None
 
 -- what the answer to a word says, where its input is told
 abbrev pub Answers : Command → Option (List ℕ) → Option (List ℕ) → Option (List ℕ) → Option (List ℕ) → Status → Type 0
 Answers word told left before after status =
-    IfSome (input_of (intake word) told) (λ input. SaysOf (intake word) (Gets word) input left before after status)
+    IfSome (told_input (intake word) told) (λ input. SaysOf (intake word) (Gets word) input left before after status)
 
 -- where no count rose and the input has room, each answer but out of memory is the one that the input gets
 abbrev pub IsComplete : Command → Option (List ℕ) → Status → Type 0
-IsComplete word told status = IfSome (input_of (intake word) told) (λ input. length input ≤ most_bytes → status ≢ NoMemory
+IsComplete word told status = IfSome (told_input (intake word) told) (λ input. length input ≤ most_bytes → status ≢ NoMemory
     → (due : Status) → (status ≡ due) ↔ IsDue (Gets word input) due)
 
 abbrev pub reads_some : Intake → Bool

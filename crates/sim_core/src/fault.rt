@@ -1,6 +1,6 @@
 use crate::cause::InputCause;
 use faults::Fault;
 
-/// Why nothing is read of an input. The line is the one at which the first step of reading that fails fails, the physical line, counted from 1,
-/// where the logical line begins.
+/// Why nothing is read of an input: the line and the cause of the first step of reading that fails, or out of memory. Lines are physical lines,
+/// counted from 1: the first of the logical line, or for `NotUtf8` and `ControlByte` that of the byte.
 pub type InputFault = Fault<InputCause>;

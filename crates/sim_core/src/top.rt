@@ -52,7 +52,7 @@ pub fn run<S: Source, W: Sink>(alloc: Global, words: &[String], src: &mut S, out
         (λ word. ¬ Rose (S.faults src.old) (S.faults src.new) → ¬ Rose (W.faults out.old) (W.faults out.new)
         → IsComplete word (S.left src.old) result) }
 
-    // What holds whatever the source and the sink tell. Status 2 comes when the words are no form, and then leaves both as they were.
+    // What holds whatever the source and the sink tell. Status 2 comes when the words are no form, and only then; it leaves both as they were.
     ensures usage { (result ≡ Status.Usage) ↔ (command_of (map string_bytes words.now) ≡ None) }
     ensures nothing_without_form { result ≡ Status.Usage → out.new ≡ out.old }
     ensures status { IfSome (command_of (map string_bytes words.now)) (λ word. IsStatusOf word result) }

@@ -23,7 +23,7 @@ fn one_word(word: &str) -> Option<Command>
     }
 }
 
-/// The command of these words. None when they are none of the forms.
+/// The command of these words. None when they are none of the forms, and only then.
 pub fn command_of(words: &[String]) -> Option<Command>
     ensures { result ≡ command_of (map string_bytes words.now) }
 {
