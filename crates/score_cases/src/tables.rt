@@ -91,5 +91,8 @@ fn total_of_one_cell(rt: HostRuntime) -> Result<(), Fail> {
     assert!(rt; table.promotes.len() == 4);
     assert!(rt; table.total_at(Decision::Place(0), 1).points == 1);
     assert!(rt; table.total_at(Decision::Promote(0), 1).points == 20);
+    assert!(rt; table.total_at(Decision::Place(0), 2).points == 0);
+    assert!(rt; table.total_at(Decision::Promote(0), 2).points == 0);
+    assert!(rt; table.total_at(Decision::Place(9), 0).points == 0);
     Ok(())
 }

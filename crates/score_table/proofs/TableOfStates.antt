@@ -1,6 +1,7 @@
 -- The table of all totals by the states that a journal tells is that of the journal.
-use Rattle.std.proofs.Common.{◌≡◌, ℕ, ◌+◌, ◌<◌, ℤ, pos, List, [], ◌∷◌, ◌++◌, length, map, ap, ◌∙◌, arith}
+use Rattle.std.proofs.Common.{◌≡◌, ℕ, ◌+◌, ◌*◌, ◌<◌, nat_lt, true, slice_index_or, ℤ, pos, refl, List, [], ◌∷◌, ◌++◌, length, map, ap, ◌∙◌, arith}
 use Rattle.std.specs.List.{range_with_len}
+use Rattle.std.proofs.lemmas.Bool.Decides.{nat_tests}
 use Rattle.std.proofs.lemmas.List.Sorted.{IsPermutation-append_comm}
 use Rattle.lemmas.proofs.Ranges.{flat_map-same, map-same}
 use Rattle.score.specs.Total.{total_of}
@@ -15,7 +16,7 @@ use Rattle.cluster_types.proofs.StatesKept.{get_or-rows}
 use Rattle.cluster_types.specs.Terms.{base, is_promoted, location_scores, promotion_score, with_lenders}
 use Rattle.cluster_types.specs.Unpacked.{states_of}
 use Rattle.score_table.specs.OwnRows.{terms_by}
-use Rattle.score_table.specs.Scores.{cells_of, place_by, promote_by, score_in, scores_of, table_by}
+use Rattle.score_table.specs.Scores.{cells_of, place_by, promote_by, score_at, score_in, scores_of, table_by}
 use Rattle.score_table.proofs.JoinedOfStates.{all-joins, terms-is}
 
 -- cells that are the same
@@ -23,6 +24,10 @@ cells-same : {X : Type 0} (c : Cluster) (f g : ℕ → ℕ → X) → ((r n : �
 cells-same c f g h =
     flat_map-same (λ r. map (f r) (range_with_len 0 (length c.nodes))) (λ r. map (g r) (range_with_len 0 (length c.nodes))) (length c.leaves)
     (λ r leaf. map-same (f r) (g r) (length c.nodes) (λ n node. h r n leaf node))
+
+-- a node that is there has its score in the list
+score-there : (scores : List ℤ) (nodes r n : ℕ) → n < nodes → score_at scores nodes r n ≡ slice_index_or scores (r * nodes + n) (pos 0)
+score-there scores nodes r n h = let there : nat_lt n nodes ≡ true = grind (arith, nat_tests) in rw there refl
 
 module _ (c : Cluster) (es : List Event) (ps : List Promotion) where
   place-is : (r n : ℕ) → r < length c.leaves → n < length c.nodes → place_by c (states_of c es ps) r n ≡ base c es ps (Place r) n
@@ -46,8 +51,10 @@ module _ (c : Cluster) (es : List Event) (ps : List Promotion) where
   -- and what it says of a decision on a node is that total
   pub total-is : (d : Decision) (n : ℕ) → leaf_of d < length c.leaves → n < length c.nodes → score_in (scores_of c es ps) d n ≡ base c es ps d n
   total-is (Place r) n leaf node =
+      score-there (cells_of c (λ s. base c es ps (Place s))) (length c.nodes) r n node ∙
       get_or-rows (λ s. base c es ps (Place s)) (length c.nodes) 0 (length c.leaves) r n (pos 0) leaf node
       ∙ ap (λ (s : ℕ). base c es ps (Place s) n) (let e : 0 + r ≡ r = omega arith in e)
   total-is (Promote r) n leaf node =
+      score-there (cells_of c (λ s. base c es ps (Promote s))) (length c.nodes) r n node ∙
       get_or-rows (λ s. base c es ps (Promote s)) (length c.nodes) 0 (length c.leaves) r n (pos 0) leaf node
       ∙ ap (λ (s : ℕ). base c es ps (Promote s) n) (let e : 0 + r ≡ r = omega arith in e)

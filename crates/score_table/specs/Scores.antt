@@ -1,5 +1,5 @@
 -- The totals of all cells, put together (follows from the definition of a decision's base).
-use Rattle.std.specs.Prelude.{ℕ, ◌+◌, ◌*◌, ℤ, pos, List, length, map, slice_index_or}
+use Rattle.std.specs.Prelude.{ℕ, ◌+◌, ◌*◌, nat_lt, if◌then◌else◌, ℤ, pos, List, length, map, slice_index_or}
 use Rattle.std.specs.List.{flat_map, range_with_len}
 use Rattle.cluster_types.specs.declared.cluster.Cluster.{Cluster}
 use Rattle.cluster_types.specs.declared.journal.Event.{Event}
@@ -26,10 +26,14 @@ scores_of c es promotions = record {
   promotes = cells_of c (λ r. base c es promotions (Promote r));
 }
 
+-- the score of a leaf on a node in a list of those of so many nodes, and 0 where it has none
+abbrev pub score_at : List ℤ → ℕ → ℕ → ℕ → ℤ
+score_at scores nodes r n = if nat_lt n nodes then slice_index_or scores (r * nodes + n) (pos 0) else pos 0
+
 -- the total of a decision on a node
 abbrev pub score_in : ScoreTable → Decision → ℕ → ℤ
-score_in table (Place r) n = slice_index_or table.places (r * table.nodes + n) (pos 0)
-score_in table (Promote r) n = slice_index_or table.promotes (r * table.nodes + n) (pos 0)
+score_in table (Place r) n = score_at table.places table.nodes r n
+score_in table (Promote r) n = score_at table.promotes table.nodes r n
 
 -- the same by the states of the cluster
 module _ (c : Cluster) (states : States) where

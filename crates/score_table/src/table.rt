@@ -1,6 +1,6 @@
 //! The totals of all decisions.
 
-ghost use Rattle.std.specs.Prelude.{◌≡◌, ◌+◌, ◌*◌, ℕ, List, length, pos, slice_index_or, IfOk};
+ghost use Rattle.std.specs.Prelude.{◌≡◌, ℕ, List, length, IfOk};
 ghost use Rattle.cluster_types.specs.declared.journal.Event.{Event};
 ghost use Rattle.cluster_types.specs.declared.journal.Promotion.{Promotion as PromotionOf};
 ghost use Rattle.cluster_types.specs.Unpacked.{states_of};
@@ -28,8 +28,11 @@ pub struct ScoreTable {
 }
 
 fn score_at(scores: &[Score], nodes: u32, leaf: LeafId, node: NodeId) -> Score
-    ensures { result ≡ slice_index_or scores.now (leaf * nodes + node) (pos 0) }
+    ensures { result ≡ spec.score_at scores.now nodes leaf node }
 {
+    if node >= nodes {
+        return Score { points: 0 };
+    }
     match scores.get(cell_place(nodes as usize, leaf, node)) {
         Some(score) => *score,
         None => Score { points: 0 },
