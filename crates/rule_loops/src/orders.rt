@@ -67,7 +67,8 @@ fn edges_of_links(alloc: Global, cluster: &Cluster) -> Result<StepEdges, AllocEr
     Ok(StepEdges { edges, ends })
 }
 
-/// The edges of all links, between the positions of their steps.
+/// The edges of all links, between the positions of their steps. A leaf has four positions: of its demote, which is 4 * leaf, and behind it
+/// of its stop, its start and its promote.
 ///
 /// The leaves of each order are there, and none of its words is Monitor. The time is linear in the leaves and the orders.
 pub fn link_edges(alloc: Global, cluster: &Cluster) -> Result<Vec<Edge>, AllocError>
