@@ -4,7 +4,7 @@ use crate::plain::cluster_of;
 use crate::reading::name;
 use cluster_types::{Cluster, Colocation, LeafId, Op, Order, OrderKind, Role};
 use listed::Listed;
-use rule_loops::{colocation_loop, joins_leaves, link_edges, order_loop, orders_steps};
+use rule_loops::{colocation_loop, joins_leaves, order_loop, orders_steps};
 use score::Score;
 use std::alloc::Global;
 use std::process::Abort;
@@ -189,31 +189,5 @@ fn orders_of_stops_and_promotes(rt: HostRuntime) -> Result<(), Fail> {
         ordered(&rt, alloc, OrderKind::Mandatory, false, &not_there)?,
         None
     );
-    Ok(())
-}
-
-/// Demote, stop, start and promote of a leaf have four positions in a row. Only the last leaf is promotable.
-#[test]
-fn links_join_the_steps_of_leaves(rt: HostRuntime) -> Result<(), Fail> {
-    let alloc = rt.alloc();
-    let mut orders = Listed::new(alloc);
-    orders.push(Order {
-        id: name(alloc, "x")?,
-        kind: OrderKind::Mandatory,
-        first: 0,
-        first_op: Op::Start,
-        then_leaf: 1,
-        then_op: Op::Start,
-        symmetrical: true,
-        local: false,
-    })?;
-    let cluster = cluster(&rt, alloc, Listed::new(alloc), orders)?;
-    assert!(rt; cluster.leaves.len() == 3 && orders_steps(&cluster));
-    let edges = link_edges(alloc, &cluster)?;
-    let mut found = Vec::new(alloc);
-    for edge in &edges {
-        found.push((edge.before, edge.after))?;
-    }
-    assert!(rt; found.as_slice() == [(8, 9), (10, 11), (2, 6), (5, 1)].as_slice());
     Ok(())
 }
