@@ -21,7 +21,7 @@ module _ (cause_after : List Statement → Statement → Option ModelCause) wher
   first_fault before [] = None
   first_fault before (s ∷ statements) = fault_at s.line (cause_after before s) (first_fault (before ++ s ∷ []) statements)
 
-  -- how many statements stand before the first with a cause
+  -- how many statements stand before the first with a cause (the call `first_fault` counts them)
   abbrev pub sound_count : List Statement → List Statement → ℕ
   sound_count before [] = 0
   sound_count before (s ∷ statements) = count_on (cause_after before s) (sound_count (before ++ s ∷ []) statements)

@@ -55,7 +55,7 @@ resolution_of leaves statements =
     let d = directory_of leaves statements in
     unless (first_fault (cause_after d leaves.leaves) [] statements) (cluster_of d leaves.leaves statements)
 
--- the cause where the first loops are closed by the colocation at one place and the order at the other, and so many rules were added
+-- What the search for the first fault (`cause_of` and those below it) works by: the cause when the first loops are closed by the colocation at one place and the order at the other, and so many rules were added
 abbrev pub closed_by : Option ℕ → Option ℕ → ℕ → ℕ → Option ModelCause
 closed_by colocation order colocations orders =
     if is_closed_by colocation colocations then Some ColocationLoop else if is_closed_by order orders then Some OrderLoop else None

@@ -4,7 +4,7 @@ use Rattle.std.specs.Prelude.{cond}
 use Rattle.std.specs.List.{list_all, list_any, range_with_len}
 use Rattle.std.proofs.lemmas.Bool.{and_from, not-false, not-true, or_parts}
 use Rattle.lemmas.proofs.Booleans.{one_of}
-use Rattle.lemmas.proofs.Ranges.{all_in_range, some_in_range}
+use Rattle.lemmas.proofs.Ranges.{all_in_range, each_in_range, some_in_range}
 use Rattle.cluster_types.specs.declared.cluster.Cluster.{Cluster}
 use Rattle.cluster_types.specs.declared.journal.Event.{Event}
 use Rattle.cluster_types.specs.declared.journal.Event.TheVariants.{Ended}
@@ -12,7 +12,6 @@ use Rattle.cluster_types.specs.declared.journal.Outcome.TheVariants.{Code, Timed
 use Rattle.cluster_types.specs.Journals.{ends_number}
 use Rattle.cluster_types.specs.Safety.{is_gone}
 use Rattle.cluster_types.specs.Steps.{Transition, aborts, all_succeeded, flight, has_aborted, has_begun, has_ended, has_room, has_succeeded, is_in_flight_number, is_settled, is_success, may_begin, numbers, succeeds_number}
-use Rattle.cluster_types.proofs.StepLaws.{in_range}
 
 left_out : (b : Bool) (x : ℕ) (xs : List ℕ) → cond b (x ∷ xs) xs ≡ [] → (not b ≡ true) × (xs ≡ [])
 left_out true x xs h = cc
@@ -24,7 +23,7 @@ none_passes p (x ∷ xs) h = let parts = left_out (p x) x (filter p xs) h in and
 
 none_in_range : (p : ℕ → Bool) (from count j : ℕ) → from ≤ j → j < from + count → filter p (range_with_len from count) ≡ [] → p j ≡ false
 none_in_range p from count j low high h =
-    not-true (p j) (in_range (λ j. not (p j)) from count j low high (none_passes p (range_with_len from count) h))
+    not-true (p j) (each_in_range (λ j. not (p j)) from count j low high (none_passes p (range_with_len from count) h))
 
 -- an end that doesn't abort and isn't gone is a success
 success_of : (c : Cluster) (k : ℕ) (e : Event) → ends_number k e ≡ true → aborts c e ≡ false → is_gone e ≡ false → succeeds_number c k e ≡ true

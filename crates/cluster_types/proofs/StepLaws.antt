@@ -1,10 +1,11 @@
 -- What holds of the steps of a transition, whatever answers come.
-use Rattle.std.proofs.Common.{arith, ◌≡◌, ◌<◌, ◌≤◌, ◌+◌, ◌==◌, ◌&&◌, ◌||◌, not, ℕ, suc, zero, Bool, true, false, List, [], ◌∷◌, ◌++◌, refl, sym, subst, length, filter, append-nil}
+use Rattle.std.proofs.Common.{arith, ◌≡◌, ◌<◌, ◌≤◌, ◌==◌, ◌&&◌, ◌||◌, not, ℕ, Bool, true, false, List, [], ◌∷◌, ◌++◌, refl, sym, subst, length, filter, append-nil}
 use Rattle.std.specs.Prelude.{Option, Some, None, map, find}
-use Rattle.std.specs.List.{list_all, list_any, flat_map, range_with_len}
+use Rattle.std.specs.List.{list_all, list_any, flat_map}
 use Rattle.std.specs.Option.{option_map_or}
 use Rattle.std.proofs.lemmas.Bool.{and_from, not-true}
 use Rattle.lemmas.proofs.Booleans.{sooner, later, implied}
+use Rattle.lemmas.proofs.Ranges.{each_in_range}
 use Rattle.cluster_types.specs.declared.journal.Action.{Action}
 use Rattle.cluster_types.specs.declared.journal.Answer.{Answer}
 use Rattle.cluster_types.specs.declared.journal.Answer.TheVariants as answer
@@ -110,18 +111,6 @@ module _ (t : Transition) (whole : Bool) (P : List Event → ℕ → Action → 
 
 -- What must precede has succeeded.
 
-at_first : (p : ℕ → Bool) (from j : ℕ) → (same : Bool) → (from == j) ≡ same → p from ≡ true → (same ≡ false → p j ≡ true) → p j ≡ true
-at_first p from j true e h rest = let f : from ≡ j = grind arith in subst (λ z. p z ≡ true) f h
-at_first p from j false e h rest = rest refl
-
-pub in_range : (p : ℕ → Bool) (from count j : ℕ) → from ≤ j → j < from + count → list_all p (range_with_len from count) ≡ true → p j ≡ true
-in_range p from zero j low high h = absurd (let f : ⊥ = omega arith in f)
-in_range p from (suc count) j low high h =
-    at_first p from j (from == j) refl (sooner (p from) _ h) (λ e. in_range p (from + 1) count j (not_first from j low e) (omega arith) (later (p from) _ h))
-  where
-    not_first : (from j : ℕ) → from ≤ j → (from == j) ≡ false → from + 1 ≤ j
-    not_first from j low e = grind arith
-
 module _ (t : Transition) (since : List Event) (k : ℕ) (h : may_begin t since k ≡ true) where
   before_it : list_any (λ j. j == k) (numbers t) && not (has_aborted t since) && not (has_begun t since k) && has_room t since ≡ true
   before_it = sooner (list_any (λ j. j == k) (numbers t) && not (has_aborted t since) && not (has_begun t since k) && has_room t since) _ h
@@ -133,7 +122,7 @@ module _ (t : Transition) (since : List Event) (k : ℕ) (h : may_begin t since 
   has_preceded j low high before =
       let all = later (list_any (λ j. j == k) (numbers t) && not (has_aborted t since) && not (has_begun t since k) && has_room t since) _ h in
       implied (t.precedes j k) (has_succeeded t since j)
-      (in_range (λ j. not (t.precedes j k) || has_succeeded t since j) 1 (length t.actions) j (omega arith) (omega arith) all) before
+      (each_in_range (λ j. not (t.precedes j k) || has_succeeded t since j) 1 (length t.actions) j (omega arith) (omega arith) all) before
 
   pub not_aborted : has_aborted t since ≡ false
   not_aborted = not-true (has_aborted t since) (later (list_any (λ j. j == k) (numbers t)) _ (sooner (list_any (λ j. j == k) (numbers t) && not (has_aborted t since)) _ not_before))

@@ -69,7 +69,7 @@ transition_of c es actions = record {
 abbrev pub transition_on : Cluster → GraphOf → List Event → Transition
 transition_on c g es = record { cluster = c; actions = g.actions; precedes = is_before g; planned_at = es }
 
--- the graph has the actions of a plan, and of two numbers the one comes before the other exactly where its action must precede
+-- the graph has the actions of a plan, and of two numbers the one comes before the other just when its action must precede
 pub record CarriesOut (c : Cluster) (es : List Event) (promotions : List Promotion) (placed : Placed) (g : GraphOf) : Type 0 where
   pub plan : IsPlan c es promotions placed g.actions
   pub pairs : (j k : ℕ) → is_before g j k ≡ precedes_by_number c g.actions (numbered g.actions j) (numbered g.actions k)

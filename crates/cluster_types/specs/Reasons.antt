@@ -73,7 +73,7 @@ module _ (c : Cluster) (es : List Event) (table : Targets) where
   IsReason r (none.Held id) = (plain_reason r ≡ None) × IsHeldBy r id
   IsReason r reason = plain_reason r ≡ Some reason
 
-  -- a leaf has a reason exactly where it isn't pinned and has no target
+  -- a leaf has a reason just when it isn't pinned and has no target
   abbrev pub HasReason : Targets → ℕ → Option NoReason → Type 0
   HasReason targets r None = (is_pinned c es r ≡ true) ⊎ ((n : ℕ) × (n < length c.nodes) × (is_somewhere (targets r n) ≡ true))
   HasReason targets r (Some reason) =

@@ -137,7 +137,7 @@ module _ (t : Transition) where
     pub eager : IsEager events
 
   -- a complete transition ends in its targets: each action has begun and succeeded once; on each node that was online when it was planned a leaf may run
-  -- exactly where it has a target, and may be promoted exactly where its target says so; each cell there is as its target says, if its leaf isn't
+  -- just when it has a target, and may be promoted just when its target says so; each cell there is as its target says, if its leaf isn't
   -- pinned; and each node that was to be fenced is offline
   pub record EndsInTargets (targets : Targets) (events : List Event) : Type 0 where
     pub begun : (k : ℕ) → 0 < k → k ≤ length t.actions → count_by (begins_number k) events ≡ 1

@@ -1,6 +1,7 @@
 -- How counts change.
-use Rattle.std.proofs.Common.{arith, ◌≡◌, ◌<◌, ◌≤◌, ◌+◌, ◌||◌, ℕ, suc, zero, Bool, true, false, List, [], ◌∷◌, ◌++◌, length, count_by, cond, slice_index_or, refl, ap, ◌∙◌}
+use Rattle.std.proofs.Common.{arith, ◌≡◌, ◌<◌, ◌≤◌, ◌+◌, ◌==◌, ◌&&◌, ◌||◌, not, ℕ, suc, zero, Bool, true, false, List, [], ◌∷◌, ◌++◌, length, map, filter, count_by, cond, slice_index_or, refl, ap, ◌∙◌}
 use Rattle.std.specs.List.{list_any}
+use Rattle.std.proofs.Math.Bool.{or-false}
 use Rattle.std.proofs.lemmas.List.Sums.{sum_by-append, sum_by-cons}
 
 pub count-append : {X : Type 0} (p : X → Bool) (xs ys : List X) → count_by p (xs ++ ys) ≡ count_by p xs + count_by p ys
@@ -99,3 +100,46 @@ count_one_more p q more (y ∷ ys) zero x lt at f g =
 count_one_more p q more (y ∷ ys) (suc k) x lt at f g =
     let rest : count_by p ys < count_by q ys = count_one_more p q more ys k x (omega arith) at f g in
     count_less_on p q y ys (p y) (q y) refl refl (more y) rest
+
+-- Pairs of positions, of which a set is taken: how many have `x` at the one end, and at the other a position that isn't taken.
+abbrev pub beyond_by : {E : Type 0} → (E → ℕ) → (E → ℕ) → ℕ → (ℕ → Bool) → E → Bool
+beyond_by end other x taken e = x == end e && not (taken (other e))
+
+module _ {E : Type 0} (end other : E → ℕ) where
+  abbrev ends_with : List E → ℕ → List ℕ
+  ends_with es y = map end (filter (λ e. other e == y) es)
+
+  moved : (b : Bool) (n : ℕ) → cond (b && true) 1 0 + n ≡ cond (b && false) 1 0 + (cond b 1 0 + n)
+  moved true n = omega arith
+  moved false n = omega arith
+
+  one_first : (e : E) (es : List E) (y : ℕ) (b : Bool) → (other e == y) ≡ b → ends_with (e ∷ es) y ≡ cond b (end e ∷ ends_with es y) (ends_with es y)
+  one_first e es y true h = rw h refl
+  one_first e es y false h = rw h refl
+
+  module _ (x y : ℕ) (before after : ℕ → Bool) (more : (a : ℕ) → after a ≡ (before a || (a == y))) (new : before y ≡ false) where
+    one_of : (e : E) (es : List E) (b : Bool) → (other e == y) ≡ b
+        → cond (beyond_by end other x before e) 1 0 + count_by (◌==◌ x) (ends_with es y)
+            ≡ cond (beyond_by end other x after e) 1 0 + count_by (◌==◌ x) (ends_with (e ∷ es) y)
+    one_of e es true h =
+        let at : other e ≡ y = grind arith in
+        let was : before (other e) ≡ false = rw at new in
+        let is : after (other e) ≡ true = rw (more (other e), was, h) refl in
+        let s = one_first e es y true h in
+        let c = count-cons (◌==◌ x) (end e) (ends_with es y) in
+        rw (was, is, s, c) (moved (x == end e) (count_by (◌==◌ x) (ends_with es y)))
+    one_of e es false h =
+        let same : after (other e) ≡ before (other e) = rw (more (other e), h) (or-false (before (other e))) in
+        let s = one_first e es y false h in
+        rw (same, s) refl
+
+    -- one position more is taken: the pairs that have it at the other end aren't counted any more
+    pub beyond_by_more : (es : List E) → count_by (beyond_by end other x before) es
+        ≡ count_by (beyond_by end other x after) es + count_by (◌==◌ x) (map end (filter (λ e. other e == y) es))
+    beyond_by_more [] = refl
+    beyond_by_more (e ∷ es) =
+        let f = count-cons (beyond_by end other x before) e es in
+        let g = count-cons (beyond_by end other x after) e es in
+        let h = one_of e es (other e == y) refl in
+        let r = beyond_by_more es in
+        omega arith

@@ -6,6 +6,7 @@ use Rattle.std.proofs.lemmas.List.{length-set, get_or-set_same, get_or-set_other
 use Rattle.std.proofs.lemmas.List.Elements.{filter-append}
 use Rattle.std.proofs.lemmas.List.FromFn.{map-range_with_len_more, get_or-map-range_with_len, length-map-range_with_len}
 use Rattle.std.specs.List.{flat_map, list_all, list_any, range_with_len}
+use Rattle.lemmas.proofs.Booleans.{sooner, later}
 use Rattle.lemmas.proofs.Counts.{count-is}
 
 -- one number more
@@ -95,16 +96,26 @@ all_in_range p from zero h = refl
 all_in_range p from (suc count) h =
     and_from (p from) _ (h from (omega arith) (omega arith)) (all_in_range p (from + 1) count (λ j low high. h j (omega (arith, low)) (omega (arith, high))))
 
+not_first : (from j : ℕ) → from ≤ j → (from == j) ≡ false → from + 1 ≤ j
+not_first from j low e = grind arith
+
 pub some_in_range : (p : ℕ → Bool) (from count j : ℕ) → from ≤ j → j < from + count → p j ≡ true → list_any p (range_with_len from count) ≡ true
 some_in_range p from zero j low high h = absurd (let f : ⊥ = omega arith in f)
 some_in_range p from (suc count) j low high h = at_first (from == j) refl (λ e. some_in_range p (from + 1) count j (not_first from j low e) (omega (arith, high)) h)
   where
-    not_first : (from j : ℕ) → from ≤ j → (from == j) ≡ false → from + 1 ≤ j
-    not_first from j low e = grind arith
-
     at_first : (same : Bool) → (from == j) ≡ same → (same ≡ false → list_any p (range_with_len (from + 1) count) ≡ true) → list_any p (range_with_len from (suc count)) ≡ true
     at_first true e rest = let f : from ≡ j = grind arith in let g : p from ≡ true = subst (λ z. p z ≡ true) (sym f) h in rw g refl
     at_first false e rest = or_right (p from) _ (rest refl)
+
+first_or_later : (p : ℕ → Bool) (from j : ℕ) → (same : Bool) → (from == j) ≡ same → p from ≡ true → (same ≡ false → p j ≡ true) → p j ≡ true
+first_or_later p from j true e h rest = let f : from ≡ j = grind arith in subst (λ z. p z ≡ true) f h
+first_or_later p from j false e h rest = rest refl
+
+pub each_in_range : (p : ℕ → Bool) (from count j : ℕ) → from ≤ j → j < from + count → list_all p (range_with_len from count) ≡ true → p j ≡ true
+each_in_range p from zero j low high h = absurd (let f : ⊥ = omega arith in f)
+each_in_range p from (suc count) j low high h =
+    first_or_later p from j (from == j) refl (sooner (p from) _ h)
+      (λ e. each_in_range p (from + 1) count j (not_first from j low e) (omega (arith, high)) (later (p from) _ h))
 
 -- another element at one place
 pub map-set-range : {X : Type 0} (d : X) (f g : ℕ → X) (k i : ℕ) (v : X) → i < k → g i ≡ v → ((n : ℕ) → n ≢ i → g n ≡ f n)

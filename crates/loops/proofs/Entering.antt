@@ -1,5 +1,5 @@
 -- The edges into a position, and where they begin.
-use Rattle.std.proofs.Common.{arith, ◌≡◌, ◌==◌, ℕ, suc, zero, Bool, true, false, List, [], ◌∷◌, map, filter, cond, refl, ap, ◌⊎◌, inl, inr, Contains}
+use Rattle.std.proofs.Common.{arith, ◌≡◌, ◌==◌, ℕ, Bool, true, false, List, [], ◌∷◌, map, filter, cond, refl, ap, ◌⊎◌, inl, inr, Contains}
 use Rattle.std.proofs.lemmas.Bool.{eqb-true}
 use Rattle.lemmas.proofs.Members.{at_head, head_or_rest, in_none, in_rest}
 use Rattle.loops.specs.declared.edge.Edge.{Edge}

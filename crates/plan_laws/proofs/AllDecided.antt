@@ -1,6 +1,7 @@
 -- All decisions can be made: while one is ready, one is next, and each step leaves fewer that aren't made.
 use Rattle.std.proofs.Common.{arith, ◌≡◌, ◌≢◌, ◌<◌, ◌≤◌, not, ℕ, suc, zero, Bool, true, false, List, [], ◌∷◌, ◌++◌, ◌⊎◌, inl, inr, refl, sym, ◌∙◌, count_by, Contains}
 use Rattle.std.proofs.lemmas.Bool.{false_from_ne_true}
+use Rattle.lemmas.proofs.Booleans.{contrary}
 use Rattle.lemmas.proofs.Counts.{count_one_more}
 use Rattle.lemmas.proofs.Members.{head_or_rest, in_none}
 use Rattle.cluster_types.specs.declared.cluster.Cluster.{Cluster}
@@ -73,17 +74,12 @@ module _ (c : Cluster) (es : List Event) (ps : List Promotion) where
   pub fewer_left : (made : List Decision) (d : Decision) → is_ready c es made d ≡ true → left (made ++ d ∷ []) < left made
   fewer_left made d ready = at (there c es d (ready_is_one c es made d ready))
     where
-      not_yet : (a b : Bool) → (a ≡ true → b ≡ true) → not b ≡ true → not a ≡ true
-      not_yet true true f h = h
-      not_yet true false f h = let e : false ≡ true = f refl in cc
-      not_yet false b f h = refl
-
       at : Contains (decisions c es) d → left (made ++ d ∷ []) < left made
       at (k, lt, is) =
           let now : was_made (made ++ d ∷ []) d ≡ true = now_made made d d refl in
           let new : was_made made d ≡ false = ready_is_new c es made d ready in
           count_one_more (unmade (made ++ d ∷ [])) (unmade made)
-          (λ x. not_yet (was_made made x) (was_made (made ++ d ∷ []) x) (still_made made x d))
+          (λ x. contrary (was_made made x) (was_made (made ++ d ∷ []) x) (still_made made x d))
           (decisions c es) k d lt is (rw now refl) (rw new refl)
 
   -- all decisions, in the order in which they are made
