@@ -9,7 +9,6 @@ pub mod MorePasses
 pub mod FirstMarks
 pub mod Found
 pub mod KnownNeeds
-pub mod GrownLists
 pub mod Conditions
 pub mod StepTests
 pub mod StepsGot

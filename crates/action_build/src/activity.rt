@@ -35,7 +35,7 @@ fn is_flagged(need: CellNeed, too_often: bool) -> bool
 }
 
 /// On which nodes the leaf can be cycled, if it is active too often.
-#[tactic(auto, using(crate::proofs::GrownLists::value_more))]
+#[tactic(auto, using(lemmas::proofs::Grown::value_more))]
 fn can_cycle(
     alloc: Global,
     needs: &[CellNeed],

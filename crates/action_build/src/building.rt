@@ -48,7 +48,7 @@ fn push_fence(
 }
 
 /// Adds the fences of all nodes that are to be fenced.
-#[tactic(auto, using(crate::proofs::GrownLists::values_more))]
+#[tactic(auto, using(lemmas::proofs::Grown::values_more))]
 fn push_fences(
     list: &mut Vec<Action>,
     cluster: &Cluster,

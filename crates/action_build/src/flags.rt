@@ -20,7 +20,7 @@ fn is_touched(cluster: &Cluster, work: &CellWork, leaf: LeafId) -> bool
 }
 
 /// Which leaves get a step on any node.
-#[tactic(auto, using(crate::proofs::GrownLists::value_more))]
+#[tactic(auto, using(lemmas::proofs::Grown::value_more))]
 pub fn touched(alloc: Global, cluster: &Cluster, work: &CellWork) -> Result<Vec<bool>, AllocError>
     requires { KeepsLimits cluster.now }
     ensures { IfOk result (λ flags. flags.items

@@ -67,7 +67,7 @@ fn need_by(
 }
 
 /// What the cells of a leaf need, node by node.
-#[tactic(auto, using(crate::proofs::GrownLists::value_more))]
+#[tactic(auto, using(lemmas::proofs::Grown::value_more))]
 fn row(
     alloc: Global,
     cells: &[Cell],

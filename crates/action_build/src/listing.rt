@@ -51,7 +51,7 @@ fn step_action(leaf: LeafId, node: NodeId, op: Op) -> Action
 }
 
 /// Adds these steps of the cell, but for its start if the leaf is sent there.
-#[tactic(auto, using(crate::proofs::GrownLists::kept_more, crate::proofs::GrownLists::passed_over))]
+#[tactic(auto, using(lemmas::proofs::Grown::kept_more, lemmas::proofs::Grown::passed_over))]
 fn push_steps(
     list: &mut Vec<Action>,
     steps: &[Op],
@@ -179,7 +179,7 @@ fn push_cell(
 }
 
 /// Adds those of all cells of the leaf.
-#[tactic(auto, using(crate::proofs::GrownLists::values_more))]
+#[tactic(auto, using(lemmas::proofs::Grown::values_more))]
 fn push_cells(
     list: &mut Vec<Action>,
     cluster: &Cluster,
@@ -225,7 +225,7 @@ fn push_migration(
 }
 
 /// Adds its migrations from the source.
-#[tactic(auto, using(crate::proofs::GrownLists::values_more))]
+#[tactic(auto, using(lemmas::proofs::Grown::values_more))]
 fn push_migrations(
     list: &mut Vec<Action>,
     cluster: &Cluster,
@@ -265,7 +265,7 @@ fn push_leaf(
 }
 
 /// Adds the actions of all leaves, where those with a flag may migrate.
-#[tactic(auto, using(crate::proofs::GrownLists::values_more))]
+#[tactic(auto, using(lemmas::proofs::Grown::values_more))]
 pub fn push_leaves(
     list: &mut Vec<Action>,
     cluster: &Cluster,

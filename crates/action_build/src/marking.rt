@@ -57,7 +57,7 @@ fn is_disturbed(needs: &[CellNeed], marks: &CellMarks, order: &Order, node: Node
 }
 
 /// On which nodes it is.
-#[tactic(auto, using(crate::proofs::GrownLists::value_more))]
+#[tactic(auto, using(lemmas::proofs::Grown::value_more))]
 fn disturbed(
     alloc: Global,
     needs: &[CellNeed],
@@ -103,7 +103,7 @@ fn is_any(flags: &[bool]) -> bool
 }
 
 /// On which nodes it is.
-#[tactic(auto, using(crate::proofs::GrownLists::value_more))]
+#[tactic(auto, using(lemmas::proofs::Grown::value_more))]
 fn marked(
     alloc: Global,
     needs: &[CellNeed],

@@ -120,7 +120,7 @@ module _ {E : Type 0} (end other : E → ℕ) where
   module _ (x y : ℕ) (before after : ℕ → Bool) (more : (a : ℕ) → after a ≡ (before a || (a == y))) (new : before y ≡ false) where
     one_of : (e : E) (es : List E) (b : Bool) → (other e == y) ≡ b
         → cond (beyond_by end other x before e) 1 0 + count_by (◌==◌ x) (ends_with es y)
-            ≡ cond (beyond_by end other x after e) 1 0 + count_by (◌==◌ x) (ends_with (e ∷ es) y)
+        ≡ cond (beyond_by end other x after e) 1 0 + count_by (◌==◌ x) (ends_with (e ∷ es) y)
     one_of e es true h =
         let at : other e ≡ y = grind arith in
         let was : before (other e) ≡ false = rw at new in

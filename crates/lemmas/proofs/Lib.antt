@@ -5,3 +5,4 @@ pub mod Ordered
 pub mod Counts
 pub mod Ranges
 pub mod Results
+pub mod Grown

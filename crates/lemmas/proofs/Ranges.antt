@@ -115,7 +115,7 @@ pub each_in_range : (p : ℕ → Bool) (from count j : ℕ) → from ≤ j → j
 each_in_range p from zero j low high h = absurd (let f : ⊥ = omega arith in f)
 each_in_range p from (suc count) j low high h =
     first_or_later p from j (from == j) refl (sooner (p from) _ h)
-      (λ e. each_in_range p (from + 1) count j (not_first from j low e) (omega (arith, high)) (later (p from) _ h))
+    (λ e. each_in_range p (from + 1) count j (not_first from j low e) (omega (arith, high)) (later (p from) _ h))
 
 -- another element at one place
 pub map-set-range : {X : Type 0} (d : X) (f g : ℕ → X) (k i : ℕ) (v : X) → i < k → g i ≡ v → ((n : ℕ) → n ≢ i → g n ≡ f n)

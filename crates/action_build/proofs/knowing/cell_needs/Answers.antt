@@ -2,7 +2,7 @@ use Rattle.std.proofs.Common.{arith, ◌∙◌, ◌++◌, [], ap, map}
 use Rattle.std.specs.List.{range_with_len}
 use Rattle.cluster_types.specs.declared.states.States.{States}
 use Rattle.action_build.specs.Knowing as knowing
-use Rattle.action_build.proofs.GrownLists.{values_more}
+use Rattle.lemmas.proofs.Grown.{values_more}
 use Rattle.action_build.proofs.KnownNeeds.{needs_known}
 use Rattle.action_build.proofs.knowing.cell_needs.Goals as goal
 
