@@ -4,5 +4,5 @@
 mod preferring;
 mod testing;
 
-pub use preferring::preference;
-pub use testing::allowed;
+pub use preferring::{counts, preference};
+pub use testing::{allowed, has_primary, keeps_apart};

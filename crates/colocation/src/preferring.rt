@@ -11,7 +11,7 @@ use cluster_types::{Cluster, Colocation, Decision, NodeId, Table};
 use score::Score;
 
 /// Whether the colocation is finite and counts for the decision on the node, since its primary holds its role there.
-fn counts(rule: &Colocation, table: &Table, decision: Decision, node: NodeId) -> bool
+pub fn counts(rule: &Colocation, table: &Table, decision: Decision, node: NodeId) -> bool
     ensures { result ≡ spec.counts (targets_of table.now) decision node rule.now }
 {
     !rule.is_mandatory()

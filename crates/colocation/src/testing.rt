@@ -8,14 +8,16 @@ ghost use Rattle.colocation.specs.Tests as spec;
 
 use cluster_types::{Cluster, Colocation, Decision, NodeId, Table};
 
-fn has_primary(rule: &Colocation, table: &Table, decision: Decision, node: NodeId) -> bool
+/// Whether the primary holds its role on the node, if the decision's leaf must be with it by the colocation.
+pub fn has_primary(rule: &Colocation, table: &Table, decision: Decision, node: NodeId) -> bool
     ensures { result ≡ spec.has_primary (targets_of table.now) decision node rule.now }
 {
     !(rule.is_mandatory() && decision.is_dependent_in(rule))
         || table.holds_role(rule.primary, rule.primary_role, node)
 }
 
-fn keeps_apart(rule: &Colocation, table: &Table, decision: Decision, node: NodeId) -> bool
+/// Whether the other side doesn't hold its role on the node, if the decision's leaf must be apart from it by the colocation.
+pub fn keeps_apart(rule: &Colocation, table: &Table, decision: Decision, node: NodeId) -> bool
     ensures { result ≡ spec.keeps_apart (targets_of table.now) decision node rule.now }
 {
     !rule.is_separation()

@@ -1,0 +1,16 @@
+pub mod GrownLists
+pub mod PinnedLeaves
+pub mod RuleOrigins
+pub mod Lacking
+pub mod RolesTaken
+pub mod FewerRoles
+pub mod TakenSteps
+pub mod TakenTests
+pub mod LeftOfChosen
+pub mod EndTargets
+pub mod EndedCells
+pub mod FirstFound
+pub mod HeldBack
+pub mod PlainReasons
+pub mod LeafReasons
+pub mod ReasonsTold

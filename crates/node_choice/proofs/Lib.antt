@@ -1,0 +1,10 @@
+pub mod OneMore
+pub mod AllowedBy
+pub mod RowTerms
+pub mod LoadsAfter
+pub mod CellsAfter
+pub mod Picking
+pub mod ReadOfStates
+pub mod ChosenOfJournal
+pub mod Within
+pub mod MadeMore

@@ -1,0 +1,46 @@
+//! What decisions read beside the table.
+
+ghost use Rattle.std.specs.Prelude.{◌≡◌, ℕ, List};
+ghost use Rattle.cluster_types.specs.declared.journal.Event.{Event as EventOf};
+ghost use Rattle.cluster_types.specs.declared.journal.Promotion.{Promotion as PromotionOf};
+ghost use Rattle.cluster_types.specs.Rights.{rights_of};
+ghost use Rattle.cluster_types.specs.Unpacked.{states_of};
+ghost use Rattle.cluster_types.specs.Valid.{KeepsLimits};
+ghost use Rattle.lane_rows.specs.NodeSet.{has};
+ghost use Rattle.score_table.specs.Usable.{is_usable_by};
+
+use cluster_types::{Cluster, Rights, States};
+use lane_rows::NodeSet;
+use quorum_fence::rights;
+use score_table::{ScoreTable, usable_nodes};
+
+/// A cluster in some states, with what it may do, the nodes that may run resources, and the totals before colocations.
+#[derive(Drop)]
+pub(crate) struct Known<'c> {
+    pub(crate) cluster: &'c Cluster,
+    pub(crate) states: &'c States,
+    pub(crate) scores: &'c ScoreTable,
+    pub(crate) rights: Rights,
+    pub(crate) usable: NodeSet,
+    pub(crate) ghost limits: { KeepsLimits cluster.now },
+    pub(crate) ghost told: { (es : List EventOf) (promotions : List PromotionOf)
+        → states.now ≡ states_of cluster.now es promotions → rights ≡ rights_of cluster.now es },
+    pub(crate) ghost nodes: { (n : ℕ) → has usable n ≡ is_usable_by cluster.now states.now n },
+}
+
+impl<'c> Known<'c> {
+    pub(crate) fn new(cluster: &'c Cluster, states: &'c States, scores: &'c ScoreTable) -> Known<'c>
+        requires { KeepsLimits cluster.now }
+        ensures cluster { result.cluster.now ≡ cluster.now }
+        ensures states { result.states.now ≡ states.now }
+        ensures scores { result.scores.now ≡ scores.now }
+    {
+        Known {
+            cluster,
+            states,
+            scores,
+            rights: rights(cluster, states),
+            usable: usable_nodes(cluster, states),
+        }
+    }
+}

@@ -1,0 +1,122 @@
+//! How much colocations prefer a decision on each node.
+
+ghost use Rattle.std.specs.Prelude.{◌≡◌, ◌≢◌, ◌<◌, ◌≤◌, ◌==◌, ◌&&◌, ℕ, ℤ, List, [], length, map, IfOk};
+ghost use Rattle.std.specs.List.{range_with_len};
+ghost use Rattle.cluster_types.specs.Choice as choice;
+ghost use Rattle.cluster_types.specs.Tables.{targets_of};
+ghost use Rattle.cluster_types.specs.Valid.{KeepsLimits};
+ghost use Rattle.colocation.specs.Tests.{counts};
+ghost use Rattle.lane_rows.specs.Row.{finite_at};
+ghost use Rattle.node_choice.specs.Counted.{counted};
+ghost use Rattle.score.specs.Total.{total_of};
+ghost use Rattle.score_table.specs.Rows.{IsRow, IsRoomy, more_where};
+
+use cluster_types::{Cluster, Colocation, Decision, NoMemory, NodeId, Table};
+use colocation::counts;
+use lane_rows::{Row, totals};
+use score::Score;
+use std::alloc::{AllocError, Global};
+
+/// Adds a score to those of a node, if it is wanted.
+fn put_if(row: &mut Row, node: NodeId, score: Score, wanted: bool)
+    requires node { node < length row.old }
+    requires room { IsRoomy (finite_at row.old node) }
+    ensures terms { (nodes : ℕ) (terms : ℕ → List ℤ) → nodes ≡ length row.old → IsRow nodes terms row.old
+        → IsRow nodes (more_where (λ n. wanted && node == n) score terms) row.new }
+    ensures nodes { length row.new ≡ length row.old }
+    ensures others { (n : ℕ) → n ≢ node → finite_at row.new n ≡ finite_at row.old n }
+{
+    if wanted {
+        row.put(node, score);
+    }
+}
+
+/// Adds the score of the colocation on each node where it counts for the decision.
+fn put_where_counted(
+    row: &mut Row,
+    nodes: u32,
+    rule: &Colocation,
+    table: &Table,
+    decision: Decision,
+)
+    requires nodes { nodes ≡ length row.old }
+    requires room { (n : ℕ) → IsRoomy (finite_at row.old n) }
+    ensures terms { (terms : ℕ → List ℤ) → IsRow nodes terms row.old
+        → IsRow nodes (more_where (λ n. counts (targets_of table.now) decision n rule.now) rule.now.score terms) row.new }
+    ensures nodes { length row.new ≡ length row.old }
+{
+    for node in 0..nodes {
+        let wanted = counts(rule, table, decision, node);
+        put_if(row, node, rule.score, wanted);
+    }
+}
+
+/// The same, going over the nodes only where the decision gives its dependent the role.
+fn put_rule(row: &mut Row, nodes: u32, rule: &Colocation, table: &Table, decision: Decision)
+    requires nodes { nodes ≡ length row.old }
+    requires room { (n : ℕ) → IsRoomy (finite_at row.old n) }
+    ensures { (terms : ℕ → List ℤ) → IsRow nodes terms row.old
+        → IsRow nodes (more_where (λ n. counts (targets_of table.now) decision n rule.now) rule.now.score terms) row.new }
+{
+    if !decision.is_dependent_in(rule) {
+        return;
+    }
+    put_where_counted(row, nodes, rule, table, decision);
+}
+
+/// A row of nodes without terms.
+fn empty_row(alloc: Global, nodes: u32) -> Result<Row, NoMemory>
+    requires { nodes ≤ 256 }
+    ensures { IfOk result (IsRow nodes (λ n. [])) }
+{
+    match Row::zeros(alloc, nodes) {
+        Ok(row) => Ok(row),
+        Err(_) => Err(NoMemory),
+    }
+}
+
+/// The row of what the colocations that count give the decision on each node.
+fn preference_row(
+    alloc: Global,
+    cluster: &Cluster,
+    table: &Table,
+    decision: Decision,
+) -> Result<Row, NoMemory>
+    requires { KeepsLimits cluster.now }
+    ensures { IfOk result (IsRow (length cluster.now.nodes) (counted (targets_of table.now) decision cluster.now.colocations)) }
+{
+    let nodes = cluster.nodes.len() as u32;
+    let mut row = empty_row(alloc, nodes)?;
+    for rule in cluster.colocations.as_slice() {
+        put_rule(&mut row, nodes, rule, table, decision);
+    }
+    Ok(row)
+}
+
+/// The total of each node of a row.
+fn totals_of(alloc: Global, row: &Row, nodes: u32) -> Result<Vec<Score>, AllocError>
+    requires { length row.now ≡ nodes }
+    ensures { IfOk result (λ all. (terms : ℕ → List ℤ) → IsRow nodes terms row.now
+        → all.items ≡ map (λ n. total_of (terms n)) (range_with_len 0 nodes)) }
+{
+    let mut all = vec![in alloc; Score { points: 0 }; nodes as usize]?;
+    totals(row, &mut all);
+    Ok(all)
+}
+
+/// How much the colocations prefer the decision on each node, with the table so far: the total of the finite ones of which its leaf is the dependent
+/// and whose primary holds its role there (Pacemaker Explained, "Placing Resources Relative to other Resources").
+pub(crate) fn preferences(
+    alloc: Global,
+    cluster: &Cluster,
+    table: &Table,
+    decision: Decision,
+) -> Result<Vec<Score>, NoMemory>
+    requires { KeepsLimits cluster.now }
+    ensures { IfOk result (λ all. all.items
+        ≡ map (choice.preference cluster.now (targets_of table.now) decision) (range_with_len 0 (length cluster.now.nodes))) }
+{
+    let row = preference_row(alloc, cluster, table, decision)?;
+    let all = totals_of(alloc, &row, cluster.nodes.len() as u32)?;
+    Ok(all)
+}

@@ -1,0 +1,6 @@
+//! Where everything goes, and why.
+#![tactic(auto)]
+
+mod placing;
+
+pub use placing::place;
