@@ -1,0 +1,24 @@
+# Completion of cekpayo for bash: source this file, or install it as completions/cekpayo.
+_cekpayo() {
+  local current=${COMP_WORDS[COMP_CWORD]} word='' at
+  local causes="NotUtf8 ControlByte OpenQuote LineTooLong UnknownStatement Unsupported BadScore BadTime BadValue MissingWord ExtraWord
+    RepeatedKey DuplicateName UnknownName NestedTwice EmptyGroup MemberTwice UnsupportedMeta NotPromotable UnsupportedOrder
+    TooManyNodes TooManyLeaves TooManyRules ColocationLoop OrderLoop Repeated TooManyResults NotYet"
+  for ((at = 1; at < COMP_CWORD; at++)); do
+    [[ ${COMP_WORDS[at]} == -* ]] || { word=${COMP_WORDS[at]}; break; }
+  done
+  case $word in
+    "") mapfile -t COMPREPLY < <(compgen -W "check scores replay explain --all -q --build --help --version" -- "$current") ;;
+    explain) mapfile -t COMPREPLY < <(compgen -W "$causes" -- "$current") ;;
+    check | scores | replay)
+      compopt -o filenames 2>/dev/null
+      if [[ $current == -* ]]; then
+        mapfile -t COMPREPLY < <(compgen -W "--all -q" -- "$current")
+      else
+        mapfile -t COMPREPLY < <(compgen -f -- "$current")
+      fi
+      ;;
+    *) COMPREPLY=() ;;
+  esac
+}
+complete -F _cekpayo cekpayo ./cekpayo

@@ -1,0 +1,92 @@
+"""Explains why a text is refused, or lists every refusal of it."""
+from .asking import OutOfTime
+from .faulty import earlier, faulty_word
+from .hints import hints
+from .loops import RULES, rules_of_loop
+from .report import numbered, paragraph, place, say, show
+from .tables import causes
+from .texts import Text
+
+SETTINGS = ("property", "rsc_defaults", "op_defaults")
+LONGEST_EXPLAINED = 1 << 20
+MOST_LISTED = 100
+ENDS_LIST = ("TooManyNodes", "TooManyLeaves", "TooManyRules", "TooManyResults", "NotYet")
+
+
+class Finding:
+    def __init__(self, program, text, refusal):
+        self.text, (self.line, self.cause) = text, refusal
+        self.statement = text.statement_at(self.line)
+        self.word, self.loop, self.earlier = None, [], None
+        try:
+            self.look(program, refusal)
+        except OutOfTime:
+            pass
+
+    def look(self, program, refusal):
+        """Finds the faulty word, and what else belongs to the refusal."""
+        program.restart_clock()
+        if self.statement is None:
+            return
+        if self.cause in RULES:
+            self.loop = rules_of_loop(program, self.text, self.statement, refusal)
+        self.word = faulty_word(program, self.text, self.statement, refusal)
+        if self.word:
+            self.earlier = earlier(self.text, self.statement, self.word, self.cause)
+
+    def say(self, name, written):
+        """Says the refusal, with the lines as they are written in the text that was given."""
+        cause = causes()[self.cause]
+        line = self.word.first if self.word else self.line
+        say(*paragraph(f"{place(name, line, self.word)}: {self.cause}: {cause.meaning}"))
+        if self.cause != "LineTooLong":
+            say(*show(written, self.statement, self.word, self.line))
+        if self.loop:
+            say("  These make the loop:", *(numbered(written.lines, rule.first) for rule in self.loop))
+        if self.earlier:
+            say("  The earlier one:", numbered(written.lines, self.earlier.first))
+        found = hints(self.text, self.statement, self.word, self.cause) if self.statement else []
+        remedies = found if found and found[0].startswith("Not carried out") else [cause.remedy] + found
+        say(*paragraph(" ".join(remedies), "  "))
+
+
+def explain(program, data, name, refusal, every):
+    """Says one refusal, or with `every` all that can be told apart. Of a very long text only the cause is said."""
+    if len(data) > LONGEST_EXPLAINED:
+        cause = causes()[refusal[1]]
+        say(*paragraph(f"{place(name, refusal[0])}: {refusal[1]}: {cause.meaning}"), *paragraph(cause.remedy, "  "))
+        return
+    text = Text(data)
+    found = every_finding(program, text, refusal) if every else [Finding(program, text, refusal)]
+    for finding in sorted(found[:MOST_LISTED], key=lambda finding: finding.line):
+        finding.say(name, text)
+    if len(found) > MOST_LISTED:
+        say(f"{name}: there may be more than these {MOST_LISTED}")
+
+
+def every_finding(program, text, refusal):
+    """Takes out what is refused and asks again. What only misses a statement that was taken out isn't among them."""
+    found, gone = [], set()
+    while refusal and len(found) <= MOST_LISTED:
+        finding = Finding(program, text, refusal)
+        if finding.cause != "UnknownName" or not finding.word or finding.word.name not in gone:
+            found.append(finding)
+        if finding.statement is None or finding.cause in ENDS_LIST:
+            break
+        if finding.statement.id:
+            gone.add(finding.statement.id.text)
+        text = Text(without_refused(finding))
+        program.restart_clock()
+        refusal = program.refusal(b"\n".join(text.lines))
+    return found
+
+
+def without_refused(finding):
+    """The text without a refused pair of settings, the refused statement, or a section whose line is refused."""
+    text, statement, word = finding.text, finding.statement, finding.word
+    if word and word.key and statement.kind in SETTINGS and word.first == word.last \
+            and sum(1 for other in statement.words if other.key) > 1:
+        return text.with_word(word, " " * (word.end - word.start))
+    if statement.words and statement.kind.startswith("%"):
+        return text.without([other for other in text.statements if other.first >= statement.first])
+    return text.without([statement])

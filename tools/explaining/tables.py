@@ -1,0 +1,36 @@
+"""The tables beside this folder: causes, what is refused, what is kept without effect, known words."""
+import os
+import re
+
+FOLDER = os.path.dirname(os.path.dirname(os.path.abspath(__file__)))
+
+
+def rows(name):
+    """The rows of a table, each a list of its columns; lines that begin with `#` are comments."""
+    with open(os.path.join(FOLDER, name), encoding="utf-8") as table:
+        for line in table:
+            if line.strip() and not line.startswith("#"):
+                yield line.rstrip("\n").split("\t")
+
+
+def plain(text):
+    """The text without what only a page needs: a link becomes its words."""
+    return re.sub(r"\[([^]]*)\]\([^)]*\)", r'"\1" in docs/USAGE.md', text)
+
+
+class Cause:
+    def __init__(self, name, meaning, remedy):
+        self.name, self.meaning, self.remedy = name, plain(meaning), plain(remedy)
+
+
+def causes():
+    return {row[0]: Cause(*row) for row in rows("causes.tsv")}
+
+
+def known(place):
+    """The known words of a place, as `meta` or `statement`."""
+    return [word for row in rows("known.tsv") if row[0] == place for word in row[1].split()]
+
+
+def agents():
+    return [row[0] for row in rows("agents.txt")]
