@@ -10,4 +10,6 @@ mod first_form;
 #[cfg(test)]
 mod outcome;
 #[cfg(test)]
+mod scores;
+#[cfg(test)]
 mod words;

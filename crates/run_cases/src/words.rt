@@ -119,7 +119,6 @@ fn words_that_are_no_form(rt: HostRuntime) -> Result<(), Fail> {
     assert!(rt; are_no_form(alloc, &["replay", "x"])?);
     assert!(rt; are_no_form(alloc, &[])?);
     assert!(rt; are_no_form(alloc, &["check", "replay"])?);
-    assert!(rt; are_no_form(alloc, &["scores"])?);
     assert!(rt; are_no_form(alloc, &["Replay"])?);
     assert!(rt; are_no_form(alloc, &["--help", "--version"])?);
     Ok(())

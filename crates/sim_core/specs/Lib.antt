@@ -2,6 +2,7 @@ pub mod Status
 pub mod Causes
 pub mod Reading
 pub mod Check
+pub mod Scores
 pub mod FirstReplay
 pub mod OwnText
 pub mod Words

@@ -3,10 +3,11 @@ use Rattle.std.specs.Prelude.{ℕ, Bool, true, false, List}
 use Rattle.sim_core.specs.declared.help.TheConstants.{HELP, VERSION}
 use Rattle.sim_core.specs.declared.status.Status.{Status}
 use Rattle.sim_core.specs.declared.words.Command.{Command}
-use Rattle.sim_core.specs.declared.words.Command.TheVariants.{Check, Replay, Help, Version}
+use Rattle.sim_core.specs.declared.words.Command.TheVariants.{Check, Scores, Replay, Help, Version}
 use Rattle.sim_core.specs.Check.{IsCheckOutput}
 use Rattle.sim_core.specs.FirstReplay.{IsReplayOutput}
 use Rattle.sim_core.specs.OwnText.{IsOwnText}
+use Rattle.sim_core.specs.Scores.{IsScoresOutput}
 
 -- what a word reads: nothing, an input to its end before it writes, or line by line while it writes
 pub data Intake : Type 0 where
@@ -16,6 +17,7 @@ pub data Intake : Type 0 where
 
 abbrev pub intake : Command → Intake
 intake Check = whole
+intake Scores = whole
 intake Replay = whole
 intake Help = nothing
 intake Version = nothing
@@ -23,6 +25,7 @@ intake Version = nothing
 -- whether a word takes memory, so that it may be refused
 abbrev pub takes_memory : Command → Bool
 takes_memory Check = true
+takes_memory Scores = true
 takes_memory Replay = true
 takes_memory Help = false
 takes_memory Version = false
@@ -30,6 +33,7 @@ takes_memory Version = false
 -- with a word an input of this content gets this status and this text. With a word that reads nothing each input does
 abbrev pub Gets : Command → List ℕ → Status → List ℕ → Type 0
 Gets Check input status text = IsCheckOutput input status text
+Gets Scores input status text = IsScoresOutput input status text
 Gets Replay input status text = IsReplayOutput input status text
 Gets Help input status text = IsOwnText HELP.now status text
 Gets Version input status text = IsOwnText VERSION.now status text

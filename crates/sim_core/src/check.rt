@@ -48,7 +48,7 @@ fn check_text(alloc: Global, input: &Input) -> Result<Vec<u8>, NoMemory>
     Ok(text)
 }
 
-fn refusal_text(alloc: Global, line: u32, cause: InputCause) -> Result<Vec<u8>, NoMemory>
+pub(crate) fn refusal_text(alloc: Global, line: u32, cause: InputCause) -> Result<Vec<u8>, NoMemory>
     ensures { IfOk result (λ text. text.items ≡ refusal_text line cause) }
 {
     let mut text = Vec::from_slice(alloc, b"refused ")?;

@@ -11,6 +11,8 @@ Usage: cekpayo WORD < INPUT > OUTPUT
   check      reads a configuration in crmsh syntax with its status and results,
              and writes it in canonical form, with a last line
              `# nodes N leaves N rules N`
+  scores     reads as check does, and writes the total of each resource on each
+             node, its targets, or the reason why it has none
   replay     reads a configuration in crmsh syntax and its status, and writes
              the run: targets, actions that begin and end, transitions. Only a
              first form of input is carried out so far: the lines `node NAME`
@@ -21,7 +23,6 @@ Usage: cekpayo WORD < INPUT > OUTPUT
 
 Not built yet (status 2):
 
-  scores     reads as replay does, and writes scores and targets
   graph      reads as replay does, and writes the actions and what precedes each
   gen N      reads nothing, and writes a summary of the generated case N
   world N    reads as replay does, and writes a run in the simulated world N

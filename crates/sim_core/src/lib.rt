@@ -1,6 +1,6 @@
 //! The words of the command line, and the top call that carries them out.
 //!
-//! `check` reads a whole configuration. `replay` takes a first form of input, a cluster of one resource.
+//! `check` and `scores` read a whole configuration. `replay` takes a first form of input, a cluster of one resource.
 #![tactic(auto)]
 
 // The top call.
@@ -11,6 +11,7 @@ mod laws;
 mod memory;
 mod own_text;
 mod replay;
+mod scores;
 mod status;
 mod top;
 mod words;

@@ -161,7 +161,8 @@ fn head_of(alloc: Global, crm: Crm, cluster: Cluster, lines: &[Line]) -> Result<
 fn with_results(alloc: Global, head: Head, lines: &[Line]) -> Result<Input, InputFault>
     requires limits { KeepsLimits head.cluster }
     requires moment { moment_of head.journal.events < 2 ^ 40 }
-    ensures { Gives (λ input. input) result (with_results head lines.now) }
+    ensures input { Gives (λ input. input) result (with_results head lines.now) }
+    ensures moment { IfOk result (λ input. moment_of input.head.journal.events < 2 ^ 40) }
 {
     let results = results_in(alloc, &head.cluster, &head.journal, lines)?;
     Ok(Input { head, results })
@@ -172,7 +173,8 @@ fn with_cluster(alloc: Global, found: Configuration, cluster: Cluster) -> Result
     requires limits { KeepsLimits cluster }
     requires results { found.marks.results_at ≤ length found.lines }
     requires end { found.marks.end ≤ length found.lines }
-    ensures { Gives (λ input. input) result (with_cluster with_results found cluster) }
+    ensures input { Gives (λ input. input) result (with_cluster with_results found cluster) }
+    ensures moment { IfOk result (λ input. moment_of input.head.journal.events < 2 ^ 40) }
 {
     let Configuration {
         lines,
@@ -200,7 +202,8 @@ fn cluster_in(alloc: Global, found: &Configuration) -> Result<Cluster, InputFaul
 #[tactic(auto, unfolding(crate::specs::Reading::input_of))]
 fn input_of(alloc: Global, text: &[u8]) -> Result<Input, InputFault>
     requires { length text.now ≤ most_bytes }
-    ensures { Gives (λ input. input) result (input_of text.now) }
+    ensures input { Gives (λ input. input) result (input_of text.now) }
+    ensures moment { IfOk result (λ input. moment_of input.head.journal.events < 2 ^ 40) }
 {
     let found = configuration_of(alloc, text)?;
     let cluster = cluster_in(alloc, &found)?;
@@ -214,13 +217,14 @@ fn input_of(alloc: Global, text: &[u8]) -> Result<Input, InputFault>
 /// status and the result lines. A fault is that of the first step that fails, at the lowest line that is at fault in it, with the cause
 /// that the reader of that step gives. `NoMemory` comes when memory runs out.
 ///
-/// What is read is valid: the cluster is, and the first journal is in order and has nothing in flight.
+/// What is read is valid: the cluster is, and the first journal is in order, has nothing in flight and a moment below 2^40 seconds.
 pub fn read_input(alloc: Global, text: &[u8]) -> Result<Input, InputFault>
     requires { length text.now ≤ most_bytes }
     ensures read { Gives (λ input. input) result (input_of text.now) }
     ensures valid { IfOk result (λ input. IsValid input.head.cluster) }
     ensures orderly { IfOk result (λ input. Orderly input.head.journal.events) }
     ensures idle { IfOk result (λ input. in_flight input.head.journal.events ≡ []) }
+    ensures moment { IfOk result (λ input. moment_of input.head.journal.events < 2 ^ 40) }
 {
     input_of(alloc, text)
 }

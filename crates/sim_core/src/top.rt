@@ -10,6 +10,7 @@ use crate::help::{HELP, VERSION};
 use crate::input_word::with_input;
 use crate::own_text::tell;
 use crate::replay::ReplayWord;
+use crate::scores::ScoresWord;
 use crate::status::Status;
 use crate::words::{Command, command_of};
 use cluster_io::{Sink, Source};
@@ -37,6 +38,7 @@ fn carry_out<S: Source, W: Sink>(alloc: Global, word: Command, src: &mut S, out:
 {
     match word {
         Command::Check => with_input(alloc, &CheckWord, src, out),
+        Command::Scores => with_input(alloc, &ScoresWord, src, out),
         Command::Replay => with_input(alloc, &ReplayWord, src, out),
         Command::Help => tell(out, HELP),
         Command::Version => tell(out, VERSION),

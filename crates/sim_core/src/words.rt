@@ -6,6 +6,7 @@ ghost use Rattle.sim_core.specs.Words.{command_of, word_command};
 #[derive(Clone, Copy, Debug, PartialEq, Eq)]
 pub enum Command {
     Check,
+    Scores,
     Replay,
     Help,
     Version,
@@ -16,6 +17,7 @@ fn one_word(word: &str) -> Option<Command>
 {
     match word {
         "check" => Some(Command::Check),
+        "scores" => Some(Command::Scores),
         "replay" => Some(Command::Replay),
         "--help" => Some(Command::Help),
         "--version" => Some(Command::Version),

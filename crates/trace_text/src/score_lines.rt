@@ -1,0 +1,107 @@
+//! The text of scores.
+
+ghost use Rattle.std.specs.Prelude.{◌≡◌, ◌++◌, IfOk, OnOk};
+ghost use Rattle.std.specs.List.{enumerate_from, flat_map};
+ghost use Rattle.cluster_types.specs.Texts as texts;
+ghost use Rattle.cluster_types.specs.Valid.{KeepsLimits};
+
+use crate::names::push_leaf_on;
+use crate::target_lines::push_targets;
+use cluster_types::{Cluster, Decided, Decision, LeafId, Placed};
+use faults::NoMemory;
+use score::Score;
+use std::alloc::Global;
+
+fn push_decision(text: &mut Vec<u8>, cluster: &Cluster, decision: Decision) -> Result<(), NoMemory>
+    ensures { OnOk result (text.new.items ≡ text.old.items ++ texts.decision_line cluster.now decision) }
+{
+    let word: &[u8] = match decision {
+        Decision::Place(_) => b"place ",
+        Decision::Promote(_) => b"promote ",
+    };
+    text.extend_from_slice(word)?;
+    text.extend_from_slice(cluster.leaf_name(decision.leaf()))?;
+    text.extend_from_slice(b"\n")?;
+    Ok(())
+}
+
+/// The line of the total of a leaf on a node.
+fn push_total(
+    text: &mut Vec<u8>,
+    cluster: &Cluster,
+    leaf: LeafId,
+    node: usize,
+    total: Score,
+) -> Result<(), NoMemory>
+    ensures { OnOk result (text.new.items ≡ text.old.items ++ texts.score_line cluster.now leaf (node, total)) }
+{
+    let mut buffer = [0; 12];
+    let length = total.write_to(&mut buffer);
+    text.extend_from_slice(b"score ")?;
+    push_leaf_on(text, cluster, leaf, node)?;
+    text.extend_from_slice(b" ")?;
+    text.extend_from_slice(&buffer[..length])?;
+    text.extend_from_slice(b"\n")?;
+    Ok(())
+}
+
+/// The lines of the totals of a leaf, in the order of nodes.
+#[tactic(auto, using(crate::proofs::MoreLines::placed_lines_more))]
+fn push_totals(
+    text: &mut Vec<u8>,
+    cluster: &Cluster,
+    leaf: LeafId,
+    totals: &[Score],
+) -> Result<(), NoMemory>
+    ensures { OnOk result (text.new.items ≡ text.old.items ++ flat_map (texts.score_line cluster.now leaf) (enumerate_from 0 totals.now)) }
+{
+    for (node, total) in totals.iter().enumerate() {
+        push_total(text, cluster, leaf, node, *total)?;
+    }
+    Ok(())
+}
+
+/// A decision, and its total on each node.
+fn push_decided(text: &mut Vec<u8>, cluster: &Cluster, decided: &Decided) -> Result<(), NoMemory>
+    ensures { OnOk result (text.new.items ≡ text.old.items ++ texts.decided_lines cluster.now decided.now) }
+{
+    push_decision(text, cluster, decided.decision)?;
+    push_totals(
+        text,
+        cluster,
+        decided.decision.leaf(),
+        decided.totals.as_slice(),
+    )
+}
+
+/// All decisions, in the order in which they were made.
+fn push_all_decided(
+    text: &mut Vec<u8>,
+    cluster: &Cluster,
+    decided: &[Decided],
+) -> Result<(), NoMemory>
+    ensures { OnOk result (text.new.items ≡ text.old.items ++ flat_map (texts.decided_lines cluster.now) decided.now) }
+{
+    for made in decided {
+        push_decided(text, cluster, made)?;
+    }
+    Ok(())
+}
+
+/// The text of scores: each decision in the order in which it was made with its total on each node, and then the target lines (rule of
+/// this project). `NoMemory` comes when memory runs out.
+pub fn score_text(alloc: Global, cluster: &Cluster, placed: &Placed) -> Result<Vec<u8>, NoMemory>
+    requires limits { KeepsLimits cluster.now }
+    ensures { IfOk result (λ text. text.items ≡ texts.scores_text cluster.now placed.now) }
+{
+    let mut text = Vec::new(alloc);
+    push_all_decided(&mut text, cluster, placed.decided.as_slice())?;
+    push_targets(
+        &mut text,
+        cluster,
+        placed.pins.as_slice(),
+        &placed.table,
+        placed.none.as_slice(),
+    )?;
+    Ok(text)
+}
