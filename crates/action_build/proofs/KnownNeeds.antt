@@ -3,36 +3,25 @@ use Rattle.std.proofs.Common.{arith, ◌≡◌, ◌<◌, ◌+◌, ◌*◌, ℕ, 
 use Rattle.std.specs.Prelude.{is_some, slice_get, unwrap_or}
 use Rattle.std.specs.List.{range_with_len}
 use Rattle.std.specs.Option.{option_map_or}
-use Rattle.std.proofs.lemmas.List.FromFn.{get_or-map-range_with_len, length-map-range_with_len}
-use Rattle.std.proofs.lemmas.Option.{slice_get-get_or}
 use Rattle.cluster_types.specs.declared.cluster.Cluster.{Cluster}
 use Rattle.cluster_types.specs.declared.journal.Event.{Event}
 use Rattle.cluster_types.specs.declared.journal.Promotion.{Promotion}
 use Rattle.cluster_types.specs.declared.placement.Pin.{Pin}
 use Rattle.cluster_types.specs.declared.placement.Table.{Table}
 use Rattle.cluster_types.specs.declared.states.Cell.{Cell}
-use Rattle.cluster_types.specs.Pins.{is_pinned, pin_of}
+use Rattle.cluster_types.specs.Pins.{is_pinned, is_pinned_in, pin_of}
 use Rattle.cluster_types.specs.Rights.{may_start}
 use Rattle.cluster_types.specs.Tables.{targets_of}
 use Rattle.cluster_types.specs.Unpacked.{cell_at, states_of}
+use Rattle.cluster_types.proofs.PinnedLeaves.{pin_known}
 use Rattle.cluster_types.proofs.StatesKept.{cell_kept, slice_get-rows}
-use Rattle.action_build.specs.Knowing.{is_pinned_in, need_by, need_from, needs_by}
+use Rattle.action_build.specs.Knowing.{need_by, need_from, needs_by}
 use Rattle.action_build.specs.Levels.{AreNeeds, need_at, need_in, no_need}
 use Rattle.action_build.specs.declared.steps.CellNeed.{CellNeed}
-
-at_place : {X : Type 0} (f : ℕ → X) (n k : ℕ) → k < n → slice_get (map f (range_with_len 0 n)) k ≡ Some (f k)
-at_place f n k lt =
-    let size = length-map-range_with_len f 0 n in
-    slice_get-get_or (map f (range_with_len 0 n)) k (f k) (omega arith) ∙ ap Some (get_or-map-range_with_len f 0 n k k (f k) lt (omega arith))
 
 module _ (c : Cluster) (es : List Event) (ps : List Promotion) (cells : List Cell) (pins : List (Option Pin)) (table : Table) (starts : Bool)
     (told : cells ≡ (states_of c es ps).cells) (pinned : pins ≡ map (pin_of c es) (range_with_len 0 (length c.leaves)))
     (allowed : starts ≡ may_start c es) where
-  pin_known : (r : ℕ) → r < length c.leaves → is_pinned_in pins r ≡ is_pinned c es r
-  pin_known r lr =
-      ap (λ xs. is_pinned_in xs r) pinned
-      ∙ ap (λ (o : Option (Option Pin)). is_some (unwrap_or o None)) (at_place (pin_of c es) (length c.leaves) r lr)
-
   cell_known : (r n : ℕ) → r < length c.leaves → n < length c.nodes → slice_get cells (r * length c.nodes + n) ≡ Some (cell_at c es r n)
   cell_known r n lr ln = ap (λ xs. slice_get xs (r * length c.nodes + n)) told ∙ cell_kept c es ps r n lr ln
 
@@ -41,7 +30,7 @@ module _ (c : Cluster) (es : List Event) (ps : List Promotion) (cells : List Cel
   need_known r n lr ln =
       ap (λ (o : Option Cell). option_map_or (λ (known : Cell). need_from known (targets_of table r n) (is_pinned_in pins r) starts) o no_need)
       (cell_known r n lr ln)
-      ∙ ap (λ b. need_from (cell_at c es r n) (targets_of table r n) b starts) (pin_known r lr)
+      ∙ ap (λ b. need_from (cell_at c es r n) (targets_of table r n) b starts) (pin_known c es pins pinned r)
       ∙ ap (λ b. need_from (cell_at c es r n) (targets_of table r n) (is_pinned c es r) b) allowed
 
   pub needs_known : (needs : List CellNeed) (nodes leaves : ℕ) → nodes ≡ length c.nodes → leaves ≡ length c.leaves

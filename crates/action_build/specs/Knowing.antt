@@ -7,6 +7,7 @@ use Rattle.cluster_types.specs.declared.placement.Table.{Table}
 use Rattle.cluster_types.specs.declared.placement.Target.{Target}
 use Rattle.cluster_types.specs.declared.states.Cell.{Cell}
 use Rattle.cluster_types.specs.Needed.{runs}
+use Rattle.cluster_types.specs.Pins.{is_pinned_in}
 use Rattle.cluster_types.specs.Tables.{is_somewhere, targets_of}
 use Rattle.action_build.specs.Levels.{no_need}
 use Rattle.action_build.specs.declared.steps.CellNeed.{CellNeed}
@@ -20,9 +21,6 @@ need_from known target pinned starts = record {
   pinned = pinned;
   can_cycle = starts && not pinned && runs known.state && is_somewhere target;
 }
-
-abbrev pub is_pinned_in : List (Option Pin) → ℕ → Bool
-is_pinned_in pins r = is_some (unwrap_or (slice_get pins r) None)
 
 module _ (cells : List Cell) (pins : List (Option Pin)) (table : Table) (starts : Bool) (nodes : ℕ) where
   abbrev pub need_by : ℕ → ℕ → CellNeed

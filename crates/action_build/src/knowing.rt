@@ -16,6 +16,7 @@ ghost use Rattle.action_build.specs.Levels.{AreNeeds};
 use crate::steps::CellNeed;
 use cluster_types::{
     Cell, CellState, Cluster, LeafId, NoMemory, NodeId, Pin, Placed, States, Target, cell_place,
+    is_pinned,
 };
 use std::alloc::{AllocError, Global};
 
@@ -39,15 +40,6 @@ fn need_from(known: Cell, target: Target, pinned: bool, may_start: bool) -> Cell
     }
 }
 
-fn is_pinned_in(pins: &[Option<Pin>], leaf: LeafId) -> bool
-    ensures { result ≡ knowing.is_pinned_in pins.now leaf }
-{
-    match pins.get(leaf as usize) {
-        Some(pin) => pin.is_some(),
-        None => false,
-    }
-}
-
 fn need_by(
     cells: &[Cell],
     placed: &Placed,
@@ -59,7 +51,7 @@ fn need_by(
     ensures { result ≡ knowing.need_by cells.now placed.now.pins placed.now.table may_start nodes leaf node }
 {
     let target = placed.table.target(leaf, node);
-    let pinned = is_pinned_in(placed.pins.as_slice(), leaf);
+    let pinned = is_pinned(placed.pins.as_slice(), leaf);
     match cells.get(cell_place(nodes as usize, leaf, node)) {
         Some(known) => need_from(*known, target, pinned, may_start),
         None => CellNeed::none(),

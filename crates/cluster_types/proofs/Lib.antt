@@ -28,6 +28,7 @@ mod LineExamples
 mod ValidExamples
 pub mod Walks
 pub mod StatesKept
+pub mod PinnedLeaves
 pub mod Loads
 pub mod Moments
 pub mod SilentEnds

@@ -6,6 +6,7 @@ use Rattle.std.proofs.Math.Nat.{mul-le-mul_right}
 use Rattle.std.proofs.lemmas.List.{get_or-append_right, get_or_append_left, length-append}
 use Rattle.std.proofs.lemmas.List.FromFn.{get_or-map-range_with_len, length-map-range_with_len}
 use Rattle.std.proofs.lemmas.Option.{slice_get-get_or}
+use Rattle.lemmas.proofs.Ranges.{slice_get-range}
 use Rattle.cluster_types.specs.declared.cluster.Cluster.{Cluster}
 use Rattle.cluster_types.specs.declared.journal.Event.{Event}
 use Rattle.cluster_types.specs.declared.journal.Promotion.{Promotion}
@@ -57,11 +58,6 @@ module _ {X : Type 0} (f : ℕ → ℕ → X) (width : ℕ) where
       let here : 0 + r ≡ r = omega arith in
       slice_get-get_or (rows 0 n) (r * width + k) (f r k) (omega arith) ∙ ap Some (get_or-rows 0 n r k (f r k) low within ∙ ap (λ (s : ℕ). f s k) here)
 
-in_range : {X : Type 0} (f : ℕ → X) (n k : ℕ) → k < n → slice_get (map f (range_with_len 0 n)) k ≡ Some (f k)
-in_range f n k lt =
-    let size = length-map-range_with_len f 0 n in
-    slice_get-get_or (map f (range_with_len 0 n)) k (f k) (omega arith) ∙ ap Some (get_or-map-range_with_len f 0 n k k (f k) lt (omega arith))
-
 module _ (c : Cluster) (es : List Event) (ps : List Promotion) where
   -- how many there are of each
   pub nodes_fit : length (states_of c es ps).nodes ≡ length c.nodes
@@ -75,10 +71,10 @@ module _ (c : Cluster) (es : List Event) (ps : List Promotion) where
 
   -- and what each says
   pub node_kept : (n : ℕ) → n < length c.nodes → slice_get (states_of c es ps).nodes n ≡ Some (node_state c n es)
-  node_kept n lt = in_range (λ n. node_state c n es) (length c.nodes) n lt
+  node_kept n lt = slice_get-range (λ n. node_state c n es) (length c.nodes) n lt
 
   pub cell_kept : (r n : ℕ) → r < length c.leaves → n < length c.nodes → slice_get (states_of c es ps).cells (r * length c.nodes + n) ≡ Some (cell_at c es r n)
   cell_kept r n low within = slice_get-rows (cell_at c es) (length c.nodes) (length c.leaves) r n low within
 
   pub fail_stop_kept : (r : ℕ) → r < length c.leaves → slice_get (states_of c es ps).fail_stop r ≡ Some (is_fail_stopped c r es)
-  fail_stop_kept r lt = in_range (λ r. is_fail_stopped c r es) (length c.leaves) r lt
+  fail_stop_kept r lt = slice_get-range (λ r. is_fail_stopped c r es) (length c.leaves) r lt

@@ -1,6 +1,7 @@
 -- Which leaves are left as they are (Pacemaker Explained, "is-managed" and "on-fail"; what they then count for is a rule of this project).
-use Rattle.std.specs.Prelude.{ℕ, nat_lt, ◌&&◌, Bool, true, false, not, if◌then◌else◌, Option, Some, None, is_some, List, length}
+use Rattle.std.specs.Prelude.{ℕ, nat_lt, ◌&&◌, Bool, true, false, not, if◌then◌else◌, Option, Some, None, is_some, List, length, slice_get}
 use Rattle.std.specs.List.{list_any, range_with_len}
+use Rattle.std.specs.Option.{option_map_or}
 use Rattle.cluster_types.specs.declared.cluster.Cluster.{Cluster}
 use Rattle.cluster_types.specs.declared.journal.Event.{Event}
 use Rattle.cluster_types.specs.declared.placement.Pin.{Pin}
@@ -21,6 +22,10 @@ is_blocked_state _ = false
 abbrev pub is_unprobed_state : CellState → Bool
 is_unprobed_state cell.Unprobed = true
 is_unprobed_state _ = false
+
+-- whether a leaf is left as it is, by a list that says why of each leaf; one that the list doesn't have is too
+abbrev pub is_pinned_in : List (Option Pin) → ℕ → Bool
+is_pinned_in pins r = option_map_or (λ (pin : Option Pin). is_some pin) (slice_get pins r) true
 
 module _ (c : Cluster) (es : List Event) where
   -- why the leaf is left as it is, if it is: it is unmanaged, or one of its cells is blocked

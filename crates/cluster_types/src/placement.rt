@@ -1,6 +1,7 @@
 ghost use Rattle.std.specs.Prelude.{◌≡◌, ◌+◌, ◌*◌, ◌<◌, ◌==◌, ◌&&◌, if◌then◌else◌, IfOk, ℕ, length, replicate};
 ghost use Rattle.cluster_types.specs.Choice as choice;
 ghost use Rattle.cluster_types.specs.Decisions as decisions;
+ghost use Rattle.cluster_types.specs.Pins.{is_pinned_in};
 ghost use Rattle.cluster_types.specs.Tables as tables;
 ghost use Rattle.cluster_types.specs.Tables.{targets_of};
 
@@ -141,6 +142,16 @@ pub enum Pin {
     Unmanaged,
     /// A failure after which it must be left alone blocks it on a node.
     Blocked,
+}
+
+/// Whether the leaf is left as it is, by the list of why each leaf is. One that the list doesn't have is too.
+pub fn is_pinned(pins: &[Option<Pin>], leaf: LeafId) -> bool
+    ensures { result ≡ is_pinned_in pins.now leaf }
+{
+    match pins.get(leaf as usize) {
+        Some(pin) => pin.is_some(),
+        None => true,
+    }
 }
 
 /// Why a leaf has no target. The first reason that holds counts.

@@ -10,7 +10,7 @@ use Rattle.cluster_types.specs.declared.placement.Pin.{Pin}
 use Rattle.cluster_types.specs.Decisions.{Key, leaf_of}
 use Rattle.cluster_types.specs.Fields.{is_promotable}
 use Rattle.decision_order.specs.DecisionLists.{decisions_in, decisions_in_leaf}
-use Rattle.decision_order.specs.Pins.{is_pinned_in}
+use Rattle.cluster_types.specs.Pins.{is_pinned_in}
 use Rattle.decision_order.specs.Turns.{WereMade, none_made, one_more}
 
 of-leaf : (r : ℕ) (pinned promotable : Bool) (d : Decision)

@@ -3,8 +3,6 @@ use Rattle.std.proofs.Common.{◌≡◌, ℕ, ◌+◌, ◌*◌, ◌<◌, nat_lt,
 use Rattle.std.specs.List.{range_with_len}
 use Rattle.std.specs.Option.{option_map_or}
 use Rattle.std.proofs.lemmas.Bool.{lt-ltb}
-use Rattle.std.proofs.lemmas.List.FromFn.{get_or-map-range_with_len, length-map-range_with_len}
-use Rattle.std.proofs.lemmas.Option.{slice_get-get_or}
 use Rattle.lemmas.proofs.Ranges.{any-same, flat_map-same, map-same}
 use Rattle.cluster_types.specs.declared.cluster.Cluster.{Cluster}
 use Rattle.cluster_types.specs.declared.journal.Event.{Event}
@@ -21,20 +19,15 @@ use Rattle.cluster_types.specs.Decisions.{decisions, decisions_of}
 use Rattle.cluster_types.specs.Fields.{is_managed, is_promotable}
 use Rattle.cluster_types.specs.May.{may, may_promoted}
 use Rattle.cluster_types.specs.NodeStates.{is_online, is_online_state}
-use Rattle.cluster_types.specs.Pins.{is_blocked_state, is_pinned, is_unprobed_state, pin_of, pinned_targets}
+use Rattle.cluster_types.specs.Pins.{is_blocked_state, is_pinned, is_pinned_in, is_unprobed_state, pin_of, pinned_targets}
 use Rattle.cluster_types.specs.Tables.{targets_of}
 use Rattle.cluster_types.specs.Unpacked.{states_of}
+use Rattle.cluster_types.proofs.PinnedLeaves.{pin_known}
 use Rattle.cluster_types.proofs.StatesKept.{cell_kept, length-rows, node_kept, slice_get-rows}
 use Rattle.plan_laws.proofs.TablesWithin.{kept_within, pinned_within, same_within}
 use Rattle.score_table.specs.Scores.{cells_of}
 use Rattle.decision_order.specs.DecisionLists.{decisions_in, decisions_in_leaf}
-use Rattle.decision_order.specs.Pins.{is_blocked_by, is_online_by, is_pinned_in, may_stay, pin_by, pinned_in, pins_by, stay_by}
-
--- what is kept of a number that is there
-kept : {X : Type 0} (f : ℕ → X) (n k : ℕ) → k < n → slice_get (map f (range_with_len 0 n)) k ≡ Some (f k)
-kept f n k low =
-    let size = length-map-range_with_len f 0 n in
-    slice_get-get_or (map f (range_with_len 0 n)) k (f k) (omega (arith, low, size)) ∙ ap Some (get_or-map-range_with_len f 0 n k k (f k) low (omega arith))
+use Rattle.decision_order.specs.Pins.{is_blocked_by, is_online_by, may_stay, pin_by, pinned_in, pins_by, stay_by}
 
 -- a cell of the cluster, a leaf that is left as it is, and whether it stays there
 in_cluster : (leaf node pinned online runs unprobed : Bool) (stays otherwise : Target) → leaf ≡ true → node ≡ true
@@ -66,19 +59,14 @@ module _ (c : Cluster) (es : List Event) (ps : List Promotion) where
       (node_kept c es ps n node)
 
   module _ (pins : List (Option Pin)) (are : pins ≡ map (pin_of c es) (range_with_len 0 (length c.leaves))) where
-    pub pinned-is : (r : ℕ) → r < length c.leaves → is_pinned_in pins r ≡ is_pinned c es r
-    pinned-is r leaf =
-        ap (λ (all : List (Option Pin)). is_some (unwrap_or (slice_get all r) None)) are
-        ∙ ap (λ (p : Option (Option Pin)). is_some (unwrap_or p None)) (kept (pin_of c es) (length c.leaves) r leaf)
-
     pub decisions-are : decisions_in c pins ≡ decisions c es
     decisions-are =
         flat_map-same (decisions_in_leaf c pins) (decisions_of c es) (length c.leaves)
-        (λ r leaf. ap (λ (b : Bool). if b then [] else Place r ∷ (if is_promotable c r then Promote r ∷ [] else [])) (pinned-is r leaf))
+        (λ r leaf. ap (λ (b : Bool). if b then [] else Place r ∷ (if is_promotable c r then Promote r ∷ [] else [])) (pin_known c es pins are r))
 
     cell-is : (r n : ℕ) → r < length c.leaves → n < length c.nodes → pinned_in c pins (states_of c es ps) r n ≡ pinned_targets c es r n
     cell-is r n leaf node =
-        ap (λ (b : Bool). if b then stay_by c (states_of c es ps) r n else target.Nowhere) (pinned-is r leaf)
+        ap (λ (b : Bool). if b then stay_by c (states_of c es ps) r n else target.Nowhere) (pin_known c es pins are r)
         ∙ (ap (λ (t : Target). if is_pinned c es r then t else target.Nowhere) (stay-is r n leaf node)
         ∙ in_cluster (nat_lt r (length c.leaves)) (nat_lt n (length c.nodes)) (is_pinned c es r) (is_online c n es) (may c r n es) (is_unprobed_state (cell_state c r n es))
         (if may_promoted c r n es then target.Promoted else target.Started) target.Nowhere (lt-ltb r (length c.leaves) leaf) (lt-ltb n (length c.nodes) node))

@@ -11,7 +11,7 @@ use Rattle.cluster_types.specs.declared.states.Cell.{Cell}
 use Rattle.cluster_types.specs.declared.states.States.{States}
 use Rattle.cluster_types.specs.Fields.{is_managed}
 use Rattle.cluster_types.specs.NodeStates.{is_online_state}
-use Rattle.cluster_types.specs.Pins.{is_blocked_state, is_unprobed_state}
+use Rattle.cluster_types.specs.Pins.{is_blocked_state, is_pinned_in, is_unprobed_state}
 use Rattle.score_table.specs.OwnRows.{cell_by}
 
 -- the leaf may be left in the cell: it may run there, and the cell was probed
@@ -39,10 +39,6 @@ module _ (c : Cluster) (states : States) where
   stay_by r n =
       option_map_or (λ (cell : Cell). if is_online_by states n && may_stay cell then (if cell.may_promoted then target.Promoted else target.Started) else target.Nowhere)
       (cell_by c states r n) target.Nowhere
-
--- the leaf is left as it is, by a list that says why of each leaf
-abbrev pub is_pinned_in : List (Option Pin) → ℕ → Bool
-is_pinned_in pins r = is_some (unwrap_or (slice_get pins r) None)
 
 module _ (c : Cluster) (pins : List (Option Pin)) (states : States) where
   -- the target of a cell that stands before any decision

@@ -4,8 +4,7 @@ ghost use Rattle.std.specs.Prelude.{◌≡◌, ◌++◌, IfOk, OnOk};
 ghost use Rattle.cluster_types.specs.Valid.{KeepsLimits};
 ghost use Rattle.decision_order.specs.DecisionLists as spec;
 
-use crate::pinned::is_pinned;
-use cluster_types::{Cluster, Decision, LeafId, Pin};
+use cluster_types::{Cluster, Decision, LeafId, Pin, is_pinned};
 use std::alloc::{AllocError, Global};
 
 /// Adds what is decided of a leaf: where it is placed, and where it is promoted, if it isn't left as it is.

@@ -13,7 +13,8 @@ ghost use Rattle.score_table.specs.Scores.{cells_of};
 ghost use Rattle.decision_order.specs.Pins as spec;
 
 use cluster_types::{
-    CellState, Cluster, LeafId, NoMemory, NodeId, NodeState, Pin, States, Table, Target, cell_place,
+    CellState, Cluster, LeafId, NoMemory, NodeId, NodeState, Pin, States, Table, Target,
+    cell_place, is_pinned,
 };
 use listed::Listed;
 use std::alloc::{AllocError, Global};
@@ -70,16 +71,6 @@ fn push_row(
         targets.push(target_of(cluster, states, pinned, leaf, node as u32))?;
     }
     Ok(())
-}
-
-/// Whether the leaf is left as it is.
-pub(crate) fn is_pinned(pins: &[Option<Pin>], leaf: LeafId) -> bool
-    ensures { result ≡ spec.is_pinned_in pins.now leaf }
-{
-    match pins.get(leaf as usize) {
-        Some(pin) => pin.is_some(),
-        None => false,
-    }
 }
 
 /// The targets that stand before any decision, leaf by leaf and node by node.

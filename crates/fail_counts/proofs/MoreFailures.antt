@@ -4,6 +4,7 @@ use Rattle.std.proofs.lemmas.List.{drop-append-le, drop_all, reverse-append, len
 use Rattle.std.proofs.lemmas.List.Elements.{filter-append}
 use Rattle.std.proofs.lemmas.List.Sums.{prefix_len-le-length}
 use Rattle.std.specs.List.{last_or, after_last, suffix_len}
+use Rattle.lemmas.proofs.Lasts.{after_last-here, after_last-more, last-more}
 use Rattle.lemmas.proofs.Searches.{any-more}
 use Rattle.cluster_types.specs.declared.cluster.Cluster.{Cluster}
 use Rattle.cluster_types.specs.declared.journal.Event.{Event}
@@ -11,28 +12,6 @@ use Rattle.cluster_types.specs.Cells.{is_reset}
 use Rattle.cluster_types.specs.Failures.{since_reset, outcomes, is_outcome, is_failure, failures_in_force, is_start, has_code, hard_codes, fatal_codes, wants_stop}
 use Rattle.cluster_types.specs.NodeStates.{wants_fence}
 use Rattle.fail_counts.specs.Tally.{tally_of, with_failure, tally_after}
-
-module _ {X : Type 0} (p : X → Bool) (xs : List X) (x : X) where
-  -- the last element passes: nothing is behind it
-  pub after_last-here : p x ≡ true → after_last p (xs ++ x ∷ []) ≡ []
-  after_last-here e =
-      let back : reverse (xs ++ x ∷ []) ≡ x ∷ reverse xs = reverse-append xs (x ∷ []) in
-      let none : suffix_len (λ y. not (p y)) (xs ++ x ∷ []) ≡ 0 = rw (back, e) refl in
-      rw none (drop_all (length (xs ++ x ∷ []) - 0) (xs ++ x ∷ []) (omega arith))
-
-  -- it doesn't: it is behind the last one that does
-  pub after_last-more : p x ≡ false → after_last p (xs ++ x ∷ []) ≡ after_last p xs ++ x ∷ []
-  after_last-more e =
-      let back : reverse (xs ++ x ∷ []) ≡ x ∷ reverse xs = reverse-append xs (x ∷ []) in
-      let behind = suffix_len (λ y. not (p y)) xs in
-      let one : suffix_len (λ y. not (p y)) (xs ++ x ∷ []) ≡ 1 + behind = rw (back, e) refl in
-      let few : behind ≤ length xs = rw (← length-reverse xs) (prefix_len-le-length (λ y. not (p y)) (reverse xs)) in
-      let place : length (xs ++ x ∷ []) - (1 + behind) ≡ length xs - behind = omega (arith, length-append xs (x ∷ []), few) in
-      rw (one, place) (drop-append-le (length xs - behind) xs (x ∷ []) (omega arith))
-
-pub last-more : {X : Type 0} (o : Option X) (xs : List X) (x : X) → last_or o (xs ++ x ∷ []) ≡ Some x
-last-more o [] x = refl
-last-more o (y ∷ xs) x = last-more (Some y) xs x
 
 tally-more : (c : Cluster) (found : List Event) (e : Event) → tally_of c (found ++ e ∷ []) ≡ with_failure c (tally_of c found) e
 tally-more c found e =
@@ -52,7 +31,7 @@ module _ (c : Cluster) (r n : ℕ) (es : List Event) (e : Event) where
   in_force-reset : is_reset r n e ≡ true → failures_in_force c r n (es ++ e ∷ []) ≡ []
   in_force-reset reset = ap (filter is_failure) (outcomes-reset reset)
 
-  in_force-more : is_reset r n e ≡ false → failures_in_force c r n (es ++ e ∷ []) ≡ failures_in_force c r n es ++ filter is_failure (filter (is_outcome c r n) (e ∷ []))
+  pub in_force-more : is_reset r n e ≡ false → failures_in_force c r n (es ++ e ∷ []) ≡ failures_in_force c r n es ++ filter is_failure (filter (is_outcome c r n) (e ∷ []))
   in_force-more more = ap (filter is_failure) (outcomes-more more) ∙ filter-append is_failure (outcomes c r n es) (filter (is_outcome c r n) (e ∷ []))
 
   one_event : (outcome failure : Bool) → is_outcome c r n e ≡ outcome → is_failure e ≡ failure

@@ -21,7 +21,7 @@ use Rattle.cluster_types.specs.Choice.{is_stopped_role}
 use Rattle.cluster_types.specs.Failures.{is_fail_stopped}
 use Rattle.cluster_types.specs.Fields.{copies, target_role_of}
 use Rattle.cluster_types.specs.Held.{AreTargets, Held}
-use Rattle.cluster_types.specs.Pins.{is_pinned, pin_of}
+use Rattle.cluster_types.specs.Pins.{is_pinned, is_pinned_in, pin_of}
 use Rattle.cluster_types.specs.Reasons.{HasReason, IsHeldByColocation, IsHeldByOrder, IsReason, is_chosen_nowhere, plain_reason}
 use Rattle.cluster_types.specs.Rights.{may_start}
 use Rattle.cluster_types.specs.Tables.{Targets, is_somewhere}
@@ -29,12 +29,12 @@ use Rattle.plan_laws.proofs.Firsts.{none_holds}
 use Rattle.plan_laws.proofs.HeldReason as held_rule
 use Rattle.plan_laws.proofs.MadeOnes.{never_both}
 use Rattle.plan_laws.proofs.TablesWithin.{StaysWithin}
-use Rattle.held_cells.specs.Dependencies.{is_pinned_in, of_colocation, of_order}
+use Rattle.held_cells.specs.Dependencies.{of_colocation, of_order}
 use Rattle.held_cells.specs.Reasoning.{first_colocation, first_node, first_order, has_target, held_by, holds_back, id_of, is_stopped_in, or_held, plain_by, reason_by, reason_in}
 use Rattle.held_cells.proofs.EndedCells.{ended, held_gone, rule_of}
 use Rattle.held_cells.proofs.FirstFound.{Least, finds_none, found_first, found_least, found_none}
 use Rattle.held_cells.proofs.HeldBack.{colocation_no, colocation_yes, order_no, order_yes}
-use Rattle.held_cells.proofs.PinnedLeaves.{pin_known}
+use Rattle.cluster_types.proofs.PinnedLeaves.{pin_known}
 use Rattle.held_cells.proofs.PlainReasons.{no_rule, some_node}
 
 module _ (c : Cluster) (es : List Event) (chosen targets : Targets) (inside : StaysWithin c chosen) (also : StaysWithin c targets)

@@ -1,5 +1,4 @@
 pub mod GrownLists
-pub mod PinnedLeaves
 pub mod RuleOrigins
 pub mod Lacking
 pub mod RolesTaken

@@ -5,6 +5,7 @@ use Rattle.std.specs.List.{range_with_len}
 use Rattle.std.proofs.lemmas.Bool.{cases_lt}
 use Rattle.std.proofs.lemmas.List.FromFn.{length-map-range_with_len}
 use Rattle.std.proofs.lemmas.Option.{slice_get_past}
+use Rattle.lemmas.proofs.Ranges.{slice_get-range}
 use Rattle.cluster_types.specs.declared.cluster.Cluster.{Cluster}
 use Rattle.cluster_types.specs.declared.journal.Event.{Event}
 use Rattle.cluster_types.specs.declared.journal.Promotion.{Promotion}
@@ -23,7 +24,6 @@ use Rattle.cluster_types.proofs.StatesKept.{fail_stop_kept}
 use Rattle.plan_laws.proofs.TablesWithin.{kept_within}
 use Rattle.held_cells.specs.Reasoning.{is_stopped_in, reason_in}
 use Rattle.held_cells.proofs.LeafReasons.{leaf_reason}
-use Rattle.held_cells.proofs.PinnedLeaves.{at_place}
 
 -- an element of a list by numbers
 record At {X : Type 0} (f : ℕ → X) (n r : ℕ) (x : X) : Type 0 where
@@ -35,7 +35,7 @@ one_is x y h = cc
 
 at_leaf : {X : Type 0} (f : ℕ → X) (n r : ℕ) (x : X) → slice_get (map f (range_with_len 0 n)) r ≡ Some x → At f n r x
 at_leaf f n r x h = elim (cases_lt r n) [
-  | inl lt ↦ record { low = lt; is = one_is (f r) x (sym (at_place f n r lt) ∙ h) }
+  | inl lt ↦ record { low = lt; is = one_is (f r) x (sym (slice_get-range f n r lt) ∙ h) }
   | inr le ↦
       let size = length-map-range_with_len f 0 n in
       let past : length (map f (range_with_len 0 n)) ≤ r = omega arith in

@@ -9,10 +9,10 @@ use Rattle.cluster_types.specs.declared.placement.Pin.{Pin}
 use Rattle.cluster_types.specs.declared.rules.Colocation.{Colocation}
 use Rattle.cluster_types.specs.declared.rules.Order.{Order}
 use Rattle.cluster_types.specs.Choice.{is_mandatory}
-use Rattle.cluster_types.specs.Pins.{is_pinned, pin_of}
+use Rattle.cluster_types.specs.Pins.{is_pinned, is_pinned_in, pin_of}
 use Rattle.held_cells.specs.declared.dependencies.Dependency.{Dependency}
-use Rattle.held_cells.specs.Dependencies.{by_colocations, by_orders, dependencies_by, free_of, from_colocation, from_order, is_pinned_in, may_hold, of_colocation, of_order}
-use Rattle.held_cells.proofs.PinnedLeaves.{pin_known}
+use Rattle.held_cells.specs.Dependencies.{by_colocations, by_orders, dependencies_by, free_of, from_colocation, from_order, may_hold, of_colocation, of_order}
+use Rattle.cluster_types.proofs.PinnedLeaves.{pin_known}
 
 module _ (c : Cluster) (es : List Event) (pins : List (Option Pin)) (are : pins ≡ map (pin_of c es) (range_with_len 0 (length c.leaves))) where
   pub data Origin (rule : Dependency) : Type 0 where

@@ -8,13 +8,10 @@ use Rattle.cluster_types.specs.declared.placement.Pin.{Pin}
 use Rattle.cluster_types.specs.declared.rules.Colocation.{Colocation}
 use Rattle.cluster_types.specs.declared.rules.Order.{Order}
 use Rattle.cluster_types.specs.Choice.{is_mandatory}
+use Rattle.cluster_types.specs.Pins.{is_pinned_in}
 use Rattle.cluster_types.specs.Precedence.{is_up}
 use Rattle.plan_laws.specs.HeldMarks.{is_mandatory_order, role_by}
 use Rattle.held_cells.specs.declared.dependencies.Dependency.{Dependency}
-
--- the leaf is left as it is, by a list that says why of each leaf; one that the list doesn't have is too
-abbrev pub is_pinned_in : List (Option Pin) → ℕ → Bool
-is_pinned_in pins r = option_map_or (λ (pin : Option Pin). is_some pin) (slice_get pins r) true
 
 -- the order may hold its then back: it is mandatory, and both its words give a role
 abbrev pub may_hold : Order → Bool

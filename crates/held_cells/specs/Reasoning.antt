@@ -13,9 +13,10 @@ use Rattle.cluster_types.specs.declared.states.States.{States}
 use Rattle.cluster_types.specs.Choice.{is_stopped_role}
 use Rattle.cluster_types.specs.Decisions.{decision_of, is_same_decision}
 use Rattle.cluster_types.specs.Fields.{copies, target_role_of}
+use Rattle.cluster_types.specs.Pins.{is_pinned_in}
 use Rattle.cluster_types.specs.Tables.{Targets, is_somewhere}
 use Rattle.held_cells.specs.declared.dependencies.Dependency.{Dependency}
-use Rattle.held_cells.specs.Dependencies.{is_pinned_in, of_colocation, of_order}
+use Rattle.held_cells.specs.Dependencies.{of_colocation, of_order}
 use Rattle.held_cells.specs.Taking.{has_primary}
 
 -- a failure stops the leaf everywhere

@@ -7,8 +7,9 @@ ghost use Rattle.plan_laws.specs.HeldMarks.{role_by};
 ghost use Rattle.held_cells.specs.Dependencies as spec;
 ghost use Rattle.held_cells.specs.Taking as taking;
 
-use crate::pinned::is_pinned;
-use cluster_types::{Cluster, Colocation, LeafId, NodeId, Op, Order, OrderKind, Pin, Role, Table};
+use cluster_types::{
+    Cluster, Colocation, LeafId, NodeId, Op, Order, OrderKind, Pin, Role, Table, is_pinned,
+};
 use std::alloc::{AllocError, Global};
 
 /// The dependent may hold its role only where the primary holds its own.

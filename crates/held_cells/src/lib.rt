@@ -3,7 +3,6 @@
 
 // What mandatory rules ask of the chosen targets.
 mod dependencies;
-mod pinned;
 
 // The targets that are left.
 mod final_targets;

@@ -14,9 +14,10 @@ ghost use Rattle.cluster_types.specs.Valid.{KeepsLimits};
 ghost use Rattle.held_cells.specs.Reasoning as spec;
 
 use crate::holders::holder_id;
-use crate::pinned::is_pinned;
 use crate::plain::{is_fail_stopped, plain_reason};
-use cluster_types::{Cluster, LeafId, NoMemory, NoReason, NodeId, Pin, Role, States, Table};
+use cluster_types::{
+    Cluster, LeafId, NoMemory, NoReason, NodeId, Pin, Role, States, Table, is_pinned,
+};
 use crm_lex::Name;
 use listed::Listed;
 use quorum_fence::rights;

@@ -6,3 +6,4 @@ pub mod Counts
 pub mod Ranges
 pub mod Results
 pub mod Grown
+pub mod Lasts

@@ -5,6 +5,8 @@ use Rattle.std.proofs.lemmas.Grind.{flat_map-append}
 use Rattle.std.proofs.lemmas.List.{length-set, get_or-set_same, get_or-set_other, ext_get_or}
 use Rattle.std.proofs.lemmas.List.Elements.{filter-append}
 use Rattle.std.proofs.lemmas.List.FromFn.{map-range_with_len_more, get_or-map-range_with_len, length-map-range_with_len}
+use Rattle.std.proofs.lemmas.Option.{slice_get-get_or}
+use Rattle.std.specs.Prelude.{Some, slice_get}
 use Rattle.std.specs.List.{flat_map, list_all, list_any, range_with_len}
 use Rattle.lemmas.proofs.Booleans.{sooner, later}
 use Rattle.lemmas.proofs.Counts.{count-is}
@@ -66,6 +68,12 @@ module _ (p q : ℕ → Bool) where
       let d = count-is q from (range_with_len (from + 1) n) (q from) refl in
       let rest = count-alike (from + 1) n (λ k ge lt. same k (omega arith) (omega arith)) in
       omega arith
+
+-- what a function gives at a number is at its place
+pub slice_get-range : {X : Type 0} (f : ℕ → X) (n k : ℕ) → k < n → slice_get (map f (range_with_len 0 n)) k ≡ Some (f k)
+slice_get-range f n k low =
+    let size = length-map-range_with_len f 0 n in
+    slice_get-get_or (map f (range_with_len 0 n)) k (f k) (omega (arith, low, size)) ∙ ap Some (get_or-map-range_with_len f 0 n k k (f k) low (omega arith))
 
 -- the same below a bound
 pub map-same : {X : Type 0} (f g : ℕ → X) (n : ℕ) → ((i : ℕ) → i < n → f i ≡ g i) → map f (range_with_len 0 n) ≡ map g (range_with_len 0 n)

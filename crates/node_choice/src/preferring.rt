@@ -13,23 +13,10 @@ ghost use Rattle.score_table.specs.Rows.{IsRow, IsRoomy, more_where};
 
 use cluster_types::{Cluster, Colocation, Decision, NoMemory, NodeId, Table};
 use colocation::counts;
-use lane_rows::{Row, totals};
+use lane_rows::Row;
 use score::Score;
-use std::alloc::{AllocError, Global};
-
-/// Adds a score to those of a node, if it is wanted.
-fn put_if(row: &mut Row, node: NodeId, score: Score, wanted: bool)
-    requires node { node < length row.old }
-    requires room { IsRoomy (finite_at row.old node) }
-    ensures terms { (nodes : ℕ) (terms : ℕ → List ℤ) → nodes ≡ length row.old → IsRow nodes terms row.old
-        → IsRow nodes (more_where (λ n. wanted && node == n) score terms) row.new }
-    ensures nodes { length row.new ≡ length row.old }
-    ensures others { (n : ℕ) → n ≢ node → finite_at row.new n ≡ finite_at row.old n }
-{
-    if wanted {
-        row.put(node, score);
-    }
-}
+use score_table::{put_if, totals_of};
+use std::alloc::Global;
 
 /// Adds the score of the colocation on each node where it counts for the decision.
 fn put_where_counted(
@@ -91,17 +78,6 @@ fn preference_row(
         put_rule(&mut row, nodes, rule, table, decision);
     }
     Ok(row)
-}
-
-/// The total of each node of a row.
-fn totals_of(alloc: Global, row: &Row, nodes: u32) -> Result<Vec<Score>, AllocError>
-    requires { length row.now ≡ nodes }
-    ensures { IfOk result (λ all. (terms : ℕ → List ℤ) → IsRow nodes terms row.now
-        → all.items ≡ map (λ n. total_of (terms n)) (range_with_len 0 nodes)) }
-{
-    let mut all = vec![in alloc; Score { points: 0 }; nodes as usize]?;
-    totals(row, &mut all);
-    Ok(all)
 }
 
 /// How much the colocations prefer the decision on each node, with the table so far: the total of the finite ones of which its leaf is the dependent

@@ -14,7 +14,7 @@ use Rattle.cluster_types.specs.Cells.{is_of_cell, is_same_cell, is_sent_to, is_r
 use Rattle.cluster_types.specs.Failures.{is_failure, is_outcome}
 use Rattle.cluster_types.specs.Outcomes.{is_bad, is_ignored}
 use Rattle.cluster_types.specs.Steps.{is_success}
-use Rattle.fail_counts.proofs.MoreFailures.{after_last-here, after_last-more}
+use Rattle.lemmas.proofs.Lasts.{after_last-here, after_last-more}
 use Rattle.run_safety.proofs.Outcomes.{outcome_here, outcome_before, success_good}
 
 -- the action sends the leaf away from the cell

@@ -17,7 +17,8 @@ use Rattle.cluster_types.specs.Cells.{is_of_cell, is_reset}
 use Rattle.cluster_types.specs.Failures.{failures_in_force, is_failure, is_outcome, outcomes}
 use Rattle.cluster_types.specs.Outcomes.{is_among, is_bad, is_ignored}
 use Rattle.cluster_types.specs.Steps.{is_success, expected_codes}
-use Rattle.fail_counts.proofs.MoreFailures.{last-more, outcomes-more}
+use Rattle.lemmas.proofs.Lasts.{last-more}
+use Rattle.fail_counts.proofs.MoreFailures.{outcomes-more}
 
 -- an expected code is good
 expected_good : (a : Action) (o : Outcome) → is_among (expected_codes a) o ≡ true → is_bad a o ≡ false

@@ -7,7 +7,7 @@ use Rattle.cluster_types.specs.declared.journal.Event.{Event}
 use Rattle.cluster_types.specs.declared.states.NodeState.TheVariants as node
 use Rattle.cluster_types.specs.Journals.{NodeSign, joined, went_down, was_lost, was_fenced, sign_of, last_sign}
 use Rattle.cluster_types.specs.NodeStates.{is_online, is_online_state, state_by}
-use Rattle.fail_counts.proofs.MoreFailures.{last-more}
+use Rattle.lemmas.proofs.Lasts.{last-more}
 use Rattle.run_safety.proofs.Each.{Each, none, more}
 
 module _ (n : ℕ) where

@@ -5,7 +5,7 @@ use Rattle.std.proofs.lemmas.Bool.{cases_eq, cases_lt, le-ltb, lt-ltb}
 use Rattle.lane_rows.specs.Row.{Tally}
 use Rattle.score_table.specs.Rows.{IsRow, more_where}
 use Rattle.score_table.proofs.TermRows.{row-same}
-use Rattle.score_table.proofs.TieMarks.{differ}
+use Rattle.score_table.proofs.Tests.{differ}
 
 glue-first : (ts : List ℤ) (term : ℤ) (a b d : Bool) → a ≡ d → b ≡ false
     → (ts ++ (if a then term ∷ [] else [])) ++ (if b then term ∷ [] else []) ≡ ts ++ (if d then term ∷ [] else [])

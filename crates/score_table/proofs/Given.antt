@@ -14,7 +14,7 @@ use Rattle.cluster_types.specs.declared.rules.RuleLocation.{RuleLocation}
 use Rattle.score_table.specs.Locations.{located, ruled, given, rule_holds_by}
 use Rattle.score_table.specs.Rows.{each_of, few, IsRow, more_where}
 use Rattle.score_table.proofs.FewTerms.{few-kept, few-append}
-use Rattle.score_table.proofs.TieMarks.{swap}
+use Rattle.score_table.proofs.Tests.{swap}
 
 -- no terms
 abbrev pub nothing : ℕ → List ℤ

@@ -1,3 +1,4 @@
+pub mod Tests
 pub mod OwnOfStates
 pub mod JoinedOfStates
 pub mod TableOfStates
@@ -16,3 +17,5 @@ pub mod RowSums
 pub mod TermRows
 pub mod Sizes
 pub mod TieMarks
+pub mod TieOrders
+pub mod TieSides

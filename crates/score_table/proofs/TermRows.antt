@@ -9,7 +9,7 @@ use Rattle.lemmas.proofs.Ranges.{map-same, map-set-range}
 use Rattle.score.specs.Total.{IsScore}
 use Rattle.lane_rows.specs.Row.{Tally, tally_of, Stands, is_finite, finite_part, finite_at, with_term}
 use Rattle.score_table.specs.Rows.{each_of, few, IsRow, IsRoomy, more_where}
-use Rattle.score_table.proofs.TieMarks.{differ}
+use Rattle.score_table.proofs.Tests.{differ}
 
 -- the same terms below the number of nodes
 pub row-same : (nodes : ℕ) (f g : ℕ → List ℤ) (row : List Tally) → ((n : ℕ) → n < nodes → f n ≡ g n) → IsRow nodes f row → IsRow nodes g row

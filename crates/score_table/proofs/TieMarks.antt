@@ -1,98 +1,174 @@
--- Marks of the leaves that must be with a leaf, turn by turn.
-use Rattle.std.proofs.Common.{◌≡◌, ◌≢◌, ◌⊎◌, inl, inr, ℕ, zero, suc, ◌+◌, ◌-◌, ◌<◌, ◌≤◌, ◌==◌, Bool, true, false, ◌&&◌, ◌||◌, List, [], ◌∷◌, length, map, take, get_or, set, replicate, refl, sym, ap, subst, ◌∙◌, arith}
-use Rattle.std.specs.List.{Contains, list_any, range_with_len}
-use Rattle.std.proofs.lemmas.Bool.{cases_lt}
-use Rattle.std.proofs.lemmas.List.{length-replicate, get_or-replicate, ext_get_or}
-use Rattle.std.proofs.lemmas.List.Folds.{list_any_more}
+-- Marks of the leaves that must be with a leaf, tie by tie.
+use Rattle.std.proofs.Common.{◌≡◌, ◌≢◌, ◌⊎◌, inl, inr, ℕ, zero, suc, ◌+◌, ◌-◌, ◌<◌, ◌≤◌, ◌==◌, Bool, true, false, not, cond, ◌&&◌, ◌||◌, List, [], ◌∷◌, length, filter, get_or, set, replicate, refl, sym, ap, subst, ◌∙◌, arith, Contains}
+use Rattle.std.specs.List.{list_any}
+use Rattle.std.proofs.lemmas.Bool.{cases_lt, and_from}
+use Rattle.std.proofs.lemmas.List.{length-replicate, length-set, get_or-replicate, get_or-set_other, get_or_default, ext_get_or}
+use Rattle.std.proofs.Math.ListN.{get_or-eq_default}
+use Rattle.std.proofs.lemmas.List.Sums.{count_by-le-length}
 use Rattle.std.proofs.lemmas.List.FromFn.{get_or-map-range_with_len, length-map-range_with_len}
-use Rattle.std.proofs.Math.Bool.{or-false, or-true}
-use Rattle.std.proofs.Math.Seq.{set_out}
-use Rattle.lemmas.proofs.Ranges.{map-same, map-set-range}
-use Rattle.lemmas.proofs.Members.{in_rest}
+use Rattle.lemmas.proofs.Booleans.{sooner, later, either, same_test, both, one_of}
+use Rattle.lemmas.proofs.Counts.{count-is, count-cons}
+use Rattle.lemmas.proofs.Members.{at_head, in_rest, in_map, in_filter, of_map, of_filter}
+use Rattle.lemmas.proofs.Searches.{passes_by}
 use Rattle.cluster_types.specs.declared.cluster.Cluster.{Cluster}
-use Rattle.cluster_types.specs.declared.leaf.Role.{Role}
-use Rattle.cluster_types.specs.declared.leaf.Role.TheVariants as role
 use Rattle.cluster_types.specs.declared.rules.Colocation.{Colocation}
 use Rattle.cluster_types.specs.Terms.{is_tie, is_tied}
-use Rattle.cluster_types.specs.Valid.{IsValid, MayHaveRole}
-use Rattle.score_table.specs.Ties.{is_marked, mark_if, leads, is_led, led, tied_within}
+use Rattle.cluster_types.specs.Valid.{IsValid}
+use Rattle.score_table.proofs.TieSides.{has-role}
+use Rattle.score_table.specs.declared.ties.Tie.{Tie}
+use Rattle.score_table.specs.Ties.{AreTied, AreTies, is_marked, lacks_mark, unmarked, mark_if, leads, is_missed, tie_of, tied_within}
 
-pub differ : (i n : ℕ) → n ≢ i → (i == n) ≡ false
-differ i n e = grind arith
+-- an element that passes
+some_passes : {X : Type 0} (p : X → Bool) (xs : List X) {P : Type 0} → list_any p xs ≡ true → ((x : X) → Contains xs x → p x ≡ true → P) → P
+some_passes p [] h f = cc
+some_passes p (x ∷ xs) h f =
+    either (p x) (list_any p xs) h (f x (at_head x xs x refl)) (λ rest. some_passes p xs rest (λ y among. f y (in_rest x xs y among)))
 
--- one more mark, if it is wanted
-mark-range : (f g : ℕ → Bool) (k i : ℕ) (wanted : Bool) → ((n : ℕ) → g n ≡ (f n || (wanted && i == n)))
-    → mark_if (map f (range_with_len 0 k)) i wanted ≡ map g (range_with_len 0 k)
-mark-range f g k i false h = map-same f g k (λ n low. sym (or-false (f n)) ∙ sym (h n))
-mark-range f g k i true h = go (cases_lt i k)
+-- a weaker test passes too
+any-weaker : {X : Type 0} (p q : X → Bool) (xs : List X) → ((x : X) → p x ≡ true → q x ≡ true) → list_any p xs ≡ true → list_any q xs ≡ true
+any-weaker p q [] f h = h
+any-weaker p q (x ∷ xs) f h = one_of (p x) (q x) (list_any p xs) (list_any q xs) (f x) (any-weaker p q xs f) h
+
+-- one leaf less has no mark
+fewer-unmarked : (marks : List Bool) (s : ℕ) → get_or marks s true ≡ false → unmarked (set marks s true) + 1 ≡ unmarked marks
+fewer-unmarked [] s h = cc
+fewer-unmarked (m ∷ marks) zero h =
+    let a = count-is not true marks false refl in
+    let b = count-is not m marks true (ap not h) in
+    omega (arith, a, b)
+fewer-unmarked (m ∷ marks) (suc k) h =
+    let a = count-cons not m (set marks k true) in
+    let b = count-cons not m marks in
+    let rest = fewer-unmarked marks k h in
+    omega (arith, a, b, rest)
+
+not-lacks : (b : Bool) → not b ≡ true → b ≡ false
+not-lacks true h = cc
+not-lacks false h = refl
+
+there : (marks : List Bool) (s : ℕ) → get_or marks s true ≡ false → s < length marks
+there marks s h = go (cases_lt s (length marks))
   where
-    here : g i ≡ true
-    here = h i ∙ (ap (λ b. f i || b) (grind arith) ∙ or-true (f i))
+    go : (s < length marks) ⊎ (length marks ≤ s) → s < length marks
+    go (inl low) = low
+    go (inr high) = let e = get_or-eq_default marks true high in cc
 
-    other : (n : ℕ) → n ≢ i → g n ≡ f n
-    other n e = h n ∙ (ap (λ b. f n || b) (differ i n e) ∙ or-false (f n))
+-- what one step of a pass leaves
+pub fewer-or : (start old now : ℕ) (changed missed : Bool) → now + cond missed 1 0 ≡ old → old + cond changed 1 0 ≤ start
+    → now + cond (changed || missed) 1 0 ≤ start
+fewer-or start old now true true h low = omega (arith, h, low)
+fewer-or start old now true false h low = omega (arith, h, low)
+fewer-or start old now false true h low = omega (arith, h, low)
+fewer-or start old now false false h low = omega (arith, h, low)
 
-    go : (i < k) ⊎ (k ≤ i) → set (map f (range_with_len 0 k)) i true ≡ map g (range_with_len 0 k)
-    go (inl low) = map-set-range false f g k i true low here other
-    go (inr high) =
-        set_out (map f (range_with_len 0 k)) i true (omega (arith, high, length-map-range_with_len f 0 k))
-        ∙ map-same f g k (λ n low. sym (other n (λ e. absurd (let x : ⊥ = omega (arith, e, low, high) in x))))
+-- chains may be longer
+module _ (c : Cluster) (r : ℕ) where
+  tied-longer : (k s : ℕ) → is_tied c k s r ≡ true → is_tied c (suc k) s r ≡ true
+  tied-longer zero s h = cc
+  tied-longer (suc k) s h =
+      any-weaker _ _ c.colocations (λ col. both (is_tie c col && col.dependent == s) (is_tie c col && col.dependent == s)
+      (col.primary == r || is_tied c k col.primary r) (col.primary == r || is_tied c (suc k) col.primary r) (λ e. e)
+      (one_of (col.primary == r) (col.primary == r) (is_tied c k col.primary r) (is_tied c (suc k) col.primary r) (λ e. e) (tied-longer k col.primary))) h
 
--- the marks after one more colocation
-pub led-more : (c : Cluster) (marks : List Bool) (r : ℕ) (cols : List Colocation) (i : ℕ) (col : Colocation) → i < length cols → col ≡ get_or cols i col
-    → mark_if (led c marks r (take i cols)) col.dependent (leads c marks r col) ≡ led c marks r (take (i + 1) cols)
-led-more c marks r cols i col low is =
-    mark-range (is_led c marks r (take i cols)) (is_led c marks r (take (i + 1) cols)) (length c.leaves) col.dependent (leads c marks r col)
-    (λ n. list_any_more (λ x. leads c marks r x && x.dependent == n) cols i col low
-    ∙ ap (λ x. is_led c marks r (take i cols) n || (leads c marks r x && x.dependent == n)) (sym is))
+  tied-more : (j k s : ℕ) → is_tied c k s r ≡ true → is_tied c (j + k) s r ≡ true
+  tied-more zero k s h = subst (λ (m : ℕ). is_tied c m s r ≡ true) (let e : k ≡ 0 + k = omega arith in e) h
+  tied-more (suc j) k s h =
+      subst (λ (m : ℕ). is_tied c m s r ≡ true) (let e : suc (j + k) ≡ suc j + k = omega arith in e) (tied-longer (j + k) s (tied-more j k s h))
 
--- no marks
-pub none-marked : (k : ℕ) → replicate k false ≡ map (λ (s : ℕ). false) (range_with_len 0 k)
-none-marked k =
-    ext_get_or false _ _ (length-replicate k false ∙ sym (length-map-range_with_len (λ (s : ℕ). false) 0 k))
-    (λ n within. let low : n < k = omega (arith, within, length-replicate k false) in
-    get_or-replicate k n false false low ∙ sym (get_or-map-range_with_len (λ (s : ℕ). false) 0 k n n false low (omega arith)))
+  pub tied-within : (k most s : ℕ) → k ≤ most → is_tied c k s r ≡ true → is_tied c most s r ≡ true
+  tied-within k most s low h =
+      subst (λ (m : ℕ). is_tied c m s r ≡ true) (let e : (most - k) + k ≡ most = omega (arith, low) in e) (tied-more (most - k) k s h)
 
--- tests that agree on the elements of a list
-list_any-same : {X : Type 0} (p q : X → Bool) (xs : List X) → ((x : X) → Contains xs x → p x ≡ q x) → list_any p xs ≡ list_any q xs
-list_any-same p q [] h = refl
-list_any-same p q (x ∷ xs) h =
-    let first = h x (0, (let low : 0 < length (x ∷ xs) = omega arith in low), refl) in
-    let rest = list_any-same p q xs (λ y e. h y (in_rest x xs y e)) in
-    rw (first, rest) refl
+-- at the start none has a mark
+pub none-tied : (c : Cluster) (r : ℕ) (marks : List Bool) → marks ≡ replicate (length c.leaves) false → AreTied c r marks
+none-tied c r marks is = record {
+  size = size;
+  most = 0;
+  enough = let few = count_by-le-length not marks in omega (arith, few, size);
+  tied = λ s h. go s (cases_lt s (length c.leaves)) h;
+}
+  where
+    size : length marks ≡ length c.leaves
+    size = ap length is ∙ length-replicate (length c.leaves) false
 
-pub swap : (a b d : Bool) → ((a && b) && d) ≡ ((a && d) && b)
-swap true true true = refl
-swap true true false = refl
-swap true false true = refl
-swap true false false = refl
-swap false b d = refl
+    go : (s : ℕ) → (s < length c.leaves) ⊎ (length c.leaves ≤ s) → is_marked marks s ≡ true → is_tied c 0 s r ≡ true
+    go s (inl low) h = let e : get_or marks s false ≡ false = ap (λ ms. get_or ms s false) is ∙ get_or-replicate (length c.leaves) s false false low in cc
+    go s (inr high) h = let e : get_or marks s false ≡ false = get_or-eq_default marks false (omega (arith, high, size)) in cc
 
-has-role : (c : Cluster) (r : ℕ) (as_role : Role) → MayHaveRole c r as_role → r < length c.leaves
-has-role c r role.Started h = h
-has-role c r role.Promoted h = h.0
+-- one tie is followed
+module _ (r : ℕ) (marks : List Bool) (tie : Tie) where
+  unset : is_missed r marks tie ≡ true → get_or marks tie.dependent true ≡ false
+  unset h = not-lacks (get_or marks tie.dependent true) (sooner (lacks_mark marks tie.dependent) (leads r marks tie) h)
 
-module _ (c : Cluster) (valid : IsValid c) (r : ℕ) where
-  -- one turn finds the leaves of one tie more
-  pub one-turn : (k : ℕ) → led c (tied_within c k r) r c.colocations ≡ tied_within c (k + 1) r
-  one-turn k = subst (λ m. led c (tied_within c k r) r c.colocations ≡ tied_within c m r) (let e : suc k ≡ k + 1 = omega arith in e) turn
-    where
-      mark : (col : Colocation) → Contains c.colocations col → is_marked (tied_within c k r) col.primary ≡ is_tied c k col.primary r
-      mark col within =
-          let low = has-role c col.primary col.primary_role (valid.colocations col within).primary in
-          get_or-map-range_with_len (λ s. is_tied c k s r) 0 (length c.leaves) col.primary col.primary false low (omega arith)
+  pub fewer-if : (missed : Bool) → is_missed r marks tie ≡ missed → unmarked (mark_if marks tie.dependent missed) + cond missed 1 0 ≡ unmarked marks
+  fewer-if true h = fewer-unmarked marks tie.dependent (unset h)
+  fewer-if false h = omega arith
 
-      turn : led c (tied_within c k r) r c.colocations ≡ tied_within c (suc k) r
-      turn = map-same (is_led c (tied_within c k r) r c.colocations) (λ s. is_tied c (suc k) s r) (length c.leaves)
-          (λ s low. list_any-same _ _ c.colocations (λ col within.
-          swap (is_tie c col) _ (col.dependent == s) ∙ ap (λ b. is_tie c col && col.dependent == s && (col.primary == r || b)) (mark col within)))
+  module _ (c : Cluster) (ties : List Tie) (exact : AreTies c ties) (among : Contains ties tie) (known : AreTied c r marks) where
+    -- the chain to its dependent is one longer than that to its primary
+    joined : leads r marks tie ≡ true → is_tied c (suc known.most) tie.dependent r ≡ true
+    joined h =
+        let of_colocation = of_map tie_of (filter (is_tie c) c.colocations) tie ((exact.exact tie).0 among) in
+        let col = of_colocation.source in
+        let kept = of_filter (is_tie c) c.colocations col of_colocation.among in
+        let dependent : col.dependent ≡ tie.dependent = ap (λ (t : Tie). t.dependent) of_colocation.gives in
+        let primary : col.primary ≡ tie.primary = ap (λ (t : Tie). t.primary) of_colocation.gives in
+        let end : (col.primary == r || is_tied c known.most col.primary r) ≡ true =
+        subst (λ (p : ℕ). (p == r || is_tied c known.most p r) ≡ true) (sym primary)
+        (one_of (tie.primary == r) (tie.primary == r) _ _ (λ e. e) (known.tied tie.primary) h) in
+        let same : (col.dependent == tie.dependent) ≡ true = grind (arith, dependent) in
+        passes_by (λ col. is_tie c col && col.dependent == tie.dependent && (col.primary == r || is_tied c known.most col.primary r)) c.colocations col
+        kept.among (and_from (is_tie c col && col.dependent == tie.dependent) _ (and_from (is_tie c col) (col.dependent == tie.dependent) kept.passes same) end)
 
-  -- where one turn finds none, no later one does
-  pub no-more : (k : ℕ) → tied_within c k r ≡ tied_within c (k + 1) r → (j : ℕ) → tied_within c k r ≡ tied_within c (k + j) r
-  no-more k same zero = ap (λ m. tied_within c m r) (let e : k ≡ k + 0 = omega arith in e)
-  no-more k same (suc j) =
-      same ∙ (sym (one-turn k) ∙ (ap (λ marks. led c marks r c.colocations) (no-more k same j)
-      ∙ (one-turn (k + j) ∙ ap (λ m. tied_within c m r) (let e : k + j + 1 ≡ k + suc j = omega arith in e))))
+    marked : is_missed r marks tie ≡ true → AreTied c r (set marks tie.dependent true)
+    marked h = record {
+      size = length-set marks tie.dependent true ∙ known.size;
+      most = suc known.most;
+      enough = let e = fewer-unmarked marks tie.dependent (unset h) in let f = known.enough in omega (arith, e, f);
+      tied = λ s. by s (cases s);
+    }
+      where
+        cases : (s : ℕ) → (s ≡ tie.dependent) ⊎ (s ≢ tie.dependent)
+        cases s = grind arith
 
-  pub found-all : (k most : ℕ) → tied_within c k r ≡ tied_within c (k + 1) r → k ≤ most → tied_within c k r ≡ tied_within c most r
-  found-all k most same low = no-more k same (most - k) ∙ ap (λ m. tied_within c m r) (let e : k + (most - k) ≡ most = omega (arith, low) in e)
+        by : (s : ℕ) → (s ≡ tie.dependent) ⊎ (s ≢ tie.dependent) → get_or (set marks tie.dependent true) s false ≡ true → is_tied c (suc known.most) s r ≡ true
+        by s (inl e) g = rw e (joined (later (lacks_mark marks tie.dependent) (leads r marks tie) h))
+        by s (inr e) g =
+            tied-longer c r known.most s (known.tied s (sym (get_or-set_other marks tie.dependent s true false e) ∙ g))
+
+    pub tied-if : (missed : Bool) → is_missed r marks tie ≡ missed → AreTied c r (mark_if marks tie.dependent missed)
+    tied-if true h = marked h
+    tied-if false h = known
+
+-- where no tie is missed, all are marked
+module _ (c : Cluster) (valid : IsValid c) (ties : List Tie) (exact : AreTies c ties) (r : ℕ) (marks : List Bool) (known : AreTied c r marks)
+    (none : (tie : Tie) → Contains ties tie → is_missed r marks tie ≡ false) where
+  set-already : (b d : Bool) → not b && d ≡ false → d ≡ true → b ≡ true
+  set-already true d h e = refl
+  set-already false d h e = cc
+
+  follows : (col : Colocation) → Contains c.colocations col → is_tie c col ≡ true → leads r marks (tie_of col) ≡ true → is_marked marks col.dependent ≡ true
+  follows col among is leading =
+      let listed = (exact.exact (tie_of col)).1 (in_map tie_of (filter (is_tie c) c.colocations) col (in_filter (is_tie c) c.colocations col among is)) in
+      let low = has-role c col.dependent col.dependent_role (valid.colocations col among).dependent in
+      get_or_default marks col.dependent false true (omega (arith, low, known.size))
+      ∙ set-already (get_or marks col.dependent true) (leads r marks (tie_of col)) (none (tie_of col) listed) leading
+
+  all-marked : (k s : ℕ) → is_tied c k s r ≡ true → is_marked marks s ≡ true
+  all-marked zero s h = cc
+  all-marked (suc k) s h = some_passes _ c.colocations h (λ col among e.
+      let end = later (is_tie c col && col.dependent == s) (col.primary == r || is_tied c k col.primary r) e in
+      let rest = sooner (is_tie c col && col.dependent == s) (col.primary == r || is_tied c k col.primary r) e in
+      let same : (col.dependent == s) ≡ true = later (is_tie c col) (col.dependent == s) rest in
+      let at : col.dependent ≡ s = grind (arith, same) in
+      subst (λ (n : ℕ). is_marked marks n ≡ true) at (follows col among (sooner (is_tie c col) (col.dependent == s) rest)
+      (one_of (col.primary == r) (col.primary == r) (is_tied c k col.primary r) (is_marked marks col.primary) (λ g. g) (all-marked k col.primary) end)))
+
+  pub all-tied : marks ≡ tied_within c (length c.leaves) r
+  all-tied =
+      ext_get_or false marks _ (known.size ∙ sym (length-map-range_with_len (λ s. is_tied c (length c.leaves) s r) 0 (length c.leaves)))
+      (λ n within. let low : n < length c.leaves = omega (arith, within, known.size) in
+      same_test (is_marked marks n) (is_tied c (length c.leaves) n r)
+      (λ h. tied-within c r known.most (length c.leaves) n (let e = known.enough in omega (arith, e)) (known.tied n h))
+      (all-marked (length c.leaves) n)
+      ∙ sym (get_or-map-range_with_len (λ s. is_tied c (length c.leaves) s r) 0 (length c.leaves) n n false low (omega arith)))

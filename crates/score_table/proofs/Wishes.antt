@@ -2,7 +2,7 @@
 use Rattle.std.proofs.Common.{◌≡◌, inl, inr, ℕ, ◌+◌, ◌<◌, ◌≤◌, ◌==◌, ℤ, true, ◌&&◌, if◌then◌else◌, nat_lt, List, [], ◌∷◌, ◌++◌, refl, sym, ap, subst, append-nil, arith}
 use Rattle.std.proofs.lemmas.Bool.{cases_eq, cases_lt, le-ltb, lt-ltb}
 use Rattle.score_table.specs.Rows.{more_where}
-use Rattle.score_table.proofs.TieMarks.{differ}
+use Rattle.score_table.proofs.Tests.{differ}
 
 module _ (first : ℕ → List ℤ) (wish : ℕ → ℤ) where
   -- with the wishes of the nodes below one

@@ -4,5 +4,6 @@ pub mod OwnRows
 pub mod Promotions
 pub mod Rows
 pub mod Scores
+pub mod TieOrder
 pub mod Ties
 pub mod Usable

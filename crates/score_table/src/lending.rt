@@ -5,11 +5,12 @@ ghost use Rattle.cluster_types.specs.Valid.{IsValid};
 ghost use Rattle.score_table.specs.Lending as spec;
 ghost use Rattle.score_table.specs.OwnRows.{terms_by};
 ghost use Rattle.score_table.specs.Rows.{IsRow};
+ghost use Rattle.score_table.specs.Ties.{AreTies};
 
 use crate::adding::{both, copy_of};
 use crate::fitting::leaves_a_node;
 use crate::own_rows::OwnRows;
-use crate::ties::{is_marked, tied};
+use crate::ties::{Tie, is_marked, tied};
 use cluster_types::LeafId;
 use lane_rows::{NoMemory, Row};
 use std::alloc::Global;
@@ -37,13 +38,19 @@ fn lend(
 
 /// The row of the own terms of the leaf and of the lenders that join it, tried in their order (Pacemaker Explained, "Colocation"; which
 /// leaves lend is a rule of this project).
-pub(crate) fn lent_row(alloc: Global, own: &OwnRows, leaf: LeafId) -> Result<Row, NoMemory>
+pub(crate) fn lent_row(
+    alloc: Global,
+    own: &OwnRows,
+    ties: &[Tie],
+    leaf: LeafId,
+) -> Result<Row, NoMemory>
     requires valid { IsValid own.now.cluster.now }
+    requires ties { AreTies own.now.cluster.now ties.now }
     requires leaf { leaf < length own.now.cluster.now.leaves }
     ensures { IfOk result (λ row. IsRow (length own.now.cluster.now.nodes)
         (terms_by own.now.cluster.now own.now.states.now (spec.all_joined own.now.cluster.now own.now.states.now leaf)) row) }
 {
-    let marks = tied(alloc, own.cluster, leaf)?;
+    let marks = tied(alloc, own.cluster, ties, leaf)?;
     let mut joined = copy_of(alloc, own.row(leaf), own.cluster.nodes.len() as u32)?;
     for lender in 0..own.cluster.leaves.len() {
         if !is_marked(&marks, lender as u32) {

@@ -14,6 +14,7 @@ mod own_rows;
 
 // What others lend to it.
 mod lending;
+mod tie_order;
 mod ties;
 
 // How much it wants to be promoted.
@@ -25,4 +26,6 @@ mod table;
 
 pub use laws::scores_are_totals;
 pub use own_rows::usable_nodes;
+pub use putting::put_if;
+pub use row_totals::totals_of;
 pub use table::{ScoreTable, rows};

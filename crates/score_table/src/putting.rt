@@ -9,8 +9,8 @@ use cluster_types::NodeId;
 use lane_rows::{NodeSet, Row};
 use score::Score;
 
-/// Adds a term to those of a node, if it is wanted.
-pub(crate) fn put_if(row: &mut Row, node: NodeId, term: Score, wanted: bool)
+/// Adds a term to those of a node, if it is wanted. The node has room for one more.
+pub fn put_if(row: &mut Row, node: NodeId, term: Score, wanted: bool)
     requires node { node < length row.old }
     requires room { IsRoomy (finite_at row.old node) }
     ensures terms { (nodes : ℕ) (terms : ℕ → List ℤ) → nodes ≡ length row.old → IsRow nodes terms row.old

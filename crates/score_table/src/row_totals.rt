@@ -9,8 +9,8 @@ use lane_rows::{Row, totals};
 use score::Score;
 use std::alloc::{AllocError, Global};
 
-/// The total of each of so many nodes.
-pub(crate) fn totals_of(alloc: Global, row: &Row, nodes: u32) -> Result<Vec<Score>, AllocError>
+/// The total of each of so many nodes, by the terms that the row stands for. Out of memory is the only other answer.
+pub fn totals_of(alloc: Global, row: &Row, nodes: u32) -> Result<Vec<Score>, AllocError>
     requires { length row.now ≡ nodes }
     ensures totals { IfOk result (λ all. (terms : ℕ → List ℤ) → IsRow nodes terms row.now
         → all.items ≡ map (λ n. total_of (terms n)) (range_with_len 0 nodes)) }

@@ -11,6 +11,7 @@ use crate::lending::lent_row;
 use crate::own_rows::OwnRows;
 use crate::promotions::{first_said, promote_row};
 use crate::row_totals::totals_of;
+use crate::ties::ties_of;
 use cluster_types::{Cluster, Decision, LeafId, NoMemory, NodeId, States, cell_place};
 use listed::Listed;
 use score::Score;
@@ -57,9 +58,10 @@ fn place_totals(alloc: Global, own: &OwnRows) -> Result<Vec<Score>, lane_rows::N
     ensures { IfOk result (λ all. all.items ≡ spec.cells_of own.now.cluster.now (spec.place_by own.now.cluster.now own.now.states.now)) }
 {
     let cluster = own.cluster;
+    let ties = ties_of(alloc, cluster)?;
     let mut all = Vec::with_capacity(alloc, cluster.leaves.len() * cluster.nodes.len())?;
     for leaf in 0..cluster.leaves.len() {
-        let row = lent_row(alloc, own, leaf as u32)?;
+        let row = lent_row(alloc, own, &ties, leaf as u32)?;
         let of_leaf = totals_of(alloc, &row, cluster.nodes.len() as u32)?;
         all.extend_from_slice(&of_leaf)?;
     }

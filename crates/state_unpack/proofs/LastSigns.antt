@@ -8,7 +8,7 @@ use Rattle.std.specs.Option.{option_map}
 use Rattle.cluster_types.specs.declared.journal.Event.{Event}
 use Rattle.cluster_types.specs.declared.journal.Event.TheVariants.{Up, Down, Lost, Quorum, Wait, Cleanup, Begin, Ended}
 use Rattle.cluster_types.specs.Journals.{NodeSign, sign_of, last_sign, said_of_quorum, has_quorum}
-use Rattle.fail_counts.proofs.MoreFailures.{last-more}
+use Rattle.lemmas.proofs.Lasts.{last-more}
 use Rattle.state_unpack.specs.declared.signs.Sign.{Sign}
 use Rattle.state_unpack.specs.CellsKept.{quorum_after}
 use Rattle.state_unpack.specs.Signs.{or_else, as_sign, Shows}

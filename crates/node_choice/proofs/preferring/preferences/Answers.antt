@@ -18,5 +18,5 @@ returns c =
     let cluster = c.args.cluster.now in
     let terms = counted (targets_of c.args.table.now) c.args.decision cluster.colocations in
     let row : IsRow (length cluster.nodes) terms c.in_ok-row.row = search rules in
-    c.in_ok-all.ensures terms (subst (λ k. IsRow k terms c.in_ok-row.row) (sym c.len.ensures) row)
+    c.in_ok-all.ensures.totals terms (subst (λ k. IsRow k terms c.in_ok-row.row) (sym c.len.ensures) row)
     ∙ ap (λ k. map (preference cluster (targets_of c.args.table.now) c.args.decision) (range_with_len 0 k)) c.len.ensures

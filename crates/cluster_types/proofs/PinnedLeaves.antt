@@ -4,18 +4,13 @@ use Rattle.std.specs.Prelude.{is_some, slice_get}
 use Rattle.std.specs.List.{range_with_len}
 use Rattle.std.specs.Option.{option_map_or}
 use Rattle.std.proofs.lemmas.Bool.{cases_lt}
-use Rattle.std.proofs.lemmas.List.FromFn.{get_or-map-range_with_len, length-map-range_with_len}
-use Rattle.std.proofs.lemmas.Option.{slice_get-get_or, slice_get_past}
+use Rattle.std.proofs.lemmas.List.FromFn.{length-map-range_with_len}
+use Rattle.std.proofs.lemmas.Option.{slice_get_past}
+use Rattle.lemmas.proofs.Ranges.{slice_get-range}
 use Rattle.cluster_types.specs.declared.cluster.Cluster.{Cluster}
 use Rattle.cluster_types.specs.declared.journal.Event.{Event}
 use Rattle.cluster_types.specs.declared.placement.Pin.{Pin}
-use Rattle.cluster_types.specs.Pins.{is_pinned, pin_of}
-use Rattle.held_cells.specs.Dependencies.{is_pinned_in}
-
-pub at_place : {X : Type 0} (f : ℕ → X) (n k : ℕ) → k < n → slice_get (map f (range_with_len 0 n)) k ≡ Some (f k)
-at_place f n k lt =
-    let size = length-map-range_with_len f 0 n in
-    slice_get-get_or (map f (range_with_len 0 n)) k (f k) (omega arith) ∙ ap Some (get_or-map-range_with_len f 0 n k k (f k) lt (omega arith))
+use Rattle.cluster_types.specs.Pins.{is_pinned, is_pinned_in, pin_of}
 
 module _ (c : Cluster) (es : List Event) (pins : List (Option Pin)) (are : pins ≡ map (pin_of c es) (range_with_len 0 (length c.leaves))) where
   -- a leaf that the cluster doesn't have isn't managed
@@ -28,10 +23,11 @@ module _ (c : Cluster) (es : List Event) (pins : List (Option Pin)) (are : pins 
       let past : length pins ≤ r = omega arith in
       rw (slice_get_past pins r past) refl
 
+  -- the list says it of every leaf
   pub pin_known : (r : ℕ) → is_pinned_in pins r ≡ is_pinned c es r
   pin_known r = elim (cases_lt r (length c.leaves)) [
     | inl lt ↦
         ap (λ (xs : List (Option Pin)). is_pinned_in xs r) are
-        ∙ ap (λ (o : Option (Option Pin)). option_map_or (λ (pin : Option Pin). is_some pin) o true) (at_place (pin_of c es) (length c.leaves) r lt)
+        ∙ ap (λ (o : Option (Option Pin)). option_map_or (λ (pin : Option Pin). is_some pin) o true) (slice_get-range (pin_of c es) (length c.leaves) r lt)
     | inr le ↦ unlisted r le ∙ sym (unknown r le)
   ]
