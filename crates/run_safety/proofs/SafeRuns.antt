@@ -24,7 +24,7 @@ use Rattle.run_safety.proofs.Safe.{is_safe, leaves_nothing, reaches_targets, sta
 use Rattle.run_safety.proofs.Shapes.{Adds, nothing, begun, over, reported, lost, up, quorum, wait, answer_adds}
 
 -- what is added begins nothing, where no action may begin
-silent : (t : Transition) (since events : List Event) → ((k : ℕ) (a : Action) → Begins t since k a → ⊥) → Adds t since events → list_all begins_nothing events ≡ true
+pub silent : (t : Transition) (since events : List Event) → ((k : ℕ) (a : Action) → Begins t since k a → ⊥) → Adds t since events → list_all begins_nothing events ≡ true
 silent t since _ none nothing = refl
 silent t since _ none (begun k a begins) = absurd (none k a begins)
 silent t since _ none (over k a o m flies h) = refl

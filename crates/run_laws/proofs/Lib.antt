@@ -1,0 +1,17 @@
+pub mod Said
+pub mod OneStep
+pub mod OneRun
+pub mod OneEnd
+pub mod Along
+pub mod Beginnings
+pub mod Silent
+pub mod Counted
+pub mod Between
+pub mod Moments
+pub mod Rests
+pub mod SoFar
+pub mod Planned
+pub mod Kept
+pub mod Printed
+pub mod KeptRuns
+pub mod OneTransition

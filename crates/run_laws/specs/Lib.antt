@@ -1,0 +1,3 @@
+pub mod OnePlan
+pub mod Followed
+pub mod Kept
