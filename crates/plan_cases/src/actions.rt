@@ -4,9 +4,9 @@ ghost use Rattle.std.specs.Prelude.{◌≡◌, true};
 ghost use Rattle.cluster_types.specs.Valid.{IsValid, KeepsLimits};
 ghost use Rattle.state_unpack.specs.CellsKept.{has_few_monitors};
 
-use crate::plain::input_of;
+use crate::plain::{Todo, action, input_of, text_of};
 use action_build::actions;
-use cluster_types::{Action, LeafId, NodeId, Op, Pin, Placed, Role, Table, Target, moment_of};
+use cluster_types::{Action, Op, Pin, Placed, Role, Table, Target, moment_of};
 use listed::Listed;
 use quorum_fence::rights;
 use sim_core::Input;
@@ -14,49 +14,6 @@ use state_unpack::unpack;
 use std::alloc::Global;
 use std::process::Abort;
 use std::test::Fail;
-
-/// An action of which leaf on which node: a probe, a step, a monitor of this interval, and the two halves of a migration from the first node to the
-/// second. A fence is of no leaf.
-#[derive(Clone, Copy)]
-enum Todo {
-    Fence(NodeId),
-    Probe(LeafId, NodeId),
-    Step(Op, LeafId, NodeId),
-    Watch(LeafId, NodeId, u32, Role),
-    Send(LeafId, NodeId, NodeId),
-    TakeIn(LeafId, NodeId, NodeId),
-}
-
-fn action(todo: Todo) -> Action {
-    match todo {
-        Todo::Fence(node) => Action::Fence { node },
-        Todo::Probe(leaf, node) => Action::Probe { leaf, node },
-        Todo::Step(op, leaf, node) => Action::Cell {
-            op,
-            leaf,
-            node,
-            interval_ms: 0,
-            role: Role::Started,
-        },
-        Todo::Watch(leaf, node, interval_ms, role) => Action::Cell {
-            op: Op::Monitor,
-            leaf,
-            node,
-            interval_ms,
-            role,
-        },
-        Todo::Send(leaf, source, target) => Action::MigrateTo {
-            leaf,
-            source,
-            target,
-        },
-        Todo::TakeIn(leaf, source, target) => Action::MigrateFrom {
-            leaf,
-            source,
-            target,
-        },
-    }
-}
 
 /// Where everything goes by these targets, leaf by leaf and node by node. No leaf is pinned.
 fn placed(alloc: Global, leaves: usize, targets: &[Target]) -> Result<Placed, Fail> {
@@ -288,14 +245,6 @@ const ROWS: [Row; 13] = [
         &[Todo::Step(Op::Demote, 0, 0), Todo::Step(Op::Stop, 0, 0)],
     ),
 ];
-
-fn text_of(alloc: Global, parts: &[&str]) -> Result<Vec<u8>, Fail> {
-    let mut text = Vec::new(alloc);
-    for part in parts {
-        text.extend_from_slice(part.as_bytes())?;
-    }
-    Ok(text)
-}
 
 #[test]
 fn what_is_needed_is_listed_once(rt: HostRuntime) -> Result<(), Fail> {

@@ -1,0 +1,10 @@
+pub mod OneTarget
+pub mod ActionKinds
+pub mod ToldApart
+pub mod OwnPlaces
+pub mod PlaceOrder
+pub mod WeakOrder
+pub mod Sorted
+pub mod Few
+pub mod Pairs
+pub mod Whole

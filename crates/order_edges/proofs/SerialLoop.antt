@@ -1,0 +1,58 @@
+-- The loop over the orders of the kind Serialize.
+use Rattle.std.proofs.Common.{arith, ◌≡◌, ◌<◌, ◌≤◌, ◌+◌, ◌||◌, ◌⊎◌, ℕ, Bool, true, false, List, [], ◌∷◌, ◌++◌, length, get_or, take, sym, ap, subst, ◌∙◌}
+use Rattle.std.specs.List.{list_any, sum_by}
+use Rattle.std.proofs.lemmas.List.{take_more}
+use Rattle.std.proofs.lemmas.List.Folds.{list_any-append}
+use Rattle.std.proofs.lemmas.List.Sums.{sum_by-append, sum_by-cons}
+use Rattle.std.proofs.Math.Bool.{or-false}
+use Rattle.cluster_types.specs.declared.cluster.Cluster.{Cluster}
+use Rattle.cluster_types.specs.declared.edges.Edge.{Edge}
+use Rattle.cluster_types.specs.declared.journal.Action.{Action}
+use Rattle.cluster_types.specs.declared.rules.Order.{Order}
+use Rattle.cluster_types.specs.Numbers.{is_earlier}
+use Rattle.order_edges.specs.Chains.{serialized_at}
+use Rattle.order_edges.specs.Groups.{Adds}
+use Rattle.order_edges.specs.Serials.{most_serial, serial_room}
+use Rattle.order_edges.proofs.Adding.{adds_after, adds_none, adds_says}
+use Rattle.order_edges.proofs.AllJoins.{one_or, or_one}
+
+module _ (c : Cluster) (actions : List Action) where
+  abbrev says : ℕ → ℕ → Order → Bool
+  says x y o = serialized_at actions (is_earlier c actions) x y o
+
+  -- what the loop keeps
+  pub record Serials (old now : List Edge) (from base : ℕ) (orders : List Order) : Type 0 where
+    pub adds : Adds (length actions) old now from base (sum_by (most_serial actions) orders) (λ x y. list_any (says x y) orders ≡ true)
+    pub room : base ≤ from + sum_by (serial_room actions) orders
+
+  pub serials_none : (list : List Edge) (from : ℕ) → length actions ≤ from → Serials list list from from []
+  serials_none list from le = record {
+    adds =
+        adds_says (length actions) list list from from 0 0 (λ x y. ⊥) (λ x y. list_any (says x y) [] ≡ true) (λ x y l m h. absurd h)
+        (λ x y l m h. let e : false ≡ true = h in cc) (omega arith) (adds_none (length actions) list from le);
+    room = omega arith;
+  }
+
+  any_more : (x y : ℕ) (os : List Order) (o : Order) → list_any (says x y) (os ++ o ∷ []) ≡ list_any (says x y) os || says x y o
+  any_more x y os o = list_any-append (says x y) os (o ∷ []) ∙ ap (λ v. list_any (says x y) os || v) (or-false (says x y o))
+
+  sum_more : (f : Order → ℕ) (os : List Order) (o : Order) → sum_by f (os ++ o ∷ []) ≡ sum_by f os + f o
+  sum_more f os o = let a = sum_by-append f os (o ∷ []) in let b = sum_by-cons f o [] in omega arith
+
+  pub serials_more : (old now new : List Edge) (from base upto : ℕ) (orders : List Order) (i : ℕ) (d o : Order) → i < length orders → o ≡ get_or orders i d
+      → Serials old now from base (take i orders) → Adds (length actions) now new base upto (most_serial actions o) (λ x y. says x y o ≡ true)
+      → upto ≤ base + serial_room actions o → Serials old new from upto (take (i + 1) orders)
+  serials_more old now new from base upto orders i d o l is h more room =
+      let os = take i orders in
+      let e = sum_more (most_serial actions) os o in
+      let f = sum_more (serial_room actions) os o in
+      subst (Serials old new from upto) (sym (take_more orders i d l ∙ ap (λ v. os ++ v ∷ []) (sym is))) record {
+        adds =
+            adds_says (length actions) old new from upto (sum_by (most_serial actions) os + most_serial actions o) (sum_by (most_serial actions) (os ++ o ∷ []))
+            (λ x y. (list_any (says x y) os ≡ true) ⊎ (says x y o ≡ true)) (λ x y. list_any (says x y) (os ++ o ∷ []) ≡ true)
+            (λ x y l m k. any_more x y os o ∙ one_or (list_any (says x y) os) (says x y o) k)
+            (λ x y l m k. or_one (list_any (says x y) os) (says x y o) (sym (any_more x y os o) ∙ k)) (omega arith)
+            (adds_after (length actions) old now new from base upto (sum_by (most_serial actions) os) (most_serial actions o) (λ x y. list_any (says x y) os ≡ true)
+            (λ x y. says x y o ≡ true) h.adds more);
+        room = let r = h.room in omega arith;
+      }

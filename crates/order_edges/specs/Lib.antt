@@ -1,0 +1,11 @@
+pub mod Joins
+pub mod Gates
+pub mod Groups
+pub mod Leaves
+pub mod Rooms
+pub mod Places
+pub mod Chains
+pub mod Index
+pub mod Flags
+pub mod Serials
+pub mod Precede

@@ -1,0 +1,242 @@
+//! Which numbers the actions of a plan have, and which of them come before which.
+
+ghost use Rattle.std.specs.Prelude.{◌≡◌, ◌^◌, ◌<◌, true};
+ghost use Rattle.cluster_types.specs.Journals.{moment_of};
+ghost use Rattle.cluster_types.specs.Valid.{IsValid, KeepsLimits};
+ghost use Rattle.state_unpack.specs.CellsKept.{has_few_monitors};
+
+use crate::plain::{Todo, action, input_of, text_of};
+use action_build::actions;
+use cluster_types::{Cluster, Graph, Journal, NoMemory, Op, Role, moment_of};
+use graph_number::number;
+use placement::place;
+use quorum_fence::rights;
+use score_table::rows;
+use state_unpack::unpack;
+use std::alloc::Global;
+use std::process::Abort;
+use std::test::Fail;
+
+/// The graph of the plan for a journal.
+fn graph(alloc: Global, cluster: &Cluster, journal: &Journal) -> Result<Graph, NoMemory>
+    requires valid { IsValid cluster.now }
+    requires limits { KeepsLimits cluster.now }
+    requires monitors { has_few_monitors cluster.now ≡ true }
+    requires moment { moment_of journal.now.events < 2 ^ 40 }
+{
+    let states = unpack(alloc, cluster, journal)?;
+    let scores = rows(alloc, cluster, &states)?;
+    let placed = place(alloc, cluster, &states, &scores)?;
+    let rights = rights(cluster, &states);
+    let actions = actions(alloc, cluster, &states, rights, &placed)?;
+    number(alloc, cluster, actions)
+}
+
+/// An action, and the numbers of those that come before it.
+type Line = (Todo, &'static [u32]);
+
+/// Whether the graph has these actions in the order of their numbers, each with these before it.
+fn agrees(rt: &impl Abort, alloc: Global, graph: &Graph, lines: &[Line]) -> Result<(), Fail> {
+    assert!(rt; graph.count() as usize == lines.len());
+    for place in 0..graph.count() {
+        let line = match lines.get(place as usize) {
+            Some(line) => line,
+            None => return Err(Fail::from("too many actions")),
+        };
+        assert!(rt; graph.action(place + 1) == action(line.0));
+        match graph.befores(alloc, place + 1) {
+            Ok(befores) => assert!(rt; befores.as_slice() == line.1),
+            Err(_) => return Err(Fail::from("no memory")),
+        }
+    }
+    Ok(())
+}
+
+const TWO: &str = "node n1\nnode n2\n";
+
+const STATUS: &str = "%status\nquorum yes\nnode n1 online\nnode n2 online\n";
+
+const A: &str = "primitive a Dummy\n";
+
+const B: &str = "primitive b Dummy\n";
+
+/// `vip` may be on the first node until its second 1001, and then rather on the other.
+const VIP: &str =
+    "primitive vip IPaddr2\nlocation l vip rule 100: date lt 1970-01-01T00:16:41Z and #uname eq n1\nlocation k vip 50: n2\n";
+
+const PROMOTABLE: &str =
+    "primitive drbd ocf:linbit:drbd\nprimitive vip IPaddr2\nms md drbd meta notify=true\n\
+    colocation c inf: vip md:Master\norder o inf: md:promote vip:start\n";
+
+const PROMOTED: &str =
+    "op n1 drbd start 0 0 900\nop n1 drbd promote 0 0 901\nop n2 drbd start 0 0 900\n\
+    op n1 vip start 0 0 902\nop n2 vip monitor 0 7 900\npromotion n1 drbd 10\npromotion n2 drbd 20\n";
+
+const CLONES: &str = "primitive p Dummy\nprimitive q Dummy\nclone cp p\n";
+
+const NO_CLONES: &str =
+    "op n1 p monitor 0 7 900\nop n1 q monitor 0 7 900\nop n2 p monitor 0 7 900\nop n2 q monitor 0 7 900\n";
+
+/// `c` with `a`, and `b` with `c`, never both at once.
+const ONE_BY_ONE: &str =
+    "node n1\nnode n2\nnode n3\nprimitive a Dummy\nprimitive b Dummy\nprimitive c Dummy\n\
+    order o Serialize: c a\norder p Serialize: b c\nlocation la a 100: n2\nlocation lb b 100: n3\nlocation lc c 100: n1\n";
+
+const ELSEWHERE: &str =
+    "node n3 online\nop n1 a start 0 0 900\nop n2 a monitor 0 7 900\nop n3 a monitor 0 7 900\n\
+    op n1 b start 0 0 900\nop n2 b monitor 0 7 900\nop n3 b monitor 0 7 900\n\
+    op n2 c start 0 0 900\nop n1 c monitor 0 7 900\nop n3 c monitor 0 7 900\n";
+
+/// The parts of an input, and the lines of its graph.
+type Row = (&'static [&'static str], &'static [Line]);
+
+const ROWS: [Row; 9] = [
+    // A group moves, since its second member has failed.
+    (
+        &[
+            TWO,
+            A,
+            "primitive b Dummy op monitor interval=10s meta migration-threshold=1\nprimitive c Dummy\ngroup g a b c\n",
+            "%status\nnow 1000\nquorum yes\nnode n1 online\nnode n2 online\n",
+            "op n1 a start 0 0 900\nop n2 a monitor 0 7 900\nop n1 b start 0 0 900\nop n2 b monitor 0 7 900\n",
+            "op n1 c start 0 0 900\nop n2 c monitor 0 7 900\nop n1 b monitor 10000 1 990\n",
+        ],
+        &[
+            (Todo::Step(Op::Stop, 2, 0), &[]),
+            (Todo::Step(Op::Stop, 1, 0), &[1]),
+            (Todo::Step(Op::Stop, 0, 0), &[2]),
+            (Todo::Step(Op::Start, 0, 1), &[3]),
+            (Todo::Step(Op::Start, 1, 1), &[2, 4]),
+            (Todo::Step(Op::Start, 2, 1), &[1, 5]),
+            (Todo::Watch(1, 1, 10_000, Role::Started), &[5]),
+        ],
+    ),
+    // Two that must be apart change places.
+    (
+        &[
+            TWO,
+            A,
+            B,
+            "colocation x -inf: a b\nlocation la a 100: n2\nlocation lb b 100: n1\n",
+            STATUS,
+            "op n1 a start 0 0 900\nop n2 b start 0 0 900\nop n2 a monitor 0 7 900\nop n1 b monitor 0 7 900\n",
+        ],
+        &[
+            (Todo::Step(Op::Stop, 0, 0), &[]),
+            (Todo::Step(Op::Stop, 1, 1), &[]),
+            (Todo::Step(Op::Start, 0, 1), &[1, 2]),
+            (Todo::Step(Op::Start, 1, 0), &[1, 2]),
+        ],
+    ),
+    // The promotion moves, and what depends on it.
+    (
+        &[TWO, PROMOTABLE, STATUS, PROMOTED],
+        &[
+            (Todo::Step(Op::Stop, 1, 0), &[]),
+            (Todo::Step(Op::Demote, 0, 0), &[1]),
+            (Todo::Step(Op::Promote, 0, 1), &[2]),
+            (Todo::Step(Op::Start, 1, 1), &[1, 3]),
+        ],
+    ),
+    // A clone starts behind another, node by node or as a whole.
+    (
+        &[
+            TWO,
+            CLONES,
+            "clone cq q meta interleave=true\norder o cp cq\n",
+            STATUS,
+            NO_CLONES,
+        ],
+        &[
+            (Todo::Step(Op::Start, 0, 0), &[]),
+            (Todo::Step(Op::Start, 0, 1), &[]),
+            (Todo::Step(Op::Start, 1, 0), &[1]),
+            (Todo::Step(Op::Start, 1, 1), &[2]),
+        ],
+    ),
+    (
+        &[
+            TWO,
+            CLONES,
+            "clone cq q\norder o cp cq\n",
+            STATUS,
+            NO_CLONES,
+        ],
+        &[
+            (Todo::Step(Op::Start, 0, 0), &[]),
+            (Todo::Step(Op::Start, 0, 1), &[]),
+            (Todo::Step(Op::Start, 1, 0), &[1, 2]),
+            (Todo::Step(Op::Start, 1, 1), &[1, 2]),
+        ],
+    ),
+    // Never at once, so in the order of their numbers.
+    (
+        &[
+            TWO,
+            A,
+            B,
+            "order o Serialize: a b\n",
+            STATUS,
+            "op n1 a monitor 0 7 900\nop n1 b monitor 0 7 900\nop n2 a monitor 0 7 900\nop n2 b monitor 0 7 900\n",
+        ],
+        &[
+            (Todo::Step(Op::Start, 0, 0), &[]),
+            (Todo::Step(Op::Start, 1, 1), &[1]),
+        ],
+    ),
+    (
+        &[ONE_BY_ONE, STATUS, ELSEWHERE],
+        &[
+            (Todo::Step(Op::Stop, 0, 0), &[]),
+            (Todo::Step(Op::Stop, 1, 0), &[]),
+            (Todo::Step(Op::Stop, 2, 1), &[1, 2]),
+            (Todo::Step(Op::Start, 0, 1), &[1, 3]),
+            (Todo::Step(Op::Start, 1, 2), &[2, 3]),
+            (Todo::Step(Op::Start, 2, 0), &[1, 2, 3, 4, 5]),
+        ],
+    ),
+    // A rule of a date has ended.
+    (
+        &[
+            TWO,
+            VIP,
+            "%status\nnow 1001\nquorum yes\nnode n1 online\nnode n2 online\n",
+            "op n1 vip start 0 0 900\nop n2 vip monitor 0 7 900\n",
+        ],
+        &[
+            (Todo::Step(Op::Stop, 0, 0), &[]),
+            (Todo::Step(Op::Start, 0, 1), &[1]),
+        ],
+    ),
+    // Moved live.
+    (
+        &[
+            TWO,
+            "primitive vm VirtualDomain meta allow-migrate=true\nlocation l vm 50: n2\n",
+            STATUS,
+            "op n1 vm start 0 0 900\nop n2 vm monitor 0 7 900\n",
+        ],
+        &[
+            (Todo::Send(0, 0, 1), &[]),
+            (Todo::TakeIn(0, 0, 1), &[1]),
+            (Todo::Step(Op::Stop, 0, 0), &[2]),
+        ],
+    ),
+];
+
+#[test]
+fn each_action_has_its_number_and_those_before_it(rt: HostRuntime) -> Result<(), Fail> {
+    let alloc = rt.alloc();
+    for row in &ROWS {
+        let (parts, lines) = *row;
+        let text = text_of(alloc, parts)?;
+        let input = input_of(&rt, alloc, text.as_slice())?;
+        let journal = &input.head.journal;
+        assert!(rt; moment_of(journal.events.as_slice()) < 1_099_511_627_776);
+        match graph(alloc, &input.head.cluster, journal) {
+            Ok(graph) => agrees(&rt, alloc, &graph, lines)?,
+            Err(_) => return Err(Fail::from("no memory")),
+        }
+    }
+    Ok(())
+}
