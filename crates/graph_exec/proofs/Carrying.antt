@@ -1,0 +1,175 @@
+-- How steps are put together.
+use Rattle.std.proofs.Common.{arith, ◌≡◌, ◌<◌, ◌≤◌, ℕ, Bool, true, Option, Some, None, List, [], ◌∷◌, ◌++◌, length, refl, sym, ap, ◌∙◌, subst}
+use Rattle.cluster_io.specs.Streams.{Rose}
+use Rattle.cluster_types.specs.declared.journal.Action.{Action}
+use Rattle.cluster_types.specs.declared.journal.Answer.{Answer}
+use Rattle.cluster_types.specs.declared.journal.Event.{Event}
+use Rattle.cluster_types.specs.declared.journal.Event.TheVariants.{Begin}
+use Rattle.cluster_types.specs.Sources.{Says, untold}
+use Rattle.cluster_types.specs.declared.journal.Outcome.TheVariants.{Code}
+use Rattle.cluster_types.specs.Steps.{Transition, StepsOn, begins, takes, is_silent, Goes, here, one_more, HasEnded, IsWaiting, ended, events_of, flight, flying, is_settled, silent_code}
+use Rattle.graph_exec.specs.declared.ends.WatchedEnd.{WatchedEnd}
+use Rattle.graph_exec.specs.declared.ends.WatchedEnd.TheVariants as how
+use Rattle.graph_exec.specs.Rounds.{Advanced, Answered, Began, IsDone, StopsAs, asks_left, begins_left}
+use Rattle.graph_exec.specs.Running.{Running, EndedSilently, Took, Went, going, later}
+use Rattle.graph_exec.specs.Transitions.{EndsAs, GoneTo, IsExpected}
+use Rattle.graph_exec.proofs.Fewer.{asks_fewer, begin_leaves, silent_leaves, take_leaves}
+use Rattle.graph_exec.proofs.Lines.{silent_line, taken_line}
+use Rattle.graph_exec.proofs.Flying.{many_flying}
+
+-- a count that rose later rose since
+pub rose_since : (before middle now : ℕ) → before ≤ middle → Rose middle now → Rose before now
+rose_since before middle now more rose = omega (arith, more, rose)
+
+pub goes-on : (t : Transition) (whole : Bool) (since middle later : List Event) (rest between left : Option (List Answer))
+    → Goes t whole since rest middle between → Goes t whole middle between later left → Goes t whole since rest later left
+goes-on t whole since _ later rest _ left (here _ _) more = more
+goes-on t whole since middle later rest between left (one_more _ events _ _ next _ step first) more =
+    one_more since events later rest next left step (goes-on t whole (since ++ events) middle later next between left first more)
+
+-- the same steps may come of a source that tells nothing
+pub step_untold : (t : Transition) (whole : Bool) (since events : List Event) (rest left : Option (List Answer)) → StepsOn t whole since rest events left
+    → StepsOn t true since None events None
+step_untold t whole since _ rest _ (begins _ k a allowed) = begins None k a allowed
+step_untold t whole since _ rest left (takes _ _ given said taken) = takes None None given (untold (Some given)) taken
+step_untold t whole since _ rest left (is_silent _ _ k a said ends) = is_silent None None k a (untold None) ends
+
+goes_untold : (t : Transition) (whole : Bool) (since later : List Event) (rest left : Option (List Answer)) → Goes t whole since rest later left
+    → Goes t true since None later None
+goes_untold t whole since _ rest _ (here _ _) = here since None
+goes_untold t whole since later rest left (one_more _ events _ _ middle _ step more) =
+    one_more since events later None None None (step_untold t whole since events rest middle step) (goes_untold t whole (since ++ events) later middle left more)
+
+pub went_untold : (whole : Bool) (old new : Running) (rest left : Option (List Answer)) → Went whole old new rest left → Went true old new None None
+went_untold whole old new rest left w = record { same = w.same; steps = goes_untold (going old) whole old.since new.since rest left w.steps }
+
+pub went_nowhere : (whole : Bool) (r : Running) (rest : Option (List Answer)) → Went whole r r rest rest
+went_nowhere whole r rest = record { same = refl; steps = here r.since rest }
+
+-- one step
+pub went_step : (whole : Bool) (old new : Running) (events : List Event) (rest left : Option (List Answer)) → new ≡ later old events
+    → StepsOn (going old) whole old.since rest events left → Went whole old new rest left
+went_step whole old new events rest left e step =
+    rw e (record { same = refl; steps = one_more old.since events (old.since ++ events) rest left left step (here (old.since ++ events) left) })
+
+module _ (whole : Bool) (first middle last : Running) (rest between left : Option (List Answer)) where
+  pub went_on : Went whole first middle rest between → Went whole middle last between left → Went whole first last rest left
+  went_on a b =
+      let going_is : going middle ≡ going first = ap going a.same in
+      let steps = subst (λ (t : Transition). Goes t whole middle.since between last.since left) going_is b.steps in
+      record {
+        same = b.same ∙ ap (λ (r : Running). record { cluster = r.cluster; graph = r.graph; planned_at = r.planned_at; since = last.since; promotions = r.promotions }) a.same;
+        steps = goes-on (going first) whole first.since middle.since last.since rest between left a.steps steps;
+      }
+
+-- up to the answer that doesn't apply
+module _ (whole : Bool) (first middle last : Running) (rest between left : Option (List Answer)) where
+  pub gone_further : (end : WatchedEnd) → Went whole first middle rest between → GoneTo whole middle last between left end → GoneTo whole first last rest left end
+  gone_further (how.Unexpected given) w g =
+      record { before = g.before; went = went_on whole first middle last rest between g.before w g.went; said = g.said }
+  gone_further how.Complete w g = went_on whole first middle last rest between left w g
+  gone_further (how.Aborted event) w g = went_on whole first middle last rest between left w g
+  gone_further how.SourceFault w g = went_on whole first middle last rest between left w g
+  gone_further how.Stopped w g = went_on whole first middle last rest between left w g
+
+module _ (whole : Bool) (old new : Running) (rest left : Option (List Answer)) where
+  pub went_begun : Began old new → left ≡ rest → Went whole old new rest left
+  went_begun b e = rw e (went_step whole old new _ rest rest b.now.goes_on (begins rest b.number b.now.action b.now.begins))
+
+  pub answered_by : (given : Answer) → Says whole rest (Some given) left → Took old new given → Answered whole old new rest left given
+  answered_by given said t = record {
+    events = events_of (going old) old.since given;
+    step = takes rest left given said t.takes;
+    goes_on = t.goes_on;
+    lines = taken_line old given t.takes.applies;
+    fewer = rw t.goes_on (take_leaves old given t.takes.applies);
+  }
+
+  pub answered_silently : (given : Answer) → Says whole rest None left → EndedSilently old new given → Answered whole old new rest left given
+  answered_silently given said s = rw s.given_is (record {
+    events = ended (going old) old.since s.number (Code (silent_code s.action));
+    step = is_silent rest left s.number s.action said s.ends;
+    goes_on = s.goes_on;
+    lines = silent_line old s.number s.action s.ends;
+    fewer = rw s.goes_on (silent_leaves old s.number s.action s.ends);
+  })
+
+  pub went_answered : (given : Answer) → Answered whole old new rest left given → Went whole old new rest left
+  went_answered given a = went_step whole old new a.events rest left a.goes_on a.step
+
+  pub advanced : (given : Answer) → Answered whole old new rest left given → Advanced whole old new rest left
+  advanced given a = record { went = went_answered given a; fewer = a.fewer }
+
+  -- no answer was taken
+  pub gone_by : (end : WatchedEnd) → StopsAs whole old new rest left end → GoneTo whole old new rest left end
+  gone_by how.Complete s = absurd s
+  gone_by (how.Aborted event) s = absurd s
+  gone_by (how.Unexpected given) s = record { before = rest; went = rw s.refused.same (went_nowhere whole old rest); said = s.said }
+  gone_by how.SourceFault s = rw (s.same, s.left_is) (went_nowhere whole old rest)
+  gone_by how.Stopped s = absurd s
+
+  pub ends_by : (end : WatchedEnd) → StopsAs whole old new rest left end → EndsAs new end
+  ends_by how.Complete s = absurd s
+  ends_by (how.Aborted event) s = absurd s
+  ends_by (how.Unexpected given) s = rw s.refused.same (record { waiting = s.waiting; refused = s.refused.refused })
+  ends_by how.SourceFault s = rw s.same s.waiting
+  ends_by how.Stopped s = absurd s
+
+  pub same_by : (end : WatchedEnd) → StopsAs whole old new rest left end → new ≡ old
+  same_by how.Complete s = absurd s
+  same_by (how.Aborted event) s = absurd s
+  same_by (how.Unexpected given) s = s.refused.same
+  same_by how.SourceFault s = s.same
+  same_by how.Stopped s = absurd s
+
+module _ (old new : Running) (b : Began old new) where
+  pub fewer_begins : begins_left new < begins_left old
+  fewer_begins = rw b.now.goes_on (begin_leaves old b.number b.now.action b.now.begins)
+
+  pub no_more_asks : asks_left new ≤ asks_left old
+  no_more_asks = rw b.now.goes_on (asks_fewer old (Begin b.number b.now.action ∷ []))
+
+-- nothing more was to be done
+pub gone_done : (whole : Bool) (old new : Running) (rest left : Option (List Answer)) (end : WatchedEnd) → IsDone end → Went whole old new rest left
+    → GoneTo whole old new rest left end
+gone_done whole old new rest left how.Complete d w = w
+gone_done whole old new rest left (how.Aborted event) d w = w
+gone_done whole old new rest left (how.Unexpected given) d w = absurd d
+gone_done whole old new rest left how.SourceFault d w = absurd d
+gone_done whole old new rest left how.Stopped d w = absurd d
+
+pub expected_done : (end : WatchedEnd) → IsDone end → IsExpected end
+expected_done how.Complete d = d
+expected_done (how.Aborted event) d = d
+expected_done (how.Unexpected given) d = absurd d
+expected_done how.SourceFault d = absurd d
+expected_done how.Stopped d = absurd d
+
+pub no_fault : {R : Type 0} (end : WatchedEnd) → IsDone end → end ≡ how.SourceFault → R
+no_fault how.Complete d e = let f : ⊥ = cc in absurd f
+no_fault (how.Aborted event) d e = let f : ⊥ = cc in absurd f
+no_fault (how.Unexpected given) d e = absurd d
+no_fault how.SourceFault d e = absurd d
+no_fault how.Stopped d e = absurd d
+
+pub not_stopped : {R : Type 0} (end : WatchedEnd) → IsDone end → end ≡ how.Stopped → R
+not_stopped how.Complete d e = let f : ⊥ = cc in absurd f
+not_stopped (how.Aborted event) d e = let f : ⊥ = cc in absurd f
+not_stopped (how.Unexpected given) d e = absurd d
+not_stopped how.SourceFault d e = absurd d
+not_stopped how.Stopped d e = absurd d
+
+none_long : {X : Type 0} (xs : List X) → length xs ≡ 0 → xs ≡ []
+none_long [] h = refl
+none_long (x ∷ xs) h = let f : ⊥ = omega arith in absurd f
+
+-- where none may begin, the transition has ended when nothing is in flight; else it waits
+module _ (r : Running) (settled : is_settled (going r) r.since ≡ true) (shown : List (ℕ × Action)) (is : shown ≡ flying (going r) r.since) where
+  as_many : length shown ≡ length (flight (going r) r.since)
+  as_many = ap length is ∙ many_flying r
+
+  pub has_ended_now : length shown ≡ 0 → HasEnded (going r) r.since
+  has_ended_now none = record { settled = settled; idle = none_long _ (sym as_many ∙ none) }
+
+  pub waits_now : (length shown ≡ 0 → ⊥) → IsWaiting (going r) r.since
+  waits_now some = record { settled = settled; busy = let m = as_many in grind arith }

@@ -1,0 +1,58 @@
+-- Steps each end of which was said.
+use Rattle.std.proofs.Common.{◌≡◌, Bool, true, false, Option, Some, None, List, [], ◌∷◌, ◌++◌, refl}
+use Rattle.std.specs.Prelude.{option_map}
+use Rattle.cluster_types.specs.declared.journal.Answer.{Answer}
+use Rattle.cluster_types.specs.declared.journal.Event.{Event}
+use Rattle.cluster_types.specs.Sources.{Says, told, used_up, untold}
+use Rattle.cluster_types.specs.Steps.{Transition, StepsOn, begins, takes, is_silent, Goes, here, one_more}
+use Rattle.graph_exec.specs.Rounds.{Began}
+use Rattle.graph_exec.specs.Running.{Running, Took, Went, going}
+use Rattle.graph_exec.specs.Transitions.{WentAsSaid}
+use Rattle.graph_exec.proofs.Carrying.{went_begun, went_nowhere, went_on, went_step}
+
+-- the same steps, with more answers to come behind
+module _ (ys : List Answer) where
+  abbrev with_more : Option (List Answer) → Option (List Answer)
+  with_more rest = option_map (λ xs. xs ++ ys) rest
+
+  says_more : (rest : Option (List Answer)) (said : Option Answer) (left : Option (List Answer)) → Says false rest said left
+      → Says false (with_more rest) said (with_more left)
+  says_more _ _ _ (told given rest) = told given (rest ++ ys)
+  says_more _ _ _ (used_up h) = cc
+  says_more _ _ _ (untold said) = untold said
+
+  step_more : (t : Transition) (since events : List Event) (rest left : Option (List Answer)) → StepsOn t false since rest events left
+      → StepsOn t false since (with_more rest) events (with_more left)
+  step_more t since _ rest _ (begins _ k a b) = begins (with_more rest) k a b
+  step_more t since _ rest left (takes _ _ given said b) = takes (with_more rest) (with_more left) given (says_more rest (Some given) left said) b
+  step_more t since _ rest left (is_silent _ _ k a said b) = is_silent (with_more rest) (with_more left) k a (says_more rest None left said) b
+
+  goes_more : (t : Transition) (since later : List Event) (rest left : Option (List Answer)) → Goes t false since rest later left
+      → Goes t false since (with_more rest) later (with_more left)
+  goes_more t since _ rest _ (here _ _) = here since (with_more rest)
+  goes_more t since later rest left (one_more _ events _ _ middle _ step more) =
+      one_more since events later (with_more rest) (with_more middle) (with_more left) (step_more t since events rest middle step)
+      (goes_more t (since ++ events) later middle left more)
+
+pub said_nothing : (r : Running) → WentAsSaid r r
+said_nothing r = record { answers = []; went = went_nowhere false r (Some []) }
+
+pub said_on : (first middle last : Running) → WentAsSaid first middle → WentAsSaid middle last → WentAsSaid first last
+said_on first middle last a b =
+    let before : Went false first middle (Some (a.answers ++ b.answers)) (Some b.answers)
+    = record { same = a.went.same; steps = goes_more b.answers (going first) first.since middle.since (Some a.answers) (Some []) a.went.steps } in
+    record { answers = a.answers ++ b.answers; went = went_on false first middle last _ _ _ before b.went }
+
+pub said_begun : (old new : Running) → Began old new → WentAsSaid old new
+said_begun old new b = record { answers = []; went = went_begun false old new (Some []) (Some []) b refl }
+
+pub said_taken : (old new : Running) (given : Answer) → Took old new given → WentAsSaid old new
+said_taken old new given t = record {
+  answers = given ∷ [];
+  went = went_step false old new _ (Some (given ∷ [])) (Some []) t.goes_on (takes (Some (given ∷ [])) (Some []) given (told given []) t.takes);
+}
+
+-- what is not so later wasn't so before
+pub not_yet : (before after : Bool) → (before ≡ true → after ≡ true) → after ≡ false → before ≡ false
+not_yet true after h e = let f = h refl in cc
+not_yet false after h e = refl

@@ -1,0 +1,111 @@
+-- What a watcher was told, step by step.
+use Rattle.std.proofs.Common.{◌≡◌, ℕ, Bool, true, Option, Some, None, List, [], ◌∷◌, ◌++◌, append-nil, append_assoc, refl, sym, ap, ◌∙◌, subst}
+use Rattle.std.specs.List.{flat_map}
+use Rattle.std.proofs.lemmas.Grind.{flat_map-append}
+use Rattle.cluster_io.proofs.Pieces.{Adds-then}
+use Rattle.cluster_io.specs.Streams.{Adds}
+use Rattle.cluster_types.specs.declared.cluster.Cluster.{Cluster}
+use Rattle.cluster_types.specs.declared.journal.Answer.{Answer}
+use Rattle.cluster_types.specs.declared.journal.Event.{Event}
+use Rattle.cluster_types.specs.declared.run.RunLine.{RunLine}
+use Rattle.cluster_types.specs.declared.run.RunLine.TheVariants as line
+use Rattle.cluster_types.specs.Steps.{StepsOn, begins}
+use Rattle.cluster_types.specs.Texts.{event_lines, run_line}
+use Rattle.graph_exec.specs.declared.ends.WatchedEnd.{WatchedEnd}
+use Rattle.graph_exec.specs.declared.ends.WatchedEnd.TheVariants as how
+use Rattle.graph_exec.specs.declared.watcher.Heard.{Heard}
+use Rattle.graph_exec.specs.declared.watcher.Heard.TheVariants as heard
+use Rattle.graph_exec.specs.Rounds.{Answered, IsDone, StopsAs}
+use Rattle.graph_exec.specs.Running.{Running, BeginsNow, Went, going, later}
+use Rattle.graph_exec.specs.Telling.{Tells, text_of}
+use Rattle.graph_exec.specs.Watching.{Hears, IsTold, heard_at}
+use Rattle.graph_exec.proofs.Carrying.{step_untold, went_nowhere, went_on}
+
+text-append : (names : Option Cluster) (xs ys : List RunLine) → text_of names (xs ++ ys) ≡ text_of names xs ++ text_of names ys
+text-append None xs ys = refl
+text-append (Some c) xs ys = flat_map-append (run_line c) xs ys
+
+adds_nothing : (names : Option Cluster) (text : Option (List ℕ)) → Adds text (text_of names []) text
+adds_nothing None None = refl
+adds_nothing None (Some text) = ap Some (sym (append-nil text))
+adds_nothing (Some c) None = refl
+adds_nothing (Some c) (Some text) = ap Some (sym (append-nil text))
+
+module _ (names : Option Cluster) where
+  pub told_nothing : (r : Running) (text : Option (List ℕ)) → IsTold names r r text text
+  told_nothing r text = record { events = []; happened = sym (append-nil r.since); added = adds_nothing names text }
+
+  pub told_on : (first middle last : Running) (before text after : Option (List ℕ)) → IsTold names first middle before text → IsTold names middle last text after
+      → IsTold names first last before after
+  told_on first middle last before text after a b =
+      let sum : text_of names (flat_map event_lines (a.events ++ b.events)) ≡ text_of names (flat_map event_lines a.events) ++ text_of names (flat_map event_lines b.events)
+      = ap (text_of names) (flat_map-append event_lines a.events b.events) ∙ text-append names (flat_map event_lines a.events) (flat_map event_lines b.events) in
+      record {
+        events = a.events ++ b.events;
+        happened = b.happened ∙ ap (λ (es : List Event). es ++ b.events) a.happened ∙ append_assoc first.since a.events b.events;
+        added = subst (λ (bytes : List ℕ). Adds before bytes after) (sym sum)
+            (Adds-then before text after (text_of names (flat_map event_lines a.events)) (text_of names (flat_map event_lines b.events)) a.added b.added);
+      }
+
+  pub hears_on : (first middle last : Running) (before text after : Option (List ℕ)) (h : Heard) → Went true first middle None None
+      → IsTold names first middle before text → Hears names middle last text after h → Hears names first last before after h
+  hears_on first middle last before text after heard.Go w a b = told_on first middle last before text after a b
+  hears_on first middle last before text after heard.Stop w a b = record {
+    at = b.at;
+    text = b.text;
+    events = b.events;
+    went = went_on true first middle b.at None None None w b.went;
+    told = told_on first middle b.at before text b.text a b.told;
+    step = b.step;
+    last = b.last;
+    added = b.added;
+  }
+
+  -- one step, of one line
+  module _ (whole : Bool) (old new : Running) (events : List Event) (rest left : Option (List Answer)) (said : RunLine)
+      (step : StepsOn (going old) whole old.since rest events left) (goes_on : new ≡ later old events) (lines : flat_map event_lines events ≡ said ∷ [])
+      (before after : Option (List ℕ)) where
+    pub hears_step : (h : Heard) → Tells names (said ∷ []) before after h → Hears names old new before after h
+    hears_step heard.Go t = record {
+      events = events;
+      happened = ap (λ (r : Running). r.since) goes_on;
+      added = subst (λ (ls : List RunLine). Adds before (text_of names ls) after) (sym lines) t;
+    }
+    hears_step heard.Stop t = record {
+      at = old;
+      text = before;
+      events = events;
+      went = went_nowhere true old None;
+      told = told_nothing old before;
+      step = step_untold (going old) whole old.since events rest left step;
+      last = goes_on;
+      added = rw lines t;
+    }
+
+  pub hears_begin : (old new : Running) (k : ℕ) (b : BeginsNow old new k) (before after : Option (List ℕ)) (h : Heard)
+      → Tells names (line.Begin k b.action ∷ []) before after h → Hears names old new before after h
+  hears_begin old new k b before after h t =
+      hears_step true old new _ None None (line.Begin k b.action) (begins None k b.action b.begins) b.goes_on refl before after h t
+
+  pub hears_answer : (whole : Bool) (old new : Running) (rest left : Option (List Answer)) (given : Answer) (a : Answered whole old new rest left given)
+      (before after : Option (List ℕ)) (h : Heard) → Tells names (line.Taken given ∷ []) before after h → Hears names old new before after h
+  hears_answer whole old new rest left given a before after h t =
+      hears_step whole old new a.events rest left (line.Taken given) a.step a.goes_on a.lines before after h t
+
+  -- where no answer was taken, nothing is told
+  pub hears_none : (whole : Bool) (old new : Running) (rest left : Option (List Answer)) (text : Option (List ℕ)) (end : WatchedEnd)
+      → StopsAs whole old new rest left end → Hears names old new text text (heard_at end)
+  hears_none whole old new rest left text how.Complete s = absurd s
+  hears_none whole old new rest left text (how.Aborted event) s = absurd s
+  hears_none whole old new rest left text (how.Unexpected given) s = rw s.refused.same (told_nothing old text)
+  hears_none whole old new rest left text how.SourceFault s = rw s.same (told_nothing old text)
+  hears_none whole old new rest left text how.Stopped s = absurd s
+
+  -- nor where nothing more was to be done
+  pub hears_done : (old new : Running) (before after : Option (List ℕ)) (end : WatchedEnd) → IsDone end → IsTold names old new before after
+      → Hears names old new before after (heard_at end)
+  hears_done old new before after how.Complete d t = t
+  hears_done old new before after (how.Aborted event) d t = t
+  hears_done old new before after (how.Unexpected given) d t = absurd d
+  hears_done old new before after how.SourceFault d t = absurd d
+  hears_done old new before after how.Stopped d t = absurd d

@@ -1,0 +1,51 @@
+-- The actions of a transition as far as they went, and those in flight (rule of this project).
+use Rattle.std.specs.Prelude.{◌≡◌, ℕ, ◌-◌, ◌||◌, Bool, true, false, if◌then◌else◌, List, [], ◌∷◌, length, slice_set}
+use Rattle.std.specs.List.{flat_map, list_any}
+use Rattle.std.specs.Option.{option_map_or}
+use Rattle.cluster_types.specs.declared.journal.Action.{Action}
+use Rattle.cluster_types.specs.Cells.{is_of_cell, is_sent_to}
+use Rattle.cluster_types.specs.Steps.{numbered}
+use Rattle.number_set.specs.Sets.{members}
+use Rattle.waiting.specs.Ready.{Progress}
+
+-- which actions have begun and succeeded, and which are in flight
+pub record FlightOf : Type 0 where
+  pub progress : Progress
+  pub flying : List Bool
+
+-- a number with its action
+abbrev pub paired : List Action → ℕ → List (ℕ × Action)
+paired actions k = option_map_or (λ a. (k, a) ∷ []) (numbered actions k) []
+
+-- the actions in flight, in the order of their numbers
+abbrev pub pairs : FlightOf → List (ℕ × Action)
+pairs f = flat_map (paired f.progress.graph.actions) (members f.flying)
+
+-- an action begins
+abbrev pub with_begun : FlightOf → ℕ → FlightOf
+with_begun f k = record {
+  progress = record { graph = f.progress.graph; begun = slice_set f.progress.begun (k - 1) true; succeeded = f.progress.succeeded };
+  flying = slice_set f.flying (k - 1) true;
+}
+
+-- an action ends, with success or without
+abbrev pub with_ended : FlightOf → ℕ → Bool → FlightOf
+with_ended f k success = record {
+  progress = record {
+    graph = f.progress.graph;
+    begun = f.progress.begun;
+    succeeded = if success then slice_set f.progress.succeeded (k - 1) true else f.progress.succeeded;
+  };
+  flying = slice_set f.flying (k - 1) false;
+}
+
+pub record IsFlight (f : FlightOf) : Type 0 where
+  pub flags : length f.flying ≡ length f.progress.graph.actions
+
+-- the action is of the cell, or a migration to it
+abbrev pub is_about : ℕ → ℕ → Action → Bool
+is_about r n a = is_of_cell r n a || is_sent_to r n a
+
+-- such an action is in flight
+abbrev pub is_busy : List (ℕ × Action) → ℕ → ℕ → Bool
+is_busy flight r n = list_any (λ (p : ℕ × Action). is_about r n p.1) flight

@@ -1,0 +1,10 @@
+pub mod Logs
+pub mod Flights
+pub mod Running
+pub mod Saying
+pub mod Scripts
+pub mod Telling
+pub mod Watching
+pub mod Transitions
+pub mod Promises
+pub mod Rounds

@@ -1,0 +1,65 @@
+-- What one round of a transition makes. No public clause cites this module (rule of this project).
+use Rattle.std.specs.Prelude.{◌≡◌, ◌+◌, ◌-◌, ◌<◌, ℕ, Bool, not, Option, Some, List, [], ◌∷◌, count_by}
+use Rattle.std.specs.List.{flat_map}
+use Rattle.cluster_types.specs.declared.journal.Answer.{Answer}
+use Rattle.cluster_types.specs.declared.journal.Event.{Event}
+use Rattle.cluster_types.specs.declared.run.RunLine.TheVariants as line
+use Rattle.cluster_types.specs.Answering.{most_from_outside}
+use Rattle.cluster_types.specs.Sources.{Says}
+use Rattle.cluster_types.specs.Steps.{IsWaiting, StepsOn, has_begun, has_ended, numbers, outside}
+use Rattle.cluster_types.specs.Texts.{event_lines}
+use Rattle.graph_exec.specs.declared.ends.WatchedEnd.{WatchedEnd}
+use Rattle.graph_exec.specs.declared.ends.WatchedEnd.TheVariants as how
+use Rattle.graph_exec.specs.Running.{Running, BeginsNow, IsRefused, Went, going, later}
+
+-- how many actions may begin yet, how many may end, and how often an answer may be taken
+abbrev pub begins_left : Running → ℕ
+begins_left r = count_by (λ k. not (has_begun (going r) r.since k)) (numbers (going r))
+
+abbrev pub ends_left : Running → ℕ
+ends_left r = count_by (λ k. not (has_ended (going r) r.since k)) (numbers (going r))
+
+abbrev pub asks_left : Running → ℕ
+asks_left r = ends_left r + (most_from_outside - outside (going r) r.since)
+
+-- some action begins: of those that may, the one of lowest number
+pub record Began (old new : Running) : Type 0 where
+  pub number : ℕ
+  pub now : BeginsNow old new number
+
+-- an answer was taken, or an action ended silently, as if this had been answered
+pub record Answered (whole : Bool) (old new : Running) (rest left : Option (List Answer)) (given : Answer) : Type 0 where
+  pub events : List Event
+  pub step : StepsOn (going old) whole old.since rest events left
+  pub goes_on : new ≡ later old events
+  pub lines : flat_map event_lines events ≡ line.Taken given ∷ []
+  pub fewer : asks_left new < asks_left old
+
+-- it went on, and an answer fewer may be taken
+pub record Advanced (whole : Bool) (old new : Running) (rest left : Option (List Answer)) : Type 0 where
+  pub went : Went whole old new rest left
+  pub fewer : asks_left new < asks_left old
+
+-- the answer doesn't apply
+pub record IsUnexpected (whole : Bool) (old new : Running) (rest left : Option (List Answer)) (given : Answer) : Type 0 where
+  pub waiting : IsWaiting (going old) old.since
+  pub said : Says whole rest (Some given) left
+  pub refused : IsRefused old new given
+
+-- the source failed
+pub record HasFailed (old new : Running) (rest left : Option (List Answer)) : Type 0 where
+  pub waiting : IsWaiting (going old) old.since
+  pub same : new ≡ old
+  pub left_is : left ≡ rest
+
+-- why no answer was taken
+abbrev pub StopsAs : Bool → Running → Running → Option (List Answer) → Option (List Answer) → WatchedEnd → Type 0
+StopsAs whole old new rest left (how.Unexpected given) = IsUnexpected whole old new rest left given
+StopsAs whole old new rest left how.SourceFault = HasFailed old new rest left
+StopsAs whole old new rest left _ = ⊥
+
+-- nothing more is to be done
+abbrev pub IsDone : WatchedEnd → Type 0
+IsDone how.Complete = Unit {0}
+IsDone (how.Aborted event) = Unit {0}
+IsDone _ = ⊥

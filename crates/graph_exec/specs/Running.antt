@@ -1,0 +1,110 @@
+-- A transition that goes on, and what its executor keeps of it (rule of this project).
+use Rattle.std.specs.Prelude.{◌≡◌, ◌<◌, ◌≤◌, ◌+◌, ◌*◌, ◌-◌, ℕ, Bool, true, false, not, Option, None, List, [], ◌∷◌, ◌++◌, length, map, filter, count_by}
+use Rattle.cluster_types.specs.declared.cluster.Cluster.{Cluster}
+use Rattle.cluster_types.specs.declared.journal.Action.{Action}
+use Rattle.cluster_types.specs.declared.journal.Answer.{Answer}
+use Rattle.cluster_types.specs.declared.journal.Answer.TheVariants as answer
+use Rattle.cluster_types.specs.declared.journal.Event.{Event}
+use Rattle.cluster_types.specs.declared.journal.Event.TheVariants.{Begin}
+use Rattle.cluster_types.specs.declared.journal.Promotion.{Promotion}
+use Rattle.cluster_types.specs.Answering.{applies_after, end_of, most_from_outside}
+use Rattle.cluster_types.specs.declared.journal.Outcome.TheVariants.{Code, Gone}
+use Rattle.cluster_types.specs.Graphs.{GraphOf, IsGraph}
+use Rattle.cluster_types.specs.Journals.{is_on}
+use Rattle.cluster_types.specs.Plans.{transition_on}
+use Rattle.cluster_types.specs.Steps as steps
+use Rattle.cluster_types.specs.Steps.{Transition, Goes, Begins, Takes, EndsSilently, ended, silent_code, is_settled, has_begun, has_ended, has_succeeded, is_in_flight_number, outside, events_of, flying}
+use Rattle.waiting.specs.Ready.{is_set}
+use Rattle.graph_exec.specs.Flights.{FlightOf}
+use Rattle.graph_exec.specs.Logs.{LogOf}
+
+-- the cluster, the graph that is carried out, the journal when it was planned with the promotion scores of the status, and the events since
+pub record Running : Type 0 where
+  pub cluster : Cluster
+  pub graph : GraphOf
+  pub planned_at : List Event
+  pub since : List Event
+  pub promotions : List Promotion
+
+abbrev pub running : LogOf → FlightOf → Running
+running log f = record {
+  cluster = log.cluster;
+  graph = f.progress.graph;
+  planned_at = log.planned_at;
+  since = log.since;
+  promotions = log.promotions;
+}
+
+-- the transition
+abbrev pub going : Running → Transition
+going r = transition_on r.cluster r.graph r.planned_at
+
+-- the same, some events later
+abbrev pub later : Running → List Event → Running
+later r events = record { cluster = r.cluster; graph = r.graph; planned_at = r.planned_at; since = r.since ++ events; promotions = r.promotions }
+
+-- what the loss of a node ends: each action in flight of a cell on it, in the order of their numbers
+abbrev pub all_gone : Running → ℕ → List Event
+all_gone r n =
+    map (end_of r.cluster (r.planned_at ++ r.since) (flying (going r) r.since) Gone) (filter (λ (p : ℕ × Action). is_on n p.1) (flying (going r) r.since))
+
+-- what holds at every moment: the graph has no loop, and the events since the plan are steps of the transition, whatever answers there were
+pub record IsUnderWay (r : Running) : Type 0 where
+  pub graph : IsGraph r.graph
+  pub steps : Goes (going r) true [] None r.since None
+
+-- it went on by steps, which took these answers
+pub record Went (whole : Bool) (old new : Running) (rest left : Option (List Answer)) : Type 0 where
+  pub same : new ≡ record { cluster = old.cluster; graph = old.graph; planned_at = old.planned_at; since = new.since; promotions = old.promotions }
+  pub steps : Goes (going old) whole old.since rest new.since left
+
+-- an action begins: of those that may, the one of lowest number
+pub record BeginsNow (old new : Running) (k : ℕ) : Type 0 where
+  pub action : Action
+  pub begins : Begins (going old) old.since k action
+  pub goes_on : new ≡ later old (Begin k action ∷ [])
+
+-- none may begin, and nothing changes
+pub record IsSettled (old new : Running) : Type 0 where
+  pub settled : is_settled (going old) old.since ≡ true
+  pub same : new ≡ old
+
+-- an answer is taken
+pub record Took (old new : Running) (given : Answer) : Type 0 where
+  pub takes : Takes (going old) old.since given
+  pub goes_on : new ≡ later old (events_of (going old) old.since given)
+
+-- the answer doesn't apply, and nothing changes
+pub record IsRefused (old new : Running) (given : Answer) : Type 0 where
+  pub refused : applies_after old.cluster (old.planned_at ++ old.since) (flying (going old) old.since) (outside (going old) old.since) given ≡ false
+  pub same : new ≡ old
+
+-- nothing more is said, and the first action in flight ends, as if this had been answered
+pub record EndedSilently (old new : Running) (given : Answer) : Type 0 where
+  pub number : ℕ
+  pub action : Action
+  pub ends : EndsSilently (going old) old.since number action
+  pub goes_on : new ≡ later old (ended (going old) old.since number (Code (silent_code action)))
+  pub given_is : given ≡ answer.End number (silent_code action)
+
+-- what is kept of one number is what the events say of it
+pub record IsKept (log : LogOf) (f : FlightOf) (k : ℕ) : Type 0 where
+  pub begun : is_set f.progress.begun k ≡ has_begun (going (running log f)) log.since k
+  pub succeeded : is_set f.progress.succeeded k ≡ has_succeeded (going (running log f)) log.since k
+  pub flying : is_set f.flying k ≡ is_in_flight_number (going (running log f)) log.since k
+  pub ended : has_ended (going (running log f)) log.since k ≡ true → has_begun (going (running log f)) log.since k ≡ true
+  pub over : has_succeeded (going (running log f)) log.since k ≡ true → has_ended (going (running log f)) log.since k ≡ true
+
+-- how many events may come: two of each action that hasn't begun, one of each in flight, and the answers from outside
+abbrev pub to_come : LogOf → FlightOf → ℕ
+to_come log f =
+    2 * count_by not f.progress.begun + count_by (λ b. b) f.flying + (most_from_outside - count_by steps.is_from_outside log.since)
+
+-- there is room for all of them
+pub record Follows (log : LogOf) (f : FlightOf) : Type 0 where
+  pub begun_size : length f.progress.begun ≡ length f.progress.graph.actions
+  pub succeeded_size : length f.progress.succeeded ≡ length f.progress.graph.actions
+  pub flight_size : length f.flying ≡ length f.progress.graph.actions
+  pub each : (k : ℕ) → 0 < k → k ≤ length f.progress.graph.actions → IsKept log f k
+  pub from_one : has_begun (going (running log f)) log.since 0 ≡ false
+  pub has_room : to_come log f ≤ log.room

@@ -1,0 +1,60 @@
+-- What a transition makes of a source of outcomes, by how it ended (rule of this project).
+use Rattle.std.specs.Prelude.{◌≡◌, ◌++◌, ℕ, Bool, true, false, Option, Some, List, [], find}
+use Rattle.cluster_types.specs.declared.cluster.Cluster.{Cluster}
+use Rattle.cluster_types.specs.declared.journal.Answer.{Answer}
+use Rattle.cluster_types.specs.declared.journal.Event.{Event}
+use Rattle.cluster_types.specs.Answering.{applies_after}
+use Rattle.cluster_types.specs.Journals.{in_flight}
+use Rattle.cluster_types.specs.Sources.{Says}
+use Rattle.cluster_types.specs.Steps.{HasEnded, IsWaiting, aborts, all_succeeded, flying, has_aborted, outside}
+use Rattle.graph_exec.specs.declared.ends.WatchedEnd.{WatchedEnd}
+use Rattle.graph_exec.specs.declared.ends.WatchedEnd.TheVariants as how
+use Rattle.graph_exec.specs.Running.{Running, Went, going}
+
+-- each action has succeeded, and nothing aborted
+pub record IsComplete (r : Running) : Type 0 where
+  pub ended : HasEnded (going r) r.since
+  pub unaborted : has_aborted (going r) r.since ≡ false
+  pub succeeded : all_succeeded (going r) r.since ≡ true
+
+-- nothing is in flight any more, and this was the first event that aborted
+pub record IsAborted (r : Running) (first : Event) : Type 0 where
+  pub ended : HasEnded (going r) r.since
+  pub first_is : find (aborts r.cluster) r.since ≡ Some first
+
+-- an answer was asked for, and this one doesn't apply
+pub record IsCutBy (r : Running) (given : Answer) : Type 0 where
+  pub waiting : IsWaiting (going r) r.since
+  pub refused : applies_after r.cluster (r.planned_at ++ r.since) (flying (going r) r.since) (outside (going r) r.since) given ≡ false
+
+abbrev pub EndsAs : Running → WatchedEnd → Type 0
+EndsAs r how.Complete = IsComplete r
+EndsAs r (how.Aborted event) = IsAborted r event
+EndsAs r (how.Unexpected given) = IsCutBy r given
+EndsAs r how.SourceFault = IsWaiting (going r) r.since
+EndsAs r how.Stopped = Unit {0}
+
+-- the steps, and behind them the answer that doesn't apply
+pub record WentTo (whole : Bool) (old new : Running) (rest left : Option (List Answer)) (given : Answer) : Type 0 where
+  pub before : Option (List Answer)
+  pub went : Went whole old new rest before
+  pub said : Says whole before (Some given) left
+
+abbrev pub GoneTo : Bool → Running → Running → Option (List Answer) → Option (List Answer) → WatchedEnd → Type 0
+GoneTo whole old new rest left (how.Unexpected given) = WentTo whole old new rest left given
+GoneTo whole old new rest left _ = Went whole old new rest left
+
+-- nothing was in flight when the transition was planned, and the source agrees with what has happened
+pub record Accords (agrees : Cluster → List Event → ℕ → Type 0) (r : Running) : Type 0 where
+  pub idle : in_flight r.planned_at ≡ []
+  pub agrees_now : agrees r.cluster (r.planned_at ++ r.since) (outside (going r) r.since)
+
+-- no answer came that doesn't apply
+abbrev pub IsExpected : WatchedEnd → Type 0
+IsExpected (how.Unexpected given) = ⊥
+IsExpected _ = Unit {0}
+
+-- it went on by steps, each end of which was said
+pub record WentAsSaid (old new : Running) : Type 0 where
+  pub answers : List Answer
+  pub went : Went false old new (Some answers) (Some [])
