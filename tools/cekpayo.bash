@@ -8,9 +8,9 @@ _cekpayo() {
     [[ ${COMP_WORDS[at]} == -* ]] || { word=${COMP_WORDS[at]}; break; }
   done
   case $word in
-    "") mapfile -t COMPREPLY < <(compgen -W "check scores replay explain --all -q --build --help --version" -- "$current") ;;
+    "") mapfile -t COMPREPLY < <(compgen -W "check scores graph survive replay explain --all -q --build --help --version" -- "$current") ;;
     explain) mapfile -t COMPREPLY < <(compgen -W "$causes" -- "$current") ;;
-    check | scores | replay)
+    check | scores | graph | survive | replay)
       compopt -o filenames 2>/dev/null
       if [[ $current == -* ]]; then
         mapfile -t COMPREPLY < <(compgen -W "--all -q" -- "$current")

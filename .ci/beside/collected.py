@@ -1,0 +1,170 @@
+"""Tries `tools/collect`: six CIBs become the texts that are kept beside them, and `check` accepts these."""
+import bz2
+import os
+
+from .expecting import TOP, expect, kept, own, tool
+
+CIBS = os.path.join(TOP, ".ci", "cibs")
+
+# A configuration as `crm configure show` prints it, and the lines of it that are written in another way.
+TEXT = """# Kept as it is.
+node $id=1 web1:member description="on the left"
+node 2: web2
+primitive disk  Filesystem \\
+    op monitor interval=20s op_params OCF_CHECK_LEVEL=20 op_meta timeout=40s
+clone disks disk meta ordered=yes interleave=true
+primitive spare Dummy meta is-managed=true maintenance=true priority=1
+order one-by-one serialize: disk spare symmetrical=yes
+location elsewhere disk 5: web9
+property placement-strategy=utilization stonith-enabled=false
+property placement-strategy=balanced
+%status
+now 5
+"""
+REWRITTEN = """# Kept as it is.
+node 1: web1
+node 2: web2
+primitive disk Filesystem \\
+\top monitor interval=20s timeout=40s
+clone disks disk \\
+\tmeta interleave=true
+primitive spare Dummy \\
+\tmeta priority=1 is-managed=false
+order one-by-one serialize: disk spare
+property stonith-enabled=false
+%status
+now 7
+quorum yes
+"""
+SMALL = ("<cib><configuration><nodes><node id='1' uname='n'/></nodes><resources><primitive id='a' class='ocf' provider='p' type='D'/>"
+         "</resources><constraints>{}</constraints></configuration></cib>")
+EMPTY = b"<cib have-quorum='1'><configuration/><status/></cib>"
+
+# What stays, to be refused, since it has an effect: statements, and words that stand in the text.
+REFUSED = {
+    "<rsc_colocation id='k' score='5' rsc='a' with-rsc='a' node-attribute='rack'/>": "colocation k 5: a a node-attribute=rack",
+    "<rsc_order id='o' first='a' then='a' require-all='false'/>": "order o Mandatory: a:start a:start require-all=false",
+    "<rsc_ticket id='t' rsc='a' ticket='x'/>": "rsc_ticket t",
+    "<rsc_location id='l' rsc='a' node='n' score='1' resource-discovery='never'/>": "location l a resource-discovery=never 1: n",
+    "<rsc_location id='l' rsc='a'><rule id='r' score='1'><date_expression id='d' operation='date_spec'><date_spec id='s' hours='8-18'/>"
+    "</date_expression></rule></rsc_location>": "\trule 1: date spec hours=8-18",
+}
+
+# The state of a node with fencing and without, by what the CIB has of it.
+STATES = [
+    ("in_ccm='true' crmd='online' join='member' expected='member'", "online", "online"),
+    ("in_ccm='1772360000' crmd='1772360010' join='member' expected='member'", "online", "online"),
+    ("in_ccm='false' crmd='offline' join='down' expected='down'", "offline", "offline"),
+    ("in_ccm='false' crmd='offline' join='down' expected='member'", "unclean", "offline"),
+    ("in_ccm='0' crmd='0' join='down' expected='member'", "unclean", "offline"),
+    ("in_ccm='true' crmd='offline' join='down' expected='member'", "unclean", "unclean"),
+    ("in_ccm='true' crmd='online' join='down' expected='member'", "offline", "offline"),
+    ("in_ccm='true' crmd='online' join='down' expected='down'", "offline", "offline"),
+    ("in_ccm='true' crmd='online' join='banned' expected='member'", "unclean", "offline"),
+    ("crmd='online' join='down'", "unclean", "offline"),
+]
+STATE = ("<cib><configuration><crm_config><cluster_property_set id='o'><nvpair id='f' name='stonith-enabled' value='{}'/>"
+         "</cluster_property_set></crm_config><nodes><node id='1' uname='n'/></nodes><resources/></configuration>"
+         "<status><node_state uname='n' {}/></status></cib>")
+
+# Operations of a resource on a node, and the lines that they become.
+HISTORIES = [
+    # A monitor that failed has the call id of its first run; a start behind it goes on.
+    ("operation='start' call-id='5' rc-code='0' interval='0' last-rc-change='10'",
+     "operation='monitor' call-id='6' rc-code='0' interval='9' last-rc-change='11'",
+     "operation='monitor' call-id='6' rc-code='7' interval='9' last-rc-change='20'",
+     ["start 0 0 10", "monitor 9 0 11", "monitor 9 7 20"]),
+    # The order is that of the call ids; a timeout and an error without a code; what was cancelled and what isn't known is left out.
+    ("operation='stop' call-id='8' rc-code='1' op-status='2' interval='0' last-rc-change='9'",
+     "operation='start' call-id='7' rc-code='0' op-status='4' interval='0' last-rc-change='8'",
+     "operation='monitor' call-id='9' rc-code='0' op-status='1' interval='9' last-rc-change='9'", ["start 0 1 8", "stop 0 timeout 9"]),
+    ("operation='notify' call-id='1' rc-code='0' interval='0'", "operation='promote' call-id='2' rc-code='0' interval='0'",
+     "operation='monitor' call-id='-1' rc-code='193' op-status='-1' interval='9'", []),
+    # Migrations: an arrival, a departure, a failure.
+    ("operation='migrate_from' call-id='1' rc-code='0' interval='0' last-rc-change='5'",
+     "operation='migrate_to' call-id='2' rc-code='0' interval='0'",
+     "operation='migrate_from' call-id='3' rc-code='1' interval='0' last-rc-change='7'", ["start 0 0 5", "monitor 0 1 7"]),
+    # In flight.
+    ("operation='monitor' call-id='4' rc-code='7' interval='0' last-rc-change='5'",
+     "operation='start' call-id='-1' rc-code='193' op-status='-1' interval='0' last-rc-change='6'",
+     "operation='stop' call-id='-1' rc-code='193' op-status='-1' interval='0' last-rc-change='7'",
+     ["monitor 0 7 5", "start 0 0 6"]),
+]
+HISTORY = ("<cib><configuration><nodes><node id='1' uname='n'/></nodes><resources><primitive id='a' class='ocf' provider='p' type='D'/>"
+           "</resources></configuration><status><node_state uname='n'><lrm><lrm_resources><lrm_resource id='a:0'>{}</lrm_resource>"
+           "</lrm_resources></lrm></node_state></status></cib>")
+
+
+def try_states():
+    for attributes, fenced, unfenced in STATES:
+        for value, state in (("true", fenced), ("false", unfenced)):
+            lines = tool("collect", "-q", "--now", "7", data=STATE.format(value, attributes).encode())[1].splitlines()
+            expect(f"the state of {attributes} with fencing {value}", f"node n {state}" in lines, "\n".join(lines))
+
+
+def try_histories():
+    for *operations, lines in HISTORIES:
+        xml = "".join(f"<lrm_rsc_op id='{at}' {one}/>" for at, one in enumerate(operations))
+        output = tool("collect", "-q", "--now", "7", data=HISTORY.format(xml).encode())[1]
+        found = [line[len("op n a "):] for line in output.splitlines() if line.startswith("op n a ")]
+        expect(f"the history {operations}", found == lines, output)
+
+
+def try_kept():
+    names = sorted(name[:-4] for name in os.listdir(CIBS) if name.endswith(".xml"))
+    expect("the CIBs that are kept", len(names) == 6)
+    for name in names:
+        text = kept("cibs", name + ".crm")
+        status, output, said = tool("collect", os.path.join(CIBS, name + ".xml"))
+        notes = "".join(f"# {line[9:]}\n" for line in said.splitlines())
+        expect(f"collect {name}", (status, output) == (0, text) and text.startswith(notes), output + said)
+        expect(f"check of {name}", own(text.encode())[0] == 0)
+
+
+def try_text(folder):
+    path = os.path.join(folder, "shown.crm")
+    with open(path, "w", encoding="utf-8") as file:
+        file.write(TEXT)
+    status, output, said = tool("collect", "-q", "--now", "7", "--config", path, data=EMPTY)
+    lines = "".join(line for line in output.splitlines(True) if not line.startswith("# ") or line in TEXT)
+    expect("collect --config", (status, lines, said) == (0, REWRITTEN, ""), output + said)
+    expect("check of what --config gives", own(output.encode())[0] == 0)
+
+
+def try_health(folder):
+    """A strategy of health stays where a node has an attribute of health."""
+    path = os.path.join(folder, "health.crm")
+    for attribute, stays in (("#health-disk=red", True), ("health=red", False)):
+        with open(path, "w", encoding="utf-8") as file:
+            file.write(f"node n attributes {attribute}\nproperty node-health-strategy=only-green\n")
+        output = tool("collect", "-q", "--config", path, data=EMPTY)[1]
+        expect(f"health with {attribute}", ("property node-health-strategy=only-green" in output.splitlines()) == stays, output)
+
+
+def try_refused():
+    for xml, line in REFUSED.items():
+        status, output, said = tool("collect", data=SMALL.format(xml).encode())
+        expect(f"what stays: {line}", status == 0 and line in output.splitlines(), output + said)
+        expect(f"what is refused: {line}", own(output.encode())[0] == 5)
+
+
+def try_inputs():
+    packed = tool("collect", "-q", "--now", "7", data=bz2.compress(EMPTY))
+    expect("a packed CIB", packed == (0, "%status\nnow 7\nquorum yes\n", ""), str(packed))
+    broken = "<rsc_location id='l&#10;x' rsc='a&#10;%results' node='gone&#10;lost n' score='1'/>"
+    status, output, _ = tool("collect", data=SMALL.format(broken).encode())
+    expect("names over several lines", status == 0 and not {"x", "%results", "lost n"} & set(output.splitlines()), output)
+    for data in (b"", b"node n1\n", b"<crm_mon/>"):
+        status, output, said = tool("collect", data=data)
+        expect("no CIB", (status, output) == (1, "") and said.startswith("collect: standard input: "), said)
+    expect("no file", tool("collect", "/nonexistent")[0] == 1)
+
+
+def try_collect(folder):
+    try_kept()
+    try_text(folder)
+    try_health(folder)
+    try_refused()
+    try_states()
+    try_histories()
+    try_inputs()

@@ -1,0 +1,146 @@
+"""Tries the filters over the program's lines, `tools/dot`, `tools/json` and `tools/summary`, and `tools/what-if`."""
+import json
+import os
+import shutil
+import subprocess
+import textwrap
+
+from .expecting import expect, kept, own, tool
+
+GRAPH = """action 1 fence web1
+action 2 start vip web2 after 1
+action 3 start site web2 after 1 2
+action 4 monitor vip web2 10000 after 2
+action 5 migrate_to vm web3 web2 after 1
+"""
+DRAWN = """digraph "actions" {
+  node [shape=box]
+  1 [label="fence\\nweb1" shape=octagon color="red" fontcolor="red"]
+  2 [label="start vip\\nweb2" style=bold color="green4"]
+  3 [label="start site\\nweb2" style=bold color="green4"]
+  4 [label="monitor vip 10000 ms\\nweb2" style=dotted color="gray50"]
+  5 [label="migrate_to vm\\nweb3 to web2" style=bold color="turquoise4"]
+  1 -> 2
+  2 -> 3
+  2 -> 4
+  1 -> 5
+}
+"""
+
+# Lines of each word, and the fields that JSON has of them.
+FIELDS = {
+    "node 1: n1 attributes \"a b\"=\"x \\\"y\\\" \\\\z\"":
+        {"kind": "statement", "statement": "node", "words": ["1:", "n1", "attributes", "a b=x \"y\" \\z"]},
+    "# nodes 2 leaves 4 rules 5": {"kind": "counts", "nodes": 2, "leaves": 4, "rules": 5},
+    "place vip": {"kind": "place", "resource": "vip"},
+    "promote disk": {"kind": "promote", "resource": "disk"},
+    "score vip n1 -INFINITY": {"kind": "score", "resource": "vip", "node": "n1", "score": "-INFINITY"},
+    "score vip n2 -50": {"kind": "score", "resource": "vip", "node": "n2", "score": -50},
+    "none a Held o": {"kind": "none", "resource": "a", "reason": "Held", "rule": "o"},
+    "none a NoNode": {"kind": "none", "resource": "a", "reason": "NoNode"},
+    "action 7 monitor a n1 10000 after 2 3":
+        {"kind": "action", "number": 7, "action": "monitor", "resource": "a", "node": "n1", "interval": 10000, "after": [2, 3]},
+    "begin 1 migrate_from vm n1 n2":
+        {"kind": "begin", "number": 1, "action": "migrate_from", "resource": "vm", "source": "n1", "target": "n2"},
+    "end 1 7": {"kind": "end", "number": 1, "code": 7},
+    "quorum no": {"kind": "quorum", "quorum": False},
+    "report n1 a 10000 1": {"kind": "report", "node": "n1", "resource": "a", "interval": 10000, "code": 1},
+    "refused 3 BadScore": {"kind": "refused", "line": 3, "cause": "BadScore"},
+    "unlawful 3 begin": {"kind": "unlawful", "line": 3, "clause": "begin"},
+}
+NO_LINES = ["frobnicate", "place", "place a b", "score vip n1 many", "action 1 start vip", "action 1 start vip n1 2", "end 1"]
+
+# Lines of the program, and the summary of them.
+SUMMARIES = {
+    # A group moves, a resource is restarted, one stays, one has no place, one is left as it is, a copy is promoted.
+    "target a n2 started\ntarget b n1 started\ntarget c n1 started\nnone d Held o\npinned e blocked\ntarget e n2 started\n"
+    "target f n1 started\ntarget f n2 promoted\n"
+    "action 1 probe b n2\naction 2 stop a n1\naction 3 stop b n1\naction 4 start a n2 after 2\n"
+    "action 5 start b n1 after 1 3\naction 6 demote f n1\naction 7 promote f n2 after 6\naction 8 stop d n2\n":
+        "Summary:\n  * Move       a                ( n1 -> n2 )\n  * Restart    b                ( n1 )\n"
+        "  * Stay       c                ( n1 )\n"
+        "  * Stop       d                ( n2 ) held back by o: what it needs has no place\n"
+        "  * Leave      e                ( n2 ) an operation failed whose on-fail is block\n"
+        "  * Demote     f                ( Promoted -> Started n1 )\n  * Promote    f                ( Started -> Promoted n2 )\n"
+        "  * Probe      1 times          does a resource run there?\n",
+    # A run: what was meant in a transition that was aborted isn't there yet.
+    "transition 1\ntarget vip n2 started\nbegin 1 stop vip n1\nend 1 1\naborted 1\ntransition 2\ntarget vip n2 started\nbegin 1 fence n1\n"
+    "end 1 0\nbegin 2 start vip n2\nend 2 0\ncomplete 2\n":
+        "Transition 1 (aborted):\n  * Stop       vip              ( n1 )\n  * Place      vip              ( n2 )\n"
+        "Transition 2:\n  * Fence      n1\n  * Start      vip              ( n2 )\n",
+    # The graph alone.
+    "action 1 fence n2\naction 2 start vip n1 after 1\n": "Summary:\n  * Fence      n2\n  * Start      vip              ( n1 )\n",
+    "transition 1\ncomplete 1\n": "Transition 1:\n  * nothing to do\n",
+    "loss n1\ntarget vip n2 promoted\nloss n2\nnone vip NoNode\n":
+        "After the loss of n1:\n  * Place      vip              ( Promoted n2 )\n"
+        "After the loss of n2:\n  * No place   vip              no node could be chosen\n",
+    "transition 1\ntarget vm n2 started\nbegin 1 migrate_to vm n1 n2\nend 1 0\nbegin 2 migrate_from vm n1 n2\nend 2 0\n"
+    "begin 3 stop vm n1\nend 3 0\ncomplete 1\n": "Transition 1:\n  * Migrate    vm               ( n1 -> n2 )\n",
+}
+
+# What is said of the kept CIB two-nodes when the site may no longer be on web1, without `graph` and with it.
+PLACED = """What is done now (-), and with {0} (+):
+-   * Place      site-address     ( web1 )
++   * Place      site-address     ( web2 )
+-   * Place      site-server      ( web1 )
++   * Place      site-server      ( web2 )
+    * Place      fence            ( web2 )
+"""
+PLANNED = """What is done now (-), and with {0} (+):
+-   * Stay       site-address     ( web1 )
++   * Move       site-address     ( web1 -> web2 )
+-   * Stay       site-server      ( web1 )
++   * Move       site-server      ( web1 -> web2 )
+    * Stay       fence            ( web2 )
+"""
+LOST = """After the loss of web2, with {0}: site-address would no longer have a place (no node could be chosen)
+After the loss of web2, with {0}: site-server would no longer have a place (no node could be chosen)
+"""
+
+
+def try_dot():
+    expect("dot", tool("dot", data=GRAPH.encode()) == (0, DRAWN, ""), tool("dot", data=GRAPH.encode())[1])
+    expect("dot --all", "  1 -> 3\n" in tool("dot", "--all", data=GRAPH.encode())[1])
+    expect("dot of other lines", tool("dot", data=b"target a n1 started\n")[0] == 1)
+    if shutil.which("dot"):
+        done = subprocess.run(["dot", "-Tsvg"], input=DRAWN.encode(), stdout=subprocess.PIPE, stderr=subprocess.PIPE)
+        expect("dot -Tsvg", done.returncode == 0 and not done.stderr and b"start vip" in done.stdout, done.stderr.decode())
+
+
+def try_json():
+    status, output, _ = tool("json", data="\n".join(FIELDS).encode())
+    expect("json", status == 0 and [json.loads(line) for line in output.splitlines()] == list(FIELDS.values()), output)
+    for line in NO_LINES:
+        expect(f"json of {line}", tool("json", data=line.encode())[0] == 1)
+    expect("json of nothing", tool("json") == (0, "", ""))
+
+
+def try_summary():
+    for lines, said in SUMMARIES.items():
+        expect(f"summary of {lines[:30]}", tool("summary", data=lines.encode()) == (0, said, ""), tool("summary", data=lines.encode())[1])
+
+
+def try_what_if(folder):
+    old, path = kept("cibs", "two-nodes.crm"), os.path.join(folder, "new.crm")
+    new = old.partition("%status")[0].replace("site-prefers-web1 site 50:", "site-not-on-web1 site -inf:")
+    with open(path, "w", encoding="utf-8") as file:
+        file.write(new)
+    expected = (PLACED if own(b"", "graph")[0] == 2 else PLANNED) + ("" if own(b"", "survive")[0] == 2 else LOST)
+    found = tool("what-if", path, data=old.encode())
+    expect("what-if", found == (0, expected.format(path), ""), found[1] + found[2])
+    page = textwrap.dedent(kept("..", "docs", "USAGE.md").partition("tools/what-if new.crm <")[2].partition("\n\n")[0].partition("\n")[2])
+    expect("what-if in docs/USAGE.md", page + "\n" in (PLACED.format("new.crm"), (PLANNED + LOST).format("new.crm")), page)
+    with open(path, "w", encoding="utf-8") as file:
+        file.write(new.replace("node 2: web2\n", ""))
+    status, _, said = tool("what-if", path, data=old.encode())
+    expect("what-if without a node", status == 0 and said.startswith("what-if: web2 isn't in "), said)
+    expect("what-if that is refused", tool("what-if", path, data=b"nod n1\n")[0] == 5)
+    expect("what-if of no file", tool("what-if", "/nonexistent")[0] == 1)
+    expect("what-if without a file", tool("what-if")[0] == 2)
+
+
+def try_shown(folder):
+    try_dot()
+    try_json()
+    try_summary()
+    try_what_if(folder)

@@ -1,0 +1,29 @@
+"""How a filter runs: it reads files or standard input, and says on standard error what it can't read."""
+import signal
+import sys
+
+from .lines import NotALine
+
+
+def lines_of(files):
+    if not files:
+        yield from sys.stdin
+        return
+    for name in files:
+        with open(name, encoding="utf-8") as file:
+            yield from file
+
+
+def filtered(name, work):
+    """Gives the lines to the work; the status is 1 where one isn't a line of the program, or a file can't be read."""
+    signal.signal(signal.SIGPIPE, signal.SIG_DFL)
+    for stream in (sys.stdin, sys.stdout):
+        stream.reconfigure(encoding="utf-8")
+    try:
+        work(line.rstrip("\n") for line in lines_of([word for word in sys.argv[1:] if word != "--all"]) if line.strip())
+        return 0
+    except NotALine as error:
+        print(f"{name}: no line that it reads: {error}", file=sys.stderr)
+    except (OSError, UnicodeDecodeError) as error:
+        print(f"{name}: {error}", file=sys.stderr)
+    return 1

@@ -1,0 +1,38 @@
+"""Runs the proved program on a text."""
+import os
+import subprocess
+import tempfile
+
+TOP = os.path.dirname(os.path.dirname(os.path.dirname(os.path.abspath(__file__))))
+BUILT = os.path.join(TOP, "crates", "sim_cli", "out", "sim_cli")
+INSTALLED = os.path.join(TOP, "sim_cli")
+REFUSED, UNKNOWN_WORD = 5, 2
+
+
+class Refused(Exception):
+    """The program refuses a text; the message is its line."""
+
+
+def path():
+    """The program: the one that CEKPAYO_PROGRAM names, an installed one, or that of the repository, which is built when it must be."""
+    named = os.environ.get("CEKPAYO_PROGRAM")
+    if named or os.access(INSTALLED, os.X_OK):
+        return named or INSTALLED
+    subprocess.run([os.path.join(TOP, "cekpayo"), "--build"], check=True)
+    return BUILT
+
+
+def answer(word, text):
+    """The lines of the program's answer, or nothing where it doesn't have the word."""
+    with tempfile.TemporaryFile() as source:
+        source.write(text.encode("utf-8", "surrogateescape"))
+        source.seek(0)
+        done = subprocess.run([path(), word], stdin=source, stdout=subprocess.PIPE)
+    lines = done.stdout.decode("utf-8").splitlines()
+    if done.returncode == REFUSED:
+        raise Refused(lines[-1] if lines else "refused")
+    if done.returncode == UNKNOWN_WORD:
+        return None
+    if done.returncode != 0:
+        raise OSError(f"the program ended with status {done.returncode}")
+    return lines
