@@ -1,13 +1,11 @@
 //! What the word `check` writes: of inputs that are read, of each cause for which one is refused, and of which step decides.
 
 use crate::outcome::{EASY, Pace, SLOW, outcome};
+use crate::table::{Row, assert_whole_or_refused};
 use sim_core::Status;
 use std::alloc::{AllocError, Global};
 use std::process::Abort;
 use std::test::Fail;
-
-/// An input, and the text that is written.
-type Row = (&'static str, &'static str);
 
 fn assert_checked(
     rt: &impl Abort,
@@ -322,14 +320,14 @@ fn a_sink_that_fails_at_each_write_in_turn(rt: HostRuntime) -> Result<(), Fail> 
     Ok(())
 }
 
+/// An input with each section.
+const SMALL: Row = (
+    "node n1\nprimitive a Dummy\n%status\nnow 5\n%results\nwait 1\n",
+    "node n1\nprimitive a ocf:heartbeat:Dummy\n# nodes 1 leaves 1 rules 0\n",
+);
+
 // With each allocation refused in turn, by `rt try --test --fail-alloc N`, this passes too, but for those that the test itself makes.
 #[test]
 fn memory_suffices_or_is_refused_to_check(rt: HostRuntime) -> Result<(), Fail> {
-    let input = b"node n1\nprimitive a Dummy\n%status\nnow 5\n%results\nwait 1\n";
-    let whole = b"node n1\nprimitive a ocf:heartbeat:Dummy\n# nodes 1 leaves 1 rules 0\n";
-    let (status, text) = outcome(rt.alloc(), &["check"], input, EASY, EASY)?;
-    let is_whole = status == Status::Done && text.as_slice() == whole.as_slice();
-    let is_refused = status == Status::NoMemory && whole.starts_with(&text);
-    assert!(rt; is_whole || is_refused, "{status:?}");
-    Ok(())
+    assert_whole_or_refused(&rt, rt.alloc(), "check", SMALL)
 }

@@ -8,8 +8,14 @@ mod check;
 #[cfg(test)]
 mod first_form;
 #[cfg(test)]
+mod graph;
+#[cfg(test)]
+mod losses;
+#[cfg(test)]
 mod outcome;
 #[cfg(test)]
 mod scores;
+#[cfg(test)]
+mod table;
 #[cfg(test)]
 mod words;

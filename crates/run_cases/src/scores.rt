@@ -1,11 +1,7 @@
 //! What the word `scores` writes.
 
-use crate::outcome::{EASY, outcome};
-use sim_core::Status;
+use crate::table::{Row, assert_each};
 use std::test::Fail;
-
-/// An input, and the text of its scores.
-type Row = (&'static str, &'static str);
 
 /// The scores of a leaf on a node are added.
 const SUM: Row = (
@@ -348,18 +344,5 @@ const ROWS: [Row; 12] = [
 
 #[test]
 fn scores_of_inputs(rt: HostRuntime) -> Result<(), Fail> {
-    for (input, text) in &ROWS {
-        let (status, written) = outcome(rt.alloc(), &["scores"], input.as_bytes(), EASY, EASY)?;
-        assert!(rt; written.as_slice() == text.as_bytes(), "{text}");
-        assert!(rt; status == Status::Done, "{text}");
-    }
-    Ok(())
-}
-
-#[test]
-fn an_input_that_is_refused(rt: HostRuntime) -> Result<(), Fail> {
-    let (status, written) = outcome(rt.alloc(), &["scores"], b"node n1\nnode n1\n", EASY, EASY)?;
-    assert!(rt; written.as_slice() == b"refused 2 DuplicateName\n".as_slice());
-    assert!(rt; status == Status::Refused);
-    Ok(())
+    assert_each(&rt, rt.alloc(), "scores", &ROWS)
 }

@@ -114,6 +114,16 @@ fn are_no_form(alloc: Global, words: &[&str]) -> Result<bool, Fail> {
 }
 
 #[test]
+fn inputs_that_are_refused(rt: HostRuntime) -> Result<(), Fail> {
+    for word in ["check", "scores", "graph", "survive"] {
+        let (status, text) = outcome(rt.alloc(), &[word], b"node n1\nnode n1\n", EASY, EASY)?;
+        assert_eq!(rt; status, Status::Refused);
+        assert_eq!(rt; text.as_slice(), b"refused 2 DuplicateName\n".as_slice());
+    }
+    Ok(())
+}
+
+#[test]
 fn words_that_are_no_form(rt: HostRuntime) -> Result<(), Fail> {
     let alloc = rt.alloc();
     assert!(rt; are_no_form(alloc, &["replay", "x"])?);

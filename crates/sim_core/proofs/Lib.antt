@@ -5,6 +5,7 @@ pub mod OneReading
 pub mod Faults
 pub mod ValidInput
 -- The top call.
+pub mod GraphTexts
 pub mod OneOutcome
 pub mod Completeness
 pub mod Comments

@@ -1,40 +1,33 @@
 -- An input gets one status with a word.
 use Rattle.std.proofs.Common.{◌≡◌, ℕ, List, refl, sym, ◌∙◌}
+use Rattle.sim_core.specs.declared.reading.Input.{Input}
 use Rattle.sim_core.specs.declared.status.Status.{Status}
 use Rattle.sim_core.specs.declared.status.Status.TheVariants.{Done, Refused}
 use Rattle.sim_core.specs.declared.words.Command.{Command}
-use Rattle.sim_core.specs.declared.words.Command.TheVariants.{Check, Scores, Replay, Help, Version}
-use Rattle.sim_core.specs.Check.{IsCheckOutput, IsCheckText, IsRefusalText}
+use Rattle.sim_core.specs.declared.words.Command.TheVariants.{Check, Scores, Graph, Survive, Replay, Help, Version}
+use Rattle.sim_core.specs.Check.{IsCheckText}
 use Rattle.sim_core.specs.FirstReplay.{IsReplayOutput}
-use Rattle.sim_core.specs.Scores.{IsScoresOutput, IsScoresText}
+use Rattle.sim_core.specs.Graph.{IsGraphText}
+use Rattle.sim_core.specs.Outputs.{IsOutput, IsRefusalText, IsTextOf}
+use Rattle.sim_core.specs.Scores.{IsScoresText}
+use Rattle.sim_core.specs.Survive.{IsSurviveText}
 use Rattle.sim_core.specs.Table.{Gets}
 use Rattle.sim_core.proofs.OneReading.{not_both}
 
-read_and_refused : (input text other : List ℕ) → IsCheckText input text → ¬ IsRefusalText input other
-read_and_refused input text other read refused =
-    not_both input (record { whole = read.whole; reads = read.reads }) (record { line = refused.line; why = refused.why; fault = refused.fault })
+-- with a word that says something of each input
+module _ (Says : Input → List ℕ → Type 0) where
+  read_and_refused : (input text other : List ℕ) → IsTextOf Says input text → ¬ IsRefusalText input other
+  read_and_refused input text other read refused =
+      not_both input (record { whole = read.whole; reads = read.reads }) (record { line = refused.line; why = refused.why; fault = refused.fault })
 
-one_check : (input text more : List ℕ) (status other : Status) → IsCheckOutput input status text → IsCheckOutput input other more → status ≡ other
-one_check input text more Done Done a b = refl
-one_check input text more Done Refused a b = absurd (read_and_refused input text more a b)
-one_check input text more Refused Done a b = absurd (read_and_refused input more text b a)
-one_check input text more Refused Refused a b = refl
-one_check input text more Done _ a b = absurd b
-one_check input text more Refused _ a b = absurd b
-one_check input text more _ other a b = absurd a
-
-placed_and_refused : (input text other : List ℕ) → IsScoresText input text → ¬ IsRefusalText input other
-placed_and_refused input text other placed refused =
-    not_both input (record { whole = placed.whole; reads = placed.reads }) (record { line = refused.line; why = refused.why; fault = refused.fault })
-
-one_scores : (input text more : List ℕ) (status other : Status) → IsScoresOutput input status text → IsScoresOutput input other more → status ≡ other
-one_scores input text more Done Done a b = refl
-one_scores input text more Done Refused a b = absurd (placed_and_refused input text more a b)
-one_scores input text more Refused Done a b = absurd (placed_and_refused input more text b a)
-one_scores input text more Refused Refused a b = refl
-one_scores input text more Done _ a b = absurd b
-one_scores input text more Refused _ a b = absurd b
-one_scores input text more _ other a b = absurd a
+  one_output : (input text more : List ℕ) (status other : Status) → IsOutput Says input status text → IsOutput Says input other more → status ≡ other
+  one_output input text more Done Done a b = refl
+  one_output input text more Done Refused a b = absurd (read_and_refused input text more a b)
+  one_output input text more Refused Done a b = absurd (read_and_refused input more text b a)
+  one_output input text more Refused Refused a b = refl
+  one_output input text more Done _ a b = absurd b
+  one_output input text more Refused _ a b = absurd b
+  one_output input text more _ other a b = absurd a
 
 one_replay : (input text more : List ℕ) (status other : Status) → IsReplayOutput input status text → IsReplayOutput input other more → status ≡ other
 one_replay input text more Done Done a b = refl
@@ -46,8 +39,10 @@ one_replay input text more Refused _ a b = absurd b
 one_replay input text more _ other a b = absurd a
 
 pub one_status : (word : Command) (input text more : List ℕ) (status other : Status) → Gets word input status text → Gets word input other more → status ≡ other
-one_status Check input text more status other a b = one_check input text more status other a b
-one_status Scores input text more status other a b = one_scores input text more status other a b
+one_status Check input text more status other a b = one_output IsCheckText input text more status other a b
+one_status Scores input text more status other a b = one_output IsScoresText input text more status other a b
+one_status Graph input text more status other a b = one_output IsGraphText input text more status other a b
+one_status Survive input text more status other a b = one_output IsSurviveText input text more status other a b
 one_status Replay input text more status other a b = one_replay input text more status other a b
 one_status Help input text more status other a b = a.0 ∙ sym b.0
 one_status Version input text more status other a b = a.0 ∙ sym b.0

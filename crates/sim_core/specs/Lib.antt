@@ -1,8 +1,11 @@
 pub mod Status
 pub mod Causes
 pub mod Reading
+pub mod Outputs
 pub mod Check
 pub mod Scores
+pub mod Graph
+pub mod Survive
 pub mod FirstReplay
 pub mod OwnText
 pub mod Words

@@ -3,11 +3,14 @@ use Rattle.std.specs.Prelude.{ℕ, Bool, true, false, List}
 use Rattle.sim_core.specs.declared.help.TheConstants.{HELP, VERSION}
 use Rattle.sim_core.specs.declared.status.Status.{Status}
 use Rattle.sim_core.specs.declared.words.Command.{Command}
-use Rattle.sim_core.specs.declared.words.Command.TheVariants.{Check, Scores, Replay, Help, Version}
-use Rattle.sim_core.specs.Check.{IsCheckOutput}
+use Rattle.sim_core.specs.declared.words.Command.TheVariants.{Check, Scores, Graph, Survive, Replay, Help, Version}
+use Rattle.sim_core.specs.Check.{IsCheckText}
 use Rattle.sim_core.specs.FirstReplay.{IsReplayOutput}
+use Rattle.sim_core.specs.Graph.{IsGraphText}
+use Rattle.sim_core.specs.Outputs.{IsOutput}
 use Rattle.sim_core.specs.OwnText.{IsOwnText}
-use Rattle.sim_core.specs.Scores.{IsScoresOutput}
+use Rattle.sim_core.specs.Scores.{IsScoresText}
+use Rattle.sim_core.specs.Survive.{IsSurviveText}
 
 -- what a word reads: nothing, an input to its end before it writes, or line by line while it writes
 pub data Intake : Type 0 where
@@ -18,6 +21,8 @@ pub data Intake : Type 0 where
 abbrev pub intake : Command → Intake
 intake Check = whole
 intake Scores = whole
+intake Graph = whole
+intake Survive = whole
 intake Replay = whole
 intake Help = nothing
 intake Version = nothing
@@ -26,14 +31,18 @@ intake Version = nothing
 abbrev pub takes_memory : Command → Bool
 takes_memory Check = true
 takes_memory Scores = true
+takes_memory Graph = true
+takes_memory Survive = true
 takes_memory Replay = true
 takes_memory Help = false
 takes_memory Version = false
 
 -- with a word an input of this content gets this status and this text. With a word that reads nothing each input does
 abbrev pub Gets : Command → List ℕ → Status → List ℕ → Type 0
-Gets Check input status text = IsCheckOutput input status text
-Gets Scores input status text = IsScoresOutput input status text
+Gets Check input status text = IsOutput IsCheckText input status text
+Gets Scores input status text = IsOutput IsScoresText input status text
+Gets Graph input status text = IsOutput IsGraphText input status text
+Gets Survive input status text = IsOutput IsSurviveText input status text
 Gets Replay input status text = IsReplayOutput input status text
 Gets Help input status text = IsOwnText HELP.now status text
 Gets Version input status text = IsOwnText VERSION.now status text

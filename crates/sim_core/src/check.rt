@@ -1,19 +1,16 @@
-//! The word `check`: the canonical configuration of an input, or its fault.
+//! The word `check`: the canonical configuration of an input.
 
 ghost use Rattle.std.specs.Prelude.{◌≡◌, ◌++◌, ◌≤◌, IfOk, OnOk};
 ghost use Rattle.cluster_types.specs.Valid.{KeepsLimits};
-ghost use Rattle.sim_core.specs.Check.{IsCheckOutput, check_text, counts_line, refusal_text, rules_in};
+ghost use Rattle.sim_core.specs.Check.{IsCheckText, check_text, counts_line, rules_in};
 
-use crate::cause::InputCause;
-use crate::fault::InputFault;
-use crate::input_word::InputWord;
 use crate::memory::NoMemory;
-use crate::reading::{Input, read_input};
-use crate::status::Status;
+use crate::reading::Input;
+use crate::text_word::TextWord;
 use cluster_types::Cluster;
 use crm_print::print;
-use first_replay::push_number;
 use std::alloc::Global;
+use trace_text::push_number;
 
 /// How many rules a cluster has.
 fn rules_in(cluster: &Cluster) -> usize
@@ -48,30 +45,14 @@ fn check_text(alloc: Global, input: &Input) -> Result<Vec<u8>, NoMemory>
     Ok(text)
 }
 
-pub(crate) fn refusal_text(alloc: Global, line: u32, cause: InputCause) -> Result<Vec<u8>, NoMemory>
-    ensures { IfOk result (λ text. text.items ≡ refusal_text line cause) }
-{
-    let mut text = Vec::from_slice(alloc, b"refused ")?;
-    push_number(&mut text, line)?;
-    text.extend_from_slice(b" ")?;
-    text.extend_from_slice(cause.name().as_bytes())?;
-    text.extend_from_slice(b"\n")?;
-    Ok(text)
-}
-
 /// The word `check`.
+#[derive(Drop)]
 pub(crate) struct CheckWord;
 
-impl InputWord for CheckWord {
-    ghost gets = { λ _. IsCheckOutput };
+impl TextWord for CheckWord {
+    ghost says = { λ _. IsCheckText };
 
-    fn answer(&self, alloc: Global, input: &[u8]) -> Result<(Status, Vec<u8>), NoMemory> {
-        match read_input(alloc, input) {
-            Ok(whole) => Ok((Status::Done, check_text(alloc, &whole)?)),
-            Err(InputFault::At { line, cause }) => {
-                Ok((Status::Refused, refusal_text(alloc, line, cause)?))
-            }
-            Err(InputFault::NoMemory) => Err(NoMemory),
-        }
+    fn text(&self, alloc: Global, input: &Input) -> Result<Vec<u8>, NoMemory> {
+        check_text(alloc, input)
     }
 }

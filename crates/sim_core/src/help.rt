@@ -13,6 +13,10 @@ Usage: cekpayo WORD < INPUT > OUTPUT
              `# nodes N leaves N rules N`
   scores     reads as check does, and writes the total of each resource on each
              node, its targets, or the reason why it has none
+  graph      reads as check does, and writes the actions that bring the cluster
+             to its targets, and what must precede each
+  survive    reads as check does, and writes where everything goes when a node
+             is lost, for each node that is online
   replay     reads a configuration in crmsh syntax and its status, and writes
              the run: targets, actions that begin and end, transitions. Only a
              first form of input is carried out so far: the lines `node NAME`
@@ -23,11 +27,9 @@ Usage: cekpayo WORD < INPUT > OUTPUT
 
 Not built yet (status 2):
 
-  graph      reads as replay does, and writes the actions and what precedes each
   gen N      reads nothing, and writes a summary of the generated case N
   world N    reads as replay does, and writes a run in the simulated world N
   audit      reads as replay does, with a run, and writes whether it is lawful
-  survive    reads as replay does, and writes what the loss of each node does
 
 Exit status:
 

@@ -1,18 +1,21 @@
 //! The words of the command line, and the top call that carries them out.
 //!
-//! `check` and `scores` read a whole configuration. `replay` takes a first form of input, a cluster of one resource.
+//! `check`, `scores`, `graph` and `survive` read a whole configuration. `replay` takes a first form of input, a cluster of one resource.
 #![tactic(auto)]
 
 // The top call.
 mod check;
+mod graph;
 mod help;
 mod input_word;
 mod laws;
+mod losses;
 mod memory;
 mod own_text;
 mod replay;
 mod scores;
 mod status;
+mod text_word;
 mod top;
 mod words;
 

@@ -1,17 +1,14 @@
-//! The word `scores`: the totals, the targets and the reasons of an input, or its fault.
+//! The word `scores`: the totals, the targets and the reasons of an input.
 
 ghost use Rattle.std.specs.Prelude.{◌≡◌, ◌^◌, ◌<◌, IfOk};
 ghost use Rattle.cluster_types.specs.Journals.{moment_of};
 ghost use Rattle.cluster_types.specs.Plans.{IsPlaced};
 ghost use Rattle.cluster_types.specs.Valid.{IsValid};
-ghost use Rattle.sim_core.specs.Scores.{IsScoresOutput};
+ghost use Rattle.sim_core.specs.Scores.{IsScoresText};
 
-use crate::check::refusal_text;
-use crate::fault::InputFault;
-use crate::input_word::InputWord;
 use crate::memory::NoMemory;
-use crate::reading::{Head, read_input};
-use crate::status::Status;
+use crate::reading::{Head, Input};
+use crate::text_word::TextWord;
 use cluster_types::Placed;
 use placement::place;
 use score_table::rows;
@@ -33,24 +30,14 @@ fn placed(alloc: Global, head: &Head) -> Result<Placed, NoMemory>
 }
 
 /// The word `scores`.
+#[derive(Drop)]
 pub(crate) struct ScoresWord;
 
-impl InputWord for ScoresWord {
-    ghost gets = { λ _. IsScoresOutput };
+impl TextWord for ScoresWord {
+    ghost says = { λ _. IsScoresText };
 
-    fn answer(&self, alloc: Global, input: &[u8]) -> Result<(Status, Vec<u8>), NoMemory> {
-        match read_input(alloc, input) {
-            Ok(whole) => {
-                let placed = placed(alloc, &whole.head)?;
-                Ok((
-                    Status::Done,
-                    score_text(alloc, &whole.head.cluster, &placed)?,
-                ))
-            }
-            Err(InputFault::At { line, cause }) => {
-                Ok((Status::Refused, refusal_text(alloc, line, cause)?))
-            }
-            Err(InputFault::NoMemory) => Err(NoMemory),
-        }
+    fn text(&self, alloc: Global, input: &Input) -> Result<Vec<u8>, NoMemory> {
+        let placed = placed(alloc, &input.head)?;
+        Ok(score_text(alloc, &input.head.cluster, &placed)?)
     }
 }

@@ -6,12 +6,15 @@ ghost use Rattle.sim_core.specs.Table.{intake, nothing, whole};
 ghost use Rattle.sim_core.specs.Words.{command_of};
 
 use crate::check::CheckWord;
+use crate::graph::GraphWord;
 use crate::help::{HELP, VERSION};
 use crate::input_word::with_input;
+use crate::losses::SurviveWord;
 use crate::own_text::tell;
 use crate::replay::ReplayWord;
 use crate::scores::ScoresWord;
 use crate::status::Status;
+use crate::text_word::Reading;
 use crate::words::{Command, command_of};
 use cluster_io::{Sink, Source};
 use std::alloc::Global;
@@ -37,8 +40,10 @@ fn carry_out<S: Source, W: Sink>(alloc: Global, word: Command, src: &mut S, out:
         → W.faults out.new ≡ W.faults out.old }
 {
     match word {
-        Command::Check => with_input(alloc, &CheckWord, src, out),
-        Command::Scores => with_input(alloc, &ScoresWord, src, out),
+        Command::Check => with_input(alloc, &Reading(CheckWord), src, out),
+        Command::Scores => with_input(alloc, &Reading(ScoresWord), src, out),
+        Command::Graph => with_input(alloc, &Reading(GraphWord), src, out),
+        Command::Survive => with_input(alloc, &Reading(SurviveWord), src, out),
         Command::Replay => with_input(alloc, &ReplayWord, src, out),
         Command::Help => tell(out, HELP),
         Command::Version => tell(out, VERSION),

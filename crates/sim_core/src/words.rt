@@ -7,6 +7,8 @@ ghost use Rattle.sim_core.specs.Words.{command_of, word_command};
 pub enum Command {
     Check,
     Scores,
+    Graph,
+    Survive,
     Replay,
     Help,
     Version,
@@ -18,6 +20,8 @@ fn one_word(word: &str) -> Option<Command>
     match word {
         "check" => Some(Command::Check),
         "scores" => Some(Command::Scores),
+        "graph" => Some(Command::Graph),
+        "survive" => Some(Command::Survive),
         "replay" => Some(Command::Replay),
         "--help" => Some(Command::Help),
         "--version" => Some(Command::Version),

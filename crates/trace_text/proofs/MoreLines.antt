@@ -11,25 +11,33 @@ enumerate-append {X = X} n (x ∷ xs) ys =
     let e : n + 1 + length xs ≡ n + suc (length xs) = omega arith in
     ap {B = List (ℕ × X)} (λ zs. (n, x) ∷ zs) (enumerate-append (n + 1) xs ys ∙ ap (λ k. enumerate_from (n + 1) xs ++ enumerate_from k ys) e)
 
--- the first elements with their places, one more
-enumerate_more : {X : Type 0} (xs : List X) (i : ℕ) (x : X) → i < length xs → x ≡ slice_index_or xs i x
-    → enumerate_from 0 (take (i + 1) xs) ≡ enumerate_from 0 (take i xs) ++ (i, x) ∷ []
-enumerate_more {X = X} xs i x lt is =
+-- the first elements with their places, from a number on, one more
+enumerate_more : {X : Type 0} (from : ℕ) (xs : List X) (i : ℕ) (x : X) → i < length xs → x ≡ slice_index_or xs i x
+    → enumerate_from from (take (i + 1) xs) ≡ enumerate_from from (take i xs) ++ (from + i, x) ∷ []
+enumerate_more {X = X} from xs i x lt is =
     let more : take (i + 1) xs ≡ take i xs ++ x ∷ [] = rw (← is) at (take_more xs i x lt) in
     let size : length (take i xs) ≡ i = length-take-le i xs (omega (arith, lt)) in
-    let at : 0 + length (take i xs) ≡ i = omega (arith, size) in
-    ap (enumerate_from 0) more ∙ enumerate-append 0 (take i xs) (x ∷ [])
-    ∙ ap {B = List (ℕ × X)} (λ k. enumerate_from 0 (take i xs) ++ (k, x) ∷ []) at
+    let at : from + length (take i xs) ≡ from + i = omega (arith, size) in
+    ap (enumerate_from from) more ∙ enumerate-append from (take i xs) (x ∷ [])
+    ∙ ap {B = List (ℕ × X)} (λ k. enumerate_from from (take i xs) ++ (k, x) ∷ []) at
 
--- by the lines of one element more, with its place
+-- by the lines of one element more, with its number
+pub numbered_lines_more : {X : Type 0} (line : ℕ × X → List ℕ) (from : ℕ) (old before after : List ℕ) (xs : List X) (i : ℕ) (x : X) → i < length xs
+    → x ≡ slice_index_or xs i x → before ≡ old ++ flat_map line (enumerate_from from (take i xs)) → after ≡ before ++ line (from + i, x)
+    → after ≡ old ++ flat_map line (enumerate_from from (take (i + 1) xs))
+numbered_lines_more line from old before after xs i x lt is was push =
+    let so_far = flat_map line (enumerate_from from (take i xs)) in
+    let more = ap (flat_map line) (enumerate_more from xs i x lt is) ∙ flat_map-append line (enumerate_from from (take i xs)) ((from + i, x) ∷ []) in
+    push ∙ ap (λ t. t ++ line (from + i, x)) was ∙ append_assoc old so_far (line (from + i, x))
+    ∙ ap (λ t. old ++ t) (sym (more ∙ ap (λ t. so_far ++ t) (append-nil (line (from + i, x)))))
+
+-- and with its place
 pub placed_lines_more : {X : Type 0} (line : ℕ × X → List ℕ) (old before after : List ℕ) (xs : List X) (i : ℕ) (x : X) → i < length xs
     → x ≡ slice_index_or xs i x → before ≡ old ++ flat_map line (enumerate_from 0 (take i xs)) → after ≡ before ++ line (i, x)
     → after ≡ old ++ flat_map line (enumerate_from 0 (take (i + 1) xs))
-placed_lines_more line old before after xs i x lt is was push =
-    let so_far = flat_map line (enumerate_from 0 (take i xs)) in
-    let more = ap (flat_map line) (enumerate_more xs i x lt is) ∙ flat_map-append line (enumerate_from 0 (take i xs)) ((i, x) ∷ []) in
-    push ∙ ap (λ t. t ++ line (i, x)) was ∙ append_assoc old so_far (line (i, x))
-    ∙ ap (λ t. old ++ t) (sym (more ∙ ap (λ t. so_far ++ t) (append-nil (line (i, x)))))
+placed_lines_more {X = X} line old before after xs i x lt is was push =
+    let at : i ≡ 0 + i = omega arith in
+    numbered_lines_more line 0 old before after xs i x lt is was (push ∙ ap {B = List ℕ} (λ k. before ++ line (k, x)) at)
 
 -- the texts of lists of lines, in one list
 pub lines_of_lines : {X Y : Type 0} (text : Y → List ℕ) (lines : X → List Y) (xs : List X)
@@ -58,3 +66,16 @@ lines_of_leaf text first line ns third old one two three a b d =
 -- the text of one line
 pub one_line : {Y : Type 0} (text : Y → List ℕ) (line : Y) (before after : List ℕ) → after ≡ before ++ text line → after ≡ before ++ flat_map text (line ∷ [])
 one_line text line before after is = is ∙ ap (λ t. before ++ t) (sym (append-nil (text line)))
+
+-- the text of two words, and of two more
+pub two_more : (old one two first second third last : List ℕ) → one ≡ old ++ (first ++ second) → two ≡ one ++ (third ++ last)
+    → two ≡ old ++ (first ++ second ++ third ++ last)
+two_more old one two first second third last is more =
+    more ∙ (ap (λ t. t ++ (third ++ last)) is ∙ simp append_assoc)
+
+-- the text of six parts, one behind the other
+module _ (old one two three four five six first second third fourth fifth last : List ℕ) where
+  pub six_more : one ≡ old ++ first → two ≡ one ++ second → three ≡ two ++ third → four ≡ three ++ fourth → five ≡ four ++ fifth → six ≡ five ++ last
+      → six ≡ old ++ (first ++ second ++ third ++ fourth ++ fifth ++ last)
+  six_more a b d e f g =
+      g ∙ ap (λ t. t ++ last) (f ∙ ap (λ t. t ++ fifth) (e ∙ ap (λ t. t ++ fourth) (d ∙ ap (λ t. t ++ third) (b ∙ ap (λ t. t ++ second) a)))) ∙ simp append_assoc

@@ -6,7 +6,7 @@ ghost use Rattle.cluster_types.specs.Texts as texts;
 use cluster_types::{Cluster, LeafId};
 use faults::NoMemory;
 
-fn node_name(cluster: &Cluster, node: usize) -> &[u8]
+pub(crate) fn node_name(cluster: &Cluster, node: usize) -> &[u8]
     ensures { result.now ≡ texts.node_name cluster.now node }
 {
     match cluster.nodes.as_slice().get(node) {

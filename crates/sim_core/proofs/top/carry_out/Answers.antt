@@ -8,3 +8,9 @@ returns-in-Version-clause-answers g c = rw c.in-Version.is (c.tell-in-Version.en
 
 pub returns-in-Replay-clause-status : goal.returns-in-Replay-clause-status
 returns-in-Replay-clause-status g c = rw c.in-Replay.is c.with_input-in-Replay.ensures.status
+
+pub returns-in-Scores-clause-status : goal.returns-in-Scores-clause-status
+returns-in-Scores-clause-status g c = rw c.in-Scores.is c.with_input-in-Scores.ensures.status
+
+pub returns-in-Graph-clause-status : goal.returns-in-Graph-clause-status
+returns-in-Graph-clause-status g c = rw c.in-Graph.is c.with_input-in-Graph.ensures.status

@@ -1,0 +1,51 @@
+ghost use Rattle.std.specs.Prelude.{◌≡◌, ◌<◌, ◌^◌, List, IfOk};
+ghost use Rattle.cluster_types.specs.declared.journal.Event.{Event as EventOf};
+ghost use Rattle.cluster_types.specs.declared.journal.Promotion.{Promotion as PromotionOf};
+ghost use Rattle.cluster_types.specs.Journals as journals;
+ghost use Rattle.cluster_types.specs.Unpacked.{states_of};
+ghost use Rattle.cluster_types.specs.Valid.{IsValid};
+ghost use Rattle.planner.specs.Planned.{AreTold, IsPlanned};
+
+use action_build::actions;
+use cluster_types::{Cluster, Journal, NoMemory, Plan, States};
+use graph_number::number;
+use placement::place;
+use quorum_fence::rights;
+use score_table::rows;
+use state_unpack::{unpack, valid_clusters_have_few_monitors};
+use std::alloc::Global;
+
+/// The plan for a journal, by what it tells: the one that `plan` makes. So a journal that goes on need not be read anew. It asks for a valid cluster, and
+/// for states that some journal tells of it. Out of memory is the only other answer.
+pub fn plan_of(alloc: Global, cluster: &Cluster, states: States) -> Result<Plan, NoMemory>
+    requires valid { IsValid cluster.now }
+    requires told { AreTold cluster.now states }
+    ensures { IfOk result (λ plan. (events : List EventOf) (promotions : List PromotionOf)
+        → states ≡ states_of cluster.now events promotions → IsPlanned cluster.now events promotions plan) }
+{
+    let scores = rows(alloc, cluster, &states)?;
+    let placed = place(alloc, cluster, &states, &scores)?;
+    let rights = rights(cluster, &states);
+    let actions = actions(alloc, cluster, &states, rights, &placed)?;
+    let graph = number(alloc, cluster, actions)?;
+    Ok(Plan {
+        states,
+        rights,
+        placed,
+        graph,
+    })
+}
+
+/// The plan for a journal: what it tells of the cluster, what the cluster may do, where everything goes, and the actions that are needed for it, each with
+/// those that must have succeeded before it begins (Pacemaker Administration, "Transitions"). It asks for a valid cluster, and for a moment that fits 64
+/// bits. Out of memory is the only other answer.
+pub fn plan(alloc: Global, cluster: &Cluster, journal: &Journal) -> Result<Plan, NoMemory>
+    requires valid { IsValid cluster.now }
+    requires moment { journals.moment_of journal.now.events < 2 ^ 64 }
+    ensures { IfOk result (λ plan. IsPlanned cluster.now journal.now.events journal.now.promotions plan) }
+{
+    valid_clusters_have_few_monitors();
+    let states = unpack(alloc, cluster, journal)?;
+    let plan = plan_of(alloc, cluster, states)?;
+    Ok(plan)
+}

@@ -1,0 +1,4 @@
+pub mod Arriving
+pub mod Found
+pub mod Backward
+pub mod Walk

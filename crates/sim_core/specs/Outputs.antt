@@ -1,0 +1,31 @@
+-- What is written by a word that reads an input: what the word says of it, or the fault of the input.
+use Rattle.std.specs.Prelude.{◌≡◌, ℕ, List, ◌++◌, codes, decimal}
+use Rattle.sim_core.specs.declared.cause.InputCause.{InputCause}
+use Rattle.sim_core.specs.declared.reading.Input.{Input}
+use Rattle.sim_core.specs.declared.status.Status.{Status}
+use Rattle.sim_core.specs.declared.status.Status.TheVariants.{Done, Refused}
+use Rattle.sim_core.specs.Causes.{cause_name}
+use Rattle.sim_core.specs.Reading.{IsRefused, Reads}
+
+-- `refused LINE CAUSE` (rule of this project)
+abbrev pub refusal_text : ℕ → InputCause → List ℕ
+refusal_text line why = codes "refused " ++ decimal line ++ codes " " ++ cause_name why ++ codes "\n"
+
+-- the text names the fault of the input
+pub record IsRefusalText (input text : List ℕ) : Type 0 where
+  pub line : ℕ
+  pub why : InputCause
+  pub fault : IsRefused input line why
+  pub printed : text ≡ refusal_text line why
+
+-- the text is one that this says of what the input says
+pub record IsTextOf (Says : Input → List ℕ → Type 0) (input text : List ℕ) : Type 0 where
+  pub whole : Input
+  pub reads : Reads input whole
+  pub says : Says whole text
+
+-- with a word that says this of an input, an input of this content gets this status and this text
+abbrev pub IsOutput : (Input → List ℕ → Type 0) → List ℕ → Status → List ℕ → Type 0
+IsOutput Says input Done text = IsTextOf Says input text
+IsOutput Says input Refused text = IsRefusalText input text
+IsOutput Says input _ text = ⊥

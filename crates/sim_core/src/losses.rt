@@ -1,0 +1,24 @@
+//! The word `survive`: where everything goes when a node is lost, for each node that is online.
+
+ghost use Rattle.sim_core.specs.Survive.{IsSurviveText};
+
+use crate::memory::NoMemory;
+use crate::reading::Input;
+use crate::text_word::TextWord;
+use std::alloc::Global;
+use survive::survive;
+use trace_text::survive_text;
+
+/// The word `survive`.
+#[derive(Drop)]
+pub(crate) struct SurviveWord;
+
+impl TextWord for SurviveWord {
+    ghost says = { λ _. IsSurviveText };
+
+    fn text(&self, alloc: Global, input: &Input) -> Result<Vec<u8>, NoMemory> {
+        let head = &input.head;
+        let report = survive(alloc, &head.cluster, &head.journal)?;
+        Ok(survive_text(alloc, &head.cluster, &report)?)
+    }
+}

@@ -1,0 +1,42 @@
+//! The text of what the loss of each node does.
+
+ghost use Rattle.std.specs.Prelude.{◌≡◌, ◌++◌, IfOk, OnOk};
+ghost use Rattle.cluster_types.specs.Valid.{KeepsLimits};
+ghost use Rattle.trace_text.specs.Losses as losses;
+
+use crate::names::node_name;
+use crate::target_lines::push_targets;
+use cluster_types::Cluster;
+use faults::NoMemory;
+use std::alloc::Global;
+use survive::{Loss, Report};
+
+/// The node that is lost, and the target lines then.
+fn push_loss(text: &mut Vec<u8>, cluster: &Cluster, loss: &Loss) -> Result<(), NoMemory>
+    requires { KeepsLimits cluster.now }
+    ensures { OnOk result (text.new.items ≡ text.old.items ++ losses.loss_lines cluster.now loss.now) }
+{
+    text.extend_from_slice(b"loss ")?;
+    text.extend_from_slice(node_name(cluster, loss.node as usize))?;
+    text.extend_from_slice(b"\n")?;
+    push_targets(
+        text,
+        cluster,
+        loss.pins.as_slice(),
+        &loss.table,
+        loss.none.as_slice(),
+    )
+}
+
+/// The text of what the loss of each node does: of each node that may be lost, its line and then the target lines (rule of this project). `NoMemory`
+/// comes when memory runs out.
+pub fn survive_text(alloc: Global, cluster: &Cluster, report: &Report) -> Result<Vec<u8>, NoMemory>
+    requires limits { KeepsLimits cluster.now }
+    ensures { IfOk result (λ text. text.items ≡ losses.survive_text cluster.now report.now) }
+{
+    let mut text = Vec::new(alloc);
+    for loss in report.losses.as_slice() {
+        push_loss(&mut text, cluster, loss)?;
+    }
+    Ok(text)
+}
