@@ -35,7 +35,7 @@ pub(crate) fn answer_of(said: Said) -> Answer {
     }
 }
 
-fn answer_in_short(answer: Answer) -> Said {
+pub(crate) fn answer_in_short(answer: Answer) -> Said {
     match answer {
         Answer::End { number, code } => Said::End(number, code),
         Answer::Timeout { number } => Said::Timeout(number),

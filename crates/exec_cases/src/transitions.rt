@@ -276,7 +276,7 @@ fn executor_of<'c>(
     }
 }
 
-fn script_of(rt: &impl Abort, alloc: Global, says: &[Said]) -> Result<Script, Fail> {
+pub(crate) fn script_of(rt: &impl Abort, alloc: Global, says: &[Said]) -> Result<Script, Fail> {
     let mut answers = Vec::new(alloc);
     for said in says {
         answers.push(answer_of(*said))?;

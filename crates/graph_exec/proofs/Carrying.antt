@@ -10,9 +10,9 @@ use Rattle.cluster_types.specs.declared.journal.Outcome.TheVariants.{Code}
 use Rattle.cluster_types.specs.Steps.{Transition, StepsOn, begins, takes, is_silent, Goes, here, one_more, HasEnded, IsWaiting, ended, events_of, flight, flying, is_settled, silent_code}
 use Rattle.graph_exec.specs.declared.ends.WatchedEnd.{WatchedEnd}
 use Rattle.graph_exec.specs.declared.ends.WatchedEnd.TheVariants as how
-use Rattle.graph_exec.specs.Rounds.{Advanced, Answered, Began, IsDone, StopsAs, asks_left, begins_left}
+use Rattle.graph_exec.specs.Rounds.{Advanced, Answered, Began, StopsAs, asks_left, begins_left}
 use Rattle.graph_exec.specs.Running.{Running, EndedSilently, Took, Went, going, later}
-use Rattle.graph_exec.specs.Transitions.{EndsAs, GoneTo, IsExpected}
+use Rattle.graph_exec.specs.Transitions.{EndsAs, GoneTo, HasGoneToEnd, IsExpected}
 use Rattle.graph_exec.proofs.Fewer.{asks_fewer, begin_leaves, silent_leaves, take_leaves}
 use Rattle.graph_exec.proofs.Lines.{silent_line, taken_line}
 use Rattle.graph_exec.proofs.Flying.{many_flying}
@@ -122,6 +122,14 @@ module _ (whole : Bool) (old new : Running) (rest left : Option (List Answer)) w
   same_by how.SourceFault s = s.same
   same_by how.Stopped s = absurd s
 
+  -- so the transition hasn't gone to its end
+  pub still_going : (end : WatchedEnd) → StopsAs whole old new rest left end → ¬ HasGoneToEnd end
+  still_going how.Complete s = absurd s
+  still_going (how.Aborted event) s = absurd s
+  still_going (how.Unexpected given) s = λ done. done
+  still_going how.SourceFault s = λ done. done
+  still_going how.Stopped s = absurd s
+
 module _ (old new : Running) (b : Began old new) where
   pub fewer_begins : begins_left new < begins_left old
   fewer_begins = rw b.now.goes_on (begin_leaves old b.number b.now.action b.now.begins)
@@ -130,7 +138,7 @@ module _ (old new : Running) (b : Began old new) where
   no_more_asks = rw b.now.goes_on (asks_fewer old (Begin b.number b.now.action ∷ []))
 
 -- nothing more was to be done
-pub gone_done : (whole : Bool) (old new : Running) (rest left : Option (List Answer)) (end : WatchedEnd) → IsDone end → Went whole old new rest left
+pub gone_done : (whole : Bool) (old new : Running) (rest left : Option (List Answer)) (end : WatchedEnd) → HasGoneToEnd end → Went whole old new rest left
     → GoneTo whole old new rest left end
 gone_done whole old new rest left how.Complete d w = w
 gone_done whole old new rest left (how.Aborted event) d w = w
@@ -138,21 +146,21 @@ gone_done whole old new rest left (how.Unexpected given) d w = absurd d
 gone_done whole old new rest left how.SourceFault d w = absurd d
 gone_done whole old new rest left how.Stopped d w = absurd d
 
-pub expected_done : (end : WatchedEnd) → IsDone end → IsExpected end
+pub expected_done : (end : WatchedEnd) → HasGoneToEnd end → IsExpected end
 expected_done how.Complete d = d
 expected_done (how.Aborted event) d = d
 expected_done (how.Unexpected given) d = absurd d
 expected_done how.SourceFault d = absurd d
 expected_done how.Stopped d = absurd d
 
-pub no_fault : {R : Type 0} (end : WatchedEnd) → IsDone end → end ≡ how.SourceFault → R
+pub no_fault : {R : Type 0} (end : WatchedEnd) → HasGoneToEnd end → end ≡ how.SourceFault → R
 no_fault how.Complete d e = let f : ⊥ = cc in absurd f
 no_fault (how.Aborted event) d e = let f : ⊥ = cc in absurd f
 no_fault (how.Unexpected given) d e = absurd d
 no_fault how.SourceFault d e = absurd d
 no_fault how.Stopped d e = absurd d
 
-pub not_stopped : {R : Type 0} (end : WatchedEnd) → IsDone end → end ≡ how.Stopped → R
+pub not_stopped : {R : Type 0} (end : WatchedEnd) → HasGoneToEnd end → end ≡ how.Stopped → R
 not_stopped how.Complete d e = let f : ⊥ = cc in absurd f
 not_stopped (how.Aborted event) d e = let f : ⊥ = cc in absurd f
 not_stopped (how.Unexpected given) d e = absurd d

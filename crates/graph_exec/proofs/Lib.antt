@@ -2,6 +2,7 @@ pub mod Scripted
 pub mod Pairs
 pub mod Flying
 pub mod Logged
+pub mod Idle
 pub mod OneMore
 pub mod FirstOf
 pub mod Beginning

@@ -12,7 +12,7 @@ use Rattle.graph_exec.proofs.Carrying.{went_begun, went_nowhere, went_on, went_s
 
 -- the same steps, with more answers to come behind
 module _ (ys : List Answer) where
-  abbrev with_more : Option (List Answer) → Option (List Answer)
+  abbrev pub with_more : Option (List Answer) → Option (List Answer)
   with_more rest = option_map (λ xs. xs ++ ys) rest
 
   says_more : (rest : Option (List Answer)) (said : Option Answer) (left : Option (List Answer)) → Says false rest said left
@@ -27,7 +27,7 @@ module _ (ys : List Answer) where
   step_more t since _ rest left (takes _ _ given said b) = takes (with_more rest) (with_more left) given (says_more rest (Some given) left said) b
   step_more t since _ rest left (is_silent _ _ k a said b) = is_silent (with_more rest) (with_more left) k a (says_more rest None left said) b
 
-  goes_more : (t : Transition) (since later : List Event) (rest left : Option (List Answer)) → Goes t false since rest later left
+  pub goes_more : (t : Transition) (since later : List Event) (rest left : Option (List Answer)) → Goes t false since rest later left
       → Goes t false since (with_more rest) later (with_more left)
   goes_more t since _ rest _ (here _ _) = here since (with_more rest)
   goes_more t since later rest left (one_more _ events _ _ middle _ step more) =

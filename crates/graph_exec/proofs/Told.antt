@@ -15,17 +15,18 @@ use Rattle.graph_exec.specs.declared.ends.WatchedEnd.{WatchedEnd}
 use Rattle.graph_exec.specs.declared.ends.WatchedEnd.TheVariants as how
 use Rattle.graph_exec.specs.declared.watcher.Heard.{Heard}
 use Rattle.graph_exec.specs.declared.watcher.Heard.TheVariants as heard
-use Rattle.graph_exec.specs.Rounds.{Answered, IsDone, StopsAs}
+use Rattle.graph_exec.specs.Rounds.{Answered, StopsAs}
 use Rattle.graph_exec.specs.Running.{Running, BeginsNow, Went, going, later}
 use Rattle.graph_exec.specs.Telling.{Tells, text_of}
+use Rattle.graph_exec.specs.Transitions.{HasGoneToEnd}
 use Rattle.graph_exec.specs.Watching.{Hears, IsTold, heard_at}
-use Rattle.graph_exec.proofs.Carrying.{step_untold, went_nowhere, went_on}
+use Rattle.graph_exec.proofs.Carrying.{went_nowhere, went_on}
 
-text-append : (names : Option Cluster) (xs ys : List RunLine) → text_of names (xs ++ ys) ≡ text_of names xs ++ text_of names ys
+pub text-append : (names : Option Cluster) (xs ys : List RunLine) → text_of names (xs ++ ys) ≡ text_of names xs ++ text_of names ys
 text-append None xs ys = refl
 text-append (Some c) xs ys = flat_map-append (run_line c) xs ys
 
-adds_nothing : (names : Option Cluster) (text : Option (List ℕ)) → Adds text (text_of names []) text
+pub adds_nothing : (names : Option Cluster) (text : Option (List ℕ)) → Adds text (text_of names []) text
 adds_nothing None None = refl
 adds_nothing None (Some text) = ap Some (sym (append-nil text))
 adds_nothing (Some c) None = refl
@@ -47,25 +48,27 @@ module _ (names : Option Cluster) where
             (Adds-then before text after (text_of names (flat_map event_lines a.events)) (text_of names (flat_map event_lines b.events)) a.added b.added);
       }
 
-  pub hears_on : (first middle last : Running) (before text after : Option (List ℕ)) (h : Heard) → Went true first middle None None
-      → IsTold names first middle before text → Hears names middle last text after h → Hears names first last before after h
-  hears_on first middle last before text after heard.Go w a b = told_on first middle last before text after a b
-  hears_on first middle last before text after heard.Stop w a b = record {
-    at = b.at;
-    text = b.text;
-    events = b.events;
-    went = went_on true first middle b.at None None None w b.went;
-    told = told_on first middle b.at before text b.text a b.told;
-    step = b.step;
-    last = b.last;
-    added = b.added;
-  }
+  module _ (whole : Bool) (first middle last : Running) (rest between left : Option (List Answer)) (before text after : Option (List ℕ)) where
+    pub hears_on : (h : Heard) → Went whole first middle rest between → IsTold names first middle before text
+        → Hears whole names middle last between left text after h → Hears whole names first last rest left before after h
+    hears_on heard.Go w a b = told_on first middle last before text after a b
+    hears_on heard.Stop w a b = record {
+      at = b.at;
+      middle = b.middle;
+      text = b.text;
+      events = b.events;
+      went = went_on whole first middle b.at rest between b.middle w b.went;
+      told = told_on first middle b.at before text b.text a b.told;
+      step = b.step;
+      last = b.last;
+      added = b.added;
+    }
 
   -- one step, of one line
   module _ (whole : Bool) (old new : Running) (events : List Event) (rest left : Option (List Answer)) (said : RunLine)
       (step : StepsOn (going old) whole old.since rest events left) (goes_on : new ≡ later old events) (lines : flat_map event_lines events ≡ said ∷ [])
       (before after : Option (List ℕ)) where
-    pub hears_step : (h : Heard) → Tells names (said ∷ []) before after h → Hears names old new before after h
+    pub hears_step : (h : Heard) → Tells names (said ∷ []) before after h → Hears whole names old new rest left before after h
     hears_step heard.Go t = record {
       events = events;
       happened = ap (λ (r : Running). r.since) goes_on;
@@ -73,39 +76,40 @@ module _ (names : Option Cluster) where
     }
     hears_step heard.Stop t = record {
       at = old;
+      middle = rest;
       text = before;
       events = events;
-      went = went_nowhere true old None;
+      went = went_nowhere whole old rest;
       told = told_nothing old before;
-      step = step_untold (going old) whole old.since events rest left step;
+      step = step;
       last = goes_on;
       added = rw lines t;
     }
 
-  pub hears_begin : (old new : Running) (k : ℕ) (b : BeginsNow old new k) (before after : Option (List ℕ)) (h : Heard)
-      → Tells names (line.Begin k b.action ∷ []) before after h → Hears names old new before after h
-  hears_begin old new k b before after h t =
-      hears_step true old new _ None None (line.Begin k b.action) (begins None k b.action b.begins) b.goes_on refl before after h t
+  pub hears_begin : (whole : Bool) (old new : Running) (rest left : Option (List Answer)) (k : ℕ) (b : BeginsNow old new k) (before after : Option (List ℕ)) (h : Heard)
+      → left ≡ rest → Tells names (line.Begin k b.action ∷ []) before after h → Hears whole names old new rest left before after h
+  hears_begin whole old new rest left k b before after h same t =
+      rw same (hears_step whole old new _ rest rest (line.Begin k b.action) (begins rest k b.action b.begins) b.goes_on refl before after h t)
 
   pub hears_answer : (whole : Bool) (old new : Running) (rest left : Option (List Answer)) (given : Answer) (a : Answered whole old new rest left given)
-      (before after : Option (List ℕ)) (h : Heard) → Tells names (line.Taken given ∷ []) before after h → Hears names old new before after h
+      (before after : Option (List ℕ)) (h : Heard) → Tells names (line.Taken given ∷ []) before after h → Hears whole names old new rest left before after h
   hears_answer whole old new rest left given a before after h t =
       hears_step whole old new a.events rest left (line.Taken given) a.step a.goes_on a.lines before after h t
 
-  -- where no answer was taken, nothing is told
-  pub hears_none : (whole : Bool) (old new : Running) (rest left : Option (List Answer)) (text : Option (List ℕ)) (end : WatchedEnd)
-      → StopsAs whole old new rest left end → Hears names old new text text (heard_at end)
-  hears_none whole old new rest left text how.Complete s = absurd s
-  hears_none whole old new rest left text (how.Aborted event) s = absurd s
-  hears_none whole old new rest left text (how.Unexpected given) s = rw s.refused.same (told_nothing old text)
-  hears_none whole old new rest left text how.SourceFault s = rw s.same (told_nothing old text)
-  hears_none whole old new rest left text how.Stopped s = absurd s
+  module _ (whole : Bool) (old new : Running) (rest left : Option (List Answer)) where
+    -- where no answer was taken, nothing is told
+    pub hears_none : (text : Option (List ℕ)) (end : WatchedEnd) → StopsAs whole old new rest left end → Hears whole names old new rest left text text (heard_at end)
+    hears_none text how.Complete s = absurd s
+    hears_none text (how.Aborted event) s = absurd s
+    hears_none text (how.Unexpected given) s = rw s.refused.same (told_nothing old text)
+    hears_none text how.SourceFault s = rw s.same (told_nothing old text)
+    hears_none text how.Stopped s = absurd s
 
-  -- nor where nothing more was to be done
-  pub hears_done : (old new : Running) (before after : Option (List ℕ)) (end : WatchedEnd) → IsDone end → IsTold names old new before after
-      → Hears names old new before after (heard_at end)
-  hears_done old new before after how.Complete d t = t
-  hears_done old new before after (how.Aborted event) d t = t
-  hears_done old new before after (how.Unexpected given) d t = absurd d
-  hears_done old new before after how.SourceFault d t = absurd d
-  hears_done old new before after how.Stopped d t = absurd d
+    -- nor where nothing more was to be done
+    pub hears_done : (before after : Option (List ℕ)) (end : WatchedEnd) → HasGoneToEnd end → IsTold names old new before after
+        → Hears whole names old new rest left before after (heard_at end)
+    hears_done before after how.Complete d t = t
+    hears_done before after (how.Aborted event) d t = t
+    hears_done before after (how.Unexpected given) d t = absurd d
+    hears_done before after how.SourceFault d t = absurd d
+    hears_done before after how.Stopped d t = absurd d

@@ -1,6 +1,7 @@
 pub mod Logs
 pub mod Flights
 pub mod Running
+pub mod Resting
 pub mod Saying
 pub mod Scripts
 pub mod Telling

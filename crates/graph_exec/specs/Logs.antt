@@ -35,6 +35,20 @@ logged log event = record {
   room = log.room - 1;
 }
 
+-- a journal of a cluster
+pub record JournalOf : Type 0 where
+  pub cluster : Cluster
+  pub events : List Event
+  pub promotions : List Promotion
+
+abbrev pub journal_of : Cluster → List Event → List Promotion → JournalOf
+journal_of c events promotions = record { cluster = c; events = events; promotions = promotions }
+
+-- what is known of the cluster is what the events tell of it
+pub record IsTold (c : Cluster) (events : List Event) (known : Knowledge) : Type 0 where
+  pub knows : Knows c events known
+  pub moment : moment_of events < 2 ^ 64
+
 -- what is kept beside the events is what they say
 pub record Reflects (c : Cluster) (events : List Event) (planned : ℕ) (known : Knowledge) (outside : ℕ) (abort : Option Event) : Type 0 where
   pub starts : planned ≤ length events

@@ -57,9 +57,3 @@ abbrev pub StopsAs : Bool → Running → Running → Option (List Answer) → O
 StopsAs whole old new rest left (how.Unexpected given) = IsUnexpected whole old new rest left given
 StopsAs whole old new rest left how.SourceFault = HasFailed old new rest left
 StopsAs whole old new rest left _ = ⊥
-
--- nothing more is to be done
-abbrev pub IsDone : WatchedEnd → Type 0
-IsDone how.Complete = Unit {0}
-IsDone (how.Aborted event) = Unit {0}
-IsDone _ = ⊥

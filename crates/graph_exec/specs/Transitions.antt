@@ -49,6 +49,12 @@ pub record Accords (agrees : Cluster → List Event → ℕ → Type 0) (r : Run
   pub idle : in_flight r.planned_at ≡ []
   pub agrees_now : agrees r.cluster (r.planned_at ++ r.since) (outside (going r) r.since)
 
+-- nothing more is to be done in it
+abbrev pub HasGoneToEnd : WatchedEnd → Type 0
+HasGoneToEnd how.Complete = Unit {0}
+HasGoneToEnd (how.Aborted event) = Unit {0}
+HasGoneToEnd _ = ⊥
+
 -- no answer came that doesn't apply
 abbrev pub IsExpected : WatchedEnd → Type 0
 IsExpected (how.Unexpected given) = ⊥

@@ -1,8 +1,9 @@
 -- What a watcher was told of a transition, from one moment of it to another (rule of this project).
-use Rattle.std.specs.Prelude.{◌≡◌, ◌++◌, ℕ, true, Option, Some, None, List}
+use Rattle.std.specs.Prelude.{◌≡◌, ◌++◌, ℕ, Bool, Option, Some, None, List}
 use Rattle.std.specs.List.{flat_map}
 use Rattle.cluster_io.specs.Streams.{Adds, AddsPrefix}
 use Rattle.cluster_types.specs.declared.cluster.Cluster.{Cluster}
+use Rattle.cluster_types.specs.declared.journal.Answer.{Answer}
 use Rattle.cluster_types.specs.declared.journal.Event.{Event}
 use Rattle.cluster_types.specs.Steps.{StepsOn}
 use Rattle.cluster_types.specs.Texts.{event_lines}
@@ -38,16 +39,17 @@ pub record IsTold (names : Option Cluster) (old new : Running) (before after : O
   pub added : Adds before (text_of names (flat_map event_lines events)) after
 
 -- the watcher stopped at the last step: the lines of all steps before it were told, and a front of its own
-pub record IsCutOff (names : Option Cluster) (old new : Running) (before after : Option (List ℕ)) : Type 0 where
+pub record IsCutOff (whole : Bool) (names : Option Cluster) (old new : Running) (rest left : Option (List Answer)) (before after : Option (List ℕ)) : Type 0 where
   pub at : Running
+  pub middle : Option (List Answer)
   pub text : Option (List ℕ)
   pub events : List Event
-  pub went : Went true old at None None
+  pub went : Went whole old at rest middle
   pub told : IsTold names old at before text
-  pub step : StepsOn (going at) true at.since None events None
+  pub step : StepsOn (going at) whole at.since middle events left
   pub last : new ≡ later at events
   pub added : AddsPrefix (text_of names (flat_map event_lines events)) text after
 
-abbrev pub Hears : Option Cluster → Running → Running → Option (List ℕ) → Option (List ℕ) → Heard → Type 0
-Hears names old new before after heard.Go = IsTold names old new before after
-Hears names old new before after heard.Stop = IsCutOff names old new before after
+abbrev pub Hears : Bool → Option Cluster → Running → Running → Option (List Answer) → Option (List Answer) → Option (List ℕ) → Option (List ℕ) → Heard → Type 0
+Hears whole names old new rest left before after heard.Go = IsTold names old new before after
+Hears whole names old new rest left before after heard.Stop = IsCutOff whole names old new rest left before after

@@ -1,16 +1,14 @@
 //! What is kept of a transition that is carried out.
 
-ghost use Rattle.std.specs.Prelude.{◌≡◌, ◌<◌, ◌≤◌, ◌+◌, ◌^◌, ◌++◌, [], true, false, IfOk, IfErr, IfSome, IfNone, find};
-ghost use Rattle.cluster_types.specs.Journals.{moment_of};
+ghost use Rattle.std.specs.Prelude.{◌≡◌, ◌<◌, ◌≤◌, ◌+◌, ◌++◌, [], true, false, IfOk, IfErr, IfSome, IfNone, find};
 ghost use Rattle.cluster_types.specs.Steps.{aborts, flying, has_begun, has_room};
-ghost use Rattle.cluster_types.specs.Valid.{KeepsLimits};
-ghost use Rattle.state_unpack.specs.CellsKept.{has_few_monitors};
 ghost use Rattle.graph_exec.specs.Flights.{pairs};
 ghost use Rattle.graph_exec.specs.Running.{BeginsNow, IsSettled, going};
 
 use crate::flight::InFlight;
+use crate::known_journal::KnownJournal;
 use crate::log::Log;
-use cluster_types::{Cluster, Event, Graph, Journal};
+use cluster_types::{Event, Graph};
 use std::alloc::Global;
 use std::marker::Model;
 
@@ -35,37 +33,38 @@ impl<'c> Model for Course<'c> {
 
 /// Out of memory. What was handed in is handed back as it was.
 #[derive(Drop)]
-pub struct NotMade {
-    pub journal: Journal,
+pub struct NotBegun<'c> {
+    pub journal: KnownJournal<'c>,
     pub graph: Graph,
 }
 
 impl<'c> Course<'c> {
-    /// Nothing has begun. It asks for a cluster within the limits, of which each leaf has at most eight recurring
-    /// monitors, as each valid cluster is, and for a moment in seconds that fits 64 bits.
+    /// Nothing has begun.
     pub fn new(
         alloc: Global,
-        cluster: &'c Cluster,
-        journal: Journal,
+        journal: KnownJournal<'c>,
         graph: Graph,
-    ) -> Result<Course<'c>, NotMade>
-        requires limits { KeepsLimits cluster.now }
-        requires monitors { has_few_monitors cluster.now ≡ true }
-        requires moment { moment_of journal.events < 2 ^ 64 }
-        ensures ok { IfOk result (λ e. e ≡ record { cluster = cluster.now; graph = graph; planned_at = journal.events; since = []; promotions = journal.promotions }) }
-        ensures journal { IfErr result (λ back. back.journal ≡ journal) }
+    ) -> Result<Course<'c>, NotBegun<'c>>
+        ensures ok { IfOk result (λ e. e ≡ record {
+          cluster = journal.entry.cluster;
+          graph = graph;
+          planned_at = journal.entry.events;
+          since = [];
+          promotions = journal.entry.promotions;
+        }) }
+        ensures journal { IfErr result (λ back. back.journal ≡ journal.entry) }
         ensures graph { IfErr result (λ back. back.graph ≡ graph) }
     {
         let more = 2 * graph.count() as usize + 256;
-        let log = match Log::new(alloc, cluster, journal, more) {
+        let log = match Log::new(journal, more) {
             Ok(log) => log,
-            Err(journal) => return Err(NotMade { journal, graph }),
+            Err(journal) => return Err(NotBegun { journal, graph }),
         };
         match InFlight::new(alloc, graph) {
             Ok(flight) => Ok(Course { log, flight }),
             Err(graph) => {
-                let journal = log.into_journal();
-                Err(NotMade { journal, graph })
+                let journal = log.into_known();
+                Err(NotBegun { journal, graph })
             }
         }
     }
@@ -116,10 +115,10 @@ impl<'c> Course<'c> {
         Some(number)
     }
 
-    /// The whole journal: that of the plan, and the events since.
-    pub fn into_journal(self) -> Journal
-        ensures { result ≡ record { events = self.entry.planned_at ++ self.entry.since; promotions = self.entry.promotions } }
+    /// The whole journal: that of the plan, and the events since; and what it tells.
+    pub fn into_known(self) -> KnownJournal<'c>
+        ensures { result ≡ record { cluster = self.entry.cluster; events = self.entry.planned_at ++ self.entry.since; promotions = self.entry.promotions } }
     {
-        self.log.into_journal()
+        self.log.into_known()
     }
 }

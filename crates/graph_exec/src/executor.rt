@@ -8,16 +8,23 @@ ghost use Rattle.state_unpack.specs.CellsKept.{has_few_monitors};
 ghost use Rattle.graph_exec.specs.Flights.{pairs};
 ghost use Rattle.graph_exec.specs.Promises.{KeepsPromises};
 ghost use Rattle.graph_exec.specs.Running.{BeginsNow, EndedSilently, IsRefused, IsSettled, IsUnderWay, Took, going};
-ghost use Rattle.graph_exec.specs.Transitions.{EndsAs};
-ghost use Rattle.graph_exec.specs.Rounds.{IsDone};
+ghost use Rattle.graph_exec.specs.Transitions.{EndsAs, HasGoneToEnd};
 
-use crate::course::{Course, NotMade};
+use crate::course::{Course, NotBegun};
 use crate::ends::WatchedEnd;
 use crate::flight::InFlight;
+use crate::known_journal::KnownJournal;
 use crate::taking::Unexpected;
 use cluster_types::{Answer, Cluster, Event, Graph, Journal};
 use std::alloc::Global;
 use std::marker::Model;
+
+/// Out of memory. What was handed in is handed back as it was.
+#[derive(Drop)]
+pub struct NotMade {
+    pub journal: Journal,
+    pub graph: Graph,
+}
 
 /// A transition that goes on: its graph, the journal when it was planned, and the events since, which are steps of the
 /// transition.
@@ -54,8 +61,37 @@ impl<'c> Executor<'c> {
         ensures journal { IfErr result (λ back. back.journal ≡ journal) }
         ensures graph { IfErr result (λ back. back.graph ≡ graph) }
     {
+        let journal = match KnownJournal::new(alloc, cluster, journal) {
+            Ok(journal) => journal,
+            Err(journal) => return Err(NotMade { journal, graph }),
+        };
+        match Executor::on(alloc, journal, graph) {
+            Ok(executor) => Ok(executor),
+            Err(back) => Err(NotMade {
+                journal: back.journal.into_journal(),
+                graph: back.graph,
+            }),
+        }
+    }
+
+    /// The same on a journal of which is known what it tells, so that it isn't read anew.
+    pub fn on(
+        alloc: Global,
+        journal: KnownJournal<'c>,
+        graph: Graph,
+    ) -> Result<Executor<'c>, NotBegun<'c>>
+        ensures ok { IfOk result (λ e. e ≡ record {
+          cluster = journal.entry.cluster;
+          graph = graph;
+          planned_at = journal.entry.events;
+          since = [];
+          promotions = journal.entry.promotions;
+        }) }
+        ensures journal { IfErr result (λ back. back.journal ≡ journal.entry) }
+        ensures graph { IfErr result (λ back. back.graph ≡ graph) }
+    {
         let _edges = graph.edges();
-        let course = Course::new(alloc, cluster, journal, graph)?;
+        let course = Course::new(alloc, journal, graph)?;
         Ok(Executor { course })
     }
 
@@ -110,7 +146,7 @@ impl<'c> Executor<'c> {
     pub(crate) fn end(&self) -> WatchedEnd
         requires { HasEnded (going self.now) self.now.since }
         ensures ends { EndsAs self.now result }
-        ensures done { IsDone result }
+        ensures done { HasGoneToEnd result }
     {
         match self.course.abort() {
             Some(event) => WatchedEnd::Aborted(event),
@@ -122,6 +158,13 @@ impl<'c> Executor<'c> {
     pub fn into_journal(self) -> Journal
         ensures { result ≡ record { events = self.entry.planned_at ++ self.entry.since; promotions = self.entry.promotions } }
     {
-        self.course.into_journal()
+        self.into_known().into_journal()
+    }
+
+    /// The whole journal, and what it tells of the cluster. It takes no memory.
+    pub fn into_known(self) -> KnownJournal<'c>
+        ensures { result ≡ record { cluster = self.entry.cluster; events = self.entry.planned_at ++ self.entry.since; promotions = self.entry.promotions } }
+    {
+        self.course.into_known()
     }
 }

@@ -6,6 +6,7 @@ mod meaning;
 
 // What is kept of a transition: its journal, and which actions are in flight.
 mod flight;
+mod known_journal;
 mod log;
 
 // Where the answers come from, and who is told.
@@ -19,6 +20,7 @@ mod applying;
 mod course;
 mod ending;
 mod executor;
+mod resting;
 mod taking;
 
 // A transition over a source, to its end.
@@ -26,12 +28,15 @@ mod ends;
 mod rounds;
 mod transition;
 
-pub use course::NotMade;
+pub use course::NotBegun;
 pub use ends::{End, WatchedEnd};
-pub use executor::Executor;
+pub use executor::{Executor, NotMade};
 pub use failing::Failing;
 pub use flight::InFlight;
+pub use known_journal::KnownJournal;
+pub use meaning::is_success;
 pub use outcomes::{Next, Outcomes};
+pub use resting::{NotTaken, Resting};
 pub use script::Script;
 pub use taking::Unexpected;
 pub use transition::{run_transition, run_watched};

@@ -4,16 +4,14 @@ ghost use Rattle.std.specs.Prelude.{◌≡◌, ◌<◌, ◌≤◌, ◌+◌, ◌^
 ghost use Rattle.std.specs.Option.{option_or};
 ghost use Rattle.cluster_types.specs.Journals.{moment_of, seconds_of};
 ghost use Rattle.cluster_types.specs.Steps as steps;
-ghost use Rattle.cluster_types.specs.Valid.{KeepsLimits};
 ghost use Rattle.graph_exec.specs.Logs.{log_of, logged};
-ghost use Rattle.state_unpack.specs.CellsKept.{has_few_monitors};
 ghost use Rattle.state_unpack.specs.Known.{Knows};
 
+use crate::known_journal::KnownJournal;
 use crate::meaning::{aborts, is_from_outside};
-use cluster_types::{Cluster, Event, Journal, Promotion};
+use cluster_types::{Cluster, Event, Promotion};
 use listed::Listed;
 use state_unpack::Known;
-use std::alloc::Global;
 use std::marker::Model;
 
 /// The journal when the transition was planned, and the events since.
@@ -68,31 +66,26 @@ fn abort_after(cluster: &Cluster, abort: Option<Event>, event: Event) -> Option<
 
 impl<'c> Log<'c> {
     /// The journal, with room for so many events more. Where the memory isn't there, it is handed back.
-    pub fn new(
-        alloc: Global,
-        cluster: &'c Cluster,
-        journal: Journal,
-        more: usize,
-    ) -> Result<Log<'c>, Journal>
-        requires limits { KeepsLimits cluster.now }
-        requires monitors { has_few_monitors cluster.now ≡ true }
-        requires moment { moment_of journal.events < 2 ^ 64 }
-        ensures cluster { IfOk result (λ log. log.cluster ≡ cluster.now) }
-        ensures planned { IfOk result (λ log. log.planned_at ≡ journal.events) }
+    pub fn new(journal: KnownJournal<'c>, more: usize) -> Result<Log<'c>, KnownJournal<'c>>
+        ensures cluster { IfOk result (λ log. log.cluster ≡ journal.entry.cluster) }
+        ensures planned { IfOk result (λ log. log.planned_at ≡ journal.entry.events) }
         ensures since { IfOk result (λ log. log.since ≡ []) }
-        ensures promotions { IfOk result (λ log. log.promotions ≡ journal.promotions) }
+        ensures promotions { IfOk result (λ log. log.promotions ≡ journal.entry.promotions) }
         ensures room { IfOk result (λ log. more ≤ log.room) }
-        ensures err { IfErr result (λ back. back ≡ journal) }
+        ensures err { IfErr result (λ back. back ≡ journal.entry) }
     {
-        let Ok(known) = Known::new(alloc, cluster, journal.events.as_slice()) else {
-            return Err(journal);
-        };
+        let cluster = journal.cluster;
         let promotions = journal.promotions;
-        let mut events = journal.events.into_vec();
+        let known = journal.known;
+        let mut events = journal.events;
         let planned = events.len();
         if events.reserve(more).is_err() {
-            let events = Listed::from(events);
-            return Err(Journal { events, promotions });
+            return Err(KnownJournal {
+                cluster,
+                events,
+                promotions,
+                known,
+            });
         }
         Ok(Log {
             cluster,
@@ -152,13 +145,15 @@ impl<'c> Log<'c> {
         self.abort = abort_after(self.cluster, self.abort, event);
     }
 
-    /// The whole journal.
-    pub fn into_journal(self) -> Journal
-        ensures { result ≡ record { events = self.entry.planned_at ++ self.entry.since; promotions = self.entry.promotions } }
+    /// The whole journal, and what it tells.
+    pub fn into_known(self) -> KnownJournal<'c>
+        ensures { result ≡ record { cluster = self.entry.cluster; events = self.entry.planned_at ++ self.entry.since; promotions = self.entry.promotions } }
     {
-        Journal {
-            events: Listed::from(self.events),
+        KnownJournal {
+            cluster: self.cluster,
+            events: self.events,
             promotions: self.promotions,
+            known: self.known,
         }
     }
 }

@@ -5,7 +5,7 @@ ghost use Rattle.cluster_io.specs.Streams.{Rose};
 ghost use Rattle.cluster_types.specs.Steps.{IsWaiting, is_settled};
 ghost use Rattle.graph_exec.specs.Rounds.{Advanced, Answered, StopsAs, asks_left, begins_left};
 ghost use Rattle.graph_exec.specs.Running.{IsUnderWay, Went, going};
-ghost use Rattle.graph_exec.specs.Transitions.{Accords, EndsAs, GoneTo, IsExpected, WentAsSaid};
+ghost use Rattle.graph_exec.specs.Transitions.{Accords, EndsAs, GoneTo, HasGoneToEnd, IsExpected, WentAsSaid};
 ghost use Rattle.graph_exec.specs.Watching.{Hears, heard_in};
 
 use crate::ends::WatchedEnd;
@@ -37,7 +37,8 @@ impl<'c> Executor<'c> {
         ensures over { S.over outcomes.new ≡ S.over outcomes.old }
         ensures agrees { Accords (S.agrees outcomes.old) self.old → Accords (S.agrees outcomes.new) self.new }
 
-        ensures told { Hears (V.names watcher.old) self.old self.new (V.told watcher.old) (V.told watcher.new) (unwrap_or result Heard.Go) }
+        ensures told { Hears (S.whole outcomes.old) (V.names watcher.old) self.old self.new (S.rest outcomes.old) (S.rest outcomes.new)
+            (V.told watcher.old) (V.told watcher.new) (unwrap_or result Heard.Go) }
         ensures names { V.names watcher.new ≡ V.names watcher.old }
         ensures stops { V.stops watcher.old ≤ V.stops watcher.new }
         ensures stopped { result ≡ Some Heard.Stop → Rose (V.stops watcher.old) (V.stops watcher.new) }
@@ -70,7 +71,8 @@ impl<'c> Executor<'c> {
         ensures over { S.over outcomes.new ≡ S.over outcomes.old }
         ensures agrees { Accords (S.agrees outcomes.old) self.old → Accords (S.agrees outcomes.new) self.new }
 
-        ensures told { Hears (V.names watcher.old) self.old self.new (V.told watcher.old) (V.told watcher.new) result }
+        ensures told { Hears (S.whole outcomes.old) (V.names watcher.old) self.old self.new (S.rest outcomes.old) (S.rest outcomes.new)
+            (V.told watcher.old) (V.told watcher.new) result }
         ensures names { V.names watcher.new ≡ V.names watcher.old }
         ensures stops { V.stops watcher.old ≤ V.stops watcher.new }
         ensures stopped { result ≡ Heard.Stop → Rose (V.stops watcher.old) (V.stops watcher.new) }
@@ -124,6 +126,7 @@ impl<'c> Executor<'c> {
         ensures on { IfNone result (Advanced (S.whole outcomes.old) self.old self.new (S.rest outcomes.old) (S.rest outcomes.new)) }
         ensures steps { IfSome result (GoneTo (S.whole outcomes.old) self.old self.new (S.rest outcomes.old) (S.rest outcomes.new)) }
         ensures end { IfSome result (EndsAs self.new) }
+        ensures going { IfSome result (λ end. ¬ HasGoneToEnd end) }
         ensures under_way { IsUnderWay self.new }
 
         ensures cause { result ≡ Some WatchedEnd.SourceFault → Rose (S.faults outcomes.old) (S.faults outcomes.new) }
@@ -139,7 +142,8 @@ impl<'c> Executor<'c> {
         ensures not_over { result ≡ Some WatchedEnd.SourceFault → S.over outcomes.old ≡ false }
         ensures fitting { S.careful outcomes.old ≡ true → Accords (S.agrees outcomes.old) self.old → IfSome result IsExpected }
 
-        ensures told { Hears (V.names watcher.old) self.old self.new (V.told watcher.old) (V.told watcher.new) (heard_in result) }
+        ensures told { Hears (S.whole outcomes.old) (V.names watcher.old) self.old self.new (S.rest outcomes.old) (S.rest outcomes.new)
+            (V.told watcher.old) (V.told watcher.new) (heard_in result) }
         ensures names { V.names watcher.new ≡ V.names watcher.old }
         ensures stops { V.stops watcher.old ≤ V.stops watcher.new }
         ensures stopped { result ≡ Some WatchedEnd.Stopped → Rose (V.stops watcher.old) (V.stops watcher.new) }

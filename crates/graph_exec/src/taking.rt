@@ -17,7 +17,7 @@ pub struct Unexpected {
 
 impl<'c> Course<'c> {
     /// Enters what the answer adds, which applies.
-    fn enter(&mut self, answer: Answer)
+    pub(crate) fn enter(&mut self, answer: Answer)
         requires { applies_after self.old.cluster (journal (going self.old) self.old.since) (flying (going self.old) self.old.since)
             (outside (going self.old) self.old.since) answer ≡ true }
         ensures { self.new ≡ later self.old (events_of (going self.old) self.old.since answer) }

@@ -1,9 +1,9 @@
 //! A transition over a source of outcomes, to its end.
 
-ghost use Rattle.std.specs.Prelude.{◌≡◌, ◌≤◌, ◌+◌, true, length};
+ghost use Rattle.std.specs.Prelude.{◌≡◌, ◌≤◌, ◌+◌, true, false, length};
 ghost use Rattle.cluster_io.specs.Streams.{Rose};
 ghost use Rattle.graph_exec.specs.Promises.{EndsWell, KeepsPromises};
-ghost use Rattle.graph_exec.specs.Transitions.{Accords, EndsAs, GoneTo, IsExpected, WentAsSaid};
+ghost use Rattle.graph_exec.specs.Transitions.{Accords, EndsAs, GoneTo, HasGoneToEnd, IsExpected, WentAsSaid};
 ghost use Rattle.graph_exec.specs.Watching.{Hears, heard_at, watched};
 
 use crate::ends::{End, WatchedEnd, without_watcher};
@@ -34,13 +34,16 @@ pub fn run_watched<S: Outcomes, V: Watcher>(
     ensures steady { S.steady outcomes.new ≡ S.steady outcomes.old }
     ensures over { S.steady outcomes.old ≡ true → S.over outcomes.old ≡ true → S.over outcomes.new ≡ true }
 
-    // A steady source that fails has let no action end silently.
+    // A steady source that fails, or isn't over at the end, has let no action end silently.
     ensures said { S.steady outcomes.old ≡ true → result ≡ WatchedEnd.SourceFault → WentAsSaid executor.old executor.new }
+    ensures not_over { S.steady outcomes.old ≡ true → result ≡ WatchedEnd.SourceFault → S.over outcomes.old ≡ false }
+    ensures said_to_end { S.steady outcomes.old ≡ true → S.over outcomes.new ≡ false → HasGoneToEnd result → WentAsSaid executor.old executor.new }
     ensures agrees { Accords (S.agrees outcomes.old) executor.old → Accords (S.agrees outcomes.new) executor.new }
     ensures fitting { S.careful outcomes.old ≡ true → Accords (S.agrees outcomes.old) executor.old → IsExpected result }
 
     // What the watcher was told.
-    ensures told { Hears (V.names watcher.old) executor.old executor.new (V.told watcher.old) (V.told watcher.new) (heard_at result) }
+    ensures told { Hears (S.whole outcomes.old) (V.names watcher.old) executor.old executor.new (S.rest outcomes.old) (S.rest outcomes.new)
+        (V.told watcher.old) (V.told watcher.new) (heard_at result) }
     ensures names { V.names watcher.new ≡ V.names watcher.old }
     ensures stops { V.stops watcher.old ≤ V.stops watcher.new }
     ensures stopped { result ≡ WatchedEnd.Stopped → Rose (V.stops watcher.old) (V.stops watcher.new) }

@@ -1,6 +1,6 @@
 use Rattle.std.proofs.Common.{arith, Some, ap, refl, sym, ◌∙◌}
 use Rattle.graph_exec.specs.declared.watcher.Heard.TheVariants as heard
-use Rattle.graph_exec.proofs.Carrying.{expected_done, gone_done, gone_further, has_ended_now, no_fault, not_stopped, rose_since, went_nowhere, went_on, went_untold}
+use Rattle.graph_exec.proofs.Carrying.{expected_done, gone_done, gone_further, has_ended_now, no_fault, not_stopped, rose_since, went_nowhere, went_on}
 use Rattle.graph_exec.proofs.Fewer.{asks_most}
 use Rattle.graph_exec.proofs.Promised.{ends_well, promised}
 use Rattle.graph_exec.proofs.Said.{not_yet, said_nothing, said_on}
@@ -33,8 +33,8 @@ returns-in-Stop-clause-promises g c = promised _ c.begin_all.ensures.under_way
 
 pub returns-in-Stop-clause-told : goal.returns-in-Stop-clause-told
 returns-in-Stop-clause-told g c =
-    hears_on _ _ _ _ _ _ _ heard.Stop (went_untold _ _ _ _ _ c.loop-executor.invariant.went) c.loop-executor.invariant.told
-    (rw c.loop-executor.invariant.names at c.in-Stop.ensures.told)
+    hears_on _ _ _ _ _ _ _ _ _ _ _ heard.Stop c.loop-executor.invariant.went c.loop-executor.invariant.told
+    (rw (c.loop-executor.invariant.whole, c.loop-executor.invariant.names) at c.in-Stop.ensures.told)
 
 pub returns-in-Stop-clause-asked : goal.returns-in-Stop-clause-asked
 returns-in-Stop-clause-asked g c =
@@ -45,6 +45,9 @@ returns-in-Stop-clause-asked g c =
 
 pub returns-in-Stop-clause-stopped : goal.returns-in-Stop-clause-stopped
 returns-in-Stop-clause-stopped g c stop = rose_since _ _ _ c.loop-executor.invariant.stops (c.in-Stop.ensures.stopped refl)
+
+pub returns-in-Stop-clause-said_to_end : goal.returns-in-Stop-clause-said_to_end
+returns-in-Stop-clause-said_to_end g c steady open_still end = absurd end
 
 -- nothing is in flight any more
 
@@ -75,12 +78,19 @@ returns-then-count-eq0-clause-asked g c =
 pub returns-then-count-eq0-clause-said : goal.returns-then-count-eq0-clause-said
 returns-then-count-eq0-clause-said g c steady fault = no_fault _ c.end.ensures.done fault
 
+pub returns-then-count-eq0-clause-not_over : goal.returns-then-count-eq0-clause-not_over
+returns-then-count-eq0-clause-not_over g c steady fault = no_fault _ c.end.ensures.done fault
+
+pub returns-then-count-eq0-clause-said_to_end : goal.returns-then-count-eq0-clause-said_to_end
+returns-then-count-eq0-clause-said_to_end g c steady open_still end =
+    said_on _ _ _ (c.loop-executor.invariant.said steady (sym c.begin_all.ensures.over ∙ open_still)) c.begin_all.ensures.said
+
 pub returns-then-count-eq0-clause-fitting : goal.returns-then-count-eq0-clause-fitting
 returns-then-count-eq0-clause-fitting g c careful agrees = expected_done _ c.end.ensures.done
 
 pub returns-then-count-eq0-clause-told : goal.returns-then-count-eq0-clause-told
 returns-then-count-eq0-clause-told g c =
-    hears_done _ _ _ _ _ _ c.end.ensures.done (told_on _ _ _ _ _ _ _ c.loop-executor.invariant.told (rw c.loop-executor.invariant.names at c.in_default.ensures.told))
+    hears_done _ _ _ _ _ _ _ _ _ c.end.ensures.done (told_on _ _ _ _ _ _ _ c.loop-executor.invariant.told (rw c.loop-executor.invariant.names at c.in_default.ensures.told))
 
 pub returns-then-count-eq0-clause-stopped : goal.returns-then-count-eq0-clause-stopped
 returns-then-count-eq0-clause-stopped g c stop = not_stopped _ c.end.ensures.done stop
@@ -116,10 +126,10 @@ returns-in-Some-clause-cause g c fault =
 
 pub returns-in-Some-clause-told : goal.returns-in-Some-clause-told
 returns-in-Some-clause-told g c =
-    hears_on _ _ _ _ _ _ _ _
-    (went_untold _ _ _ _ _ (went_on _ _ _ _ _ _ _ c.loop-executor.invariant.went (rw c.loop-executor.invariant.whole at c.begin_all.ensures.went)))
+    hears_on _ _ _ _ _ _ _ _ _ _ _ _
+    (went_on _ _ _ _ _ _ _ c.loop-executor.invariant.went (rw c.loop-executor.invariant.whole at c.begin_all.ensures.went))
     (told_on _ _ _ _ _ _ _ c.loop-executor.invariant.told (rw c.loop-executor.invariant.names at c.in_default.ensures.told))
-    (rw (c.begin_all.ensures.names, c.loop-executor.invariant.names) at c.in-Some.ensures.told)
+    (rw (c.begin_all.ensures.whole, c.loop-executor.invariant.whole, c.begin_all.ensures.names, c.loop-executor.invariant.names) at c.in-Some.ensures.told)
 
 pub returns-in-Some-clause-stopped : goal.returns-in-Some-clause-stopped
 returns-in-Some-clause-stopped g c stop =
@@ -132,6 +142,13 @@ returns-in-Some-clause-said g c steady fault =
     let begun = c.begin_all.ensures in
     rw (c.in-Some.ensures.failed (begun.steady ∙ c.loop-executor.invariant.steady ∙ steady) (ap Some fault))
     (said_on _ _ _ (c.loop-executor.invariant.said steady (sym begun.over ∙ c.in-Some.ensures.not_over (ap Some fault))) begun.said)
+
+pub returns-in-Some-clause-not_over : goal.returns-in-Some-clause-not_over
+returns-in-Some-clause-not_over g c steady fault =
+    not_yet _ _ (c.loop-executor.invariant.over steady) (sym c.begin_all.ensures.over ∙ c.in-Some.ensures.not_over (ap Some fault))
+
+pub returns-in-Some-clause-said_to_end : goal.returns-in-Some-clause-said_to_end
+returns-in-Some-clause-said_to_end g c steady open_still end = absurd (c.in-Some.ensures.going end)
 
 -- an answer was taken
 

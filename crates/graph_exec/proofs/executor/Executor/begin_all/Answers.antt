@@ -1,6 +1,6 @@
 use Rattle.std.proofs.Common.{arith, Some, ap, refl, ◌∙◌}
 use Rattle.graph_exec.specs.declared.watcher.Heard.TheVariants as heard
-use Rattle.graph_exec.proofs.Carrying.{rose_since, went_nowhere, went_on, went_untold}
+use Rattle.graph_exec.proofs.Carrying.{rose_since, went_nowhere, went_on}
 use Rattle.graph_exec.proofs.Said.{said_nothing, said_on}
 use Rattle.graph_exec.proofs.Told.{hears_on, told_nothing, told_on}
 use Rattle.graph_exec.proofs.executor.Executor.begin_all.Goals as goal
@@ -72,8 +72,8 @@ returns-in-Some-Stop-clause-said g c = said_on _ _ _ c.loop.invariant.said c.beg
 
 pub returns-in-Some-Stop-clause-told : goal.returns-in-Some-Stop-clause-told
 returns-in-Some-Stop-clause-told g c =
-    hears_on _ _ _ _ _ _ _ heard.Stop (went_untold _ _ _ _ _ c.loop.invariant.went) c.loop.invariant.told
-    (rw (c.loop.invariant.names, c.in-Some-Stop.field-0-is) at c.in-Some-Stop.ensures.told)
+    hears_on _ _ _ _ _ _ _ _ _ _ _ heard.Stop c.loop.invariant.went c.loop.invariant.told
+    (rw (c.loop.invariant.whole, c.loop.invariant.names, c.in-Some-Stop.field-0-is) at c.in-Some-Stop.ensures.told)
 
 pub returns-in-Some-Stop-clause-stopped : goal.returns-in-Some-Stop-clause-stopped
 returns-in-Some-Stop-clause-stopped g c stop =

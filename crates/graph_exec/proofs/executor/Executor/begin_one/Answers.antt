@@ -36,4 +36,4 @@ pub returns-clause-told : goal.returns-clause-told
 returns-clause-told g c =
     let graph = rw c.self.view_is at c.flight.ensures.graph in
     let action = begun_action _ _ c.in-Some.number c.in-Some.ensures.begins c.action-action.result (rw (c.graph.ensures ∙ graph) at c.action-action.ensures) in
-    hears_begin _ _ _ c.in-Some.number c.in-Some.ensures.begins _ _ _ (rw action c.begun-2.ensures.tells)
+    hears_begin _ _ _ _ _ _ c.in-Some.number c.in-Some.ensures.begins _ _ _ c.begun.ensures.rest (rw action c.begun-2.ensures.tells)

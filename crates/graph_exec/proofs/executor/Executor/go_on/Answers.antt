@@ -1,5 +1,5 @@
 use Rattle.graph_exec.specs.declared.watcher.Heard.TheVariants as heard
-use Rattle.graph_exec.proofs.Carrying.{advanced, ends_by, gone_by, same_by, went_answered}
+use Rattle.graph_exec.proofs.Carrying.{advanced, ends_by, gone_by, same_by, still_going, went_answered}
 use Rattle.graph_exec.proofs.Told.{hears_answer, hears_none}
 use Rattle.graph_exec.proofs.executor.Executor.go_on.Goals as goal
 
@@ -26,6 +26,9 @@ returns-in-Err-clause-steps g c = gone_by _ _ _ _ _ c.in-Err.end c.in-Err.ensure
 
 pub returns-in-Err-clause-end : goal.returns-in-Err-clause-end
 returns-in-Err-clause-end g c = ends_by _ _ _ _ _ c.in-Err.end c.in-Err.ensures.stops
+
+pub returns-in-Err-clause-going : goal.returns-in-Err-clause-going
+returns-in-Err-clause-going g c = still_going _ _ _ _ _ c.in-Err.end c.in-Err.ensures.stops
 
 pub returns-in-Err-clause-failed : goal.returns-in-Err-clause-failed
 returns-in-Err-clause-failed g c steady fault = same_by _ _ _ _ _ c.in-Err.end c.in-Err.ensures.stops

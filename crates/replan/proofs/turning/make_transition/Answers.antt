@@ -1,0 +1,77 @@
+use Rattle.std.proofs.Common.{ap, refl, sym, ◌∙◌}
+use Rattle.replan.specs.Replays.{setting, sight}
+use Rattle.replan.proofs.Joined.{lacks_memory}
+use Rattle.replan.proofs.Ready.{came_begun, comes_behind, ends_behind, has_plan, same_cluster, same_events, same_promotions, starts_fresh, stops_begun}
+use Rattle.replan.proofs.Whole.{err_then, ok_then}
+use Rattle.replan.proofs.turning.make_transition.Goals as goal
+
+-- no memory is left
+
+pub returns-in_default-clause-ends : goal.returns-in_default-clause-ends
+returns-in_default-clause-ends g c = lacks_memory (setting _ _ _ _ _) _ (sight _ _ _) tt
+
+-- the watcher stops at the plan
+
+pub returns-in-Stop-clause-ends : goal.returns-in-Stop-clause-ends
+returns-in-Stop-clause-ends g c =
+    stops_begun c.args.journal c.in-Ok.planned c.in-Ok.ensures _ _ _ _ _ _ _ _ c.requires.names c.in-Stop.ensures.tells _ c.into_journal.ensures
+
+-- the transition is carried out
+
+pub carry_out-requires-clause-fresh : goal.carry_out-requires-clause-fresh
+carry_out-requires-clause-fresh g c = starts_fresh c.args.journal c.in-Ok.planned c.in-Ok.ensures
+
+pub carry_out-requires-clause-planned : goal.carry_out-requires-clause-planned
+carry_out-requires-clause-planned g c = has_plan c.args.journal c.in-Ok.planned c.in-Ok.ensures
+
+pub carry_out-requires-clause-names : goal.carry_out-requires-clause-names
+carry_out-requires-clause-names g c =
+    rw (same_cluster c.args.journal c.in-Ok.planned c.in-Ok.ensures, c.planned.ensures.names) c.requires.names
+
+pub returns-in-Err-clause-ends : goal.returns-in-Err-clause-ends
+returns-in-Err-clause-ends g c =
+    let j = c.args.journal in
+    let p = c.in-Ok.planned in
+    let ready = c.in-Ok.ensures in
+    let begun = came_begun j p ready _ _ _ _ _ _ _ _ c.requires.names c.in_default-planned.ensures.tells in
+    ends_behind _ _ _ _ _ _ _ _ _ begun _ _ (same_cluster j p ready) (same_promotions j p ready) _ _ (λ steady h. h) (rw c.planned.ensures.names at c.in-Err.ensures.ends)
+
+-- it was aborted
+
+pub returns-then-not-closed-clause-goes_on : goal.returns-then-not-closed-clause-goes_on
+returns-then-not-closed-clause-goes_on g c =
+    let j = c.args.journal in
+    let p = c.in-Ok.planned in
+    let ready = c.in-Ok.ensures in
+    let begun = came_begun j p ready _ _ _ _ _ _ _ _ c.requires.names c.in_default-planned.ensures.tells in
+    comes_behind _ _ _ _ _ _ _ _ _ begun _ _ (same_cluster j p ready) (same_promotions j p ready) _ _ _ c.in-Ok-carry_out.ensures.over
+    (rw (c.planned.ensures.names, c.if-not-closed.true) at c.in-Ok-carry_out.ensures.closes)
+
+-- it is complete
+
+pub take_idle-requires : goal.take_idle-requires
+take_idle-requires g c = record { resting = c.in-Ok-carry_out.ensures.at_rest.1 }
+
+pub returns-clause-goes_on : goal.returns-clause-goes_on
+returns-clause-goes_on g c =
+    let j = c.args.journal in
+    let p = c.in-Ok.planned in
+    let ready = c.in-Ok.ensures in
+    let begun = came_begun j p ready _ _ _ _ _ _ _ _ c.requires.names c.in_default-planned.ensures.tells in
+    let closed = comes_behind _ _ _ _ _ _ _ _ _ begun _ _ (same_cluster j p ready) (same_promotions j p ready) _ _ _ c.in-Ok-carry_out.ensures.over
+    (rw (c.planned.ensures.names, c.if-not-closed.false) at c.in-Ok-carry_out.ensures.closes) in
+    ok_then c.take_idle.result
+    (λ later w. comes_behind _ _ _ _ _ _ _ _ _ closed.came _ _ closed.cluster_stays closed.promotions_stay _ _ _ (λ steady h. c.take_idle.ensures.over (c.in-Ok-carry_out.ensures.steady ∙ steady) h)
+    (rw (c.in-Ok-carry_out.ensures.whole, c.in-Ok-carry_out.ensures.steady, c.in-Ok-carry_out.ensures.names, c.planned.ensures.names) at w)) c.take_idle.ensures.goes_on
+
+pub returns-clause-ends : goal.returns-clause-ends
+returns-clause-ends g c =
+    let j = c.args.journal in
+    let p = c.in-Ok.planned in
+    let ready = c.in-Ok.ensures in
+    let begun = came_begun j p ready _ _ _ _ _ _ _ _ c.requires.names c.in_default-planned.ensures.tells in
+    let closed = comes_behind _ _ _ _ _ _ _ _ _ begun _ _ (same_cluster j p ready) (same_promotions j p ready) _ _ _ c.in-Ok-carry_out.ensures.over
+    (rw (c.planned.ensures.names, c.if-not-closed.false) at c.in-Ok-carry_out.ensures.closes) in
+    err_then c.take_idle.result
+    (λ end w. ends_behind _ _ _ _ _ _ _ _ _ closed.came _ _ closed.cluster_stays closed.promotions_stay _ end c.in-Ok-carry_out.ensures.over
+    (rw (c.in-Ok-carry_out.ensures.whole, c.in-Ok-carry_out.ensures.steady, c.in-Ok-carry_out.ensures.names, c.planned.ensures.names) at w)) c.take_idle.ensures.ends

@@ -1,0 +1,20 @@
+//! Why a run ends before all is done.
+
+use cluster_types::{Answer, Journal};
+
+/// Why a run ended before all was done. Each but the last hands back the journal so far.
+#[derive(Drop)]
+pub enum ReplayStop {
+    /// This answer came where one was asked for, and doesn't apply.
+    Unexpected(Journal, Answer),
+    /// The source failed where an answer was asked for.
+    SourceFault(Journal),
+    /// The watcher stopped it.
+    Stopped(Journal),
+    /// As many transitions as were allowed were made, and another is due.
+    Most(Journal),
+    NoMemory,
+}
+
+/// How a run ended: with all done, or before.
+pub(crate) type Ended = Result<Journal, ReplayStop>;

@@ -1,0 +1,70 @@
+//! One transition of a run, from its plan to where the next is due.
+
+ghost use Rattle.std.specs.Prelude.{◌≡◌, ◌≤◌, ◌+◌, true, IfOk, IfErr};
+ghost use Rattle.cluster_types.specs.Runs.{due};
+ghost use Rattle.cluster_types.specs.Safety.{IsAtRest};
+ghost use Rattle.cluster_types.specs.Valid.{IsValid};
+ghost use Rattle.replan.specs.Replays.{AgreesWith, HasCause, IsExpected, OfJournal, WritesNamesOf, setting, sight};
+ghost use Rattle.replan.specs.Turns.{CameTo, EndsAs};
+
+use crate::carrying::carry_out;
+use crate::idling::take_idle;
+use crate::planning::plan_next;
+use crate::stop::{Ended, ReplayStop};
+use graph_exec::{Heard, KnownJournal, Outcomes, Watcher};
+use std::alloc::Global;
+
+/// Makes the transition of this number in the run: plans it, carries it out, and, where it is complete, takes the answer
+/// that comes then. Gives the journal for which the next is due, or says how the run ends.
+pub(crate) fn make_transition<'c, S: Outcomes, V: Watcher>(
+    alloc: Global,
+    journal: KnownJournal<'c>,
+    outcomes: &mut S,
+    watcher: &mut V,
+    number: u32,
+) -> Result<KnownJournal<'c>, Ended>
+    requires valid { IsValid journal.cluster }
+    requires at_rest { IsAtRest journal.events }
+    requires names { WritesNamesOf journal.cluster (V.names watcher.old) }
+    ensures goes_on { IfOk result (CameTo
+        (setting journal.entry.cluster journal.entry.promotions (S.whole outcomes.old) (S.steady outcomes.old) (V.names watcher.old))
+        (due number journal.entry.events)
+        (sight (S.rest outcomes.old) (S.over outcomes.old) (V.told watcher.old))
+        (sight (S.rest outcomes.new) (S.over outcomes.new) (V.told watcher.new))
+        (due (number + 1))) }
+    ensures ends { IfErr result (EndsAs
+        (setting journal.entry.cluster journal.entry.promotions (S.whole outcomes.old) (S.steady outcomes.old) (V.names watcher.old))
+        (due number journal.entry.events)
+        (sight (S.rest outcomes.old) (S.over outcomes.old) (V.told watcher.old))
+        (sight (S.rest outcomes.new) (S.over outcomes.new) (V.told watcher.new))) }
+    ensures cause { IfErr result (HasCause (S.faults outcomes.old) (S.faults outcomes.new) (V.stops watcher.old) (V.stops watcher.new)) }
+
+    ensures agrees { S.agrees outcomes.old journal.entry.cluster journal.entry.events 0
+        → IfOk result (λ later. S.agrees outcomes.new journal.entry.cluster later.events 0) }
+    ensures agrees_at_end { S.agrees outcomes.old journal.entry.cluster journal.entry.events 0
+        → IfErr result (OfJournal (AgreesWith (S.agrees outcomes.new) journal.entry.cluster)) }
+    ensures fitting { S.careful outcomes.old ≡ true → S.agrees outcomes.old journal.entry.cluster journal.entry.events 0 → IfErr result IsExpected }
+
+    ensures whole { S.whole outcomes.new ≡ S.whole outcomes.old }
+    ensures count { S.faults outcomes.old ≤ S.faults outcomes.new }
+    ensures careful { S.careful outcomes.new ≡ S.careful outcomes.old }
+    ensures steady { S.steady outcomes.new ≡ S.steady outcomes.old }
+    ensures over { S.steady outcomes.old ≡ true → S.over outcomes.old ≡ true → S.over outcomes.new ≡ true }
+    ensures names { V.names watcher.new ≡ V.names watcher.old }
+    ensures stops { V.stops watcher.old ≤ V.stops watcher.new }
+{
+    let Ok(planned) = plan_next(alloc, journal) else {
+        return Err(Err(ReplayStop::NoMemory));
+    };
+    if let Heard::Stop = watcher.planned(number, &planned.placed) {
+        return Err(Err(ReplayStop::Stopped(planned.executor.into_journal())));
+    }
+    let closed = match carry_out(planned.executor, outcomes, watcher, number) {
+        Ok(closed) => closed,
+        Err(ended) => return Err(ended),
+    };
+    if !closed.complete {
+        return Ok(closed.journal);
+    }
+    take_idle(alloc, closed.journal, outcomes, watcher, number)
+}
