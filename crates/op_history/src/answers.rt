@@ -164,7 +164,8 @@ fn answer_as<W: Words>(
     }
 }
 
-/// The answer that the words of a line give, at a moment.
+/// The answer that the words of a result line give, which is taken at a moment in seconds, or the cause of its leftmost
+/// faulty word. The lines are those of `read_result`.
 #[tactic(auto, unfolding(crate::specs::Results::answer_of))]
 pub fn answer_of<W: Words>(cluster: &Cluster, moment: u64, words: &W) -> Result<Answer, WordCause>
     requires limits { KeepsLimits cluster.now }

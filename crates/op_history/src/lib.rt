@@ -22,8 +22,10 @@ mod told_lines;
 // What follows from the definitions.
 mod laws;
 
+pub use answers::answer_of;
 pub use fault::{ResultCause, ResultFault, StatusCause, StatusFault};
 pub use laws::first_journals_are_at_rest;
 pub use recovery::{Recovery, class_of};
 pub use results::{ResultLine, read_result, read_results};
 pub use status::read_status;
+pub use status_lines::role_of;

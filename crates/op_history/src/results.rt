@@ -6,7 +6,7 @@ ghost use Rattle.cluster_types.specs.Journals as journals;
 ghost use Rattle.cluster_types.specs.Valid.{KeepsLimits};
 ghost use Rattle.faults.specs.declared.fault.Fault.TheVariants as found;
 ghost use Rattle.faults.specs.Reading.{Gives};
-ghost use Rattle.op_history.specs.Results.{result_of, results_of, seconds_in};
+ghost use Rattle.op_history.specs.Results.{most_results, result_of, results_of, seconds_in};
 
 use crate::answers::answer_of;
 use crate::{ResultCause, ResultFault};
@@ -67,6 +67,7 @@ fn result_of<W: Words>(
     requires limits { KeepsLimits cluster.now }
     requires moment { moment < 2 ^ 40 }
     ensures value { result ≡ result_of cluster.now moment before line (W.words words.now) }
+    ensures few { IfOk result (λ _. before < most_results) }
     ensures within { IfOk result (λ answer. moment + seconds_in answer < 2 ^ 40) }
     ensures no_memory { IfErr result (λ fault. fault ≢ found.NoMemory) }
 {
@@ -104,6 +105,8 @@ pub fn read_result(
     requires moment { moment < 2 ^ 40 }
     ensures answer { result ≡ result_of cluster.now moment before line words.now.first }
     ensures whole { (all : List (List ℕ)) → words.now ≡ kept all → result ≡ result_of cluster.now moment before line all }
+    ensures few { IfOk result (λ _. before < most_results) }
+    ensures within { IfOk result (λ answer. moment + seconds_in answer < 2 ^ 40) }
     ensures no_memory { IfErr result (λ fault. fault ≢ found.NoMemory) }
 {
     result_of(cluster, moment, before as usize, line, words)

@@ -214,8 +214,8 @@ fn role_in(monitors: &[Monitor], interval_ms: u32) -> Role
     Role::Started
 }
 
-/// The role of the leaf's monitor of this interval.
-fn role_of(cluster: &Cluster, leaf: LeafId, interval_ms: u32) -> Role
+/// The role of the leaf's recurring monitor of this interval, in milliseconds: `Started` where it has none.
+pub fn role_of(cluster: &Cluster, leaf: LeafId, interval_ms: u32) -> Role
     ensures { result ≡ role_of_interval (monitors cluster.now leaf) interval_ms }
 {
     role_in(cluster.monitors(leaf), interval_ms)

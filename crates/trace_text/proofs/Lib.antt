@@ -1,1 +1,3 @@
 pub mod MoreLines
+pub mod ShortNames
+pub mod EventLines

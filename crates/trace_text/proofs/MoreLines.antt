@@ -79,3 +79,50 @@ module _ (old one two three four five six first second third fourth fifth last :
       → six ≡ old ++ (first ++ second ++ third ++ fourth ++ fifth ++ last)
   six_more a b d e f g =
       g ∙ ap (λ t. t ++ last) (f ∙ ap (λ t. t ++ fifth) (e ∙ ap (λ t. t ++ fourth) (d ∙ ap (λ t. t ++ third) (b ∙ ap (λ t. t ++ second) a)))) ∙ simp append_assoc
+
+-- the text of a word and a place, which is two names with a text between them
+pub placed_more : (old one two word first between last : List ℕ) → one ≡ old ++ (word ++ first) → two ≡ one ++ (between ++ last)
+    → two ≡ old ++ (word ++ (first ++ between ++ last))
+placed_more old one two word first between last is more = more ∙ (ap (λ t. t ++ (between ++ last)) is ∙ simp append_assoc)
+
+-- the text of two words, and of one more and one more
+pub three_more : (old one two three first second third last : List ℕ) → one ≡ old ++ (first ++ second) → two ≡ one ++ third → three ≡ two ++ last
+    → three ≡ old ++ (first ++ second ++ third ++ last)
+three_more old one two three first second third last a b d =
+    d ∙ (ap (λ t. t ++ last) (b ∙ ap (λ t. t ++ third) a) ∙ simp append_assoc)
+
+-- the text of eight words, two by two
+module _ (old one two three four first second third fourth fifth sixth seventh last : List ℕ) where
+  pub eight_more : one ≡ old ++ (first ++ second) → two ≡ one ++ (third ++ fourth) → three ≡ two ++ (fifth ++ sixth) → four ≡ three ++ (seventh ++ last)
+      → four ≡ old ++ (first ++ second ++ third ++ fourth ++ fifth ++ sixth ++ seventh ++ last)
+  eight_more a b d e =
+      e ∙ ap (λ t. t ++ (seventh ++ last)) (d ∙ ap (λ t. t ++ (fifth ++ sixth)) (b ∙ ap (λ t. t ++ (third ++ fourth)) a)) ∙ simp append_assoc
+
+-- the text of words, and of what ends their line
+pub ended : (old new words end : List ℕ) → new ≡ old ++ words → new ++ end ≡ old ++ (words ++ end)
+ended old new words end is = ap (λ t. t ++ end) is ∙ append_assoc old words end
+
+-- the text of a first line, and of three lists of lines
+pub lines_of_passed : {Y : Type 0} (text : Y → List ℕ) (first : Y) (goals events ends : List Y) (old one two three four : List ℕ)
+    → one ≡ old ++ text first → two ≡ one ++ flat_map text goals → three ≡ two ++ flat_map text events → four ≡ three ++ flat_map text ends
+    → four ≡ old ++ flat_map text (first ∷ goals ++ events ++ ends)
+lines_of_passed text first goals events ends old one two three four a b d e =
+    let all = lines_of_three text (first ∷ goals) events ends in
+    let apart : old ++ text first ++ flat_map text goals ++ flat_map text events ++ flat_map text ends
+    ≡ old ++ (text first ++ flat_map text goals ++ flat_map text events ++ flat_map text ends) = simp append_assoc in
+    e ∙ ap (λ t. t ++ flat_map text ends) (d ∙ ap (λ t. t ++ flat_map text events) (b ∙ ap (λ t. t ++ flat_map text goals) a))
+    ∙ apart ∙ ap (λ t. old ++ t) (sym all)
+
+-- where some lines are written, and the rest of all lines is still to come
+pub lines_to_come : {Y : Type 0} (text : Y → List ℕ) (now rest all : List Y) (before after : List ℕ) → after ≡ before ++ flat_map text now
+    → all ≡ now ++ rest → after ++ flat_map text rest ≡ before ++ flat_map text all
+lines_to_come text now rest all before after is whole =
+    ap (λ t. t ++ flat_map text rest) is ∙ append_assoc before (flat_map text now) (flat_map text rest)
+    ∙ ap (λ t. before ++ t) (sym (flat_map-append text now rest)) ∙ ap (λ ys. before ++ flat_map text ys) (sym whole)
+
+-- the text of two lists of lines
+pub lines_of_two : {Y : Type 0} (text : Y → List ℕ) (first second : List Y) (old one two : List ℕ) → one ≡ old ++ flat_map text first
+    → two ≡ one ++ flat_map text second → two ≡ old ++ flat_map text (first ++ second)
+lines_of_two text first second old one two a b =
+    b ∙ ap (λ t. t ++ flat_map text second) a ∙ append_assoc old (flat_map text first) (flat_map text second)
+    ∙ ap (λ t. old ++ t) (sym (flat_map-append text first second))

@@ -1,6 +1,6 @@
 //! Actions.
 
-ghost use Rattle.std.specs.Prelude.{◌≡◌, ◌++◌, codes, decimal, OnOk};
+ghost use Rattle.std.specs.Prelude.{◌≡◌, ◌≤◌, ◌++◌, codes, decimal, length, OnOk};
 ghost use Rattle.cluster_types.specs.Texts as texts;
 
 use crate::names::{node_name, push_leaf_on};
@@ -8,8 +8,10 @@ use crate::numbers::push_number;
 use cluster_types::{Action, Cluster, LeafId, NodeId, Op};
 use faults::NoMemory;
 
-fn op_word(op: Op) -> &'static [u8]
-    ensures { result.now ≡ texts.op_word op }
+/// The word of an operation, with a space behind it.
+pub(crate) fn op_word(op: Op) -> &'static [u8]
+    ensures word { result.now ≡ texts.op_word op }
+    ensures short { length result.now ≤ 8 }
 {
     match op {
         Op::Start => b"start ",

@@ -1,4 +1,4 @@
-//! The printed lines of what is decided, of graphs and of what the loss of a node does, and later of runs.
+//! The printed lines of what is decided, of graphs, of runs, and of what the loss of a node does.
 #![tactic(auto)]
 
 // Words that many lines have.
@@ -12,7 +12,20 @@ mod loss_lines;
 mod score_lines;
 mod target_lines;
 
+// The lines of a run: one by one without memory, and all in a text.
+mod line_buf;
+mod run_line_ref;
+mod run_lines;
+mod runs;
+
+// What follows from the definitions.
+mod laws;
+
 pub use graph_lines::graph_text;
+pub use laws::{reasons_with_names_are_named, valid_clusters_have_short_names};
 pub use loss_lines::survive_text;
 pub use numbers::push_number;
+pub use run_line_ref::RunLineRef;
+pub use run_lines::write_line;
+pub use runs::run_text;
 pub use score_lines::score_text;

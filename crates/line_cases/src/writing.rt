@@ -1,0 +1,253 @@
+//! What is written of runs.
+
+ghost use Rattle.cluster_types.specs.Valid.{IsValid, KeepsLimits};
+ghost use Rattle.trace_text.specs.RunLines.{HasName, HasShortNames, IsNamed};
+
+use crate::plain::{CONFIGURATION, cluster_of};
+use cluster_types::{
+    Action, Answer, Cluster, Event, Journal, LeafId, NoReason, NodeId, Op, Outcome, Passed,
+    PassedEnd, Pin, Role, Run, Table, Target,
+};
+use crm_lex::Name;
+use listed::Listed;
+use std::alloc::Global;
+use std::test::Fail;
+use trace_text::{RunLineRef, run_text, valid_clusters_have_short_names, write_line};
+
+/// Adds a line to a text.
+fn add(text: &mut Vec<u8>, cluster: &Cluster, line: &RunLineRef<'_>) -> Result<(), Fail>
+    requires names { HasShortNames cluster.now }
+    requires reason { HasName line.now }
+{
+    let mut buf = [0; 1024];
+    let length = write_line(cluster, line, &mut buf);
+    text.extend_from_slice(&buf[..length])?;
+    Ok(())
+}
+
+fn add_targets(text: &mut Vec<u8>, cluster: &Cluster) -> Result<(), Fail>
+    requires { HasShortNames cluster.now }
+{
+    add(text, cluster, &RunLineRef::Transition(1))?;
+    add(text, cluster, &RunLineRef::Pinned(0, Pin::Unmanaged))?;
+    add(text, cluster, &RunLineRef::Pinned(1, Pin::Blocked))?;
+    add(text, cluster, &RunLineRef::Goal(0, 1, Target::Started))?;
+    add(text, cluster, &RunLineRef::Goal(1, 0, Target::Promoted))
+}
+
+fn add_reason(text: &mut Vec<u8>, cluster: &Cluster, reason: &NoReason) -> Result<(), Fail>
+    requires names { HasShortNames cluster.now }
+    requires named { IsNamed reason.now }
+{
+    add(text, cluster, &RunLineRef::Lacking(0, reason))
+}
+
+fn add_reasons(text: &mut Vec<u8>, cluster: &Cluster, alloc: Global) -> Result<(), Fail>
+    requires { HasShortNames cluster.now }
+{
+    add_reason(text, cluster, &NoReason::NoCopies)?;
+    add_reason(text, cluster, &NoReason::Stopped)?;
+    add_reason(text, cluster, &NoReason::OnFail)?;
+    add_reason(text, cluster, &NoReason::StopAll)?;
+    add_reason(text, cluster, &NoReason::NoQuorum)?;
+    add_reason(text, cluster, &NoReason::NoNode)?;
+    let Ok(id) = Name::from_bytes(alloc, b"o") else {
+        return Err(Fail::from("no memory"));
+    };
+    let held = NoReason::Held(id);
+    add_reason(text, cluster, &held)
+}
+
+/// An operation of the first leaf on a node.
+fn step(op: Op, node: NodeId, interval_ms: u32) -> Action {
+    Action::Cell {
+        op,
+        leaf: 0,
+        node,
+        interval_ms,
+        role: Role::Started,
+    }
+}
+
+fn add_begins(text: &mut Vec<u8>, cluster: &Cluster) -> Result<(), Fail>
+    requires { HasShortNames cluster.now }
+{
+    for (number, action) in [
+        (1, Action::Fence { node: 1 }),
+        (4_294_967_295, Action::Probe { leaf: 0, node: 0 }),
+        (3, step(Op::Start, 0, 0)),
+        (4, step(Op::Stop, 1, 0)),
+        (5, step(Op::Promote, 0, 0)),
+        (6, step(Op::Demote, 1, 0)),
+        (7, step(Op::Monitor, 0, 10_000)),
+        (
+            8,
+            Action::MigrateTo {
+                leaf: 0,
+                source: 0,
+                target: 1,
+            },
+        ),
+        (
+            9,
+            Action::MigrateFrom {
+                leaf: 0,
+                source: 0,
+                target: 1,
+            },
+        ),
+    ] {
+        add(text, cluster, &RunLineRef::Begin(number, action))?;
+    }
+    Ok(())
+}
+
+fn add_answers(text: &mut Vec<u8>, cluster: &Cluster) -> Result<(), Fail>
+    requires { HasShortNames cluster.now }
+{
+    for answer in [
+        Answer::End { number: 1, code: 0 },
+        Answer::End {
+            number: 2,
+            code: 255,
+        },
+        Answer::Timeout { number: 3 },
+        Answer::Lost { node: 0 },
+        Answer::Up { node: 1 },
+        Answer::Quorum { yes: true },
+        Answer::Quorum { yes: false },
+        Answer::Wait {
+            seconds: 1_099_511_627_775,
+        },
+        Answer::Report {
+            node: 1,
+            leaf: 0,
+            interval_ms: 10_000,
+            code: 7,
+        },
+    ] {
+        add(text, cluster, &RunLineRef::Taken(answer))?;
+    }
+    add(text, cluster, &RunLineRef::Complete(1))?;
+    add(text, cluster, &RunLineRef::Aborted(2))?;
+    add(text, cluster, &RunLineRef::Unexpected(13))
+}
+
+/// What is written below.
+const LINES: &[u8] =
+    b"transition 1\npinned vip unmanaged\npinned db blocked\ntarget vip n2 started\n\
+    target db n1 promoted\nnone vip NoCopies\nnone vip Stopped\nnone vip OnFail\nnone vip StopAll\n\
+    none vip NoQuorum\nnone vip NoNode\nnone vip Held o\nbegin 1 fence n2\nbegin 4294967295 probe vip n1\n\
+    begin 3 start vip n1\nbegin 4 stop vip n2\nbegin 5 promote vip n1\nbegin 6 demote vip n2\n\
+    begin 7 monitor vip n1 10000\nbegin 8 migrate_to vip n1 n2\nbegin 9 migrate_from vip n1 n2\n\
+    end 1 0\nend 2 255\ntimeout 3\nlost n1\nup n2\nquorum yes\nquorum no\nwait 1099511627775\n\
+    report n2 vip 10000 7\ncomplete 1\naborted 2\nunexpected 13\n";
+
+#[test]
+fn each_line_is_written(rt: HostRuntime) -> Result<(), Fail> {
+    let alloc = rt.alloc();
+    let cluster = cluster_of(&rt, alloc, CONFIGURATION)?;
+    valid_clusters_have_short_names();
+    let mut text = Vec::new(alloc);
+    add_targets(&mut text, &cluster)?;
+    add_reasons(&mut text, &cluster, alloc)?;
+    add_begins(&mut text, &cluster)?;
+    add_answers(&mut text, &cluster)?;
+    assert!(rt; text.as_slice() == LINES);
+    Ok(())
+}
+
+/// Two nodes and a resource.
+const SMALL: &str = "node n1\nnode n2\nprimitive vip IPaddr2\n";
+
+fn ended(number: u32, action: Action, code: u8) -> Event {
+    Event::Ended {
+        number,
+        action,
+        outcome: Outcome::Code(code),
+        moment: 1000,
+    }
+}
+
+/// The node n2 joins while n1 is probed, and then the resource is started there. The first event is of the status.
+fn events(alloc: Global) -> Result<Listed<Event>, Fail> {
+    let mut events = Listed::new(alloc);
+    let first = Action::Probe { leaf: 0, node: 0 };
+    let second = Action::Probe { leaf: 0, node: 1 };
+    let start = step(Op::Start, 0, 0);
+    for event in [
+        Event::Up { node: 0 },
+        Event::Begin {
+            number: 1,
+            action: first,
+        },
+        Event::Up { node: 1 },
+        ended(1, first, 7),
+        Event::Wait { seconds: 5 },
+        Event::Begin {
+            number: 1,
+            action: second,
+        },
+        ended(1, second, 7),
+        Event::Begin {
+            number: 2,
+            action: start,
+        },
+        ended(2, start, 0),
+        Event::Quorum { yes: false },
+    ] {
+        events.push(event)?;
+    }
+    Ok(events)
+}
+
+/// A transition with a target on the first node.
+fn passed(alloc: Global, begins_at: u32, ends_at: u32, end: PassedEnd) -> Result<Passed, Fail> {
+    let mut pins = Listed::new(alloc);
+    pins.push(None)?;
+    let mut none = Listed::new(alloc);
+    none.push(None)?;
+    let mut targets = Listed::new(alloc);
+    targets.push(Target::Started)?;
+    targets.push(Target::Nowhere)?;
+    Ok(Passed {
+        pins,
+        table: Table { nodes: 2, targets },
+        none,
+        begins_at,
+        ends_at,
+        end,
+    })
+}
+
+fn run_of(alloc: Global) -> Result<Run, Fail> {
+    let mut transitions = Listed::new(alloc);
+    transitions.push(passed(alloc, 1, 4, PassedEnd::Aborted)?)?;
+    transitions.push(passed(alloc, 5, 9, PassedEnd::Complete)?)?;
+    Ok(Run {
+        passed: transitions,
+        journal: Journal {
+            events: events(alloc)?,
+            promotions: Listed::new(alloc),
+        },
+    })
+}
+
+/// What is written of it.
+const RUN: &[u8] =
+    b"transition 1\ntarget vip n1 started\nbegin 1 probe vip n1\nup n2\nend 1 7\naborted 1\nwait 5\n\
+    transition 2\ntarget vip n1 started\nbegin 1 probe vip n2\nend 1 7\nbegin 2 start vip n1\nend 2 0\ncomplete 2\nquorum no\n";
+
+#[test]
+fn a_run_is_written(rt: HostRuntime) -> Result<(), Fail> {
+    let alloc = rt.alloc();
+    let cluster = cluster_of(&rt, alloc, SMALL)?;
+    valid_clusters_have_short_names();
+    let run = run_of(alloc)?;
+    assert!(rt; run.passed.len() < 4_294_967_295);
+    match run_text(alloc, &cluster, &run) {
+        Ok(text) => assert!(rt; text.as_slice() == RUN),
+        Err(_) => return Err(Fail::from("no memory")),
+    }
+    Ok(())
+}

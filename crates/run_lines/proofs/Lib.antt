@@ -1,0 +1,5 @@
+pub mod Names
+pub mod Numbers
+pub mod WordsOfLines
+pub mod LinesAgain
+pub mod TextAgain

@@ -1,0 +1,4 @@
+pub mod LineWords
+pub mod Reading
+pub mod Said
+pub mod Written
