@@ -1,0 +1,162 @@
+//! What each question brings.
+
+use crate::starts::{TWO, start_of};
+use cluster_io::{LineReader, MemorySource};
+use cluster_types::Answer;
+use crm_lex::LexCause;
+use graph_exec::Next;
+use live_lines::{LineCause, LineOutcomes, LineStop};
+use op_history::ResultCause;
+use std::test::Fail;
+
+/// What a question brings, the line of the last answer then, and why it failed the last time.
+type Asked = (Next, u32, Option<LineStop>);
+
+/// Result lines of which the first is taken at the moment 1,000, how many bytes they may have, which reads of 8 bytes fail,
+/// and what each question brings.
+type Row = (&'static str, usize, &'static [u32], &'static [Asked]);
+
+const END_1: Next = Next::Answer(Answer::End { number: 1, code: 7 });
+
+const END_2: Next = Next::Answer(Answer::End { number: 2, code: 0 });
+
+const ROWS: [Row; 8] = [
+    // Comments and lines without words are passed over; the last line has no line feed.
+    (
+        "# first\n\nend 1 7\n \t\n  # note \\\nend 2 \\\n 0",
+        1000,
+        &[],
+        &[
+            (END_1, 3, None),
+            (END_2, 6, None),
+            (Next::Silent, 6, None),
+            (Next::Silent, 6, None),
+        ],
+    ),
+    // A refused line stays refused, and no answer behind it is read.
+    (
+        "end 1 7\n\nend 2 x\nend 2 0\n",
+        1000,
+        &[],
+        &[
+            (END_1, 1, None),
+            (
+                Next::Failed,
+                1,
+                Some(LineStop::Refused {
+                    line: 3,
+                    cause: LineCause::Form(ResultCause::BadValue),
+                }),
+            ),
+            (
+                Next::Failed,
+                1,
+                Some(LineStop::Refused {
+                    line: 3,
+                    cause: LineCause::Form(ResultCause::BadValue),
+                }),
+            ),
+        ],
+    ),
+    (
+        "end 1 \"7\n",
+        1000,
+        &[],
+        &[(
+            Next::Failed,
+            0,
+            Some(LineStop::Refused {
+                line: 1,
+                cause: LineCause::Words(LexCause::OpenQuote),
+            }),
+        )],
+    ),
+    (
+        "end 1 7\n%results\n",
+        1000,
+        &[],
+        &[
+            (END_1, 1, None),
+            (
+                Next::Failed,
+                1,
+                Some(LineStop::Refused {
+                    line: 2,
+                    cause: LineCause::Form(ResultCause::UnknownStatement),
+                }),
+            ),
+        ],
+    ),
+    // A wait lets the moment of the next line grow.
+    (
+        "wait 1099511626775\nwait 1\n",
+        1000,
+        &[],
+        &[
+            (
+                Next::Answer(Answer::Wait {
+                    seconds: 1_099_511_626_775,
+                }),
+                1,
+                None,
+            ),
+            (
+                Next::Failed,
+                1,
+                Some(LineStop::Refused {
+                    line: 2,
+                    cause: LineCause::Form(ResultCause::BadValue),
+                }),
+            ),
+        ],
+    ),
+    // The second line goes past the limit.
+    (
+        "end 1 7\nend 2 0\n",
+        12,
+        &[],
+        &[
+            (END_1, 1, None),
+            (Next::Failed, 1, Some(LineStop::TooLarge)),
+            (Next::Failed, 1, Some(LineStop::TooLarge)),
+        ],
+    ),
+    // After a failed read the next question goes on.
+    (
+        "end 1 7\nend 2 0\n",
+        1000,
+        &[2],
+        &[
+            (END_1, 1, None),
+            (Next::Failed, 1, Some(LineStop::ReadFault)),
+            (END_2, 2, Some(LineStop::ReadFault)),
+            (Next::Silent, 2, Some(LineStop::ReadFault)),
+        ],
+    ),
+    ("", 0, &[], &[(Next::Silent, 0, None)]),
+];
+
+#[test]
+#[tactic(auto, using(live_lines::proofs::Readers::fresh_reader))]
+fn each_question_brings_the_next_answer(rt: HostRuntime) -> Result<(), Fail> {
+    let alloc = rt.alloc();
+    for row in &ROWS {
+        let (text, limit, fails, expected) = *row;
+        assert!(rt; limit < 4_294_967_296);
+        let (cluster, _journal) = start_of(&rt, alloc, TWO)?;
+        let mut source = MemorySource::new(text.as_bytes().to_vec(alloc)?, 8, fails.to_vec(alloc)?);
+        let Ok(reader) = LineReader::new(alloc, &mut source, limit, 1_048_576) else {
+            return Err(Fail::from("no memory for the reader"));
+        };
+        let Ok(mut outcomes) = LineOutcomes::new(alloc, &cluster, 1000, reader) else {
+            return Err(Fail::from("no memory for the outcomes"));
+        };
+        for asked in expected {
+            let (next, line, stop) = *asked;
+            assert!(rt; outcomes.ask() == next);
+            assert!(rt; outcomes.line() == line);
+            assert!(rt; outcomes.stop() == stop);
+        }
+    }
+    Ok(())
+}

@@ -1,0 +1,43 @@
+use Rattle.std.proofs.Common.{arith}
+use Rattle.live_lines.proofs.HeadBringing.{end_brings, fault_brings, keeps, line_brings, line_can, line_keeps, long_number, next_stays, too_large_brings, too_long_brings, while_well}
+use Rattle.live_lines.proofs.Bringing.{fewer_left, next_is, number_is, numbers_fit}
+use Rattle.live_lines.proofs.head.step.Goals as goal
+
+-- a line is handed out
+
+pub take_line-requires-clause-numbers : goal.take_line-requires-clause-numbers
+take_line-requires-clause-numbers g c =
+    let a = c.in-Line.ensures.answered c.requires.can.going in
+    let number = number_is _ _ _ _ a in
+    let fits = numbers_fit _ _ _ _ a c.requires.can.numbered in
+    omega (arith, number, fits)
+
+pub returns-in-Line-clause-brings : goal.returns-in-Line-clause-brings
+returns-in-Line-clause-brings g c memory =
+    rw (c.take_line.ensures.text memory)
+    (line_brings c.take_line.result c.args.head.now.text.items _ _ _ _ (c.in-Line.ensures.answered c.requires.can.going)
+    (λ others. rw (← number_is _ _ _ _ (c.in-Line.ensures.answered c.requires.can.going)) (c.take_line.ensures.says memory _ _ others)) memory)
+
+pub returns-in-Line-clause-keeps : goal.returns-in-Line-clause-keeps
+returns-in-Line-clause-keeps g c memory =
+    rw (c.take_line.ensures.text memory) (line_keeps c.args.head.now.text.items _ _ _ _ (c.in-Line.ensures.answered c.requires.can.going))
+
+pub returns-in-Line-clause-fewer : goal.returns-in-Line-clause-fewer
+returns-in-Line-clause-fewer g c none = fewer_left _ _ _ _ (c.in-Line.ensures.answered c.requires.can.going)
+
+pub returns-in-Line-clause-can : goal.returns-in-Line-clause-can
+returns-in-Line-clause-can g c = while_well c.take_line.result _ (line_can _ _ _ _ (c.in-Line.ensures.answered c.requires.can.going) c.requires.can)
+
+-- it isn't given
+
+pub overflow_cast-result : goal.overflow_cast-result
+overflow_cast-result g c =
+    let small = long_number _ _ _ _ (c.in-TooLong.ensures.answered c.requires.can.going) c.requires.can in
+    omega (arith, small, c.requires.next)
+
+pub returns-in-TooLong-clause-brings : goal.returns-in-TooLong-clause-brings
+returns-in-TooLong-clause-brings g c =
+    rw c.requires.next (too_long_brings c.args.head.now.text.items _ _ _ _ (c.in-TooLong.ensures.answered c.requires.can.going))
+
+pub returns-in-TooLarge-clause-brings : goal.returns-in-TooLarge-clause-brings
+returns-in-TooLarge-clause-brings g c = too_large_brings c.args.head.now.text.items _ _ _ _ (c.in-TooLarge.ensures.answered c.requires.can.going)

@@ -1,0 +1,36 @@
+//! Lines as a source of outcomes.
+
+use crate::line_outcomes::LineOutcomes;
+use cluster_io::Source;
+use cluster_types::Action;
+use graph_exec::{InFlight, Next, Outcomes};
+
+impl<'c, 's, S: Source> Outcomes for LineOutcomes<'c, 's, S> {
+    ghost use Rattle.std.specs.Prelude.{true, false};
+    ghost use Rattle.live_lines.specs.Courses.{faults_of, has_ended, rest_of, told_by, whole_of};
+    ghost use Rattle.live_lines.specs.LineSources.{source_in, standing_of};
+
+    ghost rest = { λ o. rest_of (told_by (standing_of o) (S.left (source_in o))) };
+
+    ghost whole = { λ o. whole_of (told_by (standing_of o) (S.left (source_in o))) };
+
+    ghost faults = { λ o. faults_of (standing_of o) (S.faults (source_in o)) };
+
+    ghost asked = { λ o. (standing_of o).lines.at.before };
+
+    ghost careful = { λ _. false };
+
+    ghost steady = { λ _. true };
+
+    ghost over = { λ o. has_ended (standing_of o).course };
+
+    ghost agrees = { λ _ _ _ _. Unit {0} };
+
+    ghost anew = { λ _ _ _ _ agreed. agreed };
+
+    fn begun(&mut self, _number: u32, _action: Action) {}
+
+    fn next(&mut self, _flight: &InFlight) -> Next {
+        self.ask()
+    }
+}

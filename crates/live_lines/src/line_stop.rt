@@ -1,0 +1,28 @@
+//! Why no more answers come of lines.
+
+use crm_lex::LexCause;
+use op_history::ResultCause;
+
+/// Why a line isn't read as an answer.
+#[derive(Clone, Copy, Debug, PartialEq, Eq)]
+pub enum LineCause {
+    /// It can't be cut into words.
+    Words(LexCause),
+    /// Its words are no answer.
+    Form(ResultCause),
+}
+
+/// Why a source of answers that are read from lines has failed.
+#[derive(Clone, Copy, Debug, PartialEq, Eq)]
+pub enum LineStop {
+    /// The source of bytes failed, and has counted it. A later question goes on from there.
+    ReadFault,
+    /// The next line goes past the limit of bytes. Each later question fails in the same way.
+    TooLarge,
+    /// A line is refused. Each later question fails in the same way.
+    Refused {
+        /// The physical line that is at fault, counted from 1.
+        line: u32,
+        cause: LineCause,
+    },
+}
