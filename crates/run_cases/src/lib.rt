@@ -8,6 +8,8 @@ mod check;
 #[cfg(test)]
 mod first_form;
 #[cfg(test)]
+mod generated;
+#[cfg(test)]
 mod graph;
 #[cfg(test)]
 mod losses;

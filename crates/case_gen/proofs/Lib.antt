@@ -1,0 +1,3 @@
+pub mod DrawLaws
+pub mod LineLaws
+pub mod ShortLines

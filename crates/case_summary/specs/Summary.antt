@@ -1,0 +1,45 @@
+-- The summary of the run of a generated case (rule of this project).
+use Rattle.std.specs.Prelude.{ℕ, ◌-◌, Bool, true, false, List, ◌++◌, codes, decimal, filter, length, slice_get}
+use Rattle.std.specs.Option.{option_map_or}
+use Rattle.case_gen.specs.Case.{lost_node}
+use Rattle.cluster_types.specs.declared.cluster.Cluster.{Cluster}
+use Rattle.cluster_types.specs.declared.journal.Event.{Event}
+use Rattle.cluster_types.specs.declared.journal.Event.TheVariants.{Begin, Ended}
+use Rattle.cluster_types.specs.declared.run.Passed.{Passed}
+use Rattle.cluster_types.specs.declared.run.Run.{Run}
+use Rattle.cluster_types.specs.Steps.{is_success}
+use Rattle.cluster_types.specs.Tables.{is_somewhere}
+
+-- an action begins
+abbrev pub is_begin : Event → Bool
+is_begin (Begin k a) = true
+is_begin _ = false
+
+-- an action ends with a success
+abbrev pub is_good_end : Cluster → Event → Bool
+is_good_end c (Ended k a o moment) = is_success c a o
+is_good_end c _ = false
+
+-- how many cells have a target in the last of some transitions
+abbrev pub last_targets : List Passed → ℕ
+last_targets all = option_map_or (λ (passed : Passed). length (filter is_somewhere passed.table.targets)) (slice_get all (length all - 1)) 0
+
+-- a word and a number
+abbrev pub count_line : List ℕ → ℕ → List ℕ
+count_line word n = word ++ codes " " ++ decimal n ++ codes "\n"
+
+module _ (c : Cluster) where
+  -- the case of a number
+  abbrev pub case_lines : ℕ → List ℕ
+  case_lines number =
+      count_line (codes "gen") number ++ (codes "lost n" ++ decimal (lost_node number) ++ codes "\n") ++ count_line (codes "nodes") (length c.nodes)
+      ++ count_line (codes "leaves") (length c.leaves)
+
+  -- its run: how many transitions, begins and successes it has, and how many targets at last
+  abbrev pub run_lines : Run → List ℕ
+  run_lines run =
+      count_line (codes "transitions") (length run.passed) ++ count_line (codes "begun") (length (filter is_begin run.journal.events))
+      ++ count_line (codes "succeeded") (length (filter (is_good_end c) run.journal.events)) ++ count_line (codes "targets") (last_targets run.passed)
+
+  abbrev pub summary_text : ℕ → Run → List ℕ
+  summary_text number run = case_lines number ++ run_lines run
