@@ -1,6 +1,8 @@
 -- What is decided is of a leaf of the cluster.
-use Rattle.std.proofs.Common.{◌≡◌, ℕ, ◌<◌, Bool, true, false, if◌then◌else◌, Option, List, [], ◌∷◌, length, sym, ap, subst, inl, inr, Contains, arith}
-use Rattle.std.specs.List.{range_with_len}
+use Rattle.std.proofs.Common.{◌≡◌, ℕ, ◌*◌, ◌<◌, ◌≤◌, Bool, true, false, if◌then◌else◌, Option, List, [], ◌∷◌, length, sym, ap, subst, inl, inr, Contains, arith}
+use Rattle.std.specs.List.{flat_map, range_with_len}
+use Rattle.std.proofs.lemmas.List.{length-append}
+use Rattle.std.proofs.lemmas.List.FromFn.{length-range_with_len}
 use Rattle.std.proofs.lemmas.List.Elements.{Contains-append_cases}
 use Rattle.lemmas.proofs.Members.{Flat, head_or_rest, in_none, of_flat, of_range}
 use Rattle.cluster_types.specs.declared.cluster.Cluster.{Cluster}
@@ -46,3 +48,23 @@ made-within c pins key _ (one_more made e before first) d h = elim (Contains-app
     | inr none ↦ absurd (in_none d none)
   ]
 ]
+
+-- at most two are decided of a leaf
+few-of : (pinned promotable : Bool) (r : ℕ) → length (if pinned then [] else Place r ∷ (if promotable then Promote r ∷ [] else [])) ≤ 2
+few-of true promotable r = omega arith
+few-of false true r = omega arith
+few-of false false r = omega arith
+
+few-in : (f : ℕ → List Decision) → ((r : ℕ) → length (f r) ≤ 2) → (rs : List ℕ) → length (flat_map f rs) ≤ length rs * 2
+few-in f few [] = omega arith
+few-in f few (r ∷ rs) =
+    let one = few r in
+    let rest = few-in f few rs in
+    let all = length-append (f r) (flat_map f rs) in
+    omega arith
+
+pub decisions-few : (c : Cluster) (pins : List (Option Pin)) → length (decisions_in c pins) ≤ length c.leaves * 2
+decisions-few c pins =
+    let few = few-in (decisions_in_leaf c pins) (λ r. few-of (is_pinned_in pins r) (is_promotable c r) r) (range_with_len 0 (length c.leaves)) in
+    let long = length-range_with_len 0 (length c.leaves) in
+    omega arith

@@ -55,17 +55,17 @@ module _ (a b : Key) where
   first_kept true e = false_from_ne_true (is_less b a) (λ h. less_one_way a b e h)
   first_kept false e = not_itself a
 
-  second_kept : (less : Bool) → is_less a b ≡ less → is_less (if less then b else a) b ≡ false
+  pub second_kept : (less : Bool) → is_less a b ≡ less → is_less (if less then b else a) b ≡ false
   second_kept true e = not_itself b
   second_kept false e = e
 
-  least_bound : (u : Key) (less : Bool) → is_less u a ≡ false → is_less u b ≡ false → is_less u (if less then b else a) ≡ false
+  pub least_bound : (u : Key) (less : Bool) → is_less u a ≡ false → is_less u b ≡ false → is_less u (if less then b else a) ≡ false
   least_bound u true h k = k
   least_bound u false h k = h
 
 -- the greatest of a key and some lent ones
 
-own_kept : (own : Key) (lent : Option Key) → is_less (greater_by own lent) own ≡ false
+pub own_kept : (own : Key) (lent : Option Key) → is_less (greater_by own lent) own ≡ false
 own_kept own None = not_itself own
 own_kept own (Some lent) = first_kept own lent (is_less own lent) refl
 

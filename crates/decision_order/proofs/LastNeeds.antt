@@ -17,13 +17,13 @@ module _ (c : Cluster) (ds : List Decision) where
     pub wanted : needs c e via ≡ true
     pub on : is_same_decision via d || needs_through c ds n via d ≡ true
 
-  first_need : (n : ℕ) (e d : Decision) → needs_through c ds (suc n) e d ≡ true → FirstNeed n e d
+  pub first_need : (n : ℕ) (e d : Decision) → needs_through c ds (suc n) e d ≡ true → FirstNeed n e d
   first_need n e d h = at (Any-from_list_any (λ f. needs c e f && (is_same_decision f d || needs_through c ds n f d)) ds h)
     where
       at : Any (λ f. needs c e f && (is_same_decision f d || needs_through c ds n f d) ≡ true) ds → FirstNeed n e d
       at (k, f, lt, is, g) = record { via = f; among = (k, lt, is); wanted = sooner (needs c e f) _ g; on = later (needs c e f) _ g }
 
-  by_first : (n : ℕ) (e f d : Decision) → Contains ds f → needs c e f ≡ true → is_same_decision f d || needs_through c ds n f d ≡ true
+  pub by_first : (n : ℕ) (e f d : Decision) → Contains ds f → needs c e f ≡ true → is_same_decision f d || needs_through c ds n f d ≡ true
       → needs_through c ds (suc n) e d ≡ true
   by_first n e f d there wants on =
       passes_by (λ g. needs c e g && (is_same_decision g d || needs_through c ds n g d)) ds f there (and_from (needs c e f) _ wants on)

@@ -1,5 +1,5 @@
 -- Pins, and the targets that stand before any decision, by the states that a journal tells are those of the journal.
-use Rattle.std.proofs.Common.{◌≡◌, ℕ, ◌+◌, ◌*◌, ◌<◌, nat_lt, ◌&&◌, Bool, true, false, not, if◌then◌else◌, Option, Some, None, is_some, List, [], ◌∷◌, length, map, slice_get, unwrap_or, refl, ap, ◌∙◌, arith}
+use Rattle.std.proofs.Common.{◌≡◌, ℕ, ◌+◌, ◌*◌, ◌<◌, nat_lt, ◌&&◌, Bool, true, false, not, if◌then◌else◌, Option, Some, None, List, [], ◌∷◌, length, map, slice_get, unwrap_or, refl, ap, ◌∙◌}
 use Rattle.std.specs.List.{range_with_len}
 use Rattle.std.specs.Option.{option_map_or}
 use Rattle.std.proofs.lemmas.Bool.{lt-ltb}
@@ -19,7 +19,7 @@ use Rattle.cluster_types.specs.Decisions.{decisions, decisions_of}
 use Rattle.cluster_types.specs.Fields.{is_managed, is_promotable}
 use Rattle.cluster_types.specs.May.{may, may_promoted}
 use Rattle.cluster_types.specs.NodeStates.{is_online, is_online_state}
-use Rattle.cluster_types.specs.Pins.{is_blocked_state, is_pinned, is_pinned_in, is_unprobed_state, pin_of, pinned_targets}
+use Rattle.cluster_types.specs.Pins.{is_blocked_state, is_pinned, is_unprobed_state, pin_of, pinned_targets}
 use Rattle.cluster_types.specs.Tables.{targets_of}
 use Rattle.cluster_types.specs.Unpacked.{states_of}
 use Rattle.cluster_types.proofs.PinnedLeaves.{pin_known}

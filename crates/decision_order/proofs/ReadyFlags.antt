@@ -1,5 +1,5 @@
 -- Which decisions are ready, by flags.
-use Rattle.std.proofs.Common.{◌≡◌, ℕ, ◌<◌, Bool, true, false, not, ◌&&◌, ◌||◌, List, [], ◌∷◌, ◌++◌, length, count_by, refl, sym, ap, ◌∙◌, Contains}
+use Rattle.std.proofs.Common.{◌≡◌, ℕ, ◌<◌, Bool, true, false, not, ◌&&◌, ◌||◌, List, [], ◌∷◌, ◌++◌, count_by, refl, sym, ap, ◌∙◌, Contains}
 use Rattle.std.specs.List.{list_all, list_any}
 use Rattle.lemmas.proofs.Booleans.{later, sooner}
 use Rattle.lemmas.proofs.Counts.{count_one_more}
@@ -7,11 +7,11 @@ use Rattle.lemmas.proofs.Searches.{any-more, passes_by}
 use Rattle.rule_loops.proofs.Needs.{is_itself}
 use Rattle.cluster_types.specs.declared.cluster.Cluster.{Cluster}
 use Rattle.cluster_types.specs.declared.placement.Decision.{Decision}
-use Rattle.cluster_types.specs.Decisions.{Key, is_same_decision, leaf_of, needs}
-use Rattle.decision_order.specs.Flags.{AreFlags, flag_at}
+use Rattle.cluster_types.specs.Decisions.{Key, is_same_decision}
+use Rattle.decision_order.specs.Flags.{AreFlags}
 use Rattle.decision_order.specs.Needing.{is_among}
 use Rattle.decision_order.specs.Turns.{IsFirstReady, is_ready_in}
-use Rattle.decision_order.proofs.FlagLaws.{flag-is, flags-same}
+use Rattle.decision_order.proofs.FlagLaws.{flags-same}
 use Rattle.decision_order.proofs.SameDecisions.{same-turned}
 
 one-met : (n w r : Bool) → not ((n && not w) || r) ≡ ((not n || w) && not r)
@@ -20,7 +20,7 @@ one-met true false r = refl
 one-met false w r = refl
 
 -- no need is unmet where each is met
-all-met : (n w : Decision → Bool) (ds : List Decision) → not (list_any (λ f. n f && not (w f)) ds) ≡ list_all (λ f. not (n f) || w f) ds
+pub all-met : (n w : Decision → Bool) (ds : List Decision) → not (list_any (λ f. n f && not (w f)) ds) ≡ list_all (λ f. not (n f) || w f) ds
 all-met n w [] = refl
 all-met n w (d ∷ ds) = one-met (n d) (w d) (list_any (λ f. n f && not (w f)) ds) ∙ ap (λ b. (not (n d) || w d) && b) (all-met n w ds)
 
@@ -34,30 +34,8 @@ among-more leaves made d flags are =
     flags-same leaves (λ e. is_among made e || (true && is_same_decision d e)) flags are (is_among (made ++ d ∷ []))
     (λ e low. ap (λ b. is_among made e || b) (same-turned d e) ∙ sym (any-more (is_same_decision e) made d))
 
-module _ (c : Cluster) (ds made : List Decision) (flags blocked : List Bool) (within : (d : Decision) → Contains ds d → leaf_of d < length c.leaves)
-    (were : AreFlags (length c.leaves) (is_among made) flags)
-    (block : AreFlags (length c.leaves) (λ e. list_any (λ f. needs c e f && not (is_among made f)) ds) blocked) where
-  abbrev pub by_flags : Decision → Bool
-  by_flags d = not (flag_at flags d) && not (flag_at blocked d)
-
-  pub ready-is : (d : Decision) → Contains ds d → by_flags d ≡ is_ready_in c ds made d
-  ready-is d h =
-      let low = within d h in
-      let m = flag-is (length c.leaves) (is_among made) flags were d low in
-      let b = flag-is (length c.leaves) (λ e. list_any (λ f. needs c e f && not (is_among made f)) ds) blocked block d low in
-      let a = among-is ds d h in
-      let met = all-met (needs c d) (is_among made) ds in
-      rw (m, b, a, met) refl
-
-  -- what is first by flags is the first that is ready
-  pub first-is : (key : Decision → Key) (d : Decision) → IsFirstReady by_flags key ds d → IsFirstReady (is_ready_in c ds made) key ds d
-  first-is key d best = record {
-    among = best.among;
-    ready_now = sym (ready-is d best.among) ∙ best.ready_now;
-    first = λ e h is other. best.first e h (ready-is e h ∙ is) other;
-  }
-
-  -- and it leaves fewer that aren't made
+module _ (c : Cluster) (ds made : List Decision) where
+  -- one that is ready leaves fewer that aren't made
   pub fewer-left : (key : Decision → Key) (d : Decision) → IsFirstReady (is_ready_in c ds made) key ds d
       → count_by (λ e. not (is_among (made ++ d ∷ []) e)) ds < count_by (λ e. not (is_among made e)) ds
   fewer-left key d best = at best.among

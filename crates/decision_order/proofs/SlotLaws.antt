@@ -1,17 +1,16 @@
 -- Keys in the slots of decisions, and how they change.
-use Rattle.std.proofs.Common.{arith, ◌≡◌, ◌==◌, ◌&&◌, ◌||◌, ◌+◌, ◌*◌, ◌<◌, ◌≤◌, nat_lt, ℕ, Bool, true, false, if◌then◌else◌, Option, Some, None, List, inl, inr, length, get_or, replicate, set, take, unwrap_or, refl, sym, ap, ◌∙◌, eqb-true}
+use Rattle.std.proofs.Common.{arith, ◌≡◌, ◌==◌, ◌||◌, ◌+◌, ◌*◌, ◌<◌, ◌≤◌, ℕ, Bool, true, false, if◌then◌else◌, Option, Some, None, List, length, get_or, replicate, set, take, unwrap_or, refl, sym, ap, ◌∙◌, eqb-true}
 use Rattle.std.proofs.Math.Bool.{or-false, or-true}
-use Rattle.std.proofs.lemmas.Bool.{cases_eq, cases_lt, false_from_ne_true, le-ltb, lt-ltb}
+use Rattle.std.proofs.lemmas.Bool.{false_from_ne_true}
 use Rattle.std.proofs.lemmas.List.{get_or-replicate, length-replicate, length-set}
 use Rattle.std.proofs.lemmas.List.Folds.{list_any_more}
 use Rattle.std.proofs.lemmas.Option.{slice_get-get_or}
 use Rattle.rule_loops.proofs.Needs.{same_decision}
 use Rattle.cluster_types.specs.declared.placement.Decision.{Decision}
-use Rattle.cluster_types.specs.declared.placement.Decision.TheVariants.{Place, Promote}
-use Rattle.cluster_types.specs.Decisions.{Key, is_place, is_same_decision, leaf_of}
+use Rattle.cluster_types.specs.Decisions.{Key, is_same_decision, leaf_of}
 use Rattle.cluster_types.proofs.TableCells.{get-at}
 use Rattle.decision_order.specs.Flags.{slot_of}
-use Rattle.decision_order.specs.Lending.{AreKeys, is_raised, key_at, keys_among, with_lent, with_promote}
+use Rattle.decision_order.specs.Lending.{AreKeys, is_raised, key_at, keys_among, with_lent}
 use Rattle.decision_order.specs.Needing.{is_among}
 use Rattle.decision_order.proofs.FlagLaws.{same-slot, slot-within}
 use Rattle.decision_order.proofs.SameDecisions.{same-turned}
@@ -95,52 +94,6 @@ raised-is None lent h = cc
 raised-is (Some own) None h = cc
 raised-is (Some own) (Some lent) h = rw h refl
 
-none-lent : (own : Option Key) → with_lent own None ≡ own
-none-lent None = refl
-none-lent (Some own) = refl
-
--- what is lent to one is lent where it is that one
-pub lent-where : (own lent : Option Key) (here : Bool) → (if here then with_lent own lent else own) ≡ with_lent own (if here then lent else None)
-lent-where own lent true = refl
-lent-where own lent false = sym (none-lent own)
-
--- to the places of leaves below one
-module _ (kept own : Decision → Option Key) where
-  abbrev pub promoted_below : ℕ → Decision → Option Key
-  promoted_below k d = with_lent (own d) (if is_place d && nat_lt (leaf_of d) k then kept (Promote (leaf_of d)) else None)
-
-  pub promote-more : (k : ℕ) (d : Decision)
-      → (if is_same_decision (Place k) d then with_lent (promoted_below k d) (kept (Promote k)) else promoted_below k d) ≡ promoted_below (k + 1) d
-  promote-more k (Promote r) = refl
-  promote-more k (Place r) = elim (cases_eq r k) [
-    | inl e ↦
-        let out : nat_lt r k ≡ false = le-ltb r k (omega (arith, e)) in
-        let now : nat_lt r (k + 1) ≡ true = lt-ltb r (k + 1) (omega (arith, e)) in
-        let same : (k == r) ≡ true = grind (arith, e) in
-        rw (out, now, same) (ap (λ (o : Option Key). with_lent o (kept (Promote k))) (none-lent (own (Place r)))
-        ∙ ap (λ (s : ℕ). with_lent (own (Place r)) (kept (Promote s))) (sym e))
-    | inr e ↦ elim (cases_lt r k) [
-      | inl low ↦
-          let was : nat_lt r k ≡ true = lt-ltb r k low in
-          let now : nat_lt r (k + 1) ≡ true = lt-ltb r (k + 1) (omega (arith, low)) in
-          let other : (k == r) ≡ false = grind (arith, e) in
-          rw (was, now, other) refl
-      | inr high ↦
-          let out : nat_lt r k ≡ false = le-ltb r k high in
-          let still : nat_lt r (k + 1) ≡ false = le-ltb r (k + 1) (omega (arith, high, e)) in
-          let other : (k == r) ≡ false = grind (arith, e) in
-          rw (out, still, other) refl
-    ]
-  ]
-
-  pub promote-none : (d : Decision) → own d ≡ promoted_below 0 d
-  promote-none (Place r) = let out = le-ltb r 0 (omega arith) in rw out (sym (none-lent (own (Place r))))
-  promote-none (Promote r) = sym (none-lent (own (Promote r)))
-
-  pub promote-all : (leaves k : ℕ) → leaves ≤ k → (d : Decision) → leaf_of d < leaves → promoted_below k d ≡ with_promote kept d (own d)
-  promote-all leaves k all (Place r) low = let within = lt-ltb r k (omega (arith, low, all)) in rw within refl
-  promote-all leaves k all (Promote r) low = refl
-
 -- one decision is lent a key
 module _ (leaves : ℕ) (kept : Decision → Option Key) (slots : List (Option Key)) (x : Decision) (lent : Option Key) where
   abbrev with_one : Decision → Option Key
@@ -163,8 +116,3 @@ module _ (leaves : ℕ) (kept : Decision → Option Key) (slots : List (Option K
           let yes : is_raised (kept d) lent ≡ true = ap (λ (y : Decision). is_raised (kept y) lent) (sym (same_decision x d h)) ∙ raised in
           sym (raised-is (kept d) lent yes)
       go d false h = refl
-
--- of two tests neither passes
-pub both-false : (a b : Bool) → a || b ≡ false → (a ≡ false) × (b ≡ false)
-both-false true b h = cc
-both-false false b h = (refl, h)

@@ -1,10 +1,9 @@
 -- What decisions lend to those that they need: their keys, step by step (follows from the definition of effective keys).
-use Rattle.std.specs.Prelude.{◌≡◌, ℕ, ◌*◌, ◌<◌, Bool, false, if◌then◌else◌, Option, Some, None, List, length, map, filter, fold, slice_get, unwrap_or}
+use Rattle.std.specs.Prelude.{◌≡◌, ℕ, ◌*◌, ◌<◌, Bool, false, if◌then◌else◌, Option, Some, None, List, length, map, filter, fold, slice_get, slice_set, unwrap_or}
 use Rattle.cluster_types.specs.declared.cluster.Cluster.{Cluster}
+use Rattle.cluster_types.specs.declared.edges.Edge.{Edge}
 use Rattle.cluster_types.specs.declared.placement.Decision.{Decision}
-use Rattle.cluster_types.specs.declared.placement.Decision.TheVariants.{Promote}
-use Rattle.cluster_types.specs.declared.rules.Colocation.{Colocation}
-use Rattle.cluster_types.specs.Decisions.{Key, decision_of, greater_key, is_less, is_place, is_same_decision, leaf_of, needs_through}
+use Rattle.cluster_types.specs.Decisions.{Key, greater_key, is_less, leaf_of, needs_through}
 use Rattle.decision_order.specs.Flags.{slot_of}
 use Rattle.decision_order.specs.Needing.{is_among}
 
@@ -13,8 +12,12 @@ pub record AreKeys (leaves : ℕ) (kept : Decision → Option Key) (slots : List
   pub size : length slots ≡ leaves * 2
   pub each : (d : Decision) → leaf_of d < leaves → slice_get slots (slot_of d) ≡ Some (kept d)
 
+-- the key in a slot
+abbrev pub key_in : List (Option Key) → ℕ → Option Key
+key_in slots x = unwrap_or (slice_get slots x) None
+
 abbrev pub key_at : List (Option Key) → Decision → Option Key
-key_at slots d = unwrap_or (slice_get slots (slot_of d)) None
+key_at slots d = key_in slots (slot_of d)
 
 -- the greater of its own and a lent key, its own of equal ones
 abbrev pub greater_by : Key → Option Key → Key
@@ -32,29 +35,17 @@ is_raised None lent = false
 is_raised (Some own) None = false
 is_raised (Some own) (Some lent) = is_less own lent
 
+-- what needs lends the greater key
+abbrev pub raises : List (Option Key) → Edge → Bool
+raises slots link = is_raised (key_in slots link.before) (key_in slots link.after)
+
+-- the keys once it lent its own
+abbrev pub lent_along : List (Option Key) → Edge → List (Option Key)
+lent_along slots link = if raises slots link then slice_set slots link.before (key_in slots link.after) else slots
+
 -- these decisions with their keys
 abbrev pub keys_among : List Decision → (Decision → Key) → Decision → Option Key
 keys_among ds key d = if is_among ds d then Some (key d) else None
-
-module _ (kept : Decision → Option Key) (d : Decision) where
-  -- to place a leaf its promote lends
-  abbrev pub lent_by_promote : Option Key
-  lent_by_promote = if is_place d then kept (Promote (leaf_of d)) else None
-
-  -- to a primary its dependent lends
-  abbrev pub lent_by : Colocation → Option Key
-  lent_by col = if is_same_decision (decision_of col.primary col.primary_role) d then kept (decision_of col.dependent col.dependent_role) else None
-
-  -- what a key is with that of the promote, and with those of dependents
-  abbrev pub with_promote : Option Key → Option Key
-  with_promote own = with_lent own lent_by_promote
-
-  abbrev pub with_dependents : List Colocation → Option Key → Option Key
-  with_dependents rules own = fold (λ key col. with_lent key (lent_by col)) own rules
-
--- the key of each decision once each lent its own to those that it needs
-abbrev pub after_lending : Cluster → (Decision → Option Key) → Decision → Option Key
-after_lending c kept d = with_dependents kept d c.colocations (with_promote kept d (kept d))
 
 -- the greatest key among the decision and those that need it through at most so many needs
 abbrev pub effective_within : Cluster → List Decision → (Decision → Key) → ℕ → Decision → Key

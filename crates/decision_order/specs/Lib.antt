@@ -2,6 +2,9 @@ pub mod Pins
 pub mod DecisionLists
 pub mod Flags
 pub mod Needing
+pub mod Links
+pub mod LinkOrder
+pub mod Queueing
 pub mod Effective
 pub mod Turns
 pub mod Lending

@@ -1,5 +1,5 @@
 -- Which leaves are left as they are, by the states of the cluster (follows from the definition of pins).
-use Rattle.std.specs.Prelude.{ℕ, ◌&&◌, Bool, false, not, if◌then◌else◌, is_some, Option, Some, None, List, length, map, slice_get, unwrap_or}
+use Rattle.std.specs.Prelude.{ℕ, ◌&&◌, Bool, false, not, if◌then◌else◌, Option, Some, None, List, length, map, slice_get}
 use Rattle.std.specs.List.{list_any, range_with_len}
 use Rattle.std.specs.Option.{option_map_or}
 use Rattle.cluster_types.specs.declared.cluster.Cluster.{Cluster}

@@ -1,6 +1,6 @@
 //! What is decided of a cluster.
 
-ghost use Rattle.std.specs.Prelude.{◌≡◌, ◌<◌, Contains, length, IfOk};
+ghost use Rattle.std.specs.Prelude.{◌≡◌, ◌<◌, ◌≤◌, Contains, length, IfOk};
 ghost use Rattle.cluster_types.specs.declared.placement.Decision.{Decision as DecisionOf};
 ghost use Rattle.cluster_types.specs.Decisions.{leaf_of};
 ghost use Rattle.cluster_types.specs.Valid.{KeepsLimits};
@@ -16,6 +16,7 @@ pub(crate) struct DecisionSet<'c> {
     pub(crate) cluster: &'c Cluster,
     pub(crate) list: Vec<Decision>,
     pub(crate) ghost limits: { KeepsLimits cluster.now },
+    pub(crate) ghost few: { length list.items ≤ 2000 },
     pub(crate) ghost within: { (d : DecisionOf) → Contains list.items d → leaf_of d < length cluster.now.leaves },
 }
 

@@ -57,12 +57,3 @@ pub(crate) fn own_keys(
     }
     Ok(slots)
 }
-
-/// The same keys once more.
-pub(crate) fn copy_of(alloc: Global, slots: &[Option<Key>]) -> Result<Vec<Option<Key>>, AllocError>
-    ensures { IfOk result (λ copy. copy.items ≡ slots.now) }
-{
-    let mut copy = Vec::with_capacity(alloc, slots.len())?;
-    copy.extend_from_slice(slots)?;
-    Ok(copy)
-}

@@ -14,12 +14,14 @@ mod keys;
 mod effective;
 mod key_slots;
 mod lending;
+mod link_order;
 
 // In which order decisions are made.
 mod flags;
+mod links;
 mod making;
-mod need_marks;
 mod ordering;
+mod queue;
 mod ranked;
 mod turns;
 

@@ -18,7 +18,7 @@ use crate::decision_set::DecisionSet;
 use crate::effective::effective_keys;
 use crate::keys::all_keys;
 use crate::ordering::in_order;
-use crate::ranked::all_ranked;
+use crate::ranked::{all_ranked, sort_ranked};
 use cluster_types::{Cluster, Decision, NoMemory, Pin, States};
 use score_table::ScoreTable;
 use std::alloc::{AllocError, Global};
@@ -38,15 +38,18 @@ fn order_by(
     let set = DecisionSet::new(alloc, cluster, pins)?;
     let keys = all_keys(alloc, &set, states, scores)?;
     let effective = effective_keys(alloc, &set, &keys)?;
-    let ranked = all_ranked(alloc, &set, &effective)?;
+    let mut ranked = all_ranked(alloc, &set, &effective)?;
+    sort_ranked(&mut ranked)?;
     let order = in_order(alloc, &set, &ranked)?;
     Ok(order)
 }
 
-/// All that is decided of the leaves that aren't left as they are, in the order in which it is decided. Next is always the one of the greatest
-/// effective key of those that are ready, which need none that isn't made yet; of equal keys that of the earlier leaf, and `Place` before `Promote`
-/// (Pacemaker Explained, "priority" and "Colocation"; the keys, and who lends its key, are rules of this project). The scores are those that
-/// `score_table` gives of these states, and the pins those that `pins` gives. Each is of a leaf that the cluster has. It asks for a valid cluster. Out of memory is the only other answer.
+/// All that is decided of the leaves that aren't left as they are, in the order in which it is decided. Next is always
+/// the one of the greatest effective key of those that are ready, which need none that isn't made yet; of equal keys
+/// that of the earlier leaf, and `Place` before `Promote` (Pacemaker Explained, "priority" and "Colocation"; the keys,
+/// and who lends its key, are rules of this project). The scores are those that `score_table` gives of these states,
+/// and the pins those that `pins` gives. Each is of a leaf that the cluster has. It asks for a valid cluster. Out of
+/// memory is the only other answer.
 pub fn decisions_in_order(
     alloc: Global,
     cluster: &Cluster,

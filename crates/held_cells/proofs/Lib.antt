@@ -1,4 +1,3 @@
-pub mod GrownLists
 pub mod RuleOrigins
 pub mod Lacking
 pub mod RolesTaken

@@ -1,5 +1,5 @@
 -- Roles that are taken away one after another.
-use Rattle.std.proofs.Common.{◌≡◌, ℕ, true, List, sym, ◌∙◌, ap}
+use Rattle.std.proofs.Common.{◌≡◌, ℕ, true, List, Contains, sym, ◌∙◌, ap}
 use Rattle.lemmas.proofs.Booleans.{sooner}
 use Rattle.std.specs.Prelude.{not}
 use Rattle.cluster_types.specs.declared.leaf.Role.{Role}
@@ -36,3 +36,10 @@ module _ (rules : List Dependency) (nodes : ℕ) (chosen : Targets) where
   taken_on middle _ first (none_yet left same) = taken_alike middle left first same
   taken_on middle _ first (one_more before left rule n taken among lt takes is) =
       one_more before left rule n (taken_on middle before first taken) among lt takes is
+
+-- what some dependencies take is taken by a list that has them all
+pub taken_among : (rules all : List Dependency) → ((rule : Dependency) → Contains rules rule → Contains all rule) → (nodes : ℕ) (chosen left : Targets)
+    → Taken rules nodes chosen left → Taken all nodes chosen left
+taken_among rules all in_all nodes chosen _ (none_yet left same) = none_yet left same
+taken_among rules all in_all nodes chosen _ (one_more before left rule n taken among lt takes is) =
+    one_more before left rule n (taken_among rules all in_all nodes chosen before taken) (in_all rule among) lt takes is

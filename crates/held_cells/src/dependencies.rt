@@ -124,7 +124,7 @@ fn push_free(
 }
 
 /// Adds those of all colocations.
-#[tactic(auto, using(crate::proofs::GrownLists::grown))]
+#[tactic(auto, using(lemmas::proofs::Grown::elements_more))]
 fn push_colocations(
     list: &mut Vec<Dependency>,
     cluster: &Cluster,
@@ -139,7 +139,7 @@ fn push_colocations(
 }
 
 /// Adds those of all orders.
-#[tactic(auto, using(crate::proofs::GrownLists::grown))]
+#[tactic(auto, using(lemmas::proofs::Grown::elements_more))]
 fn push_orders(
     list: &mut Vec<Dependency>,
     cluster: &Cluster,

@@ -8,6 +8,7 @@ mod dependencies;
 mod final_targets;
 mod left;
 mod passes;
+mod spreading;
 
 // Why a leaf has no target.
 mod holders;

@@ -26,7 +26,7 @@ fn has_some(table: &Table, rule: Dependency) -> bool
 }
 
 /// Takes the dependent's role away from each node where the dependency lacks its primary.
-fn after(left: Left, rule: Dependency) -> Left
+pub fn after(left: Left, rule: Dependency) -> Left
     ensures nodes { result.table.nodes ≡ left.table.nodes }
     ensures size { length result.table.targets ≡ length left.table.targets }
     ensures taken { (rules : List DependencyOf) → Contains rules rule

@@ -1,7 +1,7 @@
 -- Lists that grow by what the next number or element gives.
 use Rattle.std.proofs.Common.{◌≡◌, ◌<◌, ◌+◌, ℕ, Bool, true, false, cond, List, [], ◌∷◌, ◌++◌, length, take, map, filter, slice_index_or, sym, ◌∙◌, ap}
 use Rattle.std.specs.List.{flat_map, range_with_len}
-use Rattle.std.proofs.lemmas.List.{append-nil, append_assoc, map-append, take_more}
+use Rattle.std.proofs.lemmas.List.{append-nil, append_assoc, flat_map_more, map-append, take_more}
 use Rattle.std.proofs.lemmas.List.Elements.{filter-append}
 use Rattle.lemmas.proofs.Ranges.{flat_map-more, map-more}
 
@@ -15,6 +15,13 @@ pub values_more : {X : Type 0} (f : ℕ → List X) (k : ℕ) (old before after 
     → after ≡ before ++ f k → after ≡ old ++ flat_map f (range_with_len 0 (k + 1))
 values_more f k old before after was push =
     push ∙ ap (λ xs. xs ++ f k) was ∙ append_assoc old (flat_map f (range_with_len 0 k)) (f k) ∙ ap (λ xs. old ++ xs) (sym (flat_map-more f k))
+
+-- by what one element more gives
+pub elements_more : {X Y : Type 0} (f : X → List Y) (xs : List X) (i : ℕ) (x : X) (old before after : List Y) → i < length xs → x ≡ slice_index_or xs i x
+    → before ≡ old ++ flat_map f (take i xs) → after ≡ before ++ f x → after ≡ old ++ flat_map f (take (i + 1) xs)
+elements_more f xs i x old before after lt is was push =
+    let t : take (i + 1) xs ≡ take i xs ++ x ∷ [] = rw (← is) at (take_more xs i x lt) in
+    push ∙ ap (λ ys. ys ++ f x) was ∙ flat_map_more f old (take i xs) x ∙ ap (λ ys. old ++ flat_map f ys) (sym t)
 
 -- by an element that a test keeps, or doesn't
 module _ {X Y : Type 0} (f : X → Y) (p : X → Bool) (old : List Y) (xs : List X) (i : ℕ) (x : X) (lt : i < length xs) (is : x ≡ slice_index_or xs i x) where

@@ -6,11 +6,11 @@ use Rattle.lemmas.proofs.Members.{head_or_rest, in_rest}
 
 module _ {X : Type 0} (R : X → X → Type 0) (strict : (a b : X) → R a b → R b a → ⊥) where
   -- the first is earlier than each of the rest
-  first_earlier : (x : X) (xs : List X) (a : X) → AllPairs R (x ∷ xs) → Contains xs a → R x a
+  pub first_earlier : (x : X) (xs : List X) (a : X) → AllPairs R (x ∷ xs) → Contains xs a → R x a
   first_earlier x xs a h (k, l, e) = rw e at (h 0 (suc k) a (omega arith) (omega arith))
 
   -- the rest of a list in order is in order
-  rest_in_order : (x : X) (xs : List X) → AllPairs R (x ∷ xs) → AllPairs R xs
+  pub rest_in_order : (x : X) (xs : List X) → AllPairs R (x ∷ xs) → AllPairs R xs
   rest_in_order x xs h i j d l m = h (suc i) (suc j) d (omega arith) (omega arith)
 
   -- two lists in order, of which each has the other's first element, start alike

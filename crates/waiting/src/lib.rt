@@ -7,4 +7,6 @@ mod rows;
 mod side;
 mod waiting;
 
+pub use rows::Rows;
+pub use side::{Side, count_ends};
 pub use waiting::Waiting;

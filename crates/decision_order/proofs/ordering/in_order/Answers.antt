@@ -1,82 +1,157 @@
-use Rattle.std.proofs.Common.{rules, ◌≡◌, ◌<◌, ◌++◌, ◌∷◌, [], ◌&&◌, false, not, count_by, length, sym, subst, ◌∙◌}
-use Rattle.std.specs.List.{list_any}
-use Rattle.cluster_types.specs.Decisions.{needs}
-use Rattle.decision_order.specs.Flags.{AreFlags}
+use Rattle.std.proofs.Common.{rules, arith, ◌≡◌, ◌<◌, ◌*◌, ◌++◌, ◌∷◌, [], ◌&&◌, ◌||◌, ℕ, List, MatchOption, Option, true, false, not, count_by, get_or, length, slice_index_or, slice_set, Contains, refl, sym, ap, subst, ◌∙◌}
+use Rattle.std.proofs.lemmas.List.{length-map}
+use Rattle.lemmas.proofs.Members.{of_map}
+use Rattle.cluster_types.specs.declared.placement.Decision.{Decision}
+use Rattle.cluster_types.specs.Decisions.{is_same_decision, leaf_of}
+use Rattle.cluster_types.specs.Graphs.{EndWithin}
+use Rattle.decision_order.specs.declared.ranked.Ranked.{Ranked}
+use Rattle.decision_order.specs.Flags.{AreFlags, slot_of}
+use Rattle.decision_order.specs.Links.{links_in}
 use Rattle.decision_order.specs.Needing.{is_among}
-use Rattle.decision_order.specs.Turns.{WereMade, none_made, one_more}
-use Rattle.decision_order.proofs.ReadyFlags.{among-more, fewer-left, first-is, ready-is}
+use Rattle.decision_order.specs.Queueing.{IsFirstPlace, IsNextPlace, IsQueue, is_at}
+use Rattle.decision_order.specs.Turns.{WereMade, none_made, one_more, slots_of}
+use Rattle.decision_order.proofs.FlagLaws.{none-raised, raised, slot-within}
+use Rattle.decision_order.proofs.LinkedNeeds.{links-within}
+use Rattle.decision_order.proofs.OrderSteps.{next-first, next-leaf, next-within, no_rank, none-ready-left, slot-at}
+use Rattle.decision_order.proofs.ReadyFlags.{among-more, fewer-left}
 use Rattle.decision_order.proofs.ordering.in_order.Goals as goal
 
-pub loop-order-init : goal.loop-order-init
-loop-order-init c =
+pub slots_of-requires : goal.slots_of-requires
+slots_of-requires c = λ x among.
+    let set = c.args.set.now in
+    let s = c.requires.sorted.1 in
+    let low = set.within x.decision (s.known x among).0 in
+    let few = set.limits.leaves in
+    omega (arith, low, few)
+
+pub new-requires-clause-few : goal.new-requires-clause-few
+new-requires-clause-few c =
+    let few = c.args.set.now.few in
+    let size = c.requires.sorted.1.size in
+    let slots : c.in_ok-slots.slots.items ≡ slots_of c.args.sorted.now = search rules in
+    let long : length c.in_ok-slots.slots.items ≡ length c.args.sorted.now = ap length slots ∙ length-map c.args.sorted.now (λ (x : Ranked). slot_of x.decision) in
+    omega (arith, few, size, long)
+
+pub new-requires-clause-ends : goal.new-requires-clause-ends
+new-requires-clause-ends c =
+    let set = c.args.set.now in
+    let cluster = set.cluster.now in
+    let links : c.in_ok-links.links.items ≡ links_in cluster set.list.items = search rules in
+    let count : length cluster.leaves * 2 ≡ 2 * c.len.result = omega arith in
+    subst (λ k. EndWithin k c.deref.result.now) count
+    (subst (λ es. EndWithin (length cluster.leaves * 2) es) (sym (c.deref.ensures.value ∙ links)) (links-within cluster c.requires.valid set.list.items set.within))
+
+pub new-requires-clause-within : goal.new-requires-clause-within
+new-requires-clause-within c = λ x among.
+    let set = c.args.set.now in
+    let leaves = length set.cluster.now.leaves in
+    let slots : c.in_ok-slots.slots.items ≡ slots_of c.args.sorted.now = search rules in
+    let m = of_map (λ (y : Ranked). slot_of y.decision) c.args.sorted.now x (subst (λ (xs : List ℕ). Contains xs x) slots among) in
+    let low = slot-within leaves m.source.decision (set.within m.source.decision (c.requires.sorted.1.known m.source m.among).0) in
+    let is = m.gives in
+    let count : leaves * 2 ≡ 2 * c.len.result = omega arith in
+    omega (arith, low, is, count)
+
+pub loop-place-init : goal.loop-place-init
+loop-place-init c =
     let set = c.args.set.now in
     let cluster = set.cluster.now in
     let leaves = length cluster.leaves in
-    let none : AreFlags c.len.result (λ d. false) c.in_ok-made.made.items = search rules in
+    let ds = set.list.items in
+    let links : c.in_ok-links.links.items ≡ links_in cluster ds = search rules in
+    let slots : c.in_ok-slots.slots.items ≡ slots_of c.args.sorted.now = search rules in
+    let count : 2 * c.len.result ≡ leaves * 2 = omega arith in
+    let order : c.in_ok-queue.queue.order.items ≡ c.in_ok-slots.slots.items = c.in_ok-queue.ensures.order in
     record {
-      flags = subst (λ xs. AreFlags leaves (is_among xs) c.in_ok-made.made.items) (sym c.new-order.ensures.items)
-          (subst (λ k. AreFlags k (λ d. false) c.in_ok-made.made.items) c.len.ensures none);
-      made = λ key is. subst (WereMade cluster set.list.items key) (sym c.new-order.ensures.items) none_made;
+      queue = subst (λ k. IsQueue (links_in cluster ds) k c.in_ok-queue.queue) count
+          (subst (λ es. IsQueue es (2 * c.len.result) c.in_ok-queue.queue) (c.deref.ensures.value ∙ links) c.in_ok-queue.ensures.queue);
+      order = order ∙ slots;
+      placed = λ x among. c.in_ok-queue.ensures.all x (subst (λ (xs : List ℕ). Contains xs x) order among);
+      flags = subst (λ xs. AreFlags leaves (is_among xs) c.in_ok-queue.queue.made.items) (sym c.new-order.ensures.items)
+          (subst (AreFlags leaves (λ d. false)) (sym c.in_ok-queue.ensures.made) (none-raised leaves (2 * c.len.result) count));
+      made = λ key is. subst (WereMade cluster ds key) (sym c.new-order.ensures.items) none_made;
     }
+
+pub take-requires : goal.take-requires
+take-requires c =
+    (links_in c.args.set.now.cluster.now c.args.set.now.list.items, length c.args.set.now.cluster.now.leaves * 2, c.loop-place.invariant.queue)
+
+pub decision_at-requires : goal.decision_at-requires
+decision_at-requires c =
+    let set = c.args.set.now in
+    let l = c.loop-place in
+    let key = c.requires.sorted.0 in
+    let first : IsFirstPlace l.queue.ready c.in-Some.place = subst (IsNextPlace l.queue.ready) c.in-Some.is c.take.ensures.place in
+    next-within set.cluster.now c.requires.valid set.list.items set.within key c.args.sorted.now c.requires.sorted.1 l.queue l.invariant.queue l.invariant.order l.invariant.placed
+    l.order.items l.invariant.flags c.in-Some.place first
 
 pub returns-in-None : goal.returns-in-None
 returns-in-None c = λ key is.
-    let l = c.loop-order in
     let set = c.args.set.now in
-    let cluster = set.cluster.now in
-    let leaves = length cluster.leaves in
-    let ds = set.list.items in
-    let order = l.order.items in
-    let flags = c.deref-in-loop-order.result.now in
-    let blocked = c.deref-in-loop-order-2.result.now in
-    let were : AreFlags leaves (is_among order) flags = subst (AreFlags leaves (is_among order)) (sym c.deref-in-loop-order.ensures.value) l.invariant.flags in
-    let block : AreFlags leaves (λ e. list_any (λ f. needs cluster e f && not (is_among order f)) ds) blocked =
-    subst (AreFlags leaves (λ e. list_any (λ f. needs cluster e f && not (is_among order f)) ds)) (sym c.deref-in-loop-order-2.ensures.value)
-    (c.in_ok-blocked.ensures (is_among order) (subst (AreFlags leaves (is_among order)) (sym c.deref.ensures.value) l.invariant.flags)) in
+    let l = c.loop-place in
     record {
       made = l.invariant.made key is;
-      none_left = λ d h. sym (ready-is cluster ds order flags blocked set.within were block d h) ∙ c.in-None.ensures key ds is d h;
+      none_left = none-ready-left set.cluster.now c.requires.valid set.list.items set.within key c.args.sorted.now is l.queue l.invariant.queue l.invariant.order l.invariant.placed
+          l.order.items l.invariant.flags (subst (IsNextPlace l.queue.ready) c.in-None.is c.take.ensures.place);
     }
 
-pub loop-order-smaller : goal.loop-order-smaller
-loop-order-smaller c =
-    let l = c.loop-order in
+pub loop-place-smaller : goal.loop-place-smaller
+loop-place-smaller c =
     let set = c.args.set.now in
     let cluster = set.cluster.now in
-    let leaves = length cluster.leaves in
     let ds = set.list.items in
-    let order = l.order.items in
-    let flags = c.deref-in-loop-order.result.now in
-    let blocked = c.deref-in-loop-order-2.result.now in
-    let were : AreFlags leaves (is_among order) flags = subst (AreFlags leaves (is_among order)) (sym c.deref-in-loop-order.ensures.value) l.invariant.flags in
-    let block : AreFlags leaves (λ e. list_any (λ f. needs cluster e f && not (is_among order f)) ds) blocked =
-    subst (AreFlags leaves (λ e. list_any (λ f. needs cluster e f && not (is_among order f)) ds)) (sym c.deref-in-loop-order-2.ensures.value)
-    (c.in_ok-blocked.ensures (is_among order) (subst (AreFlags leaves (is_among order)) (sym c.deref.ensures.value) l.invariant.flags)) in
-    let d = c.in-Some.decision in
-    let items : c.push.new.self.items ≡ order ++ d ∷ [] = search rules in
-    subst (λ xs. count_by (λ e. not (is_among xs e)) ds < count_by (λ e. not (is_among order e)) ds) (sym items)
-    (fewer-left cluster ds order flags blocked set.within were block c.requires.ranked.0 d
-    (first-is cluster ds order flags blocked set.within were block c.requires.ranked.0 d (c.in-Some.ensures c.requires.ranked.0 ds c.requires.ranked.1)))
+    let l = c.loop-place in
+    let key = c.requires.sorted.0 in
+    let p = c.in-Some.place in
+    let next : Ranked = get_or c.args.sorted.now p (no_rank key) in
+    let first : IsFirstPlace l.queue.ready p = subst (IsNextPlace l.queue.ready) c.in-Some.is c.take.ensures.place in
+    let is : c.decision_at.result ≡ next.decision = c.decision_at.ensures (no_rank key) in
+    let items : c.push.new.self.items ≡ l.order.items ++ c.decision_at.result ∷ [] = search rules in
+    subst (λ xs. count_by (λ e. not (is_among xs e)) ds < count_by (λ e. not (is_among l.order.items e)) ds)
+    (sym (items ∙ ap (λ (x : Decision). l.order.items ++ x ∷ []) is))
+    (fewer-left cluster ds l.order.items key next.decision
+    (next-first cluster c.requires.valid ds set.within key c.args.sorted.now c.requires.sorted.1 l.queue l.invariant.queue l.invariant.order l.invariant.placed l.order.items l.invariant.flags p first))
 
-pub loop-order-preserved : goal.loop-order-preserved
-loop-order-preserved c =
-    let l = c.loop-order in
+pub loop-place-preserved : goal.loop-place-preserved
+loop-place-preserved c =
     let set = c.args.set.now in
     let cluster = set.cluster.now in
     let leaves = length cluster.leaves in
     let ds = set.list.items in
-    let order = l.order.items in
-    let flags = c.deref-in-loop-order.result.now in
-    let blocked = c.deref-in-loop-order-2.result.now in
-    let were : AreFlags leaves (is_among order) flags = subst (AreFlags leaves (is_among order)) (sym c.deref-in-loop-order.ensures.value) l.invariant.flags in
-    let block : AreFlags leaves (λ e. list_any (λ f. needs cluster e f && not (is_among order f)) ds) blocked =
-    subst (AreFlags leaves (λ e. list_any (λ f. needs cluster e f && not (is_among order f)) ds)) (sym c.deref-in-loop-order-2.ensures.value)
-    (c.in_ok-blocked.ensures (is_among order) (subst (AreFlags leaves (is_among order)) (sym c.deref.ensures.value) l.invariant.flags)) in
-    let d = c.in-Some.decision in
-    let items : c.push.new.self.items ≡ order ++ d ∷ [] = search rules in
+    let l = c.loop-place in
+    let q = l.queue in
+    let after = c.take.new.self in
+    let p = c.in-Some.place in
+    let first : IsFirstPlace q.ready p = subst (IsNextPlace q.ready) c.in-Some.is c.take.ensures.place in
+    let d = c.decision_at.result in
+    let items : c.push.new.self.items ≡ l.order.items ++ d ∷ [] = search rules in
+    let key = c.requires.sorted.0 in
+    let s = c.requires.sorted.1 in
+    let within = next-within cluster c.requires.valid ds set.within key c.args.sorted.now s q l.invariant.queue l.invariant.order l.invariant.placed l.order.items l.invariant.flags p first in
+    let slot : slice_index_or q.order.items p 0 ≡ slot_of d =
+    slot-at cluster c.requires.valid ds set.within key c.args.sorted.now s q l.invariant.queue l.invariant.order l.invariant.placed l.order.items l.invariant.flags p within
+    ∙ ap slot_of (sym (c.decision_at.ensures (no_rank key))) in
+    let low : leaf_of d < leaves =
+    subst (λ (x : Decision). leaf_of x < leaves) (sym (c.decision_at.ensures (no_rank key)))
+    (next-leaf cluster c.requires.valid ds set.within key c.args.sorted.now s q l.invariant.queue l.invariant.order l.invariant.placed l.order.items l.invariant.flags p first) in
+    let size = l.invariant.flags.size in
+    let inside : slot_of d < length q.made.items = (let w = slot-within leaves d low in omega (arith, w, size)) in
+    let made : after.made.items ≡ slice_set q.made.items (slot_of d) true =
+    subst (λ (o : Option ℕ). MatchOption o (after.made.items ≡ q.made.items) (λ k. after.made.items ≡ slice_set q.made.items (slice_index_or q.order.items k 0) true)) c.in-Some.is c.take.ensures.made
+    ∙ ap (λ k. slice_set q.made.items k true) slot in
     record {
-      flags = subst (λ xs. AreFlags leaves (is_among xs) c.raise_if.new.flags.items) (sym items)
-          (among-more leaves order d c.raise_if.new.flags.items (c.raise_if.ensures leaves (is_among order) l.invariant.flags));
-      made = λ key is. subst (WereMade cluster ds key) (sym items)
-          (one_more order d (l.invariant.made key is) (first-is cluster ds order flags blocked set.within were block key d (c.in-Some.ensures key ds is)));
+      queue = c.take.ensures.queue (links_in cluster ds) (leaves * 2) l.invariant.queue;
+      order = c.take.ensures.order ∙ l.invariant.order;
+      placed = λ x among.
+          let was = l.invariant.placed x (subst (λ (xs : List ℕ). Contains xs x) c.take.ensures.order among) in
+          (was.0, ap (λ (ps : List (Option ℕ)). is_at ps x was.0) c.take.ensures.places ∙ was.1);
+      flags = subst (λ xs. AreFlags leaves (is_among xs) after.made.items) (sym items)
+          (among-more leaves l.order.items d after.made.items
+          (subst (AreFlags leaves (λ e. is_among l.order.items e || (true && is_same_decision d e))) (sym made)
+          (raised leaves (is_among l.order.items) q.made.items l.invariant.flags d true refl inside)));
+      made = λ other is.
+          let same : d ≡ (get_or c.args.sorted.now p (no_rank other)).decision = c.decision_at.ensures (no_rank other) in
+          subst (WereMade cluster ds other) (sym (items ∙ ap (λ (x : Decision). l.order.items ++ x ∷ []) same))
+          (one_more l.order.items (get_or c.args.sorted.now p (no_rank other)).decision (l.invariant.made other is)
+          (next-first cluster c.requires.valid ds set.within other c.args.sorted.now is q l.invariant.queue l.invariant.order l.invariant.placed l.order.items l.invariant.flags p first));
     }

@@ -13,16 +13,17 @@ returns-clause-targets c = λ events pinned.
     let cl = c.args.cluster.now in
     let pins = c.args.pins.now in
     let chosen = targets_of c.args.chosen.now in
-    let left = targets_of c.settled.result in
-    let rules : c.as_slice.result.now ≡ dependencies_by cl pins = c.as_slice.ensures.value ∙ c.in_ok-rules.ensures in
+    let left = targets_of c.in_ok-left.left in
+    let on = c.in_ok-left.ensures in
+    let rules : c.in_ok-rules.rules.items ≡ dependencies_by cl pins = c.in_ok-rules.ensures in
     let table : c.in_ok-table.table ≡ c.args.chosen.now = c.in_ok-table.ensures in
     let nodes : c.in_ok-table.table.nodes ≡ length cl.nodes = ap (λ (t : Table). t.nodes) table ∙ c.requires in
     let taken : Taken (dependencies_by cl pins) (length cl.nodes) chosen left
     = subst (λ (t : Table). Taken (dependencies_by cl pins) (length cl.nodes) (targets_of t) left) table
     (subst (λ (n : ℕ). Taken (dependencies_by cl pins) n (targets_of c.in_ok-table.table) left) nodes
-    (subst (λ (xs : List Dependency). Taken xs c.in_ok-table.table.nodes (targets_of c.in_ok-table.table) left) rules c.settled.ensures.taken)) in
+    (subst (λ (xs : List Dependency). Taken xs c.in_ok-table.table.nodes (targets_of c.in_ok-table.table) left) rules on.taken)) in
     let settled : (rule : Dependency) → Contains (dependencies_by cl pins) rule → IsSettled (length cl.nodes) left rule
     = λ rule among.
     subst (λ (n : ℕ). IsSettled n left rule) nodes
-    (c.settled.ensures.settled rule (subst (λ (xs : List Dependency). Contains xs rule) (sym rules) among)) in
+    (on.settled rule (subst (λ (xs : List Dependency). Contains xs rule) (sym rules) among)) in
     are_targets cl events chosen left (left_of_chosen cl events pins pinned chosen left taken) pins pinned settled
