@@ -19,15 +19,15 @@ def read(path):
 def inputs():
     """Each example with a status, and those that have results too: a name, and the text."""
     names = sorted(os.listdir(EXAMPLES))
-    for name in names:
-        front, end = os.path.splitext(name)
-        if end == ".status":
-            text = read(f"examples/{front}.crm") + read(f"examples/{name}")
-            yield front, text
-            if front + ".results" in names:
-                yield front + "-results", text + read(f"examples/{front}.results")
-        elif end == ".crm" and b"\n%status" in read(f"examples/{name}"):
-            yield front, read(f"examples/{name}")
+    for front in (os.path.splitext(name)[0] for name in names if name.endswith(".crm")):
+        text = read(f"examples/{front}.crm")
+        if front + ".status" in names:
+            text += read(f"examples/{front}.status")
+        if b"\n%status" not in text:
+            continue
+        yield front, text
+        if front + ".results" in names:
+            yield front + "-results", text + read(f"examples/{front}.results")
 
 
 def try_answers():
