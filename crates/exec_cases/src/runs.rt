@@ -76,6 +76,16 @@ impl<'a> Watcher for Follower<'a> {
 
     ghost stops = { λ _. 0 };
 
+    ghost follows = { λ _ _. Unit {0} };
+
+    ghost stopped = { λ _ _. Unit {0} };
+
+    ghost from_itself = { λ _. tt };
+
+    ghost from_before = { λ _ _ _ _ later. later };
+
+    ghost stopped_later = { λ _ _ _ _ later. later };
+
     fn planned(&mut self, transition: u32, placed: &Placed) -> Heard {
         self.hear(Line::Transition(transition, first_node(placed)))
     }

@@ -39,6 +39,16 @@ impl Watcher for Patience {
 
     ghost stops = { λ w. w.stops };
 
+    ghost follows = { λ _ _. Unit {0} };
+
+    ghost stopped = { λ _ _. Unit {0} };
+
+    ghost from_itself = { λ _. tt };
+
+    ghost from_before = { λ _ _ _ _ later. later };
+
+    ghost stopped_later = { λ _ _ _ _ later. later };
+
     fn planned(&mut self, _transition: u32, _placed: &Placed) -> Heard {
         self.hear()
     }

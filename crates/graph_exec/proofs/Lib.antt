@@ -14,6 +14,7 @@ pub mod Silent
 pub mod Fewer
 pub mod Lines
 pub mod Carrying
+pub mod Coming
 pub mod Stepping
 pub mod Said
 pub mod Told

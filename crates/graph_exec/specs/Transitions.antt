@@ -9,6 +9,8 @@ use Rattle.cluster_types.specs.Sources.{Says}
 use Rattle.cluster_types.specs.Steps.{HasEnded, IsWaiting, aborts, all_succeeded, flying, has_aborted, outside}
 use Rattle.graph_exec.specs.declared.ends.WatchedEnd.{WatchedEnd}
 use Rattle.graph_exec.specs.declared.ends.WatchedEnd.TheVariants as how
+use Rattle.graph_exec.specs.declared.outcomes.Next.{Next}
+use Rattle.graph_exec.specs.declared.outcomes.Next.TheVariants as next
 use Rattle.graph_exec.specs.Running.{Running, Went, going}
 
 -- each action has succeeded, and nothing aborted
@@ -64,3 +66,9 @@ IsExpected _ = Unit {0}
 pub record WentAsSaid (old new : Running) : Type 0 where
   pub answers : List Answer
   pub went : Went false old new (Some answers) (Some [])
+
+-- what a source has come to, by how the transition ended: where an answer doesn't apply or the source failed, that was said last; else no question failed
+abbrev pub HasCome : Type 0 → (Next → Type 0) → WatchedEnd → Type 0
+HasCome Follows Said (how.Unexpected given) = Said (next.Answer given)
+HasCome Follows Said how.SourceFault = Said next.Failed
+HasCome Follows Said _ = Follows

@@ -53,3 +53,8 @@ pub record IsCutOff (whole : Bool) (names : Option Cluster) (old new : Running) 
 abbrev pub Hears : Bool → Option Cluster → Running → Running → Option (List Answer) → Option (List Answer) → Option (List ℕ) → Option (List ℕ) → Heard → Type 0
 Hears whole names old new rest left before after heard.Go = IsTold names old new before after
 Hears whole names old new rest left before after heard.Stop = IsCutOff whole names old new rest left before after
+
+-- what a watcher has come to, by what it said at last: it went on each time, or stopped then
+abbrev pub HasHeard : Type 0 → Type 0 → Heard → Type 0
+HasHeard Follows Stopped heard.Go = Follows
+HasHeard Follows Stopped heard.Stop = Stopped

@@ -1,6 +1,6 @@
 //! A journal, and what it tells of the cluster.
 
-ghost use Rattle.std.specs.Prelude.{◌≡◌, ◌<◌, ◌^◌, true, IfOk, IfErr};
+ghost use Rattle.std.specs.Prelude.{◌≡◌, ◌<◌, ◌^◌, true, length, IfOk, IfErr};
 ghost use Rattle.cluster_types.specs.Journals.{moment_of};
 ghost use Rattle.cluster_types.specs.Unpacked.{states_of};
 ghost use Rattle.cluster_types.specs.Valid.{KeepsLimits};
@@ -63,6 +63,13 @@ impl<'c> KnownJournal<'c> {
         ensures { result.now ≡ self.now.cluster }
     {
         self.cluster
+    }
+
+    /// How many events there are.
+    pub fn count(&self) -> usize
+        ensures { result ≡ length self.now.events }
+    {
+        self.events.len()
     }
 
     /// What the journal tells of the cluster. Out of memory is its only other answer.

@@ -1,6 +1,6 @@
 //! Where the answers come from.
 
-ghost use Rattle.std.specs.Prelude.{◌≡◌, ◌≤◌, ◌+◌, ◌++◌, ◌∷◌, [], ℕ, Bool, true, Option, List};
+ghost use Rattle.std.specs.Prelude.{◌≡◌, ◌≢◌, ◌≤◌, ◌+◌, ◌++◌, ◌∷◌, [], ℕ, Bool, true, Option, List};
 ghost use Rattle.cluster_io.specs.Streams.{Rose};
 ghost use Rattle.cluster_types.specs.declared.cluster.Cluster.{Cluster as ClusterOf};
 ghost use Rattle.cluster_types.specs.declared.journal.Answer.{Answer as AnswerOf};
@@ -8,6 +8,8 @@ ghost use Rattle.cluster_types.specs.declared.journal.Event.{Event as EventOf};
 ghost use Rattle.cluster_types.specs.declared.journal.Event.TheVariants.{Begin};
 ghost use Rattle.cluster_types.specs.Journals.{IsFlight};
 ghost use Rattle.graph_exec.specs.Flights.{pairs};
+ghost use Rattle.graph_exec.specs.declared.outcomes.Next.{Next as NextOf};
+ghost use Rattle.graph_exec.specs.declared.outcomes.Next.TheVariants as says;
 ghost use Rattle.graph_exec.specs.Saying.{AgreesAfter, Gives, IsFitting, IsOverBy};
 
 use crate::flight::InFlight;
@@ -49,6 +51,12 @@ pub trait Outcomes {
     /// It agrees with a journal of a cluster, after so many answers from outside in this transition.
     ghost agrees: { Self → ClusterOf → List EventOf → ℕ → Type 0 };
 
+    /// It has come from another, the same source at an earlier moment, by what it was told and asked since, and no question failed.
+    ghost follows: { Self → Self → Type 0 };
+
+    /// It has come so from another, and then a last question brought this.
+    ghost said: { Self → Self → NextOf → Type 0 };
+
     /// The action of this number begins: its event is in the journal.
     fn begun(&mut self, number: u32, action: Action)
         ensures rest { rest self.new ≡ rest self.old }
@@ -58,7 +66,8 @@ pub trait Outcomes {
         ensures careful { careful self.new ≡ careful self.old }
         ensures steady { steady self.new ≡ steady self.old }
         ensures over { over self.new ≡ over self.old }
-        ensures agrees { (c : ClusterOf) (es : List EventOf) (taken : ℕ) → agrees self.old c es taken → agrees self.new c (es ++ Begin number action ∷ []) taken };
+        ensures agrees { (c : ClusterOf) (es : List EventOf) (taken : ℕ) → agrees self.old c es taken → agrees self.new c (es ++ Begin number action ∷ []) taken }
+        ensures follows { follows self.old self.new };
 
     /// What comes next, with these actions in flight.
     fn next(&mut self, flight: &InFlight) -> Next
@@ -73,8 +82,21 @@ pub trait Outcomes {
         ensures agrees { (c : ClusterOf) (es : List EventOf) (taken : ℕ) → agrees self.old c es taken → IsFlight es (pairs flight.now)
             → AgreesAfter (agrees self.new) c es taken (pairs flight.now) result }
         ensures fitting { (c : ClusterOf) (es : List EventOf) (taken : ℕ) → careful self.old ≡ true → agrees self.old c es taken
-            → IsFlight es (pairs flight.now) → IsFitting c es taken (pairs flight.now) result };
+            → IsFlight es (pairs flight.now) → IsFitting c es taken (pairs flight.now) result }
+        ensures said { said self.old self.new result };
 
     /// It agrees before the first answer from outside with each journal with which it agrees after some.
     ghost anew: { (source : Self) (c : ClusterOf) (es : List EventOf) (taken : ℕ) → agrees source c es taken → agrees source c es 0 };
+
+    /// It has come from itself.
+    ghost from_itself: { (source : Self) → follows source source };
+
+    /// It has come from what it came from on the way.
+    ghost from_before: { (first middle last : Self) → follows first middle → follows middle last → follows first last };
+
+    /// Where the last question didn't fail, none failed.
+    ghost from_said: { (first last : Self) (brought : NextOf) → brought ≢ says.Failed → said first last brought → follows first last };
+
+    /// What a last question brought, it brought behind what came before.
+    ghost said_later: { (first middle last : Self) (brought : NextOf) → follows first middle → said middle last brought → said first last brought };
 }

@@ -5,8 +5,8 @@ ghost use Rattle.cluster_io.specs.Streams.{Rose};
 ghost use Rattle.cluster_types.specs.Steps.{IsWaiting, is_settled};
 ghost use Rattle.graph_exec.specs.Rounds.{Advanced, Answered, StopsAs, asks_left, begins_left};
 ghost use Rattle.graph_exec.specs.Running.{IsUnderWay, Went, going};
-ghost use Rattle.graph_exec.specs.Transitions.{Accords, EndsAs, GoneTo, HasGoneToEnd, IsExpected, WentAsSaid};
-ghost use Rattle.graph_exec.specs.Watching.{Hears, heard_in};
+ghost use Rattle.graph_exec.specs.Transitions.{Accords, EndsAs, GoneTo, HasCome, HasGoneToEnd, IsExpected, WentAsSaid};
+ghost use Rattle.graph_exec.specs.Watching.{HasHeard, Hears, heard_in};
 
 use crate::ends::WatchedEnd;
 use crate::executor::Executor;
@@ -36,12 +36,14 @@ impl<'c> Executor<'c> {
         ensures steady { S.steady outcomes.new ≡ S.steady outcomes.old }
         ensures over { S.over outcomes.new ≡ S.over outcomes.old }
         ensures agrees { Accords (S.agrees outcomes.old) self.old → Accords (S.agrees outcomes.new) self.new }
+        ensures source_follows { S.follows outcomes.old outcomes.new }
 
         ensures told { Hears (S.whole outcomes.old) (V.names watcher.old) self.old self.new (S.rest outcomes.old) (S.rest outcomes.new)
             (V.told watcher.old) (V.told watcher.new) (unwrap_or result Heard.Go) }
         ensures names { V.names watcher.new ≡ V.names watcher.old }
         ensures stops { V.stops watcher.old ≤ V.stops watcher.new }
         ensures stopped { result ≡ Some Heard.Stop → Rose (V.stops watcher.old) (V.stops watcher.new) }
+        ensures watcher_follows { HasHeard (V.follows watcher.old watcher.new) (V.stopped watcher.old watcher.new) (unwrap_or result Heard.Go) }
     {
         let Some(number) = self.begin_next() else {
             return None;
@@ -70,12 +72,14 @@ impl<'c> Executor<'c> {
         ensures steady { S.steady outcomes.new ≡ S.steady outcomes.old }
         ensures over { S.over outcomes.new ≡ S.over outcomes.old }
         ensures agrees { Accords (S.agrees outcomes.old) self.old → Accords (S.agrees outcomes.new) self.new }
+        ensures source_follows { S.follows outcomes.old outcomes.new }
 
         ensures told { Hears (S.whole outcomes.old) (V.names watcher.old) self.old self.new (S.rest outcomes.old) (S.rest outcomes.new)
             (V.told watcher.old) (V.told watcher.new) result }
         ensures names { V.names watcher.new ≡ V.names watcher.old }
         ensures stops { V.stops watcher.old ≤ V.stops watcher.new }
         ensures stopped { result ≡ Heard.Stop → Rose (V.stops watcher.old) (V.stops watcher.new) }
+        ensures watcher_follows { HasHeard (V.follows watcher.old watcher.new) (V.stopped watcher.old watcher.new) result }
     {
         loop {
             match self.begin_one(outcomes, watcher) {
@@ -101,6 +105,8 @@ impl<'c> Executor<'c> {
         ensures steady { S.steady outcomes.new ≡ S.steady outcomes.old }
         ensures over { S.steady outcomes.old ≡ true → S.over outcomes.old ≡ true → S.over outcomes.new ≡ true }
         ensures agrees { Accords (S.agrees outcomes.old) self.old → Accords (S.agrees outcomes.new) self.new }
+        ensures source_follows { OnOk result (S.follows outcomes.old outcomes.new) }
+        ensures source_came { IfErr result (HasCome (S.follows outcomes.old outcomes.new) (S.said outcomes.old outcomes.new)) }
         ensures said { S.steady outcomes.old ≡ true → S.over outcomes.new ≡ false → OnOk result (WentAsSaid self.old self.new) }
         ensures not_over { IfErr result (λ end. end ≡ WatchedEnd.SourceFault → S.over outcomes.old ≡ false) }
         ensures fitting { S.careful outcomes.old ≡ true → Accords (S.agrees outcomes.old) self.old → IfErr result IsExpected }
@@ -137,6 +143,8 @@ impl<'c> Executor<'c> {
         ensures steady { S.steady outcomes.new ≡ S.steady outcomes.old }
         ensures over { S.steady outcomes.old ≡ true → S.over outcomes.old ≡ true → S.over outcomes.new ≡ true }
         ensures agrees { Accords (S.agrees outcomes.old) self.old → Accords (S.agrees outcomes.new) self.new }
+        ensures source_follows { IfNone result (S.follows outcomes.old outcomes.new) }
+        ensures source_came { IfSome result (HasCome (S.follows outcomes.old outcomes.new) (S.said outcomes.old outcomes.new)) }
         ensures said { S.steady outcomes.old ≡ true → S.over outcomes.new ≡ false → IfNone result (WentAsSaid self.old self.new) }
         ensures failed { S.steady outcomes.old ≡ true → result ≡ Some WatchedEnd.SourceFault → self.new ≡ self.old }
         ensures not_over { result ≡ Some WatchedEnd.SourceFault → S.over outcomes.old ≡ false }
@@ -147,6 +155,7 @@ impl<'c> Executor<'c> {
         ensures names { V.names watcher.new ≡ V.names watcher.old }
         ensures stops { V.stops watcher.old ≤ V.stops watcher.new }
         ensures stopped { result ≡ Some WatchedEnd.Stopped → Rose (V.stops watcher.old) (V.stops watcher.new) }
+        ensures watcher_follows { HasHeard (V.follows watcher.old watcher.new) (V.stopped watcher.old watcher.new) (heard_in result) }
     {
         match self.ask(outcomes) {
             Ok(answer) => match watcher.taken(answer) {

@@ -69,7 +69,19 @@ impl Outcomes for Script {
 
     ghost agrees = { λ _ _ _ _. Unit {0} };
 
+    ghost follows = { λ _ _. Unit {0} };
+
+    ghost said = { λ _ _ _. Unit {0} };
+
     ghost anew = { λ _ _ _ _ agreed. agreed };
+
+    ghost from_itself = { λ _. tt };
+
+    ghost from_before = { λ _ _ _ _ later. later };
+
+    ghost from_said = { λ _ _ _ _ _. tt };
+
+    ghost said_later = { λ _ _ _ _ _ _. tt };
 
     fn begun(&mut self, _number: u32, _action: Action) {}
 

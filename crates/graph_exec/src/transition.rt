@@ -3,8 +3,8 @@
 ghost use Rattle.std.specs.Prelude.{◌≡◌, ◌≤◌, ◌+◌, true, false, length};
 ghost use Rattle.cluster_io.specs.Streams.{Rose};
 ghost use Rattle.graph_exec.specs.Promises.{EndsWell, KeepsPromises};
-ghost use Rattle.graph_exec.specs.Transitions.{Accords, EndsAs, GoneTo, HasGoneToEnd, IsExpected, WentAsSaid};
-ghost use Rattle.graph_exec.specs.Watching.{Hears, heard_at, watched};
+ghost use Rattle.graph_exec.specs.Transitions.{Accords, EndsAs, GoneTo, HasCome, HasGoneToEnd, IsExpected, WentAsSaid};
+ghost use Rattle.graph_exec.specs.Watching.{HasHeard, Hears, heard_at, watched};
 
 use crate::ends::{End, WatchedEnd, without_watcher};
 use crate::executor::Executor;
@@ -39,6 +39,7 @@ pub fn run_watched<S: Outcomes, V: Watcher>(
     ensures not_over { S.steady outcomes.old ≡ true → result ≡ WatchedEnd.SourceFault → S.over outcomes.old ≡ false }
     ensures said_to_end { S.steady outcomes.old ≡ true → S.over outcomes.new ≡ false → HasGoneToEnd result → WentAsSaid executor.old executor.new }
     ensures agrees { Accords (S.agrees outcomes.old) executor.old → Accords (S.agrees outcomes.new) executor.new }
+    ensures source_follows { HasCome (S.follows outcomes.old outcomes.new) (S.said outcomes.old outcomes.new) result }
     ensures fitting { S.careful outcomes.old ≡ true → Accords (S.agrees outcomes.old) executor.old → IsExpected result }
 
     // What the watcher was told.
@@ -47,6 +48,7 @@ pub fn run_watched<S: Outcomes, V: Watcher>(
     ensures names { V.names watcher.new ≡ V.names watcher.old }
     ensures stops { V.stops watcher.old ≤ V.stops watcher.new }
     ensures stopped { result ≡ WatchedEnd.Stopped → Rose (V.stops watcher.old) (V.stops watcher.new) }
+    ensures watcher_follows { HasHeard (V.follows watcher.old watcher.new) (V.stopped watcher.old watcher.new) (heard_at result) }
 {
     loop {
         if let Heard::Stop = executor.begin_all(outcomes, watcher) {
@@ -77,9 +79,13 @@ pub fn run_transition<S: Outcomes>(executor: &mut Executor<'_>, outcomes: &mut S
     ensures steady { S.steady outcomes.new ≡ S.steady outcomes.old }
     ensures over { S.steady outcomes.old ≡ true → S.over outcomes.old ≡ true → S.over outcomes.new ≡ true }
 
-    // A steady source that fails has let no action end silently.
+    // A steady source that fails, or isn't over at the end, has let no action end silently.
     ensures said { S.steady outcomes.old ≡ true → result ≡ End.SourceFault → WentAsSaid executor.old executor.new }
+    ensures not_over { S.steady outcomes.old ≡ true → result ≡ End.SourceFault → S.over outcomes.old ≡ false }
+    ensures said_to_end { S.steady outcomes.old ≡ true → S.over outcomes.new ≡ false → HasGoneToEnd (watched result)
+        → WentAsSaid executor.old executor.new }
     ensures agrees { Accords (S.agrees outcomes.old) executor.old → Accords (S.agrees outcomes.new) executor.new }
+    ensures source_follows { HasCome (S.follows outcomes.old outcomes.new) (S.said outcomes.old outcomes.new) (watched result) }
     ensures fitting { S.careful outcomes.old ≡ true → Accords (S.agrees outcomes.old) executor.old → IsExpected (watched result) }
 {
     without_watcher(run_watched(executor, outcomes, &mut Unwatched))

@@ -1,6 +1,6 @@
 -- How a transition of a run is closed, and how the run ends in its midst.
-use Rattle.std.proofs.Common.{◌≡◌, ℕ, ◌+◌, Bool, true, false, List, [], ◌∷◌, ◌++◌, refl, sym, ap, ◌∙◌, subst}
-use Rattle.std.specs.Prelude.{Option, Some, None, find}
+use Rattle.std.proofs.Common.{◌≡◌, ℕ, Bool, true, false, List, [], ◌∷◌, ◌++◌, refl, sym, ap, ◌∙◌, subst}
+use Rattle.std.specs.Prelude.{Option, Some}
 use Rattle.std.specs.List.{flat_map}
 use Rattle.cluster_io.specs.Streams.{Adds, AddsPrefix}
 use Rattle.cluster_types.specs.declared.cluster.Cluster.{Cluster}
@@ -9,18 +9,18 @@ use Rattle.cluster_types.specs.declared.journal.Event.{Event}
 use Rattle.cluster_types.specs.declared.journal.Journal.{Journal}
 use Rattle.cluster_types.specs.declared.journal.Promotion.{Promotion}
 use Rattle.cluster_types.specs.Answering.{applies_after}
-use Rattle.cluster_types.specs.Runs.{Standing, due, amid, idle, RunsOn, goes, completes, aborts, Runs, journal_at}
+use Rattle.cluster_types.specs.Runs.{amid, RunsOn, goes, completes, aborts, journal_at}
 use Rattle.cluster_types.specs.Steps as steps
 use Rattle.cluster_types.specs.Steps.{Transition, StepsOn, HasEnded, IsWaiting, flying, has_aborted, journal, outside}
 use Rattle.cluster_types.specs.Texts.{event_lines}
 use Rattle.graph_exec.specs.Logs.{JournalOf}
-use Rattle.graph_exec.specs.Running.{Running, Went, going, later}
+use Rattle.graph_exec.specs.Running.{Running, Went, going}
 use Rattle.graph_exec.specs.Telling.{closing_line, text_of}
 use Rattle.graph_exec.specs.Transitions.{IsAborted, IsComplete, IsCutBy, WentAsSaid, WentTo}
 use Rattle.graph_exec.specs.Watching.{IsCutOff, IsTold}
 use Rattle.graph_exec.proofs.Beginning.{found_so}
 use Rattle.run_laws.proofs.SoFar.{runs_once}
-use Rattle.replan.specs.Replays.{Setting, Sight, setting, sight}
+use Rattle.replan.specs.Replays.{Setting, setting, sight}
 use Rattle.replan.specs.Turns.{Came, CameTo, EndsBroken, EndsCut, EndsStopped, closed_at, known_of, left_of}
 use Rattle.replan.proofs.Joined.{came_on, came_step}
 use Rattle.replan.proofs.Steps.{came_carried, part_runs, part_said, part_told}

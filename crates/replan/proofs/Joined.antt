@@ -1,6 +1,6 @@
 -- What came of one part of a run, and then of the next, is what came of both.
-use Rattle.std.proofs.Common.{◌≡◌, ℕ, Bool, true, false, List, [], ◌∷◌, ◌++◌, append_assoc, refl, sym, ap, ◌∙◌, subst}
-use Rattle.std.specs.Prelude.{Option, Some, None, Result, Ok, Err}
+use Rattle.std.proofs.Common.{◌≡◌, ℕ, true, false, List, [], ◌++◌, append_assoc, sym, subst}
+use Rattle.std.specs.Prelude.{Option, Some, Result, Ok, Err}
 use Rattle.cluster_io.proofs.Pieces.{Adds-then}
 use Rattle.cluster_io.specs.Streams.{Adds}
 use Rattle.cluster_types.specs.declared.journal.Answer.{Answer}

@@ -3,6 +3,10 @@ pub mod Named
 pub mod Steps
 pub mod Ready
 pub mod Closings
+pub mod Coming
 pub mod Quiet
 pub mod Rests
 pub mod Whole
+pub mod KeptPlans
+pub mod KeptEnds
+pub mod KeptTurns

@@ -1,6 +1,6 @@
 -- What holds a leaf back is a rule of the cluster, so it has a name.
-use Rattle.std.proofs.Common.{◌≡◌, ℕ, true, List, [], ◌∷◌, ◌++◌, refl, sym, subst, Contains, ◌⊎◌, inl, inr}
-use Rattle.std.specs.Prelude.{Option, Some, None}
+use Rattle.std.proofs.Common.{◌≡◌, ℕ, true, List, ◌∷◌, refl, Contains, ◌⊎◌, inl, inr}
+use Rattle.std.specs.Prelude.{Some}
 use Rattle.std.specs.List.{AllByRecursion}
 use Rattle.std.proofs.lemmas.List.Elements.{Contains-append_right}
 use Rattle.lemmas.proofs.Members.{at_head}
@@ -12,7 +12,7 @@ use Rattle.cluster_types.specs.declared.placement.Placed.{Placed}
 use Rattle.cluster_types.specs.declared.rules.Colocation.{Colocation}
 use Rattle.cluster_types.specs.declared.rules.Order.{Order}
 use Rattle.cluster_types.specs.Plans.{IsPlaced}
-use Rattle.cluster_types.specs.Reasons.{IsFirstOf, IsHeldBy, IsHeldByColocation, IsHeldByOrder}
+use Rattle.cluster_types.specs.Reasons.{IsFirstOf, IsHeldByColocation, IsHeldByOrder}
 use Rattle.cluster_types.specs.Tables.{Targets}
 use Rattle.cluster_types.specs.Valid.{IsValid}
 use Rattle.crm_lex.specs.Names.{is_name}

@@ -1,8 +1,9 @@
 -- A transition that is planned, and what comes of it in its run.
-use Rattle.std.proofs.Common.{◌≡◌, ℕ, ◌+◌, Bool, true, false, List, [], ◌∷◌, ◌++◌, refl, sym, ap, ◌∙◌, subst}
-use Rattle.std.specs.Prelude.{Option, Some, None, Result}
+use Rattle.std.proofs.Common.{◌≡◌, ℕ, Bool, true, List, [], ◌++◌, refl, sym, ap, ◌∙◌, subst}
+use Rattle.std.specs.Prelude.{Option, Result}
 use Rattle.cluster_io.specs.Streams.{Adds, AddsPrefix}
 use Rattle.cluster_types.specs.declared.cluster.Cluster.{Cluster}
+use Rattle.cluster_types.specs.declared.journal.Answer.{Answer}
 use Rattle.cluster_types.specs.declared.journal.Answer.{Answer}
 use Rattle.cluster_types.specs.declared.journal.Event.{Event}
 use Rattle.cluster_types.specs.declared.journal.Journal.{Journal}
@@ -15,15 +16,17 @@ use Rattle.cluster_types.specs.Steps.{Transition}
 use Rattle.cluster_types.specs.Valid.{IsValid}
 use Rattle.graph_exec.specs.Logs.{JournalOf}
 use Rattle.graph_exec.specs.Promises.{IsPlanned}
-use Rattle.graph_exec.specs.Running.{Running, going}
+use Rattle.graph_exec.specs.Running.{Running, Went, going}
 use Rattle.graph_exec.specs.Telling.{plan_lines, text_of}
+use Rattle.graph_exec.specs.Transitions.{Accords}
 use Rattle.graph_exec.proofs.Told.{adds_nothing}
 use Rattle.replan.specs.declared.planning.Planned.{Planned}
 use Rattle.replan.specs.declared.stop.ReplayStop.{ReplayStop}
 use Rattle.replan.specs.Replays.{Setting, Sight, WritesNamesOf, setting, sight}
-use Rattle.replan.specs.Turns.{Came, CameTo, EndsAs, EndsStopped, HasPlan, IsReady, left_of}
+use Rattle.replan.specs.Turns.{Came, CameTo, EndsAs, EndsStopped, HasPlan, IsReady, known_of, left_of}
 use Rattle.replan.proofs.Joined.{came_on, ends_on}
 use Rattle.replan.proofs.Named.{reasons_named}
+use Rattle.replan.proofs.Rests.{accords_first, accords_last, stays_there}
 use Rattle.replan.proofs.Steps.{came_planned, lines_of_plan, plan_text, planned_step}
 
 -- nothing of the graph has begun
@@ -54,8 +57,21 @@ module _ (j : JournalOf) (p : Planned) (ready : IsReady j p) where
   pub has_plan : HasPlan p.executor
   has_plan = record { placed = p.placed; planned = ready.plan }
 
-  carries : CarriesOut j.cluster j.events j.promotions p.placed p.executor.graph
+  pub carries : CarriesOut j.cluster j.events j.promotions p.placed p.executor.graph
   carries = (subst (λ (r : Running). IsPlanned r p.placed) ready.fresh ready.plan).plan
+
+  -- a source that agreed with the journal agrees with the one that the transition leaves
+  module _ (whole : Bool) (now : Running) (rest left : Option (List Answer)) (went : Went whole p.executor now rest left) where
+    pub agrees_behind : (before after : Cluster → List Event → ℕ → Type 0) → ((c : Cluster) (es : List Event) (taken : ℕ) → after c es taken → after c es 0)
+        → (Accords before p.executor → Accords after now) → before j.cluster j.events 0 → (es : List Event) → es ≡ now.planned_at ++ now.since → after j.cluster es 0
+    agrees_behind before after anew carried h es is =
+        subst (λ (c : Cluster). after c es 0) same_cluster
+        (accords_last after anew p.executor now (stays_there whole p.executor now rest left went)
+        (carried (accords_first before p.executor has_plan.planned.at_rest.1 starts_fresh
+        (subst (λ (c : Cluster). before c p.executor.planned_at 0) (sym same_cluster) (subst (λ (x : List Event). before j.cluster x 0) (sym same_events) h)))) es is)
+
+    pub later_cluster : (later : JournalOf) → later ≡ known_of now → later.cluster ≡ j.cluster
+    later_cluster later known = ap (λ (x : JournalOf). x.cluster) known ∙ stays_there whole p.executor now rest left went ∙ same_cluster
 
   same_going : (t : Transition) → t ≡ going p.executor → t ≡ going (fresh_on j p.executor.graph)
   same_going t e = e ∙ ap going ready.fresh

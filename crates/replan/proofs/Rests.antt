@@ -1,6 +1,6 @@
 -- A source that agrees with the journal at the beginning of a transition, at its end, and while nothing is to be done.
-use Rattle.std.proofs.Common.{arith, ◌≡◌, ℕ, ◌+◌, ◌<◌, Bool, true, false, List, [], ◌∷◌, ◌++◌, append-nil, refl, sym, ap, ◌∙◌, subst, count_by}
-use Rattle.std.specs.Prelude.{Option, Some, None, Contains, AllPairs}
+use Rattle.std.proofs.Common.{arith, ◌≡◌, ℕ, Bool, true, false, List, [], ◌++◌, append-nil, refl, sym, ap, ◌∙◌, subst, count_by}
+use Rattle.std.specs.Prelude.{Option}
 use Rattle.lemmas.proofs.Members.{in_none}
 use Rattle.cluster_types.specs.declared.cluster.Cluster.{Cluster}
 use Rattle.cluster_types.specs.declared.journal.Action.{Action}
@@ -13,7 +13,7 @@ use Rattle.cluster_types.specs.Safety.{IsAtRest}
 use Rattle.cluster_types.specs.Steps.{Applies, events_of, is_from_outside, resting}
 use Rattle.graph_exec.specs.Logs.{JournalOf}
 use Rattle.graph_exec.specs.Promises.{IsPlanned}
-use Rattle.graph_exec.specs.Running.{Running, Went, going}
+use Rattle.graph_exec.specs.Running.{Running, Went}
 use Rattle.graph_exec.specs.Saying.{AgreesOn}
 use Rattle.graph_exec.specs.Transitions.{Accords}
 use Rattle.replan.specs.Turns.{HasPlan, known_of}

@@ -1,5 +1,5 @@
 -- The steps of a run, and what is told of each.
-use Rattle.std.proofs.Common.{◌≡◌, ℕ, ◌+◌, Bool, true, false, List, [], ◌∷◌, ◌++◌, append-nil, refl, sym, ap, ◌∙◌, subst}
+use Rattle.std.proofs.Common.{◌≡◌, ℕ, Bool, true, false, List, [], ◌∷◌, ◌++◌, refl, sym, ap, subst}
 use Rattle.std.specs.Prelude.{Option, Some, None}
 use Rattle.std.specs.List.{flat_map}
 use Rattle.cluster_io.specs.Streams.{Adds}
@@ -11,8 +11,8 @@ use Rattle.cluster_types.specs.declared.placement.Placed.{Placed}
 use Rattle.cluster_types.specs.declared.run.RunLine.{RunLine}
 use Rattle.cluster_types.specs.declared.run.RunLine.TheVariants as line
 use Rattle.cluster_types.specs.Graphs.{GraphOf}
-use Rattle.cluster_types.specs.Plans.{CarriesOut, transition_of, transition_on}
-use Rattle.cluster_types.specs.Runs.{Standing, due, amid, Runs, RunsOn, plans}
+use Rattle.cluster_types.specs.Plans.{CarriesOut, transition_on}
+use Rattle.cluster_types.specs.Runs.{due, amid, Runs, RunsOn, plans}
 use Rattle.cluster_types.specs.Steps.{Transition, Goes}
 use Rattle.cluster_types.specs.Tables.{targets_of}
 use Rattle.cluster_types.specs.Texts.{event_lines, target_lines}
@@ -24,7 +24,7 @@ use Rattle.graph_exec.specs.Watching.{IsTold}
 use Rattle.graph_exec.proofs.Said.{goes_more}
 use Rattle.run_laws.proofs.OneTransition.{goes_runs}
 use Rattle.run_laws.proofs.SoFar.{runs_once}
-use Rattle.replan.specs.Replays.{Setting, Sight, WritesNamesOf, sight}
+use Rattle.replan.specs.Replays.{Setting, WritesNamesOf, sight}
 use Rattle.replan.specs.Turns.{Came, IsSaid}
 use Rattle.replan.proofs.Joined.{came_step}
 

@@ -1,6 +1,6 @@
 -- A run from its beginning, by how it ended.
-use Rattle.std.proofs.Common.{◌≡◌, ◌≤◌, ℕ, ◌+◌, Bool, true, false, List, [], ◌∷◌, ◌++◌, append-nil, refl, sym, ap, ◌∙◌, subst}
-use Rattle.std.specs.Prelude.{Option, Some, None, Result, Ok, Err, IfOk, IfErr}
+use Rattle.std.proofs.Common.{◌≡◌, ◌≤◌, ℕ, ◌+◌, Bool, false, List, [], ◌++◌, refl, sym, ap, subst}
+use Rattle.std.specs.Prelude.{Option, Result, Ok, Err, IfOk, IfErr}
 use Rattle.cluster_types.specs.declared.cluster.Cluster.{Cluster}
 use Rattle.cluster_types.specs.declared.journal.Answer.{Answer}
 use Rattle.cluster_types.specs.declared.journal.Event.{Event}
@@ -8,7 +8,7 @@ use Rattle.cluster_types.specs.declared.journal.Journal.{Journal}
 use Rattle.cluster_types.specs.declared.journal.Promotion.{Promotion}
 use Rattle.cluster_types.specs.declared.run.RunLine.{RunLine}
 use Rattle.cluster_types.specs.Journals.{Orderly}
-use Rattle.cluster_types.specs.Runs.{Standing, due, amid, idle, Runs, here, IsAsking, not_yet, journal_at}
+use Rattle.cluster_types.specs.Runs.{Standing, due, amid, idle, Runs, here, IsAsking, not_yet}
 use Rattle.cluster_types.specs.Safety.{IsAtRest, IsSafeRun}
 use Rattle.graph_exec.specs.Logs.{JournalOf}
 use Rattle.graph_exec.proofs.Carrying.{rose_since}
@@ -21,7 +21,7 @@ use Rattle.replan.specs.Replays.{Setting, Sight, HasCause, IsBetweenTwo, IsKept,
 use Rattle.replan.specs.Turns.{Came, CameTo, EndsAs, journal_of}
 use Rattle.replan.proofs.Joined.{came_nowhere}
 
-asks_still : (c : Cluster) (promotions : List Promotion) (one other : Bool) (at : Standing) → IsAsking c promotions one at → IsAsking c promotions other at
+pub asks_still : (c : Cluster) (promotions : List Promotion) (one other : Bool) (at : Standing) → IsAsking c promotions one at → IsAsking c promotions other at
 asks_still c promotions one other (due k es) h = h
 asks_still c promotions one other (amid k t since) h = h
 asks_still c promotions one other (idle k es) h = h

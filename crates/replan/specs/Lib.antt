@@ -1,2 +1,4 @@
 pub mod Replays
+pub mod Kept
 pub mod Turns
+pub mod Keeping

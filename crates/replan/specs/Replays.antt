@@ -11,6 +11,8 @@ use Rattle.cluster_types.specs.declared.run.RunLine.{RunLine}
 use Rattle.cluster_types.specs.Journals.{Orderly}
 use Rattle.cluster_types.specs.Runs.{Standing, due, Runs, IsBetween, IsCutRun, IsRunSoFar, IsRunUpTo, IsStoppedRun, IsWholeRun}
 use Rattle.graph_exec.specs.Telling.{text_of}
+use Rattle.graph_exec.specs.declared.outcomes.Next.{Next}
+use Rattle.graph_exec.specs.declared.outcomes.Next.TheVariants as next
 use Rattle.replan.specs.declared.stop.ReplayStop.{ReplayStop}
 use Rattle.replan.specs.declared.stop.ReplayStop.TheVariants as stop
 
@@ -126,3 +128,21 @@ abbrev pub HasCause : ℕ → ℕ → ℕ → ℕ → Result Journal ReplayStop 
 HasCause faults faults_now stops stops_now (Err (stop.SourceFault journal)) = Rose faults faults_now
 HasCause faults faults_now stops stops_now (Err (stop.Stopped journal)) = Rose stops stops_now
 HasCause faults faults_now stops stops_now _ = Unit {0}
+
+-- what the source has come to, by how the run ended: nothing more, an answer that doesn't apply or a failure was said last; else no question failed
+abbrev pub HasCome : Type 0 → (Next → Type 0) → Result Journal ReplayStop → Type 0
+HasCome Follows Said (Ok journal) = Said next.Silent
+HasCome Follows Said (Err (stop.Unexpected journal given)) = Said (next.Answer given)
+HasCome Follows Said (Err (stop.SourceFault journal)) = Said next.Failed
+HasCome Follows Said (Err (stop.Stopped journal)) = Follows
+HasCome Follows Said (Err (stop.Most journal)) = Follows
+HasCome Follows Said (Err stop.NoMemory) = Follows
+
+-- what the watcher has come to: it went on each time, or has stopped the run
+abbrev pub HasHeard : Type 0 → Type 0 → Result Journal ReplayStop → Type 0
+HasHeard Follows Stopped (Ok journal) = Follows
+HasHeard Follows Stopped (Err (stop.Unexpected journal given)) = Follows
+HasHeard Follows Stopped (Err (stop.SourceFault journal)) = Follows
+HasHeard Follows Stopped (Err (stop.Stopped journal)) = Stopped
+HasHeard Follows Stopped (Err (stop.Most journal)) = Follows
+HasHeard Follows Stopped (Err stop.NoMemory) = Follows

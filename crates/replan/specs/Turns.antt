@@ -20,6 +20,10 @@ use Rattle.replan.specs.Replays.{Setting, Sight}
 abbrev pub journal_of : Setting → Standing → Journal
 journal_of s at = record { events = journal_at at; promotions = s.promotions }
 
+-- a journal without what it tells
+abbrev pub plain_of : JournalOf → Journal
+plain_of j = record { events = j.events; promotions = j.promotions }
+
 -- the journal that a transition leaves, without what it tells and with it
 abbrev pub left_of : Running → Journal
 left_of r = record { events = r.planned_at ++ r.since; promotions = r.promotions }

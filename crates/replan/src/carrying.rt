@@ -1,10 +1,10 @@
 //! A transition of a run, carried out and closed.
 
-ghost use Rattle.std.specs.Prelude.{◌≡◌, ◌≤◌, [], true, IfOk, IfErr};
+ghost use Rattle.std.specs.Prelude.{◌≡◌, ◌≤◌, [], true, IfOk, IfErr, OnOk};
 ghost use Rattle.cluster_types.specs.Runs.{amid};
 ghost use Rattle.cluster_types.specs.Safety.{IsAtRest};
 ghost use Rattle.graph_exec.specs.Running.{going};
-ghost use Rattle.replan.specs.Replays.{AgreesWith, HasCause, IsExpected, OfJournal, WritesNamesOf, setting, sight};
+ghost use Rattle.replan.specs.Replays.{AgreesWith, HasCause, HasCome, HasHeard, IsExpected, OfJournal, WritesNamesOf, setting, sight};
 ghost use Rattle.replan.specs.Turns.{CameTo, EndsAs, HasPlan, closed_at};
 
 use crate::stop::{Ended, ReplayStop};
@@ -53,8 +53,12 @@ pub(crate) fn carry_out<'c, S: Outcomes, V: Watcher>(
     ensures careful { S.careful outcomes.new ≡ S.careful outcomes.old }
     ensures steady { S.steady outcomes.new ≡ S.steady outcomes.old }
     ensures over { S.steady outcomes.old ≡ true → S.over outcomes.old ≡ true → S.over outcomes.new ≡ true }
+    ensures source_follows { OnOk result (S.follows outcomes.old outcomes.new) }
+    ensures source_came { IfErr result (HasCome (S.follows outcomes.old outcomes.new) (S.said outcomes.old outcomes.new)) }
     ensures names { V.names watcher.new ≡ V.names watcher.old }
     ensures stops { V.stops watcher.old ≤ V.stops watcher.new }
+    ensures watcher_follows { OnOk result (V.follows watcher.old watcher.new) }
+    ensures watcher_came { IfErr result (HasHeard (V.follows watcher.old watcher.new) (V.stopped watcher.old watcher.new)) }
 {
     match run_watched(&mut executor, outcomes, watcher) {
         WatchedEnd::Complete => match watcher.closed(number, true) {

@@ -2,7 +2,8 @@
 //! said (Pacemaker Administration, "Transitions"; when a run ends is a rule of this project).
 #![tactic(auto)]
 
-// Why a run ends early.
+// How a run ends.
+mod ending;
 mod stop;
 
 // One transition, from its plan to what comes right after it.
@@ -11,8 +12,13 @@ mod idling;
 mod planning;
 mod turning;
 
-// A run.
-mod replay;
+// A run that is told as it goes.
+mod watched;
 
-pub use replay::replay_watched;
-pub use stop::ReplayStop;
+// A run that is kept.
+mod keeping;
+mod kept;
+
+pub use kept::replay;
+pub use stop::{ReplayEnd, ReplayStop};
+pub use watched::replay_watched;

@@ -16,13 +16,13 @@ use Rattle.run_laws.proofs.OneRun.{regroup}
 
 module _ (es ys : List Event) where
   -- events before the end of a journal stay where they are
-  between_same : (a b : ℕ) → a ≤ length es → b ≤ length es → between a b (es ++ ys) ≡ between a b es
+  pub between_same : (a b : ℕ) → a ≤ length es → b ≤ length es → between a b (es ++ ys) ≡ between a b es
   between_same a b low high =
       ap (take (b - a)) (drop-append-le a es ys low)
       ∙ take-append-le (b - a) (drop a es) ys (let e = length-drop a es in omega (arith, e, low, high))
 
   -- those that are new
-  between_new : (b : ℕ) → b ≡ length es + length ys → between (length es) b (es ++ ys) ≡ ys
+  pub between_new : (b : ℕ) → b ≡ length es + length ys → between (length es) b (es ++ ys) ≡ ys
   between_new b e =
       let n : b - length es ≡ length ys = omega (arith, e) in
       ap (λ z. take z (drop (length es) (es ++ ys))) n ∙ ap (take (length ys)) (drop-append_seam es ys)

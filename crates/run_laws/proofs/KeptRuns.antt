@@ -42,7 +42,7 @@ pub record PlacedFits (c : Cluster) (placed : Placed) : Type 0 where
   pub nodes : placed.table.nodes ≡ length c.nodes
   pub cells : length placed.table.targets ≡ length c.leaves * length c.nodes
 
-placed_fits : (c : Cluster) (es : List Event) (promotions : List Promotion) (placed : Placed) → IsPlaced c es promotions placed → PlacedFits c placed
+pub placed_fits : (c : Cluster) (es : List Event) (promotions : List Promotion) (placed : Placed) → IsPlaced c es promotions placed → PlacedFits c placed
 placed_fits c es promotions placed is = record {
   pins = ap (λ l. length l) is.pins ∙ length-map-range_with_len (pin_of c es) 0 (length c.leaves);
   reasons = is.leaves;
@@ -74,19 +74,19 @@ module _ (c : Cluster) where
   KeepsAt (amid k t since) lines passed = IsBegun lines passed k t.planned_at since
   KeepsAt (idle k es) lines passed = (k ≡ length passed) × (0 < k) × IsBetweenKept lines passed es
 
+  pub fits_more : (es ys : List Event) (p : Passed) → Fits c es p → Fits c (es ++ ys) p
+  fits_more es ys p fits = record {
+    pins = fits.pins;
+    reasons = fits.reasons;
+    nodes = fits.nodes;
+    cells = fits.cells;
+    ascending = fits.ascending;
+    within = let n = length-append es ys in let w = fits.within in omega (arith, n, w);
+  }
+
   fit_more : (es ys : List Event) (ps : List Passed) → AllByRecursion (Fits c es) ps → AllByRecursion (Fits c (es ++ ys)) ps
   fit_more es ys [] h = tt
-  fit_more es ys (p ∷ ps) h = (
-    record {
-      pins = h.0.pins;
-      reasons = h.0.reasons;
-      nodes = h.0.nodes;
-      cells = h.0.cells;
-      ascending = h.0.ascending;
-      within = let n = length-append es ys in let w = h.0.within in omega (arith, n, w);
-    },
-    fit_more es ys ps h.1,
-  )
+  fit_more es ys (p ∷ ps) h = (fits_more es ys p h.0, fit_more es ys ps h.1)
 
   fit_last : (es : List Event) (ps : List Passed) (p : Passed) → AllByRecursion (Fits c es) ps → Fits c es p → AllByRecursion (Fits c es) (ps ++ p ∷ [])
   fit_last es [] p h f = (f, tt)

@@ -1,6 +1,7 @@
 use Rattle.std.proofs.Common.{arith, Some, ap, refl, sym, ◌∙◌}
 use Rattle.graph_exec.specs.declared.watcher.Heard.TheVariants as heard
 use Rattle.graph_exec.proofs.Carrying.{expected_done, gone_done, gone_further, has_ended_now, no_fault, not_stopped, rose_since, went_nowhere, went_on}
+use Rattle.graph_exec.proofs.Coming.{come_done, come_later, heard_done, heard_later}
 use Rattle.graph_exec.proofs.Fewer.{asks_most}
 use Rattle.graph_exec.proofs.Promised.{ends_well, promised}
 use Rattle.graph_exec.proofs.Said.{not_yet, said_nothing, said_on}
@@ -18,9 +19,11 @@ loop-executor-init g c = record {
   over = λ steady h. h;
   said = λ steady h. said_nothing _;
   agrees = λ h. h;
+  source_follows = g.met.S.Outcomes.from_itself _;
   told = told_nothing _ _ _;
   names = refl;
   stops = omega arith;
+  watcher_follows = g.met.V.Watcher.from_itself _;
 }
 
 -- the watcher stops at a begin
@@ -48,6 +51,12 @@ returns-in-Stop-clause-stopped g c stop = rose_since _ _ _ c.loop-executor.invar
 
 pub returns-in-Stop-clause-said_to_end : goal.returns-in-Stop-clause-said_to_end
 returns-in-Stop-clause-said_to_end g c steady open_still end = absurd end
+
+pub returns-in-Stop-clause-source_follows : goal.returns-in-Stop-clause-source_follows
+returns-in-Stop-clause-source_follows g c = g.met.S.Outcomes.from_before _ _ _ c.loop-executor.invariant.source_follows c.begin_all.ensures.source_follows
+
+pub returns-in-Stop-clause-watcher_follows : goal.returns-in-Stop-clause-watcher_follows
+returns-in-Stop-clause-watcher_follows g c = g.met.V.Watcher.stopped_later _ _ _ c.loop-executor.invariant.watcher_follows c.in-Stop.ensures.watcher_follows
 
 -- nothing is in flight any more
 
@@ -94,6 +103,14 @@ returns-then-count-eq0-clause-told g c =
 
 pub returns-then-count-eq0-clause-stopped : goal.returns-then-count-eq0-clause-stopped
 returns-then-count-eq0-clause-stopped g c stop = not_stopped _ c.end.ensures.done stop
+
+pub returns-then-count-eq0-clause-source_follows : goal.returns-then-count-eq0-clause-source_follows
+returns-then-count-eq0-clause-source_follows g c =
+    come_done (g.S.Outcomes.said c.args.outcomes.now c.begin_all.new.outcomes) _ c.end.ensures.done (g.met.S.Outcomes.from_before _ _ _ c.loop-executor.invariant.source_follows c.begin_all.ensures.source_follows)
+
+pub returns-then-count-eq0-clause-watcher_follows : goal.returns-then-count-eq0-clause-watcher_follows
+returns-then-count-eq0-clause-watcher_follows g c =
+    heard_done (g.V.Watcher.stopped c.args.watcher.now c.begin_all.new.watcher) _ c.end.ensures.done (g.met.V.Watcher.from_before _ _ _ c.loop-executor.invariant.watcher_follows c.in_default.ensures.watcher_follows)
 
 -- the source has no answer that applies, or the watcher stops at one
 
@@ -150,6 +167,17 @@ returns-in-Some-clause-not_over g c steady fault =
 pub returns-in-Some-clause-said_to_end : goal.returns-in-Some-clause-said_to_end
 returns-in-Some-clause-said_to_end g c steady open_still end = absurd (c.in-Some.ensures.going end)
 
+pub returns-in-Some-clause-source_follows : goal.returns-in-Some-clause-source_follows
+returns-in-Some-clause-source_follows g c =
+    let begun = g.met.S.Outcomes.from_before _ _ _ c.loop-executor.invariant.source_follows c.begin_all.ensures.source_follows in
+    come_later (g.S.Outcomes.said c.begin_all.new.outcomes c.go_on.new.outcomes) (g.S.Outcomes.said c.args.outcomes.now c.go_on.new.outcomes) _
+    (λ f. g.met.S.Outcomes.from_before _ _ _ begun f) (λ brought s. g.met.S.Outcomes.said_later _ _ _ brought begun s) c.in-Some.ensures.source_came
+
+pub returns-in-Some-clause-watcher_follows : goal.returns-in-Some-clause-watcher_follows
+returns-in-Some-clause-watcher_follows g c =
+    let begun = g.met.V.Watcher.from_before _ _ _ c.loop-executor.invariant.watcher_follows c.in_default.ensures.watcher_follows in
+    heard_later _ (λ f. g.met.V.Watcher.from_before _ _ _ begun f) (λ s. g.met.V.Watcher.stopped_later _ _ _ begun s) c.in-Some.ensures.watcher_follows
+
 -- an answer was taken
 
 pub loop-executor-preserved : goal.loop-executor-preserved
@@ -181,8 +209,12 @@ loop-executor-preserved g c =
           said_on _ _ _ (so_far.said steady (sym begun.over ∙ was_open))
           (said_on _ _ _ begun.said (asked.said (begun.steady ∙ so_far.steady ∙ steady) open_still));
       agrees = λ h. asked.agrees (begun.agrees (so_far.agrees h));
+      source_follows = g.met.S.Outcomes.from_before _ _ _ so_far.source_follows
+          (g.met.S.Outcomes.from_before _ _ _ begun.source_follows asked.source_follows);
       told = told_on _ _ _ _ _ _ _ so_far.told
           (told_on _ _ _ _ _ _ _ (rw so_far.names at c.in_default.ensures.told) (rw (begun.names, so_far.names) at asked.told));
       names = asked.names ∙ begun.names ∙ so_far.names;
       stops = omega arith;
+      watcher_follows = g.met.V.Watcher.from_before _ _ _ so_far.watcher_follows
+          (g.met.V.Watcher.from_before _ _ _ c.in_default.ensures.watcher_follows asked.watcher_follows);
     }

@@ -16,9 +16,11 @@ invariant-loop-executor g l = record {
   over : g.S.Outcomes.steady l.fn.outcomes ≡ true → g.S.Outcomes.over l.fn.outcomes ≡ true → g.S.Outcomes.over l.outcomes ≡ true;
   said : g.S.Outcomes.steady l.fn.outcomes ≡ true → g.S.Outcomes.over l.outcomes ≡ false → WentAsSaid l.fn.executor l.executor;
   agrees : Accords (g.S.Outcomes.agrees l.fn.outcomes) l.fn.executor → Accords (g.S.Outcomes.agrees l.outcomes) l.executor;
+  source_follows : g.S.Outcomes.follows l.fn.outcomes l.outcomes;
   told : IsTold (g.V.Watcher.names l.fn.watcher) l.fn.executor l.executor (g.V.Watcher.told l.fn.watcher) (g.V.Watcher.told l.watcher);
   names : g.V.Watcher.names l.watcher ≡ g.V.Watcher.names l.fn.watcher;
   stops : g.V.Watcher.stops l.fn.watcher ≤ g.V.Watcher.stops l.watcher;
+  watcher_follows : g.V.Watcher.follows l.fn.watcher l.watcher;
 }
 
 abbrev pub decreases-loop-executor : goal.decreases-loop-executor

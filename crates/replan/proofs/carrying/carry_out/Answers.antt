@@ -98,3 +98,17 @@ returns-in-Stopped-clause-agrees_at_end g c h =
     accords_last (g.S.Outcomes.agrees c.run_watched.new.outcomes) (λ d es k a. g.met.S.Outcomes.anew c.run_watched.new.outcomes d es k a) c.args.executor c.run_watched.new.executor
     (stays_there _ _ _ _ _ c.in-Stopped.ensures.steps) (c.run_watched.ensures.agrees (accords_first _ _ c.requires.planned.planned.at_rest.1 c.requires.fresh h)) _
     (ap events_in c.into_journal-in-Stopped.ensures)
+
+-- the watcher has come on through the transition and its end
+
+pub returns-in-Go-clause-watcher_follows : goal.returns-in-Go-clause-watcher_follows
+returns-in-Go-clause-watcher_follows g c = g.met.V.Watcher.from_before _ _ _ c.in-Complete.ensures.watcher_follows (c.in-Go.ensures.follows refl)
+
+pub returns-in-Stop-clause-watcher_came : goal.returns-in-Stop-clause-watcher_came
+returns-in-Stop-clause-watcher_came g c = g.met.V.Watcher.stopped_later _ _ _ c.in-Complete.ensures.watcher_follows (c.in-Stop.ensures.stopped refl)
+
+pub returns-in-Go-closed-clause-watcher_follows : goal.returns-in-Go-closed-clause-watcher_follows
+returns-in-Go-closed-clause-watcher_follows g c = g.met.V.Watcher.from_before _ _ _ c.in-Aborted.ensures.watcher_follows (c.in-Go-closed.ensures.follows refl)
+
+pub returns-in-Stop-closed-clause-watcher_came : goal.returns-in-Stop-closed-clause-watcher_came
+returns-in-Stop-closed-clause-watcher_came g c = g.met.V.Watcher.stopped_later _ _ _ c.in-Aborted.ensures.watcher_follows (c.in-Stop-closed.ensures.stopped refl)

@@ -1,7 +1,8 @@
-use Rattle.std.proofs.Common.{ap, refl, sym, ◌∙◌}
+use Rattle.std.proofs.Common.{◌∙◌, refl}
 use Rattle.replan.specs.Replays.{setting, sight}
+use Rattle.replan.proofs.Coming.{come_later, heard_later, on_ok_then}
 use Rattle.replan.proofs.Joined.{lacks_memory}
-use Rattle.replan.proofs.Ready.{came_begun, comes_behind, ends_behind, has_plan, same_cluster, same_events, same_promotions, starts_fresh, stops_begun}
+use Rattle.replan.proofs.Ready.{came_begun, comes_behind, ends_behind, has_plan, same_cluster, same_promotions, starts_fresh, stops_begun}
 use Rattle.replan.proofs.Whole.{err_then, ok_then}
 use Rattle.replan.proofs.turning.make_transition.Goals as goal
 
@@ -75,3 +76,45 @@ returns-clause-ends g c =
     err_then c.take_idle.result
     (λ end w. ends_behind _ _ _ _ _ _ _ _ _ closed.came _ _ closed.cluster_stays closed.promotions_stay _ end c.in-Ok-carry_out.ensures.over
     (rw (c.in-Ok-carry_out.ensures.whole, c.in-Ok-carry_out.ensures.steady, c.in-Ok-carry_out.ensures.names, c.planned.ensures.names) at w)) c.take_idle.ensures.ends
+
+-- what the source and the watcher have come to
+
+pub returns-in_default-clause-source_came : goal.returns-in_default-clause-source_came
+returns-in_default-clause-source_came g c = g.met.S.Outcomes.from_itself _
+
+pub returns-in_default-clause-watcher_came : goal.returns-in_default-clause-watcher_came
+returns-in_default-clause-watcher_came g c = g.met.V.Watcher.from_itself _
+
+pub returns-in-Stop-clause-source_came : goal.returns-in-Stop-clause-source_came
+returns-in-Stop-clause-source_came g c = g.met.S.Outcomes.from_itself _
+
+pub returns-in-Err-clause-watcher_came : goal.returns-in-Err-clause-watcher_came
+returns-in-Err-clause-watcher_came g c =
+    let planned = c.in_default-planned.ensures.follows refl in
+    heard_later _ (λ f. g.met.V.Watcher.from_before _ _ _ planned f) (λ s. g.met.V.Watcher.stopped_later _ _ _ planned s) c.in-Err.ensures.watcher_came
+
+pub returns-then-not-closed-clause-watcher_follows : goal.returns-then-not-closed-clause-watcher_follows
+returns-then-not-closed-clause-watcher_follows g c =
+    g.met.V.Watcher.from_before _ _ _ (c.in_default-planned.ensures.follows refl) c.in-Ok-carry_out.ensures.watcher_follows
+
+pub returns-clause-source_follows : goal.returns-clause-source_follows
+returns-clause-source_follows g c =
+    on_ok_then _ (λ f. g.met.S.Outcomes.from_before _ _ _ c.in-Ok-carry_out.ensures.source_follows f) c.take_idle.ensures.source_follows
+
+pub returns-clause-source_came : goal.returns-clause-source_came
+returns-clause-source_came g c =
+    let carried = c.in-Ok-carry_out.ensures.source_follows in
+    err_then c.take_idle.result
+    (λ end h. come_later (g.S.Outcomes.said c.carry_out.new.outcomes c.take_idle.new.outcomes) (g.S.Outcomes.said c.args.outcomes.now c.take_idle.new.outcomes) end
+    (λ f. g.met.S.Outcomes.from_before _ _ _ carried f) (λ brought s. g.met.S.Outcomes.said_later _ _ _ brought carried s) h) c.take_idle.ensures.source_came
+
+pub returns-clause-watcher_follows : goal.returns-clause-watcher_follows
+returns-clause-watcher_follows g c =
+    let carried = g.met.V.Watcher.from_before _ _ _ (c.in_default-planned.ensures.follows refl) c.in-Ok-carry_out.ensures.watcher_follows in
+    on_ok_then _ (λ f. g.met.V.Watcher.from_before _ _ _ carried f) c.take_idle.ensures.watcher_follows
+
+pub returns-clause-watcher_came : goal.returns-clause-watcher_came
+returns-clause-watcher_came g c =
+    let carried = g.met.V.Watcher.from_before _ _ _ (c.in_default-planned.ensures.follows refl) c.in-Ok-carry_out.ensures.watcher_follows in
+    err_then c.take_idle.result
+    (λ end h. heard_later end (λ f. g.met.V.Watcher.from_before _ _ _ carried f) (λ s. g.met.V.Watcher.stopped_later _ _ _ carried s) h) c.take_idle.ensures.watcher_came

@@ -50,3 +50,11 @@ returns-in-Ok-clause-said g c steady open_still = said_taken _ _ c.in-Answer.ans
 
 pub returns-in-Failed-clause-under_way : goal.returns-in-Failed-clause-under_way
 returns-in-Failed-clause-under_way g c = rw c.self.view_is at c.self.invariant
+
+-- a question that didn't fail
+
+pub returns-in-Ok-clause-source_follows : goal.returns-in-Ok-clause-source_follows
+returns-in-Ok-clause-source_follows g c = g.met.S.Outcomes.from_said _ _ _ (λ e. cc) c.in-Answer.ensures.said
+
+pub returns-in-Silent-clause-source_follows : goal.returns-in-Silent-clause-source_follows
+returns-in-Silent-clause-source_follows g c = g.met.S.Outcomes.from_said _ _ _ (λ e. cc) c.in-Silent.ensures.said

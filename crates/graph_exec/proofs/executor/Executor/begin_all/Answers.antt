@@ -17,9 +17,11 @@ loop-init g c = record {
   steady = refl;
   over = refl;
   agrees = λ h. h;
+  source_follows = g.met.S.Outcomes.from_itself _;
   told = told_nothing _ _ _;
   names = refl;
   stops = omega arith;
+  watcher_follows = g.met.V.Watcher.from_itself _;
 }
 
 pub loop-smaller : goal.loop-smaller
@@ -46,9 +48,12 @@ loop-preserved g c =
       steady = now.steady ∙ so_far.steady;
       over = now.over ∙ so_far.over;
       agrees = λ h. now.agrees (so_far.agrees h);
+      source_follows = g.met.S.Outcomes.from_before _ _ _ so_far.source_follows now.source_follows;
       told = told_on _ _ _ _ _ _ _ so_far.told (rw (so_far.names, c.in-Some-Go.field-0-is) at c.in-Some-Go.ensures.told);
       names = now.names ∙ so_far.names;
       stops = omega arith;
+      watcher_follows = g.met.V.Watcher.from_before _ _ _ so_far.watcher_follows
+          (rw c.in-Some-Go.field-0-is at c.in-Some-Go.ensures.watcher_follows);
     }
 
 -- none may begin any more
@@ -61,6 +66,12 @@ returns-in-None-clause-said g c = said_on _ _ _ c.loop.invariant.said c.begin_on
 
 pub returns-in-None-clause-told : goal.returns-in-None-clause-told
 returns-in-None-clause-told g c = told_on _ _ _ _ _ _ _ c.loop.invariant.told (rw c.loop.invariant.names at c.in-None.ensures.told)
+
+pub returns-in-None-clause-source_follows : goal.returns-in-None-clause-source_follows
+returns-in-None-clause-source_follows g c = g.met.S.Outcomes.from_before _ _ _ c.loop.invariant.source_follows c.begin_one.ensures.source_follows
+
+pub returns-in-None-clause-watcher_follows : goal.returns-in-None-clause-watcher_follows
+returns-in-None-clause-watcher_follows g c = g.met.V.Watcher.from_before _ _ _ c.loop.invariant.watcher_follows c.in-None.ensures.watcher_follows
 
 -- the watcher stops
 
@@ -78,3 +89,10 @@ returns-in-Some-Stop-clause-told g c =
 pub returns-in-Some-Stop-clause-stopped : goal.returns-in-Some-Stop-clause-stopped
 returns-in-Some-Stop-clause-stopped g c stop =
     rose_since _ _ _ c.loop.invariant.stops (c.in-Some-Stop.ensures.stopped (ap Some c.in-Some-Stop.field-0-is))
+
+pub returns-in-Some-Stop-clause-source_follows : goal.returns-in-Some-Stop-clause-source_follows
+returns-in-Some-Stop-clause-source_follows g c = g.met.S.Outcomes.from_before _ _ _ c.loop.invariant.source_follows c.begin_one.ensures.source_follows
+
+pub returns-in-Some-Stop-clause-watcher_follows : goal.returns-in-Some-Stop-clause-watcher_follows
+returns-in-Some-Stop-clause-watcher_follows g c =
+    g.met.V.Watcher.stopped_later _ _ _ c.loop.invariant.watcher_follows (rw c.in-Some-Stop.field-0-is at c.in-Some-Stop.ensures.watcher_follows)

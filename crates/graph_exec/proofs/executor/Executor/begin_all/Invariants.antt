@@ -17,9 +17,11 @@ invariant-loop g l = record {
   steady : g.S.Outcomes.steady l.outcomes ≡ g.S.Outcomes.steady l.fn.outcomes;
   over : g.S.Outcomes.over l.outcomes ≡ g.S.Outcomes.over l.fn.outcomes;
   agrees : Accords (g.S.Outcomes.agrees l.fn.outcomes) l.fn.self → Accords (g.S.Outcomes.agrees l.outcomes) l.self;
+  source_follows : g.S.Outcomes.follows l.fn.outcomes l.outcomes;
   told : IsTold (g.V.Watcher.names l.fn.watcher) l.fn.self l.self (g.V.Watcher.told l.fn.watcher) (g.V.Watcher.told l.watcher);
   names : g.V.Watcher.names l.watcher ≡ g.V.Watcher.names l.fn.watcher;
   stops : g.V.Watcher.stops l.fn.watcher ≤ g.V.Watcher.stops l.watcher;
+  watcher_follows : g.V.Watcher.follows l.fn.watcher l.watcher;
 }
 
 abbrev pub decreases-loop : goal.decreases-loop

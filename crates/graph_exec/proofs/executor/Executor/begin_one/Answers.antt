@@ -1,5 +1,6 @@
 use Rattle.std.proofs.Common.{◌∙◌}
 use Rattle.graph_exec.proofs.Carrying.{fewer_begins, no_more_asks, went_begun, went_nowhere}
+use Rattle.graph_exec.proofs.Coming.{heard_by}
 use Rattle.graph_exec.proofs.Said.{said_begun, said_nothing}
 use Rattle.graph_exec.proofs.Stepping.{begun_action, begun_high}
 use Rattle.graph_exec.proofs.Told.{hears_begin}
@@ -12,6 +13,12 @@ returns-in_default-clause-went g c = rw c.in_default.ensures.settled.same (went_
 
 pub returns-in_default-clause-said : goal.returns-in_default-clause-said
 returns-in_default-clause-said g c = rw c.in_default.ensures.settled.same (said_nothing _)
+
+pub returns-in_default-clause-source_follows : goal.returns-in_default-clause-source_follows
+returns-in_default-clause-source_follows g c = g.met.S.Outcomes.from_itself _
+
+pub returns-in_default-clause-watcher_follows : goal.returns-in_default-clause-watcher_follows
+returns-in_default-clause-watcher_follows g c = g.met.V.Watcher.from_itself _
 
 -- one begins
 
@@ -37,3 +44,6 @@ returns-clause-told g c =
     let graph = rw c.self.view_is at c.flight.ensures.graph in
     let action = begun_action _ _ c.in-Some.number c.in-Some.ensures.begins c.action-action.result (rw (c.graph.ensures ∙ graph) at c.action-action.ensures) in
     hears_begin _ _ _ _ _ _ c.in-Some.number c.in-Some.ensures.begins _ _ _ c.begun.ensures.rest (rw action c.begun-2.ensures.tells)
+
+pub returns-clause-watcher_follows : goal.returns-clause-watcher_follows
+returns-clause-watcher_follows g c = heard_by _ c.begun-2.ensures.follows c.begun-2.ensures.stopped

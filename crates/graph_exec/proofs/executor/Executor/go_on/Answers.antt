@@ -1,5 +1,6 @@
 use Rattle.graph_exec.specs.declared.watcher.Heard.TheVariants as heard
 use Rattle.graph_exec.proofs.Carrying.{advanced, ends_by, gone_by, same_by, still_going, went_answered}
+use Rattle.graph_exec.proofs.Coming.{heard_none}
 use Rattle.graph_exec.proofs.Told.{hears_answer, hears_none}
 use Rattle.graph_exec.proofs.executor.Executor.go_on.Goals as goal
 
@@ -35,3 +36,6 @@ returns-in-Err-clause-failed g c steady fault = same_by _ _ _ _ _ c.in-Err.end c
 
 pub returns-in-Err-clause-told : goal.returns-in-Err-clause-told
 returns-in-Err-clause-told g c = hears_none _ _ _ _ _ _ _ c.in-Err.end c.in-Err.ensures.stops
+
+pub returns-in-Err-clause-watcher_follows : goal.returns-in-Err-clause-watcher_follows
+returns-in-Err-clause-watcher_follows g c = heard_none _ _ _ _ _ _ c.in-Err.end c.in-Err.ensures.stops (g.met.V.Watcher.from_itself c.args.watcher.now)

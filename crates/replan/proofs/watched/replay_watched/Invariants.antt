@@ -2,7 +2,7 @@ use Rattle.std.proofs.Common.{true, ◌≡◌, ◌≤◌, ◌+◌}
 use Rattle.cluster_types.specs.Runs.{due}
 use Rattle.replan.specs.Replays.{setting, sight}
 use Rattle.replan.specs.Turns.{CameTo}
-use Rattle.replan.proofs.replay.replay_watched.Given as goal
+use Rattle.replan.proofs.watched.replay_watched.Given as goal
 
 abbrev pub invariant-loop-made : goal.invariant-loop-made
 invariant-loop-made g l = record {
@@ -18,6 +18,8 @@ invariant-loop-made g l = record {
   steady : g.S.Outcomes.steady l.outcomes ≡ g.S.Outcomes.steady l.fn.outcomes;
   over : g.S.Outcomes.steady l.fn.outcomes ≡ true → g.S.Outcomes.over l.fn.outcomes ≡ true → g.S.Outcomes.over l.outcomes ≡ true;
   agrees : g.S.Outcomes.agrees l.fn.outcomes l.fn.cluster l.fn.journal.events 0 → g.S.Outcomes.agrees l.outcomes l.fn.cluster l.known.events 0;
+  source_follows : g.S.Outcomes.follows l.fn.outcomes l.outcomes;
   names : g.V.Watcher.names l.watcher ≡ g.V.Watcher.names l.fn.watcher;
   stops : g.V.Watcher.stops l.fn.watcher ≤ g.V.Watcher.stops l.watcher;
+  watcher_follows : g.V.Watcher.follows l.fn.watcher l.watcher;
 }

@@ -1,8 +1,9 @@
-use Rattle.std.proofs.Common.{arith, ◌≡◌, ap, refl, sym, ◌∙◌}
+use Rattle.std.proofs.Common.{arith, ◌≡◌, ap, refl, ◌∙◌}
 use Rattle.run_safety.proofs.SafeRuns.{safe_run}
+use Rattle.replan.proofs.Coming.{come_later, heard_later}
 use Rattle.replan.proofs.Ready.{comes_behind, ends_behind}
 use Rattle.replan.proofs.Whole.{cause_since, events_in, kept, kept_due, nothing_made, replays, rests, starts, up_to}
-use Rattle.replan.proofs.replay.replay_watched.Goals as goal
+use Rattle.replan.proofs.watched.replay_watched.Goals as goal
 
 -- no memory is left
 
@@ -11,6 +12,12 @@ returns-in_default-clause-run g c = nothing_made _ _ _
 
 pub returns-in_default-clause-safe : goal.returns-in_default-clause-safe
 returns-in_default-clause-safe g c = safe_run _ _ _ c.requires.valid _ _ c.requires.at_rest
+
+pub returns-in_default-clause-source_follows : goal.returns-in_default-clause-source_follows
+returns-in_default-clause-source_follows g c = g.met.S.Outcomes.from_itself _
+
+pub returns-in_default-clause-watcher_follows : goal.returns-in_default-clause-watcher_follows
+returns-in_default-clause-watcher_follows g c = g.met.V.Watcher.from_itself _
 
 -- one transition after the other
 
@@ -23,8 +30,10 @@ loop-made-init g c = record {
   steady = refl;
   over = λ steady h. h;
   agrees = λ h. rw c.in-Ok.ensures.ok h;
+  source_follows = g.met.S.Outcomes.from_itself _;
   names = refl;
   stops = omega arith;
+  watcher_follows = g.met.V.Watcher.from_itself _;
 }
 
 pub make_transition-requires-clause-valid : goal.make_transition-requires-clause-valid
@@ -54,8 +63,10 @@ loop-made-preserved g c =
       steady = now.steady ∙ so_far.steady;
       over = λ steady h. now.over (so_far.steady ∙ steady) (so_far.over steady h);
       agrees = λ h. rw so_far.came.cluster_stays at (now.agrees (rw so_far.came.cluster_stays (so_far.agrees h)));
+      source_follows = g.met.S.Outcomes.from_before _ _ _ so_far.source_follows now.source_follows;
       names = now.names ∙ so_far.names;
       stops = omega arith;
+      watcher_follows = g.met.V.Watcher.from_before _ _ _ so_far.watcher_follows now.watcher_follows;
     }
 
 -- the run ends on the way
@@ -88,6 +99,17 @@ pub returns-in-Err-clause-fitting : goal.returns-in-Err-clause-fitting
 returns-in-Err-clause-fitting g c careful h =
     let so_far = c.loop-made.invariant in
     c.in-Err.ensures.fitting (so_far.careful ∙ careful) (rw so_far.came.cluster_stays (so_far.agrees h))
+
+pub returns-in-Err-clause-source_follows : goal.returns-in-Err-clause-source_follows
+returns-in-Err-clause-source_follows g c =
+    let so_far = c.loop-made.invariant.source_follows in
+    come_later (g.S.Outcomes.said c.loop-made.outcomes c.make_transition.new.outcomes) (g.S.Outcomes.said c.args.outcomes.now c.make_transition.new.outcomes) _
+    (λ f. g.met.S.Outcomes.from_before _ _ _ so_far f) (λ brought s. g.met.S.Outcomes.said_later _ _ _ brought so_far s) c.in-Err.ensures.source_came
+
+pub returns-in-Err-clause-watcher_follows : goal.returns-in-Err-clause-watcher_follows
+returns-in-Err-clause-watcher_follows g c =
+    let so_far = c.loop-made.invariant.watcher_follows in
+    heard_later _ (λ f. g.met.V.Watcher.from_before _ _ _ so_far f) (λ s. g.met.V.Watcher.stopped_later _ _ _ so_far s) c.in-Err.ensures.watcher_came
 
 -- as many transitions were made as are allowed
 
