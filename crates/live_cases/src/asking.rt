@@ -148,7 +148,7 @@ fn each_question_brings_the_next_answer(rt: HostRuntime) -> Result<(), Fail> {
         let Ok(reader) = LineReader::new(alloc, &mut source, limit, 1_048_576) else {
             return Err(Fail::from("no memory for the reader"));
         };
-        let Ok(mut outcomes) = LineOutcomes::new(alloc, &cluster, 1000, reader) else {
+        let Ok(mut outcomes) = LineOutcomes::new(alloc, &cluster, 1000, 1, reader) else {
             return Err(Fail::from("no memory for the outcomes"));
         };
         for asked in expected {

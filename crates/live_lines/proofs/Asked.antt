@@ -15,6 +15,7 @@ use Rattle.live_lines.specs.declared.course.Course.{Course}
 use Rattle.live_lines.specs.declared.course.Course.TheVariants as course
 use Rattle.live_lines.specs.declared.line_stop.LineStop.{LineStop}
 use Rattle.live_lines.specs.declared.line_stop.LineStop.TheVariants.{ReadFault, TooLarge, Refused}
+use Rattle.live_lines.specs.FollowedLaws.{reading_is, reading_not_ended}
 use Rattle.live_lines.specs.Saying.{is_last}
 
 pub none_is : {X : Type 0} (o : Option X) → is_none o ≡ true → o ≡ None
@@ -24,20 +25,10 @@ none_is (Some x) h = cc
 pub is_none_of : {X : Type 0} (o : Option X) → o ≡ None → is_none o ≡ true
 is_none_of o h = ap is_none h
 
-reading_is : (k : Course) → is_reading k ≡ true → k ≡ course.Reading
-reading_is course.Reading h = refl
-reading_is course.Ended h = cc
-reading_is (course.Stopped why times) h = cc
-
 ended_is : (k : Course) → has_ended k ≡ true → k ≡ course.Ended
 ended_is course.Reading h = cc
 ended_is course.Ended h = refl
 ended_is (course.Stopped why times) h = cc
-
-pub reading_not_ended : (k : Course) → is_reading k ≡ true → has_ended k ≡ false
-reading_not_ended course.Reading h = refl
-reading_not_ended course.Ended h = cc
-reading_not_ended (course.Stopped why times) h = refl
 
 -- what is told while it reads, and after the end
 reading_told : (s : Standing) (left : Option (List ℕ)) → is_reading s.course ≡ true → told_by s left ≡ told_of s.cluster s.lines left

@@ -25,7 +25,7 @@ use Rattle.live_lines.specs.declared.said.Said.TheVariants as said
 use Rattle.live_lines.proofs.Cuts.{CutAt, cut_at, cut_of}
 
 -- the place and the reading
-abbrev lines_at : Place → Reading → Lines
+abbrev pub lines_at : Place → Reading → Lines
 lines_at at reading = record { at = at; reading = reading }
 
 first_same : (at : Place) (s : Said) (others : Coming) → said_first at s others ≡ came_first (said_came at.line s) others
@@ -39,18 +39,16 @@ some_if step room longest [] other e = absurd (other e)
 some_if step room longest (b ∷ bs) other e = omega arith
 
 -- what a line says that is handed out, and then what the others say
-module _ (c : Cluster) (longest : ℕ) (at : Place) (room : ℕ) (raw rest : List ℕ) (line : line_answer room longest (physical_lines raw) ≡ Line) where
+module _ (c : Cluster) (longest : ℕ) (at : Place) (room : ℕ) (raw : List ℕ) (others : List (List (List ℕ))) (line : line_answer room longest (physical_lines raw) ≡ Line) where
   first_says : says c longest at room (physical_lines raw) ≡ line_says c at raw
   first_says = ap (λ s. sized_says c at s (physical_lines raw)) line ∙ ap (line_says c at) (concat-lines raw)
 
-  line_first : coming c longest at room (physical_lines raw ∷ raw_lines rest)
-      ≡ said_first at (line_says c at raw)
-      (coming c longest (place_behind at (line_says c at raw) (length (physical_lines raw))) (room - length raw) (raw_lines rest))
+  pub line_first : coming c longest at room (physical_lines raw ∷ others)
+      ≡ said_first at (line_says c at raw) (coming c longest (place_behind at (line_says c at raw) (length (physical_lines raw))) (room - length raw) others)
   line_first =
-      ap (λ s. said_first at s (coming c longest (place_behind at s (length (physical_lines raw))) (room - length (concat (physical_lines raw))) (raw_lines rest)))
-      first_says
+      ap (λ s. said_first at s (coming c longest (place_behind at s (length (physical_lines raw))) (room - length (concat (physical_lines raw))) others)) first_says
       ∙ ap (λ (t : List ℕ). said_first at (line_says c at raw)
-      (coming c longest (place_behind at (line_says c at raw) (length (physical_lines raw))) (room - length t) (raw_lines rest))) (concat-lines raw)
+      (coming c longest (place_behind at (line_says c at raw) (length (physical_lines raw))) (room - length t) others)) (concat-lines raw)
 
 -- a line is handed out
 module _ (old new : Reading) (before after : Option (List ℕ)) (a : Answered Line old new before after) where
@@ -117,7 +115,7 @@ line_whole c at old new before left a =
     let others = raw_lines (new.held ++ left) in
     ap (λ (t : List ℕ). coming c old.longest at old.room (raw_lines t)) (sym (append_assoc old.held a.bytes left))
     ∙ ap (coming c old.longest at old.room) (handed_cut old new before (Some left) a left a.at_end).lines
-    ∙ line_first c old.longest at old.room new.raw (new.held ++ left) (handed_answer old new before (Some left) a left a.at_end)
+    ∙ line_first c old.longest at old.room new.raw (raw_lines (new.held ++ left)) (handed_answer old new before (Some left) a left a.at_end)
     ∙ first_same at s (coming c old.longest behind (old.room - length new.raw) others)
     ∙ ap (λ (n : ℕ). came_first (said_came at.line s) (coming c n behind (old.room - length new.raw) others)) (sym (longest_is old new before (Some left) a))
     ∙ ap (λ (n : ℕ). came_first (said_came at.line s) (coming c new.longest behind n others)) (sym (room_is old new before (Some left) a))

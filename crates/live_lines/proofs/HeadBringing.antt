@@ -1,5 +1,5 @@
 -- What one answer of a reader of lines brings of the head of an input.
-use Rattle.std.proofs.Common.{◌≡◌, ℕ, ◌+◌, ◌-◌, ◌^◌, ◌≤◌, ◌<◌, Bool, true, false, if◌then◌else◌, Option, Some, None, Result, Ok, Err, List, [], ◌∷◌, ◌++◌, length, option_map, append_assoc, refl, ap, sym, ◌∙◌, arith}
+use Rattle.std.proofs.Common.{◌≡◌, ℕ, ◌+◌, ◌-◌, ◌^◌, ◌≤◌, ◌<◌, Bool, true, false, if◌then◌else◌, Option, Some, None, Result, Ok, Err, List, [], ◌∷◌, ◌++◌, length, length-append, option_map, append_assoc, refl, ap, sym, ◌∙◌, arith}
 use Rattle.std.specs.List.{concat}
 use Rattle.cluster_io.specs.NextLine.{answer_of, first_of, line_answer}
 use Rattle.cluster_io.specs.Readings.{Reading, Answered}
@@ -198,3 +198,14 @@ pub while_well : (came : Option (Result (Unit {0}) HeadStop)) (P : Type 0) → P
 while_well None P p = p
 while_well (Some (Ok end)) P p = p
 while_well (Some (Err why)) P p = tt
+
+-- what is taken into the text lies within the limit
+pub line_within : (came : Option (Result (Unit {0}) HeadStop)) (text more raw : List ℕ) (room left : ℕ) → (lacks_memory came ≡ false → more ≡ text ++ raw)
+    → left ≡ room - length raw → length raw ≤ room → WhileWell came (length more + left ≡ length text + room)
+line_within None text more raw room left joined is fits =
+    let both : length more ≡ length text + length raw = ap (λ (t : List ℕ). length t) (joined refl) ∙ length-append text raw in
+    omega (arith, both, is, fits)
+line_within (Some (Ok end)) text more raw room left joined is fits =
+    let both : length more ≡ length text + length raw = ap (λ (t : List ℕ). length t) (joined refl) ∙ length-append text raw in
+    omega (arith, both, is, fits)
+line_within (Some (Err why)) text more raw room left joined is fits = tt

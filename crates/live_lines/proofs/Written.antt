@@ -1,4 +1,5 @@
 -- What is written of several lines, one after the other.
+use Rattle.std.specs.Prelude.{OnErr, OnOk}
 use Rattle.std.proofs.Common.{◌≡◌, ℕ, zero, suc, ◌+◌, ◌-◌, ◌≤◌, ◌<◌, Option, Some, None, Result, Ok, Err, List, [], ◌∷◌, ◌++◌, length, take, drop, append-nil, append_assoc, length-append, refl, ap, sym, subst, ◌∙◌, arith}
 use Rattle.std.specs.List.{flat_map, range_with_len}
 use Rattle.std.proofs.Math.Seq.{take-append_seam, drop-append_seam, take-add}
@@ -121,3 +122,18 @@ pub tells : (c : Cluster) (lines : List RunLine) (r : Result (Unit {0}) WriteFau
     → Tells (Some c) lines before after (heard_of r)
 tells c lines (Ok done) before after p = p
 tells c lines (Err fault) before after p = p
+
+-- a text that is put together in another order
+pub puts_joined : (r : Result (Unit {0}) WriteFault) (first second third : List ℕ) (before after : Option (List ℕ)) → Puts r (first ++ (second ++ third)) before after
+    → Puts r (first ++ second ++ third) before after
+puts_joined r first second third before after p = subst (λ (t : List ℕ). Puts r t before after) (sym (append_assoc first second third)) p
+
+pub prefix_joined : (first second third : List ℕ) (before after : Option (List ℕ)) → AddsPrefix first before after → AddsPrefix (first ++ second ++ third) before after
+prefix_joined first second third before after p =
+    subst (λ (t : List ℕ). AddsPrefix t before after) (sym (append_assoc first second third)) (prefix_first first (second ++ third) before after p)
+
+-- what one `write_text` has written
+pub puts_written : (r : Result (Unit {0}) WriteFault) (text : List ℕ) (before after : Option (List ℕ)) → OnOk r (Adds before text after) → OnErr r (AddsPrefix text before after)
+    → Puts r text before after
+puts_written (Ok done) text before after a p = a
+puts_written (Err fault) text before after a p = p

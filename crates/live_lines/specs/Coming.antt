@@ -89,15 +89,3 @@ pub record AreReady (lines : Lines) : Type 0 where
   pub few : lines.at.before ≤ 10000
   pub line : lines.at.line ≡ lines.reading.next
   pub numbered : lines.reading.next + lines.reading.room ≤ 2 ^ 32
-
--- the number of the line behind the one that a reader has handed out last; 1 if there is none
-abbrev pub line_behind : Reading → ℕ
-line_behind reading = if reading.number == 0 then 1 else reading.number + length (physical_lines reading.raw)
-
--- a reader that has handed out lines alone so far, or nothing: it was made for lines of at most 1,048,576 bytes, their numbers are below 2^32, and the
--- line that it handed out last is still there
-pub record IsAtLine (reading : Reading) : Type 0 where
-  pub longest : reading.longest ≡ 1048576
-  pub going : reading.stop ≡ None
-  pub next : reading.next ≡ line_behind reading
-  pub numbered : reading.next + reading.room ≤ 2 ^ 32

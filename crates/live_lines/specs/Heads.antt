@@ -1,7 +1,7 @@
 -- The head of an input: its logical lines up to the one that begins the results, or all where none does (rule of this project).
 use Rattle.std.specs.Prelude.{◌≡◌, ℕ, ◌+◌, ◌-◌, ◌^◌, ◌≤◌, Bool, true, false, if◌then◌else◌, Option, Some, None, Result, Ok, Err, List, [], ◌∷◌, ◌++◌, length, codes, option_map}
 use Rattle.std.specs.List.{concat}
-use Rattle.cluster_io.specs.NextLine.{line_answer}
+use Rattle.cluster_io.specs.NextLine.{holds_line, line_answer}
 use Rattle.cluster_io.specs.Readings.{Reading}
 use Rattle.cluster_io.specs.declared.line_step.LineStep.{LineStep}
 use Rattle.cluster_io.specs.declared.line_step.LineStep.TheVariants as step
@@ -98,6 +98,15 @@ abbrev pub IsStopOf : Head → HeadStop → Type 0
 IsStopOf head (stop.Refused line why) = head ≡ refused line why
 IsStopOf head stop.TooLarge = head ≡ too_large
 IsStopOf head _ = Unit {0}
+
+-- reading stopped amid the head: behind the lines that were taken whole, of which this is the text, the head is still to come, and no further line was
+-- taken whole
+pub record IsAmid (old new : Reading) (before after : Option (List ℕ)) : Type 0 where
+  pub text : List ℕ
+  pub keeps : KeepsBytes (progress [] old) (progress text new) before after
+  pub to_come : option_map (head_behind [] old) before ≡ option_map (head_behind text new) after
+  pub none_whole : holds_line new.held ≡ false
+  pub same_size : new.longest ≡ old.longest
 
 -- more lines can be read: of at most 1,048,576 bytes, with numbers below 2^32
 pub record CanGoOn (reading : Reading) : Type 0 where

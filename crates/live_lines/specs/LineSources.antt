@@ -1,6 +1,7 @@
 -- What contracts see of a source of answers that are read from lines.
-use Rattle.std.specs.Prelude.{ℕ}
+use Rattle.std.specs.Prelude.{ℕ, Option, List}
 use Rattle.live_lines.specs.Courses.{Standing}
+use Rattle.live_lines.specs.Followed.{View}
 use Rattle.live_lines.specs.ResultReaders as readers
 use Rattle.live_lines.specs.declared.line_outcomes.LineOutcomes.{LineOutcomes}
 
@@ -19,3 +20,7 @@ source_in o = readers.source_in o.reader
 
 abbrev pub loan_in : {S : Type 0} {g : _} → LineOutcomes S g → ℕ
 loan_in o = readers.loan_in o.reader
+
+-- the source at a moment, by what its source of bytes tells of what it has left and of its failures
+abbrev pub view_of : {S : Type 0} {g : _} → (S → Option (List ℕ)) → (S → ℕ) → LineOutcomes S g → View
+view_of left faults o = record { standing = standing_of o; left = left (source_in o); faults = faults (source_in o); loan = loan_in o }

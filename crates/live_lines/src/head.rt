@@ -2,12 +2,13 @@
 
 ghost use Rattle.std.specs.Prelude.{◌≡◌, ◌≢◌, ℕ, ◌+◌, ◌<◌, ◌≤◌, ◌^◌, List, [], Some, None, Ok, Err, false, true, length, ◌++◌, if◌then◌else◌, IfOk, IfErr, IfSome, OnOk};
 ghost use Rattle.cluster_io.specs.LineReaders.{loan_of, reading_of, source_of};
+ghost use Rattle.cluster_io.specs.NextLine.{holds_line};
 ghost use Rattle.cluster_io.specs.Streams.{Rose};
 ghost use Rattle.crm_lex.specs.RawLines.{physical_lines};
 ghost use Rattle.cluster_io.specs.Readings.{Reading};
 ghost use Rattle.crm_lex.specs.Reading.{kept, reads_line};
 ghost use Rattle.faults.specs.declared.fault.Fault.TheVariants as found;
-ghost use Rattle.live_lines.specs.Heads.{BringsHead, CanGoOn, Head, IsStopOf, KeepsBytes, WhileWell, begins_results, came_to, head_behind, lacks_memory, progress, read_says, stop_for, taken};
+ghost use Rattle.live_lines.specs.Heads.{BringsHead, CanGoOn, Head, IsAmid, IsStopOf, KeepsBytes, WhileWell, begins_results, came_to, head_behind, lacks_memory, progress, read_says, stop_for, taken};
 
 use cluster_io::{LineReader, LineStep, Source};
 use crm_lex::{LexCause, LexFault, NoMemory, WordBuf, lex_one, line_count};
@@ -124,6 +125,10 @@ fn step<S: Source>(
     ensures can { WhileWell result (CanGoOn (reading_of reader.new)) }
     ensures next { head.new.next ≡ (reading_of reader.new).next }
     ensures fewer { result ≡ None → (reading_of reader.new).room < (reading_of reader.old).room }
+    ensures within { WhileWell result (length head.new.text.items + (reading_of reader.new).room ≡ length head.old.text.items + (reading_of reader.old).room) }
+    ensures amid { result ≡ Some (Err HeadStop.ReadFault) → holds_line (reading_of reader.new).held ≡ false }
+    ensures same_size { result ≡ Some (Err HeadStop.ReadFault) → (reading_of reader.new).longest ≡ (reading_of reader.old).longest }
+    ensures short { result ≡ Some (Ok tt) → length (reading_of reader.new).held < 4096 }
 
     ensures count { S.faults (source_of reader.old) ≤ S.faults (source_of reader.new) }
     ensures cause { result ≡ Some (Err HeadStop.ReadFault) → Rose (S.faults (source_of reader.old)) (S.faults (source_of reader.new)) }
@@ -156,8 +161,12 @@ pub fn read_head<S: Source>(
     ensures head { IfSome (S.left (source_of reader.old))
         (λ left. IfOk result (λ head. head_behind [] (reading_of reader.old) left ≡ taken head.text.items head.next (reading_of reader.new).room)) }
     ensures stop { IfSome (S.left (source_of reader.old)) (λ left. IfErr result (IsStopOf (head_behind [] (reading_of reader.old) left))) }
+    ensures amid { IfErr result (λ why. why ≡ HeadStop.ReadFault → IsAmid (reading_of reader.old) (reading_of reader.new)
+        (S.left (source_of reader.old)) (S.left (source_of reader.new))) }
     ensures behind { IfOk result (λ head. KeepsBytes (progress [] (reading_of reader.old)) (progress head.text.items (reading_of reader.new))
         (S.left (source_of reader.old)) (S.left (source_of reader.new))) }
+    ensures short { IfOk result (λ head. length (reading_of reader.new).held < 4096) }
+    ensures within { IfOk result (λ head. length head.text.items ≤ (reading_of reader.old).room) }
     ensures place { IfOk result (λ head. (CanGoOn (reading_of reader.new)) × (head.next ≡ (reading_of reader.new).next)) }
 
     ensures count { S.faults (source_of reader.old) ≤ S.faults (source_of reader.new) }

@@ -4,8 +4,10 @@ ghost use Rattle.std.specs.Prelude.{◌≡◌, ◌≢◌, ◌+◌, ◌≤◌, �
 ghost use Rattle.cluster_io.specs.LineReaders.{loan_of, reading_of, source_of};
 ghost use Rattle.cluster_io.specs.Streams.{Rose};
 ghost use Rattle.cluster_types.specs.Valid.{KeepsLimits};
-ghost use Rattle.live_lines.specs.Coming.{AreReady, IsAtLine, line_behind};
+ghost use Rattle.live_lines.specs.Coming.{AreReady};
 ghost use Rattle.live_lines.specs.Courses.{Answers, faults_of, has_ended, is_reading, starting, stop_of, stops_last};
+ghost use Rattle.live_lines.specs.Followed.{HasSaid};
+ghost use Rattle.live_lines.specs.Heads.{CanGoOn};
 ghost use Rattle.live_lines.specs.ResultReaders.{lines_of};
 
 use crate::came::Came;
@@ -15,7 +17,7 @@ use crate::place::Place;
 use crate::result_reader::ResultReader;
 use cluster_io::{LineReader, Source};
 use cluster_types::Cluster;
-use crm_lex::{NoMemory, WordBuf, line_count};
+use crm_lex::{NoMemory, WordBuf};
 use graph_exec::Next;
 use std::alloc::Global;
 
@@ -38,37 +40,29 @@ pub struct LineOutcomes<'c, 's, S: Source> {
     ghost last: { stops_last course ≡ true },
 }
 
-/// The number of the next line of a reader that has handed out lines alone so far.
-fn next_line<S: Source>(reader: &LineReader<'_, S>) -> u64
-    ensures { result ≡ line_behind (reading_of reader.now) }
-{
-    if reader.number() == 0 {
-        return 1;
-    }
-    reader.number() as u64 + line_count(reader.raw()) as u64
-}
-
 impl<'c, 's, S: Source> LineOutcomes<'c, 's, S> {
-    ghost use Rattle.live_lines.specs.LineSources.{loan_in, source_in, standing_of};
+    ghost use Rattle.live_lines.specs.LineSources.{loan_in, source_in, standing_of, view_of};
 
     /// A source of the answers that the lines of a reader give, of which the first is taken at the moment, in seconds
-    /// below 2^40. The reader was made for lines of at most 1,048,576 bytes, and has handed out lines alone so far,
-    /// or nothing. It takes memory for the words of the longest line.
+    /// below 2^40, and has this number: 1 of a new reader, and behind a head the one that `HeadText` gives. The reader was
+    /// made for lines of at most 1,048,576 bytes, and can go on. It takes memory for the words of the longest line.
     pub fn new(
         alloc: Global,
         cluster: &'c Cluster,
         moment: u64,
+        next: u64,
         reader: LineReader<'s, S>,
     ) -> Result<LineOutcomes<'c, 's, S>, NoMemory>
         requires limits { KeepsLimits cluster.now }
         requires moment { moment < 2 ^ 40 }
-        requires reader { IsAtLine (reading_of reader) }
+        requires next { next ≡ (reading_of reader).next }
+        requires reader { CanGoOn (reading_of reader) }
         ensures standing { IfOk result (λ o. standing_of o ≡ starting cluster.now moment (reading_of reader.entry)) }
         ensures source { IfOk result (λ o. source_in o ≡ source_of reader.entry) }
         ensures same_source { IfOk result (λ o. loan_in o ≡ loan_of reader.entry) }
     {
         let words = WordBuf::new(alloc)?;
-        Ok(LineOutcomes::over(cluster, moment, reader, words))
+        Ok(LineOutcomes::over(cluster, moment, next, reader, words))
     }
 
     /// The same, with memory that was taken before. `new` does both; apart, a caller knows that the source is as it
@@ -76,12 +70,14 @@ impl<'c, 's, S: Source> LineOutcomes<'c, 's, S> {
     pub fn over(
         cluster: &'c Cluster,
         moment: u64,
+        next: u64,
         reader: LineReader<'s, S>,
         words: WordBuf,
     ) -> LineOutcomes<'c, 's, S>
         requires limits { KeepsLimits cluster.now }
         requires moment { moment < 2 ^ 40 }
-        requires reader { IsAtLine (reading_of reader) }
+        requires next { next ≡ (reading_of reader).next }
+        requires reader { CanGoOn (reading_of reader) }
         ensures standing { standing_of result ≡ starting cluster.now moment (reading_of reader.entry) }
         ensures source { source_in result ≡ source_of reader.entry }
         ensures same_source { loan_in result ≡ loan_of reader.entry }
@@ -89,7 +85,7 @@ impl<'c, 's, S: Source> LineOutcomes<'c, 's, S> {
         let at = Place {
             moment,
             before: 0,
-            line: next_line(&reader),
+            line: next,
         };
         LineOutcomes {
             cluster,
@@ -102,6 +98,26 @@ impl<'c, 's, S: Source> LineOutcomes<'c, 's, S> {
             line: 0,
             failed: false,
         }
+    }
+
+    /// Gives the source of bytes back, as it is now. The bytes that are held are lost.
+    pub fn into_source(self) -> &'s mut S
+        ensures source { result.now ≡ source_in self.entry }
+        ensures same_source { result.ghost_name ≡ loan_in self.entry }
+    {
+        let LineOutcomes {
+            cluster: _,
+            reader,
+            course: _,
+            line: _,
+            failed: _,
+        } = self;
+        let ResultReader {
+            lines,
+            words: _,
+            at: _,
+        } = reader;
+        lines.into_source()
     }
 
     /// The line of the last answer: its first physical line, counted from 1; 0 before the first answer.
@@ -132,6 +148,7 @@ impl<'c, 's, S: Source> LineOutcomes<'c, 's, S> {
         requires { is_reading (standing_of self.old).course ≡ true }
         ensures answers { Answers result (standing_of self.old) (standing_of self.new)
             (S.left (source_in self.old)) (S.left (source_in self.new)) }
+        ensures said { HasSaid S.counts_only_failures (view_of S.left S.faults self.old) (view_of S.left S.faults self.new) result }
         ensures asked { (standing_of self.new).lines.at.before ≤ (standing_of self.old).lines.at.before + 1 }
         ensures stop { result ≡ Next.Failed → is_some (stop_of (standing_of self.new)) ≡ true }
         ensures count { S.faults (source_in self.old) ≤ S.faults (source_in self.new) }
@@ -169,6 +186,7 @@ impl<'c, 's, S: Source> LineOutcomes<'c, 's, S> {
     pub fn ask(&mut self) -> Next
         ensures answers { Answers result (standing_of self.old) (standing_of self.new)
             (S.left (source_in self.old)) (S.left (source_in self.new)) }
+        ensures said { HasSaid S.counts_only_failures (view_of S.left S.faults self.old) (view_of S.left S.faults self.new) result }
         ensures asked { (standing_of self.new).lines.at.before ≤ (standing_of self.old).lines.at.before + 1 }
         ensures stop { result ≡ Next.Failed → is_some (stop_of (standing_of self.new)) ≡ true }
         ensures over { has_ended (standing_of self.old).course ≡ true → has_ended (standing_of self.new).course ≡ true }

@@ -6,6 +6,7 @@ ghost use Rattle.cluster_io.specs.Streams.{Rose};
 ghost use Rattle.cluster_types.specs.Valid.{KeepsLimits};
 ghost use Rattle.crm_lex.specs.RawLines.{physical_lines};
 ghost use Rattle.live_lines.specs.Coming.{AreReady, Brings, answers_in, goes_on, is_stop_last, said_came};
+ghost use Rattle.live_lines.specs.Followed.{ReadUntil};
 ghost use Rattle.live_lines.specs.Saying.{Fits, line_says, place_behind};
 
 use crate::came::Came;
@@ -71,6 +72,8 @@ impl<'s, S: Source> ResultReader<'s, S> {
         requires going { (lines_of self.old).reading.stop ≡ None }
         ensures brings { Brings cluster.now result (lines_of self.old) (lines_of self.new)
             (S.left (source_in self.old)) (S.left (source_in self.new)) }
+        ensures until { ReadUntil cluster.now result (lines_of self.old) (lines_of self.new)
+            (S.left (source_in self.old)) (S.left (source_in self.new)) }
         ensures ready { AreReady (lines_of self.new) }
         ensures going { goes_on result ≡ true → (lines_of self.new).reading.stop ≡ None }
         ensures last { is_stop_last result ≡ true }
@@ -102,6 +105,8 @@ impl<'s, S: Source> ResultReader<'s, S> {
         requires ready { AreReady (lines_of self.old) }
         requires going { (lines_of self.old).reading.stop ≡ None }
         ensures brings { Brings cluster.now (Some result) (lines_of self.old) (lines_of self.new)
+            (S.left (source_in self.old)) (S.left (source_in self.new)) }
+        ensures until { ReadUntil cluster.now (Some result) (lines_of self.old) (lines_of self.new)
             (S.left (source_in self.old)) (S.left (source_in self.new)) }
         ensures ready { AreReady (lines_of self.new) }
         ensures going { goes_on (Some result) ≡ true → (lines_of self.new).reading.stop ≡ None }

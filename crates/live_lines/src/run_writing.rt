@@ -1,6 +1,6 @@
 //! The lines of a run, written one by one.
 
-ghost use Rattle.std.specs.Prelude.{◌≡◌, ◌≤◌, ◌∷◌, List, ℕ, None, Some, true, length, slice_get, unwrap_or, OnErr};
+ghost use Rattle.std.specs.Prelude.{◌≡◌, ◌≤◌, ◌∷◌, List, ℕ, None, Some, true, length, slice_get, unwrap_or, OnErr, OnOk};
 ghost use Rattle.std.specs.List.{flat_map, range_with_len};
 ghost use Rattle.cluster_io.specs.Streams.{Rose};
 ghost use Rattle.cluster_types.specs.declared.placement.NoReason.TheVariants.{Held};
@@ -29,6 +29,7 @@ pub(crate) fn put<W: Sink>(
         (W.written sink.old) (W.written sink.new) }
     ensures count { W.faults sink.old ≤ W.faults sink.new }
     ensures fault { OnErr result (Rose (W.faults sink.old) (W.faults sink.new)) }
+    ensures no_failure { OnOk result (W.counts_only_failures ≡ true → W.faults sink.new ≡ W.faults sink.old) }
 {
     let mut buf = [0; 1024];
     let length = write_line(cluster, line, &mut buf);
@@ -48,6 +49,7 @@ fn put_pin<W: Sink>(
         (W.written sink.old) (W.written sink.new) }
     ensures count { W.faults sink.old ≤ W.faults sink.new }
     ensures fault { OnErr result (Rose (W.faults sink.old) (W.faults sink.new)) }
+    ensures no_failure { OnOk result (W.counts_only_failures ≡ true → W.faults sink.new ≡ W.faults sink.old) }
 {
     match pin {
         Some(pin) => put(cluster, sink, &RunLineRef::Pinned(leaf, pin)),
@@ -78,6 +80,7 @@ fn put_goal<W: Sink>(
         (W.written sink.old) (W.written sink.new) }
     ensures count { W.faults sink.old ≤ W.faults sink.new }
     ensures fault { OnErr result (Rose (W.faults sink.old) (W.faults sink.new)) }
+    ensures no_failure { OnOk result (W.counts_only_failures ≡ true → W.faults sink.new ≡ W.faults sink.old) }
 {
     match target {
         Target::Nowhere => Ok(()),
@@ -103,6 +106,7 @@ fn put_goals<W: Sink>(
         (range_with_len 0 (length cluster.now.nodes))) (W.written sink.old) (W.written sink.new) }
     ensures count { W.faults sink.old ≤ W.faults sink.new }
     ensures fault { OnErr result (Rose (W.faults sink.old) (W.faults sink.new)) }
+    ensures no_failure { OnOk result (W.counts_only_failures ≡ true → W.faults sink.new ≡ W.faults sink.old) }
 {
     for node in 0..cluster.nodes.len() as u32 {
         put_goal(cluster, sink, leaf, node, table.target(leaf, node))?;
@@ -124,6 +128,7 @@ fn put_lacking<W: Sink>(
         (W.written sink.old) (W.written sink.new) }
     ensures count { W.faults sink.old ≤ W.faults sink.new }
     ensures fault { OnErr result (Rose (W.faults sink.old) (W.faults sink.new)) }
+    ensures no_failure { OnOk result (W.counts_only_failures ≡ true → W.faults sink.new ≡ W.faults sink.old) }
 {
     match reason {
         Some(reason) => put(cluster, sink, &RunLineRef::Lacking(leaf, reason)),
@@ -145,6 +150,7 @@ fn put_reason<W: Sink>(
         (W.written sink.old) (W.written sink.new) }
     ensures count { W.faults sink.old ≤ W.faults sink.new }
     ensures fault { OnErr result (Rose (W.faults sink.old) (W.faults sink.new)) }
+    ensures no_failure { OnOk result (W.counts_only_failures ≡ true → W.faults sink.new ≡ W.faults sink.old) }
 {
     match none.get(leaf as usize) {
         Some(reason) => put_lacking(cluster, sink, leaf, reason),
@@ -167,6 +173,7 @@ fn put_leaf<W: Sink>(
         (W.written sink.old) (W.written sink.new) }
     ensures count { W.faults sink.old ≤ W.faults sink.new }
     ensures fault { OnErr result (Rose (W.faults sink.old) (W.faults sink.new)) }
+    ensures no_failure { OnOk result (W.counts_only_failures ≡ true → W.faults sink.new ≡ W.faults sink.old) }
 {
     put_pin(cluster, sink, leaf, pin_of(placed.pins.as_slice(), leaf))?;
     put_goals(cluster, sink, &placed.table, leaf)?;
@@ -183,6 +190,7 @@ fn put_targets<W: Sink>(cluster: &Cluster, sink: &mut W, placed: &Placed) -> Res
         (W.written sink.old) (W.written sink.new) }
     ensures count { W.faults sink.old ≤ W.faults sink.new }
     ensures fault { OnErr result (Rose (W.faults sink.old) (W.faults sink.new)) }
+    ensures no_failure { OnOk result (W.counts_only_failures ≡ true → W.faults sink.new ≡ W.faults sink.old) }
 {
     for leaf in 0..cluster.leaves.len() as u32 {
         put_leaf(cluster, sink, placed, leaf)?;
@@ -206,6 +214,7 @@ pub(crate) fn put_plan<W: Sink>(
         (W.written sink.old) (W.written sink.new) }
     ensures count { W.faults sink.old ≤ W.faults sink.new }
     ensures fault { OnErr result (Rose (W.faults sink.old) (W.faults sink.new)) }
+    ensures no_failure { OnOk result (W.counts_only_failures ≡ true → W.faults sink.new ≡ W.faults sink.old) }
 {
     put(cluster, sink, &RunLineRef::Transition(transition))?;
     put_targets(cluster, sink, placed)

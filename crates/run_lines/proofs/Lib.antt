@@ -3,3 +3,4 @@ pub mod Numbers
 pub mod WordsOfLines
 pub mod LinesAgain
 pub mod TextAgain
+pub mod NamedLines

@@ -1,6 +1,6 @@
 -- Which lines a run of a cluster prints, and that they are read as the same lines (rule of this project).
 use Rattle.std.specs.Prelude.{◌≡◌, ℕ, ◌+◌, ◌^◌, ◌<◌, true, List, [], ◌∷◌, length, Ok}
-use Rattle.std.specs.List.{flat_map}
+use Rattle.std.specs.List.{AllByRecursion, flat_map}
 use Rattle.cluster_types.specs.declared.cluster.Cluster.{Cluster}
 use Rattle.cluster_types.specs.declared.journal.Action.{Action}
 use Rattle.cluster_types.specs.declared.journal.Action.TheVariants.{Fence, Probe, Cell, MigrateTo, MigrateFrom}
@@ -69,6 +69,14 @@ IsLineOf c (line.Taken given) = IsAnswerOf c given
 IsLineOf c (line.Complete k) = IsNumber k
 IsLineOf c (line.Aborted k) = IsNumber k
 IsLineOf c (line.Unexpected l) = IsNumber l
+
+-- the rule that a line says to hold a leaf back, if it does, has a name
+abbrev pub IsNamed : RunLine → Type 0
+IsNamed (line.Lacking r (Held id)) = is_name id ≡ true
+IsNamed _ = Unit {0}
+
+abbrev pub AreNamed : List RunTextLine → Type 0
+AreNamed lines = AllByRecursion (λ (l : RunTextLine). IsNamed l.what) lines
 
 -- lines with the numbers of the lines on which they stand, of which the first is given
 abbrev pub numbered : ℕ → List RunLine → List RunTextLine

@@ -5,6 +5,7 @@ ghost use Rattle.cluster_types.specs.Valid.{KeepsLimits};
 ghost use Rattle.faults.specs.Reading.{Gives};
 ghost use Rattle.run_lines.specs.Reading.{lines_of, text_line};
 ghost use Rattle.run_lines.specs.Said.{said_of};
+ghost use Rattle.run_lines.specs.Written.{AreNamed};
 
 use crate::line::{Said, line_of_words};
 use crate::text::{RunText, RunTextLine, TraceFault};
@@ -61,7 +62,8 @@ fn text_line(alloc: Global, cluster: &Cluster, line: &Line) -> Result<RunTextLin
 /// `NoMemory` comes when memory runs out. Rule of this project.
 pub fn read_run(alloc: Global, cluster: &Cluster, lines: &[Line]) -> Result<RunText, TraceFault>
     requires limits { KeepsLimits cluster.now }
-    ensures { Gives (λ text. text.lines) result (lines_of cluster.now lines.now) }
+    ensures lines { Gives (λ text. text.lines) result (lines_of cluster.now lines.now) }
+    ensures named { IfOk result (λ text. AreNamed text.lines) }
 {
     let mut read = Vec::new(alloc);
     for line in lines {

@@ -1,4 +1,4 @@
-use Rattle.std.proofs.Common.{◌≡◌, ◌≤◌, true, []}
+use Rattle.std.proofs.Common.{◌≡◌, ◌≤◌, ◌+◌, true, [], length}
 use Rattle.std.specs.Option.{option_map}
 use Rattle.cluster_io.specs.LineReaders.{loan_of, reading_of, source_of}
 use Rattle.live_lines.specs.Heads.{CanGoOn, KeepsBytes, head_behind, progress}
@@ -11,6 +11,7 @@ invariant-loop-end g l = record {
   keeps : KeepsBytes (progress [] (reading_of l.fn.reader)) (progress l.head.text.items (reading_of l.reader)) (g.S.Source.left (source_of l.fn.reader))
       (g.S.Source.left (source_of l.reader));
   can : CanGoOn (reading_of l.reader);
+  within : length l.head.text.items + (reading_of l.reader).room ≡ (reading_of l.fn.reader).room;
   next : l.head.next ≡ (reading_of l.reader).next;
   count : g.S.Source.faults (source_of l.fn.reader) ≤ g.S.Source.faults (source_of l.reader);
   no_failure : g.S.Source.counts_only_failures ≡ true → g.S.Source.faults (source_of l.reader) ≡ g.S.Source.faults (source_of l.fn.reader);

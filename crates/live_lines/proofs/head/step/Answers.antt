@@ -1,6 +1,6 @@
 use Rattle.std.proofs.Common.{arith}
-use Rattle.live_lines.proofs.HeadBringing.{end_brings, fault_brings, keeps, line_brings, line_can, line_keeps, long_number, next_stays, too_large_brings, too_long_brings, while_well}
-use Rattle.live_lines.proofs.Bringing.{fewer_left, next_is, number_is, numbers_fit}
+use Rattle.live_lines.proofs.HeadBringing.{end_brings, fault_brings, keeps, line_brings, line_can, line_keeps, line_within, long_number, next_stays, too_large_brings, too_long_brings, while_well}
+use Rattle.live_lines.proofs.Bringing.{fewer_left, next_is, number_is, numbers_fit, room_is}
 use Rattle.live_lines.proofs.head.step.Goals as goal
 
 -- a line is handed out
@@ -27,6 +27,11 @@ returns-in-Line-clause-fewer g c none = fewer_left _ _ _ _ (c.in-Line.ensures.an
 
 pub returns-in-Line-clause-can : goal.returns-in-Line-clause-can
 returns-in-Line-clause-can g c = while_well c.take_line.result _ (line_can _ _ _ _ (c.in-Line.ensures.answered c.requires.can.going) c.requires.can)
+
+pub returns-in-Line-clause-within : goal.returns-in-Line-clause-within
+returns-in-Line-clause-within g c =
+    let a = c.in-Line.ensures.answered c.requires.can.going in
+    line_within c.take_line.result c.args.head.now.text.items _ _ _ _ c.take_line.ensures.text (room_is _ _ _ _ a) a.leaves.in_room
 
 -- it isn't given
 

@@ -1,4 +1,4 @@
-use Rattle.std.proofs.Common.{ℕ, ◌<◌, List, length, arith}
+use Rattle.std.proofs.Common.{ℕ, ◌<◌, List, length, ◌∙◌, arith}
 use Rattle.std.specs.List.{flat_map}
 use Rattle.std.proofs.lemmas.Result.{err_from_is_err_and}
 use Rattle.cluster_types.specs.Tables.{targets_of}
@@ -26,4 +26,5 @@ loop-node-preserved g c =
       text = more_put goals c.loop-node.node (g.W.Sink.written c.args.sink.now) (g.W.Sink.written c.loop-node.sink) (g.W.Sink.written c.put_goal.new.sink)
           c.loop-node.invariant.text (rw c.target.ensures at c.in_ok-put_goal.ensures.text);
       count = omega (arith, before, now);
+      no_failure = λ exact. c.in_ok-put_goal.ensures.no_failure exact ∙ c.loop-node.invariant.no_failure exact;
     }

@@ -32,6 +32,7 @@ loop-leaf-preserved g c =
       text = more_put texts c.loop-leaf.leaf (g.W.Sink.written c.args.sink.now) (g.W.Sink.written c.loop-leaf.sink) (g.W.Sink.written c.put_leaf.new.sink)
           c.loop-leaf.invariant.text c.in_ok-put_leaf.ensures.text;
       count = omega (arith, before, now);
+      no_failure = λ exact. c.in_ok-put_leaf.ensures.no_failure exact ∙ c.loop-leaf.invariant.no_failure exact;
     }
 
 pub returns-clause-text : goal.returns-clause-text

@@ -2,6 +2,7 @@ use Rattle.std.proofs.Common.{arith}
 use Rattle.cluster_io.specs.LineReaders.{reading_of}
 use Rattle.live_lines.specs.Saying.{line_says}
 use Rattle.live_lines.proofs.Bringing.{before_behind, fewer_left, line_brings, long_number, numbers_fit, ready_behind, too_large_brings, too_long_brings}
+use Rattle.live_lines.proofs.Stepping.{end_until, fault_until, line_until, too_large_until, too_long_until}
 use Rattle.live_lines.proofs.result_reader.ResultReader.step.Goals as goal
 
 -- a line is handed out
@@ -45,3 +46,22 @@ returns-in-TooLong-clause-brings g c =
 pub returns-in-TooLarge-clause-brings : goal.returns-in-TooLarge-clause-brings
 returns-in-TooLarge-clause-brings g c =
     too_large_brings c.args.cluster.now c.args.self.now.at _ _ _ _ (c.in-TooLarge.ensures.answered c.requires.going)
+
+-- what was read
+
+pub returns-in-Line-clause-until : goal.returns-in-Line-clause-until
+returns-in-Line-clause-until g c =
+    rw (c.take_line.ensures.came, c.take_line.ensures.lines, c.take_line.ensures.place)
+    (line_until c.args.cluster.now c.args.self.now.at _ _ _ _ (c.in-Line.ensures.answered c.requires.going))
+
+pub returns-in-End-clause-until : goal.returns-in-End-clause-until
+returns-in-End-clause-until g c = end_until c.args.cluster.now c.args.self.now.at _ _ _ _ (c.in-End.ensures.answered c.requires.going)
+
+pub returns-in-TooLong-clause-until : goal.returns-in-TooLong-clause-until
+returns-in-TooLong-clause-until g c = too_long_until c.args.cluster.now c.args.self.now.at _ _ _ _ (c.in-TooLong.ensures.answered c.requires.going)
+
+pub returns-in-TooLarge-clause-until : goal.returns-in-TooLarge-clause-until
+returns-in-TooLarge-clause-until g c = too_large_until c.args.cluster.now c.args.self.now.at _ _ _ _ (c.in-TooLarge.ensures.answered c.requires.going)
+
+pub returns-in-Failed-clause-until : goal.returns-in-Failed-clause-until
+returns-in-Failed-clause-until g c = fault_until c.args.cluster.now c.args.self.now.at _ _ _ _ (c.in-Failed.ensures.answered c.requires.going)
