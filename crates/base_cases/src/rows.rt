@@ -1,6 +1,6 @@
 //! What `lane_rows` works out of rows, by lanes and in the plain form.
 
-ghost use Rattle.std.specs.Prelude.{◌≡◌, ℕ, ◌+◌, ◌<◌, ◌≤◌, ◌≤ℤ◌, neg_ℤ, pos, true, length, IfOk};
+ghost use Rattle.std.specs.Prelude.{◌≡◌, ℕ, ◌+◌, ◌<◌, ◌≤◌, ◌≤ℤ◌, neg_ℤ, pos, true, length};
 ghost use Rattle.lane_rows.specs.NodeSet.{has};
 ghost use Rattle.lane_rows.specs.Small.{IsSmallRow};
 
@@ -11,7 +11,6 @@ use lane_rows::{
 use score::Score;
 use std::alloc::Global;
 use std::process::Abort;
-use std::test::Fail;
 
 const LENGTHS: [u32; 10] = [0, 1, 7, 8, 9, 63, 64, 65, 255, 256];
 
@@ -34,13 +33,13 @@ fn put_next(row: &mut Row, calls: usize, node: u32, points: i32)
 }
 
 /// A row with these terms, each a node and its points.
-fn row_with(rt: &impl Abort, alloc: Global, nodes: u32, terms: &[(u32, i32)]) -> Result<Row, Fail>
+fn row_with(rt: &impl Abort, alloc: Global, nodes: u32, terms: &[(u32, i32)]) -> Row
     requires nodes { nodes ≤ 256 }
     requires few { length terms.now ≤ 4 }
-    ensures nodes { IfOk result (λ row. length row ≡ nodes) }
-    ensures small { IfOk result (IsSmallRow 4) }
+    ensures nodes { length result ≡ nodes }
+    ensures small { IsSmallRow 4 result }
 {
-    let mut row = Row::zeros(alloc, nodes)?;
+    let mut row = Row::zeros(alloc, nodes).expect(rt, "memory");
     for i in 0..terms.len() {
         let (node, points) = terms[i];
         assert!(rt; node < nodes);
@@ -48,7 +47,7 @@ fn row_with(rt: &impl Abort, alloc: Global, nodes: u32, terms: &[(u32, i32)]) ->
         assert!(rt; points <= PLUS);
         put_next(&mut row, i, node, points);
     }
-    Ok(row)
+    row
 }
 
 /// The points of a node's total: -INFINITY is at the last node, INFINITY at the first, and twice 600,000 at the one in the middle.
@@ -81,11 +80,11 @@ fn compare(rt: &impl Abort, row: &Row, nodes: u32)
 }
 
 #[test]
-fn totals_of_the_table(rt: HostRuntime) -> Result<(), Fail> {
+fn totals_of_the_table(rt: HostRuntime) {
     for nodes in LENGTHS {
         assert!(&rt; nodes <= 256);
         if nodes == 0 {
-            compare(&rt, &row_with(&rt, rt.alloc(), nodes, &[])?, nodes);
+            compare(&rt, &row_with(&rt, rt.alloc(), nodes, &[]), nodes);
         } else {
             let middle = nodes / 2;
             let terms = [
@@ -94,29 +93,27 @@ fn totals_of_the_table(rt: HostRuntime) -> Result<(), Fail> {
                 (middle, MANY),
                 (middle, MANY),
             ];
-            compare(&rt, &row_with(&rt, rt.alloc(), nodes, &terms)?, nodes);
+            compare(&rt, &row_with(&rt, rt.alloc(), nodes, &terms), nodes);
         }
     }
-    Ok(())
 }
 
 #[test]
-fn sums_of_the_table(rt: HostRuntime) -> Result<(), Fail> {
+fn sums_of_the_table(rt: HostRuntime) {
     for nodes in LENGTHS {
         assert!(&rt; 0 < nodes + 1 && nodes <= 256);
         let last = nodes.saturating_sub(1);
         let ours = [(last, MINUS), (nodes / 2, MANY)];
         let theirs = [(0, PLUS), (nodes / 2, MANY)];
         let put = if nodes == 0 { 0 } else { 2 };
-        let other = row_with(&rt, rt.alloc(), nodes, &theirs[..put])?;
-        let mut by_lanes = row_with(&rt, rt.alloc(), nodes, &ours[..put])?;
+        let other = row_with(&rt, rt.alloc(), nodes, &theirs[..put]);
+        let mut by_lanes = row_with(&rt, rt.alloc(), nodes, &ours[..put]);
         add_row(&mut by_lanes, &other);
         compare(&rt, &by_lanes, nodes);
-        let mut plain = row_with(&rt, rt.alloc(), nodes, &ours[..put])?;
+        let mut plain = row_with(&rt, rt.alloc(), nodes, &ours[..put]);
         add_row_plain(&mut plain, &other);
         compare(&rt, &plain, nodes);
     }
-    Ok(())
 }
 
 /// The nodes below a bound, but for every third.
@@ -134,7 +131,7 @@ fn most_of(bound: u32) -> NodeSet
 }
 
 #[test]
-fn candidates_of_the_table(rt: HostRuntime) -> Result<(), Fail> {
+fn candidates_of_the_table(rt: HostRuntime) {
     for nodes in LENGTHS {
         assert!(&rt; nodes <= 256);
         let count = nodes as usize;
@@ -158,7 +155,6 @@ fn candidates_of_the_table(rt: HostRuntime) -> Result<(), Fail> {
             assert_eq!(&rt; plain.has(node), want, "plain, node {node} of {nodes}");
         }
     }
-    Ok(())
 }
 
 /// A set of these nodes, which are below a bound.
@@ -175,7 +171,7 @@ fn set_of(rt: &impl Abort, bound: u32, nodes: &[u32]) -> NodeSet
 }
 
 #[test]
-fn the_greatest_of_four(rt: HostRuntime) -> Result<(), Fail> {
+fn the_greatest_of_four(rt: HostRuntime) {
     let scores = [
         Score { points: 5 },
         Score { points: 5 },
@@ -194,16 +190,14 @@ fn the_greatest_of_four(rt: HostRuntime) -> Result<(), Fail> {
     assert_eq!(&rt; greatest_plain(&scores, &[0, 0, 2, 1], &all), Some(3));
     assert_eq!(&rt; greatest(&scores, &loads, &none), None);
     assert_eq!(&rt; greatest_plain(&scores, &loads, &none), None);
-    Ok(())
 }
 
 #[test]
-fn a_node_is_taken_out(rt: HostRuntime) -> Result<(), Fail> {
+fn a_node_is_taken_out(rt: HostRuntime) {
     let mut set = set_of(&rt, 256, &[0, 7, 255]);
     set.take_out(7);
     set.take_out(8);
     for node in 0..256u32 {
         assert_eq!(&rt; set.has(node), node == 0 || node == 255, "node {node}");
     }
-    Ok(())
 }

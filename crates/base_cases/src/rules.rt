@@ -2,17 +2,17 @@
 
 use date_rules::{Compare, Kind, Pair, Rule, Test, Text, holds};
 use listed::Listed;
-use std::alloc::{AllocError, Global};
-use std::test::Fail;
+use std::alloc::Global;
+use std::process::Abort;
 
 const MOMENT: u64 = 1000;
 
-fn text(alloc: Global, bytes: &[u8]) -> Result<Text, AllocError> {
-    Ok(Text::from(bytes.to_vec(alloc)?))
+fn text(rt: &impl Abort, alloc: Global, bytes: &[u8]) -> Text {
+    Text::from(bytes.to_vec(alloc).expect(rt, "memory"))
 }
 
 /// The written attributes of the node.
-fn attributes(alloc: Global) -> Result<Vec<Pair>, Fail> {
+fn attributes(rt: &impl Abort, alloc: Global) -> Vec<Pair> {
     let rows: [(&[u8], &[u8]); 10] = [
         (b"rack", b"b"),
         (b"rack", b"c"),
@@ -27,32 +27,35 @@ fn attributes(alloc: Global) -> Result<Vec<Pair>, Fail> {
     ];
     let mut pairs = Vec::new(alloc);
     for (name, value) in rows {
-        pairs.push(Pair {
-            name: text(alloc, name)?,
-            value: text(alloc, value)?,
-        })?;
+        pairs
+            .push(Pair {
+                name: text(rt, alloc, name),
+                value: text(rt, alloc, value),
+            })
+            .expect(rt, "memory");
     }
-    Ok(pairs)
+    pairs
 }
 
 /// Whether the rule of these tests holds at the node n1.
-fn rule_holds(alloc: Global, all: bool, tests: Vec<Test>, moment: u64) -> Result<bool, Fail> {
+fn rule_holds(rt: &impl Abort, alloc: Global, all: bool, tests: Vec<Test>, moment: u64) -> bool {
     let rule = Rule {
         all,
         tests: Listed::from(tests),
     };
-    Ok(holds(&rule, b"n1", attributes(alloc)?.as_slice(), moment))
+    let attributes = attributes(rt, alloc);
+    holds(&rule, b"n1", attributes.as_slice(), moment)
 }
 
 /// Whether the one test passes, at a moment of 1000.
-fn test_passes(alloc: Global, test: Test) -> Result<bool, Fail> {
+fn test_passes(rt: &impl Abort, alloc: Global, test: Test) -> bool {
     let mut tests = Vec::new(alloc);
-    tests.push(test)?;
-    rule_holds(alloc, true, tests, MOMENT)
+    tests.push(test).expect(rt, "memory");
+    rule_holds(rt, alloc, true, tests, MOMENT)
 }
 
 #[test]
-fn comparisons(rt: HostRuntime) -> Result<(), Fail> {
+fn comparisons(rt: HostRuntime) {
     let alloc = rt.alloc();
     let rows: [(&[u8], Compare, Kind, &[u8], bool); 28] = [
         (b"rack", Compare::Eq, Kind::Auto, b"b", true),
@@ -97,46 +100,34 @@ fn comparisons(rt: HostRuntime) -> Result<(), Fail> {
         (b"#uname", Compare::Eq, Kind::Auto, b"zz", false),
     ];
     for (name, compare, kind, value, expected) in rows {
-        let (name, value) = (text(alloc, name)?, text(alloc, value)?);
-        let passes = test_passes(
-            alloc,
-            Test::Attribute {
-                name,
-                compare,
-                kind,
-                value,
-            },
-        )?;
-        assert_eq!(rt; passes, expected);
+        let test = Test::Attribute {
+            name: text(&rt, alloc, name),
+            compare,
+            kind,
+            value: text(&rt, alloc, value),
+        };
+        assert_eq!(rt; test_passes(&rt, alloc, test), expected);
     }
-    Ok(())
 }
 
 #[test]
-fn presence(rt: HostRuntime) -> Result<(), Fail> {
+fn presence(rt: HostRuntime) {
     let alloc = rt.alloc();
     let rows: [(&[u8], bool); 3] = [(b"rack", true), (b"missing", false), (b"#uname", true)];
     for (name, expected) in rows {
-        let defined = test_passes(
-            alloc,
-            Test::Defined {
-                name: text(alloc, name)?,
-            },
-        )?;
-        let not_defined = test_passes(
-            alloc,
-            Test::NotDefined {
-                name: text(alloc, name)?,
-            },
-        )?;
-        assert_eq!(rt; defined, expected);
-        assert_eq!(rt; not_defined, !expected);
+        let defined = Test::Defined {
+            name: text(&rt, alloc, name),
+        };
+        assert_eq!(rt; test_passes(&rt, alloc, defined), expected);
+        let not_defined = Test::NotDefined {
+            name: text(&rt, alloc, name),
+        };
+        assert_eq!(rt; test_passes(&rt, alloc, not_defined), !expected);
     }
-    Ok(())
 }
 
 #[test]
-fn moments(rt: HostRuntime) -> Result<(), Fail> {
+fn moments(rt: HostRuntime) {
     let alloc = rt.alloc();
     let rows: [(i64, bool, bool); 4] = [
         (999, false, true),
@@ -145,8 +136,8 @@ fn moments(rt: HostRuntime) -> Result<(), Fail> {
         (-5, false, true),
     ];
     for (at, before, after) in rows {
-        let is_before = test_passes(alloc, Test::Before { at })?;
-        let is_after = test_passes(alloc, Test::After { at })?;
+        let is_before = test_passes(&rt, alloc, Test::Before { at });
+        let is_after = test_passes(&rt, alloc, Test::After { at });
         assert_eq!(rt; is_before, before);
         assert_eq!(rt; is_after, after);
     }
@@ -158,29 +149,25 @@ fn moments(rt: HostRuntime) -> Result<(), Fail> {
         (2000, 500, false),
     ];
     for (start, end, expected) in rows {
-        let is_within = test_passes(alloc, Test::Within { start, end })?;
+        let is_within = test_passes(&rt, alloc, Test::Within { start, end });
         assert_eq!(rt; is_within, expected);
     }
-    Ok(())
 }
 
 #[test]
-fn joined_tests(rt: HostRuntime) -> Result<(), Fail> {
+fn joined_tests(rt: HostRuntime) {
     let alloc = rt.alloc();
-    let of_none = rule_holds(alloc, true, Vec::new(alloc), MOMENT)?;
-    assert!(rt; of_none);
-    let of_none = rule_holds(alloc, false, Vec::new(alloc), MOMENT)?;
-    assert!(rt; !of_none);
+    assert!(rt; rule_holds(&rt, alloc, true, Vec::new(alloc), MOMENT));
+    assert!(rt; !rule_holds(&rt, alloc, false, Vec::new(alloc), MOMENT));
     for (all, expected) in [(true, false), (false, true)] {
         let mut tests = Vec::new(alloc);
-        tests.push(Test::Before { at: 999 })?;
-        tests.push(Test::After { at: 999 })?;
-        let joined = rule_holds(alloc, all, tests, MOMENT)?;
-        assert_eq!(rt; joined, expected);
+        tests.push(Test::Before { at: 999 }).expect(&rt, "memory");
+        tests.push(Test::After { at: 999 }).expect(&rt, "memory");
+        assert_eq!(rt; rule_holds(&rt, alloc, all, tests, MOMENT), expected);
     }
     let mut tests = Vec::new(alloc);
-    tests.push(Test::After { at: i64::MAX })?;
-    let latest = rule_holds(alloc, false, tests, u64::MAX)?;
-    assert!(rt; latest);
-    Ok(())
+    tests
+        .push(Test::After { at: i64::MAX })
+        .expect(&rt, "memory");
+    assert!(rt; rule_holds(&rt, alloc, false, tests, u64::MAX));
 }

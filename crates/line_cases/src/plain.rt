@@ -1,13 +1,14 @@
 //! Clusters that a text says.
 
-ghost use Rattle.std.specs.Prelude.{IfOk};
-ghost use Rattle.cluster_types.specs.Valid.{IsValid, KeepsLimits};
+ghost use Rattle.cluster_types.specs.Valid.{IsValid};
 
+use clone_expand::expand;
+use cluster_model::resolve;
 use cluster_types::Cluster;
-use sim_core::read_input;
+use crm_lex::logical_lines;
+use crm_parse::parse;
 use std::alloc::Global;
 use std::process::Abort;
-use std::test::Fail;
 
 /// The nodes `n1` and `n2`, the plain leaf `vip`, and the promotable leaf `db` with a monitor for each role.
 pub const CONFIGURATION: &str =
@@ -16,13 +17,13 @@ pub const CONFIGURATION: &str =
     clone dbs db meta promotable=true\n";
 
 /// The cluster of a configuration.
-pub fn cluster_of(rt: &impl Abort, alloc: Global, text: &str) -> Result<Cluster, Fail>
-    ensures valid { IfOk result (λ cluster. IsValid cluster) }
-    ensures limits { IfOk result (λ cluster. KeepsLimits cluster) }
+#[tactic(auto, using(cluster_model::proofs::ValidCluster::resolved_valid))]
+pub fn cluster_of(rt: &impl Abort, alloc: Global, text: &str) -> Cluster
+    ensures { IsValid result }
 {
-    assert!(rt; text.len() <= 16_777_216);
-    match read_input(alloc, text.as_bytes()) {
-        Ok(input) => Ok(input.head.cluster),
-        Err(_) => Err(Fail::from("the configuration is refused")),
-    }
+    assert!(rt; text.len() < 4_294_967_296);
+    let lines = logical_lines(alloc, text.as_bytes()).expect(rt, "the words are read");
+    let crm = parse(alloc, lines.as_slice()).expect(rt, "the statements are read");
+    let leaves = expand(alloc, &crm).expect(rt, "the leaves are made");
+    resolve(alloc, &crm, &leaves).expect(rt, "the names are resolved")
 }

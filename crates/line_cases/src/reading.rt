@@ -9,78 +9,50 @@ use line_words::WordCause;
 use run_lines::{RunText, TraceFault, read_run};
 use std::alloc::Global;
 use std::process::Abort;
-use std::test::Fail;
 
 fn read(
     rt: &impl Abort,
     alloc: Global,
     cluster: &Cluster,
     text: &str,
-) -> Result<Result<RunText, TraceFault>, Fail>
+) -> Result<RunText, TraceFault>
     requires { KeepsLimits cluster.now }
 {
     assert!(rt; text.len() < 4_294_967_296);
-    match logical_lines(alloc, text.as_bytes()) {
-        Ok(lines) => Ok(read_run(alloc, cluster, lines.as_slice())),
-        Err(_) => Err(Fail::from("the words are refused")),
-    }
+    let lines = logical_lines(alloc, text.as_bytes()).expect(rt, "the words are read");
+    read_run(alloc, cluster, lines.as_slice())
 }
 
 /// The line is read so.
-fn says(
-    rt: &impl Abort,
-    alloc: Global,
-    cluster: &Cluster,
-    text: &str,
-    what: RunLine,
-) -> Result<(), Fail>
+fn says(rt: &impl Abort, alloc: Global, cluster: &Cluster, text: &str, what: &RunLine)
     requires { KeepsLimits cluster.now }
 {
-    match read(rt, alloc, cluster, text)? {
-        Ok(run) => match run.lines.as_slice() {
-            [one] => assert!(rt; one.line == 1 && one.what == what, "{text:?}"),
-            _ => assert!(rt; false, "{text:?}"),
-        },
-        Err(_) => assert!(rt; false, "{text:?}"),
+    let run = read(rt, alloc, cluster, text).expect(rt, "the line is read");
+    match run.lines.as_slice() {
+        [one] => assert!(rt; one.line == 1 && one.what == *what, "{text:?}"),
+        _ => assert!(rt; false, "{text:?}"),
     }
-    Ok(())
 }
 
-fn targets_are_read(rt: &impl Abort, alloc: Global, cluster: &Cluster) -> Result<(), Fail>
+fn targets_are_read(rt: &impl Abort, alloc: Global, cluster: &Cluster)
     requires { KeepsLimits cluster.now }
 {
-    says(rt, alloc, cluster, "transition 01", RunLine::Transition(1))?;
-    says(
-        rt,
-        alloc,
-        cluster,
-        "pinned vip unmanaged",
-        RunLine::Pinned(0, Pin::Unmanaged),
-    )?;
-    says(
-        rt,
-        alloc,
-        cluster,
-        "target db n2 promoted",
-        RunLine::Goal(1, 1, Target::Promoted),
-    )?;
-    says(
-        rt,
-        alloc,
-        cluster,
-        "none vip NoQuorum",
-        RunLine::Lacking(0, NoReason::NoQuorum),
-    )?;
-    let Ok(id) = Name::from_bytes(alloc, b"o-1.x_Y") else {
-        return Err(Fail::from("no memory"));
-    };
-    says(
-        rt,
-        alloc,
-        cluster,
-        "none vip Held o-1.x_Y",
-        RunLine::Lacking(0, NoReason::Held(id)),
-    )
+    let id = Name::from_bytes(alloc, b"o-1.x_Y").expect(rt, "memory");
+    for (text, what) in &[
+        ("transition 01", RunLine::Transition(1)),
+        ("pinned vip unmanaged", RunLine::Pinned(0, Pin::Unmanaged)),
+        (
+            "target db n2 promoted",
+            RunLine::Goal(1, 1, Target::Promoted),
+        ),
+        ("none vip NoQuorum", RunLine::Lacking(0, NoReason::NoQuorum)),
+        (
+            "none vip Held o-1.x_Y",
+            RunLine::Lacking(0, NoReason::Held(id)),
+        ),
+    ] {
+        says(rt, alloc, cluster, text, what);
+    }
 }
 
 /// Lines of begins, and their actions. A monitor has the role of its interval's statement.
@@ -126,30 +98,18 @@ const BEGINS: [(&str, Action); 6] = [
 ];
 
 #[test]
-fn lines_are_read(rt: HostRuntime) -> Result<(), Fail> {
+fn lines_are_read(rt: HostRuntime) {
     let alloc = rt.alloc();
-    let cluster = cluster_of(&rt, alloc, CONFIGURATION)?;
-    targets_are_read(&rt, alloc, &cluster)?;
+    let cluster = cluster_of(&rt, alloc, CONFIGURATION);
+    targets_are_read(&rt, alloc, &cluster);
     for (text, action) in BEGINS.as_slice() {
-        says(&rt, alloc, &cluster, text, RunLine::Begin(3, *action))?;
+        says(&rt, alloc, &cluster, text, &RunLine::Begin(3, *action));
     }
-    let answer = Answer::Wait {
-        seconds: 1_099_511_627_775,
-    };
-    says(
-        &rt,
-        alloc,
-        &cluster,
-        "wait 1099511627775",
-        RunLine::Taken(answer),
-    )?;
-    says(
-        &rt,
-        alloc,
-        &cluster,
-        "unexpected 4294967295",
-        RunLine::Unexpected(4_294_967_295),
-    )
+    let seconds = 1_099_511_627_775;
+    let wait = RunLine::Taken(Answer::Wait { seconds });
+    says(&rt, alloc, &cluster, "wait 1099511627775", &wait);
+    let unexpected = RunLine::Unexpected(4_294_967_295);
+    says(&rt, alloc, &cluster, "unexpected 4294967295", &unexpected);
 }
 
 /// Lines, and the line and the cause of their fault.
@@ -187,20 +147,19 @@ const FAULTS: [(&str, u32, WordCause); 30] = [
 ];
 
 #[test]
-fn faults_are_at_the_leftmost_word(rt: HostRuntime) -> Result<(), Fail> {
+fn faults_are_at_the_leftmost_word(rt: HostRuntime) {
     let alloc = rt.alloc();
-    let cluster = cluster_of(&rt, alloc, CONFIGURATION)?;
+    let cluster = cluster_of(&rt, alloc, CONFIGURATION);
     for (text, line, cause) in FAULTS.as_slice() {
         let expected = TraceFault::At {
             line: *line,
             cause: *cause,
         };
-        match read(&rt, alloc, &cluster, text)? {
+        match read(&rt, alloc, &cluster, text) {
             Ok(_) => assert!(rt; false, "{text:?}"),
             Err(fault) => assert_eq!(rt; fault, expected, "{text:?}"),
         }
     }
-    Ok(())
 }
 
 /// A run that an outside program wrote.
@@ -209,12 +168,9 @@ const RUN: &str =
     begin 3 start vip n1\nend 3 0\ncomplete 1\n";
 
 #[test]
-fn a_run_is_read(rt: HostRuntime) -> Result<(), Fail> {
+fn a_run_is_read(rt: HostRuntime) {
     let alloc = rt.alloc();
-    let cluster = cluster_of(&rt, alloc, CONFIGURATION)?;
-    match read(&rt, alloc, &cluster, RUN)? {
-        Ok(run) => assert_eq!(rt; run.lines.len(), 9),
-        Err(_) => return Err(Fail::from("the run is refused")),
-    }
-    Ok(())
+    let cluster = cluster_of(&rt, alloc, CONFIGURATION);
+    let run = read(&rt, alloc, &cluster, RUN).expect(&rt, "the run is read");
+    assert_eq!(rt; run.lines.len(), 9);
 }

@@ -11,51 +11,47 @@ use cluster_types::{
 use crm_lex::Name;
 use listed::Listed;
 use std::alloc::Global;
-use std::test::Fail;
+use std::process::Abort;
 use trace_text::{RunLineRef, run_text, valid_clusters_have_short_names, write_line};
 
 /// Adds a line to a text.
-fn add(text: &mut Vec<u8>, cluster: &Cluster, line: &RunLineRef<'_>) -> Result<(), Fail>
+fn add(rt: &impl Abort, text: &mut Vec<u8>, cluster: &Cluster, line: &RunLineRef<'_>)
     requires names { HasShortNames cluster.now }
     requires reason { HasName line.now }
 {
     let mut buf = [0; 1024];
     let length = write_line(cluster, line, &mut buf);
-    text.extend_from_slice(&buf[..length])?;
-    Ok(())
+    text.extend_from_slice(&buf[..length]).expect(rt, "memory");
 }
 
-fn add_targets(text: &mut Vec<u8>, cluster: &Cluster) -> Result<(), Fail>
+fn add_targets(rt: &impl Abort, text: &mut Vec<u8>, cluster: &Cluster)
     requires { HasShortNames cluster.now }
 {
-    add(text, cluster, &RunLineRef::Transition(1))?;
-    add(text, cluster, &RunLineRef::Pinned(0, Pin::Unmanaged))?;
-    add(text, cluster, &RunLineRef::Pinned(1, Pin::Blocked))?;
-    add(text, cluster, &RunLineRef::Goal(0, 1, Target::Started))?;
-    add(text, cluster, &RunLineRef::Goal(1, 0, Target::Promoted))
+    add(rt, text, cluster, &RunLineRef::Transition(1));
+    add(rt, text, cluster, &RunLineRef::Pinned(0, Pin::Unmanaged));
+    add(rt, text, cluster, &RunLineRef::Pinned(1, Pin::Blocked));
+    add(rt, text, cluster, &RunLineRef::Goal(0, 1, Target::Started));
+    add(rt, text, cluster, &RunLineRef::Goal(1, 0, Target::Promoted));
 }
 
-fn add_reason(text: &mut Vec<u8>, cluster: &Cluster, reason: &NoReason) -> Result<(), Fail>
+fn add_reason(rt: &impl Abort, text: &mut Vec<u8>, cluster: &Cluster, reason: &NoReason)
     requires names { HasShortNames cluster.now }
     requires named { IsNamed reason.now }
 {
-    add(text, cluster, &RunLineRef::Lacking(0, reason))
+    add(rt, text, cluster, &RunLineRef::Lacking(0, reason));
 }
 
-fn add_reasons(text: &mut Vec<u8>, cluster: &Cluster, alloc: Global) -> Result<(), Fail>
+fn add_reasons(rt: &impl Abort, text: &mut Vec<u8>, cluster: &Cluster, alloc: Global)
     requires { HasShortNames cluster.now }
 {
-    add_reason(text, cluster, &NoReason::NoCopies)?;
-    add_reason(text, cluster, &NoReason::Stopped)?;
-    add_reason(text, cluster, &NoReason::OnFail)?;
-    add_reason(text, cluster, &NoReason::StopAll)?;
-    add_reason(text, cluster, &NoReason::NoQuorum)?;
-    add_reason(text, cluster, &NoReason::NoNode)?;
-    let Ok(id) = Name::from_bytes(alloc, b"o") else {
-        return Err(Fail::from("no memory"));
-    };
-    let held = NoReason::Held(id);
-    add_reason(text, cluster, &held)
+    add_reason(rt, text, cluster, &NoReason::NoCopies);
+    add_reason(rt, text, cluster, &NoReason::Stopped);
+    add_reason(rt, text, cluster, &NoReason::OnFail);
+    add_reason(rt, text, cluster, &NoReason::StopAll);
+    add_reason(rt, text, cluster, &NoReason::NoQuorum);
+    add_reason(rt, text, cluster, &NoReason::NoNode);
+    let id = Name::from_bytes(alloc, b"o").expect(rt, "memory");
+    add_reason(rt, text, cluster, &NoReason::Held(id));
 }
 
 /// An operation of the first leaf on a node.
@@ -69,7 +65,7 @@ fn step(op: Op, node: NodeId, interval_ms: u32) -> Action {
     }
 }
 
-fn add_begins(text: &mut Vec<u8>, cluster: &Cluster) -> Result<(), Fail>
+fn add_begins(rt: &impl Abort, text: &mut Vec<u8>, cluster: &Cluster)
     requires { HasShortNames cluster.now }
 {
     for (number, action) in [
@@ -97,12 +93,11 @@ fn add_begins(text: &mut Vec<u8>, cluster: &Cluster) -> Result<(), Fail>
             },
         ),
     ] {
-        add(text, cluster, &RunLineRef::Begin(number, action))?;
+        add(rt, text, cluster, &RunLineRef::Begin(number, action));
     }
-    Ok(())
 }
 
-fn add_answers(text: &mut Vec<u8>, cluster: &Cluster) -> Result<(), Fail>
+fn add_answers(rt: &impl Abort, text: &mut Vec<u8>, cluster: &Cluster)
     requires { HasShortNames cluster.now }
 {
     for answer in [
@@ -126,11 +121,11 @@ fn add_answers(text: &mut Vec<u8>, cluster: &Cluster) -> Result<(), Fail>
             code: 7,
         },
     ] {
-        add(text, cluster, &RunLineRef::Taken(answer))?;
+        add(rt, text, cluster, &RunLineRef::Taken(answer));
     }
-    add(text, cluster, &RunLineRef::Complete(1))?;
-    add(text, cluster, &RunLineRef::Aborted(2))?;
-    add(text, cluster, &RunLineRef::Unexpected(13))
+    add(rt, text, cluster, &RunLineRef::Complete(1));
+    add(rt, text, cluster, &RunLineRef::Aborted(2));
+    add(rt, text, cluster, &RunLineRef::Unexpected(13));
 }
 
 /// What is written below.
@@ -144,17 +139,16 @@ const LINES: &[u8] =
     report n2 vip 10000 7\ncomplete 1\naborted 2\nunexpected 13\n";
 
 #[test]
-fn each_line_is_written(rt: HostRuntime) -> Result<(), Fail> {
+fn each_line_is_written(rt: HostRuntime) {
     let alloc = rt.alloc();
-    let cluster = cluster_of(&rt, alloc, CONFIGURATION)?;
+    let cluster = cluster_of(&rt, alloc, CONFIGURATION);
     valid_clusters_have_short_names();
     let mut text = Vec::new(alloc);
-    add_targets(&mut text, &cluster)?;
-    add_reasons(&mut text, &cluster, alloc)?;
-    add_begins(&mut text, &cluster)?;
-    add_answers(&mut text, &cluster)?;
+    add_targets(&rt, &mut text, &cluster);
+    add_reasons(&rt, &mut text, &cluster, alloc);
+    add_begins(&rt, &mut text, &cluster);
+    add_answers(&rt, &mut text, &cluster);
     assert!(rt; text.as_slice() == LINES);
-    Ok(())
 }
 
 /// Two nodes and a resource.
@@ -170,12 +164,11 @@ fn ended(number: u32, action: Action, code: u8) -> Event {
 }
 
 /// The node n2 joins while n1 is probed, and then the resource is started there. The first event is of the status.
-fn events(alloc: Global) -> Result<Listed<Event>, Fail> {
-    let mut events = Listed::new(alloc);
+fn events(rt: &impl Abort, alloc: Global) -> Listed<Event> {
     let first = Action::Probe { leaf: 0, node: 0 };
     let second = Action::Probe { leaf: 0, node: 1 };
     let start = step(Op::Start, 0, 0);
-    for event in [
+    let events = [
         Event::Up { node: 0 },
         Event::Begin {
             number: 1,
@@ -195,42 +188,47 @@ fn events(alloc: Global) -> Result<Listed<Event>, Fail> {
         },
         ended(2, start, 0),
         Event::Quorum { yes: false },
-    ] {
-        events.push(event)?;
-    }
-    Ok(events)
+    ];
+    Listed::from(events.to_vec(alloc).expect(rt, "memory"))
 }
 
 /// A transition with a target on the first node.
-fn passed(alloc: Global, begins_at: u32, ends_at: u32, end: PassedEnd) -> Result<Passed, Fail> {
+fn passed(rt: &impl Abort, alloc: Global, begins_at: u32, ends_at: u32, end: PassedEnd) -> Passed {
     let mut pins = Listed::new(alloc);
-    pins.push(None)?;
+    pins.push(None).expect(rt, "memory");
     let mut none = Listed::new(alloc);
-    none.push(None)?;
-    let mut targets = Listed::new(alloc);
-    targets.push(Target::Started)?;
-    targets.push(Target::Nowhere)?;
-    Ok(Passed {
+    none.push(None).expect(rt, "memory");
+    let targets = [Target::Started, Target::Nowhere]
+        .to_vec(alloc)
+        .expect(rt, "memory");
+    Passed {
         pins,
-        table: Table { nodes: 2, targets },
+        table: Table {
+            nodes: 2,
+            targets: Listed::from(targets),
+        },
         none,
         begins_at,
         ends_at,
         end,
-    })
+    }
 }
 
-fn run_of(alloc: Global) -> Result<Run, Fail> {
+fn run_of(rt: &impl Abort, alloc: Global) -> Run {
     let mut transitions = Listed::new(alloc);
-    transitions.push(passed(alloc, 1, 4, PassedEnd::Aborted)?)?;
-    transitions.push(passed(alloc, 5, 9, PassedEnd::Complete)?)?;
-    Ok(Run {
+    transitions
+        .push(passed(rt, alloc, 1, 4, PassedEnd::Aborted))
+        .expect(rt, "memory");
+    transitions
+        .push(passed(rt, alloc, 5, 9, PassedEnd::Complete))
+        .expect(rt, "memory");
+    Run {
         passed: transitions,
         journal: Journal {
-            events: events(alloc)?,
+            events: events(rt, alloc),
             promotions: Listed::new(alloc),
         },
-    })
+    }
 }
 
 /// What is written of it.
@@ -239,15 +237,12 @@ const RUN: &[u8] =
     transition 2\ntarget vip n1 started\nbegin 1 probe vip n2\nend 1 7\nbegin 2 start vip n1\nend 2 0\ncomplete 2\nquorum no\n";
 
 #[test]
-fn a_run_is_written(rt: HostRuntime) -> Result<(), Fail> {
+fn a_run_is_written(rt: HostRuntime) {
     let alloc = rt.alloc();
-    let cluster = cluster_of(&rt, alloc, SMALL)?;
+    let cluster = cluster_of(&rt, alloc, SMALL);
     valid_clusters_have_short_names();
-    let run = run_of(alloc)?;
+    let run = run_of(&rt, alloc);
     assert!(rt; run.passed.len() < 4_294_967_295);
-    match run_text(alloc, &cluster, &run) {
-        Ok(text) => assert!(rt; text.as_slice() == RUN),
-        Err(_) => return Err(Fail::from("no memory")),
-    }
-    Ok(())
+    let text = run_text(alloc, &cluster, &run).expect(&rt, "memory");
+    assert!(rt; text.as_slice() == RUN);
 }

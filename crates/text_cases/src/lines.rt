@@ -1,11 +1,10 @@
 //! What `crm_lex` cuts a text into, and the first fault of a text.
 
 use crate::reading::LINES;
-use crm_lex::{LexCause, LexFault, Name, WordBuf, lex_one, line_count, logical_lines};
-use std::alloc::Global;
+use crm_lex::{LexCause, LexFault, Line, Name, WordBuf, lex_one, line_count, logical_lines};
+use std::alloc::{AllocError, Global};
 use std::hash::{FoldHasher, Hash, Hasher};
 use std::process::Abort;
-use std::test::Fail;
 
 /// A text, and what is read of it: each line as its number and its words in brackets, or the line and cause of a fault.
 type Row = (&'static [u8], &'static str);
@@ -162,38 +161,45 @@ const FIRST_FAULTS: [Row; 11] = [
     (b"a\\\nb\n'\x7f", "3 ControlByte"),
 ];
 
-fn print_word(out: &mut String, word: &[u8]) -> Result<(), Fail> {
+fn print_word(out: &mut String, word: &[u8]) -> Result<(), AllocError> {
     match std::str::from_utf8(word) {
-        Ok(text) => write!(out, "[{text}]")?,
-        Err(_) => write!(out, "{word:?}")?,
+        Ok(text) => write!(out, "[{text}]"),
+        Err(_) => write!(out, "{word:?}"),
+    }
+}
+
+fn print_line(out: &mut String, line: &Line) -> Result<(), AllocError> {
+    let number = line.line;
+    write!(out, "{number}")?;
+    for word in line.words.iter() {
+        print_word(out, word.bytes())?;
     }
     Ok(())
 }
 
-fn print_fault(out: &mut String, fault: LexFault) -> Result<(), Fail> {
+fn print_lines(out: &mut String, lines: &[Line]) -> Result<(), AllocError> {
+    for line in lines {
+        print_line(out, line)?;
+    }
+    Ok(())
+}
+
+fn print_fault(out: &mut String, fault: LexFault) -> Result<(), AllocError> {
     match fault {
-        LexFault::At { line, cause } => write!(out, "{line} {cause:?}")?,
-        LexFault::NoMemory => write!(out, "{fault}")?,
+        LexFault::At { line, cause } => write!(out, "{line} {cause:?}"),
+        LexFault::NoMemory => write!(out, "{fault}"),
     }
-    Ok(())
 }
 
-fn read(rt: &impl Abort, alloc: Global, text: &[u8]) -> Result<String, Fail> {
+fn read(rt: &impl Abort, alloc: Global, text: &[u8]) -> String {
     assert!(rt; text.len() < LINES);
     let mut out = String::new(alloc);
-    match logical_lines(alloc, text) {
-        Ok(lines) => {
-            for line in &lines {
-                let number = line.line;
-                write!(out, "{number}")?;
-                for word in line.words.iter() {
-                    print_word(&mut out, word.bytes())?;
-                }
-            }
-        }
-        Err(fault) => print_fault(&mut out, fault)?,
-    }
-    Ok(out)
+    let printed = match logical_lines(alloc, text) {
+        Ok(lines) => print_lines(&mut out, lines.as_slice()),
+        Err(fault) => print_fault(&mut out, fault),
+    };
+    printed.expect(rt, "memory");
+    out
 }
 
 fn lex(rt: &impl Abort, line: u32, raw: &[u8], into: &mut WordBuf) -> Result<(), LexFault> {
@@ -202,29 +208,28 @@ fn lex(rt: &impl Abort, line: u32, raw: &[u8], into: &mut WordBuf) -> Result<(),
     lex_one(line, raw, into)
 }
 
-fn read_one(
-    rt: &impl Abort,
-    line: u32,
-    raw: &[u8],
-    into: &mut WordBuf,
-    alloc: Global,
-) -> Result<String, Fail> {
-    let mut out = String::new(alloc);
-    if let Err(fault) = lex(rt, line, raw, into) {
-        print_fault(&mut out, fault)?;
-    }
-    let count = into.count();
+fn print_words(out: &mut String, words: &WordBuf) -> Result<(), AllocError> {
+    let count = words.count();
     write!(out, "({count})")?;
     for index in 0..count {
-        if let Some(word) = into.word(index) {
-            print_word(&mut out, word)?;
+        if let Some(word) = words.word(index) {
+            print_word(out, word)?;
         }
     }
-    Ok(out)
+    Ok(())
+}
+
+fn read_one(rt: &impl Abort, line: u32, raw: &[u8], into: &mut WordBuf, alloc: Global) -> String {
+    let mut out = String::new(alloc);
+    if let Err(fault) = lex(rt, line, raw, into) {
+        print_fault(&mut out, fault).expect(rt, "memory");
+    }
+    print_words(&mut out, into).expect(rt, "memory");
+    out
 }
 
 #[test]
-fn texts_are_read(rt: HostRuntime) -> Result<(), Fail> {
+fn texts_are_read(rt: HostRuntime) {
     let alloc = rt.alloc();
     for rows in [
         PHYSICAL_LINES.as_slice(),
@@ -236,29 +241,25 @@ fn texts_are_read(rt: HostRuntime) -> Result<(), Fail> {
         FIRST_FAULTS.as_slice(),
     ] {
         for (text, expected) in rows {
-            assert_eq!(rt; read(&rt, alloc, text)?.as_str(), *expected, "{text:?}");
+            assert_eq!(rt; read(&rt, alloc, text).as_str(), *expected, "{text:?}");
         }
     }
-    Ok(())
 }
 
 #[test]
-fn control_bytes_are_refused(rt: HostRuntime) -> Result<(), Fail> {
+fn control_bytes_are_refused(rt: HostRuntime) {
     let alloc = rt.alloc();
     for byte in 0..128u8 {
-        let answer = read(&rt, alloc, &[b'a', b'\n', byte, b'b'])?;
+        let answer = read(&rt, alloc, &[b'a', b'\n', byte, b'b']);
         let control = byte < 32 && byte != b'\t' && byte != b'\n' || byte == 127;
         assert_eq!(rt; answer.as_str() == "2 ControlByte", control, "{byte}");
     }
-    Ok(())
 }
 
 #[test]
-fn lines_are_read_one_by_one(rt: HostRuntime) -> Result<(), Fail> {
+fn lines_are_read_one_by_one(rt: HostRuntime) {
     let alloc = rt.alloc();
-    let Ok(mut into) = WordBuf::new(alloc) else {
-        return Err(Fail::from("no memory"));
-    };
+    let mut into = WordBuf::new(alloc).expect(&rt, "memory");
     assert_eq!(rt; into.count(), 0);
     let table: [(u32, &[u8], &str); 12] = [
         (7, b"", "(0)"),
@@ -279,21 +280,24 @@ fn lines_are_read_one_by_one(rt: HostRuntime) -> Result<(), Fail> {
         (4_294_967_295, b"a\n", "(1)[a]"),
     ];
     for (line, raw, expected) in table {
-        assert_eq!(rt;
-            read_one(&rt, line, raw, &mut into, alloc)?.as_str(),
-            expected,
-            "{raw:?}"
-        );
+        let read = read_one(&rt, line, raw, &mut into, alloc);
+        assert_eq!(rt; read.as_str(), expected, "{raw:?}");
     }
-    Ok(())
 }
 
 /// The count of letters before and after a middle.
-fn long_line(alloc: Global, before: usize, middle: &[u8], after: usize) -> Result<Vec<u8>, Fail> {
-    let mut text = vec![in alloc; b'a'; before]?;
-    text.extend_from_slice(middle)?;
-    text.extend_from_slice(vec![in alloc; b'a'; after]?.as_slice())?;
-    Ok(text)
+fn long_line(
+    rt: &impl Abort,
+    alloc: Global,
+    before: usize,
+    middle: &[u8],
+    after: usize,
+) -> Vec<u8> {
+    let mut text = vec![in alloc; b'a'; before].expect(rt, "memory");
+    text.extend_from_slice(middle).expect(rt, "memory");
+    let rest = vec![in alloc; b'a'; after].expect(rt, "memory");
+    text.extend_from_slice(rest.as_slice()).expect(rt, "memory");
+    text
 }
 
 fn is_too_long(rt: &impl Abort, alloc: Global, text: &[u8]) -> bool {
@@ -323,47 +327,44 @@ const LONG_LINES: [(usize, &[u8], usize, bool); 12] = [
 ];
 
 #[test]
-fn long_lines_are_refused(rt: HostRuntime) -> Result<(), Fail> {
+fn long_lines_are_refused(rt: HostRuntime) {
     let alloc = rt.alloc();
     for (before, middle, after, expected) in LONG_LINES {
-        let text = long_line(alloc, before, middle, after)?;
+        let text = long_line(&rt, alloc, before, middle, after);
         let refused = is_too_long(&rt, alloc, text.as_slice());
         assert_eq!(rt; refused, expected, "{before} {middle:?} {after}");
     }
-    Ok(())
 }
 
 #[test]
-fn the_longest_line_is_read_alone(rt: HostRuntime) -> Result<(), Fail> {
+fn the_longest_line_is_read_alone(rt: HostRuntime) {
     let alloc = rt.alloc();
-    let Ok(mut into) = WordBuf::new(alloc) else {
-        return Err(Fail::from("no memory"));
-    };
-    let text = long_line(alloc, 1_048_574, b" b", 0)?;
+    let mut into = WordBuf::new(alloc).expect(&rt, "memory");
+    let text = long_line(&rt, alloc, 1_048_574, b" b", 0);
     assert!(rt; lex(&rt, 1, text.as_slice(), &mut into).is_ok());
     assert_eq!(rt; into.word(0).map(|word| word.len()), Some(1_048_574));
     assert_eq!(rt; into.word(1), Some(b"b".as_slice()));
-    let text = long_line(alloc, 1_048_576, b" ", 0)?;
+    let text = long_line(&rt, alloc, 1_048_576, b" ", 0);
     let fault = LexFault::At {
         line: 7,
         cause: LexCause::LineTooLong,
     };
     assert_eq!(rt; lex(&rt, 7, text.as_slice(), &mut into), Err(fault));
     assert_eq!(rt; into.count(), 0);
-    Ok(())
 }
 
 #[test]
-fn faults_print_their_line(rt: HostRuntime) -> Result<(), Fail> {
+fn faults_print_their_line(rt: HostRuntime) {
     let alloc = rt.alloc();
     let fault = LexFault::At {
         line: 7,
         cause: LexCause::OpenQuote,
     };
-    assert_eq!(rt; format!(in alloc; "{fault}")?.as_str(), "line 7: OpenQuote");
+    let shown = format!(in alloc; "{fault}").expect(&rt, "memory");
+    assert_eq!(rt; shown.as_str(), "line 7: OpenQuote");
     let fault = LexFault::NoMemory;
-    assert_eq!(rt; format!(in alloc; "{fault}")?.as_str(), "out of memory");
-    Ok(())
+    let shown = format!(in alloc; "{fault}").expect(&rt, "memory");
+    assert_eq!(rt; shown.as_str(), "out of memory");
 }
 
 fn hash_of(name: &Name) -> u64 {
@@ -373,21 +374,15 @@ fn hash_of(name: &Name) -> u64 {
 }
 
 #[test]
-fn a_name_keeps_its_bytes(rt: HostRuntime) -> Result<(), Fail> {
+fn a_name_keeps_its_bytes(rt: HostRuntime) {
     let alloc = rt.alloc();
-    let Ok(one) = Name::from_bytes(alloc, b"n1") else {
-        return Err(Fail::from("no memory"));
-    };
-    let Ok(same) = Name::from_bytes(alloc, b"n1") else {
-        return Err(Fail::from("no memory"));
-    };
-    let Ok(other) = Name::from_bytes(alloc, b"n2") else {
-        return Err(Fail::from("no memory"));
-    };
+    let one = Name::from_bytes(alloc, b"n1").expect(&rt, "memory");
+    let same = Name::from_bytes(alloc, b"n1").expect(&rt, "memory");
+    let other = Name::from_bytes(alloc, b"n2").expect(&rt, "memory");
     assert_eq!(rt; one.bytes(), b"n1".as_slice());
     assert!(rt; one == same);
     assert!(rt; one != other);
     assert_eq!(rt; hash_of(&one), hash_of(&same));
-    assert_eq!(rt; format!(in alloc; "{one:?}")?.as_str(), "[110, 49]");
-    Ok(())
+    let shown = format!(in alloc; "{one:?}").expect(&rt, "memory");
+    assert_eq!(rt; shown.as_str(), "[110, 49]");
 }

@@ -4,22 +4,18 @@ use crm_lex::{Line, logical_lines};
 use crm_parse::{Crm, parse};
 use std::alloc::Global;
 use std::process::Abort;
-use std::test::Fail;
 
 /// The numbers of lines are below this.
 pub const LINES: usize = 4_294_967_296;
 
 /// The lines of a text.
-pub fn lines(rt: &impl Abort, alloc: Global, text: &str) -> Result<Vec<Line>, Fail> {
+pub fn lines(rt: &impl Abort, alloc: Global, text: &str) -> Vec<Line> {
     assert!(rt; text.len() < LINES);
-    match logical_lines(alloc, text.as_bytes()) {
-        Ok(lines) => Ok(lines),
-        Err(_) => Err(Fail::from("the words are refused")),
-    }
+    logical_lines(alloc, text.as_bytes()).expect(rt, "the words are read")
 }
 
 /// The statements of a text.
-pub fn crm(rt: &impl Abort, alloc: Global, text: &str) -> Result<Crm, Fail> {
-    let lines = lines(rt, alloc, text)?;
-    Ok(parse(alloc, lines.as_slice())?)
+pub fn crm(rt: &impl Abort, alloc: Global, text: &str) -> Crm {
+    let lines = lines(rt, alloc, text);
+    parse(alloc, lines.as_slice()).expect(rt, "the statements are read")
 }

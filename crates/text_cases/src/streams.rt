@@ -1,5 +1,7 @@
 //! What `cluster_io` reads and writes, over readers and writers that are interrupted or fail.
 
+ghost use Rattle.std.specs.Prelude.{◌<◌};
+
 use cluster_io::{
     HeldLines, LineReader, LineStep, MemorySink, MemorySource, NoMemory, ReadEnd, ReadStep, Sink,
     Source, StdSink, StdSource, WriteFault, WriteStep, read_all, write_text,
@@ -8,7 +10,6 @@ use std::alloc::Global;
 use std::io;
 use std::io::{ErrorKind, Read, Write};
 use std::process::Abort;
-use std::test::Fail;
 
 /// Is interrupted some times, then reads or writes as `inner` does, and fails where that moves
 /// nothing.
@@ -100,8 +101,23 @@ fn writes_to_std(rt: HostRuntime) {
     assert_eq!(rt; broken.write(b"xy"), WriteStep::Failed);
 }
 
+/// A source of these bytes, of which a read gives at most `step`, and these reads fail, counted from 1.
+fn source_of(
+    rt: &impl Abort,
+    alloc: Global,
+    bytes: &[u8],
+    step: usize,
+    fails: &[u32],
+) -> MemorySource
+    requires { 0 < step }
+{
+    let bytes = bytes.to_vec(alloc).expect(rt, "memory");
+    let fails = fails.to_vec(alloc).expect(rt, "memory");
+    MemorySource::new(bytes, step, fails)
+}
+
 #[test]
-fn reads_all(rt: HostRuntime) -> Result<(), Fail> {
+fn reads_all(rt: HostRuntime) {
     let alloc = rt.alloc();
     let no_fails: [u32; 0] = [];
     for (step, fails, limit, want) in [
@@ -114,22 +130,18 @@ fn reads_all(rt: HostRuntime) -> Result<(), Fail> {
         (4, &[3], usize::MAX, Ok(b"abcd")),
     ] {
         assert!(rt; step > 0);
-        let mut source = MemorySource::new(b"abcd".to_vec(alloc)?, step, fails.to_vec(alloc)?);
+        let mut source = source_of(&rt, alloc, b"abcd", step, fails);
         let got = read_all(alloc, &mut source, limit);
-        if let Err(ReadEnd::NoMemory) = got {
-            return Err(Fail::from("no memory"));
-        }
         let got = match &got {
             Ok(bytes) => Ok(bytes.as_slice()),
             Err(end) => Err(*end),
         };
         assert_eq!(rt; got, want, "step {step}, limit {limit}");
     }
-    Ok(())
 }
 
 #[test]
-fn writes_text(rt: HostRuntime) -> Result<(), Fail> {
+fn writes_text(rt: HostRuntime) {
     let alloc = rt.alloc();
     let no_fails: [u32; 0] = [];
     for (room, step, fails, text, want, held) in [
@@ -148,9 +160,8 @@ fn writes_text(rt: HostRuntime) -> Result<(), Fail> {
         (0, 1, &[1], b"", Ok(()), b""),
     ] {
         assert!(rt; step > 0);
-        let Ok(mut sink) = MemorySink::new(alloc, room, step, fails.to_vec(alloc)?) else {
-            return Err(Fail::from("no memory"));
-        };
+        let fails = fails.to_vec(alloc).expect(&rt, "memory");
+        let mut sink = MemorySink::new(alloc, room, step, fails).expect(&rt, "memory");
         assert_eq!(rt; sink.room_left(), room);
         assert_eq!(rt;
             write_text(&mut sink, text),
@@ -158,9 +169,8 @@ fn writes_text(rt: HostRuntime) -> Result<(), Fail> {
             "room {room}, step {step}"
         );
         assert_eq!(rt; sink.bytes(), held);
-        assert_eq!(rt; sink.room_left(), room - held.len());
+        assert_eq!(rt; Some(sink.room_left()), room.checked_sub(held.len()));
     }
-    Ok(())
 }
 
 /// The next answer that is no failure. Each failure before it is counted.
@@ -195,17 +205,22 @@ fn gives_lines<S: Source>(
     failures
 }
 
+/// Empty lines to read into, of this limit and this longest line.
+fn held_lines(rt: &impl Abort, alloc: Global, (limit, longest): (usize, usize)) -> HeldLines {
+    assert!(rt; limit < 1 << 32);
+    HeldLines::new(alloc, limit, longest).expect(rt, "memory")
+}
+
 /// Gives these lines, whatever the greatest step of the source and whichever of its reads fails. One failure is told where the read that
 /// fails is one that must be made: the first, and where the end comes each that gives bytes and one behind them.
 fn reads_lines(
     rt: &impl Abort,
     alloc: Global,
     text: &[u8],
-    (limit, longest): (usize, usize),
+    bounds: (usize, usize),
     lines: &[(u32, &[u8])],
     end: LineStep,
-) -> Result<(), Fail> {
-    assert!(rt; limit < 1 << 32);
+) {
     for step in [1, 2, 3, 9, 4096, 5000] {
         let reads = if end == LineStep::End {
             text.len().div_ceil(step) + 1
@@ -213,11 +228,8 @@ fn reads_lines(
             1
         };
         for failing in 0..12 {
-            let fails = [failing as u32];
-            let mut source = MemorySource::new(text.to_vec(alloc)?, step, fails.to_vec(alloc)?);
-            let Ok(held) = HeldLines::new(alloc, limit, longest) else {
-                return Err(Fail::from("no memory"));
-            };
+            let mut source = source_of(rt, alloc, text, step, &[failing as u32]);
+            let held = held_lines(rt, alloc, bounds);
             let mut reader = LineReader::over(&mut source, held);
             let failures = gives_lines(rt, &mut reader, lines, end, (step, failing));
             if failing == 0 {
@@ -229,11 +241,10 @@ fn reads_lines(
             }
         }
     }
-    Ok(())
 }
 
 #[test]
-fn reads_lines_of_a_source(rt: HostRuntime) -> Result<(), Fail> {
+fn reads_lines_of_a_source(rt: HostRuntime) {
     let ample = (99, 9);
     for (text, lines) in [
         (b"".as_slice(), [].as_slice()),
@@ -252,13 +263,12 @@ fn reads_lines_of_a_source(rt: HostRuntime) -> Result<(), Fail> {
         (b" \t#\\\r\n#\\", &[(1, b" \t#\\\r\n"), (2, b"#\\")]),
         (b"a\\\n#b\\\nc\nd", &[(1, b"a\\\n#b\\\nc\n"), (4, b"d")]),
     ] {
-        reads_lines(&rt, rt.alloc(), text, ample, lines, LineStep::End)?;
+        reads_lines(&rt, rt.alloc(), text, ample, lines, LineStep::End);
     }
-    Ok(())
 }
 
 #[test]
-fn bounds_lines(rt: HostRuntime) -> Result<(), Fail> {
+fn bounds_lines(rt: HostRuntime) {
     let one = [(1, b"a\n".as_slice())];
     for (text, bounds, lines, end) in [
         (
@@ -302,37 +312,33 @@ fn bounds_lines(rt: HostRuntime) -> Result<(), Fail> {
         (b"abcd\r", (5, 4), &[], LineStep::TooLong),
         (b"abcd\r\n", (5, 3), &[], LineStep::TooLong),
     ] {
-        reads_lines(&rt, rt.alloc(), text, bounds, lines, end)?;
+        reads_lines(&rt, rt.alloc(), text, bounds, lines, end);
     }
-    Ok(())
+}
+
+/// A line of this piece, 5,000 times, and a short one.
+fn five_thousand(rt: &impl Abort, alloc: Global, piece: &[u8]) -> Vec<u8> {
+    let mut text = Vec::new(alloc);
+    for _ in 0..5000 {
+        text.extend_from_slice(piece).expect(rt, "memory");
+    }
+    text.extend_from_slice(b"\r\nb").expect(rt, "memory");
+    text
 }
 
 #[test]
-fn reads_lines_longer_than_a_read(rt: HostRuntime) -> Result<(), Fail> {
+fn reads_lines_longer_than_a_read(rt: HostRuntime) {
     let alloc = rt.alloc();
-    let mut plain = Vec::new(alloc);
-    let mut joined = Vec::new(alloc);
-    for _ in 0..5000 {
-        plain.push(b'a')?;
-        joined.extend_from_slice(b"\\\r\n")?;
-    }
-    plain.extend_from_slice(b"\r\nb")?;
-    joined.extend_from_slice(b"\r\nb")?;
+    let plain = five_thousand(&rt, alloc, b"a");
+    let joined = five_thousand(&rt, alloc, b"\\\r\n");
     for (text, longest, len, second) in [
         (&plain, 5000, 5002, 2),
         (&plain, 4999, 0, 0),
         (&joined, 5000, 15002, 5002),
         (&joined, 4999, 0, 0),
     ] {
-        let Ok(held) = HeldLines::new(alloc, 20000, longest) else {
-            return Err(Fail::from("no memory"));
-        };
-        let no_fails: [u32; 0] = [];
-        let mut source = MemorySource::new(
-            text.as_slice().to_vec(alloc)?,
-            1000,
-            no_fails.to_vec(alloc)?,
-        );
+        let held = held_lines(&rt, alloc, (20000, longest));
+        let mut source = source_of(&rt, alloc, text.as_slice(), 1000, &[]);
         let mut reader = LineReader::over(&mut source, held);
         if len == 0 {
             assert_eq!(rt; reader.line(), LineStep::TooLong);
@@ -346,19 +352,15 @@ fn reads_lines_longer_than_a_read(rt: HostRuntime) -> Result<(), Fail> {
         assert_eq!(rt; reader.number(), second);
         assert_eq!(rt; reader.line(), LineStep::End);
     }
-    Ok(())
 }
 
 #[test]
-fn gives_the_source_back(rt: HostRuntime) -> Result<(), Fail> {
+fn gives_the_source_back(rt: HostRuntime) {
     let mut source = StdSource::new(b"a\nbcdefghi".as_slice());
-    let Ok(mut reader) = LineReader::new(rt.alloc(), &mut source, 4, 4) else {
-        return Err(Fail::from("no memory"));
-    };
+    let mut reader = LineReader::new(rt.alloc(), &mut source, 4, 4).expect(&rt, "memory");
     assert_eq!(rt; reader.line(), LineStep::Line);
     assert_eq!(rt; reader.raw(), b"a\n".as_slice());
     let mut buf = [0u8; 9];
     assert_eq!(rt; reader.into_source().read(&mut buf), ReadStep::Got(5));
     assert_eq!(rt; &buf[..5], b"efghi".as_slice());
-    Ok(())
 }

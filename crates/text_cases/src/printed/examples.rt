@@ -1,7 +1,6 @@
 //! The configurations of `examples/`, which `.ci/run` compares with these, and their canonical texts.
 
 use super::assert_printed;
-use std::test::Fail;
 
 const CONFIGURE_SHOW: (&str, &str) = (
     "node 1: n1\n\
@@ -33,8 +32,8 @@ rsc_defaults rsc-options: resource-stickiness=1
 
 /// What `crm configure show` writes of a cluster.
 #[test]
-fn a_cluster_as_it_is_shown(rt: HostRuntime) -> Result<(), Fail> {
-    assert_printed(&rt, rt.alloc(), &[CONFIGURE_SHOW])
+fn a_cluster_as_it_is_shown(rt: HostRuntime) {
+    assert_printed(&rt, rt.alloc(), &[CONFIGURE_SHOW]);
 }
 
 const WEB_SERVER: (&str, &str) = (
@@ -95,8 +94,8 @@ op_defaults op-options: timeout=60s record-pending=true
 );
 
 #[test]
-fn an_address_with_a_web_server(rt: HostRuntime) -> Result<(), Fail> {
-    assert_printed(&rt, rt.alloc(), &[WEB_SERVER])
+fn an_address_with_a_web_server(rt: HostRuntime) {
+    assert_printed(&rt, rt.alloc(), &[WEB_SERVER]);
 }
 
 const DRBD_POSTGRESQL: (&str, &str) = (
@@ -154,8 +153,8 @@ rsc_defaults migration-threshold=5 failure-timeout=1h resource-stickiness=100
 );
 
 #[test]
-fn a_database_on_a_replicated_disk(rt: HostRuntime) -> Result<(), Fail> {
-    assert_printed(&rt, rt.alloc(), &[DRBD_POSTGRESQL])
+fn a_database_on_a_replicated_disk(rt: HostRuntime) {
+    assert_printed(&rt, rt.alloc(), &[DRBD_POSTGRESQL]);
 }
 
 const NFS_SERVER: (&str, &str) = (
@@ -223,8 +222,8 @@ rsc_defaults resource-stickiness=200 migration-threshold=3
 );
 
 #[test]
-fn an_nfs_server(rt: HostRuntime) -> Result<(), Fail> {
-    assert_printed(&rt, rt.alloc(), &[NFS_SERVER])
+fn an_nfs_server(rt: HostRuntime) {
+    assert_printed(&rt, rt.alloc(), &[NFS_SERVER]);
 }
 
 const CLUSTER_FILESYSTEM: (&str, &str) = (
@@ -275,6 +274,6 @@ rsc_defaults rsc-options: migration-threshold=1 failure-timeout=2min
 );
 
 #[test]
-fn a_file_system_on_all_nodes(rt: HostRuntime) -> Result<(), Fail> {
-    assert_printed(&rt, rt.alloc(), &[CLUSTER_FILESYSTEM])
+fn a_file_system_on_all_nodes(rt: HostRuntime) {
+    assert_printed(&rt, rt.alloc(), &[CLUSTER_FILESYSTEM]);
 }

@@ -1,7 +1,6 @@
 //! Each form of a statement in full and in its shortest form, with what a statement may leave out written in its canonical text.
 
 use super::{Row, assert_printed};
-use std::test::Fail;
 
 const NODES: [Row; 5] = [
     ("node n1", "node n1\n"),
@@ -21,8 +20,8 @@ const NODES: [Row; 5] = [
 ];
 
 #[test]
-fn nodes(rt: HostRuntime) -> Result<(), Fail> {
-    assert_printed(&rt, rt.alloc(), &NODES)
+fn nodes(rt: HostRuntime) {
+    assert_printed(&rt, rt.alloc(), &NODES);
 }
 
 const PRIMITIVES: [Row; 17] = [
@@ -88,8 +87,8 @@ const PRIMITIVES: [Row; 17] = [
 ];
 
 #[test]
-fn primitives(rt: HostRuntime) -> Result<(), Fail> {
-    assert_printed(&rt, rt.alloc(), &PRIMITIVES)
+fn primitives(rt: HostRuntime) {
+    assert_printed(&rt, rt.alloc(), &PRIMITIVES);
 }
 
 const GROUPS_AND_CLONES: [Row; 13] = [
@@ -136,8 +135,8 @@ const GROUPS_AND_CLONES: [Row; 13] = [
 ];
 
 #[test]
-fn groups_and_clones(rt: HostRuntime) -> Result<(), Fail> {
-    assert_printed(&rt, rt.alloc(), &GROUPS_AND_CLONES)
+fn groups_and_clones(rt: HostRuntime) {
+    assert_printed(&rt, rt.alloc(), &GROUPS_AND_CLONES);
 }
 
 const LOCATIONS: [Row; 17] = [
@@ -197,8 +196,8 @@ const LOCATIONS: [Row; 17] = [
 ];
 
 #[test]
-fn locations(rt: HostRuntime) -> Result<(), Fail> {
-    assert_printed(&rt, rt.alloc(), &LOCATIONS)
+fn locations(rt: HostRuntime) {
+    assert_printed(&rt, rt.alloc(), &LOCATIONS);
 }
 
 const COLOCATIONS_AND_ORDERS: [Row; 19] = [
@@ -278,8 +277,8 @@ const COLOCATIONS_AND_ORDERS: [Row; 19] = [
 ];
 
 #[test]
-fn colocations_and_orders(rt: HostRuntime) -> Result<(), Fail> {
-    assert_printed(&rt, rt.alloc(), &COLOCATIONS_AND_ORDERS)
+fn colocations_and_orders(rt: HostRuntime) {
+    assert_printed(&rt, rt.alloc(), &COLOCATIONS_AND_ORDERS);
 }
 
 const SETTINGS: [Row; 12] = [
@@ -325,8 +324,8 @@ const SETTINGS: [Row; 12] = [
 ];
 
 #[test]
-fn settings(rt: HostRuntime) -> Result<(), Fail> {
-    assert_printed(&rt, rt.alloc(), &SETTINGS)
+fn settings(rt: HostRuntime) {
+    assert_printed(&rt, rt.alloc(), &SETTINGS);
 }
 
 const KEPT: [Row; 4] = [
@@ -340,6 +339,6 @@ const KEPT: [Row; 4] = [
 ];
 
 #[test]
-fn statements_that_are_kept(rt: HostRuntime) -> Result<(), Fail> {
-    assert_printed(&rt, rt.alloc(), &KEPT)
+fn statements_that_are_kept(rt: HostRuntime) {
+    assert_printed(&rt, rt.alloc(), &KEPT);
 }

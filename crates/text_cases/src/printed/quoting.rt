@@ -1,5 +1,4 @@
 use super::{Row, assert_printed};
-use std::test::Fail;
 
 /// A word or a value is quoted where it is empty, begins with `#`, or has a blank, a quote or a backslash, and nowhere else.
 const QUOTED: [Row; 15] = [
@@ -30,6 +29,6 @@ const QUOTED: [Row; 15] = [
 ];
 
 #[test]
-fn words_are_quoted_where_needed(rt: HostRuntime) -> Result<(), Fail> {
-    assert_printed(&rt, rt.alloc(), &QUOTED)
+fn words_are_quoted_where_needed(rt: HostRuntime) {
+    assert_printed(&rt, rt.alloc(), &QUOTED);
 }

@@ -2,7 +2,6 @@ use crate::reading::lines;
 use crm_parse::{ParseCause, ParseFault, audit_sections, sections};
 use std::alloc::Global;
 use std::process::Abort;
-use std::test::Fail;
 
 /// The places of the two sections and the end, or the line of the fault.
 type Places = Result<(u32, u32, u32), u32>;
@@ -18,22 +17,22 @@ fn line_of(fault: ParseFault) -> u32 {
     }
 }
 
-fn results_at(rt: &impl Abort, alloc: Global, text: &str) -> Result<Places, Fail> {
-    let lines = lines(rt, alloc, text)?;
+fn results_at(rt: &impl Abort, alloc: Global, text: &str) -> Places {
+    let lines = lines(rt, alloc, text);
     assert!(rt; lines.len() < 10);
-    Ok(match sections(lines.as_slice()) {
+    match sections(lines.as_slice()) {
         Ok(marks) => Ok((marks.status_at, marks.results_at, marks.end)),
         Err(fault) => Err(line_of(fault)),
-    })
+    }
 }
 
-fn trace_at(rt: &impl Abort, alloc: Global, text: &str) -> Result<Places, Fail> {
-    let lines = lines(rt, alloc, text)?;
+fn trace_at(rt: &impl Abort, alloc: Global, text: &str) -> Places {
+    let lines = lines(rt, alloc, text);
     assert!(rt; lines.len() < 10);
-    Ok(match audit_sections(lines.as_slice()) {
+    match audit_sections(lines.as_slice()) {
         Ok(marks) => Ok((marks.status_at, marks.trace_at, marks.end)),
         Err(fault) => Err(line_of(fault)),
-    })
+    }
 }
 
 const WITH_RESULTS: [(&str, Places); 12] = [
@@ -52,11 +51,10 @@ const WITH_RESULTS: [(&str, Places); 12] = [
 ];
 
 #[test]
-fn sections_with_results(rt: HostRuntime) -> Result<(), Fail> {
+fn sections_with_results(rt: HostRuntime) {
     for (text, want) in WITH_RESULTS {
-        assert!(rt; results_at(&rt, rt.alloc(), text)? == want, "{text}");
+        assert!(rt; results_at(&rt, rt.alloc(), text) == want, "{text}");
     }
-    Ok(())
 }
 
 const WITH_TRACE: [(&str, Places); 4] = [
@@ -67,9 +65,8 @@ const WITH_TRACE: [(&str, Places); 4] = [
 ];
 
 #[test]
-fn sections_with_a_trace(rt: HostRuntime) -> Result<(), Fail> {
+fn sections_with_a_trace(rt: HostRuntime) {
     for (text, want) in WITH_TRACE {
-        assert!(rt; trace_at(&rt, rt.alloc(), text)? == want, "{text}");
+        assert!(rt; trace_at(&rt, rt.alloc(), text) == want, "{text}");
     }
-    Ok(())
 }

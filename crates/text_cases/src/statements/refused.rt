@@ -2,42 +2,35 @@ use crate::reading::lines;
 use crm_parse::{ParseCause, ParseFault, parse};
 use std::alloc::Global;
 use std::process::Abort;
-use std::test::Fail;
 
 /// The line of a fault, and the text.
 type Row = (u32, &'static str);
 
-fn fault_of(rt: &impl Abort, alloc: Global, text: &str) -> Result<Option<(u32, ParseCause)>, Fail> {
-    let lines = lines(rt, alloc, text)?;
-    Ok(match parse(alloc, lines.as_slice()) {
+fn fault_of(rt: &impl Abort, alloc: Global, text: &str) -> Option<(u32, ParseCause)> {
+    let lines = lines(rt, alloc, text);
+    match parse(alloc, lines.as_slice()) {
         Err(ParseFault::At { line, cause }) => Some((line, cause)),
         _ => None,
-    })
+    }
 }
 
-fn assert_refused(
-    rt: &impl Abort,
-    alloc: Global,
-    cause: ParseCause,
-    table: &[Row],
-) -> Result<(), Fail> {
+fn assert_refused(rt: &impl Abort, alloc: Global, cause: ParseCause, table: &[Row]) {
     for (line, text) in table {
-        let fault = fault_of(rt, alloc, text)?;
+        let fault = fault_of(rt, alloc, text);
         assert!(rt; fault == Some((*line, cause)), "{text}");
     }
-    Ok(())
 }
 
 const UNKNOWN_STATEMENT: [Row; 2] = [(1, "frobnicate"), (2, "node n1\nfrobnicate\nnode !")];
 
 #[test]
-fn unknown_statement(rt: HostRuntime) -> Result<(), Fail> {
+fn unknown_statement(rt: HostRuntime) {
     assert_refused(
         &rt,
         rt.alloc(),
         ParseCause::UnknownStatement,
         &UNKNOWN_STATEMENT,
-    )
+    );
 }
 
 const UNSUPPORTED: [Row; 41] = [
@@ -90,8 +83,8 @@ const UNSUPPORTED: [Row; 41] = [
 ];
 
 #[test]
-fn unsupported(rt: HostRuntime) -> Result<(), Fail> {
-    assert_refused(&rt, rt.alloc(), ParseCause::Unsupported, &UNSUPPORTED)
+fn unsupported(rt: HostRuntime) {
+    assert_refused(&rt, rt.alloc(), ParseCause::Unsupported, &UNSUPPORTED);
 }
 
 const BAD_SCORE: [Row; 7] = [
@@ -105,8 +98,8 @@ const BAD_SCORE: [Row; 7] = [
 ];
 
 #[test]
-fn bad_score(rt: HostRuntime) -> Result<(), Fail> {
-    assert_refused(&rt, rt.alloc(), ParseCause::BadScore, &BAD_SCORE)
+fn bad_score(rt: HostRuntime) {
+    assert_refused(&rt, rt.alloc(), ParseCause::BadScore, &BAD_SCORE);
 }
 
 const BAD_TIME: [Row; 2] = [
@@ -115,8 +108,8 @@ const BAD_TIME: [Row; 2] = [
 ];
 
 #[test]
-fn bad_time(rt: HostRuntime) -> Result<(), Fail> {
-    assert_refused(&rt, rt.alloc(), ParseCause::BadTime, &BAD_TIME)
+fn bad_time(rt: HostRuntime) {
+    assert_refused(&rt, rt.alloc(), ParseCause::BadTime, &BAD_TIME);
 }
 
 const BAD_VALUE: [Row; 30] = [
@@ -153,8 +146,8 @@ const BAD_VALUE: [Row; 30] = [
 ];
 
 #[test]
-fn bad_value(rt: HostRuntime) -> Result<(), Fail> {
-    assert_refused(&rt, rt.alloc(), ParseCause::BadValue, &BAD_VALUE)
+fn bad_value(rt: HostRuntime) {
+    assert_refused(&rt, rt.alloc(), ParseCause::BadValue, &BAD_VALUE);
 }
 
 const MISSING_WORD: [Row; 22] = [
@@ -183,8 +176,8 @@ const MISSING_WORD: [Row; 22] = [
 ];
 
 #[test]
-fn missing_word(rt: HostRuntime) -> Result<(), Fail> {
-    assert_refused(&rt, rt.alloc(), ParseCause::MissingWord, &MISSING_WORD)
+fn missing_word(rt: HostRuntime) {
+    assert_refused(&rt, rt.alloc(), ParseCause::MissingWord, &MISSING_WORD);
 }
 
 const EXTRA_WORD: [Row; 14] = [
@@ -205,8 +198,8 @@ const EXTRA_WORD: [Row; 14] = [
 ];
 
 #[test]
-fn extra_word(rt: HostRuntime) -> Result<(), Fail> {
-    assert_refused(&rt, rt.alloc(), ParseCause::ExtraWord, &EXTRA_WORD)
+fn extra_word(rt: HostRuntime) {
+    assert_refused(&rt, rt.alloc(), ParseCause::ExtraWord, &EXTRA_WORD);
 }
 
 const REPEATED_KEY: [Row; 10] = [
@@ -226,6 +219,6 @@ const REPEATED_KEY: [Row; 10] = [
 ];
 
 #[test]
-fn repeated_key(rt: HostRuntime) -> Result<(), Fail> {
-    assert_refused(&rt, rt.alloc(), ParseCause::RepeatedKey, &REPEATED_KEY)
+fn repeated_key(rt: HostRuntime) {
+    assert_refused(&rt, rt.alloc(), ParseCause::RepeatedKey, &REPEATED_KEY);
 }

@@ -1,7 +1,7 @@
 use Rattle.base_cases.proofs.first_loops.first.Goals as goal
 
 pub first_loop-requires : goal.first_loop-requires
-first_loop-requires c = c.end_within.ensures.0 c.if-not-end_within.false
+first_loop-requires g c = c.end_within.ensures.0 c.if-assert.false
 
 pub is_loop_free-requires : goal.is_loop_free-requires
-is_loop_free-requires c = c.end_within.ensures.0 c.if-not-end_within.false
+is_loop_free-requires g c = c.end_within.ensures.0 c.if-assert.false
