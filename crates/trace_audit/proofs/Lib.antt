@@ -1,0 +1,9 @@
+pub mod Lines
+pub mod Ends
+pub mod FirstBytes
+pub mod Named
+pub mod Dues
+pub mod NamedRuns
+pub mod Verdicts
+pub mod Exclusive
+pub mod Stopped

@@ -1,0 +1,17 @@
+//! What follows from the definitions of `specs/`, for every valid cluster.
+
+ghost use Rattle.std.specs.Prelude.{ℕ, List};
+ghost use Rattle.std.specs.List.{AllByRecursion};
+ghost use Rattle.cluster_types.specs.declared.cluster.Cluster.{Cluster as ClusterOf};
+ghost use Rattle.cluster_types.specs.declared.journal.Journal.{Journal as JournalOf};
+ghost use Rattle.cluster_types.specs.declared.run.RunLine.{RunLine as LineOf};
+ghost use Rattle.cluster_types.specs.Valid.{IsValid};
+ghost use Rattle.run_lines.specs.Written.{IsNamed};
+ghost use Rattle.trace_audit.specs.declared.verdict.Clause.{Clause as ClauseOf};
+ghost use Rattle.trace_audit.specs.Lawful.{IsFaulty, IsLawful};
+
+/// A run with a line that isn't the due one isn't lawful.
+pub fn faulty_runs_are_not_lawful()
+    ensures { (c : ClusterOf) (journal : JournalOf) (lines : List LineOf) (place : ℕ) (kind : ClauseOf)
+        → IsValid c → AllByRecursion IsNamed lines → IsFaulty c journal lines place kind → ¬ IsLawful c journal lines }
+{}
