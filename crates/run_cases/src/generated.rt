@@ -1,7 +1,10 @@
-//! Cases are read as any other input.
+//! Cases are read as any other input, and what the word `gen` writes of them.
 
+use crate::outcome::{EASY, Pace, outcome};
 use case_gen::generate;
-use sim_core::{InputFault, read_input};
+use sim_core::{InputFault, Status, read_input};
+use std::alloc::Global;
+use std::process::Abort;
 use std::test::Fail;
 
 #[test]
@@ -24,4 +27,60 @@ fn cases_are_read(rt: HostRuntime) -> Result<(), Fail> {
         assert_eq!(rt; input.results.len(), 1);
     }
     Ok(())
+}
+
+fn assert_generated(
+    rt: &impl Abort,
+    alloc: Global,
+    number: &str,
+    writes: Pace<'_>,
+    status: Status,
+    text: &str,
+) -> Result<(), Fail> {
+    let (ended, written) = outcome(alloc, &["gen", number], b"", EASY, writes)?;
+    assert!(rt; written.as_slice() == text.as_bytes(), "{number}");
+    assert!(rt; ended == status, "{number}");
+    Ok(())
+}
+
+/// What is written of the case of a number, and of another.
+const SEVENTH: &str = "\
+gen 7
+lost n5
+nodes 60
+leaves 400
+transitions 2
+begun 24601
+succeeded 24201
+targets 400
+";
+
+const EIGHTH: &str = "\
+gen 8
+lost n35
+nodes 60
+leaves 400
+transitions 2
+begun 24601
+succeeded 24201
+targets 400
+";
+
+#[test]
+fn the_summary_of_a_case(rt: HostRuntime) -> Result<(), Fail> {
+    assert_generated(&rt, rt.alloc(), "7", EASY, Status::Done, SEVENTH)
+}
+
+#[test]
+fn the_summary_of_another_case(rt: HostRuntime) -> Result<(), Fail> {
+    assert_generated(&rt, rt.alloc(), "8", EASY, Status::Done, EIGHTH)
+}
+
+#[test]
+fn a_summary_that_is_cut_short(rt: HostRuntime) -> Result<(), Fail> {
+    let writes = Pace {
+        step: 3,
+        fails: &[2],
+    };
+    assert_generated(&rt, rt.alloc(), "7", writes, Status::WriteFault, "gen")
 }

@@ -1,6 +1,7 @@
 //! What the word `graph` writes.
 
 use crate::table::{Row, assert_each, assert_whole_or_refused};
+use sim_core::Status;
 use std::test::Fail;
 
 /// Of a Serialize order the one with the lower number comes first.
@@ -460,7 +461,7 @@ const ROWS: [Row; 17] = [
 
 #[test]
 fn graphs_of_inputs(rt: HostRuntime) -> Result<(), Fail> {
-    assert_each(&rt, rt.alloc(), "graph", &ROWS)
+    assert_each(&rt, rt.alloc(), "graph", Status::Done, &ROWS)
 }
 
 // With each allocation refused in turn, by `rt try --test --fail-alloc N`, this passes too, but for those that the test itself makes.

@@ -6,8 +6,6 @@
 #[cfg(test)]
 mod check;
 #[cfg(test)]
-mod first_form;
-#[cfg(test)]
 mod generated;
 #[cfg(test)]
 mod graph;
@@ -15,6 +13,16 @@ mod graph;
 mod losses;
 #[cfg(test)]
 mod outcome;
+#[cfg(test)]
+mod replay_ends;
+#[cfg(test)]
+mod replay_live;
+#[cfg(test)]
+mod replay_losses;
+#[cfg(test)]
+mod replay_roles;
+#[cfg(test)]
+mod replay_starts;
 #[cfg(test)]
 mod scores;
 #[cfg(test)]

@@ -1,6 +1,7 @@
 //! What the word `survive` writes.
 
 use crate::table::{Row, assert_each, assert_whole_or_refused};
+use sim_core::Status;
 use std::test::Fail;
 
 /// The other node takes what runs on the one.
@@ -82,7 +83,7 @@ const ROWS: [Row; 4] = [MOVES, NOWHERE_TO_GO, NONE_ONLINE, PROMOTED];
 
 #[test]
 fn losses_of_inputs(rt: HostRuntime) -> Result<(), Fail> {
-    assert_each(&rt, rt.alloc(), "survive", &ROWS)
+    assert_each(&rt, rt.alloc(), "survive", Status::Done, &ROWS)
 }
 
 // With each allocation refused in turn, by `rt try --test --fail-alloc N`, this passes too, but for those that the test itself makes.

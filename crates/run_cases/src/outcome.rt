@@ -12,6 +12,9 @@ pub struct Pace<'a> {
     pub fails: &'a [u32],
 }
 
+/// The most bytes that a word writes in these tests.
+const ROOM: usize = 1 << 19;
+
 pub const EASY: Pace<'static> = Pace {
     step: 4096,
     fails: &[],
@@ -39,8 +42,8 @@ pub fn outcome(
         reads.step.max(1),
         reads.fails.to_vec(alloc)?,
     );
-    let Ok(mut sink) = MemorySink::new(alloc, 8192, writes.step.max(1), writes.fails.to_vec(alloc)?)
-    else {
+    let fails = writes.fails.to_vec(alloc)?;
+    let Ok(mut sink) = MemorySink::new(alloc, ROOM, writes.step.max(1), fails) else {
         return Err(Fail::from("no memory for the sink"));
     };
     let status = run(alloc, &list, &mut source, &mut sink);

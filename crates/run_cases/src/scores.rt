@@ -1,6 +1,7 @@
 //! What the word `scores` writes.
 
 use crate::table::{Row, assert_each};
+use sim_core::Status;
 use std::test::Fail;
 
 /// The scores of a leaf on a node are added.
@@ -344,5 +345,5 @@ const ROWS: [Row; 12] = [
 
 #[test]
 fn scores_of_inputs(rt: HostRuntime) -> Result<(), Fail> {
-    assert_each(&rt, rt.alloc(), "scores", &ROWS)
+    assert_each(&rt, rt.alloc(), "scores", Status::Done, &ROWS)
 }

@@ -4,55 +4,90 @@ use Rattle.cluster_io.specs.Streams.{Rose}
 use Rattle.sim_core.specs.declared.status.Status.{Status}
 use Rattle.sim_core.specs.declared.status.Status.TheVariants.{Done, NoMemory, Usage, ReadFault, WriteFault, Refused, Unexpected, TooLarge, NotLawful}
 use Rattle.sim_core.specs.declared.words.Command.{Command}
-use Rattle.sim_core.specs.Answers.{Answers, IsComplete, IsDue, IsWritten, SaysOf, Taken, Written, told_input, most_bytes}
+use Rattle.sim_core.specs.declared.words.Command.TheVariants.{Check, Scores, Graph, Survive, Replay, Gen, Help, Version}
+use Rattle.sim_core.specs.Answers.{Answers, HasRoom, IsComplete, IsDue, IsWritten, SaysBy, SaysOf, Taken, Written, told_input}
+use Rattle.sim_core.specs.Live.{SaysLive, HasWritten}
+use Rattle.sim_core.specs.Reading.{most_bytes}
+use Rattle.sim_core.specs.Replay.{IsReplayOutput}
 use Rattle.sim_core.specs.Table.{Intake, nothing, whole, live, intake, Gets}
 use Rattle.sim_core.proofs.OneOutcome.{one_status}
+use Rattle.sim_core.proofs.OneReplay.{OneEnd}
 
 -- the answer is one that the input gets
-module _ (kind : Intake) (Due : Status → List ℕ → Type 0) (input : List ℕ) (left before after : Option (List ℕ)) (room : length input ≤ most_bytes) where
+module _ (Due : Status → List ℕ → Type 0) (input : List ℕ) (left before after : Option (List ℕ)) where
   written_due : (status : Status) → IsWritten Due status before after → IsDue Due status
   written_due status written = record { text = written.text; due = written.due }
 
-  not_too_large : (kind : Intake) → kind ≢ live → Taken kind input left TooLarge → ⊥
-  not_too_large nothing told taken = taken
-  not_too_large whole told taken = omega (arith, taken, room)
-  not_too_large live told taken = told refl
+  -- it isn't too large
+  abbrev NotLarge : Intake → Type 0
+  NotLarge kind = Taken kind input left TooLarge → ⊥
 
-  is_due : (status : Status) → kind ≢ live → Taken kind input left status → Written Due before after status
+  is_due : (kind : Intake) → NotLarge kind → (status : Status) → Taken kind input left status → Written Due before after status
       → status ≢ NoMemory → status ≢ ReadFault → status ≢ WriteFault → IsDue Due status
-  is_due Done told taken written memory read write = written_due Done written
-  is_due Refused told taken written memory read write = written_due Refused written
-  is_due Unexpected told taken written memory read write = written_due Unexpected written
-  is_due NotLawful told taken written memory read write = written_due NotLawful written
-  is_due NoMemory told taken written memory read write = absurd (memory refl)
-  is_due ReadFault told taken written memory read write = absurd (read refl)
-  is_due WriteFault told taken written memory read write = absurd (write refl)
-  is_due TooLarge told taken written memory read write = absurd (not_too_large kind told taken)
-  is_due Usage told taken written memory read write = absurd written
+  is_due kind not_large Done taken written memory read write = written_due Done written
+  is_due kind not_large Refused taken written memory read write = written_due Refused written
+  is_due kind not_large Unexpected taken written memory read write = written_due Unexpected written
+  is_due kind not_large NotLawful taken written memory read write = written_due NotLawful written
+  is_due kind not_large NoMemory taken written memory read write = absurd (memory refl)
+  is_due kind not_large ReadFault taken written memory read write = absurd (read refl)
+  is_due kind not_large WriteFault taken written memory read write = absurd (write refl)
+  is_due kind not_large TooLarge taken written memory read write = absurd (not_large taken)
+  is_due kind not_large Usage taken written memory read write = absurd written
 
--- and the only one
-module _ (word : Command) (input : List ℕ) where
-  only_due : (status : Status) → IsDue (Gets word input) status → (due : Status) → (status ≡ due) ↔ IsDue (Gets word input) due
-  only_due status is due =
-      (λ same. subst (λ s. IsDue (Gets word input) s) same is, λ other. one_status word input is.text other.text status due is.due other.due)
+-- and so is that of a live word
+module _ (input : List ℕ) (left before after : Option (List ℕ)) where
+  live_written : (status : Status) → HasWritten input left before after status → IsDue (IsReplayOutput input) status
+  live_written status written = record { text = written.text; due = written.due }
 
--- the input of a live word isn't told
-is_told : (kind : Intake) (told : Option (List ℕ)) (input : List ℕ) → told_input kind told ≡ Some input → kind ≢ live
-is_told nothing told input e l = cc
-is_told whole told input e l = cc
-is_told live told input e l = cc
+  live_due : (status : Status) → SaysLive input left before after status → status ≢ NoMemory → status ≢ ReadFault → status ≢ WriteFault
+      → IsDue (IsReplayOutput input) status
+  live_due Done says memory read write = live_written Done says.written
+  live_due Refused says memory read write = live_written Refused says
+  live_due Unexpected says memory read write = live_written Unexpected says
+  live_due TooLarge says memory read write = live_written TooLarge says
+  live_due NotLawful says memory read write = absurd says
+  live_due NoMemory says memory read write = absurd (memory refl)
+  live_due ReadFault says memory read write = absurd (read refl)
+  live_due WriteFault says memory read write = absurd (write refl)
+  live_due Usage says memory read write = absurd says
 
-with_told : (word : Command) (told : Option (List ℕ)) (found : Option (List ℕ)) (left before after : Option (List ℕ)) (status : Status) → told_input (intake word) told ≡ found
-    → IfSome found (λ input. SaysOf (intake word) (Gets word) input left before after status) → status ≢ ReadFault → status ≢ WriteFault
-    → IfSome found (λ input. length input ≤ most_bytes → status ≢ NoMemory → (due : Status) → (status ≡ due) ↔ IsDue (Gets word input) due)
-with_told word told None left before after status e says read write = tt
-with_told word told (Some input) left before after status e says read write = λ room memory.
-    only_due word input status
-    (is_due (intake word) (Gets word input) input left before after room status (is_told (intake word) told input e) says.taken says.written memory read write)
+-- with each word
+module _ (input : List ℕ) (left before after : Option (List ℕ)) (status : Status) (memory : status ≢ NoMemory) (read : status ≢ ReadFault) (write : status ≢ WriteFault) where
+  -- one that reads its input to its end
+  whole_due : (word : Command) → length input ≤ most_bytes → SaysOf whole (Gets word) input left before after status → IsDue (Gets word input) status
+  whole_due word room says =
+      is_due (Gets word input) input left before after whole (λ taken. omega (arith, taken, room)) status says.taken says.written memory read write
 
-pub complete : (word : Command) (told left before after : Option (List ℕ)) (status : Status) (reads_before reads_after writes_before writes_after : ℕ)
-    → Answers word told left before after status
-    → (status ≡ ReadFault → Rose reads_before reads_after) → (status ≡ WriteFault → Rose writes_before writes_after)
-    → ¬ Rose reads_before reads_after → ¬ Rose writes_before writes_after → IsComplete word told status
-complete word told left before after status _ _ _ _ says read_cause write_cause reads_quiet writes_quiet =
-    with_told word told (told_input (intake word) told) left before after status refl says (λ e. reads_quiet (read_cause e)) (λ e. writes_quiet (write_cause e))
+  -- one that reads nothing
+  free_due : (word : Command) → SaysOf nothing (Gets word) input left before after status → IsDue (Gets word input) status
+  free_due word says = is_due (Gets word input) input left before after nothing (λ taken. taken) status says.taken says.written memory read write
+
+  word_due : (word : Command) → HasRoom (intake word) input → SaysBy (intake word) word input left before after status → IsDue (Gets word input) status
+  word_due Check room says = whole_due Check room says
+  word_due Scores room says = whole_due Scores room says
+  word_due Graph room says = whole_due Graph room says
+  word_due Survive room says = whole_due Survive room says
+  word_due Replay room says = live_due input left before after status says memory read write
+  word_due (Gen number) room says = free_due (Gen number) says
+  word_due Help room says = free_due Help says
+  word_due Version room says = free_due Version says
+
+module _ (one_end : OneEnd) where
+  -- and the only one
+  only_due : (word : Command) (input : List ℕ) (status : Status) → IsDue (Gets word input) status → (due : Status) → (status ≡ due) ↔ IsDue (Gets word input) due
+  only_due word input status is due =
+      (λ same. subst (λ s. IsDue (Gets word input) s) same is, λ other. one_status one_end word input is.text other.text status due is.due other.due)
+
+  with_told : (word : Command) (found left before after : Option (List ℕ)) (status : Status)
+      → IfSome found (λ input. SaysBy (intake word) word input left before after status) → status ≢ ReadFault → status ≢ WriteFault
+      → IfSome found (λ input. HasRoom (intake word) input → status ≢ NoMemory → (due : Status) → (status ≡ due) ↔ IsDue (Gets word input) due)
+  with_told word None left before after status says read write = tt
+  with_told word (Some input) left before after status says read write = λ room memory.
+      only_due word input status (word_due input left before after status memory read write word room says)
+
+  pub complete : (word : Command) (told left before after : Option (List ℕ)) (status : Status) (reads_before reads_after writes_before writes_after : ℕ)
+      → Answers word told left before after status
+      → (status ≡ ReadFault → Rose reads_before reads_after) → (status ≡ WriteFault → Rose writes_before writes_after)
+      → ¬ Rose reads_before reads_after → ¬ Rose writes_before writes_after → IsComplete word told status
+  complete word told left before after status _ _ _ _ says read_cause write_cause reads_quiet writes_quiet =
+      with_told word (told_input (intake word) told) left before after status says (λ e. reads_quiet (read_cause e)) (λ e. writes_quiet (write_cause e))

@@ -1,5 +1,5 @@
 -- What is read of a text is valid: its cluster, and its first journal.
-use Rattle.std.proofs.Common.{◌≡◌, ℕ, List, [], Result, Ok, Err, IfOk, refl, sym, subst}
+use Rattle.std.proofs.Common.{◌≡◌, ℕ, ◌≤◌, List, [], length, Result, Ok, Err, IfOk, refl, sym, subst}
 use Rattle.crm_lex.specs.declared.line.Line.{Line}
 use Rattle.crm_lex.specs.Reading.{reads}
 use Rattle.crm_parse.specs.declared.statement.Crm.{Crm}
@@ -14,12 +14,13 @@ use Rattle.cluster_types.specs.declared.cluster.Cluster.{Cluster}
 use Rattle.cluster_types.specs.Journals.{Orderly, in_flight, moment_of}
 use Rattle.cluster_types.specs.Valid.{IsValid}
 use Rattle.op_history.specs.FirstJournal.{status_of}
-use Rattle.op_history.specs.Results.{results_of}
+use Rattle.op_history.specs.Results.{most_results, results_of}
 use Rattle.op_history.proofs.StatusJournals.{journal_idle, journal_orderly}
 use Rattle.faults.specs.declared.fault.Fault.{Fault}
 use Rattle.faults.specs.Reading.{Gives, faulting, ◌>>=◌}
 use Rattle.faults.proofs.Steps.{faulting-ok}
 use Rattle.lemmas.proofs.Results.{by_result}
+use Rattle.sim_core.proofs.FewResults.{few_results}
 use Rattle.sim_core.specs.declared.cause.InputCause.{InputCause}
 use Rattle.sim_core.specs.declared.cause.InputCause.TheVariants as cause
 use Rattle.sim_core.specs.declared.reading.Configuration.{Configuration}
@@ -49,12 +50,12 @@ passed_on (Ok x) next end e = record { gave = x; is = refl; goes_on = e }
 passed_on (Err fault) next end e = absurd cc
 
 -- the lines that a configuration was read of
-record IsReadFrom (found : Configuration) : Type 0 where
-  lines : List Line
-  statements : statements_of lines ≡ Ok found.crm
-  leaves : expansion_of found.crm.statements ≡ Ok found.leaves
+pub record IsReadFrom (found : Configuration) : Type 0 where
+  pub lines : List Line
+  pub statements : statements_of lines ≡ Ok found.crm
+  pub leaves : expansion_of found.crm.statements ≡ Ok found.leaves
 
-read_from : (text : List ℕ) (found : Configuration) → configuration_of sections_of text ≡ Ok found → IsReadFrom found
+pub read_from : (text : List ℕ) (found : Configuration) → configuration_of sections_of text ≡ Ok found → IsReadFrom found
 unfolding configuration_of
 read_from text found e =
     let lines = passed cause.Words (reads text) _ found e in
@@ -69,13 +70,14 @@ record IsMade (cluster : Cluster) (input : Input) : Type 0 where
   same : input.head.cluster ≡ cluster
   lines : List Line
   journal : status_of cluster lines ≡ Ok input.head.journal
+  few : length input.results ≤ 10000
 
 -- the head of some lines
-record IsHead (cluster : Cluster) (lines : List Line) (head : Head) : Type 0 where
-  same : head.cluster ≡ cluster
-  journal : status_of cluster lines ≡ Ok head.journal
+pub record IsHead (cluster : Cluster) (lines : List Line) (head : Head) : Type 0 where
+  pub same : head.cluster ≡ cluster
+  pub journal : status_of cluster lines ≡ Ok head.journal
 
-head_made : (crm : Crm) (cluster : Cluster) (lines : List Line) (head : Head) → head_of crm cluster lines ≡ Ok head → IsHead cluster lines head
+pub head_made : (crm : Crm) (cluster : Cluster) (lines : List Line) (head : Head) → head_of crm cluster lines ≡ Ok head → IsHead cluster lines head
 unfolding head_of
 head_made crm cluster lines head e =
     let journal = passed cause.Status (status_of cluster lines) _ head e in
@@ -89,13 +91,25 @@ results_keep_head head lines input e =
     let made : input ≡ record { head = head; results = answers.gave } = cc in
     rw made refl
 
+pub few_read : (head : Head) (lines : List Line) (input : Input) → with_results head lines ≡ Ok input → length input.results ≤ 10000
+unfolding with_results
+few_read head lines input e =
+    let answers = passed cause.Results (results_of head.cluster (moment_of head.journal.events) lines) _ input e in
+    let made : input ≡ record { head = head; results = answers.gave } = cc in
+    rw made (few_results head.cluster (moment_of head.journal.events) lines answers.gave answers.is)
+
 made_of : (found : Configuration) (cluster : Cluster) (input : Input) → with_cluster with_results found cluster ≡ Ok input → IsMade cluster input
 made_of found cluster input e =
     let lines = status_lines found.marks found.lines in
     let head = passed_on (head_of found.crm cluster lines) (λ head. with_results head (following_lines found.marks found.lines)) input e in
     let kept = results_keep_head head.gave (following_lines found.marks found.lines) input head.goes_on in
     let made = head_made found.crm cluster lines head.gave head.is in
-    record { same = rw kept made.same; lines = lines; journal = rw kept made.journal }
+    record {
+      same = rw kept made.same;
+      lines = lines;
+      journal = rw kept made.journal;
+      few = few_read head.gave (following_lines found.marks found.lines) input head.goes_on;
+    }
 
 -- the steps of a text that is read
 pub record IsStepped (text : List ℕ) (input : Input) : Type 0 where
@@ -129,6 +143,9 @@ module _ (text : List ℕ) (input : Input) (r : Reads text input) where
   pub journal_ordered : Orderly input.head.journal.events
   journal_ordered = journal_orderly steps.cluster made.lines input.head.journal made.journal
 
+  pub results_few : length input.results ≤ 10000
+  results_few = made.few
+
   pub journal_rests : in_flight input.head.journal.events ≡ []
   journal_rests = journal_idle steps.cluster made.lines input.head.journal made.journal
 
@@ -145,6 +162,10 @@ module _ (text : List ℕ) (given : Result Input (Fault InputCause)) where
   pub idle_given : Gives (λ (input : Input). input) given (input_of text) → IfOk given (λ input. in_flight input.head.journal.events ≡ [])
   idle_given h = by_result (λ (r : Result Input (Fault InputCause)). Gives (λ (input : Input). input) r (input_of text) → IfOk r (λ input. in_flight input.head.journal.events ≡ []))
       (λ input read. journal_rests text input read) (λ fault read. tt) given h
+
+  pub few_given : Gives (λ (input : Input). input) given (input_of text) → IfOk given (λ input. length input.results ≤ most_results)
+  few_given h = by_result (λ (r : Result Input (Fault InputCause)). Gives (λ (input : Input). input) r (input_of text) → IfOk r (λ input. length input.results ≤ most_results))
+      (λ input read. results_few text input read) (λ fault read. tt) given h
 
 -- the leaves that a step gave
 pub leaves_given : (statements : List Statement) (leaves : Leaves) → faulting cause.Leaves (expansion_of statements) ≡ Ok leaves → expansion_of statements ≡ Ok leaves

@@ -1,14 +1,16 @@
 -- What the top call answers, what it has read and written by then, and what the answer has to be.
-use Rattle.std.specs.Prelude.{◌≡◌, ◌≢◌, ◌↔◌, ◌⊎◌, ℕ, ◌<◌, ◌≤◌, Bool, true, false, Option, Some, None, List, [], length, IfSome}
+use Rattle.std.specs.Prelude.{◌≡◌, ◌≢◌, ◌↔◌, ◌⊎◌, ℕ, ◌<◌, ◌≤◌, Bool, true, false, Option, Some, None, List, [], length, IfSome, is_none}
 use Rattle.cluster_io.specs.Streams.{Adds, AddsPrefix}
 use Rattle.sim_core.specs.declared.status.Status.{Status}
 use Rattle.sim_core.specs.declared.status.Status.TheVariants.{Done, NoMemory, Usage, ReadFault, WriteFault, Refused, Unexpected, TooLarge, NotLawful}
 use Rattle.sim_core.specs.declared.words.Command.{Command}
+use Rattle.cluster_types.specs.Safety.{IsSafeRun}
+use Rattle.live_lines.specs.Courses.{answers_of}
+use Rattle.sim_core.specs.declared.reading.Head.{Head}
+use Rattle.sim_core.specs.Live.{SaysLive}
+use Rattle.sim_core.specs.Reading.{most_bytes}
+use Rattle.sim_core.specs.Replay.{IsBegun, coming_behind}
 use Rattle.sim_core.specs.Table.{Intake, nothing, whole, live, intake, takes_memory, Gets}
-
--- the most bytes that an input may have: 16 MiB (rule of this project)
-abbrev pub most_bytes : ℕ
-most_bytes = 16777216
 
 -- a status that comes with a text of its own
 abbrev pub IsOutcome : Status → Type 0
@@ -23,7 +25,7 @@ pub record IsReadWhole (input : List ℕ) (left : Option (List ℕ)) : Type 0 wh
   pub room : length input ≤ most_bytes
   pub at_end : left ≡ Some []
 
--- what a status says of the input, and of what is left of it
+-- what a status says of the input, and of what is left of it. Of a live word this is said together with what is written
 abbrev pub Taken : Intake → List ℕ → Option (List ℕ) → Status → Type 0
 Taken nothing input left ReadFault = ⊥
 Taken nothing input left TooLarge = ⊥
@@ -76,35 +78,56 @@ module _ (kind : Intake) (Output : List ℕ → Status → List ℕ → Type 0) 
     pub room : length input ≤ most_bytes
     pub due : IsDue (Output input) status
 
--- the input of a word, where it is told: all bytes of the source with a word that reads an input to its end, and none with one that reads nothing
+-- the input of a word, where it is told: all bytes that the source has left, and none with a word that reads nothing
 abbrev pub told_input : Intake → Option (List ℕ) → Option (List ℕ)
 told_input nothing left = Some []
-told_input whole left = left
-told_input live left = None
+told_input _ left = left
+
+-- what the answer to a word with this intake says of its input
+abbrev pub SaysBy : Intake → Command → List ℕ → Option (List ℕ) → Option (List ℕ) → Option (List ℕ) → Status → Type 0
+SaysBy live word input left before after status = SaysLive input left before after status
+SaysBy kind word input left before after status = SaysOf kind (Gets word) input left before after status
 
 -- what the answer to a word says, where its input is told
 abbrev pub Answers : Command → Option (List ℕ) → Option (List ℕ) → Option (List ℕ) → Option (List ℕ) → Status → Type 0
 Answers word told left before after status =
-    IfSome (told_input (intake word) told) (λ input. SaysOf (intake word) (Gets word) input left before after status)
+    IfSome (told_input (intake word) told) (λ input. SaysBy (intake word) word input left before after status)
+
+-- a word that reads an input to its end before it writes gives a text of one that has room. A live word gives one of each input
+abbrev pub HasRoom : Intake → List ℕ → Type 0
+HasRoom live input = Unit {0}
+HasRoom kind input = length input ≤ most_bytes
 
 -- where no count rose and the input has room, each answer but out of memory is the one that the input gets
 abbrev pub IsComplete : Command → Option (List ℕ) → Status → Type 0
-IsComplete word told status = IfSome (told_input (intake word) told) (λ input. length input ≤ most_bytes → status ≢ NoMemory
+IsComplete word told status = IfSome (told_input (intake word) told) (λ input. HasRoom (intake word) input → status ≢ NoMemory
     → (due : Status) → (status ≡ due) ↔ IsDue (Gets word input) due)
+
+-- the run that follows from the head of an input is safe wherever it stands: each promise of safety holds of it
+abbrev pub IsSafeReplay : List ℕ → Type 0
+IsSafeReplay input = (bytes : List ℕ) (head : Head) (next room : ℕ) → IsBegun input bytes head next room
+    → IsSafeRun head.cluster head.journal.promotions (is_none (coming_behind input bytes head next room).stop) head.journal.events
+    (Some (answers_of (coming_behind input bytes head next room)))
 
 abbrev pub reads_some : Intake → Bool
 reads_some nothing = false
 reads_some whole = true
 reads_some live = true
 
--- a status that a call may have whatever its source and its sink tell: those of a fault, of size and of memory, and those that some input gets
+-- a status with a text of its own that a word may have: one that some input gets. Of a live word each but that of an audit
+abbrev pub MayGive : Intake → (List ℕ → Status → List ℕ → Type 0) → Status → Type 0
+MayGive live Output NotLawful = ⊥
+MayGive live Output status = Unit {0}
+MayGive kind Output status = SomeInput kind Output status
+
+-- a status that a call may have whatever its source and its sink tell: those of a fault, of size and of memory, and those with a text
 abbrev pub MayAnswer : Bool → Intake → (List ℕ → Status → List ℕ → Type 0) → Status → Type 0
 MayAnswer memory kind Output NoMemory = memory ≡ true
 MayAnswer memory kind Output ReadFault = reads_some kind ≡ true
 MayAnswer memory kind Output TooLarge = reads_some kind ≡ true
 MayAnswer memory kind Output WriteFault = Unit {0}
 MayAnswer memory kind Output Usage = ⊥
-MayAnswer memory kind Output status = SomeInput kind Output status
+MayAnswer memory kind Output status = MayGive kind Output status
 
 -- a status of a word
 abbrev pub IsStatusOf : Command → Status → Type 0
@@ -118,6 +141,11 @@ IsEarly status = (status ≡ ReadFault) ⊎ (status ≡ TooLarge)
 abbrev pub ReadsWhole : Option Command → Type 0
 ReadsWhole None = ⊥
 ReadsWhole (Some word) = intake word ≡ whole
+
+-- the words are those of a word that reads line by line while it writes
+abbrev pub ReadsLive : Option Command → Type 0
+ReadsLive None = ⊥
+ReadsLive (Some word) = intake word ≡ live
 
 -- the words are those of a word that reads nothing, or no form
 abbrev pub ReadsNothing : Option Command → Type 0

@@ -1,7 +1,5 @@
 -- The names of the causes for which an input is refused. The name of a cause is that of its variant (rule of this project).
 use Rattle.std.specs.Prelude.{ℕ, List, codes}
-use Rattle.crm_lex.specs.declared.fault.LexCause.{LexCause}
-use Rattle.crm_lex.specs.declared.fault.LexCause.TheVariants as lex
 use Rattle.crm_parse.specs.declared.fault.ParseCause.{ParseCause}
 use Rattle.crm_parse.specs.declared.fault.ParseCause.TheVariants as parse
 use Rattle.clone_expand.specs.declared.fault.ExpandCause.{ExpandCause}
@@ -10,16 +8,9 @@ use Rattle.cluster_model.specs.declared.fault.ModelCause.{ModelCause}
 use Rattle.cluster_model.specs.declared.fault.ModelCause.TheVariants as model
 use Rattle.op_history.specs.declared.fault.StatusCause.{StatusCause}
 use Rattle.op_history.specs.declared.fault.StatusCause.TheVariants as status
-use Rattle.op_history.specs.declared.fault.ResultCause.{ResultCause}
-use Rattle.op_history.specs.declared.fault.ResultCause.TheVariants as result
+use Rattle.live_lines.specs.LineCauses.{lex_name, result_name}
 use Rattle.sim_core.specs.declared.cause.InputCause.{InputCause}
 use Rattle.sim_core.specs.declared.cause.InputCause.TheVariants.{Words, Statements, Leaves, Cluster, Status, Results}
-
-abbrev pub lex_name : LexCause → List ℕ
-lex_name lex.NotUtf8 = codes "NotUtf8"
-lex_name lex.ControlByte = codes "ControlByte"
-lex_name lex.OpenQuote = codes "OpenQuote"
-lex_name lex.LineTooLong = codes "LineTooLong"
 
 abbrev pub parse_name : ParseCause → List ℕ
 parse_name parse.UnknownStatement = codes "UnknownStatement"
@@ -56,14 +47,6 @@ status_name status.ExtraWord = codes "ExtraWord"
 status_name status.BadValue = codes "BadValue"
 status_name status.UnknownName = codes "UnknownName"
 status_name status.Repeated = codes "Repeated"
-
-abbrev pub result_name : ResultCause → List ℕ
-result_name result.UnknownStatement = codes "UnknownStatement"
-result_name result.MissingWord = codes "MissingWord"
-result_name result.ExtraWord = codes "ExtraWord"
-result_name result.BadValue = codes "BadValue"
-result_name result.UnknownName = codes "UnknownName"
-result_name result.TooManyResults = codes "TooManyResults"
 
 abbrev pub cause_name : InputCause → List ℕ
 cause_name (Words cause) = lex_name cause

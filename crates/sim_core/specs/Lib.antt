@@ -6,7 +6,10 @@ pub mod Check
 pub mod Scores
 pub mod Graph
 pub mod Survive
-pub mod FirstReplay
+pub mod Generated
+pub mod Replay
+pub mod Live
+pub mod LiveSteps
 pub mod OwnText
 pub mod Words
 pub mod Table

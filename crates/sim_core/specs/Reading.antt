@@ -23,6 +23,13 @@ use Rattle.sim_core.specs.declared.reading.Configuration.{Configuration}
 use Rattle.sim_core.specs.declared.reading.Head.{Head}
 use Rattle.sim_core.specs.declared.reading.Input.{Input}
 
+-- the most bytes that an input may have: 16 MiB. And the most of a logical line of it, without line ends (rules of this project)
+abbrev pub most_bytes : ℕ
+most_bytes = 16777216
+
+abbrev pub longest_line : ℕ
+longest_line = 1048576
+
 -- the lines of the configuration: those before the first section
 abbrev pub configuration_lines : SectionMarks → List Line → List Line
 configuration_lines marks lines = take marks.status_at lines
@@ -58,7 +65,7 @@ module _ {X : Type 0} (read_on : Head → List Line → Result X (Fault InputCau
   with_cluster found cluster =
       head_of found.crm cluster (status_lines found.marks found.lines) >>= (λ head. read_on head (following_lines found.marks found.lines))
 
--- nothing follows yet
+-- what follows isn't read
 abbrev pub nothing_yet : Head → List Line → Result Head (Fault InputCause)
 nothing_yet head lines = Ok head
 
@@ -75,6 +82,13 @@ input_of text = do
   found ← configuration_of sections_of text
   cluster ← faulting cause.Cluster (resolution_of found.leaves found.crm.statements)
   with_cluster with_results found cluster
+
+-- what is read of a head that stands alone, or its fault: the same steps without the last
+unfoldable pub start_of : List ℕ → Result Head (Fault InputCause)
+start_of text = do
+  found ← configuration_of sections_of text
+  cluster ← faulting cause.Cluster (resolution_of found.leaves found.crm.statements)
+  with_cluster nothing_yet found cluster
 
 -- the text is read, and says this
 abbrev pub Reads : List ℕ → Input → Type 0

@@ -1,14 +1,16 @@
 -- The words of the command line: what each reads, and which status and text an input gets with it. Each word has one line in each table.
 use Rattle.std.specs.Prelude.{ℕ, Bool, true, false, List}
+use Rattle.case_gen.specs.Case.{case_text}
 use Rattle.sim_core.specs.declared.help.TheConstants.{HELP, VERSION}
 use Rattle.sim_core.specs.declared.status.Status.{Status}
 use Rattle.sim_core.specs.declared.words.Command.{Command}
-use Rattle.sim_core.specs.declared.words.Command.TheVariants.{Check, Scores, Graph, Survive, Replay, Help, Version}
+use Rattle.sim_core.specs.declared.words.Command.TheVariants.{Check, Scores, Graph, Survive, Replay, Gen, Help, Version}
 use Rattle.sim_core.specs.Check.{IsCheckText}
-use Rattle.sim_core.specs.FirstReplay.{IsReplayOutput}
+use Rattle.sim_core.specs.Generated.{IsSummaryText}
 use Rattle.sim_core.specs.Graph.{IsGraphText}
 use Rattle.sim_core.specs.Outputs.{IsOutput}
 use Rattle.sim_core.specs.OwnText.{IsOwnText}
+use Rattle.sim_core.specs.Replay.{IsReplayOutput}
 use Rattle.sim_core.specs.Scores.{IsScoresText}
 use Rattle.sim_core.specs.Survive.{IsSurviveText}
 
@@ -23,7 +25,8 @@ intake Check = whole
 intake Scores = whole
 intake Graph = whole
 intake Survive = whole
-intake Replay = whole
+intake Replay = live
+intake (Gen number) = nothing
 intake Help = nothing
 intake Version = nothing
 
@@ -34,6 +37,7 @@ takes_memory Scores = true
 takes_memory Graph = true
 takes_memory Survive = true
 takes_memory Replay = true
+takes_memory (Gen number) = true
 takes_memory Help = false
 takes_memory Version = false
 
@@ -44,5 +48,6 @@ Gets Scores input status text = IsOutput IsScoresText input status text
 Gets Graph input status text = IsOutput IsGraphText input status text
 Gets Survive input status text = IsOutput IsSurviveText input status text
 Gets Replay input status text = IsReplayOutput input status text
+Gets (Gen number) input status text = IsOutput (IsSummaryText number) (case_text number) status text
 Gets Help input status text = IsOwnText HELP.now status text
 Gets Version input status text = IsOwnText VERSION.now status text

@@ -1,12 +1,13 @@
 //! Why an input is refused, and the names of the causes.
 
 ghost use Rattle.std.specs.Prelude.{◌≡◌};
-ghost use Rattle.sim_core.specs.Causes.{cause_name, expand_name, lex_name, model_name, parse_name, result_name, status_name};
+ghost use Rattle.sim_core.specs.Causes.{cause_name, expand_name, model_name, parse_name, status_name};
 
 use clone_expand::ExpandCause;
 use cluster_model::ModelCause;
 use crm_lex::LexCause;
 use crm_parse::ParseCause;
+use live_lines::LineCause;
 use op_history::{ResultCause, StatusCause};
 
 /// Why an input is refused, by the step of reading that finds it.
@@ -24,17 +25,6 @@ pub enum InputCause {
     Status(StatusCause),
     /// A result line can't be read.
     Results(ResultCause),
-}
-
-fn lex_name(cause: LexCause) -> &'static str
-    ensures { result.now ≡ lex_name cause }
-{
-    match cause {
-        LexCause::NotUtf8 => "NotUtf8",
-        LexCause::ControlByte => "ControlByte",
-        LexCause::OpenQuote => "OpenQuote",
-        LexCause::LineTooLong => "LineTooLong",
-    }
 }
 
 fn parse_name(cause: ParseCause) -> &'static str
@@ -93,31 +83,18 @@ fn status_name(cause: StatusCause) -> &'static str
     }
 }
 
-fn result_name(cause: ResultCause) -> &'static str
-    ensures { result.now ≡ result_name cause }
-{
-    match cause {
-        ResultCause::UnknownStatement => "UnknownStatement",
-        ResultCause::MissingWord => "MissingWord",
-        ResultCause::ExtraWord => "ExtraWord",
-        ResultCause::BadValue => "BadValue",
-        ResultCause::UnknownName => "UnknownName",
-        ResultCause::TooManyResults => "TooManyResults",
-    }
-}
-
 impl InputCause {
     /// The name of the cause, as it stands in a line `refused LINE CAUSE`.
     pub fn name(self) -> &'static str
         ensures { result.now ≡ cause_name self }
     {
         match self {
-            InputCause::Words(cause) => lex_name(cause),
+            InputCause::Words(cause) => LineCause::Words(cause).name(),
             InputCause::Statements(cause) => parse_name(cause),
             InputCause::Leaves(cause) => expand_name(cause),
             InputCause::Cluster(cause) => model_name(cause),
             InputCause::Status(cause) => status_name(cause),
-            InputCause::Results(cause) => result_name(cause),
+            InputCause::Results(cause) => LineCause::Form(cause).name(),
         }
     }
 }

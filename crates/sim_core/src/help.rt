@@ -17,17 +17,20 @@ Usage: cekpayo WORD < INPUT > OUTPUT
              to its targets, and what must precede each
   survive    reads as check does, and writes where everything goes when a node
              is lost, for each node that is online
-  replay     reads a configuration in crmsh syntax and its status, and writes
-             the run: targets, actions that begin and end, transitions. Only a
-             first form of input is carried out so far: the lines `node NAME`
-             (1 to 64 of them), `primitive ID AGENT`, `%status`, `now SECONDS`,
-             `quorum yes`, and `node NAME online` for each node in order
+  replay     reads a configuration and its status as check does, and writes the
+             run: where each resource goes, which actions begin and how they
+             end, transition after transition. Each line is written as it
+             happens, and each result line is read when the run asks for it;
+             where no more come, each action ends as is expected of it
+  gen N      reads nothing, and writes a summary of the run of the generated
+             case N, 0 to 4294967295: the node that is lost, and how many
+             nodes, leaves, transitions, begun actions, successes and targets
+             there are
   --help     reads nothing, and writes this text
   --version  reads nothing, and writes the name and version of the program
 
 Not built yet (status 2):
 
-  gen N      reads nothing, and writes a summary of the generated case N
   world N    reads as replay does, and writes a run in the simulated world N
   audit      reads as replay does, with a run, and writes whether it is lawful
 
@@ -36,11 +39,13 @@ Exit status:
   0  done: the input was read to its end, and the whole text was written
   1  memory ran out; a prefix of the text was written
   2  the words are none of the forms; nothing was written
-  3  reading failed; nothing was written
+  3  reading failed; nothing was written, or of replay the run so far
   4  writing failed; a prefix of the text was written
-  5  the input is refused; `refused LINE CAUSE` was written
+  5  the input is refused; `refused LINE CAUSE` was written, behind the run so
+     far where it is a result line of replay
   6  a result line doesn't apply; the run so far and `unexpected LINE` were
      written
-  7  the input has more than 16777216 bytes; nothing was written
+  7  the input has more than 16777216 bytes; nothing was written, or of replay
+     the run so far
   8  the run to be audited isn't lawful; its first wrong line was written
 ";

@@ -1,18 +1,20 @@
 //! The words of the command line, and the top call that carries them out.
 //!
-//! `check`, `scores`, `graph` and `survive` read a whole configuration. `replay` takes a first form of input, a cluster of one resource.
+//! `check`, `scores`, `graph` and `survive` read a whole input. `replay` reads its result lines while it writes the run, and `gen` reads nothing.
 #![tactic(auto)]
 
 // The top call.
+mod beginning;
 mod check;
+mod generated;
 mod graph;
 mod help;
 mod input_word;
 mod laws;
+mod live;
 mod losses;
 mod memory;
 mod own_text;
-mod replay;
 mod scores;
 mod status;
 mod text_word;

@@ -15,9 +15,3 @@ impl From<crm_lex::NoMemory> for NoMemory {
         NoMemory
     }
 }
-
-impl From<first_replay::NoMemory> for NoMemory {
-    fn from(_: first_replay::NoMemory) -> Self {
-        NoMemory
-    }
-}

@@ -3,17 +3,17 @@
 ghost use Rattle.std.specs.Prelude.{◌≡◌, ◌+◌, ◌<◌, ◌≤◌, ◌^◌, IfOk, Ok, [], length, slice_range};
 ghost use Rattle.clone_expand.specs.Expansion.{expansion_of};
 ghost use Rattle.cluster_types.specs.Journals.{Orderly, in_flight, moment_of};
+ghost use Rattle.cluster_types.specs.Safety.{IsAtRest};
 ghost use Rattle.cluster_types.specs.Valid.{IsValid, KeepsLimits};
 ghost use Rattle.cluster_model.specs.Resolution.{resolution_of};
 ghost use Rattle.crm_lex.specs.Reading.{reads};
 ghost use Rattle.crm_parse.specs.Marks.{sections_of};
 ghost use Rattle.crm_parse.specs.Statements.{statements_of};
 ghost use Rattle.op_history.specs.FirstJournal.{status_of};
-ghost use Rattle.op_history.specs.Results.{results_of};
-ghost use Rattle.sim_core.specs.Answers.{most_bytes};
+ghost use Rattle.op_history.specs.Results.{most_results, results_of};
 ghost use Rattle.faults.specs.Reading.{Gives, faulting};
 ghost use Rattle.sim_core.specs.declared.cause.InputCause.TheVariants as cause;
-ghost use Rattle.sim_core.specs.Reading.{configuration_of, head_of, input_of, with_cluster, with_results};
+ghost use Rattle.sim_core.specs.Reading.{configuration_of, head_of, input_of, most_bytes, nothing_yet, start_of, with_cluster, with_results};
 
 use crate::cause::InputCause;
 use crate::fault::InputFault;
@@ -198,6 +198,47 @@ fn cluster_in(alloc: Global, found: &Configuration) -> Result<Cluster, InputFaul
     resolve(alloc, &found.crm, &found.leaves).map_err(|fault| fault.map(InputCause::Cluster))
 }
 
+/// Reads the status, where the configuration says this cluster.
+fn with_status(alloc: Global, found: Configuration, cluster: Cluster) -> Result<Head, InputFault>
+    requires limits { KeepsLimits cluster }
+    requires results { found.marks.results_at ≤ length found.lines }
+    ensures head { Gives (λ head. head) result (with_cluster nothing_yet found cluster) }
+    ensures moment { IfOk result (λ head. moment_of head.journal.events < 2 ^ 40) }
+{
+    let Configuration {
+        lines,
+        marks,
+        crm,
+        leaves: _,
+    } = found;
+    let status = lines_after(lines.as_slice(), marks.status_at, marks.results_at);
+    let head = head_of(alloc, crm, cluster, status)?;
+    Ok(head)
+}
+
+/// All steps but the last, one after the other.
+#[tactic(auto, unfolding(crate::specs::Reading::start_of))]
+fn start_of(alloc: Global, text: &[u8]) -> Result<Head, InputFault>
+    requires { length text.now ≤ most_bytes }
+    ensures head { Gives (λ head. head) result (start_of text.now) }
+    ensures moment { IfOk result (λ head. moment_of head.journal.events < 2 ^ 40) }
+{
+    let found = configuration_of(alloc, text)?;
+    let cluster = cluster_in(alloc, &found)?;
+    with_status(alloc, found, cluster)
+}
+
+/// Reads the head of an input that stands alone, of at most 16,777,216 bytes, as `read_input` reads a whole input.
+pub(crate) fn read_start(alloc: Global, text: &[u8]) -> Result<Head, InputFault>
+    requires { length text.now ≤ most_bytes }
+    ensures read { Gives (λ head. head) result (start_of text.now) }
+    ensures valid { IfOk result (λ head. IsValid head.cluster) }
+    ensures at_rest { IfOk result (λ head. IsAtRest head.journal.events) }
+    ensures moment { IfOk result (λ head. moment_of head.journal.events < 2 ^ 40) }
+{
+    start_of(alloc, text)
+}
+
 /// All steps, one after the other.
 #[tactic(auto, unfolding(crate::specs::Reading::input_of))]
 fn input_of(alloc: Global, text: &[u8]) -> Result<Input, InputFault>
@@ -217,7 +258,8 @@ fn input_of(alloc: Global, text: &[u8]) -> Result<Input, InputFault>
 /// status and the result lines. A fault is that of the first step that fails, at the lowest line that is at fault in it, with the cause
 /// that the reader of that step gives. `NoMemory` comes when memory runs out.
 ///
-/// What is read is valid: the cluster is, and the first journal is in order, has nothing in flight and a moment below 2^40 seconds.
+/// What is read is valid: the cluster is, and the first journal is in order, has nothing in flight and a moment below 2^40 seconds. There are at
+/// most 10,000 result lines.
 pub fn read_input(alloc: Global, text: &[u8]) -> Result<Input, InputFault>
     requires { length text.now ≤ most_bytes }
     ensures read { Gives (λ input. input) result (input_of text.now) }
@@ -225,6 +267,7 @@ pub fn read_input(alloc: Global, text: &[u8]) -> Result<Input, InputFault>
     ensures orderly { IfOk result (λ input. Orderly input.head.journal.events) }
     ensures idle { IfOk result (λ input. in_flight input.head.journal.events ≡ []) }
     ensures moment { IfOk result (λ input. moment_of input.head.journal.events < 2 ^ 40) }
+    ensures few { IfOk result (λ input. length input.results ≤ most_results) }
 {
     input_of(alloc, text)
 }

@@ -6,19 +6,19 @@ ghost use Rattle.sim_core.specs.Status.{code_of};
 pub enum Status {
     /// The input was read to its end, and the whole text was written.
     Done,
-    /// Out of memory. A prefix of the text was written.
+    /// Out of memory. A prefix of the text was written; of `replay` it ends between two transitions.
     NoMemory,
     /// The words are none of the forms. Nothing was read or written.
     Usage,
-    /// The source failed. Nothing was written.
+    /// The source failed. Nothing was written; of `replay` the run of the result lines that were taken whole.
     ReadFault,
     /// The sink failed. A prefix of the text was written.
     WriteFault,
-    /// The input isn't read. A line `refused LINE CAUSE` was written.
+    /// The input isn't read. A line `refused LINE CAUSE` was written; of `replay` at a result line the run up to it before.
     Refused,
     /// A result line doesn't apply. The run up to it was written, and a line `unexpected LINE`.
     Unexpected,
-    /// The source gives more than 16,777,216 bytes. Nothing was written.
+    /// The source gives more than 16,777,216 bytes. Nothing was written; of `replay` behind the head the run up to the line that goes past them.
     TooLarge,
     /// A trace isn't that of a lawful run.
     NotLawful,

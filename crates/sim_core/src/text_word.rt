@@ -29,7 +29,7 @@ pub(crate) trait TextWord {
 }
 
 /// `refused LINE CAUSE`.
-fn refusal_text(alloc: Global, line: u32, cause: InputCause) -> Result<Vec<u8>, NoMemory>
+pub(crate) fn refusal_text(alloc: Global, line: u32, cause: InputCause) -> Result<Vec<u8>, NoMemory>
     ensures { IfOk result (λ text. text.items ≡ refusal_text line cause) }
 {
     let mut text = Vec::from_slice(alloc, b"refused ")?;

@@ -1,22 +1,25 @@
 ghost use Rattle.std.specs.Prelude.{◌≡◌, ◌≢◌, ◌↔◌, ◌+◌, ◌≤◌, ◌<◌, true, Some, None, IfSome, length, map};
 ghost use Rattle.std.specs.String.{string_bytes};
 ghost use Rattle.cluster_io.specs.Streams.{Rose, TakesCount};
-ghost use Rattle.sim_core.specs.Answers.{Answers, IsComplete, IsEarly, IsStatusOf, ReadsNothing, ReadsWhole, most_bytes};
+ghost use Rattle.sim_core.specs.Answers.{Answers, IsComplete, IsEarly, IsSafeReplay, IsStatusOf, ReadsLive, ReadsNothing, ReadsWhole};
+ghost use Rattle.sim_core.specs.Reading.{most_bytes};
 ghost use Rattle.sim_core.specs.Table.{intake, nothing, whole};
 ghost use Rattle.sim_core.specs.Words.{command_of};
 
 use crate::check::CheckWord;
+use crate::generated::with_case;
 use crate::graph::GraphWord;
 use crate::help::{HELP, VERSION};
 use crate::input_word::with_input;
+use crate::live::replay;
 use crate::losses::SurviveWord;
 use crate::own_text::tell;
-use crate::replay::ReplayWord;
 use crate::scores::ScoresWord;
 use crate::status::Status;
 use crate::text_word::Reading;
 use crate::words::{Command, command_of};
 use cluster_io::{Sink, Source};
+use live_run::ends_are_one;
 use std::alloc::Global;
 
 /// Carries out a word. The clauses are those of `run` for the words that ask for it.
@@ -44,7 +47,8 @@ fn carry_out<S: Source, W: Sink>(alloc: Global, word: Command, src: &mut S, out:
         Command::Scores => with_input(alloc, &Reading(ScoresWord), src, out),
         Command::Graph => with_input(alloc, &Reading(GraphWord), src, out),
         Command::Survive => with_input(alloc, &Reading(SurviveWord), src, out),
-        Command::Replay => with_input(alloc, &ReplayWord, src, out),
+        Command::Replay => replay(alloc, src, out),
+        Command::Gen(number) => with_case(alloc, number, out),
         Command::Help => tell(out, HELP),
         Command::Version => tell(out, VERSION),
     }
@@ -52,12 +56,15 @@ fn carry_out<S: Source, W: Sink>(alloc: Global, word: Command, src: &mut S, out:
 
 /// Carries out what the words after the program's name ask for: reads `src`, writes to `out`, and answers how it ended.
 pub fn run<S: Source, W: Sink>(alloc: Global, words: &[String], src: &mut S, out: &mut W) -> Status
-    // Each word that reads nothing or a whole input, where the source tells what it reads: what the answer says, and what it has to be.
+    // Where the source tells what it reads: what the answer says of the input, of what was read and of what was written; and what it has to be.
     ensures answers { IfSome (command_of (map string_bytes words.now))
         (λ word. Answers word (S.left src.old) (S.left src.new) (W.written out.old) (W.written out.new) result) }
     ensures complete { IfSome (command_of (map string_bytes words.now))
         (λ word. ¬ Rose (S.faults src.old) (S.faults src.new) → ¬ Rose (W.faults out.old) (W.faults out.new)
         → IsComplete word (S.left src.old) result) }
+
+    // A run that is carried out while it is read is safe, whatever its answers are.
+    ensures safe { ReadsLive (command_of (map string_bytes words.now)) → IfSome (S.left src.old) IsSafeReplay }
 
     // What holds whatever the source and the sink tell. Status 2 comes when the words are no form, and only then; it leaves both as they were.
     ensures usage { (result ≡ Status.Usage) ↔ (command_of (map string_bytes words.now) ≡ None) }
@@ -82,6 +89,7 @@ pub fn run<S: Source, W: Sink>(alloc: Global, words: &[String], src: &mut S, out
     ensures no_write_failure { W.counts_only_failures ≡ true → result ≢ Status.WriteFault
         → W.faults out.new ≡ W.faults out.old }
 {
+    ends_are_one();
     match command_of(words) {
         Some(word) => carry_out(alloc, word, src, out),
         None => Status::Usage,

@@ -1,4 +1,4 @@
-use Rattle.sim_core.proofs.ValidInput.{idle_given, ordered_given, valid_given}
+use Rattle.sim_core.proofs.ValidInput.{few_given, idle_given, ordered_given, valid_given}
 use Rattle.sim_core.proofs.reading.read_input.Goals as goal
 
 pub returns-clause-valid : goal.returns-clause-valid
@@ -9,3 +9,6 @@ returns-clause-orderly c = ordered_given c.args.text.now c.input_of.result c.inp
 
 pub returns-clause-idle : goal.returns-clause-idle
 returns-clause-idle c = idle_given c.args.text.now c.input_of.result c.input_of.ensures.input
+
+pub returns-clause-few : goal.returns-clause-few
+returns-clause-few c = few_given c.args.text.now c.input_of.result c.input_of.ensures.input

@@ -6,8 +6,11 @@ returns-in-Help-clause-answers g c = rw c.in-Help.is (c.tell.ensures.says _ _)
 pub returns-in-Version-clause-answers : goal.returns-in-Version-clause-answers
 returns-in-Version-clause-answers g c = rw c.in-Version.is (c.tell-in-Version.ensures.says _ _)
 
-pub returns-in-Replay-clause-status : goal.returns-in-Replay-clause-status
-returns-in-Replay-clause-status g c = rw c.in-Replay.is c.with_input-in-Replay.ensures.status
+pub returns-in-Gen-clause-answers : goal.returns-in-Gen-clause-answers
+returns-in-Gen-clause-answers g c = rw c.in-Gen.is (c.with_case.ensures.says _ _)
+
+pub returns-in-Gen-clause-status : goal.returns-in-Gen-clause-status
+returns-in-Gen-clause-status g c = rw c.in-Gen.is c.with_case.ensures.status
 
 pub returns-in-Scores-clause-status : goal.returns-in-Scores-clause-status
 returns-in-Scores-clause-status g c = rw c.in-Scores.is c.with_input-in-Scores.ensures.status

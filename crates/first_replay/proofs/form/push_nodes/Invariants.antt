@@ -1,6 +1,0 @@
-use Rattle.std.proofs.Common.{◌≡◌, ◌++◌, map, take}
-use Rattle.first_replay.specs.Form.{node_line}
-use Rattle.first_replay.proofs.form.push_nodes.Given as goal
-
-abbrev pub invariant-loop-node : goal.invariant-loop-node
-invariant-loop-node l = l.lines ≡ l.initial.lines ++ map node_line (take l.node-index l.nodes)

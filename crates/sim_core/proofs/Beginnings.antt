@@ -1,0 +1,88 @@
+-- What reading the head of an input came to, by what the reader of its lines says.
+use Rattle.std.proofs.Common.{◌≡◌, ℕ, ◌<◌, Option, Some, None, List, [], ◌++◌, length, Ok, Err, IfSome, refl, sym, ap, subst, ◌∙◌}
+use Rattle.std.specs.Option.{option_map}
+use Rattle.cluster_io.specs.Readings.{Reading}
+use Rattle.crm_lex.specs.RawLines.{raw_lines}
+use Rattle.faults.specs.declared.fault.Fault.{Fault}
+use Rattle.faults.specs.declared.fault.Fault.TheVariants.{At}
+use Rattle.faults.specs.Reading.{UnlessMemory}
+use Rattle.live_lines.specs.Heads as heads
+use Rattle.live_lines.specs.Heads.{CanGoOn, IsStopOf, KeepsBytes, head_behind, progress, taken}
+use Rattle.live_lines.specs.declared.head.HeadStop.{HeadStop}
+use Rattle.live_lines.specs.declared.head.HeadStop.TheVariants as why
+use Rattle.sim_core.specs.declared.beginning.HeadEnd.TheVariants as stop
+use Rattle.sim_core.specs.declared.cause.InputCause.{InputCause}
+use Rattle.sim_core.specs.declared.reading.Head.{Head}
+use Rattle.sim_core.specs.LiveSteps.{IsAmid, IsBehind, StopsBy, end_of, fresh}
+use Rattle.sim_core.specs.Reading.{start_of}
+use Rattle.sim_core.specs.Replay.{head_in, lacks_words, says_nothing}
+
+-- the head behind a reader that was just made is that of the input
+same_head : (old : Reading) (input : List ℕ) → old ≡ fresh → head_in input ≡ head_behind [] old input
+same_head old input e = ap (λ (r : Reading). head_behind [] r input) (sym e)
+
+-- it was read to its end
+pub behind : (old new : Reading) (text : List ℕ) (next : ℕ) (before after : Option (List ℕ)) (head : Head) → old ≡ fresh
+    → IfSome before (λ left. head_behind [] old left ≡ taken text next new.room) → KeepsBytes (progress [] old) (progress text new) before after
+    → length new.held < 4096 → CanGoOn new × (next ≡ new.next) → start_of text ≡ Ok head → IfSome before (λ input. IsBehind input head new after)
+behind old new text next None after head e told keeps short place says = tt
+behind old new text next (Some input) None head e told keeps short place says = absurd cc
+behind old new text next (Some input) (Some unread) head e told keeps short place says = record {
+  bytes = text;
+  unread = unread;
+  begun = record { is = same_head old input e ∙ (told ∙ ap (λ (n : ℕ). taken text n new.room) place.1); says = says };
+  left_is = refl;
+  parts =
+      let all : Some input ≡ Some (text ++ (new.held ++ unread))
+      = subst (λ (r : Reading). Some ([] ++ (r.held ++ input)) ≡ Some (text ++ (new.held ++ unread))) e keeps in
+      cc;
+  short = short;
+  longest = place.0.longest;
+}
+
+-- it says nothing
+pub faulty : (old new : Reading) (text : List ℕ) (next : ℕ) (before after : Option (List ℕ)) (line : ℕ) (cause : InputCause) → old ≡ fresh
+    → IfSome before (λ left. head_behind [] old left ≡ taken text next new.room) → start_of text ≡ Err (At line cause)
+    → IfSome before (λ input. StopsBy input after (stop.Refused line cause))
+faulty old new text next None after line cause e told says = tt
+faulty old new text next (Some input) after line cause e told says = says_nothing text next new.room line cause (same_head old input e ∙ told) says
+
+-- reading it stopped
+amid : (old new : Reading) (input : List ℕ) (after : Option (List ℕ)) → old ≡ fresh → heads.IsAmid old new (Some input) after
+    → IsAmid input after
+amid old new input None e a = let none = a.keeps in absurd cc
+amid old new input (Some unread) e a = record {
+  whole = a.text;
+  held = new.held;
+  unread = unread;
+  next = new.next;
+  room = new.room;
+  left_is = refl;
+  parts =
+      let all : Some input ≡ Some (a.text ++ (new.held ++ unread))
+      = subst (λ (r : Reading). Some ([] ++ (r.held ++ input)) ≡ Some (a.text ++ (new.held ++ unread))) e a.keeps in
+      cc;
+  to_come =
+      let told : Some (head_behind [] old input) ≡ Some (head_behind a.text new unread) = a.to_come in
+      let same : head_behind [] old input ≡ head_behind a.text new unread = cc in
+      let size : new.longest ≡ 1048576 = a.same_size ∙ ap (λ (r : Reading). r.longest) e in
+      same_head old input e ∙ (same ∙ ap (λ (n : ℕ). heads.head_of n a.text new.room new.next (raw_lines (new.held ++ unread))) size);
+  unfinished = a.none_whole;
+}
+
+pub stops : (old new : Reading) (before after : Option (List ℕ)) (found : HeadStop) → old ≡ fresh → IfSome before (λ left. IsStopOf (head_behind [] old left) found)
+    → (found ≡ why.ReadFault → heads.IsAmid old new before after) → IfSome before (λ input. StopsBy input after (end_of found))
+stops old new None after found e told broken = tt
+stops old new (Some input) after (why.Refused line cause) e told broken = lacks_words line cause (same_head old input e ∙ told)
+stops old new (Some input) after why.TooLarge e told broken = same_head old input e ∙ told
+stops old new (Some input) after why.ReadFault e told broken = amid old new input after e (broken refl)
+stops old new (Some input) after why.NoMemory e told broken = tt
+
+-- the same, by what reading it gave
+pub faulty_read : (old new : Reading) (text given : List ℕ) (next : ℕ) (before after : Option (List ℕ)) (found : Fault InputCause) (line : ℕ) (cause : InputCause)
+    → old ≡ fresh → IfSome before (λ left. head_behind [] old left ≡ taken text next new.room) → given ≡ text → found ≡ At line cause
+    → UnlessMemory found (start_of given ≡ Err found) → IfSome before (λ input. StopsBy input after (stop.Refused line cause))
+faulty_read old new text given next before after found line cause e told same is says =
+    let refused : start_of given ≡ Err (At line cause)
+    = subst (λ (f : Fault InputCause). UnlessMemory f (start_of given ≡ Err f)) is says in
+    faulty old new text next before after line cause e told (ap start_of (sym same) ∙ refused)

@@ -1,0 +1,197 @@
+-- What the word `replay` answers says what it has to of the input.
+use Rattle.std.proofs.Common.{◌≡◌, inl, inr, ℕ, true, Option, Some, None, List, [], ◌++◌, drop, length, IfSome, refl, sym, ap, subst, ◌∙◌, append-nil}
+use Rattle.std.specs.Option.{option_map}
+use Rattle.std.proofs.Math.Seq.{drop-append_seam}
+use Rattle.cluster_io.specs.Readings.{Reading}
+use Rattle.cluster_io.specs.Streams.{Adds, AddsPrefix}
+use Rattle.cluster_types.specs.declared.cluster.Cluster.{Cluster}
+use Rattle.cluster_types.specs.declared.journal.Journal.{Journal}
+use Rattle.cluster_types.specs.Journals.{moment_of}
+use Rattle.crm_lex.specs.RawLines.{raw_lines}
+use Rattle.live_lines.specs.Coming.{Coming, coming}
+use Rattle.live_lines.specs.Heads as heads
+use Rattle.live_lines.specs.declared.place.Place.{Place}
+use Rattle.live_run.specs.declared.live_end.LiveEnd.{LiveEnd}
+use Rattle.live_run.specs.declared.live_end.LiveEnd.TheVariants as end
+use Rattle.live_run.specs.Ends.{Gets}
+use Rattle.live_run.specs.Reached as run
+use Rattle.live_run.specs.Reached.{Reaches, results_behind}
+use Rattle.sim_core.specs.declared.beginning.HeadEnd.{HeadEnd}
+use Rattle.sim_core.specs.declared.beginning.HeadEnd.TheVariants as stop
+use Rattle.sim_core.specs.declared.cause.InputCause.{InputCause}
+use Rattle.sim_core.specs.declared.reading.Head.{Head}
+use Rattle.sim_core.specs.declared.status.Status.{Status}
+use Rattle.sim_core.specs.declared.status.Status.TheVariants.{Done, NoMemory, Usage, ReadFault, WriteFault, Refused, Unexpected, TooLarge, NotLawful}
+use Rattle.sim_core.specs.Answers.{MayAnswer}
+use Rattle.sim_core.specs.Live.{IsBehindHead, SaysLive, amid_head, behind_head, of_head, of_run, at_first, between_two}
+use Rattle.sim_core.specs.LiveSteps.{IsBehind, StopsBy, WritesFault, status_of}
+use Rattle.sim_core.specs.Outputs.{refusal_text}
+use Rattle.sim_core.specs.Replay.{IsHeadFault, IsReplayOutput, IsTextOfRun, coming_behind}
+use Rattle.sim_core.specs.Table.{live}
+
+nothing_added : (before : Option (List ℕ)) → Adds before [] before
+nothing_added None = refl
+nothing_added (Some held) = ap Some (sym (append-nil held))
+
+-- the head has a fault
+refused_says : (input : List ℕ) (left before after : Option (List ℕ)) (line : ℕ) (why : InputCause) (status : Status) → IsHeadFault input line why
+    → WritesFault line why before after status → SaysLive input left before after status
+refused_says input left before after line why Refused fault writes =
+    record { text = refusal_text line why; due = inl (record { line = line; why = why; fault = fault; printed = refl }); added = writes }
+refused_says input left before after line why WriteFault fault writes = of_head (record { line = line; why = why; fault = fault; front = writes })
+refused_says input left before after line why NoMemory fault writes = at_first writes
+refused_says input left before after line why Done fault writes = absurd writes
+refused_says input left before after line why Usage fault writes = absurd writes
+refused_says input left before after line why ReadFault fault writes = absurd writes
+refused_says input left before after line why Unexpected fault writes = absurd writes
+refused_says input left before after line why TooLarge fault writes = absurd writes
+refused_says input left before after line why NotLawful fault writes = absurd writes
+
+pub refusal_may : (line : ℕ) (why : InputCause) (before after : Option (List ℕ)) (status : Status) → WritesFault line why before after status
+    → MayAnswer true live IsReplayOutput status
+refusal_may line why before after Refused writes = tt
+refusal_may line why before after WriteFault writes = tt
+refusal_may line why before after NoMemory writes = refl
+refusal_may line why before after Done writes = absurd writes
+refusal_may line why before after Usage writes = absurd writes
+refusal_may line why before after ReadFault writes = absurd writes
+refusal_may line why before after Unexpected writes = absurd writes
+refusal_may line why before after TooLarge writes = absurd writes
+refusal_may line why before after NotLawful writes = absurd writes
+
+pub fault_says : (line : ℕ) (why : InputCause) (before after : Option (List ℕ)) (status : Status) → WritesFault line why before after status
+    → (input : List ℕ) (left : Option (List ℕ)) → StopsBy input left (stop.Refused line why) → SaysLive input left before after status
+fault_says line why before after status writes input left fault = refused_says input left before after line why status fault writes
+
+pub large_says : (before : Option (List ℕ)) (input : List ℕ) (left : Option (List ℕ)) → StopsBy input left stop.TooLarge → SaysLive input left before before TooLarge
+large_says before input left large = record { text = []; due = inl (record { is = large; printed = refl }); added = nothing_added before }
+
+pub amid_says : (before : Option (List ℕ)) (input : List ℕ) (left : Option (List ℕ)) → StopsBy input left stop.ReadFault → SaysLive input left before before ReadFault
+amid_says before input left a = amid_head (record {
+  whole = a.whole;
+  held = a.held;
+  unread = a.unread;
+  next = a.next;
+  room = a.room;
+  left_is = a.left_is;
+  parts = a.parts;
+  to_come = a.to_come;
+  unfinished = a.unfinished;
+  nothing_written = refl;
+})
+
+-- the run that follows from the head
+module _ (input : List ℕ) (head : Head) (reading : Reading) (from left before after : Option (List ℕ)) (k : IsBehind input head reading from) where
+  -- what is to come is the same
+  same_coming : results_behind head.cluster head.journal reading k.unread ≡ coming_behind input k.bytes head reading.next reading.room
+  same_coming =
+      let at : Place = record { moment = moment_of head.journal.events; before = 0; line = reading.next } in
+      let bytes : reading.held ++ k.unread ≡ drop (length k.bytes) input
+      = sym (drop-append_seam k.bytes (reading.held ++ k.unread)) ∙ ap (λ (t : List ℕ). drop (length k.bytes) t) (sym k.parts) in
+      ap (λ (n : ℕ). coming head.cluster n at reading.room (raw_lines (reading.held ++ k.unread))) k.longest
+      ∙ ap (λ (t : List ℕ). coming head.cluster 1048576 at reading.room (raw_lines t)) bytes
+
+  text_of_run : (how : LiveEnd) (text : List ℕ) → Gets head.cluster head.journal (results_behind head.cluster head.journal reading k.unread) how text
+      → IsTextOfRun (λ c journal all. Gets c journal all how) input text
+  text_of_run how text gets = record {
+    bytes = k.bytes;
+    head = head;
+    next = reading.next;
+    room = reading.room;
+    begun = k.begun;
+    says = subst (λ (all : Coming). Gets head.cluster head.journal all how text) same_coming gets;
+  }
+
+  behind_the_head : (Became : Cluster → Journal → Reading → List ℕ → Option (List ℕ) → Option (List ℕ) → Option (List ℕ) → Type 0)
+      → Became head.cluster head.journal reading k.unread left before after → IsBehindHead input left before after Became
+  behind_the_head Became became = record {
+    bytes = k.bytes;
+    head = head;
+    reading = reading;
+    unread = k.unread;
+    begun = k.begun;
+    longest = k.longest;
+    parts = k.parts;
+    short = k.short;
+    became = became;
+  }
+
+  reached : (how : LiveEnd) → Reaches head.cluster head.journal reading k.unread left before after how → (how ≡ end.Done → IfSome left (λ l. l ≡ []))
+      → SaysLive input left before after (status_of how)
+  reached end.Done r at_end = record { at_end = at_end refl; written = record { text = r.text; due = text_of_run end.Done r.text r.gets; added = r.added } }
+  reached end.Unexpected r at_end = record { text = r.text; due = text_of_run end.Unexpected r.text r.gets; added = r.added }
+  reached end.Refused r at_end = record { text = r.text; due = inr (text_of_run end.Refused r.text r.gets); added = r.added }
+  reached end.TooLarge r at_end = record { text = r.text; due = inr (text_of_run end.TooLarge r.text r.gets); added = r.added }
+  reached end.ReadFault r at_end = behind_head (behind_the_head run.IsBrokenOff r)
+  reached end.WriteFault r at_end = of_run (behind_the_head run.IsCutOff r)
+  reached end.NoMemory r at_end = between_two (behind_the_head run.HasNoMemory r)
+
+pub run_says : (before_all from left before after : Option (List ℕ)) (head : Head) (reading : Reading) (how : LiveEnd) → IfSome before_all (λ input. IsBehind input head reading from)
+    → IfSome from (λ unread. Reaches head.cluster head.journal reading unread left before after how) → (how ≡ end.Done → IfSome left (λ l. l ≡ []))
+    → IfSome before_all (λ input. SaysLive input left before after (status_of how))
+run_says None from left before after head reading how k r at_end = tt
+run_says (Some input) None left before after head reading how k r at_end = let none = k.left_is in absurd cc
+run_says (Some input) (Some unread) left before after head reading how k r at_end =
+    let given : Some unread ≡ Some k.unread = k.left_is in
+    let same : unread ≡ k.unread = cc in
+    reached input head reading (Some unread) left before after k how
+    (subst (λ (u : List ℕ). Reaches head.cluster head.journal reading u left before after how) same r) at_end
+
+pub run_may : (how : LiveEnd) → MayAnswer true live IsReplayOutput (status_of how)
+run_may end.Done = tt
+run_may end.Unexpected = tt
+run_may end.Refused = tt
+run_may end.TooLarge = refl
+run_may end.ReadFault = refl
+run_may end.WriteFault = tt
+run_may end.NoMemory = refl
+
+-- the status is that of a fault where the end is
+pub read_end : (how : LiveEnd) → status_of how ≡ ReadFault → how ≡ end.ReadFault
+read_end end.ReadFault e = refl
+read_end end.Done e = absurd cc
+read_end end.Unexpected e = absurd cc
+read_end end.Refused e = absurd cc
+read_end end.TooLarge e = absurd cc
+read_end end.WriteFault e = absurd cc
+read_end end.NoMemory e = absurd cc
+
+pub write_end : (how : LiveEnd) → status_of how ≡ WriteFault → how ≡ end.WriteFault
+write_end end.WriteFault e = refl
+write_end end.Done e = absurd cc
+write_end end.Unexpected e = absurd cc
+write_end end.Refused e = absurd cc
+write_end end.TooLarge e = absurd cc
+write_end end.ReadFault e = absurd cc
+write_end end.NoMemory e = absurd cc
+
+-- what is said of the source as it is lent on: that of the reader, of the answers and at the end
+module _ {S : Type 0} (left : S → Option (List ℕ)) where
+  if_told : (told : Option (List ℕ)) (P Q : List ℕ → Type 0) → ((input : List ℕ) → P input → Q input) → IfSome told P → IfSome told Q
+  if_told None P Q step h = tt
+  if_told (Some input) P Q step h = step input h
+
+  pub stop_told : (src over begun final : S) (before after : Option (List ℕ)) (how : HeadEnd) (status : Status) → over ≡ src → final ≡ begun
+      → IfSome (left over) (λ input. StopsBy input (left begun) how)
+      → ((input : List ℕ) (rest : Option (List ℕ)) → StopsBy input rest how → SaysLive input rest before after status)
+      → IfSome (left src) (λ input. SaysLive input (left final) before after status)
+  stop_told src over begun final before after how status lent back told says =
+      subst (λ (s : S). IfSome (left s) (λ input. SaysLive input (left final) before after status)) lent
+      (subst (λ (s : S). IfSome (left over) (λ input. SaysLive input (left s) before after status)) (sym back)
+      (if_told (left over) (λ input. StopsBy input (left begun) how) (λ input. SaysLive input (left begun) before after status)
+      (λ input stopped. says input (left begun) stopped) told))
+
+  pub run_told : (src over begun asked done final : S) (before after : Option (List ℕ)) (head : Head) (reading at : Reading) (how : LiveEnd) (status : Status)
+      → over ≡ src → asked ≡ begun → final ≡ done → at ≡ reading → status ≡ status_of how
+      → IfSome (left over) (λ input. IsBehind input head reading (left begun))
+      → IfSome (left asked) (λ unread. Reaches head.cluster head.journal at unread (left done) before after how)
+      → (how ≡ end.Done → IfSome (left done) (λ l. l ≡ []))
+      → IfSome (left src) (λ input. SaysLive input (left final) before after status)
+  run_told src over begun asked done final before after head reading at how status lent asks back same is behind reaches at_end =
+      let reached_now : IfSome (left begun) (λ unread. Reaches head.cluster head.journal reading unread (left done) before after how)
+      = subst (λ (s : S). IfSome (left s) (λ unread. Reaches head.cluster head.journal reading unread (left done) before after how)) asks
+      (subst (λ (r : Reading). IfSome (left asked) (λ unread. Reaches head.cluster head.journal r unread (left done) before after how)) same reaches) in
+      subst (λ (s : S). IfSome (left s) (λ input. SaysLive input (left final) before after status)) lent
+      (subst (λ (s : S). IfSome (left over) (λ input. SaysLive input (left s) before after status)) (sym back)
+      (subst (λ (s : Status). IfSome (left over) (λ input. SaysLive input (left done) before after s)) (sym is)
+      (run_says (left over) (left begun) (left done) before after head reading how behind reached_now at_end)))

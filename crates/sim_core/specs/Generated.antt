@@ -1,0 +1,27 @@
+-- What is written by the word `gen`.
+use Rattle.std.specs.Prelude.{◌≡◌, ℕ, true, Option, Some, List, map}
+use Rattle.case_summary.specs.Summary.{summary_text}
+use Rattle.cluster_types.specs.declared.cluster.Cluster.{Cluster}
+use Rattle.cluster_types.specs.declared.journal.Answer.{Answer}
+use Rattle.cluster_types.specs.declared.journal.Journal.{Journal}
+use Rattle.cluster_types.specs.declared.run.Run.{Run}
+use Rattle.cluster_types.specs.Runs.{IsCutRun, IsWholeRun}
+use Rattle.cluster_types.specs.Texts.{run_lines}
+use Rattle.op_history.specs.declared.results.ResultLine.{ResultLine}
+use Rattle.sim_core.specs.declared.reading.Input.{Input}
+
+-- what some result lines answer
+abbrev pub answers_of : List ResultLine → List Answer
+answers_of results = map (λ (result : ResultLine). result.answer) results
+
+-- the run from a journal on, of these answers: to its end, or up to the answer that doesn't apply
+pub data IsRunOf (c : Cluster) (journal : Journal) (answers : List Answer) (run : Run) : Type 0 where
+  to_its_end : IsWholeRun c journal.promotions true journal.events (Some answers) (run_lines c run) run.journal.events → IsRunOf c journal answers run
+  cut : (given : Answer) (behind : Option (List Answer))
+      → IsCutRun c journal.promotions true journal.events (Some answers) (run_lines c run) run.journal.events given behind → IsRunOf c journal answers run
+
+-- the text is the summary of the run of the case of this number
+pub record IsSummaryText (number : ℕ) (whole : Input) (text : List ℕ) : Type 0 where
+  pub run : Run
+  pub is : IsRunOf whole.head.cluster whole.head.journal (answers_of whole.results) run
+  pub printed : text ≡ summary_text whole.head.cluster number run

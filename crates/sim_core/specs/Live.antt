@@ -1,0 +1,92 @@
+-- What an answer to the word `replay` says of its input, of what was read of it, and of what was written, while the one goes on with the other (rules of
+-- this project).
+use Rattle.std.specs.Prelude.{◌≡◌, ℕ, ◌<◌, false, Option, Some, List, [], ◌++◌, length, IfSome}
+use Rattle.cluster_io.specs.NextLine.{holds_line}
+use Rattle.cluster_io.specs.Readings.{Reading}
+use Rattle.cluster_io.specs.Streams.{Adds, AddsPrefix}
+use Rattle.crm_lex.specs.RawLines.{raw_lines}
+use Rattle.cluster_types.specs.declared.cluster.Cluster.{Cluster}
+use Rattle.cluster_types.specs.declared.journal.Journal.{Journal}
+use Rattle.live_lines.specs.Heads as heads
+use Rattle.live_run.specs.Reached.{HasNoMemory, IsBrokenOff, IsCutOff}
+use Rattle.sim_core.specs.declared.cause.InputCause.{InputCause}
+use Rattle.sim_core.specs.declared.reading.Head.{Head}
+use Rattle.sim_core.specs.declared.status.Status.{Status}
+use Rattle.sim_core.specs.declared.status.Status.TheVariants.{Done, NoMemory, Usage, ReadFault, WriteFault, Refused, Unexpected, TooLarge, NotLawful}
+use Rattle.sim_core.specs.Outputs.{refusal_text}
+use Rattle.sim_core.specs.Reading.{longest_line}
+use Rattle.sim_core.specs.Replay.{IsBegun, IsHeadFault, IsReplayOutput, head_in}
+
+-- what the sink holds before and after
+module _ (input : List ℕ) (left before after : Option (List ℕ)) where
+  -- the whole text was written that comes with this status
+  pub record HasWritten (status : Status) : Type 0 where
+    pub text : List ℕ
+    pub due : IsReplayOutput input status text
+    pub added : Adds before text after
+
+  -- the input was read to its end, and its whole run was written
+  pub record IsDone : Type 0 where
+    pub at_end : IfSome left (λ bytes. bytes ≡ [])
+    pub written : HasWritten Done
+
+  -- the source failed amid the head: of the bytes that were taken these are whole lines, behind which the head is still to come, and the others have no whole
+  -- line. Nothing was written
+  pub record IsAmidHead : Type 0 where
+    pub whole : List ℕ
+    pub held : List ℕ
+    pub unread : List ℕ
+    pub next : ℕ
+    pub room : ℕ
+    pub left_is : left ≡ Some unread
+    pub parts : input ≡ whole ++ (held ++ unread)
+    pub to_come : head_in input ≡ heads.head_of longest_line whole room next (raw_lines (held ++ unread))
+    pub unfinished : holds_line held ≡ false
+    pub nothing_written : after ≡ before
+
+  -- the head was taken whole, and this became of the run that follows from it. The source had these bytes left behind the head, and fewer than 4,096 more
+  -- were taken with it
+  pub record IsBehindHead (Became : Cluster → Journal → Reading → List ℕ → Option (List ℕ) → Option (List ℕ) → Option (List ℕ) → Type 0) : Type 0 where
+    pub bytes : List ℕ
+    pub head : Head
+    pub reading : Reading
+    pub unread : List ℕ
+    pub begun : IsBegun input bytes head reading.next reading.room
+    pub longest : reading.longest ≡ longest_line
+    pub parts : input ≡ bytes ++ (reading.held ++ unread)
+    pub short : length reading.held < 4096
+    pub became : Became head.cluster head.journal reading unread left before after
+
+  -- the sink failed while the fault of the head was written
+  pub record IsCutInRefusal : Type 0 where
+    pub line : ℕ
+    pub why : InputCause
+    pub fault : IsHeadFault input line why
+    pub front : AddsPrefix (refusal_text line why) before after
+
+  -- the source failed, amid the head or behind it
+  pub data HasReadFault : Type 0 where
+    amid_head : IsAmidHead → HasReadFault
+    behind_head : IsBehindHead IsBrokenOff → HasReadFault
+
+  -- the sink failed
+  pub data HasWriteFault : Type 0 where
+    of_head : IsCutInRefusal → HasWriteFault
+    of_run : IsBehindHead IsCutOff → HasWriteFault
+
+  -- memory ran out before anything was written, or between two transitions
+  pub data HasNoMemoryLeft : Type 0 where
+    at_first : after ≡ before → HasNoMemoryLeft
+    between_two : IsBehindHead HasNoMemory → HasNoMemoryLeft
+
+  -- what each status says
+  abbrev pub SaysLive : Status → Type 0
+  SaysLive Done = IsDone
+  SaysLive NoMemory = HasNoMemoryLeft
+  SaysLive ReadFault = HasReadFault
+  SaysLive WriteFault = HasWriteFault
+  SaysLive Refused = HasWritten Refused
+  SaysLive Unexpected = HasWritten Unexpected
+  SaysLive TooLarge = HasWritten TooLarge
+  SaysLive Usage = ⊥
+  SaysLive NotLawful = ⊥

@@ -1,0 +1,84 @@
+//! The head of the input of `replay`, as it comes.
+
+ghost use Rattle.std.specs.Prelude.{◌≡◌, ◌≢◌, ◌<◌, ◌≤◌, ◌^◌, true, length, IfErr, IfOk, IfSome};
+ghost use Rattle.cluster_io.specs.LineReaders.{loan_of, reading_of, source_of};
+ghost use Rattle.cluster_io.specs.Streams.{Rose};
+ghost use Rattle.cluster_types.specs.Journals.{moment_of};
+ghost use Rattle.cluster_types.specs.Safety.{IsAtRest};
+ghost use Rattle.cluster_types.specs.Valid.{IsValid};
+ghost use Rattle.live_lines.specs.Heads.{CanGoOn};
+ghost use Rattle.sim_core.specs.LiveSteps.{IsBehind, StopsBy, end_of, fresh};
+
+use crate::cause::InputCause;
+use crate::fault::InputFault;
+use crate::reading::{Head, read_start};
+use cluster_io::{LineReader, Source};
+use crm_lex::WordBuf;
+use live_lines::{HeadStop, HeadText, read_head};
+use std::alloc::Global;
+
+/// The head of an input.
+#[derive(Drop)]
+pub(crate) struct Beginning {
+    pub head: Head,
+    /// The number of the line behind it, counted from 1.
+    pub next: u64,
+}
+
+/// Why there is none.
+#[derive(Clone, Copy, Debug, PartialEq, Eq)]
+pub(crate) enum HeadEnd {
+    /// A line of the head is refused.
+    Refused { line: u32, cause: InputCause },
+    /// A line of the head goes past the limit of bytes.
+    TooLarge,
+    /// The source failed.
+    ReadFault,
+    NoMemory,
+}
+
+fn head_end(stop: HeadStop) -> HeadEnd
+    ensures { result ≡ end_of stop }
+{
+    match stop {
+        HeadStop::Refused { line, cause } => HeadEnd::Refused {
+            line,
+            cause: InputCause::Words(cause),
+        },
+        HeadStop::TooLarge => HeadEnd::TooLarge,
+        HeadStop::ReadFault => HeadEnd::ReadFault,
+        HeadStop::NoMemory => HeadEnd::NoMemory,
+    }
+}
+
+/// Reads the head of an input from a reader that was just made, and what it says.
+pub(crate) fn begin<S: Source>(
+    alloc: Global,
+    reader: &mut LineReader<'_, S>,
+    words: &mut WordBuf,
+) -> Result<Beginning, HeadEnd>
+    requires { reading_of reader.old ≡ fresh }
+    ensures begun { IfSome (S.left (source_of reader.old)) (λ input.
+        IfOk result (λ begun. IsBehind input begun.head (reading_of reader.new) (S.left (source_of reader.new)))) }
+    ensures stopped { IfSome (S.left (source_of reader.old)) (λ input. IfErr result (StopsBy input (S.left (source_of reader.new)))) }
+    ensures place { IfOk result (λ begun. (CanGoOn (reading_of reader.new)) × (begun.next ≡ (reading_of reader.new).next)) }
+    ensures valid { IfOk result (λ begun. IsValid begun.head.cluster) }
+    ensures at_rest { IfOk result (λ begun. IsAtRest begun.head.journal.events) }
+    ensures moment { IfOk result (λ begun. moment_of begun.head.journal.events < 2 ^ 40) }
+
+    ensures count { S.faults (source_of reader.old) ≤ S.faults (source_of reader.new) }
+    ensures cause { IfErr result (λ why. why ≡ HeadEnd.ReadFault → Rose (S.faults (source_of reader.old)) (S.faults (source_of reader.new))) }
+    ensures no_failure { S.counts_only_failures ≡ true → IfErr result (λ why. why ≢ HeadEnd.ReadFault)
+        → S.faults (source_of reader.new) ≡ S.faults (source_of reader.old) }
+    ensures same_source { loan_of reader.new ≡ loan_of reader.old }
+{
+    let HeadText { text, next } = match read_head(alloc, reader, words) {
+        Ok(head) => head,
+        Err(stop) => return Err(head_end(stop)),
+    };
+    match read_start(alloc, &text) {
+        Ok(head) => Ok(Beginning { head, next }),
+        Err(InputFault::At { line, cause }) => Err(HeadEnd::Refused { line, cause }),
+        Err(InputFault::NoMemory) => Err(HeadEnd::NoMemory),
+    }
+}

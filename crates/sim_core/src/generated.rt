@@ -1,0 +1,117 @@
+//! The word `gen`: the run of a generated case, in numbers.
+
+ghost use Rattle.std.specs.Prelude.{◌≡◌, ◌≢◌, ◌≤◌, ◌<◌, ◌^◌, ℕ, true, Option, List, IfOk, length};
+ghost use Rattle.case_gen.specs.Case.{case_text};
+ghost use Rattle.cluster_io.specs.Streams.{Rose};
+ghost use Rattle.cluster_types.specs.Journals.{moment_of};
+ghost use Rattle.cluster_types.specs.Safety.{IsAtRest};
+ghost use Rattle.cluster_types.specs.Valid.{IsValid};
+ghost use Rattle.op_history.specs.Results.{most_results};
+ghost use Rattle.sim_core.specs.Answers.{IsOutcome, MayAnswer, SaysOf};
+ghost use Rattle.sim_core.specs.Generated.{IsRunOf, IsSummaryText, answers_of};
+ghost use Rattle.sim_core.specs.Outputs.{IsOutput};
+ghost use Rattle.sim_core.specs.Reading.{most_bytes};
+ghost use Rattle.sim_core.specs.Table.{nothing};
+
+use crate::fault::InputFault;
+use crate::memory::NoMemory;
+use crate::reading::{Head, Input, read_input};
+use crate::status::Status;
+use crate::text_word::refusal_text;
+use case_gen::generate;
+use case_summary::summary_text;
+use cluster_io::{Sink, write_text};
+use cluster_types::{Answer, Cluster, Journal, Run};
+use graph_exec::Script;
+use op_history::ResultLine;
+use replan::{ReplayEnd, replay};
+use run_laws::enough_transitions_are_allowed;
+use std::alloc::{AllocError, Global};
+
+/// What some result lines answer.
+fn answers_of(alloc: Global, results: &[ResultLine]) -> Result<Vec<Answer>, AllocError>
+    ensures { IfOk result (λ answers. answers.items ≡ answers_of results.now) }
+{
+    results.iter().map(|line| line.answer).collect(alloc)
+}
+
+/// The run from a journal on, of the answers of some result lines. At most one more transition is made than there are answers, which no run
+/// goes past.
+fn run_of(
+    alloc: Global,
+    cluster: &Cluster,
+    journal: Journal,
+    results: &[ResultLine],
+) -> Result<Run, NoMemory>
+    requires valid { IsValid cluster.now }
+    requires at_rest { IsAtRest journal.events }
+    requires moment { moment_of journal.events < 2 ^ 40 }
+    requires few { length results.now ≤ most_results }
+    ensures { IfOk result (λ run. IsRunOf cluster.now journal (answers_of results.now) run) }
+{
+    enough_transitions_are_allowed();
+    let mut answers = Script::new(answers_of(alloc, results)?);
+    let most = results.len() as u32 + 1;
+    match replay(alloc, cluster, journal, &mut answers, most) {
+        Ok(run) => Ok(run),
+        Err(ReplayEnd::Unexpected(run, _)) => Ok(run),
+        Err(ReplayEnd::NoMemory) => Err(NoMemory),
+        Err(ReplayEnd::SourceFault(_)) => unreachable!(),
+        Err(ReplayEnd::Most(_)) => unreachable!(),
+    }
+}
+
+/// The summary of the run of the case of this number, which says this.
+fn summary_of(alloc: Global, number: u32, whole: Input) -> Result<Vec<u8>, NoMemory>
+    requires valid { IsValid whole.head.cluster }
+    requires at_rest { IsAtRest whole.head.journal.events }
+    requires moment { moment_of whole.head.journal.events < 2 ^ 40 }
+    requires few { length whole.results ≤ most_results }
+    ensures { IfOk result (λ text. IsSummaryText number whole text.items) }
+{
+    let Input { head, results } = whole;
+    let Head {
+        crm: _,
+        cluster,
+        journal,
+    } = head;
+    let run = run_of(alloc, &cluster, journal, results.as_slice())?;
+    Ok(summary_text(alloc, &cluster, number, &run)?)
+}
+
+/// The status and the text that the case of this number gets.
+fn answer(alloc: Global, number: u32, case: &[u8]) -> Result<(Status, Vec<u8>), NoMemory>
+    requires { length case.now ≤ most_bytes }
+    ensures output { IfOk result (λ answer. IsOutput (IsSummaryText number) case.now answer.0 answer.1.items) }
+    ensures status { IfOk result (λ answer. IsOutcome answer.0) }
+{
+    match read_input(alloc, case) {
+        Ok(whole) => Ok((Status::Done, summary_of(alloc, number, whole)?)),
+        Err(InputFault::At { line, cause }) => {
+            Ok((Status::Refused, refusal_text(alloc, line, cause)?))
+        }
+        Err(InputFault::NoMemory) => Err(NoMemory),
+    }
+}
+
+/// Writes what the text of the case of this number gets.
+pub(crate) fn with_case<W: Sink>(alloc: Global, number: u32, out: &mut W) -> Status
+    ensures says { (input : List ℕ) (left : Option (List ℕ))
+        → SaysOf nothing (λ _. IsOutput (IsSummaryText number) (case_text number)) input left (W.written out.old) (W.written out.new) result }
+    ensures status { MayAnswer true nothing (λ _. IsOutput (IsSummaryText number) (case_text number)) result }
+    ensures cause { result ≡ Status.WriteFault → Rose (W.faults out.old) (W.faults out.new) }
+    ensures count { W.faults out.old ≤ W.faults out.new }
+    ensures no_failure { W.counts_only_failures ≡ true → result ≢ Status.WriteFault
+        → W.faults out.new ≡ W.faults out.old }
+{
+    let Ok(case) = generate(alloc, number) else {
+        return Status::NoMemory;
+    };
+    let Ok((status, text)) = answer(alloc, number, &case) else {
+        return Status::NoMemory;
+    };
+    match write_text(out, &text) {
+        Ok(()) => status,
+        Err(_) => Status::WriteFault,
+    }
+}

@@ -1,0 +1,114 @@
+//! The word `replay`: the head of the input is read, and then the run is written while its result lines are read.
+
+ghost use Rattle.std.specs.Prelude.{◌≡◌, ◌≢◌, ◌≤◌, ℕ, List, Option, true, IfSome};
+ghost use Rattle.cluster_io.specs.Streams.{Rose};
+ghost use Rattle.sim_core.specs.Answers.{MayAnswer};
+ghost use Rattle.sim_core.specs.Live.{SaysLive};
+ghost use Rattle.sim_core.specs.LiveSteps.{StopsBy, WritesFault, status_of};
+ghost use Rattle.sim_core.specs.Replay.{IsReplayOutput};
+ghost use Rattle.sim_core.specs.Table.{live};
+
+use crate::beginning::{Beginning, HeadEnd, begin};
+use crate::cause::InputCause;
+use crate::input_word::MOST_BYTES;
+use crate::reading::Head;
+use crate::status::Status;
+use crate::text_word::refusal_text;
+use cluster_io::{HeldLines, LineReader, Sink, Source, write_text};
+use cluster_types::moment_of;
+use crm_lex::WordBuf;
+use live_lines::LineOutcomes;
+use live_run::{LiveEnd, run_live};
+use std::alloc::Global;
+
+/// The most bytes that a logical line may have, without its line ends: 1 MiB.
+const LONGEST_LINE: usize = 1_048_576;
+
+/// Writes the fault of a head.
+fn refuse<W: Sink>(alloc: Global, line: u32, cause: InputCause, out: &mut W) -> Status
+    ensures writes { WritesFault line cause (W.written out.old) (W.written out.new) result }
+    ensures cause { result ≡ Status.WriteFault → Rose (W.faults out.old) (W.faults out.new) }
+    ensures count { W.faults out.old ≤ W.faults out.new }
+    ensures no_failure { W.counts_only_failures ≡ true → result ≢ Status.WriteFault
+        → W.faults out.new ≡ W.faults out.old }
+{
+    let Ok(text) = refusal_text(alloc, line, cause) else {
+        return Status::NoMemory;
+    };
+    match write_text(out, &text) {
+        Ok(()) => Status::Refused,
+        Err(_) => Status::WriteFault,
+    }
+}
+
+/// Ends the word where there is no head that says something.
+fn stop<W: Sink>(alloc: Global, end: HeadEnd, out: &mut W) -> Status
+    ensures says { (input : List ℕ) (left : Option (List ℕ)) → StopsBy input left end → SaysLive input left (W.written out.old) (W.written out.new) result }
+    ensures status { MayAnswer true live IsReplayOutput result }
+    ensures read_cause { result ≡ Status.ReadFault → end ≡ HeadEnd.ReadFault }
+    ensures read_fault { end ≡ HeadEnd.ReadFault → result ≡ Status.ReadFault }
+    ensures cause { result ≡ Status.WriteFault → Rose (W.faults out.old) (W.faults out.new) }
+    ensures count { W.faults out.old ≤ W.faults out.new }
+    ensures no_failure { W.counts_only_failures ≡ true → result ≢ Status.WriteFault
+        → W.faults out.new ≡ W.faults out.old }
+{
+    match end {
+        HeadEnd::Refused { line, cause } => refuse(alloc, line, cause, out),
+        HeadEnd::TooLarge => Status::TooLarge,
+        HeadEnd::ReadFault => Status::ReadFault,
+        HeadEnd::NoMemory => Status::NoMemory,
+    }
+}
+
+fn status_of(end: LiveEnd) -> Status
+    ensures { result ≡ status_of end }
+{
+    match end {
+        LiveEnd::Done => Status::Done,
+        LiveEnd::Unexpected => Status::Unexpected,
+        LiveEnd::Refused => Status::Refused,
+        LiveEnd::TooLarge => Status::TooLarge,
+        LiveEnd::ReadFault => Status::ReadFault,
+        LiveEnd::WriteFault => Status::WriteFault,
+        LiveEnd::NoMemory => Status::NoMemory,
+    }
+}
+
+/// Reads the head of the input, and carries out the run that follows from it, over the result lines behind it.
+pub(crate) fn replay<S: Source, W: Sink>(alloc: Global, src: &mut S, out: &mut W) -> Status
+    ensures says { IfSome (S.left src.old) (λ input. SaysLive input (S.left src.new) (W.written out.old) (W.written out.new) result) }
+    ensures status { MayAnswer true live IsReplayOutput result }
+    ensures read_cause { result ≡ Status.ReadFault → Rose (S.faults src.old) (S.faults src.new) }
+    ensures write_cause { result ≡ Status.WriteFault → Rose (W.faults out.old) (W.faults out.new) }
+    ensures read_count { S.faults src.old ≤ S.faults src.new }
+    ensures write_count { W.faults out.old ≤ W.faults out.new }
+    ensures no_read_failure { S.counts_only_failures ≡ true → result ≢ Status.ReadFault
+        → S.faults src.new ≡ S.faults src.old }
+    ensures no_write_failure { W.counts_only_failures ≡ true → result ≢ Status.WriteFault
+        → W.faults out.new ≡ W.faults out.old }
+{
+    let Ok(held) = HeldLines::new(alloc, MOST_BYTES, LONGEST_LINE) else {
+        return Status::NoMemory;
+    };
+    let Ok(mut words) = WordBuf::new(alloc) else {
+        return Status::NoMemory;
+    };
+    let mut reader = LineReader::over(src, held);
+    let Beginning { head, next } = match begin(alloc, &mut reader, &mut words) {
+        Ok(beginning) => beginning,
+        Err(end) => {
+            let _src = reader.into_source();
+            return stop(alloc, end, out);
+        }
+    };
+    let Head {
+        crm: _,
+        cluster,
+        journal,
+    } = head;
+    let moment = moment_of(journal.events.as_slice()) as u64;
+    let mut answers = LineOutcomes::over(&cluster, moment, next, reader, words);
+    let end = run_live(alloc, &cluster, journal, &mut answers, out);
+    let _src = answers.into_source();
+    status_of(end)
+}
