@@ -3,12 +3,12 @@ _cekpayo() {
   local current=${COMP_WORDS[COMP_CWORD]} word='' at
   local causes="NotUtf8 ControlByte OpenQuote LineTooLong UnknownStatement Unsupported BadScore BadTime BadValue MissingWord ExtraWord
     RepeatedKey DuplicateName UnknownName NestedTwice EmptyGroup MemberTwice UnsupportedMeta NotPromotable UnsupportedOrder
-    TooManyNodes TooManyLeaves TooManyRules ColocationLoop OrderLoop Repeated TooManyResults NotYet"
+    TooManyNodes TooManyLeaves TooManyRules ColocationLoop OrderLoop Repeated TooManyResults"
   for ((at = 1; at < COMP_CWORD; at++)); do
     [[ ${COMP_WORDS[at]} == -* ]] || { word=${COMP_WORDS[at]}; break; }
   done
   case $word in
-    "") mapfile -t COMPREPLY < <(compgen -W "check scores graph survive replay explain --all -q --build --help --version" -- "$current") ;;
+    "") mapfile -t COMPREPLY < <(compgen -W "check scores graph survive replay gen explain --all -q --build --help --version" -- "$current") ;;
     explain) mapfile -t COMPREPLY < <(compgen -W "$causes" -- "$current") ;;
     check | scores | graph | survive | replay)
       compopt -o filenames 2>/dev/null

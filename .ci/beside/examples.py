@@ -7,8 +7,8 @@ from .expecting import TOP, expect, kept, own, tool
 
 EXAMPLES = os.path.join(TOP, "examples")
 WORDS = ("scores", "graph", "survive", "replay")
-NOT_BUILT, NOT_YET = 2, b"refused 1 NotYet\n"
 SHOWN = re.compile(r"^ +\$ (?:cat |\./cekpayo scores )(examples/\S+) \|(?: \./cekpayo scores \|)? tools/summary\n((?:    .*\n)+)", re.M)
+RUN = re.compile(r"^ +\$ cat (examples/\S+) \| \./cekpayo replay\n((?:    .*\n)+)", re.M)
 
 
 def read(path):
@@ -31,28 +31,35 @@ def inputs():
 
 
 def try_answers():
-    """Each word that the program has answers as is kept; what it carries out later isn't asked for yet."""
+    """Each word answers as is kept."""
     count = 0
     for name, text in inputs():
         known = dict(re.findall(r"^== (\w+)\n((?:(?!== ).*\n)*)", kept("answers", name), re.M))
         for word in WORDS:
             status, answer = own(text, word)
-            if status == NOT_BUILT or answer == NOT_YET:
-                continue
             count += 1
             expect(f"{word} of the example {name}", status == 0 and answer.decode() == known.get(word), answer.decode())
-    expect("answers of examples", count >= 7)
+    expect("answers of examples", count >= 60)
+
+
+def parts_of(path):
+    """The text of the files that a page names, as `examples/NAME.{crm,status}`."""
+    front, braces, ends = path.partition(".{")
+    paths = [f"{front}.{end}" for end in ends.rstrip("}").split(",")] if braces else [path]
+    return b"".join(map(read, paths))
 
 
 def try_page():
     """What examples/README.md and docs/USAGE.md show is what the program and tools/summary write."""
-    pages = [SHOWN.findall(read(page).decode()) for page in ("examples/README.md", "docs/USAGE.md")]
-    expect("what the pages show", len(pages[0]) >= 5 and len(pages[1]) >= 1)
-    for path, lines in pages[0] + pages[1]:
-        front, braces, ends = path.partition(".{")
-        paths = [f"{front}.{end}" for end in ends.rstrip("}").split(",")] if braces else [path]
-        output = tool("summary", data=own(b"".join(map(read, paths)), "scores")[1])[1]
+    pages = [read(page).decode() for page in ("examples/README.md", "docs/USAGE.md")]
+    shown, runs = [[found.findall(page) for page in pages] for found in (SHOWN, RUN)]
+    expect("what the pages show", len(shown[0]) >= 5 and len(shown[1]) >= 1 and len(runs[0]) >= 1)
+    for path, lines in sum(shown, []):
+        output = tool("summary", data=own(parts_of(path), "scores")[1])[1]
         expect(f"what is shown of {path}", textwrap.dedent(lines) == output, output)
+    for path, lines in sum(runs, []):
+        output = own(parts_of(path), "replay")[1].decode()
+        expect(f"the run that is shown of {path}", textwrap.dedent(lines) == output, output)
 
 
 def try_examples():

@@ -10,7 +10,7 @@ from .texts import Text
 SETTINGS = ("property", "rsc_defaults", "op_defaults")
 LONGEST_EXPLAINED = 1 << 20
 MOST_LISTED = 100
-ENDS_LIST = ("TooManyNodes", "TooManyLeaves", "TooManyRules", "TooManyResults", "NotYet")
+ENDS_LIST = ("TooManyNodes", "TooManyLeaves", "TooManyRules", "TooManyResults")
 
 
 class Finding:
