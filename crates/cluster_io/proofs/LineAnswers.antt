@@ -1,14 +1,14 @@
 -- What a reader of lines answers, by the bytes that it has looked at.
-use Rattle.std.proofs.Common.{◌≡◌, ℕ, ◌+◌, ◌-◌, ◌≤◌, ◌<◌, nat_lt, nat_le, false, cond, List, [], ◌∷◌, ◌++◌, length, arith, refl, ap, sym, subst, ◌∙◌}
+use Rattle.std.proofs.Common.{◌≡◌, ℕ, ◌+◌, ◌-◌, ◌≤◌, ◌<◌, nat_lt, nat_le, Bool, true, false, cond, List, [], ◌∷◌, ◌++◌, length, arith, refl, ap, sym, subst, ◌∙◌}
 use Rattle.std.specs.List.{concat}
 use Rattle.std.proofs.lemmas.Bool.{cond-true, cond-false, lt-ltb, le-ltb, le-leb, lt-leb}
 use Rattle.std.proofs.lemmas.List.{append-nil, length-append}
 use Rattle.std.proofs.lemmas.List.Folds.{concat-append}
-use Rattle.crm_lex.specs.RawLines.{physical_lines, joined, goes_on, content}
+use Rattle.crm_lex.specs.RawLines.{physical_lines, joined, goes_on, content, ends_in}
 use Rattle.cluster_io.specs.NextLine.{has_feed, first_of, first_line, content_within, line_answer, answer_of}
 use Rattle.cluster_io.specs.Scanning.{Joins, content_length, before_feed}
 use Rattle.cluster_io.specs.declared.line_step.LineStep.TheVariants.{Line, TooLong, TooLarge}
-use Rattle.cluster_io.proofs.Texts.{content_at_feed, content_begun, content_without_feed, length-before_feed}
+use Rattle.cluster_io.proofs.Texts.{content_at_feed, content_begun, content_begun_whole, content_without_feed, length-before_feed}
 use Rattle.cluster_io.proofs.PhysicalLines.{content_within-append, content_within_none, continues_after, first_line_after, first_alone, first_ends, fronts, begun, physical_at_feed, physical_open, lines_more, Begun}
 use Rattle.crm_lex.proofs.PhysicalLines.{concat-lines}
 
@@ -163,6 +163,18 @@ module _ (done : List ℕ) (b : ℕ) (bs rest : List ℕ) (room longest : ℕ) (
       answer_some room longest (done ++ ((b ∷ bs) ++ rest)) (some_bytes done [] (bs ++ rest) b)
       ∙ answers_long room longest (first_line (done ++ ((b ∷ bs) ++ rest))) (omega (arith, w, open_content))
 
+  -- where they don't end in a carriage return, each of them counts
+  open_content_whole : ends_in 13 (b ∷ bs) ≡ false → length (b ∷ bs) ≤ length (content open_line)
+  unfolding open_begun open_line
+  open_content_whole return = content_begun_whole (b ∷ bs) open_begun.more none return
+
+  pub open_too_long_whole : ends_in 13 (b ∷ bs) ≡ false → length done + length (b ∷ bs) ≤ room
+      → longest < content_length (physical_lines done) + length (b ∷ bs) → answer_of room longest (done ++ ((b ∷ bs) ++ rest)) ≡ TooLong
+  open_too_long_whole return within h =
+      let w = within_is done ((b ∷ bs) ++ rest) (open_line ∷ open_others) room longest j open_follows (omega arith) in
+      answer_some room longest (done ++ ((b ∷ bs) ++ rest)) (some_bytes done [] (bs ++ rest) b)
+      ∙ answers_long room longest (first_line (done ++ ((b ∷ bs) ++ rest))) (omega (arith, w, open_content_whole return))
+
   pub open_too_large : content_length (physical_lines done) + length bs ≤ longest → length done + length bs ≡ room
       → answer_of room longest (done ++ ((b ∷ bs) ++ rest)) ≡ TooLarge
   open_too_large h k =
@@ -212,3 +224,26 @@ module _ (done : List ℕ) (b : ℕ) (bs : List ℕ) (room longest : ℕ) (j : J
       let both = length-append (b ∷ bs) [] in
       answer_some room longest (done ++ b ∷ bs) (some_bytes done [] bs b)
       ∙ answers_line room longest (first_line (done ++ b ∷ bs)) (omega (arith, last_within)) (omega (arith, l, both))
+
+-- what isn't too long within the room isn't answered so
+not_long : (room longest : ℕ) (lines : List (List ℕ)) → content_within room lines ≤ longest → line_answer room longest lines ≡ TooLong → ⊥
+not_long room longest lines h e =
+    by (nat_le (length (concat lines)) room)
+    (sym (cond-false (nat_lt longest (content_within room lines)) TooLong (cond (nat_le (length (concat lines)) room) Line TooLarge)
+    (le-ltb longest (content_within room lines) h)) ∙ e)
+  where
+    by : (t : Bool) → cond t Line TooLarge ≡ TooLong → ⊥
+    by true e = cc
+    by false e = cc
+
+-- bytes that aren't too long with what stands before their line feed aren't with a line feed behind them
+pub feed_not_long : (done text : List ℕ) (room longest : ℕ) → Joins done → has_feed text ≡ false → length done + length text ≤ room
+    → content_length (physical_lines done) + length (before_feed text) ≤ longest → answer_of room longest (done ++ (text ++ 10 ∷ [])) ≡ TooLong → ⊥
+feed_not_long done text room longest j none fits h e =
+    let line = text ++ 10 ∷ [] in
+    let follow : first_of (joined (continues_after false (physical_lines done)) (physical_lines line)) ≡ line ∷ []
+    = ap (λ lines. first_of (joined (continues_after false (physical_lines done)) lines)) (physical_at_feed text [] none)
+    ∙ first_alone (continues_after false (physical_lines done)) line in
+    let w = within_is done line (line ∷ []) room longest j follow (omega arith) in
+    let c : length (content line) ≡ length (before_feed text) = ap length (content_at_feed text) in
+    not_long room longest (first_line (done ++ line)) (omega (arith, w, c)) (sym (answer_some room longest (done ++ line) (some_bytes done text [] 10)) ∙ e)

@@ -4,15 +4,15 @@ use Rattle.std.proofs.Math.Seq.{take-add}
 use Rattle.std.proofs.lemmas.Bool.{and_parts, or_from}
 use Rattle.std.proofs.lemmas.List.Folds.{list_any-append}
 use Rattle.std.proofs.lemmas.List.{append-nil, length-append, length-take-le, length-drop, take-append-drop, take_more, take_all, take_rest, drop_more, drop-drop, get_or-drop}
-use Rattle.crm_lex.specs.RawLines.{physical_lines, joined, goes_on, content, ends_in_backslash, begins_comment}
-use Rattle.cluster_io.specs.NextLine.{has_feed, first_of, first_line, holds_line, answer_of}
+use Rattle.crm_lex.specs.RawLines.{physical_lines, joined, goes_on, content, ends_in, ends_in_backslash, begins_comment}
+use Rattle.cluster_io.specs.NextLine.{has_feed, first_of, first_line, holds_line, answer_of, IsUndecided}
 use Rattle.cluster_io.specs.Scanning.{Joins, content_length, before_feed, Looked, FeedAt, FeedIn, IsLine, IsOpen, IsLast}
 use Rattle.cluster_io.specs.declared.line_scan.Scan.{Scan}
 use Rattle.cluster_io.specs.declared.line_scan.Bounds.{Bounds}
 use Rattle.cluster_io.specs.declared.line_step.LineStep.TheVariants.{Line, TooLong, TooLarge}
-use Rattle.cluster_io.proofs.Texts.{content_at_feed, length-before_feed, ends_in_some}
+use Rattle.cluster_io.proofs.Texts.{content_at_feed, length-before_feed, before_feed_whole, ends_in_some}
 use Rattle.cluster_io.proofs.PhysicalLines.{continues_after, continues_by_length, lines_more, Joins-more, content_length-append, holds_line_after, open_not_whole, physical_open, first_line_after, first_alone}
-use Rattle.cluster_io.proofs.LineAnswers.{feed_too_long, feed_too_large, feed_first, feed_line, open_too_long, open_too_large, last_joined, last_too_long, last_line}
+use Rattle.cluster_io.proofs.LineAnswers.{feed_too_long, feed_too_large, feed_first, feed_line, open_too_long, open_too_long_whole, open_too_large, last_joined, last_too_long, last_line}
 
 -- a list at one of its elements, with a cut before it
 pub split_at : (xs : List ℕ) (i j b : ℕ) → i ≤ j → j < length xs → get_or xs j 0 ≡ b
@@ -156,14 +156,21 @@ module _ (bounds : Bounds) (held : List ℕ) (s : Scan) (feed : ℕ) (l : Looked
         }
 
 -- bytes that join, and a rest without a line feed
-rest_too_long : (done text rest : List ℕ) (room longest : ℕ) → Joins done → has_feed text ≡ false → length done + length text ≤ room + 1
+pub rest_too_long : (done text rest : List ℕ) (room longest : ℕ) → Joins done → has_feed text ≡ false → length done + length text ≤ room + 1
     → content_length (physical_lines done) ≤ longest → longest < content_length (physical_lines done) + length text - 1
     → answer_of room longest (done ++ (text ++ rest)) ≡ TooLong
 rest_too_long done [] rest room longest j none fits short h = absurd (omega arith)
 rest_too_long done (b ∷ bs) rest room longest j none fits short h =
     open_too_long done b bs rest room longest j none (omega arith) (omega arith)
 
-rest_too_large : (done text rest : List ℕ) (room longest : ℕ) → Joins done → has_feed text ≡ false → length done + length text ≡ room + 1
+rest_too_long_whole : (done text rest : List ℕ) (room longest : ℕ) → Joins done → has_feed text ≡ false → ends_in 13 text ≡ false
+    → length done + length text ≤ room → content_length (physical_lines done) ≤ longest → longest < content_length (physical_lines done) + length text
+    → answer_of room longest (done ++ (text ++ rest)) ≡ TooLong
+rest_too_long_whole done [] rest room longest j none return fits short h = absurd (omega arith)
+rest_too_long_whole done (b ∷ bs) rest room longest j none return fits short h =
+    open_too_long_whole done b bs rest room longest j none (omega arith) return fits h
+
+pub rest_too_large : (done text rest : List ℕ) (room longest : ℕ) → Joins done → has_feed text ≡ false → length done + length text ≡ room + 1
     → length done ≤ room → content_length (physical_lines done) + length text - 1 ≤ longest
     → answer_of room longest (done ++ (text ++ rest)) ≡ TooLarge
 rest_too_large done [] rest room longest j none fits some h = absurd (omega arith)
@@ -204,16 +211,16 @@ last_counted done (b ∷ bs) j none some =
     ∙ omega (arith, length-append (physical_lines done) ((b ∷ bs) ∷ [])))
 
 module _ (bounds : Bounds) (held : List ℕ) (s : Scan) (l : Looked bounds held s) (none : has_feed (drop s.line held) ≡ false) where
-  whole : take s.line held ++ drop s.line held ≡ held
+  pub whole : take s.line held ++ drop s.line held ≡ held
   whole = take-append-drop s.line held
 
-  whole_more : (rest : List ℕ) → held ++ rest ≡ take s.line held ++ (drop s.line held ++ rest)
+  pub whole_more : (rest : List ℕ) → held ++ rest ≡ take s.line held ++ (drop s.line held ++ rest)
   whole_more rest = ap (λ (t : List ℕ). t ++ rest) (sym whole) ∙ append_assoc (take s.line held) (drop s.line held) rest
 
-  before_length : length (take s.line held) ≡ s.line
+  pub before_length : length (take s.line held) ≡ s.line
   before_length = length-take-le s.line held (omega (arith, l.order, l.within))
 
-  rest_length : length (drop s.line held) ≡ length held - s.line
+  pub rest_length : length (drop s.line held) ≡ length held - s.line
   rest_length = length-drop s.line held
 
   pub at_rest_too_long : length held ≤ bounds.room + 1 → bounds.longest < s.content + (length held - s.line) - 1
@@ -224,6 +231,17 @@ module _ (bounds : Bounds) (held : List ℕ) (s : Scan) (l : Looked bounds held 
       (omega (arith, before_length, rest_length, l.order, l.within)) (omega (arith, l.content_counted, l.short))
       (omega (arith, rest_length, l.content_counted))
 
+  pub at_rest_too_long_whole : length held ≤ bounds.room → s.content + (length held - s.line) - 1 ≤ bounds.longest
+      → bounds.longest < s.content + length (before_feed (drop s.line held)) → (rest : List ℕ) → answer_of bounds.room bounds.longest (held ++ rest) ≡ TooLong
+  at_rest_too_long_whole k m h rest =
+      let text = drop s.line held in
+      let ends = length-before_feed text in
+      ap (answer_of bounds.room bounds.longest) (whole_more rest)
+      ∙ rest_too_long_whole (take s.line held) text rest bounds.room bounds.longest l.joins none
+      (before_feed_whole text (omega (arith, rest_length)))
+      (omega (arith, before_length, rest_length, l.order, l.within)) (omega (arith, l.content_counted, l.short))
+      (omega (arith, ends.0, l.content_counted))
+
   pub at_rest_too_large : length held ≤ bounds.room + 1 → s.content + (length held - s.line) - 1 ≤ bounds.longest → bounds.room < length held
       → (rest : List ℕ) → answer_of bounds.room bounds.longest (held ++ rest) ≡ TooLarge
   at_rest_too_large k h m rest =
@@ -232,9 +250,9 @@ module _ (bounds : Bounds) (held : List ℕ) (s : Scan) (l : Looked bounds held 
       (omega (arith, before_length, rest_length, l.order, l.within)) (omega (arith, before_length, l.in_room))
       (omega (arith, rest_length, l.content_counted))
 
-  pub at_rest_open : s.content + (length held - s.line) - 1 ≤ bounds.longest → length held ≤ bounds.room
+  pub at_rest_open : s.content + (length held - s.line) - 1 ≤ bounds.longest → length held ≤ bounds.room → IsUndecided bounds.room bounds.longest held
       → IsOpen bounds held record s { scanned = length held }
-  at_rest_open h k = record {
+  at_rest_open h k undecided = record {
     unfinished =
         ap holds_line (sym whole)
         ∙ (holds_line_after (take s.line held) (drop s.line held) l.joins
@@ -242,6 +260,7 @@ module _ (bounds : Bounds) (held : List ℕ) (s : Scan) (l : Looked bounds held 
     all_scanned = refl;
     in_room = k;
     short = omega arith;
+    undecided = undecided;
   }
 
   pub at_rest_looked : Looked bounds held record s { scanned = length held }
@@ -267,7 +286,7 @@ module _ (bounds : Bounds) (held : List ℕ) (s : Scan) (l : Looked bounds held 
       (omega (arith, before_length, rest_length, l.order, l.within)) (omega (arith, l.content_counted, l.short))
       (omega (arith, rest_length, l.content_counted))
 
-  at_end_line : length held ≤ bounds.room → 0 < length held → s.content + (length held - s.line) ≤ bounds.longest
+  pub at_end_line : length held ≤ bounds.room → 0 < length held → s.content + (length held - s.line) ≤ bounds.longest
       → answer_of bounds.room bounds.longest held ≡ Line
   at_end_line k some h =
       ap (answer_of bounds.room bounds.longest) (sym whole)

@@ -1,6 +1,6 @@
 -- What a physical line has before its line end, and whether it goes on.
-use Rattle.std.proofs.Common.{◌≡◌, ℕ, suc, ◌+◌, ◌-◌, ◌≤◌, ◌<◌, Bool, true, false, ◌==◌, ◌&&◌, ◌||◌, cond, List, [], ◌∷◌, ◌++◌, length, take, get_or, arith, refl, ap, sym, ◌∙◌}
-use Rattle.std.proofs.lemmas.Bool.{cond-false, cond_both, or_parts, and_right, both_ways}
+use Rattle.std.proofs.Common.{◌≡◌, ℕ, suc, ◌+◌, ◌-◌, ◌≤◌, ◌<◌, Bool, true, false, ◌==◌, ◌&&◌, ◌||◌, cond, List, [], ◌∷◌, ◌++◌, length, take, arith, refl, ap, sym, ◌∙◌}
+use Rattle.std.proofs.lemmas.Bool.{cond-true, cond-false, cond_both, or_parts, and_right, both_ways}
 use Rattle.std.proofs.lemmas.List.{length-take-le}
 use Rattle.crm_lex.specs.RawLines.{content, ends_in, is_line_end}
 use Rattle.cluster_io.specs.NextLine.{has_feed}
@@ -41,6 +41,23 @@ content_begun (b ∷ bs) more h =
     (λ e. omega (arith, line_end_begun b bs more h e))
     (λ _. omega (arith, content_begun bs more (or_parts (b == 10) (has_feed bs) h).1))
 
+starts_no_end : (b : ℕ) (more : List ℕ) → (b == 10) ≡ false → (b == 13) ≡ false → is_line_end (b ∷ more) ≡ false
+starts_no_end b [] feed return = feed
+starts_no_end b (m ∷ []) feed return = ap (λ t. t && m == 10) return
+starts_no_end b (m ∷ n ∷ more) feed return = refl
+
+-- where they don't end in a carriage return, all are content
+pub content_begun_whole : (text more : List ℕ) → has_feed text ≡ false → ends_in 13 text ≡ false → length text ≤ length (content (text ++ more))
+content_begun_whole [] more h return = omega arith
+content_begun_whole (b ∷ []) more h return =
+    cond_both (is_line_end (b ∷ more)) [] (b ∷ content more) (λ xs. length (b ∷ []) ≤ length xs)
+    (λ e. absurd (both_ways (is_line_end (b ∷ more)) (starts_no_end b more (or_parts (b == 10) false h).0 return) e))
+    (λ _. omega arith)
+content_begun_whole (b ∷ d ∷ bs) more h return =
+    cond_both (is_line_end (b ∷ d ∷ (bs ++ more))) [] (b ∷ content (d ∷ (bs ++ more))) (λ xs. length (b ∷ d ∷ bs) ≤ length xs)
+    (λ e. let none = line_end_begun b (d ∷ bs) more h e in absurd (omega (arith, none)))
+    (λ _. omega (arith, content_begun_whole (d ∷ bs) more (or_parts (b == 10) (has_feed (d ∷ bs)) h).1 return))
+
 -- bytes of which the last is a line feed, two at least before it, don't begin with a line end
 long_no_end : (b d : ℕ) (bs : List ℕ) → is_line_end (b ∷ d ∷ (bs ++ 10 ∷ [])) ≡ false
 long_no_end b d [] = refl
@@ -75,3 +92,15 @@ length-before_feed text =
     (λ _. let e : length (take (length text - 1) text) ≡ length text - 1 = length-take-le (length text - 1) text (omega arith) in
     (omega arith, omega arith))
     (λ _. (omega arith, omega arith))
+
+-- what is left out is a carriage return
+pub before_feed_whole : (text : List ℕ) → length text ≤ length (before_feed text) → ends_in 13 text ≡ false
+before_feed_whole text all = by (ends_in 13 text) refl
+  where
+    by : (t : Bool) → ends_in 13 text ≡ t → ends_in 13 text ≡ false
+    by false e = e
+    by true e =
+        let some = ends_in_some 13 text e in
+        let left : length (before_feed text) ≡ length text - 1
+        = ap length (cond-true (ends_in 13 text) (take (length text - 1) text) text e) ∙ length-take-le (length text - 1) text (omega arith) in
+        absurd (omega (arith, all, left, some))

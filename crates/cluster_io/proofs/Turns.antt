@@ -23,6 +23,15 @@ given_is_no_failure found.TooLong step old new g e = cc
 given_is_no_failure found.TooLarge step old new g e = cc
 given_is_no_failure found.More step old new g e = g
 
+line_is_no_failure : Line ≡ Failed → ⊥
+line_is_no_failure e = cc
+
+too_long_is_no_failure : TooLong ≡ Failed → ⊥
+too_long_is_no_failure e = cc
+
+too_large_is_no_failure : TooLarge ≡ Failed → ⊥
+too_large_is_no_failure e = cc
+
 -- the first bytes of what is held are handed out
 abbrev handed_out : Reading → ℕ → ℕ → Reading
 handed_out old count lines = record old {
@@ -58,6 +67,7 @@ settles_found (found.Line count lines) bounds scanned scan step old new before r
       ended = false;
       at_end = λ e. absurd (false≢true e);
       exact = λ _ rest _. sym (rw (room, longest) at (l.answer rest));
+      undecided = λ e. absurd (line_is_no_failure e);
       leaves = hands_out old count lines false l.within (omega (arith, l.beyond)) (omega (arith, l.in_room, room)) l.lines_counted (λ rest _. l.first rest);
     }))
 settles_found found.TooLong bounds scanned scan step old new before room longest f fresh g =
@@ -66,6 +76,7 @@ settles_found found.TooLong bounds scanned scan step old new before room longest
       ended = false;
       at_end = λ e. absurd (false≢true e);
       exact = λ _ rest _. sym (rw (room, longest) at (f rest));
+      undecided = λ e. absurd (too_long_is_no_failure e);
       leaves = g.1;
     })
 settles_found found.TooLarge bounds scanned scan step old new before room longest f fresh g =
@@ -74,6 +85,7 @@ settles_found found.TooLarge bounds scanned scan step old new before room longes
       ended = false;
       at_end = λ e. absurd (false≢true e);
       exact = λ _ rest _. sym (rw (room, longest) at (f rest));
+      undecided = λ e. absurd (too_large_is_no_failure e);
       leaves = g.1;
     })
 settles_found found.More bounds scanned scan step old new before room longest f fresh g = absurd g
@@ -93,6 +105,7 @@ settles_last (found.Line count lines) bounds step old new before after room long
       ended = true;
       at_end = λ _. rw same none;
       exact = λ _ rest end. sym (at_no_rest (answer_of old.room old.longest) old.held rest (end refl) ∙ (rw (room, longest) at l.answer));
+      undecided = λ e. absurd (line_is_no_failure e);
       leaves = hands_out old count lines true (omega (arith, l.whole)) (omega (arith, l.whole)) (omega (arith, l.whole))
           (l.lines_counted ∙ ap (λ (t : List ℕ). length (physical_lines t)) (sym all))
           (λ rest end. at_no_rest first_line old.held rest (end refl) ∙ (l.first ∙ ap physical_lines (sym all)));
@@ -103,6 +116,7 @@ settles_last found.TooLong bounds step old new before after room longest fits f 
       ended = true;
       at_end = λ _. rw same none;
       exact = λ _ rest end. sym (at_no_rest (answer_of old.room old.longest) old.held rest (end refl) ∙ (rw (room, longest) at f));
+      undecided = λ e. absurd (too_long_is_no_failure e);
       leaves = g.1;
     })
 settles_last found.TooLarge bounds step old new before after room longest fits f g same none = absurd f
@@ -161,6 +175,7 @@ Sofar-settled step old now new before between after s r =
       ended = q.ended;
       at_end = q.at_end;
       exact = q.exact;
+      undecided = q.undecided;
       leaves = leaves_of step (record old { held = old.held ++ s.bytes; raw = [] }) new q.ended old.raw q.leaves;
     }
 

@@ -1,7 +1,7 @@
 -- What holds of the lines that a reader holds at every moment, and what one turn of it does. No public clause cites this module.
 use Rattle.std.specs.Prelude.{◌≡◌, ◌≢◌, ℕ, ◌+◌, ◌-◌, ◌*◌, ◌^◌, ◌≤◌, ◌<◌, min, Bool, true, false, Option, Some, None, List, [], ◌++◌, length, take, drop, IfSome}
 use Rattle.cluster_io.specs.Streams.{Takes}
-use Rattle.cluster_io.specs.NextLine.{answer_of, holds_line}
+use Rattle.cluster_io.specs.NextLine.{answer_of, holds_line, IsUndecided}
 use Rattle.cluster_io.specs.Scanning.{Looked}
 use Rattle.cluster_io.specs.Windows.{Pane}
 use Rattle.cluster_io.specs.Readings.{Reading, Leaves, CameBy}
@@ -68,6 +68,7 @@ pub record Settles (step : LineStep) (old new : Reading) (before after : Option 
   pub ended : Bool
   pub at_end : ended ≡ true → IfSome after (λ left. left ≡ [])
   pub exact : step ≢ Failed → (rest : List ℕ) → (ended ≡ true → rest ≡ []) → step ≡ answer_of old.room old.longest (old.held ++ rest)
+  pub undecided : step ≡ Failed → IsUndecided old.room old.longest old.held
   pub leaves : Leaves step old new ended
 
 -- what one turn did

@@ -1,5 +1,5 @@
 -- The next line of a source, and what a reader of lines answers (crmsh manual, continuation lines and comments; the bounds are a rule of this project).
-use Rattle.std.specs.Prelude.{ℕ, ◌+◌, ◌-◌, nat_lt, nat_le, ◌==◌, min, Bool, false, true, if◌then◌else◌, List, [], ◌∷◌, length}
+use Rattle.std.specs.Prelude.{◌≡◌, ℕ, ◌+◌, ◌-◌, nat_lt, nat_le, ◌==◌, min, Bool, false, true, if◌then◌else◌, List, [], ◌∷◌, ◌++◌, length}
 use Rattle.std.specs.List.{concat, list_any}
 use Rattle.crm_lex.specs.RawLines.{physical_lines, content, goes_on, raw_lines}
 use Rattle.cluster_io.specs.declared.line_step.LineStep.{LineStep}
@@ -29,6 +29,10 @@ line_answer room longest lines =
 abbrev pub answer_of : ℕ → ℕ → List ℕ → LineStep
 answer_of room longest [] = End
 answer_of room longest (b ∷ bs) = line_answer room longest (first_line (b ∷ bs))
+
+-- these bytes give no answer yet: there is none that all bytes to follow leave as it is
+abbrev pub IsUndecided : ℕ → ℕ → List ℕ → Type 0
+IsUndecided room longest held = (step : LineStep) → ((rest : List ℕ) → answer_of room longest (held ++ rest) ≡ step) → ⊥
 
 -- a byte is a line feed
 abbrev pub has_feed : List ℕ → Bool

@@ -2,7 +2,7 @@
 use Rattle.std.specs.Prelude.{◌≡◌, ◌≢◌, ℕ, ◌+◌, ◌-◌, ◌≤◌, ◌<◌, Bool, true, false, Option, Some, List, [], ◌++◌, length, IfSome}
 use Rattle.crm_lex.specs.RawLines.{physical_lines}
 use Rattle.cluster_io.specs.Streams.{Takes}
-use Rattle.cluster_io.specs.NextLine.{answer_of, first_line, holds_line}
+use Rattle.cluster_io.specs.NextLine.{answer_of, first_line, holds_line, IsUndecided}
 use Rattle.cluster_io.specs.declared.line_step.LineStep.{LineStep}
 use Rattle.cluster_io.specs.declared.line_step.LineStep.TheVariants.{Line, End, Failed}
 
@@ -45,7 +45,8 @@ pub data CameBy (held : List ℕ) : List ℕ → Type 0 where
   more_came : (earlier last bytes : List ℕ) → CameBy held earlier → holds_line (held ++ earlier) ≡ false → 0 < length last → length last ≤ 4096
       → bytes ≡ earlier ++ last → CameBy held bytes
 
--- an answer: the bytes that were taken from the source, whether it has ended, and the answer to what is held then, whatever follows
+-- an answer: the bytes that were taken from the source, whether it has ended, and the answer to what is held then, whatever follows. Where the source
+-- failed, what is held then gives no answer yet
 pub record Answered (step : LineStep) (old new : Reading) (before after : Option (List ℕ)) : Type 0 where
   pub bytes : List ℕ
   pub taken : Takes before bytes after
@@ -54,6 +55,7 @@ pub record Answered (step : LineStep) (old new : Reading) (before after : Option
   pub at_end : ended ≡ true → IfSome after (λ left. left ≡ [])
   pub exact : step ≢ Failed → (rest : List ℕ) → (ended ≡ true → rest ≡ [])
       → step ≡ answer_of old.room old.longest ((old.held ++ bytes) ++ rest)
+  pub undecided : step ≡ Failed → IsUndecided old.room old.longest (old.held ++ bytes)
   pub leaves : Leaves step (record old { held = old.held ++ bytes }) new ended
 
 -- where the source tells its bytes, the answer is that of all bytes to come

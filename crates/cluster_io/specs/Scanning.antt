@@ -1,7 +1,7 @@
 -- How far a reader of lines has looked through what it holds. No public clause cites this module.
-use Rattle.std.specs.Prelude.{◌≡◌, ℕ, ◌+◌, ◌-◌, ◌*◌, ◌≤◌, ◌<◌, ◌==◌, ◌&&◌, Bool, false, true, if◌then◌else◌, List, [], ◌∷◌, ◌++◌, length, take, slice_range, slice_index}
+use Rattle.std.specs.Prelude.{◌≡◌, ℕ, ◌+◌, ◌-◌, ◌*◌, ◌≤◌, ◌<◌, ◌&&◌, Bool, false, true, if◌then◌else◌, List, [], ◌∷◌, ◌++◌, length, take, slice_range, slice_index}
 use Rattle.crm_lex.specs.RawLines.{physical_lines, content, ends_in, goes_on}
-use Rattle.cluster_io.specs.NextLine.{answer_of, first_line, has_feed, holds_line}
+use Rattle.cluster_io.specs.NextLine.{answer_of, first_line, has_feed, holds_line, IsUndecided}
 use Rattle.cluster_io.specs.declared.line_scan.Scan.{Scan}
 use Rattle.cluster_io.specs.declared.line_scan.Bounds.{Bounds}
 use Rattle.cluster_io.specs.declared.line_scan.Found.{Found}
@@ -64,12 +64,13 @@ pub record IsLine (bounds : Bounds) (held : List ℕ) (scanned count lines : ℕ
   pub first : (rest : List ℕ) → first_line (held ++ rest) ≡ physical_lines (take count held)
   pub answer : (rest : List ℕ) → answer_of bounds.room bounds.longest (held ++ rest) ≡ step.Line
 
--- what is held has no whole logical line, and the line may still be handed out
+-- what is held has no whole logical line, and gives no answer yet
 pub record IsOpen (bounds : Bounds) (held : List ℕ) (s : Scan) : Type 0 where
   pub unfinished : holds_line held ≡ false
   pub all_scanned : s.scanned ≡ length held
   pub in_room : length held ≤ bounds.room
   pub short : s.content + (length held - s.line) ≤ bounds.longest + 1
+  pub undecided : IsUndecided bounds.room bounds.longest held
 
 -- what was found in what is held, of which all before `scanned` was looked at before
 abbrev pub Finds : Found → Bounds → List ℕ → ℕ → Scan → Type 0

@@ -77,7 +77,7 @@ impl<'s, S: Source> LineReader<'s, S> {
     ///   Each further call answers the same.
     /// - `TooLarge`: the line goes past the limit, and isn't too long within it. Each further call
     ///   answers the same.
-    /// - `Failed`: the source failed. What was taken is still held, and a further call goes on.
+    /// - `Failed`: the source failed. What was taken is still held and gives no answer yet, and a further call goes on.
     #[tactic(auto, using(crate::proofs::Turns::turns))]
     pub fn line(&mut self) -> LineStep
         ensures answered { (reading_of self.old).stop ≡ None →

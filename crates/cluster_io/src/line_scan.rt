@@ -139,12 +139,16 @@ fn rest_of(held: &[u8], scan: Scan, bounds: Bounds) -> (Scan, Found)
     ensures further { scan.scanned ≤ result.0.scanned }
     ensures found { Finds result.1 bounds held.now scan.scanned result.0 }
 {
-    let rest = held.len() - scan.line;
-    if (scan.content + rest).saturating_sub(1) > bounds.longest {
+    let rest = &held[scan.line..];
+    if (scan.content + rest.len()).saturating_sub(1) > bounds.longest {
         return (scan, Found::TooLong);
     }
     if held.len() > bounds.room {
         return (scan, Found::TooLarge);
+    }
+    // A carriage return may begin a line end; each other byte is of the line.
+    if scan.content + before_end(rest).len() > bounds.longest {
+        return (scan, Found::TooLong);
     }
     let scanned = held.len();
     (Scan { scanned, ..scan }, Found::More)

@@ -1,5 +1,8 @@
-use Rattle.std.proofs.Common.{◌≡◌, ℕ, ◌≤◌, List, [], length, arith, sym, ap, subst, refl, ◌∙◌}
+use Rattle.std.proofs.Common.{◌≡◌, ℕ, ◌≤◌, false, List, [], length, arith, sym, ap, subst, refl, ◌∙◌}
+use Rattle.std.proofs.lemmas.Bool.{false≢true}
+use Rattle.cluster_io.specs.NextLine.{holds_line, IsUndecided}
 use Rattle.cluster_io.specs.Readings.{Reading}
+use Rattle.cluster_io.specs.declared.line_step.LineStep.TheVariants.{Failed}
 use Rattle.cluster_io.specs.Scanning.{Finds, FindsLast}
 use Rattle.cluster_io.specs.HeldLines.{Settles}
 use Rattle.cluster_io.proofs.Turns.{settles_found, settles_last, same_reading, given_is_no_failure}
@@ -47,3 +50,34 @@ returns-in-End-2-clause-turned g c =
     (same_reading seen c.read_from.new.self.held c.read_from.new.self.handed ended.0 (c.read_from.ensures.handed ∙ sym empty) ∙ c.self.view_is)
     (settles_last c.last_line-last.result h.bounds c.give-in-End-2.result _ c.give-in-End-2.new.self _ _ refl refl fits
     last c.give-in-End-2.ensures ended.1 ended.2)
+
+pub returns-in-Failed-clause-turned : goal.returns-in-Failed-clause-turned
+returns-in-Failed-clause-turned g c =
+    let h = c.self.inside in
+    let seen : Reading = record {
+      held = h.window.held;
+      raw = h.window.handed;
+      number = h.number;
+      next = h.next;
+      room = h.bounds.room;
+      longest = h.bounds.longest;
+      stop = h.stop;
+    } in
+    let received = c.in-Failed.ensures.received in
+    let open_line =
+    subst (λ f. Finds f h.bounds c.held.result.now h.scan.scanned c.look-found.result.0) c.in-More.is
+    c.look-found.ensures.found in
+    subst (λ (o : Reading). Settles Failed o
+    (record seen { held = c.read_from.new.self.held; raw = c.read_from.new.self.handed }) (g.S.Source.left c.args.src.now) (g.S.Source.left c.read_from.new.src))
+    c.self.view_is
+    (record {
+      unread = received.1;
+      ended = false;
+      at_end = λ e. absurd (false≢true e);
+      exact = λ fails. absurd (fails refl);
+      undecided = λ _. subst (λ (t : List ℕ). IsUndecided h.bounds.room h.bounds.longest t) c.held.ensures open_line.undecided;
+      leaves = (
+        same_reading (record seen { raw = [] }) c.read_from.new.self.held c.read_from.new.self.handed received.0 c.read_from.ensures.handed,
+        ap holds_line (sym c.held.ensures) ∙ open_line.unfinished,
+      );
+    })
