@@ -38,6 +38,13 @@ pub struct NotBegun<'c> {
     pub graph: Graph,
 }
 
+/// What a transition leaves: the whole journal, with what it tells, and the graph that was carried out.
+#[derive(Drop)]
+pub struct Parts<'c> {
+    pub journal: KnownJournal<'c>,
+    pub graph: Graph,
+}
+
 impl<'c> Course<'c> {
     /// Nothing has begun.
     pub fn new(
@@ -120,5 +127,16 @@ impl<'c> Course<'c> {
         ensures { result ≡ record { cluster = self.entry.cluster; events = self.entry.planned_at ++ self.entry.since; promotions = self.entry.promotions } }
     {
         self.log.into_known()
+    }
+
+    /// The same, with the graph.
+    pub fn into_parts(self) -> Parts<'c>
+        ensures journal { result.journal ≡ record { cluster = self.entry.cluster; events = self.entry.planned_at ++ self.entry.since; promotions = self.entry.promotions } }
+        ensures graph { result.graph ≡ self.entry.graph }
+    {
+        Parts {
+            journal: self.log.into_known(),
+            graph: self.flight.into_graph(),
+        }
     }
 }

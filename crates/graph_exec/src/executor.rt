@@ -10,7 +10,7 @@ ghost use Rattle.graph_exec.specs.Promises.{KeepsPromises};
 ghost use Rattle.graph_exec.specs.Running.{BeginsNow, EndedSilently, IsRefused, IsSettled, IsUnderWay, Took, going};
 ghost use Rattle.graph_exec.specs.Transitions.{EndsAs, HasGoneToEnd};
 
-use crate::course::{Course, NotBegun};
+use crate::course::{Course, NotBegun, Parts};
 use crate::ends::WatchedEnd;
 use crate::flight::InFlight;
 use crate::known_journal::KnownJournal;
@@ -166,5 +166,13 @@ impl<'c> Executor<'c> {
         ensures { result ≡ record { cluster = self.entry.cluster; events = self.entry.planned_at ++ self.entry.since; promotions = self.entry.promotions } }
     {
         self.course.into_known()
+    }
+
+    /// The same, with the graph, so that it can be carried out again. It takes no memory.
+    pub fn into_parts(self) -> Parts<'c>
+        ensures journal { result.journal ≡ record { cluster = self.entry.cluster; events = self.entry.planned_at ++ self.entry.since; promotions = self.entry.promotions } }
+        ensures graph { result.graph ≡ self.entry.graph }
+    {
+        self.course.into_parts()
     }
 }

@@ -130,4 +130,11 @@ impl InFlight {
             self.waiting.succeed(number);
         }
     }
+
+    /// The graph of the transition. It takes no memory.
+    pub(crate) fn into_graph(self) -> Graph
+        ensures { result ≡ self.progress.graph }
+    {
+        self.waiting.into_graph()
+    }
 }

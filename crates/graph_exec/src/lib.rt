@@ -28,7 +28,7 @@ mod ends;
 mod rounds;
 mod transition;
 
-pub use course::NotBegun;
+pub use course::{NotBegun, Parts};
 pub use ends::{End, WatchedEnd};
 pub use executor::{Executor, NotMade};
 pub use failing::Failing;

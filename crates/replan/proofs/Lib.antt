@@ -2,6 +2,7 @@ pub mod Joined
 pub mod Named
 pub mod Steps
 pub mod Ready
+pub mod Served
 pub mod Closings
 pub mod Coming
 pub mod Quiet

@@ -18,7 +18,7 @@ use Rattle.run_laws.proofs.SoFar.{runs_once}
 use Rattle.replan.specs.declared.ending.RunEnd.{RunEnd}
 use Rattle.replan.specs.declared.ending.RunEnd.TheVariants as run
 use Rattle.replan.specs.Keeping.{EndsWithCause, HasFailed, IsAnswered, IsRefused, IsSilent, IsUnanswered, watched_end}
-use Rattle.replan.specs.Replays.{Setting, HasCause, HasHeard, setting, sight}
+use Rattle.replan.specs.Replays.{Setting, HasCause, setting, sight}
 use Rattle.replan.specs.Turns.{Came, CameTo, EndsAs, EndsBroken, EndsCut, EndsStopped, EndsWhole, plain_of}
 use Rattle.replan.proofs.Joined.{came_step, said_none}
 
@@ -125,13 +125,6 @@ cause_watched f f' v v' (run.Whole journal) h = tt
 cause_watched f f' v v' (run.Unexpected journal given) h = tt
 cause_watched f f' v v' (run.SourceFault journal) h = h
 cause_watched f f' v v' run.NoMemory h = tt
-
--- a watcher that isn't told how a run ends has gone on each time
-pub unheard : (Follows Stopped : Type 0) (end : RunEnd) → Follows → HasHeard Follows Stopped (watched_end end)
-unheard Follows Stopped (run.Whole journal) h = h
-unheard Follows Stopped (run.Unexpected journal given) h = h
-unheard Follows Stopped (run.SourceFault journal) h = h
-unheard Follows Stopped run.NoMemory h = h
 
 -- what came of the question, put together
 module _ (whole : Bool) (j : JournalOf) (rest left : Option (List Answer)) where

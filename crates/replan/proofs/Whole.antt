@@ -1,6 +1,6 @@
 -- A run from its beginning, by how it ended.
 use Rattle.std.proofs.Common.{◌≡◌, ◌≤◌, ℕ, ◌+◌, Bool, false, List, [], ◌++◌, refl, sym, ap, subst}
-use Rattle.std.specs.Prelude.{Option, Result, Ok, Err, IfOk, IfErr}
+use Rattle.std.specs.Prelude.{Option, Result, Ok, Err}
 use Rattle.cluster_types.specs.declared.cluster.Cluster.{Cluster}
 use Rattle.cluster_types.specs.declared.journal.Answer.{Answer}
 use Rattle.cluster_types.specs.declared.journal.Event.{Event}
@@ -134,12 +134,3 @@ starts c promotions whole steady names es a j is = record {
   came = subst (λ (x : List Event). Came (setting c promotions whole steady names) (due 1 es) a a (due 1 x)) (sym (ap (λ (x : JournalOf). x.events) is))
       (came_nowhere (setting c promotions whole steady names) (due 1 es) a);
 }
-
--- what follows of a result, follows of what it holds
-pub ok_then : {A B : Type 0} {P Q : A → Type 0} (r : Result A B) → ((a : A) → P a → Q a) → IfOk r P → IfOk r Q
-ok_then (Ok a) f h = f a h
-ok_then (Err b) f h = h
-
-pub err_then : {A B : Type 0} {P Q : B → Type 0} (r : Result A B) → ((b : B) → P b → Q b) → IfErr r P → IfErr r Q
-err_then (Ok a) f h = h
-err_then (Err b) f h = f b h

@@ -14,6 +14,8 @@ use Rattle.cluster_types.specs.Sources.{Says}
 use Rattle.cluster_types.specs.Texts.{all_passed_lines}
 use Rattle.graph_exec.specs.declared.ends.End.{End}
 use Rattle.graph_exec.specs.declared.ends.End.TheVariants as end
+use Rattle.graph_exec.specs.declared.outcomes.Next.{Next}
+use Rattle.graph_exec.specs.declared.outcomes.Next.TheVariants as next
 use Rattle.graph_exec.specs.Logs.{JournalOf}
 use Rattle.graph_exec.specs.Resting.{IsRefusedResting, TookResting}
 use Rattle.replan.specs.declared.ending.RunEnd.{RunEnd}
@@ -60,6 +62,13 @@ pub record StaysOf (j later : JournalOf) : Type 0 where
 abbrev pub EndsWithCause : ℕ → ℕ → RunEnd → Type 0
 EndsWithCause faults faults_now (run.SourceFault journal) = Rose faults faults_now
 EndsWithCause faults faults_now _ = Unit {0}
+
+-- what the source said last
+abbrev pub EndsCome : (Next → Type 0) → RunEnd → Type 0
+EndsCome Said (run.Whole journal) = Said next.Silent
+EndsCome Said (run.Unexpected journal given) = Said (next.Answer given)
+EndsCome Said (run.SourceFault journal) = Said next.Failed
+EndsCome Said run.NoMemory = Unit {0}
 
 -- what comes of a question while nothing is to be done
 module _ (whole : Bool) (j : JournalOf) (rest left : Option (List Answer)) where

@@ -17,6 +17,8 @@ use Rattle.cluster_types.specs.Plans.{IsPlan, transition_of}
 use Rattle.cluster_types.specs.Runs.{IsCutRun, IsRunSoFar, IsRunUpTo, IsWholeRun}
 use Rattle.cluster_types.specs.Steps.{Transition, HasEnded, IsWaiting, has_aborted}
 use Rattle.cluster_types.specs.Texts.{Fits, between, run_lines}
+use Rattle.graph_exec.specs.declared.outcomes.Next.{Next}
+use Rattle.graph_exec.specs.declared.outcomes.Next.TheVariants as next
 use Rattle.replan.specs.declared.stop.ReplayEnd.{ReplayEnd}
 use Rattle.replan.specs.declared.stop.ReplayEnd.TheVariants as end
 
@@ -84,3 +86,11 @@ FailsWithCause faults faults_now _ = Unit {0}
 abbrev pub IsExpectedRun : Result Run ReplayEnd → Type 0
 IsExpectedRun (Err (end.Unexpected run given)) = ⊥
 IsExpectedRun _ = Unit {0}
+
+-- what the source has come to, by how the run ended: nothing more, an answer that doesn't apply or a failure was said last; else no question failed
+abbrev pub RunHasCome : Type 0 → (Next → Type 0) → Result Run ReplayEnd → Type 0
+RunHasCome Follows Said (Ok run) = Said next.Silent
+RunHasCome Follows Said (Err (end.Unexpected run given)) = Said (next.Answer given)
+RunHasCome Follows Said (Err (end.SourceFault run)) = Said next.Failed
+RunHasCome Follows Said (Err (end.Most run)) = Follows
+RunHasCome Follows Said (Err end.NoMemory) = Unit {0}

@@ -1,16 +1,21 @@
 -- One transition of a replay, and what comes right after it. No public clause cites this module (rule of this project).
 use Rattle.std.specs.Prelude.{◌≡◌, ℕ, ◌+◌, Bool, true, false, Option, Some, Result, Ok, Err, List, [], ◌++◌}
 use Rattle.cluster_io.specs.Streams.{Adds, AddsPrefix}
+use Rattle.cluster_types.specs.declared.cluster.Cluster.{Cluster}
 use Rattle.cluster_types.specs.declared.journal.Answer.{Answer}
 use Rattle.cluster_types.specs.declared.journal.Event.{Event}
 use Rattle.cluster_types.specs.declared.journal.Journal.{Journal}
+use Rattle.cluster_types.specs.declared.journal.Promotion.{Promotion}
 use Rattle.cluster_types.specs.declared.placement.Placed.{Placed}
 use Rattle.cluster_types.specs.declared.run.RunLine.{RunLine}
 use Rattle.cluster_types.specs.Runs.{Standing, due, idle, Runs, RunsOn, IsAsking, IsBetween, IsCut, IsOver, journal_at}
+use Rattle.cluster_types.specs.Plans.{CarriesOut}
+use Rattle.cluster_types.specs.Unpacked.{states_of}
 use Rattle.graph_exec.specs.Logs.{JournalOf}
 use Rattle.graph_exec.specs.Promises.{IsPlanned}
 use Rattle.graph_exec.specs.Running.{Running}
 use Rattle.graph_exec.specs.Telling.{ReasonsHaveNames, text_of}
+use Rattle.replan.specs.declared.planning.KeptPlan.{KeptPlan}
 use Rattle.replan.specs.declared.planning.Planned.{Planned}
 use Rattle.replan.specs.declared.stop.ReplayStop.{ReplayStop}
 use Rattle.replan.specs.declared.stop.ReplayStop.TheVariants as stop
@@ -117,6 +122,15 @@ pub record IsReady (journal : JournalOf) (p : Planned) : Type 0 where
   }
   pub plan : IsPlanned p.executor p.placed
   pub names : ReasonsHaveNames p.placed
+
+-- for each journal that tells the states that a plan was made for, its graph carries it out
+abbrev pub Serves : Cluster → KeptPlan → Type 0
+Serves c plan =
+    (es : List Event) (promotions : List Promotion) → plan.states ≡ states_of c es promotions → CarriesOut c es promotions plan.placed plan.graph
+
+-- a plan that is being carried out serves again
+abbrev pub ServesAgain : Cluster → Planned → Type 0
+ServesAgain c p = Serves c (record { states = p.states; placed = p.placed; graph = p.executor.graph })
 
 -- its graph carries out a plan
 pub record HasPlan (r : Running) : Type 0 where

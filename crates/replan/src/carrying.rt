@@ -8,13 +8,17 @@ ghost use Rattle.replan.specs.Replays.{AgreesWith, HasCause, HasCome, HasHeard, 
 ghost use Rattle.replan.specs.Turns.{CameTo, EndsAs, HasPlan, closed_at};
 
 use crate::stop::{Ended, ReplayStop};
-use graph_exec::{Executor, Heard, KnownJournal, Outcomes, WatchedEnd, Watcher, run_watched};
+use cluster_types::Graph;
+use graph_exec::{
+    Executor, Heard, KnownJournal, Outcomes, Parts, WatchedEnd, Watcher, run_watched,
+};
 
-/// The journal that a transition left, and whether it is complete. Else it was aborted.
+/// The journal that a transition left, its graph, and whether it is complete. Else it was aborted.
 #[derive(Drop)]
 pub(crate) struct Closed<'c> {
     pub complete: bool,
     pub journal: KnownJournal<'c>,
+    pub graph: Graph,
 }
 
 /// Carries the transition of this number in the run out to its end, and tells the watcher how it ended; or says how the run
@@ -35,6 +39,7 @@ pub(crate) fn carry_out<'c, S: Outcomes, V: Watcher>(
         (sight (S.rest outcomes.new) (S.over outcomes.new) (V.told watcher.new))
         (closed_at number closed.complete) closed.journal) }
     ensures at_rest { IfOk result (λ closed. IsAtRest closed.journal.events) }
+    ensures graph { IfOk result (λ closed. closed.graph ≡ executor.entry.graph) }
     ensures ends { IfErr result (EndsAs
         (setting executor.entry.cluster executor.entry.promotions (S.whole outcomes.old) (S.steady outcomes.old) (V.names watcher.old))
         (amid number (going executor.entry) [])
@@ -62,17 +67,25 @@ pub(crate) fn carry_out<'c, S: Outcomes, V: Watcher>(
 {
     match run_watched(&mut executor, outcomes, watcher) {
         WatchedEnd::Complete => match watcher.closed(number, true) {
-            Heard::Go => Ok(Closed {
-                complete: true,
-                journal: executor.into_known(),
-            }),
+            Heard::Go => {
+                let Parts { journal, graph } = executor.into_parts();
+                Ok(Closed {
+                    complete: true,
+                    journal,
+                    graph,
+                })
+            }
             Heard::Stop => Err(Err(ReplayStop::Stopped(executor.into_journal()))),
         },
         WatchedEnd::Aborted(_) => match watcher.closed(number, false) {
-            Heard::Go => Ok(Closed {
-                complete: false,
-                journal: executor.into_known(),
-            }),
+            Heard::Go => {
+                let Parts { journal, graph } = executor.into_parts();
+                Ok(Closed {
+                    complete: false,
+                    journal,
+                    graph,
+                })
+            }
             Heard::Stop => Err(Err(ReplayStop::Stopped(executor.into_journal()))),
         },
         WatchedEnd::Unexpected(answer) => {

@@ -1,11 +1,11 @@
 //! A transition of a run that is kept, and what comes right after it.
 
-ghost use Rattle.std.specs.Prelude.{◌≡◌, ◌≤◌, ◌+◌, ℕ, true, None, Option, List, length, IfOk, IfErr, IfSome};
+ghost use Rattle.std.specs.Prelude.{◌≡◌, ◌≤◌, ◌+◌, ℕ, true, None, Option, List, length, IfOk, IfErr, IfSome, OnOk};
 ghost use Rattle.cluster_types.specs.declared.journal.Answer.{Answer as AnswerOf};
 ghost use Rattle.cluster_types.specs.declared.journal.Event.{Event as EventOf};
 ghost use Rattle.cluster_types.specs.Safety.{IsAtRest};
 ghost use Rattle.cluster_types.specs.Valid.{IsValid};
-ghost use Rattle.replan.specs.Keeping.{EndsWithCause, KeepsEnd, KeepsTo, StaysOf, passed_end, watched_end};
+ghost use Rattle.replan.specs.Keeping.{EndsCome, EndsWithCause, KeepsEnd, KeepsTo, StaysOf, passed_end, watched_end};
 ghost use Rattle.replan.specs.Replays.{AgreesWith, IsExpected, OfJournal, setting};
 
 use crate::ending::RunEnd;
@@ -90,9 +90,11 @@ pub(crate) fn keep_transition<'c, S: Outcomes>(
     ensures careful { S.careful outcomes.new ≡ S.careful outcomes.old }
     ensures steady { S.steady outcomes.new ≡ S.steady outcomes.old }
     ensures over { S.steady outcomes.old ≡ true → S.over outcomes.old ≡ true → S.over outcomes.new ≡ true }
+    ensures source_follows { OnOk result (S.follows outcomes.old outcomes.new) }
+    ensures source_came { IfErr result (EndsCome (S.said outcomes.old outcomes.new)) }
 {
     let begins_at = journal.count();
-    let Ok(planned) = plan_next(alloc, journal) else {
+    let Ok(planned) = plan_next(alloc, journal, None) else {
         return Err(RunEnd::NoMemory);
     };
     let mut executor = planned.executor;

@@ -4,7 +4,7 @@ ghost use Rattle.std.specs.Prelude.{◌≡◌, ◌<◌, ◌≤◌, ◌^◌, true
 ghost use Rattle.cluster_types.specs.Journals.{moment_of};
 ghost use Rattle.cluster_types.specs.Safety.{IsAtRest, IsSafeRun};
 ghost use Rattle.cluster_types.specs.Valid.{IsValid};
-ghost use Rattle.replan.specs.Kept.{FailsWithCause, IsExpectedRun, KeepsAs, KeepsPlans, OfRun};
+ghost use Rattle.replan.specs.Kept.{FailsWithCause, IsExpectedRun, KeepsAs, KeepsPlans, OfRun, RunHasCome};
 ghost use Rattle.replan.specs.Replays.{AgreesWith, IsKept};
 
 use crate::keeping::keep_transition;
@@ -49,6 +49,7 @@ pub fn replay<S: Outcomes>(
     ensures careful { S.careful outcomes.new ≡ S.careful outcomes.old }
     ensures steady { S.steady outcomes.new ≡ S.steady outcomes.old }
     ensures over { S.steady outcomes.old ≡ true → S.over outcomes.old ≡ true → S.over outcomes.new ≡ true }
+    ensures source_follows { RunHasCome (S.follows outcomes.old outcomes.new) (S.said outcomes.old outcomes.new) result }
     ensures agrees { S.agrees outcomes.old cluster.now journal.events 0
         → OfRun (λ run. AgreesWith (S.agrees outcomes.new) cluster.now run.journal) result }
     ensures fitting { S.careful outcomes.old ≡ true → S.agrees outcomes.old cluster.now journal.events 0 → IsExpectedRun result }

@@ -10,6 +10,7 @@ mod stop;
 mod carrying;
 mod idling;
 mod planning;
+mod same_states;
 mod turning;
 
 // A run that is told as it goes.

@@ -1,37 +1,47 @@
 //! One transition of a run, from its plan to where the next is due.
 
-ghost use Rattle.std.specs.Prelude.{◌≡◌, ◌≤◌, ◌+◌, true, IfOk, IfErr, OnOk};
+ghost use Rattle.std.specs.Prelude.{◌≡◌, ◌≤◌, ◌+◌, true, IfOk, IfErr, IfSome, OnOk};
 ghost use Rattle.cluster_types.specs.Runs.{due};
 ghost use Rattle.cluster_types.specs.Safety.{IsAtRest};
 ghost use Rattle.cluster_types.specs.Valid.{IsValid};
 ghost use Rattle.replan.specs.Replays.{AgreesWith, HasCause, HasCome, HasHeard, IsExpected, OfJournal, WritesNamesOf, setting, sight};
-ghost use Rattle.replan.specs.Turns.{CameTo, EndsAs};
+ghost use Rattle.replan.specs.Turns.{CameTo, EndsAs, Serves};
 
 use crate::carrying::carry_out;
 use crate::idling::take_idle;
-use crate::planning::plan_next;
+use crate::planning::{KeptPlan, plan_next};
 use crate::stop::{Ended, ReplayStop};
 use graph_exec::{Heard, KnownJournal, Outcomes, Watcher};
 use std::alloc::Global;
 
+/// The journal for which the next transition is due, and the last plan.
+#[derive(Drop)]
+pub(crate) struct Turn<'c> {
+    pub journal: KnownJournal<'c>,
+    pub plan: KeptPlan,
+}
+
 /// Makes the transition of this number in the run: plans it, carries it out, and, where it is complete, takes the answer
-/// that comes then. Gives the journal for which the next is due, or says how the run ends.
+/// that comes then. Gives the journal for which the next is due, with the plan, or says how the run ends.
 pub(crate) fn make_transition<'c, S: Outcomes, V: Watcher>(
     alloc: Global,
     journal: KnownJournal<'c>,
+    last: Option<KeptPlan>,
     outcomes: &mut S,
     watcher: &mut V,
     number: u32,
-) -> Result<KnownJournal<'c>, Ended>
+) -> Result<Turn<'c>, Ended>
     requires valid { IsValid journal.cluster }
     requires at_rest { IsAtRest journal.events }
+    requires last { IfSome last (Serves journal.cluster) }
     requires names { WritesNamesOf journal.cluster (V.names watcher.old) }
-    ensures goes_on { IfOk result (CameTo
+    ensures goes_on { IfOk result (λ turn. CameTo
         (setting journal.entry.cluster journal.entry.promotions (S.whole outcomes.old) (S.steady outcomes.old) (V.names watcher.old))
         (due number journal.entry.events)
         (sight (S.rest outcomes.old) (S.over outcomes.old) (V.told watcher.old))
         (sight (S.rest outcomes.new) (S.over outcomes.new) (V.told watcher.new))
-        (due (number + 1))) }
+        (due (number + 1)) turn.journal) }
+    ensures serves { IfOk result (λ turn. Serves journal.entry.cluster turn.plan) }
     ensures ends { IfErr result (EndsAs
         (setting journal.entry.cluster journal.entry.promotions (S.whole outcomes.old) (S.steady outcomes.old) (V.names watcher.old))
         (due number journal.entry.events)
@@ -40,7 +50,7 @@ pub(crate) fn make_transition<'c, S: Outcomes, V: Watcher>(
     ensures cause { IfErr result (HasCause (S.faults outcomes.old) (S.faults outcomes.new) (V.stops watcher.old) (V.stops watcher.new)) }
 
     ensures agrees { S.agrees outcomes.old journal.entry.cluster journal.entry.events 0
-        → IfOk result (λ later. S.agrees outcomes.new journal.entry.cluster later.events 0) }
+        → IfOk result (λ turn. S.agrees outcomes.new journal.entry.cluster turn.journal.events 0) }
     ensures agrees_at_end { S.agrees outcomes.old journal.entry.cluster journal.entry.events 0
         → IfErr result (OfJournal (AgreesWith (S.agrees outcomes.new) journal.entry.cluster)) }
     ensures fitting { S.careful outcomes.old ≡ true → S.agrees outcomes.old journal.entry.cluster journal.entry.events 0 → IfErr result IsExpected }
@@ -57,7 +67,7 @@ pub(crate) fn make_transition<'c, S: Outcomes, V: Watcher>(
     ensures watcher_follows { OnOk result (V.follows watcher.old watcher.new) }
     ensures watcher_came { IfErr result (HasHeard (V.follows watcher.old watcher.new) (V.stopped watcher.old watcher.new)) }
 {
-    let Ok(planned) = plan_next(alloc, journal) else {
+    let Ok(planned) = plan_next(alloc, journal, last) else {
         return Err(Err(ReplayStop::NoMemory));
     };
     if let Heard::Stop = watcher.planned(number, &planned.placed) {
@@ -67,8 +77,19 @@ pub(crate) fn make_transition<'c, S: Outcomes, V: Watcher>(
         Ok(closed) => closed,
         Err(ended) => return Err(ended),
     };
+    let plan = KeptPlan {
+        states: planned.states,
+        placed: planned.placed,
+        graph: closed.graph,
+    };
     if !closed.complete {
-        return Ok(closed.journal);
+        return Ok(Turn {
+            journal: closed.journal,
+            plan,
+        });
     }
-    take_idle(alloc, closed.journal, outcomes, watcher, number)
+    match take_idle(alloc, closed.journal, outcomes, watcher, number) {
+        Ok(journal) => Ok(Turn { journal, plan }),
+        Err(ended) => Err(ended),
+    }
 }

@@ -18,7 +18,8 @@ use std::alloc::Global;
 /// that applies then makes the next due. Where nothing more is said, the run is over.
 ///
 /// The watcher is told each line as it happens. Out of memory comes between two transitions alone, so that a transition that
-/// was told is carried out. Of the plans one table is kept at a time, and the journal is read once.
+/// was told is carried out. The last plan is kept, and serves again while the journal tells the same states; the journal is
+/// read once.
 ///
 /// It asks for a valid cluster, for a journal in order with nothing in flight, as a status gives it, for a moment in seconds
 /// that fits 64 bits, and for a watcher that writes by the names of this cluster, if by any.
@@ -63,11 +64,14 @@ pub fn replay_watched<S: Outcomes, V: Watcher>(
     let Ok(mut known) = KnownJournal::new(alloc, cluster, journal) else {
         return Err(ReplayStop::NoMemory);
     };
+    let mut last = None;
     for made in 0..most {
-        known = match make_transition(alloc, known, outcomes, watcher, made + 1) {
-            Ok(known) => known,
+        let turn = match make_transition(alloc, known, last, outcomes, watcher, made + 1) {
+            Ok(turn) => turn,
             Err(ended) => return ended,
         };
+        known = turn.journal;
+        last = Some(turn.plan);
     }
     Err(ReplayStop::Most(known.into_journal()))
 }

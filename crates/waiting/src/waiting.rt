@@ -82,4 +82,11 @@ impl Waiting {
         self.queue.succeed(number);
         self.queue.drain(&self.graph, &self.rows, from);
     }
+
+    /// The graph. It takes no memory.
+    pub fn into_graph(self) -> Graph
+        ensures { result ≡ self.graph }
+    {
+        self.graph
+    }
 }

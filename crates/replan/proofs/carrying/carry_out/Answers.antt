@@ -1,5 +1,6 @@
-use Rattle.std.proofs.Common.{ap, refl}
+use Rattle.std.proofs.Common.{ap, refl, ◌∙◌}
 use Rattle.graph_exec.specs.Logs.{JournalOf}
+use Rattle.graph_exec.specs.Running.{Running}
 use Rattle.replan.proofs.Closings.{broken, closes_aborted, closes_complete, cut, stops_aborted, stops_amid, stops_complete}
 use Rattle.replan.proofs.Rests.{accords_first, accords_last, leaves_rest, stays_there}
 use Rattle.replan.proofs.Whole.{events_in}
@@ -10,17 +11,20 @@ use Rattle.replan.proofs.carrying.carry_out.Goals as goal
 pub returns-in-Go-clause-closes : goal.returns-in-Go-clause-closes
 returns-in-Go-clause-closes g c =
     closes_complete _ _ _ _ _ _ c.requires.fresh _ _ _ _ _ _ c.in-Complete.ensures.steps c.in-Complete.ensures.told _ c.in-Complete.ensures.end
-    (λ steady open_still. c.in-Complete.ensures.said_to_end steady open_still tt) (rw c.run_watched.ensures.names at c.in-Go.ensures.tells) _ c.into_known.ensures
+    (λ steady open_still. c.in-Complete.ensures.said_to_end steady open_still tt) (rw c.run_watched.ensures.names at c.in-Go.ensures.tells) _ c.into_parts-journal.ensures.journal
 
 pub returns-in-Go-clause-at_rest : goal.returns-in-Go-clause-at_rest
 returns-in-Go-clause-at_rest g c =
-    leaves_rest _ _ _ _ _ c.in-Complete.ensures.steps c.requires.planned (λ placed is. (c.in-Complete.ensures.well placed is).0) _ c.into_known.ensures
+    leaves_rest _ _ _ _ _ c.in-Complete.ensures.steps c.requires.planned (λ placed is. (c.in-Complete.ensures.well placed is).0) _ c.into_parts-journal.ensures.journal
+
+pub returns-in-Go-clause-graph : goal.returns-in-Go-clause-graph
+returns-in-Go-clause-graph g c = c.into_parts-journal.ensures.graph ∙ ap (λ (r : Running). r.graph) c.in-Complete.ensures.steps.same
 
 pub returns-in-Go-clause-agrees : goal.returns-in-Go-clause-agrees
 returns-in-Go-clause-agrees g c h =
     accords_last (g.S.Outcomes.agrees c.run_watched.new.outcomes) (λ d es k a. g.met.S.Outcomes.anew c.run_watched.new.outcomes d es k a) c.args.executor c.run_watched.new.executor
     (stays_there _ _ _ _ _ c.in-Complete.ensures.steps) (c.run_watched.ensures.agrees (accords_first _ _ c.requires.planned.planned.at_rest.1 c.requires.fresh h)) _
-    (ap (λ (x : JournalOf). x.events) c.into_known.ensures)
+    (ap (λ (x : JournalOf). x.events) c.into_parts-journal.ensures.journal)
 
 pub returns-in-Stop-clause-ends : goal.returns-in-Stop-clause-ends
 returns-in-Stop-clause-ends g c =
@@ -39,17 +43,20 @@ pub returns-in-Go-closed-clause-closes : goal.returns-in-Go-closed-clause-closes
 returns-in-Go-closed-clause-closes g c =
     closes_aborted _ _ _ _ _ _ c.requires.fresh _ _ _ _ _ _ c.in-Aborted.ensures.steps c.in-Aborted.ensures.told _ _ c.in-Aborted.ensures.end
     (λ steady open_still. c.in-Aborted.ensures.said_to_end steady open_still tt) (rw c.run_watched.ensures.names at c.in-Go-closed.ensures.tells) _
-    c.into_known-in-Go-closed.ensures
+    c.into_parts-journal-in-Go-closed.ensures.journal
 
 pub returns-in-Go-closed-clause-at_rest : goal.returns-in-Go-closed-clause-at_rest
 returns-in-Go-closed-clause-at_rest g c =
-    leaves_rest _ _ _ _ _ c.in-Aborted.ensures.steps c.requires.planned c.in-Aborted.ensures.well _ c.into_known-in-Go-closed.ensures
+    leaves_rest _ _ _ _ _ c.in-Aborted.ensures.steps c.requires.planned c.in-Aborted.ensures.well _ c.into_parts-journal-in-Go-closed.ensures.journal
+
+pub returns-in-Go-closed-clause-graph : goal.returns-in-Go-closed-clause-graph
+returns-in-Go-closed-clause-graph g c = c.into_parts-journal-in-Go-closed.ensures.graph ∙ ap (λ (r : Running). r.graph) c.in-Aborted.ensures.steps.same
 
 pub returns-in-Go-closed-clause-agrees : goal.returns-in-Go-closed-clause-agrees
 returns-in-Go-closed-clause-agrees g c h =
     accords_last (g.S.Outcomes.agrees c.run_watched.new.outcomes) (λ d es k a. g.met.S.Outcomes.anew c.run_watched.new.outcomes d es k a) c.args.executor c.run_watched.new.executor
     (stays_there _ _ _ _ _ c.in-Aborted.ensures.steps) (c.run_watched.ensures.agrees (accords_first _ _ c.requires.planned.planned.at_rest.1 c.requires.fresh h)) _
-    (ap (λ (x : JournalOf). x.events) c.into_known-in-Go-closed.ensures)
+    (ap (λ (x : JournalOf). x.events) c.into_parts-journal-in-Go-closed.ensures.journal)
 
 pub returns-in-Stop-closed-clause-ends : goal.returns-in-Stop-closed-clause-ends
 returns-in-Stop-closed-clause-ends g c =

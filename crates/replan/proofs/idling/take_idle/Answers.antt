@@ -1,4 +1,5 @@
-use Rattle.replan.proofs.Quiet.{cause_watched, ends_unanswered, is_stopped, is_taken, unheard}
+use Rattle.replan.proofs.Coming.{heard_unanswered}
+use Rattle.replan.proofs.Quiet.{cause_watched, ends_unanswered, is_stopped, is_taken}
 use Rattle.replan.proofs.idling.take_idle.Goals as goal
 
 -- an answer is entered
@@ -14,6 +15,9 @@ returns-in-Stop-clause-ends g c =
 
 pub returns-in-Stop-clause-agrees_at_end : goal.returns-in-Stop-clause-agrees_at_end
 returns-in-Stop-clause-agrees_at_end g c h = rw c.into_journal.ensures (c.in-Ok.ensures.agrees h)
+
+pub returns-in-Stop-clause-source_came : goal.returns-in-Stop-clause-source_came
+returns-in-Stop-clause-source_came g c = c.in-Ok.ensures.source_follows
 
 -- none came that applies
 
@@ -33,4 +37,4 @@ pub returns-in-Err-clause-source_came : goal.returns-in-Err-clause-source_came
 returns-in-Err-clause-source_came g c = rw c.watched.ensures c.in-Err.ensures.source_came
 
 pub returns-in-Err-clause-watcher_came : goal.returns-in-Err-clause-watcher_came
-returns-in-Err-clause-watcher_came g c = rw c.watched.ensures (unheard _ _ c.in-Err.end (g.met.V.Watcher.from_itself _))
+returns-in-Err-clause-watcher_came g c = rw c.watched.ensures (heard_unanswered _ c.in-Err.end (g.met.V.Watcher.from_itself _))

@@ -1,6 +1,7 @@
 use Rattle.std.proofs.Common.{arith, ap, length, refl, ◌∙◌}
 use Rattle.graph_exec.specs.Logs.{JournalOf}
 use Rattle.run_safety.proofs.SafeRuns.{safe_run}
+use Rattle.replan.proofs.Coming.{come_kept}
 use Rattle.replan.proofs.KeptEnds.{agrees_kept, expected_kept, fails_since, kept_as, kept_at_rest, kept_in_order, kept_plans, most_in_order, most_kept, most_plans, starts_kept}
 use Rattle.replan.proofs.kept.replay.Goals as goal
 
@@ -22,6 +23,7 @@ loop-made-init g c = record {
   careful = refl;
   steady = refl;
   over = λ steady h. h;
+  source_follows = g.met.S.Outcomes.from_itself _;
   agrees = λ h. rw c.in-Ok.ensures.ok h;
 }
 
@@ -50,6 +52,7 @@ loop-made-preserved g c =
       careful = now.careful ∙ so_far.careful;
       steady = now.steady ∙ so_far.steady;
       over = λ steady h. now.over (so_far.steady ∙ steady) (so_far.over steady h);
+      source_follows = g.met.S.Outcomes.from_before _ _ _ so_far.source_follows now.source_follows;
       agrees = λ h. rw so_far.cluster_stays at (now.agrees (rw so_far.cluster_stays (so_far.agrees h)));
     }
 
@@ -80,6 +83,14 @@ returns-in-Err-clause-kept g c =
 
 pub returns-in-Err-clause-cause : goal.returns-in-Err-clause-cause
 returns-in-Err-clause-cause g c = rw c.kept.ensures (fails_since _ _ _ _ c.loop-made.invariant.count c.in-Err.end c.in-Err.ensures.cause)
+
+pub returns-in-Err-clause-source_follows : goal.returns-in-Err-clause-source_follows
+returns-in-Err-clause-source_follows g c =
+    let so_far = c.loop-made.invariant.source_follows in
+    rw c.kept.ensures
+    (come_kept (g.S.Outcomes.follows c.args.outcomes.now c.keep_transition.new.outcomes) (g.S.Outcomes.said c.loop-made.outcomes c.keep_transition.new.outcomes)
+    (g.S.Outcomes.said c.args.outcomes.now c.keep_transition.new.outcomes) _ c.in-Err.end (λ brought s. g.met.S.Outcomes.said_later _ _ _ brought so_far s)
+    c.in-Err.ensures.source_came)
 
 pub returns-in-Err-clause-agrees : goal.returns-in-Err-clause-agrees
 returns-in-Err-clause-agrees g c h =

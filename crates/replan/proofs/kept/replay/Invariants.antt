@@ -16,5 +16,6 @@ invariant-loop-made g l = record {
   careful : g.S.Outcomes.careful l.outcomes ≡ g.S.Outcomes.careful l.fn.outcomes;
   steady : g.S.Outcomes.steady l.outcomes ≡ g.S.Outcomes.steady l.fn.outcomes;
   over : g.S.Outcomes.steady l.fn.outcomes ≡ true → g.S.Outcomes.over l.fn.outcomes ≡ true → g.S.Outcomes.over l.outcomes ≡ true;
+  source_follows : g.S.Outcomes.follows l.fn.outcomes l.outcomes;
   agrees : g.S.Outcomes.agrees l.fn.outcomes l.fn.cluster l.fn.journal.events 0 → g.S.Outcomes.agrees l.outcomes l.fn.cluster l.known.events 0;
 }

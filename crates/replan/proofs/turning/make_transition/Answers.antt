@@ -1,9 +1,9 @@
 use Rattle.std.proofs.Common.{◌∙◌, refl}
 use Rattle.replan.specs.Replays.{setting, sight}
-use Rattle.replan.proofs.Coming.{come_later, heard_later, on_ok_then}
+use Rattle.replan.proofs.Coming.{come_later, heard_later}
 use Rattle.replan.proofs.Joined.{lacks_memory}
 use Rattle.replan.proofs.Ready.{came_begun, comes_behind, ends_behind, has_plan, same_cluster, same_promotions, starts_fresh, stops_begun}
-use Rattle.replan.proofs.Whole.{err_then, ok_then}
+use Rattle.replan.proofs.Served.{serves_again}
 use Rattle.replan.proofs.turning.make_transition.Goals as goal
 
 -- no memory is left
@@ -15,25 +15,25 @@ returns-in_default-clause-ends g c = lacks_memory (setting _ _ _ _ _) _ (sight _
 
 pub returns-in-Stop-clause-ends : goal.returns-in-Stop-clause-ends
 returns-in-Stop-clause-ends g c =
-    stops_begun c.args.journal c.in-Ok.planned c.in-Ok.ensures _ _ _ _ _ _ _ _ c.requires.names c.in-Stop.ensures.tells _ c.into_journal.ensures
+    stops_begun c.args.journal c.in-Ok.planned c.in-Ok.ensures.ready _ _ _ _ _ _ _ _ c.requires.names c.in-Stop.ensures.tells _ c.into_journal.ensures
 
 -- the transition is carried out
 
 pub carry_out-requires-clause-fresh : goal.carry_out-requires-clause-fresh
-carry_out-requires-clause-fresh g c = starts_fresh c.args.journal c.in-Ok.planned c.in-Ok.ensures
+carry_out-requires-clause-fresh g c = starts_fresh c.args.journal c.in-Ok.planned c.in-Ok.ensures.ready
 
 pub carry_out-requires-clause-planned : goal.carry_out-requires-clause-planned
-carry_out-requires-clause-planned g c = has_plan c.args.journal c.in-Ok.planned c.in-Ok.ensures
+carry_out-requires-clause-planned g c = has_plan c.args.journal c.in-Ok.planned c.in-Ok.ensures.ready
 
 pub carry_out-requires-clause-names : goal.carry_out-requires-clause-names
 carry_out-requires-clause-names g c =
-    rw (same_cluster c.args.journal c.in-Ok.planned c.in-Ok.ensures, c.planned.ensures.names) c.requires.names
+    rw (same_cluster c.args.journal c.in-Ok.planned c.in-Ok.ensures.ready, c.planned.ensures.names) c.requires.names
 
 pub returns-in-Err-clause-ends : goal.returns-in-Err-clause-ends
 returns-in-Err-clause-ends g c =
     let j = c.args.journal in
     let p = c.in-Ok.planned in
-    let ready = c.in-Ok.ensures in
+    let ready = c.in-Ok.ensures.ready in
     let begun = came_begun j p ready _ _ _ _ _ _ _ _ c.requires.names c.in_default-planned.ensures.tells in
     ends_behind _ _ _ _ _ _ _ _ _ begun _ _ (same_cluster j p ready) (same_promotions j p ready) _ _ (λ steady h. h) (rw c.planned.ensures.names at c.in-Err.ensures.ends)
 
@@ -43,7 +43,7 @@ pub returns-then-not-closed-clause-goes_on : goal.returns-then-not-closed-clause
 returns-then-not-closed-clause-goes_on g c =
     let j = c.args.journal in
     let p = c.in-Ok.planned in
-    let ready = c.in-Ok.ensures in
+    let ready = c.in-Ok.ensures.ready in
     let begun = came_begun j p ready _ _ _ _ _ _ _ _ c.requires.names c.in_default-planned.ensures.tells in
     comes_behind _ _ _ _ _ _ _ _ _ begun _ _ (same_cluster j p ready) (same_promotions j p ready) _ _ _ c.in-Ok-carry_out.ensures.over
     (rw (c.planned.ensures.names, c.if-not-closed.true) at c.in-Ok-carry_out.ensures.closes)
@@ -53,29 +53,28 @@ returns-then-not-closed-clause-goes_on g c =
 pub take_idle-requires : goal.take_idle-requires
 take_idle-requires g c = record { resting = c.in-Ok-carry_out.ensures.at_rest.1 }
 
-pub returns-clause-goes_on : goal.returns-clause-goes_on
-returns-clause-goes_on g c =
+pub returns-in-Ok-take_idle-clause-goes_on : goal.returns-in-Ok-take_idle-clause-goes_on
+returns-in-Ok-take_idle-clause-goes_on g c =
     let j = c.args.journal in
     let p = c.in-Ok.planned in
-    let ready = c.in-Ok.ensures in
+    let ready = c.in-Ok.ensures.ready in
     let begun = came_begun j p ready _ _ _ _ _ _ _ _ c.requires.names c.in_default-planned.ensures.tells in
     let closed = comes_behind _ _ _ _ _ _ _ _ _ begun _ _ (same_cluster j p ready) (same_promotions j p ready) _ _ _ c.in-Ok-carry_out.ensures.over
     (rw (c.planned.ensures.names, c.if-not-closed.false) at c.in-Ok-carry_out.ensures.closes) in
-    ok_then c.take_idle.result
-    (λ later w. comes_behind _ _ _ _ _ _ _ _ _ closed.came _ _ closed.cluster_stays closed.promotions_stay _ _ _ (λ steady h. c.take_idle.ensures.over (c.in-Ok-carry_out.ensures.steady ∙ steady) h)
-    (rw (c.in-Ok-carry_out.ensures.whole, c.in-Ok-carry_out.ensures.steady, c.in-Ok-carry_out.ensures.names, c.planned.ensures.names) at w)) c.take_idle.ensures.goes_on
+    comes_behind _ _ _ _ _ _ _ _ _ closed.came _ _ closed.cluster_stays closed.promotions_stay _ _ _
+    (λ steady h. c.take_idle.ensures.over (c.in-Ok-carry_out.ensures.steady ∙ steady) h)
+    (rw (c.in-Ok-carry_out.ensures.whole, c.in-Ok-carry_out.ensures.steady, c.in-Ok-carry_out.ensures.names, c.planned.ensures.names) at c.in-Ok-take_idle.ensures.goes_on)
 
-pub returns-clause-ends : goal.returns-clause-ends
-returns-clause-ends g c =
+pub returns-in-Err-take_idle-clause-ends : goal.returns-in-Err-take_idle-clause-ends
+returns-in-Err-take_idle-clause-ends g c =
     let j = c.args.journal in
     let p = c.in-Ok.planned in
-    let ready = c.in-Ok.ensures in
+    let ready = c.in-Ok.ensures.ready in
     let begun = came_begun j p ready _ _ _ _ _ _ _ _ c.requires.names c.in_default-planned.ensures.tells in
     let closed = comes_behind _ _ _ _ _ _ _ _ _ begun _ _ (same_cluster j p ready) (same_promotions j p ready) _ _ _ c.in-Ok-carry_out.ensures.over
     (rw (c.planned.ensures.names, c.if-not-closed.false) at c.in-Ok-carry_out.ensures.closes) in
-    err_then c.take_idle.result
-    (λ end w. ends_behind _ _ _ _ _ _ _ _ _ closed.came _ _ closed.cluster_stays closed.promotions_stay _ end c.in-Ok-carry_out.ensures.over
-    (rw (c.in-Ok-carry_out.ensures.whole, c.in-Ok-carry_out.ensures.steady, c.in-Ok-carry_out.ensures.names, c.planned.ensures.names) at w)) c.take_idle.ensures.ends
+    ends_behind _ _ _ _ _ _ _ _ _ closed.came _ _ closed.cluster_stays closed.promotions_stay _ _ c.in-Ok-carry_out.ensures.over
+    (rw (c.in-Ok-carry_out.ensures.whole, c.in-Ok-carry_out.ensures.steady, c.in-Ok-carry_out.ensures.names, c.planned.ensures.names) at c.in-Err-take_idle.ensures.ends)
 
 -- what the source and the watcher have come to
 
@@ -97,24 +96,34 @@ pub returns-then-not-closed-clause-watcher_follows : goal.returns-then-not-close
 returns-then-not-closed-clause-watcher_follows g c =
     g.met.V.Watcher.from_before _ _ _ (c.in_default-planned.ensures.follows refl) c.in-Ok-carry_out.ensures.watcher_follows
 
-pub returns-clause-source_follows : goal.returns-clause-source_follows
-returns-clause-source_follows g c =
-    on_ok_then _ (λ f. g.met.S.Outcomes.from_before _ _ _ c.in-Ok-carry_out.ensures.source_follows f) c.take_idle.ensures.source_follows
+pub returns-in-Ok-take_idle-clause-source_follows : goal.returns-in-Ok-take_idle-clause-source_follows
+returns-in-Ok-take_idle-clause-source_follows g c =
+    g.met.S.Outcomes.from_before _ _ _ c.in-Ok-carry_out.ensures.source_follows c.in-Ok-take_idle.ensures.source_follows
 
-pub returns-clause-source_came : goal.returns-clause-source_came
-returns-clause-source_came g c =
+pub returns-in-Ok-take_idle-clause-watcher_follows : goal.returns-in-Ok-take_idle-clause-watcher_follows
+returns-in-Ok-take_idle-clause-watcher_follows g c =
+    let carried = g.met.V.Watcher.from_before _ _ _ (c.in_default-planned.ensures.follows refl) c.in-Ok-carry_out.ensures.watcher_follows in
+    g.met.V.Watcher.from_before _ _ _ carried c.in-Ok-take_idle.ensures.watcher_follows
+
+pub returns-in-Err-take_idle-clause-source_came : goal.returns-in-Err-take_idle-clause-source_came
+returns-in-Err-take_idle-clause-source_came g c =
     let carried = c.in-Ok-carry_out.ensures.source_follows in
-    err_then c.take_idle.result
-    (λ end h. come_later (g.S.Outcomes.said c.carry_out.new.outcomes c.take_idle.new.outcomes) (g.S.Outcomes.said c.args.outcomes.now c.take_idle.new.outcomes) end
-    (λ f. g.met.S.Outcomes.from_before _ _ _ carried f) (λ brought s. g.met.S.Outcomes.said_later _ _ _ brought carried s) h) c.take_idle.ensures.source_came
+    come_later (g.S.Outcomes.said c.carry_out.new.outcomes c.take_idle.new.outcomes) (g.S.Outcomes.said c.args.outcomes.now c.take_idle.new.outcomes) _
+    (λ f. g.met.S.Outcomes.from_before _ _ _ carried f) (λ brought s. g.met.S.Outcomes.said_later _ _ _ brought carried s) c.in-Err-take_idle.ensures.source_came
 
-pub returns-clause-watcher_follows : goal.returns-clause-watcher_follows
-returns-clause-watcher_follows g c =
+pub returns-in-Err-take_idle-clause-watcher_came : goal.returns-in-Err-take_idle-clause-watcher_came
+returns-in-Err-take_idle-clause-watcher_came g c =
     let carried = g.met.V.Watcher.from_before _ _ _ (c.in_default-planned.ensures.follows refl) c.in-Ok-carry_out.ensures.watcher_follows in
-    on_ok_then _ (λ f. g.met.V.Watcher.from_before _ _ _ carried f) c.take_idle.ensures.watcher_follows
+    heard_later _ (λ f. g.met.V.Watcher.from_before _ _ _ carried f) (λ s. g.met.V.Watcher.stopped_later _ _ _ carried s) c.in-Err-take_idle.ensures.watcher_came
 
-pub returns-clause-watcher_came : goal.returns-clause-watcher_came
-returns-clause-watcher_came g c =
-    let carried = g.met.V.Watcher.from_before _ _ _ (c.in_default-planned.ensures.follows refl) c.in-Ok-carry_out.ensures.watcher_follows in
-    err_then c.take_idle.result
-    (λ end h. heard_later end (λ f. g.met.V.Watcher.from_before _ _ _ carried f) (λ s. g.met.V.Watcher.stopped_later _ _ _ carried s) h) c.take_idle.ensures.watcher_came
+-- the plan serves again
+
+pub returns-then-not-closed-clause-serves : goal.returns-then-not-closed-clause-serves
+returns-then-not-closed-clause-serves g c =
+    let p = c.in-Ok.planned in
+    serves_again _ (record { states = p.states; placed = p.placed; graph = p.executor.graph }) _ c.in-Ok-carry_out.ensures.graph c.in-Ok.ensures.serves
+
+pub returns-in-Ok-take_idle-clause-serves : goal.returns-in-Ok-take_idle-clause-serves
+returns-in-Ok-take_idle-clause-serves g c =
+    let p = c.in-Ok.planned in
+    serves_again _ (record { states = p.states; placed = p.placed; graph = p.executor.graph }) _ c.in-Ok-carry_out.ensures.graph c.in-Ok.ensures.serves

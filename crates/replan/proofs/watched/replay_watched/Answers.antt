@@ -24,6 +24,7 @@ returns-in_default-clause-watcher_follows g c = g.met.V.Watcher.from_itself _
 pub loop-made-init : goal.loop-made-init
 loop-made-init g c = record {
   came = starts _ _ _ _ _ _ _ _ c.in-Ok.ensures.ok;
+  serves = tt;
   whole = refl;
   count = omega arith;
   careful = refl;
@@ -46,6 +47,9 @@ make_transition-requires-clause-at_rest g c =
 pub make_transition-requires-clause-names : goal.make_transition-requires-clause-names
 make_transition-requires-clause-names g c = rw (c.loop-made.invariant.came.cluster_stays, c.loop-made.invariant.names) c.requires.names
 
+pub make_transition-requires-clause-last : goal.make_transition-requires-clause-last
+make_transition-requires-clause-last g c = rw c.loop-made.invariant.came.cluster_stays c.loop-made.invariant.serves
+
 pub loop-made-preserved : goal.loop-made-preserved
 loop-made-preserved g c =
     let so_far = c.loop-made.invariant in
@@ -57,6 +61,7 @@ loop-made-preserved g c =
     record {
       came = comes_behind _ _ _ _ _ _ _ _ _ so_far.came.came _ _ so_far.came.cluster_stays so_far.came.promotions_stay _ _ _
           (λ steady h. now.over (so_far.steady ∙ steady) h) (rw (so_far.whole, so_far.steady, so_far.names) at now.goes_on);
+      serves = rw so_far.came.cluster_stays at now.serves;
       whole = now.whole ∙ so_far.whole;
       count = omega arith;
       careful = now.careful ∙ so_far.careful;

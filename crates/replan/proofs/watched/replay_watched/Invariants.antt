@@ -1,7 +1,7 @@
-use Rattle.std.proofs.Common.{true, ◌≡◌, ◌≤◌, ◌+◌}
+use Rattle.std.proofs.Common.{true, ◌≡◌, ◌≤◌, ◌+◌, IfSome}
 use Rattle.cluster_types.specs.Runs.{due}
 use Rattle.replan.specs.Replays.{setting, sight}
-use Rattle.replan.specs.Turns.{CameTo}
+use Rattle.replan.specs.Turns.{CameTo, Serves}
 use Rattle.replan.proofs.watched.replay_watched.Given as goal
 
 abbrev pub invariant-loop-made : goal.invariant-loop-made
@@ -12,6 +12,7 @@ invariant-loop-made g l = record {
       (sight (g.S.Outcomes.rest l.fn.outcomes) (g.S.Outcomes.over l.fn.outcomes) (g.V.Watcher.told l.fn.watcher))
       (sight (g.S.Outcomes.rest l.outcomes) (g.S.Outcomes.over l.outcomes) (g.V.Watcher.told l.watcher))
       (due (l.made + 1)) l.known;
+  serves : IfSome l.last (Serves l.fn.cluster);
   whole : g.S.Outcomes.whole l.outcomes ≡ g.S.Outcomes.whole l.fn.outcomes;
   count : g.S.Outcomes.faults l.fn.outcomes ≤ g.S.Outcomes.faults l.outcomes;
   careful : g.S.Outcomes.careful l.outcomes ≡ g.S.Outcomes.careful l.fn.outcomes;
