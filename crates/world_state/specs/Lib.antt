@@ -1,0 +1,5 @@
+pub mod Draws
+pub mod Worlds
+pub mod Turns
+pub mod Lives
+pub mod Kept
