@@ -31,7 +31,7 @@ def inputs():
 
 
 def try_answers():
-    """Each word answers as is kept."""
+    """Each word answers as is kept, and each run is lawful."""
     count = 0
     for name, text in inputs():
         known = dict(re.findall(r"^== (\w+)\n((?:(?!== ).*\n)*)", kept("answers", name), re.M))
@@ -39,6 +39,8 @@ def try_answers():
             status, answer = own(text, word)
             count += 1
             expect(f"{word} of the example {name}", status == 0 and answer.decode() == known.get(word), answer.decode())
+        run = text.split(b"%results\n")[0] + b"%trace\n" + own(text, "replay")[1]
+        expect(f"audit of the run of the example {name}", own(run, "audit") == (0, b"lawful\n"))
     expect("answers of examples", count >= 60)
 
 

@@ -1,8 +1,8 @@
 //! Written runs, and what an audit says of each.
 
 use crm_lex::logical_lines;
+use input_reading::read_input;
 use run_lines::read_run;
-use sim_core::read_input;
 use std::alloc::Global;
 use std::process::Abort;
 use trace_audit::{Clause, Verdict, audit};

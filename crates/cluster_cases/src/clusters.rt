@@ -1,25 +1,19 @@
 //! What `cluster_model` resolves, and which statement is at fault.
 
-use crate::reading::{crm, shown};
+use crate::reading::{cluster, crm, shown};
 use clone_expand::expand;
 use cluster_model::{ModelCause, ModelFault, resolve};
 use cluster_types::{Cluster, Colocation, Location, Node, Order, Role, RuleLocation};
-use std::alloc::Global;
+use std::alloc::{AllocError, Global};
+use std::process::Abort;
 use std::str;
-use std::test::Fail;
-
-fn cluster(alloc: Global, text: &str) -> Result<Cluster, Fail> {
-    let crm = crm(alloc, text)?;
-    let leaves = expand(alloc, &crm)?;
-    Ok(resolve(alloc, &crm, &leaves)?)
-}
 
 fn shown_text(bytes: &[u8]) -> &str {
     str::from_utf8(bytes).unwrap_or("?")
 }
 
 /// Its name, whether it is standby, and its attributes.
-fn tell_node(told: &mut String, node: &Node) -> Result<(), Fail> {
+fn tell_node(told: &mut String, node: &Node) -> Result<(), AllocError> {
     let (name, standby) = (shown(&node.name), node.standby);
     write!(told, "{name} {standby}")?;
     for pair in node.attributes.iter() {
@@ -27,20 +21,19 @@ fn tell_node(told: &mut String, node: &Node) -> Result<(), Fail> {
         let value = shown_text(pair.value.bytes());
         write!(told, " {name}={value}")?;
     }
-    write!(told, ";")?;
-    Ok(())
+    write!(told, ";")
 }
 
-fn all_nodes(alloc: Global, cluster: &Cluster) -> Result<String, Fail> {
+fn all_nodes(rt: &impl Abort, alloc: Global, cluster: &Cluster) -> String {
     let mut told = String::new(alloc);
     for node in cluster.nodes.iter() {
-        tell_node(&mut told, node)?;
+        tell_node(&mut told, node).expect(rt, "memory");
     }
-    Ok(told)
+    told
 }
 
 #[test]
-fn nodes_of_clusters(rt: HostRuntime) -> Result<(), Fail> {
+fn nodes_of_clusters(rt: HostRuntime) {
     let table = [
         ("primitive a Dummy", ""),
         (
@@ -49,25 +42,24 @@ fn nodes_of_clusters(rt: HostRuntime) -> Result<(), Fail> {
         ),
     ];
     for (text, want) in table {
-        let cluster = cluster(rt.alloc(), text)?;
-        let told = all_nodes(rt.alloc(), &cluster)?;
+        let cluster = cluster(&rt, rt.alloc(), text);
+        let told = all_nodes(&rt, rt.alloc(), &cluster);
         assert_eq!(rt; told.as_str(), want, "{text}");
     }
-    Ok(())
 }
 
-fn options(alloc: Global, cluster: &Cluster) -> Result<String, Fail> {
+fn options(rt: &impl Abort, alloc: Global, cluster: &Cluster) -> String {
     let p = &cluster.properties;
     let (symmetric, fencing, startup) = (p.symmetric, p.fencing, p.startup_fencing);
     let (policy, fatal) = (p.policy, p.start_fatal);
     let (stop_all, batch_limit) = (p.stop_all, p.batch_limit);
-    Ok(format!(in alloc;
+    format!(in alloc;
         "{symmetric} {fencing} {startup} {policy:?} {fatal} {stop_all} {batch_limit}"
-    )?)
+    ).expect(rt, "memory")
 }
 
 #[test]
-fn options_of_clusters(rt: HostRuntime) -> Result<(), Fail> {
+fn options_of_clusters(rt: HostRuntime) {
     let table = [
         ("node n1", "true true true Stop true false 0"),
         (
@@ -84,11 +76,10 @@ fn options_of_clusters(rt: HostRuntime) -> Result<(), Fail> {
         ),
     ];
     for (text, want) in table {
-        let cluster = cluster(rt.alloc(), text)?;
-        let told = options(rt.alloc(), &cluster)?;
+        let cluster = cluster(&rt, rt.alloc(), text);
+        let told = options(&rt, rt.alloc(), &cluster);
         assert_eq!(rt; told.as_str(), want, "{text}");
     }
-    Ok(())
 }
 
 fn shown_role(role: Role) -> &'static str {
@@ -98,35 +89,33 @@ fn shown_role(role: Role) -> &'static str {
     }
 }
 
-fn tell_location(told: &mut String, rule: &Location) -> Result<(), Fail> {
+fn tell_location(told: &mut String, rule: &Location) -> Result<(), AllocError> {
     let (id, role, points) = (shown(&rule.id), shown_role(rule.role), rule.score.points);
     let (leaf, node) = (rule.leaf, rule.node);
-    write!(told, "{id} {leaf}{role} {points} {node};")?;
-    Ok(())
+    write!(told, "{id} {leaf}{role} {points} {node};")
 }
 
 /// The rule itself is told by how many tests it has.
-fn tell_rule_location(told: &mut String, rule: &RuleLocation) -> Result<(), Fail> {
+fn tell_rule_location(told: &mut String, rule: &RuleLocation) -> Result<(), AllocError> {
     let (id, role, points) = (shown(&rule.id), shown_role(rule.role), rule.score.points);
     let (leaf, all, tests) = (rule.leaf, rule.rule.all, rule.rule.tests.len());
-    write!(told, "{id} {leaf}{role} {points} {all} {tests};")?;
-    Ok(())
+    write!(told, "{id} {leaf}{role} {points} {all} {tests};")
 }
 
-fn all_locations(alloc: Global, cluster: &Cluster) -> Result<String, Fail> {
+fn all_locations(rt: &impl Abort, alloc: Global, cluster: &Cluster) -> String {
     let mut told = String::new(alloc);
     for rule in cluster.locations.iter() {
-        tell_location(&mut told, rule)?;
+        tell_location(&mut told, rule).expect(rt, "memory");
     }
-    write!(told, "+")?;
+    told.push('+').expect(rt, "memory");
     for rule in cluster.rule_locations.iter() {
-        tell_rule_location(&mut told, rule)?;
+        tell_rule_location(&mut told, rule).expect(rt, "memory");
     }
-    Ok(told)
+    told
 }
 
 #[test]
-fn locations_of_clusters(rt: HostRuntime) -> Result<(), Fail> {
+fn locations_of_clusters(rt: HostRuntime) {
     let table = [
         (
             "location l g -inf: n2|node n1|node n2|primitive x Dummy|primitive a Dummy|primitive b Dummy|group g b a",
@@ -146,14 +135,13 @@ fn locations_of_clusters(rt: HostRuntime) -> Result<(), Fail> {
         ),
     ];
     for (text, want) in table {
-        let cluster = cluster(rt.alloc(), text)?;
-        let told = all_locations(rt.alloc(), &cluster)?;
+        let cluster = cluster(&rt, rt.alloc(), text);
+        let told = all_locations(&rt, rt.alloc(), &cluster);
         assert_eq!(rt; told.as_str(), want, "{text}");
     }
-    Ok(())
 }
 
-fn tell_colocation(told: &mut String, rule: &Colocation) -> Result<(), Fail> {
+fn tell_colocation(told: &mut String, rule: &Colocation) -> Result<(), AllocError> {
     let (id, points) = (shown(&rule.id), rule.score.points);
     let (dependent, primary) = (rule.dependent, rule.primary);
     let role = shown_role(rule.dependent_role);
@@ -161,20 +149,19 @@ fn tell_colocation(told: &mut String, rule: &Colocation) -> Result<(), Fail> {
     write!(
         told,
         "{id} {dependent}{role} {primary}{primary_role} {points};"
-    )?;
-    Ok(())
+    )
 }
 
-fn all_colocations(alloc: Global, cluster: &Cluster) -> Result<String, Fail> {
+fn all_colocations(rt: &impl Abort, alloc: Global, cluster: &Cluster) -> String {
     let mut told = String::new(alloc);
     for rule in cluster.colocations.iter() {
-        tell_colocation(&mut told, rule)?;
+        tell_colocation(&mut told, rule).expect(rt, "memory");
     }
-    Ok(told)
+    told
 }
 
 #[test]
-fn colocations_of_clusters(rt: HostRuntime) -> Result<(), Fail> {
+fn colocations_of_clusters(rt: HostRuntime) {
     let table = [
         (
             "primitive a Dummy|primitive b Dummy|primitive c Dummy|group g c a b|primitive x Dummy|primitive y Dummy|colocation k 5: g x|colocation l -inf: y g",
@@ -186,14 +173,13 @@ fn colocations_of_clusters(rt: HostRuntime) -> Result<(), Fail> {
         ),
     ];
     for (text, want) in table {
-        let cluster = cluster(rt.alloc(), text)?;
-        let told = all_colocations(rt.alloc(), &cluster)?;
+        let cluster = cluster(&rt, rt.alloc(), text);
+        let told = all_colocations(&rt, rt.alloc(), &cluster);
         assert_eq!(rt; told.as_str(), want, "{text}");
     }
-    Ok(())
 }
 
-fn tell_order(told: &mut String, rule: &Order) -> Result<(), Fail> {
+fn tell_order(told: &mut String, rule: &Order) -> Result<(), AllocError> {
     let (id, kind) = (shown(&rule.id), rule.kind);
     let (first, first_op) = (rule.first, rule.first_op);
     let (later, later_op) = (rule.then_leaf, rule.then_op);
@@ -202,20 +188,19 @@ fn tell_order(told: &mut String, rule: &Order) -> Result<(), Fail> {
     write!(
         told,
         "{id} {kind:?} {first_op:?} {first} {later_op:?} {later} {symmetrical}{local};"
-    )?;
-    Ok(())
+    )
 }
 
-fn all_orders(alloc: Global, cluster: &Cluster) -> Result<String, Fail> {
+fn all_orders(rt: &impl Abort, alloc: Global, cluster: &Cluster) -> String {
     let mut told = String::new(alloc);
     for rule in cluster.orders.iter() {
-        tell_order(&mut told, rule)?;
+        tell_order(&mut told, rule).expect(rt, "memory");
     }
-    Ok(told)
+    told
 }
 
 #[test]
-fn orders_of_clusters(rt: HostRuntime) -> Result<(), Fail> {
+fn orders_of_clusters(rt: HostRuntime) {
     let table = [
         (
             "primitive a Dummy|primitive b Dummy|primitive c Dummy|order o 0: a b c symmetrical=no",
@@ -243,25 +228,25 @@ fn orders_of_clusters(rt: HostRuntime) -> Result<(), Fail> {
         ),
     ];
     for (text, want) in table {
-        let cluster = cluster(rt.alloc(), text)?;
-        let told = all_orders(rt.alloc(), &cluster)?;
+        let cluster = cluster(&rt, rt.alloc(), text);
+        let told = all_orders(&rt, rt.alloc(), &cluster);
         assert_eq!(rt; told.as_str(), want, "{text}");
     }
-    Ok(())
 }
 
-fn fault(alloc: Global, text: &str) -> Result<Option<(u32, ModelCause)>, Fail> {
-    let crm = crm(alloc, text)?;
-    let leaves = expand(alloc, &crm)?;
+/// The line and the cause of the fault, where there is one.
+fn fault(rt: &impl Abort, alloc: Global, text: &str) -> Option<(u32, ModelCause)> {
+    let crm = crm(rt, alloc, text);
+    let leaves = expand(alloc, &crm).expect(rt, "the leaves are made");
     match resolve(alloc, &crm, &leaves) {
-        Ok(_) => Ok(None),
-        Err(ModelFault::At { line, cause }) => Ok(Some((line, cause))),
-        Err(ModelFault::NoMemory) => Err(Fail::from(ModelFault::NoMemory)),
+        Ok(_) => None,
+        Err(ModelFault::At { line, cause }) => Some((line, cause)),
+        Err(ModelFault::NoMemory) => panic!(rt; "memory"),
     }
 }
 
 #[test]
-fn faults_by_statement(rt: HostRuntime) -> Result<(), Fail> {
+fn faults_by_statement(rt: HostRuntime) {
     let table = [
         (
             "node n1|primitive vip IPaddr2|location l vip 5: n9",
@@ -318,43 +303,47 @@ fn faults_by_statement(rt: HostRuntime) -> Result<(), Fail> {
         ("primitive a Dummy|order o Serialize: a a", None),
     ];
     for (text, want) in table {
-        assert_eq!(rt; fault(rt.alloc(), text)?, want, "{text}");
+        assert_eq!(rt; fault(&rt, rt.alloc(), text), want, "{text}");
     }
-    Ok(())
 }
 
 /// The text, and then so many lines that each end in a number of their own.
-fn with_lines(alloc: Global, text: &str, line: &str, count: u32) -> Result<String, Fail> {
+fn with_lines(rt: &impl Abort, alloc: Global, text: &str, line: &str, count: u32) -> String {
     let mut whole = String::new(alloc);
-    whole.push_str(text)?;
+    whole.push_str(text).expect(rt, "memory");
     for number in 0..count {
-        write!(whole, "|{line}{number} a 1: n")?;
+        write!(whole, "|{line}{number} a 1: n").expect(rt, "memory");
     }
-    Ok(whole)
+    whole
 }
 
-fn nodes_in_lines(alloc: Global, count: u32) -> Result<String, Fail> {
+fn nodes_in_lines(rt: &impl Abort, alloc: Global, count: u32) -> String {
     let mut whole = String::new(alloc);
-    whole.push_str("node n")?;
+    whole.push_str("node n").expect(rt, "memory");
     for number in 1..count {
-        write!(whole, "|node n{number}")?;
+        write!(whole, "|node n{number}").expect(rt, "memory");
     }
-    Ok(whole)
+    whole
 }
 
 #[test]
-fn limits(rt: HostRuntime) -> Result<(), Fail> {
+fn limits_of_nodes(rt: HostRuntime) {
     let alloc = rt.alloc();
-    let most = nodes_in_lines(alloc, 256)?;
-    assert_eq!(rt; fault(alloc, most.as_str())?, None);
-    let more = nodes_in_lines(alloc, 257)?;
-    let want = Some((257, ModelCause::TooManyNodes));
-    assert_eq!(rt; fault(alloc, more.as_str())?, want);
+    for (count, want) in [(256, None), (257, Some((257, ModelCause::TooManyNodes)))] {
+        let text = nodes_in_lines(&rt, alloc, count);
+        assert_eq!(rt; fault(&rt, alloc, text.as_str()), want);
+    }
+}
+
+#[test]
+fn limits_of_rules(rt: HostRuntime) {
+    let alloc = rt.alloc();
     let start = "node n|primitive a Dummy|primitive b Dummy|group g a b";
-    let most = with_lines(alloc, start, "location l", 1_998)?;
-    assert_eq!(rt; fault(alloc, most.as_str())?, None);
-    let more = with_lines(alloc, start, "location l", 1_999)?;
-    let want = Some((2_003, ModelCause::TooManyRules));
-    assert_eq!(rt; fault(alloc, more.as_str())?, want);
-    Ok(())
+    for (count, want) in [
+        (1_998, None),
+        (1_999, Some((2_003, ModelCause::TooManyRules))),
+    ] {
+        let text = with_lines(&rt, alloc, start, "location l", count);
+        assert_eq!(rt; fault(&rt, alloc, text.as_str()), want);
+    }
 }

@@ -1,9 +1,10 @@
 //! What `op_history` reads of status and result lines.
 
-ghost use Rattle.std.specs.Prelude.{◌≡◌};
+ghost use Rattle.std.specs.Prelude.{◌≡◌, ◌<◌, ◌^◌};
+ghost use Rattle.cluster_types.specs.Journals.{moment_of};
 ghost use Rattle.cluster_types.specs.Valid.{KeepsLimits};
 
-use crate::plain::cluster_of;
+use crate::reading::cluster;
 use cluster_types::{Answer, Cluster, Journal};
 use crm_lex::{Line, WordBuf, lex_one, logical_lines};
 use listed::Listed;
@@ -11,17 +12,16 @@ use op_history::{
     Recovery, ResultCause, ResultFault, ResultLine, StatusFault, class_of, read_result,
     read_results, read_status,
 };
-use std::alloc::Global;
+use std::alloc::{AllocError, Global};
 use std::process::Abort;
-use std::test::Fail;
 
 /// The nodes `n1` and `n2`, the plain leaf `vip` and the promotable leaf `db`.
 const CONFIGURATION: &str =
-    "node n1\nnode n2\nprimitive vip ocf:heartbeat:IPaddr2 op monitor interval=10s\n\
-    primitive db ocf:heartbeat:pgsql op monitor interval=10s op monitor interval=11s role=Promoted\n\
-    clone dbs db meta promotable=true\n";
+    "node n1|node n2|primitive vip ocf:heartbeat:IPaddr2 op monitor interval=10s|\
+    primitive db ocf:heartbeat:pgsql op monitor interval=10s op monitor interval=11s role=Promoted|\
+    clone dbs db meta promotable=true";
 
-const WITHOUT_STARTUP_FENCING: &str = "node n1\nnode n2\nproperty startup-fencing=false\n";
+const WITHOUT_STARTUP_FENCING: &str = "node n1|node n2|property startup-fencing=false";
 
 fn keeps_limits(rt: &impl Abort, cluster: &Cluster)
     ensures { KeepsLimits cluster.now }
@@ -31,12 +31,9 @@ fn keeps_limits(rt: &impl Abort, cluster: &Cluster)
     assert!(rt; cluster.colocations.is_empty() && cluster.orders.is_empty());
 }
 
-fn lines(rt: &impl Abort, alloc: Global, text: &str) -> Result<Vec<Line>, Fail> {
+fn lines(rt: &impl Abort, alloc: Global, text: &str) -> Vec<Line> {
     assert!(rt; text.len() < 4_294_967_296);
-    match logical_lines(alloc, text.as_bytes()) {
-        Ok(lines) => Ok(lines),
-        Err(_) => Err(Fail::from("the words are refused")),
-    }
+    logical_lines(alloc, text.as_bytes()).expect(rt, "the words are read")
 }
 
 /// A status, and its first journal after the joins, or its fault.
@@ -160,7 +157,7 @@ const STATUS_FAULTS: [Row; 47] = [
     ),
 ];
 
-fn print_journal(out: &mut String, journal: &Journal) -> Result<(), Fail> {
+fn print_journal(out: &mut String, journal: &Journal) -> Result<(), AllocError> {
     for event in journal.events.iter() {
         write!(out, "{event:?} ")?;
     }
@@ -170,40 +167,44 @@ fn print_journal(out: &mut String, journal: &Journal) -> Result<(), Fail> {
     Ok(())
 }
 
-fn status(rt: &impl Abort, alloc: Global, cluster: &Cluster, text: &str) -> Result<String, Fail> {
-    keeps_limits(rt, cluster);
-    let mut out = String::new(alloc);
-    match read_status(alloc, cluster, lines(rt, alloc, text)?.as_slice()) {
-        Ok(journal) => print_journal(&mut out, &journal)?,
-        Err(StatusFault::At { line, cause }) => write!(out, "{line} {cause:?}")?,
-        Err(StatusFault::NoMemory) => write!(out, "no memory")?,
+fn print_status(out: &mut String, read: &Result<Journal, StatusFault>) -> Result<(), AllocError> {
+    match read {
+        Ok(journal) => print_journal(out, journal),
+        Err(StatusFault::At { line, cause }) => write!(out, "{line} {cause:?}"),
+        Err(StatusFault::NoMemory) => write!(out, "no memory"),
     }
-    Ok(out)
+}
+
+fn status(rt: &impl Abort, alloc: Global, cluster: &Cluster, text: &str) -> String {
+    keeps_limits(rt, cluster);
+    let lines = lines(rt, alloc, text);
+    let read = read_status(alloc, cluster, lines.as_slice());
+    let mut out = String::new(alloc);
+    print_status(&mut out, &read).expect(rt, "memory");
+    out
 }
 
 #[test]
-fn statuses_are_read(rt: HostRuntime) -> Result<(), Fail> {
+fn statuses_are_read(rt: HostRuntime) {
     let alloc = rt.alloc();
-    let cluster = cluster_of(&rt, alloc, CONFIGURATION)?;
+    let cluster = cluster(&rt, alloc, CONFIGURATION);
     for rows in [JOURNALS.as_slice(), STATUS_FAULTS.as_slice()] {
         for (text, expected) in rows {
-            let read = status(&rt, alloc, &cluster, text)?;
+            let read = status(&rt, alloc, &cluster, text);
             assert_eq!(rt; read.as_str(), *expected, "{text:?}");
         }
     }
-    Ok(())
 }
 
 #[test]
-fn unsaid_nodes_are_down_without_startup_fencing(rt: HostRuntime) -> Result<(), Fail> {
+fn unsaid_nodes_are_down_without_startup_fencing(rt: HostRuntime) {
     let alloc = rt.alloc();
-    let cluster = cluster_of(&rt, alloc, WITHOUT_STARTUP_FENCING)?;
-    let read = status(&rt, alloc, &cluster, "node n1 online\n")?;
+    let cluster = cluster(&rt, alloc, WITHOUT_STARTUP_FENCING);
+    let read = status(&rt, alloc, &cluster, "node n1 online\n");
     assert_eq!(rt;
         read.as_str(),
         "Up { node: 0 } Up { node: 1 } Down { node: 1 } Quorum { yes: false } Wait { seconds: 0 } "
     );
-    Ok(())
 }
 
 /// Result lines that are taken at the moment 1000, and their answers or their fault.
@@ -263,68 +264,80 @@ const RESULTS: [Row; 38] = [
     ("end 1 0\nend 1\nend x", "2 MissingWord"),
 ];
 
-fn print_results(out: &mut String, read: Result<Vec<ResultLine>, ResultFault>) -> Result<(), Fail> {
-    match read {
-        Ok(results) => {
-            for result in &results {
-                let (line, answer) = (result.line, result.answer);
-                write!(out, "{line} {answer:?} ")?;
-            }
-        }
-        Err(ResultFault::At { line, cause }) => write!(out, "{line} {cause:?}")?,
-        Err(ResultFault::NoMemory) => write!(out, "no memory")?,
+fn print_answers(out: &mut String, results: &[ResultLine]) -> Result<(), AllocError> {
+    for result in results {
+        let (line, answer) = (result.line, result.answer);
+        write!(out, "{line} {answer:?} ")?;
     }
     Ok(())
 }
 
-fn results(rt: &impl Abort, alloc: Global, cluster: &Cluster, text: &str) -> Result<String, Fail> {
+fn print_results(
+    out: &mut String,
+    read: &Result<Vec<ResultLine>, ResultFault>,
+) -> Result<(), AllocError> {
+    match read {
+        Ok(results) => print_answers(out, results.as_slice()),
+        Err(ResultFault::At { line, cause }) => write!(out, "{line} {cause:?}"),
+        Err(ResultFault::NoMemory) => write!(out, "no memory"),
+    }
+}
+
+/// The journal of a status at the moment 1000.
+fn at_1000(rt: &impl Abort, alloc: Global, cluster: &Cluster) -> Journal
+    ensures { moment_of result.events < 2 ^ 40 }
+{
     keeps_limits(rt, cluster);
-    let said = lines(rt, alloc, "now 1000\n")?;
-    let Ok(journal) = read_status(alloc, cluster, said.as_slice()) else {
-        return Err(Fail::from("the status is refused"));
-    };
-    let given = lines(rt, alloc, text)?;
-    let read = read_results(alloc, cluster, &journal, given.as_slice());
+    let lines = lines(rt, alloc, "now 1000\n");
+    read_status(alloc, cluster, lines.as_slice()).expect(rt, "the status is read")
+}
+
+fn results(rt: &impl Abort, alloc: Global, cluster: &Cluster, text: &str) -> String {
+    keeps_limits(rt, cluster);
+    let journal = at_1000(rt, alloc, cluster);
+    let lines = lines(rt, alloc, text);
+    let read = read_results(alloc, cluster, &journal, lines.as_slice());
     let mut out = String::new(alloc);
-    print_results(&mut out, read)?;
-    Ok(out)
+    print_results(&mut out, &read).expect(rt, "memory");
+    out
 }
 
 #[test]
-fn results_are_read(rt: HostRuntime) -> Result<(), Fail> {
+fn results_are_read(rt: HostRuntime) {
     let alloc = rt.alloc();
-    let cluster = cluster_of(&rt, alloc, CONFIGURATION)?;
+    let cluster = cluster(&rt, alloc, CONFIGURATION);
     for (text, expected) in RESULTS.as_slice() {
-        let read = results(&rt, alloc, &cluster, text)?;
+        let read = results(&rt, alloc, &cluster, text);
         assert_eq!(rt; read.as_str(), *expected, "{text:?}");
     }
-    Ok(())
 }
 
-/// So many lines that let no time go by.
-fn waits(alloc: Global, count: u32, last: &str) -> Result<String, Fail> {
+/// What is read of so many lines that let no time go by, and a last one.
+fn results_of_waits(
+    rt: &impl Abort,
+    alloc: Global,
+    cluster: &Cluster,
+    count: u32,
+    last: &str,
+) -> String {
     let mut text = String::new(alloc);
     for _ in 0..count {
-        text.push_str("wait 0\n")?;
+        text.push_str("wait 0\n").expect(rt, "memory");
     }
-    text.push_str(last)?;
-    Ok(text)
+    text.push_str(last).expect(rt, "memory");
+    results(rt, alloc, cluster, text.as_str())
 }
 
 #[test]
-fn ten_thousand_results_are_read(rt: HostRuntime) -> Result<(), Fail> {
+fn ten_thousand_results_are_read(rt: HostRuntime) {
     let alloc = rt.alloc();
-    let cluster = cluster_of(&rt, alloc, CONFIGURATION)?;
-    let text = waits(alloc, 9_999, "wait x\n")?;
-    let read = results(&rt, alloc, &cluster, text.as_str())?;
+    let cluster = cluster(&rt, alloc, CONFIGURATION);
+    let read = results_of_waits(&rt, alloc, &cluster, 9_999, "wait x\n");
     assert_eq!(rt; read.as_str(), "10000 BadValue");
-    let text = waits(alloc, 10_000, "")?;
-    let read = results(&rt, alloc, &cluster, text.as_str())?;
+    let read = results_of_waits(&rt, alloc, &cluster, 10_000, "");
     assert!(rt; read.as_str().ends_with("10000 Wait { seconds: 0 } "));
-    let text = waits(alloc, 10_000, "%results x\n")?;
-    let read = results(&rt, alloc, &cluster, text.as_str())?;
+    let read = results_of_waits(&rt, alloc, &cluster, 10_000, "%results x\n");
     assert_eq!(rt; read.as_str(), "10001 TooManyResults");
-    Ok(())
 }
 
 /// A moment, how many results came before, the bytes of a line, and its answer or its fault.
@@ -396,22 +409,15 @@ fn one_result(
 }
 
 #[test]
-fn results_are_read_line_by_line(rt: HostRuntime) -> Result<(), Fail> {
+fn results_are_read_line_by_line(rt: HostRuntime) {
     let alloc = rt.alloc();
-    let cluster = cluster_of(&rt, alloc, CONFIGURATION)?;
-    let Ok(mut words) = WordBuf::new(alloc) else {
-        return Err(Fail::from("no memory"));
-    };
+    let cluster = cluster(&rt, alloc, CONFIGURATION);
+    let mut words = WordBuf::new(alloc).expect(&rt, "memory");
     for row in LINES.as_slice() {
         let read = one_result(&rt, &cluster, &mut words, row);
-        assert_eq!(rt;
-            format!(in alloc; "{read:?}")?.as_str(),
-            row.3,
-            "{:?}",
-            row.2
-        );
+        let shown = format!(in alloc; "{read:?}").expect(&rt, "memory");
+        assert_eq!(rt; shown.as_str(), row.3, "{:?}", row.2);
     }
-    Ok(())
 }
 
 #[test]
@@ -434,17 +440,15 @@ fn codes_have_their_class(rt: HostRuntime) {
 }
 
 #[test]
-fn faults_print_their_line(rt: HostRuntime) -> Result<(), Fail> {
+fn faults_print_their_line(rt: HostRuntime) {
     let alloc = rt.alloc();
     let fault = ResultFault::At {
         line: 7,
         cause: ResultCause::TooManyResults,
     };
-    assert_eq!(rt;
-        format!(in alloc; "{fault}")?.as_str(),
-        "line 7: TooManyResults"
-    );
+    let shown = format!(in alloc; "{fault}").expect(&rt, "memory");
+    assert_eq!(rt; shown.as_str(), "line 7: TooManyResults");
     let fault = StatusFault::NoMemory;
-    assert_eq!(rt; format!(in alloc; "{fault}")?.as_str(), "out of memory");
-    Ok(())
+    let shown = format!(in alloc; "{fault}").expect(&rt, "memory");
+    assert_eq!(rt; shown.as_str(), "out of memory");
 }

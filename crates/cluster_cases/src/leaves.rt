@@ -3,16 +3,16 @@
 use crate::reading::{crm, shown};
 use clone_expand::{ExpandCause, ExpandFault, Leaves, expand};
 use cluster_types::Leaf;
-use std::alloc::Global;
+use std::alloc::{AllocError, Global};
+use std::process::Abort;
 use std::str;
-use std::test::Fail;
 
-fn leaves(alloc: Global, text: &str) -> Result<Leaves, Fail> {
-    Ok(expand(alloc, &crm(alloc, text)?)?)
+fn leaves(rt: &impl Abort, alloc: Global, text: &str) -> Leaves {
+    expand(alloc, &crm(rt, alloc, text)).expect(rt, "the leaves are made")
 }
 
 /// Its copies and promoted copies, and which of cloned, interleave, promotable and follower it is.
-fn tell_copies(told: &mut String, leaf: &Leaf) -> Result<(), Fail> {
+fn tell_copies(told: &mut String, leaf: &Leaf) -> Result<(), AllocError> {
     let name = shown(&leaf.name);
     let cloned = if leaf.cloned { "c" } else { "" };
     let interleave = if leaf.interleave { "i" } else { "" };
@@ -22,20 +22,19 @@ fn tell_copies(told: &mut String, leaf: &Leaf) -> Result<(), Fail> {
     write!(
         told,
         "{name} {most} {promoted} {cloned}{interleave}{promotable}{follower};"
-    )?;
-    Ok(())
+    )
 }
 
-fn all_copies(alloc: Global, leaves: &Leaves) -> Result<String, Fail> {
+fn all_copies(rt: &impl Abort, alloc: Global, leaves: &Leaves) -> String {
     let mut told = String::new(alloc);
     for leaf in leaves.leaves.iter() {
-        tell_copies(&mut told, leaf)?;
+        tell_copies(&mut told, leaf).expect(rt, "memory");
     }
-    Ok(told)
+    told
 }
 
 #[test]
-fn copies_of_leaves(rt: HostRuntime) -> Result<(), Fail> {
+fn copies_of_leaves(rt: HostRuntime) {
     let table = [
         (
             "node n1|primitive a Dummy|primitive b Dummy",
@@ -63,15 +62,14 @@ fn copies_of_leaves(rt: HostRuntime) -> Result<(), Fail> {
         ),
     ];
     for (text, want) in table {
-        let leaves = leaves(rt.alloc(), text)?;
-        let told = all_copies(rt.alloc(), &leaves)?;
+        let leaves = leaves(&rt, rt.alloc(), text);
+        let told = all_copies(&rt, rt.alloc(), &leaves);
         assert_eq!(rt; told.as_str(), want, "{text}");
     }
-    Ok(())
 }
 
 /// Its priority, stickiness, threshold, failure timeout and target role, and which of managed and migrates it is.
-fn tell_meta(told: &mut String, leaf: &Leaf) -> Result<(), Fail> {
+fn tell_meta(told: &mut String, leaf: &Leaf) -> Result<(), AllocError> {
     let name = shown(&leaf.name);
     let priority = leaf.priority.points;
     let stickiness = leaf.stickiness.points;
@@ -82,20 +80,19 @@ fn tell_meta(told: &mut String, leaf: &Leaf) -> Result<(), Fail> {
     write!(
         told,
         "{name} {priority} {stickiness} {threshold} {timeout} {role:?} {managed}{migrates};"
-    )?;
-    Ok(())
+    )
 }
 
-fn all_meta(alloc: Global, leaves: &Leaves) -> Result<String, Fail> {
+fn all_meta(rt: &impl Abort, alloc: Global, leaves: &Leaves) -> String {
     let mut told = String::new(alloc);
     for leaf in leaves.leaves.iter() {
-        tell_meta(&mut told, leaf)?;
+        tell_meta(&mut told, leaf).expect(rt, "memory");
     }
-    Ok(told)
+    told
 }
 
 #[test]
-fn meta_attributes_of_leaves(rt: HostRuntime) -> Result<(), Fail> {
+fn meta_attributes_of_leaves(rt: HostRuntime) {
     let table = [
         ("primitive a Dummy", "a 0 0 1000000 0 Started m;"),
         ("primitive a Dummy|clone c a", "a 0 1 1000000 0 Started m;"),
@@ -121,15 +118,14 @@ fn meta_attributes_of_leaves(rt: HostRuntime) -> Result<(), Fail> {
         ),
     ];
     for (text, want) in table {
-        let leaves = leaves(rt.alloc(), text)?;
-        let told = all_meta(rt.alloc(), &leaves)?;
+        let leaves = leaves(&rt, rt.alloc(), text);
+        let told = all_meta(&rt, rt.alloc(), &leaves);
         assert_eq!(rt; told.as_str(), want, "{text}");
     }
-    Ok(())
 }
 
 /// What follows a failed start, stop, promote and demote, and the monitors with what follows their failure.
-fn tell_operations(told: &mut String, leaf: &Leaf) -> Result<(), Fail> {
+fn tell_operations(told: &mut String, leaf: &Leaf) -> Result<(), AllocError> {
     let (start, stop) = (leaf.start_fail, leaf.stop_fail);
     let (promote, demote) = (leaf.promote_fail, leaf.demote_fail);
     write!(told, "{start:?} {stop:?} {promote:?} {demote:?}")?;
@@ -137,20 +133,19 @@ fn tell_operations(told: &mut String, leaf: &Leaf) -> Result<(), Fail> {
         let (interval, role, on_fail) = (monitor.interval_ms, monitor.role, monitor.on_fail);
         write!(told, " {interval} {role:?} {on_fail:?}")?;
     }
-    write!(told, ";")?;
-    Ok(())
+    write!(told, ";")
 }
 
-fn all_operations(alloc: Global, leaves: &Leaves) -> Result<String, Fail> {
+fn all_operations(rt: &impl Abort, alloc: Global, leaves: &Leaves) -> String {
     let mut told = String::new(alloc);
     for leaf in leaves.leaves.iter() {
-        tell_operations(&mut told, leaf)?;
+        tell_operations(&mut told, leaf).expect(rt, "memory");
     }
-    Ok(told)
+    told
 }
 
 #[test]
-fn operations_of_leaves(rt: HostRuntime) -> Result<(), Fail> {
+fn operations_of_leaves(rt: HostRuntime) {
     let table = [
         ("primitive a Dummy", "Restart Fence Restart Restart;"),
         (
@@ -167,24 +162,23 @@ fn operations_of_leaves(rt: HostRuntime) -> Result<(), Fail> {
         ),
     ];
     for (text, want) in table {
-        let leaves = leaves(rt.alloc(), text)?;
-        let told = all_operations(rt.alloc(), &leaves)?;
+        let leaves = leaves(&rt, rt.alloc(), text);
+        let told = all_operations(&rt, rt.alloc(), &leaves);
         assert_eq!(rt; told.as_str(), want, "{text}");
     }
-    Ok(())
 }
 
-fn all_spans(alloc: Global, leaves: &Leaves) -> Result<String, Fail> {
+fn all_spans(rt: &impl Abort, alloc: Global, leaves: &Leaves) -> String {
     let mut told = String::new(alloc);
     for span in leaves.spans.iter() {
         let (name, first, last) = (shown(&span.name), span.first, span.last);
-        write!(told, "{name} {first} {last};")?;
+        write!(told, "{name} {first} {last};").expect(rt, "memory");
     }
-    Ok(told)
+    told
 }
 
 #[test]
-fn spans_of_resources(rt: HostRuntime) -> Result<(), Fail> {
+fn spans_of_resources(rt: HostRuntime) {
     let table = [
         ("node n1", ""),
         (
@@ -193,23 +187,23 @@ fn spans_of_resources(rt: HostRuntime) -> Result<(), Fail> {
         ),
     ];
     for (text, want) in table {
-        let leaves = leaves(rt.alloc(), text)?;
-        let told = all_spans(rt.alloc(), &leaves)?;
+        let leaves = leaves(&rt, rt.alloc(), text);
+        let told = all_spans(&rt, rt.alloc(), &leaves);
         assert_eq!(rt; told.as_str(), want, "{text}");
     }
-    Ok(())
 }
 
-fn fault(alloc: Global, text: &str) -> Result<Option<(u32, ExpandCause)>, Fail> {
-    match expand(alloc, &crm(alloc, text)?) {
-        Ok(_) => Ok(None),
-        Err(ExpandFault::At { line, cause }) => Ok(Some((line, cause))),
-        Err(ExpandFault::NoMemory) => Err(Fail::from(ExpandFault::NoMemory)),
+/// The line and the cause of the fault, where there is one.
+fn fault(rt: &impl Abort, alloc: Global, text: &str) -> Option<(u32, ExpandCause)> {
+    match expand(alloc, &crm(rt, alloc, text)) {
+        Ok(_) => None,
+        Err(ExpandFault::At { line, cause }) => Some((line, cause)),
+        Err(ExpandFault::NoMemory) => panic!(rt; "memory"),
     }
 }
 
 #[test]
-fn faults_by_statement(rt: HostRuntime) -> Result<(), Fail> {
+fn faults_by_statement(rt: HostRuntime) {
     let table = [
         ("node a|primitive a Dummy", None),
         (
@@ -268,7 +262,6 @@ fn faults_by_statement(rt: HostRuntime) -> Result<(), Fail> {
         ),
     ];
     for (text, want) in table {
-        assert_eq!(rt; fault(rt.alloc(), text)?, want, "{text}");
+        assert_eq!(rt; fault(&rt, rt.alloc(), text), want, "{text}");
     }
-    Ok(())
 }

@@ -13,8 +13,6 @@ mod leaves;
 #[cfg(test)]
 mod loops_of_rules;
 #[cfg(test)]
-mod plain;
-#[cfg(test)]
 mod reading;
 #[cfg(test)]
 mod tables_and_graphs;

@@ -1,193 +1,160 @@
 //! Which rule closes a loop.
 
-use crate::plain::cluster_of;
-use crate::reading::name;
+use crate::reading::{cluster, name};
 use cluster_types::{Cluster, Colocation, LeafId, Op, Order, OrderKind, Role};
 use listed::Listed;
 use rule_loops::{colocation_loop, joins_leaves, order_loop, orders_steps};
 use score::Score;
 use std::alloc::Global;
 use std::process::Abort;
-use std::test::Fail;
 
-const LEAVES: &str = "node n\nprimitive a ocf:pacemaker:Dummy\nprimitive b ocf:pacemaker:Dummy\n\
-    primitive c ocf:pacemaker:Stateful\nclone cs c meta promotable=true\n";
+const LEAVES: &str = "node n|primitive a ocf:pacemaker:Dummy|primitive b ocf:pacemaker:Dummy|\
+    primitive c ocf:pacemaker:Stateful|clone cs c meta promotable=true";
 
 /// Three leaves, of which the last is promotable, with these rules among them.
-fn cluster(
+fn cluster_with(
     rt: &impl Abort,
     alloc: Global,
     colocations: Listed<Colocation>,
     orders: Listed<Order>,
-) -> Result<Cluster, Fail> {
-    let mut cluster = cluster_of(rt, alloc, LEAVES)?;
+) -> Cluster {
+    let mut cluster = cluster(rt, alloc, LEAVES);
     cluster.colocations = colocations;
     cluster.orders = orders;
-    Ok(cluster)
+    cluster
 }
 
-fn closing_colocation(alloc: Global, cluster: &Cluster) -> Result<Option<usize>, Fail> {
-    if cluster.leaves.len() > 1_000 || !joins_leaves(cluster) {
-        return Err(Fail::from("a leaf that isn't there"));
-    }
-    match colocation_loop(alloc, cluster) {
-        Ok(place) => Ok(place),
-        Err(_) => Err(Fail::from("no memory")),
+fn closing_colocation(rt: &impl Abort, alloc: Global, cluster: &Cluster) -> Option<usize> {
+    assert!(rt; cluster.leaves.len() <= 1_000);
+    assert!(rt; joins_leaves(cluster));
+    colocation_loop(alloc, cluster).expect(rt, "memory")
+}
+
+fn closing_order(rt: &impl Abort, alloc: Global, cluster: &Cluster) -> Option<usize> {
+    assert!(rt; cluster.leaves.len() <= 1_000);
+    assert!(rt; orders_steps(cluster));
+    order_loop(alloc, cluster).expect(rt, "memory")
+}
+
+/// The leaf and the role of the dependent, and of the primary.
+type Pair = (LeafId, Role, LeafId, Role);
+
+fn colocation(rt: &impl Abort, alloc: Global, pair: &Pair) -> Colocation {
+    let (dependent, dependent_role, primary, primary_role) = *pair;
+    Colocation {
+        id: name(rt, alloc, "x"),
+        dependent,
+        dependent_role,
+        primary,
+        primary_role,
+        score: Score { points: 5 },
     }
 }
 
-fn closing_order(alloc: Global, cluster: &Cluster) -> Result<Option<usize>, Fail> {
-    if cluster.leaves.len() > 1_000 || !orders_steps(cluster) {
-        return Err(Fail::from("a leaf that isn't there"));
+/// Which colocation closes a loop, of those of finite scores between these leaves and roles.
+fn colocated(rt: &impl Abort, alloc: Global, pairs: &[Pair]) -> Option<usize> {
+    let mut colocations = Listed::new(alloc);
+    for pair in pairs {
+        colocations
+            .push(colocation(rt, alloc, pair))
+            .expect(rt, "memory");
     }
-    match order_loop(alloc, cluster) {
-        Ok(place) => Ok(place),
-        Err(_) => Err(Fail::from("no memory")),
+    let cluster = cluster_with(rt, alloc, colocations, Listed::new(alloc));
+    closing_colocation(rt, alloc, &cluster)
+}
+
+const S: Role = Role::Started;
+
+const P: Role = Role::Promoted;
+
+/// Colocations, and which of them closes a loop.
+const COLOCATED: [(&[Pair], Option<usize>); 5] = [
+    (&[], None),
+    (&[(0, S, 1, S), (1, S, 0, S)], Some(1)),
+    (&[(0, S, 1, S), (0, S, 2, P), (1, S, 1, S)], Some(2)),
+    (&[(2, P, 2, S), (2, S, 0, S)], None),
+    (&[(2, P, 0, S), (2, S, 2, P), (0, S, 0, S)], Some(1)),
+];
+
+#[test]
+fn colocations_that_need_each_other(rt: HostRuntime) {
+    for (pairs, want) in COLOCATED {
+        assert_eq!(rt; colocated(&rt, rt.alloc(), pairs), want, "{pairs:?}");
     }
 }
 
-/// Which colocation closes a loop, of those of finite scores between these leaves and roles, the dependent first.
-fn colocated(
+/// A step, and the one that comes behind it.
+type Steps = (Op, LeafId, Op, LeafId);
+
+fn order(
     rt: &impl Abort,
     alloc: Global,
-    pairs: &[(LeafId, Role, LeafId, Role)],
-) -> Result<Option<usize>, Fail> {
-    let mut colocations = Listed::new(alloc);
-    for (dependent, dependent_role, primary, primary_role) in pairs {
-        colocations.push(Colocation {
-            id: name(alloc, "x")?,
-            dependent: *dependent,
-            dependent_role: *dependent_role,
-            primary: *primary,
-            primary_role: *primary_role,
-            score: Score { points: 5 },
-        })?;
+    kind: OrderKind,
+    symmetrical: bool,
+    steps: &Steps,
+) -> Order {
+    let (first_op, first, then_op, then_leaf) = *steps;
+    Order {
+        id: name(rt, alloc, "x"),
+        kind,
+        first,
+        first_op,
+        then_leaf,
+        then_op,
+        symmetrical,
+        local: false,
     }
-    closing_colocation(alloc, &cluster(rt, alloc, colocations, Listed::new(alloc))?)
 }
 
-/// Which order closes a loop, of those of this kind between these steps, the first before the second.
+/// Which order closes a loop, of those of this kind between these steps.
 fn ordered(
     rt: &impl Abort,
     alloc: Global,
     kind: OrderKind,
     symmetrical: bool,
-    pairs: &[(Op, LeafId, Op, LeafId)],
-) -> Result<Option<usize>, Fail> {
+    pairs: &[Steps],
+) -> Option<usize> {
     let mut orders = Listed::new(alloc);
-    for (first_op, first, then_op, then_leaf) in pairs {
-        orders.push(Order {
-            id: name(alloc, "x")?,
-            kind,
-            first: *first,
-            first_op: *first_op,
-            then_leaf: *then_leaf,
-            then_op: *then_op,
-            symmetrical,
-            local: false,
-        })?;
+    for steps in pairs {
+        orders
+            .push(order(rt, alloc, kind, symmetrical, steps))
+            .expect(rt, "memory");
     }
-    closing_order(alloc, &cluster(rt, alloc, Listed::new(alloc), orders)?)
+    let cluster = cluster_with(rt, alloc, Listed::new(alloc), orders);
+    closing_order(rt, alloc, &cluster)
 }
 
-#[test]
-fn colocations_that_need_each_other(rt: HostRuntime) -> Result<(), Fail> {
-    let alloc = rt.alloc();
-    let started = Role::Started;
-    let promoted = Role::Promoted;
-    assert_eq!(rt; colocated(&rt, alloc, &[])?, None);
-    assert_eq!(rt;
-        colocated(
-            &rt,
-            alloc,
-            &[(0, started, 1, started), (1, started, 0, started)]
-        )?,
-        Some(1)
-    );
-    assert_eq!(rt;
-        colocated(
-            &rt,
-            alloc,
-            &[
-                (0, started, 1, started),
-                (0, started, 2, promoted),
-                (1, started, 1, started)
-            ]
-        )?,
-        Some(2)
-    );
-    assert_eq!(rt;
-        colocated(
-            &rt,
-            alloc,
-            &[(2, promoted, 2, started), (2, started, 0, started)]
-        )?,
-        None
-    );
-    assert_eq!(rt;
-        colocated(
-            &rt,
-            alloc,
-            &[
-                (2, promoted, 0, started),
-                (2, started, 2, promoted),
-                (0, started, 0, started)
-            ]
-        )?,
-        Some(1)
-    );
-    Ok(())
-}
+const STARTS: [Steps; 2] = [(Op::Start, 0, Op::Start, 1), (Op::Start, 1, Op::Start, 0)];
+
+const STARTS_AND_STOPS: [Steps; 2] = [(Op::Start, 0, Op::Start, 1), (Op::Stop, 0, Op::Stop, 1)];
+
+const ACROSS: [Steps; 2] = [(Op::Stop, 0, Op::Start, 1), (Op::Stop, 1, Op::Start, 0)];
+
+const PROMOTES: [Steps; 2] = [(Op::Promote, 2, Op::Start, 0), (Op::Start, 0, Op::Start, 2)];
+
+/// The second leaf can't be promoted.
+const NOT_THERE: [Steps; 2] = [
+    (Op::Promote, 1, Op::Start, 0),
+    (Op::Start, 0, Op::Promote, 1),
+];
+
+/// The kind of the orders, whether they are symmetrical, their steps, and which of them closes a loop.
+const ORDERED: [(OrderKind, bool, &[Steps], Option<usize>); 9] = [
+    (OrderKind::Mandatory, true, &[], None),
+    (OrderKind::Mandatory, true, &STARTS, Some(1)),
+    (OrderKind::Optional, false, &STARTS, Some(1)),
+    (OrderKind::Serialize, true, &STARTS, None),
+    (OrderKind::Mandatory, true, &STARTS_AND_STOPS, Some(1)),
+    (OrderKind::Mandatory, false, &STARTS_AND_STOPS, None),
+    (OrderKind::Mandatory, true, &ACROSS, None),
+    (OrderKind::Mandatory, false, &PROMOTES, Some(1)),
+    (OrderKind::Mandatory, false, &NOT_THERE, None),
+];
 
 #[test]
-fn orders_that_come_before_each_other(rt: HostRuntime) -> Result<(), Fail> {
-    let alloc = rt.alloc();
-    let starts = [(Op::Start, 0, Op::Start, 1), (Op::Start, 1, Op::Start, 0)];
-    assert_eq!(rt; ordered(&rt, alloc, OrderKind::Mandatory, true, &[])?, None);
-    assert_eq!(rt;
-        ordered(&rt, alloc, OrderKind::Mandatory, true, &starts)?,
-        Some(1)
-    );
-    assert_eq!(rt;
-        ordered(&rt, alloc, OrderKind::Optional, false, &starts)?,
-        Some(1)
-    );
-    assert_eq!(rt;
-        ordered(&rt, alloc, OrderKind::Serialize, true, &starts)?,
-        None
-    );
-    Ok(())
-}
-
-#[test]
-fn orders_of_stops_and_promotes(rt: HostRuntime) -> Result<(), Fail> {
-    let alloc = rt.alloc();
-    let mixed = [(Op::Start, 0, Op::Start, 1), (Op::Stop, 0, Op::Stop, 1)];
-    assert_eq!(rt;
-        ordered(&rt, alloc, OrderKind::Mandatory, true, &mixed)?,
-        Some(1)
-    );
-    assert_eq!(rt;
-        ordered(&rt, alloc, OrderKind::Mandatory, false, &mixed)?,
-        None
-    );
-    let across = [(Op::Stop, 0, Op::Start, 1), (Op::Stop, 1, Op::Start, 0)];
-    assert_eq!(rt;
-        ordered(&rt, alloc, OrderKind::Mandatory, true, &across)?,
-        None
-    );
-    let promotes = [(Op::Promote, 2, Op::Start, 0), (Op::Start, 0, Op::Start, 2)];
-    assert_eq!(rt;
-        ordered(&rt, alloc, OrderKind::Mandatory, false, &promotes)?,
-        Some(1)
-    );
-    let not_there = [
-        (Op::Promote, 1, Op::Start, 0),
-        (Op::Start, 0, Op::Promote, 1),
-    ];
-    assert_eq!(rt;
-        ordered(&rt, alloc, OrderKind::Mandatory, false, &not_there)?,
-        None
-    );
-    Ok(())
+fn orders_that_come_before_each_other(rt: HostRuntime) {
+    for (kind, symmetrical, steps, want) in ORDERED {
+        let found = ordered(&rt, rt.alloc(), kind, symmetrical, steps);
+        assert_eq!(rt; found, want, "{steps:?}");
+    }
 }

@@ -1,36 +1,50 @@
-//! The statements of a text, and names, for the tests that begin with them.
+//! Clusters, statements and names of a text, for the tests that begin with them.
 
+use clone_expand::expand;
+use cluster_model::resolve;
+use cluster_types::Cluster;
 use crm_lex::{Line, Name};
 use crm_parse::{Crm, parse};
 use listed::Listed;
 use std::alloc::Global;
+use std::process::Abort;
 use std::str;
-use std::test::Fail;
+
+/// The words of a line, which are parted by single spaces.
+fn words(rt: &impl Abort, alloc: Global, line: &str) -> Listed<Name> {
+    let mut words = Listed::new(alloc);
+    for word in line.split(' ') {
+        words.push(name(rt, alloc, word)).expect(rt, "memory");
+    }
+    words
+}
 
 /// The statements of a text, whose words are parted by single spaces. A `|` ends a line.
-pub fn crm(alloc: Global, text: &str) -> Result<Crm, Fail> {
+pub fn crm(rt: &impl Abort, alloc: Global, text: &str) -> Crm {
     let mut lines = Vec::new(alloc);
     let mut number = 0u32;
     for line in text.split('|') {
-        let mut words = Listed::new(alloc);
-        for word in line.split(' ') {
-            words.push(Name::from_bytes(alloc, word.as_bytes())?)?;
-        }
         number = number.saturating_add(1);
-        lines.push(Line {
-            line: number,
-            words,
-        })?;
+        lines
+            .push(Line {
+                line: number,
+                words: words(rt, alloc, line),
+            })
+            .expect(rt, "memory");
     }
-    Ok(parse(alloc, lines.as_slice())?)
+    parse(alloc, lines.as_slice()).expect(rt, "the statements are read")
+}
+
+/// The cluster of a text, whose words and lines are parted so.
+pub fn cluster(rt: &impl Abort, alloc: Global, text: &str) -> Cluster {
+    let crm = crm(rt, alloc, text);
+    let leaves = expand(alloc, &crm).expect(rt, "the leaves are made");
+    resolve(alloc, &crm, &leaves).expect(rt, "the names are resolved")
 }
 
 /// A name of this text.
-pub fn name(alloc: Global, text: &str) -> Result<Name, Fail> {
-    match Name::from_bytes(alloc, text.as_bytes()) {
-        Ok(name) => Ok(name),
-        Err(_) => Err(Fail::from("no memory")),
-    }
+pub fn name(rt: &impl Abort, alloc: Global, text: &str) -> Name {
+    Name::from_bytes(alloc, text.as_bytes()).expect(rt, "memory")
 }
 
 /// The text of a name.

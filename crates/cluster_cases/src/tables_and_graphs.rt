@@ -7,13 +7,10 @@ use cluster_types::{
 };
 use listed::Listed;
 use std::alloc::{AllocError, Global};
-use std::test::Fail;
 
 #[test]
-fn a_table_keeps_each_target(rt: HostRuntime) -> Result<(), Fail> {
-    let Ok(table) = Table::nowhere(rt.alloc(), 2, 3) else {
-        return Err(Fail::from("no memory"));
-    };
+fn a_table_keeps_each_target(rt: HostRuntime) {
+    let table = Table::nowhere(rt.alloc(), 2, 3).expect(&rt, "memory");
     assert_eq!(rt; table.targets.len(), 6);
     let table = table
         .with_target(1, 2, Target::Promoted)
@@ -22,7 +19,6 @@ fn a_table_keeps_each_target(rt: HostRuntime) -> Result<(), Fail> {
     assert_eq!(rt; table.target(0, 1), Target::Started);
     assert_eq!(rt; table.target(1, 1), Target::Nowhere);
     assert_eq!(rt; table.target(0, 2), Target::Nowhere);
-    Ok(())
 }
 
 fn probe(node: u32) -> Action
@@ -49,8 +45,8 @@ fn joined(alloc: Global) -> Result<Graph, AllocError> {
 }
 
 #[test]
-fn an_action_comes_before_others_through_gates_alone(rt: HostRuntime) -> Result<(), Fail> {
-    let graph = joined(rt.alloc())?;
+fn an_action_comes_before_others_through_gates_alone(rt: HostRuntime) {
+    let graph = joined(rt.alloc()).expect(&rt, "memory");
     assert_eq!(rt; graph.count(), 4);
     assert_eq!(rt; graph.edges().positions, 6);
     assert_eq!(rt; graph.action(2), Action::Probe { leaf: 0, node: 1 });
@@ -65,34 +61,25 @@ fn an_action_comes_before_others_through_gates_alone(rt: HostRuntime) -> Result<
     ] {
         assert_eq!(rt; graph.is_before(x, y), before);
     }
-    Ok(())
 }
 
 #[test]
-fn the_numbers_before_one(rt: HostRuntime) -> Result<(), Fail> {
-    let graph = joined(rt.alloc())?;
+fn the_numbers_before_one(rt: HostRuntime) {
+    let graph = joined(rt.alloc()).expect(&rt, "memory");
     assert_eq!(rt; graph.count(), 4);
-    let Ok(before_the_third) = graph.befores(rt.alloc(), 3) else {
-        return Err(Fail::from("no memory"));
-    };
+    let before_the_third = graph.befores(rt.alloc(), 3).expect(&rt, "memory");
     assert_eq!(rt; before_the_third.as_slice(), [1, 2].as_slice());
-    let Ok(before_the_last) = graph.befores(rt.alloc(), 4) else {
-        return Err(Fail::from("no memory"));
-    };
+    let before_the_last = graph.befores(rt.alloc(), 4).expect(&rt, "memory");
     assert_eq!(rt; before_the_last.as_slice(), [3].as_slice());
-    Ok(())
 }
 
 #[test]
-fn a_leaf_holds_the_roles_of_its_target(rt: HostRuntime) -> Result<(), Fail> {
-    let Ok(table) = Table::nowhere(rt.alloc(), 2, 3) else {
-        return Err(Fail::from("no memory"));
-    };
+fn a_leaf_holds_the_roles_of_its_target(rt: HostRuntime) {
+    let table = Table::nowhere(rt.alloc(), 2, 3).expect(&rt, "memory");
     assert_eq!(rt; table.targets.len(), 6);
     let table = table.with_target(1, 2, Target::Promoted);
     assert_eq!(rt; table.holds_role(1, Role::Started, 2), true);
     assert_eq!(rt; table.holds_role(1, Role::Promoted, 2), true);
     assert_eq!(rt; table.holds_role(0, Role::Started, 2), false);
     assert_eq!(rt; table.target(7, 9), Target::Nowhere);
-    Ok(())
 }

@@ -1,19 +1,15 @@
 //! The runs of worked examples, line by line.
 
-ghost use Rattle.std.specs.Prelude.{◌≡◌, ◌<◌, ◌^◌, IfOk};
-ghost use Rattle.cluster_types.specs.Journals.{moment_of};
-ghost use Rattle.cluster_types.specs.Safety.{IsAtRest};
-ghost use Rattle.cluster_types.specs.Valid.{IsValid};
+ghost use Rattle.std.specs.Prelude.{◌≡◌};
 
+use crate::graphs::start_of;
 use crate::shown::{Said, answer_in_short};
 use crate::transitions::script_of;
-use cluster_types::{Action, Answer, Cluster, Journal, NodeId, Placed, Target};
+use cluster_types::{Action, Answer, Journal, NodeId, Placed, Target};
 use graph_exec::{Failing, Heard, Outcomes, Watcher};
 use replan::{ReplayStop, replay_watched};
-use sim_core::read_input;
 use std::alloc::Global;
 use std::process::Abort;
-use std::test::Fail;
 
 /// A line that a watcher is told, in short.
 #[derive(Clone, Copy, Debug, PartialEq, Eq)]
@@ -117,19 +113,6 @@ fn ending_of(made: Result<Journal, ReplayStop>) -> RunEnding {
     }
 }
 
-/// The cluster and the first journal of an input, which is valid.
-fn start_of(rt: &impl Abort, alloc: Global, text: &str) -> Result<(Cluster, Journal), Fail>
-    ensures valid { IfOk result (λ start. IsValid start.0) }
-    ensures at_rest { IfOk result (λ start. IsAtRest start.1.events) }
-    ensures moment { IfOk result (λ start. moment_of start.1.events < 2 ^ 64) }
-{
-    assert!(rt; text.len() <= 16_777_216);
-    match read_input(alloc, text.as_bytes()) {
-        Ok(input) => Ok((input.head.cluster, input.head.journal)),
-        Err(_) => Err(Fail::from("the input is refused")),
-    }
-}
-
 const FRESH: &str =
     "node n1\nnode n2\nprimitive vip IPaddr2\n%status\nnow 1000\nquorum yes\nnode n1 online\nnode n2 online\n";
 
@@ -218,8 +201,8 @@ fn follow<S: Outcomes>(
     source: &mut S,
     most: u32,
     lines: &[Line],
-) -> Result<RunEnding, Fail> {
-    let (cluster, journal) = start_of(rt, alloc, text)?;
+) -> RunEnding {
+    let (cluster, journal) = start_of(rt, alloc, text);
     let mut follower = Follower {
         lines,
         told: 0,
@@ -228,32 +211,30 @@ fn follow<S: Outcomes>(
     let made = replay_watched(alloc, &cluster, journal, source, &mut follower, most);
     assert!(rt; follower.agrees);
     assert_eq!(rt; follower.told, lines.len());
-    Ok(ending_of(made))
+    ending_of(made)
 }
 
 #[test]
-fn runs_go_as_worked_out(rt: HostRuntime) -> Result<(), Fail> {
+fn runs_go_as_worked_out(rt: HostRuntime) {
     let alloc = rt.alloc();
     for row in &ROWS {
         let (text, said, most, lines, expected) = *row;
-        let mut script = script_of(&rt, alloc, said)?;
-        let ending = follow(&rt, alloc, text, &mut script, most, lines)?;
+        let mut script = script_of(&rt, alloc, said);
+        let ending = follow(&rt, alloc, text, &mut script, most, lines);
         assert!(rt; ending == expected);
     }
-    Ok(())
 }
 
 #[test]
-fn a_fault_breaks_a_run_off(rt: HostRuntime) -> Result<(), Fail> {
+fn a_fault_breaks_a_run_off(rt: HostRuntime) {
     let alloc = rt.alloc();
-    let mut source = Failing::new(Vec::new(alloc), [2].to_vec(alloc)?);
+    let mut source = Failing::new(Vec::new(alloc), [2].to_vec(alloc).expect(&rt, "memory"));
     let lines = [
         Line::Transition(1, Some(0)),
         Line::Begin(1),
         Line::Begin(2),
         Line::Taken(Said::End(1, 7)),
     ];
-    let ending = follow(&rt, alloc, FRESH, &mut source, 2, &lines)?;
+    let ending = follow(&rt, alloc, FRESH, &mut source, 2, &lines);
     assert!(rt; ending == RunEnding::SourceFault);
-    Ok(())
 }

@@ -10,7 +10,6 @@ use cluster_types::{Action, Cluster, Edge, Journal, NodeId, Op, Role, moment_of}
 use graph_exec::{Executor, Failing, Script, run_transition};
 use std::alloc::Global;
 use std::process::Abort;
-use std::test::Fail;
 
 /// Two nodes, of which nothing is known but that they are there, and a resource.
 const TWO: &str =
@@ -246,6 +245,27 @@ fn action(todo: Todo) -> Action {
     }
 }
 
+fn actions_of(rt: &impl Abort, alloc: Global, todos: &[Todo]) -> Vec<Action> {
+    let mut actions = Vec::new(alloc);
+    for todo in todos {
+        actions.push(action(*todo)).expect(rt, "memory");
+    }
+    actions
+}
+
+fn edges_of(rt: &impl Abort, alloc: Global, pairs: &[(u32, u32)]) -> Vec<Edge> {
+    let mut edges = Vec::new(alloc);
+    for (before, after) in pairs {
+        edges
+            .push(Edge {
+                before: *before,
+                after: *after,
+            })
+            .expect(rt, "memory");
+    }
+    edges
+}
+
 /// An executor of a plan for a journal.
 fn executor_of<'c>(
     rt: &impl Abort,
@@ -253,36 +273,26 @@ fn executor_of<'c>(
     cluster: &'c Cluster,
     journal: Journal,
     plan: Plan,
-) -> Result<Executor<'c>, Fail>
+) -> Executor<'c>
     requires limits { KeepsLimits cluster.now }
     requires monitors { has_few_monitors cluster.now ≡ true }
 {
     assert!(rt; moment_of(journal.events.as_slice()) < 18_446_744_073_709_551_616);
-    let mut actions = Vec::new(alloc);
-    for todo in plan.actions {
-        actions.push(action(*todo))?;
-    }
-    let mut edges = Vec::new(alloc);
-    for (before, after) in plan.edges {
-        edges.push(Edge {
-            before: *before,
-            after: *after,
-        })?;
-    }
-    let graph = graph_of(actions, edges)?;
-    match Executor::new(alloc, cluster, journal, graph) {
-        Ok(executor) => Ok(executor),
-        Err(_) => Err(Fail::from("no memory")),
-    }
+    let actions = actions_of(rt, alloc, plan.actions);
+    let graph = graph_of(actions, edges_of(rt, alloc, plan.edges)).expect(rt, "a graph");
+    let Ok(executor) = Executor::new(alloc, cluster, journal, graph) else {
+        panic!(rt; "memory");
+    };
+    executor
 }
 
-pub(crate) fn script_of(rt: &impl Abort, alloc: Global, says: &[Said]) -> Result<Script, Fail> {
+pub(crate) fn script_of(rt: &impl Abort, alloc: Global, says: &[Said]) -> Script {
     let mut answers = Vec::new(alloc);
     for said in says {
-        answers.push(answer_of(*said))?;
+        answers.push(answer_of(*said)).expect(rt, "memory");
     }
     assert!(rt; answers.len() < 4_294_967_296);
-    Ok(Script::new(answers))
+    Script::new(answers)
 }
 
 /// Carries a transition out, and compares what comes of it.
@@ -292,75 +302,71 @@ fn carry_out(
     cluster: &Cluster,
     journal: Journal,
     transition: &Transition,
-) -> Result<Journal, Fail>
+) -> Journal
     requires limits { KeepsLimits cluster.now }
     requires monitors { has_few_monitors cluster.now ≡ true }
 {
     let (plan, answers, events, expected) = *transition;
     let from = journal.events.len();
-    let mut executor = executor_of(rt, alloc, cluster, journal, plan)?;
-    let mut script = script_of(rt, alloc, answers)?;
+    let mut executor = executor_of(rt, alloc, cluster, journal, plan);
+    let mut script = script_of(rt, alloc, answers);
     let end = end_in_short(run_transition(&mut executor, &mut script));
     assert!(rt; end == expected);
     let journal = executor.into_journal();
     compare(rt, journal.events.as_slice(), from, events);
-    Ok(journal)
+    journal
 }
 
 #[test]
-fn transitions_go_as_worked_out_by_hand(rt: HostRuntime) -> Result<(), Fail> {
+fn transitions_go_as_worked_out_by_hand(rt: HostRuntime) {
     let alloc = rt.alloc();
     for row in &ROWS {
         let (text, transitions) = *row;
-        let (cluster, mut journal) = start_of(&rt, alloc, text)?;
+        let (cluster, mut journal) = start_of(&rt, alloc, text);
         for transition in transitions {
-            journal = carry_out(&rt, alloc, &cluster, journal, transition)?;
+            journal = carry_out(&rt, alloc, &cluster, journal, transition);
         }
     }
-    Ok(())
 }
 
 #[test]
-fn a_transition_goes_on_after_an_answer_that_does_not_apply(rt: HostRuntime) -> Result<(), Fail> {
+fn a_transition_goes_on_after_an_answer_that_does_not_apply(rt: HostRuntime) {
     let alloc = rt.alloc();
-    let (cluster, journal) = start_of(&rt, alloc, TWO)?;
-    let mut executor = executor_of(&rt, alloc, &cluster, journal, PROBED)?;
-    let mut first = script_of(&rt, alloc, &[Said::End(3, 0)])?;
+    let (cluster, journal) = start_of(&rt, alloc, TWO);
+    let mut executor = executor_of(&rt, alloc, &cluster, journal, PROBED);
+    let mut first = script_of(&rt, alloc, &[Said::End(3, 0)]);
     let before = end_in_short(run_transition(&mut executor, &mut first));
     assert!(rt; before == Ending::Unexpected(Said::End(3, 0)));
-    let mut second = script_of(&rt, alloc, &[])?;
+    let mut second = script_of(&rt, alloc, &[]);
     let after = end_in_short(run_transition(&mut executor, &mut second));
     assert!(rt; after == Ending::Complete);
     assert_eq!(rt; first.taken(), 1);
-    Ok(())
 }
 
 #[test]
-fn a_transition_goes_on_after_a_fault(rt: HostRuntime) -> Result<(), Fail> {
+fn a_transition_goes_on_after_a_fault(rt: HostRuntime) {
     let alloc = rt.alloc();
-    let (cluster, journal) = start_of(&rt, alloc, TWO)?;
-    let mut executor = executor_of(&rt, alloc, &cluster, journal, PROBED)?;
-    let mut source = Failing::new(Vec::new(alloc), [1].to_vec(alloc)?);
+    let (cluster, journal) = start_of(&rt, alloc, TWO);
+    let mut executor = executor_of(&rt, alloc, &cluster, journal, PROBED);
+    let mut source = Failing::new(Vec::new(alloc), [1].to_vec(alloc).expect(&rt, "memory"));
     let before = end_in_short(run_transition(&mut executor, &mut source));
     assert!(rt; before == Ending::SourceFault);
     let after = end_in_short(run_transition(&mut executor, &mut source));
     assert!(rt; after == Ending::Complete);
-    Ok(())
 }
 
 const WAITS: [Said; 257] = [Said::Wait(0); 257];
 
 #[test]
-fn a_transition_takes_256_answers_from_outside(rt: HostRuntime) -> Result<(), Fail> {
+fn a_transition_takes_256_answers_from_outside(rt: HostRuntime) {
     let alloc = rt.alloc();
-    let (cluster, journal) = start_of(&rt, alloc, TWO)?;
+    let (cluster, journal) = start_of(&rt, alloc, TWO);
     let from = journal.events.len();
-    let mut executor = executor_of(&rt, alloc, &cluster, journal, PROBED)?;
-    let mut script = script_of(&rt, alloc, &WAITS)?;
+    let mut executor = executor_of(&rt, alloc, &cluster, journal, PROBED);
+    let mut script = script_of(&rt, alloc, &WAITS);
     let end = end_in_short(run_transition(&mut executor, &mut script));
     assert!(rt; end == Ending::Unexpected(Said::Wait(0)));
     let journal = executor.into_journal();
     assert!(rt; journal.events.len() == from + 258);
     assert_eq!(rt; script.taken(), 257);
-    Ok(())
 }

@@ -5,7 +5,7 @@ ghost use Rattle.cluster_types.specs.Journals.{moment_of};
 ghost use Rattle.cluster_types.specs.Valid.{IsValid};
 
 use cluster_types::{Cluster, Journal};
-use sim_core::read_input;
+use input_reading::read_input;
 use std::alloc::Global;
 use std::process::Abort;
 use std::test::Fail;

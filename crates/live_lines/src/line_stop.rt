@@ -1,9 +1,10 @@
 //! Why no more answers come of lines.
 
 ghost use Rattle.std.specs.Prelude.{◌≡◌};
-ghost use Rattle.live_lines.specs.LineCauses.{lex_name, line_cause_name, result_name};
+ghost use Rattle.live_lines.specs.LineCauses.{line_cause_name};
 
 use crm_lex::LexCause;
+use input_reading::InputCause;
 use op_history::ResultCause;
 
 /// Why a line isn't read as an answer.
@@ -30,38 +31,14 @@ pub enum LineStop {
     },
 }
 
-fn lex_name(cause: LexCause) -> &'static str
-    ensures { result.now ≡ lex_name cause }
-{
-    match cause {
-        LexCause::NotUtf8 => "NotUtf8",
-        LexCause::ControlByte => "ControlByte",
-        LexCause::OpenQuote => "OpenQuote",
-        LexCause::LineTooLong => "LineTooLong",
-    }
-}
-
-fn result_name(cause: ResultCause) -> &'static str
-    ensures { result.now ≡ result_name cause }
-{
-    match cause {
-        ResultCause::UnknownStatement => "UnknownStatement",
-        ResultCause::MissingWord => "MissingWord",
-        ResultCause::ExtraWord => "ExtraWord",
-        ResultCause::BadValue => "BadValue",
-        ResultCause::UnknownName => "UnknownName",
-        ResultCause::TooManyResults => "TooManyResults",
-    }
-}
-
 impl LineCause {
     /// The name of the cause, as it stands in a line `refused LINE CAUSE`.
     pub fn name(self) -> &'static str
         ensures { result.now ≡ line_cause_name self }
     {
         match self {
-            LineCause::Words(cause) => lex_name(cause),
-            LineCause::Form(cause) => result_name(cause),
+            LineCause::Words(cause) => InputCause::Words(cause).name(),
+            LineCause::Form(cause) => InputCause::Results(cause).name(),
         }
     }
 }

@@ -7,38 +7,30 @@ ghost use Rattle.state_unpack.specs.CellsKept.{has_few_monitors};
 use crate::plain::{Todo, action, input_of, text_of};
 use action_build::actions;
 use cluster_types::{Action, Op, Pin, Placed, Role, Table, Target, moment_of};
+use input_reading::Input;
 use listed::Listed;
 use quorum_fence::rights;
-use sim_core::Input;
 use state_unpack::unpack;
 use std::alloc::Global;
 use std::process::Abort;
-use std::test::Fail;
 
 /// Where everything goes by these targets, leaf by leaf and node by node. No leaf is pinned.
-fn placed(alloc: Global, leaves: usize, targets: &[Target]) -> Result<Placed, Fail> {
-    let mut pins: Vec<Option<Pin>> = Vec::new(alloc);
-    for _ in 0..leaves {
-        pins.push(None)?;
-    }
-    Ok(Placed {
+fn placed(rt: &impl Abort, alloc: Global, leaves: usize, targets: &[Target]) -> Placed {
+    let pins: Vec<Option<Pin>> = vec![in alloc; None; leaves].expect(rt, "memory");
+    let targets = targets.to_vec(alloc).expect(rt, "memory");
+    Placed {
         pins: Listed::from(pins),
         decided: Listed::new(alloc),
         table: Table {
             nodes: 2,
-            targets: Listed::from(targets.to_vec(alloc)?),
+            targets: Listed::from(targets),
         },
         none: Listed::new(alloc),
-    })
+    }
 }
 
 /// The actions that an input and these targets need.
-fn needed(
-    rt: &impl Abort,
-    alloc: Global,
-    input: &Input,
-    targets: &[Target],
-) -> Result<Vec<Action>, Fail>
+fn needed(rt: &impl Abort, alloc: Global, input: &Input, targets: &[Target]) -> Vec<Action>
     requires valid { IsValid input.now.head.cluster }
     requires limits { KeepsLimits input.now.head.cluster }
     requires monitors { has_few_monitors input.now.head.cluster ≡ true }
@@ -46,12 +38,9 @@ fn needed(
     let cluster = &input.head.cluster;
     let journal = &input.head.journal;
     assert!(rt; moment_of(journal.events.as_slice()) < 18_446_744_073_709_551_616);
-    let states = unpack(alloc, cluster, journal)?;
-    let placed = placed(alloc, cluster.leaves.len(), targets)?;
-    match actions(alloc, cluster, &states, rights(cluster, &states), &placed) {
-        Ok(list) => Ok(list),
-        Err(_) => Err(Fail::from("no memory")),
-    }
+    let states = unpack(alloc, cluster, journal).expect(rt, "memory");
+    let placed = placed(rt, alloc, cluster.leaves.len(), targets);
+    actions(alloc, cluster, &states, rights(cluster, &states), &placed).expect(rt, "memory")
 }
 
 const OFF: Target = Target::Nowhere;
@@ -247,17 +236,16 @@ const ROWS: [Row; 13] = [
 ];
 
 #[test]
-fn what_is_needed_is_listed_once(rt: HostRuntime) -> Result<(), Fail> {
+fn what_is_needed_is_listed_once(rt: HostRuntime) {
     let alloc = rt.alloc();
     for row in &ROWS {
         let (parts, targets, expected) = *row;
-        let text = text_of(alloc, parts)?;
-        let input = input_of(&rt, alloc, text.as_slice())?;
-        let found = needed(&rt, alloc, &input, targets)?;
+        let text = text_of(&rt, alloc, parts);
+        let input = input_of(&rt, alloc, text.as_slice());
+        let found = needed(&rt, alloc, &input, targets);
         assert!(rt; found.len() == expected.len());
         for todo in expected {
             assert!(rt; found.contains(&action(*todo)));
         }
     }
-    Ok(())
 }

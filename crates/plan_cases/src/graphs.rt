@@ -15,7 +15,6 @@ use score_table::rows;
 use state_unpack::unpack;
 use std::alloc::Global;
 use std::process::Abort;
-use std::test::Fail;
 
 /// The graph of the plan for a journal.
 fn graph(alloc: Global, cluster: &Cluster, journal: &Journal) -> Result<Graph, NoMemory>
@@ -36,20 +35,14 @@ fn graph(alloc: Global, cluster: &Cluster, journal: &Journal) -> Result<Graph, N
 type Line = (Todo, &'static [u32]);
 
 /// Whether the graph has these actions in the order of their numbers, each with these before it.
-fn agrees(rt: &impl Abort, alloc: Global, graph: &Graph, lines: &[Line]) -> Result<(), Fail> {
+fn agrees(rt: &impl Abort, alloc: Global, graph: &Graph, lines: &[Line]) {
     assert!(rt; graph.count() as usize == lines.len());
     for place in 0..graph.count() {
-        let line = match lines.get(place as usize) {
-            Some(line) => line,
-            None => return Err(Fail::from("too many actions")),
-        };
-        assert!(rt; graph.action(place + 1) == action(line.0));
-        match graph.befores(alloc, place + 1) {
-            Ok(befores) => assert!(rt; befores.as_slice() == line.1),
-            Err(_) => return Err(Fail::from("no memory")),
-        }
+        let (todo, numbers) = *lines.get(place as usize).expect(rt, "a line");
+        assert!(rt; graph.action(place + 1) == action(todo));
+        let befores = graph.befores(alloc, place + 1).expect(rt, "memory");
+        assert!(rt; befores.as_slice() == numbers);
     }
-    Ok(())
 }
 
 const TWO: &str = "node n1\nnode n2\n";
@@ -225,18 +218,15 @@ const ROWS: [Row; 9] = [
 ];
 
 #[test]
-fn each_action_has_its_number_and_those_before_it(rt: HostRuntime) -> Result<(), Fail> {
+fn each_action_has_its_number_and_those_before_it(rt: HostRuntime) {
     let alloc = rt.alloc();
     for row in &ROWS {
         let (parts, lines) = *row;
-        let text = text_of(alloc, parts)?;
-        let input = input_of(&rt, alloc, text.as_slice())?;
+        let text = text_of(&rt, alloc, parts);
+        let input = input_of(&rt, alloc, text.as_slice());
         let journal = &input.head.journal;
         assert!(rt; moment_of(journal.events.as_slice()) < 1_099_511_627_776);
-        match graph(alloc, &input.head.cluster, journal) {
-            Ok(graph) => agrees(&rt, alloc, &graph, lines)?,
-            Err(_) => return Err(Fail::from("no memory")),
-        }
+        let graph = graph(alloc, &input.head.cluster, journal).expect(&rt, "memory");
+        agrees(&rt, alloc, &graph, lines);
     }
-    Ok(())
 }

@@ -1,36 +1,31 @@
 //! Small inputs that a text says.
 
-ghost use Rattle.std.specs.Prelude.{◌≡◌, IfOk, true};
+ghost use Rattle.std.specs.Prelude.{◌≡◌, true};
 ghost use Rattle.cluster_types.specs.Valid.{IsValid, KeepsLimits};
 ghost use Rattle.state_unpack.specs.CellsKept.{has_few_monitors};
 
 use cluster_types::{Action, Cluster, LeafId, NodeId, Op, Role};
-use sim_core::{Input, read_input};
+use input_reading::{Input, read_input};
 use state_unpack::valid_clusters_have_few_monitors;
 use std::alloc::Global;
 use std::process::Abort;
-use std::test::Fail;
 
 /// What an input says.
-pub fn input_of(rt: &impl Abort, alloc: Global, text: &[u8]) -> Result<Input, Fail>
-    ensures valid { IfOk result (λ input. IsValid input.head.cluster) }
-    ensures limits { IfOk result (λ input. KeepsLimits input.head.cluster) }
-    ensures monitors { IfOk result (λ input. has_few_monitors input.head.cluster ≡ true) }
+pub fn input_of(rt: &impl Abort, alloc: Global, text: &[u8]) -> Input
+    ensures valid { IsValid result.head.cluster }
+    ensures limits { KeepsLimits result.head.cluster }
+    ensures monitors { has_few_monitors result.head.cluster ≡ true }
 {
     valid_clusters_have_few_monitors();
     assert!(rt; text.len() <= 16_777_216);
-    match read_input(alloc, text) {
-        Ok(input) => Ok(input),
-        Err(_) => Err(Fail::from("the input is refused")),
-    }
+    read_input(alloc, text).expect(rt, "the input is read")
 }
 
 /// The cluster of a configuration.
-pub fn cluster_of(rt: &impl Abort, alloc: Global, text: &str) -> Result<Cluster, Fail>
-    ensures { IfOk result (λ cluster. IsValid cluster) }
+pub fn cluster_of(rt: &impl Abort, alloc: Global, text: &str) -> Cluster
+    ensures { IsValid result }
 {
-    let input = input_of(rt, alloc, text.as_bytes())?;
-    Ok(input.head.cluster)
+    input_of(rt, alloc, text.as_bytes()).head.cluster
 }
 
 /// An action of which leaf on which node: a probe, a step, a monitor of this interval, and the two halves of a migration from the first node to the
@@ -78,10 +73,10 @@ pub fn action(todo: Todo) -> Action {
 }
 
 /// Some parts of a text, one behind the other.
-pub fn text_of(alloc: Global, parts: &[&str]) -> Result<Vec<u8>, Fail> {
+pub fn text_of(rt: &impl Abort, alloc: Global, parts: &[&str]) -> Vec<u8> {
     let mut text = Vec::new(alloc);
     for part in parts {
-        text.extend_from_slice(part.as_bytes())?;
+        text.extend_from_slice(part.as_bytes()).expect(rt, "memory");
     }
-    Ok(text)
+    text
 }

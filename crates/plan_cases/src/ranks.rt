@@ -4,7 +4,6 @@ use crate::plain::cluster_of;
 use cluster_types::{Action, LeafId, NodeId, Op, Role};
 use std::alloc::Global;
 use std::process::Abort;
-use std::test::Fail;
 use step_ranks::{StepRanks, ranks};
 
 /// `a` before `b`, and `b` before the promotion of `c`. So what takes the promotion of `c` away, or `c` itself, comes before the stop of `b`, and this
@@ -31,17 +30,14 @@ const RANKS: [(LeafId, [u32; 4]); 4] = [
     (NONE, [0, 0, 0, 0]),
 ];
 
-fn ranks_of(rt: &impl Abort, alloc: Global) -> Result<StepRanks, Fail> {
-    let cluster = cluster_of(rt, alloc, TEXT)?;
-    match ranks(alloc, &cluster) {
-        Ok(ranks) => Ok(ranks),
-        Err(_) => Err(Fail::from("no memory")),
-    }
+fn ranks_of(rt: &impl Abort, alloc: Global) -> StepRanks {
+    let cluster = cluster_of(rt, alloc, TEXT);
+    ranks(alloc, &cluster).expect(rt, "memory")
 }
 
 #[test]
-fn a_rank_is_the_longest_chain(rt: HostRuntime) -> Result<(), Fail> {
-    let ranks = ranks_of(&rt, rt.alloc())?;
+fn a_rank_is_the_longest_chain(rt: HostRuntime) {
+    let ranks = ranks_of(&rt, rt.alloc());
     for row in &RANKS {
         let (leaf, expected) = *row;
         let found = [
@@ -53,7 +49,6 @@ fn a_rank_is_the_longest_chain(rt: HostRuntime) -> Result<(), Fail> {
         assert!(rt; found == expected);
         assert!(rt; ranks.rank(Op::Monitor, leaf) == 0);
     }
-    Ok(())
 }
 
 fn step(op: Op, leaf: LeafId, node: NodeId) -> Action {
@@ -106,8 +101,8 @@ fn actions() -> [Action; 15] {
 }
 
 #[test]
-fn actions_are_numbered_by_phase_and_rank(rt: HostRuntime) -> Result<(), Fail> {
-    let ranks = ranks_of(&rt, rt.alloc())?;
+fn actions_are_numbered_by_phase_and_rank(rt: HostRuntime) {
+    let ranks = ranks_of(&rt, rt.alloc());
     let actions = actions();
     for i in 0..15 {
         for j in 0..15 {
@@ -115,5 +110,4 @@ fn actions_are_numbered_by_phase_and_rank(rt: HostRuntime) -> Result<(), Fail> {
             assert!(rt; is_before == (i < j));
         }
     }
-    Ok(())
 }

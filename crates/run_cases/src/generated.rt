@@ -2,7 +2,8 @@
 
 use crate::outcome::{EASY, Pace, outcome};
 use case_gen::generate;
-use sim_core::{InputFault, Status, read_input};
+use input_reading::{InputFault, read_input};
+use sim_core::Status;
 use std::alloc::Global;
 use std::process::Abort;
 use std::test::Fail;

@@ -323,7 +323,8 @@ complete 2
 "#,
 );
 
-const ROWS: [Row; 11] = [
+/// Inputs, and their runs.
+pub const ROWS: [Row; 11] = [
     UNKNOWN_NODE,
     LOST_NODE,
     FAILED_FENCE,

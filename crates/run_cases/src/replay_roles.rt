@@ -417,7 +417,8 @@ complete 2
 "#,
 );
 
-const ROWS: [Row; 12] = [
+/// Inputs, and their runs.
+pub const ROWS: [Row; 12] = [
     GROUP_MOVES,
     CYCLED,
     PROMOTION_MOVES,

@@ -337,7 +337,8 @@ complete 1
 "#,
 );
 
-const ROWS: [Row; 13] = [
+/// Inputs, and their runs.
+pub const ROWS: [Row; 13] = [
     NOTHING,
     A_NODE_ALONE,
     STARTED,

@@ -23,7 +23,7 @@ fn words_that_read_nothing(rt: HostRuntime) -> Result<(), Fail> {
 
 #[test]
 fn inputs_that_are_refused(rt: HostRuntime) -> Result<(), Fail> {
-    for word in ["check", "scores", "graph", "survive", "replay"] {
+    for word in ["check", "scores", "graph", "survive", "audit", "replay"] {
         let (status, text) = outcome(rt.alloc(), &[word], b"node n1\nnode n1\n", EASY, EASY)?;
         assert_eq!(rt; status, Status::Refused);
         assert_eq!(rt; text.as_slice(), b"refused 2 DuplicateName\n".as_slice());
@@ -39,11 +39,12 @@ fn are_no_form(alloc: Global, words: &[&str]) -> Result<bool, Fail> {
 #[test]
 fn words_that_are_no_form(rt: HostRuntime) -> Result<(), Fail> {
     let alloc = rt.alloc();
-    let lists: [&[&str]; 12] = [
+    let lists: [&[&str]; 13] = [
         &[],
         &["Replay"],
         &["replay", "x"],
         &["check", "replay"],
+        &["audit", "audit"],
         &["--help", "--version"],
         &["gen"],
         &["gen", ""],
@@ -62,7 +63,7 @@ fn words_that_are_no_form(rt: HostRuntime) -> Result<(), Fail> {
 /// In the head nothing is written where the source fails.
 #[test]
 fn sources_that_fail(rt: HostRuntime) -> Result<(), Fail> {
-    for word in ["check", "scores", "graph", "survive", "replay"] {
+    for word in ["check", "scores", "graph", "survive", "audit", "replay"] {
         let reads = Pace {
             step: 5,
             fails: &[2],

@@ -1,13 +1,13 @@
 //! Cells that are held back: the targets in the end, and the reasons of leaves without one.
 
-ghost use Rattle.std.specs.Prelude.{◌≡◌, ◌*◌, IfOk, length};
+ghost use Rattle.std.specs.Prelude.{◌≡◌, ◌*◌, length};
 
 use crate::texts::known_by;
 use cluster_types::{NoReason, Pin, Table, Target};
 use held_cells::{reasons, targets};
 use listed::Listed;
 use std::alloc::Global;
-use std::test::Fail;
+use std::process::Abort;
 
 const N: Target = Target::Nowhere;
 
@@ -160,15 +160,15 @@ const ROWS: [Row; 12] = [
     (NO_QUORUM, &[FREE], &[N], &[N], &["NoQuorum"]),
 ];
 
-fn table_of(alloc: Global, nodes: u32, cells: &[Target]) -> Result<Table, Fail>
-    ensures nodes { IfOk result (λ table. table.nodes ≡ nodes) }
-    ensures cells { IfOk result (λ table. table.targets ≡ cells.now) }
+fn table_of(rt: &impl Abort, alloc: Global, nodes: u32, cells: &[Target]) -> Table
+    ensures nodes { result.nodes ≡ nodes }
+    ensures cells { result.targets ≡ cells.now }
 {
-    let targets = Vec::from_slice(alloc, cells)?;
-    Ok(Table {
+    let targets = Vec::from_slice(alloc, cells).expect(rt, "memory");
+    Table {
         nodes,
         targets: Listed::from(targets),
-    })
+    }
 }
 
 /// The word of a reason: the id of the rule, where it is a rule's, and nothing where there is none.
@@ -193,18 +193,19 @@ fn say(found: &[Option<NoReason>], words: &[&str]) -> bool {
 }
 
 #[test]
-fn targets_and_reasons_of_inputs(rt: HostRuntime) -> Result<(), Fail> {
+fn targets_and_reasons_of_inputs(rt: HostRuntime) {
     let alloc = rt.alloc();
     for row in &ROWS {
         let (text, pins, cells, left, words) = *row;
-        let known = known_by(&rt, alloc, text)?;
+        let known = known_by(&rt, alloc, text);
         let nodes = known.cluster.nodes.len();
         assert!(rt; cells.len() == known.cluster.leaves.len() * nodes);
-        let chosen = table_of(alloc, nodes as u32, cells)?;
-        let table = targets(alloc, &known.cluster, pins, &chosen)?;
+        let chosen = table_of(&rt, alloc, nodes as u32, cells);
+        let table = targets(alloc, &known.cluster, pins, &chosen).expect(&rt, "memory");
         assert!(rt; table.targets.as_slice() == left);
-        let none = reasons(alloc, &known.cluster, &known.states, pins, &chosen, &table)?;
+        let none = reasons(alloc, &known.cluster, &known.states, pins, &chosen, &table).expect(
+            &rt, "memory",
+        );
         assert!(rt; say(none.as_slice(), words));
     }
-    Ok(())
 }

@@ -4,7 +4,6 @@ use crate::texts::known_by;
 use cluster_types::{Decision, Pin, Target};
 use decision_order::{decisions_in_order, pinned_table, pins};
 use score_table::rows;
-use std::test::Fail;
 
 /// What a depends on is decided first, though its leaf is later.
 const NEEDED: &str =
@@ -95,13 +94,13 @@ const ROWS: [Row; 7] = [
 ];
 
 #[test]
-fn orders_of_inputs(rt: HostRuntime) -> Result<(), Fail> {
+fn orders_of_inputs(rt: HostRuntime) {
     let alloc = rt.alloc();
     for row in &ROWS {
         let (text, why, order) = *row;
-        let known = known_by(&rt, alloc, text)?;
-        let scores = rows(alloc, &known.cluster, &known.states)?;
-        let pinned = pins(alloc, &known.cluster, &known.states)?;
+        let known = known_by(&rt, alloc, text);
+        let scores = rows(alloc, &known.cluster, &known.states).expect(&rt, "memory");
+        let pinned = pins(alloc, &known.cluster, &known.states).expect(&rt, "memory");
         assert!(rt; pinned.as_slice() == why);
         let decided = decisions_in_order(
             alloc,
@@ -109,21 +108,22 @@ fn orders_of_inputs(rt: HostRuntime) -> Result<(), Fail> {
             &known.states,
             &scores,
             pinned.as_slice(),
-        )?;
+        )
+        .expect(&rt, "memory");
         assert!(rt; decided.as_slice() == order);
     }
-    Ok(())
 }
 
 #[test]
-fn table_before_decisions(rt: HostRuntime) -> Result<(), Fail> {
+fn table_before_decisions(rt: HostRuntime) {
     let alloc = rt.alloc();
-    let known = known_by(&rt, alloc, BLOCKED)?;
-    let pinned = pins(alloc, &known.cluster, &known.states)?;
-    let table = pinned_table(alloc, &known.cluster, &known.states, pinned.as_slice())?;
+    let known = known_by(&rt, alloc, BLOCKED);
+    let pinned = pins(alloc, &known.cluster, &known.states).expect(&rt, "memory");
+    let table = pinned_table(alloc, &known.cluster, &known.states, pinned.as_slice()).expect(
+        &rt, "memory",
+    );
     assert!(rt; table.nodes == 2);
     assert!(rt; table.targets.len() == 2);
     assert!(rt; table.target(0, 0) == Target::Started);
     assert!(rt; table.target(0, 1) == Target::Nowhere);
-    Ok(())
 }

@@ -4,7 +4,6 @@ use crate::texts::known_by;
 use cluster_types::Decision;
 use score::Score;
 use score_table::rows;
-use std::test::Fail;
 
 const MINUS: i32 = -1_000_000;
 
@@ -69,23 +68,22 @@ fn have(scores: &[Score], points: &[i32]) -> bool {
 }
 
 #[test]
-fn totals_of_inputs(rt: HostRuntime) -> Result<(), Fail> {
+fn totals_of_inputs(rt: HostRuntime) {
     let alloc = rt.alloc();
     for row in &ROWS {
         let (text, places, promotes) = *row;
-        let known = known_by(&rt, alloc, text)?;
-        let table = rows(alloc, &known.cluster, &known.states)?;
+        let known = known_by(&rt, alloc, text);
+        let table = rows(alloc, &known.cluster, &known.states).expect(&rt, "memory");
         assert!(rt; have(table.places.as_slice(), places));
         assert!(rt; have(table.promotes.as_slice(), promotes));
     }
-    Ok(())
 }
 
 #[test]
-fn total_of_one_cell(rt: HostRuntime) -> Result<(), Fail> {
+fn total_of_one_cell(rt: HostRuntime) {
     let alloc = rt.alloc();
-    let known = known_by(&rt, alloc, PROMOTABLE)?;
-    let table = rows(alloc, &known.cluster, &known.states)?;
+    let known = known_by(&rt, alloc, PROMOTABLE);
+    let table = rows(alloc, &known.cluster, &known.states).expect(&rt, "memory");
     assert!(rt; table.nodes == 2);
     assert!(rt; table.places.len() == 4);
     assert!(rt; table.promotes.len() == 4);
@@ -94,5 +92,4 @@ fn total_of_one_cell(rt: HostRuntime) -> Result<(), Fail> {
     assert!(rt; table.total_at(Decision::Place(0), 2).points == 0);
     assert!(rt; table.total_at(Decision::Promote(0), 2).points == 0);
     assert!(rt; table.total_at(Decision::Place(9), 0).points == 0);
-    Ok(())
 }

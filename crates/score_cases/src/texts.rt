@@ -1,14 +1,12 @@
 //! What an input says, with all that its journal tells.
 
-ghost use Rattle.std.specs.Prelude.{IfOk};
 ghost use Rattle.cluster_types.specs.Valid.{IsValid};
 
 use cluster_types::{Cluster, States, moment_of};
-use sim_core::read_input;
+use input_reading::read_input;
 use state_unpack::{unpack, valid_clusters_have_few_monitors};
 use std::alloc::Global;
 use std::process::Abort;
-use std::test::Fail;
 
 /// A cluster, and what is known of it.
 #[derive(Drop)]
@@ -18,19 +16,18 @@ pub struct Known {
 }
 
 /// The cluster and the states of an input.
-pub fn known_by(rt: &impl Abort, alloc: Global, text: &str) -> Result<Known, Fail>
-    ensures { IfOk result (λ known. IsValid known.cluster) }
+pub fn known_by(rt: &impl Abort, alloc: Global, text: &str) -> Known
+    ensures { IsValid result.cluster }
 {
     valid_clusters_have_few_monitors();
     assert!(rt; text.len() <= 16_777_216);
-    let head = match read_input(alloc, text.as_bytes()) {
-        Ok(input) => input.head,
-        Err(_) => return Err(Fail::from("the input is refused")),
-    };
+    let head = read_input(alloc, text.as_bytes())
+        .expect(rt, "the input is read")
+        .head;
     assert!(rt; moment_of(head.journal.events.as_slice()) < 18_446_744_073_709_551_616);
-    let states = unpack(alloc, &head.cluster, &head.journal)?;
-    Ok(Known {
+    let states = unpack(alloc, &head.cluster, &head.journal).expect(rt, "memory");
+    Known {
         cluster: head.cluster,
         states,
-    })
+    }
 }

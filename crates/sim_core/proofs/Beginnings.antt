@@ -11,10 +11,10 @@ use Rattle.live_lines.specs.Heads.{CanGoOn, IsStopOf, KeepsBytes, head_behind, p
 use Rattle.live_lines.specs.declared.head.HeadStop.{HeadStop}
 use Rattle.live_lines.specs.declared.head.HeadStop.TheVariants as why
 use Rattle.sim_core.specs.declared.beginning.HeadEnd.TheVariants as stop
-use Rattle.sim_core.specs.declared.cause.InputCause.{InputCause}
-use Rattle.sim_core.specs.declared.reading.Head.{Head}
+use Rattle.input_reading.specs.declared.cause.InputCause.{InputCause}
+use Rattle.input_reading.specs.declared.reading.Head.{Head}
 use Rattle.sim_core.specs.LiveSteps.{IsAmid, IsBehind, StopsBy, end_of, fresh}
-use Rattle.sim_core.specs.Reading.{start_of}
+use Rattle.input_reading.specs.Reading.{start_of}
 use Rattle.sim_core.specs.Replay.{head_in, lacks_words, says_nothing}
 
 -- the head behind a reader that was just made is that of the input

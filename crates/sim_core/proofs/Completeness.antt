@@ -4,12 +4,13 @@ use Rattle.cluster_io.specs.Streams.{Rose}
 use Rattle.sim_core.specs.declared.status.Status.{Status}
 use Rattle.sim_core.specs.declared.status.Status.TheVariants.{Done, NoMemory, Usage, ReadFault, WriteFault, Refused, Unexpected, TooLarge, NotLawful}
 use Rattle.sim_core.specs.declared.words.Command.{Command}
-use Rattle.sim_core.specs.declared.words.Command.TheVariants.{Check, Scores, Graph, Survive, Replay, Gen, Help, Version}
+use Rattle.sim_core.specs.declared.words.Command.TheVariants.{Check, Scores, Graph, Survive, Audit, Replay, Gen, Help, Version}
 use Rattle.sim_core.specs.Answers.{Answers, HasRoom, IsComplete, IsDue, IsWritten, SaysBy, SaysOf, Taken, Written, told_input}
 use Rattle.sim_core.specs.Live.{SaysLive, HasWritten}
-use Rattle.sim_core.specs.Reading.{most_bytes}
+use Rattle.input_reading.specs.Reading.{most_bytes}
 use Rattle.sim_core.specs.Replay.{IsReplayOutput}
 use Rattle.sim_core.specs.Table.{Intake, nothing, whole, live, intake, Gets}
+use Rattle.sim_core.proofs.OneAudit.{AreExcluded}
 use Rattle.sim_core.proofs.OneOutcome.{one_status}
 use Rattle.sim_core.proofs.OneReplay.{OneEnd}
 
@@ -67,16 +68,17 @@ module _ (input : List ℕ) (left before after : Option (List ℕ)) (status : St
   word_due Scores room says = whole_due Scores room says
   word_due Graph room says = whole_due Graph room says
   word_due Survive room says = whole_due Survive room says
+  word_due Audit room says = whole_due Audit room says
   word_due Replay room says = live_due input left before after status says memory read write
   word_due (Gen number) room says = free_due (Gen number) says
   word_due Help room says = free_due Help says
   word_due Version room says = free_due Version says
 
-module _ (one_end : OneEnd) where
+module _ (one_end : OneEnd) (excluded : AreExcluded) where
   -- and the only one
   only_due : (word : Command) (input : List ℕ) (status : Status) → IsDue (Gets word input) status → (due : Status) → (status ≡ due) ↔ IsDue (Gets word input) due
   only_due word input status is due =
-      (λ same. subst (λ s. IsDue (Gets word input) s) same is, λ other. one_status one_end word input is.text other.text status due is.due other.due)
+      (λ same. subst (λ s. IsDue (Gets word input) s) same is, λ other. one_status one_end excluded word input is.text other.text status due is.due other.due)
 
   with_told : (word : Command) (found left before after : Option (List ℕ)) (status : Status)
       → IfSome found (λ input. SaysBy (intake word) word input left before after status) → status ≢ ReadFault → status ≢ WriteFault

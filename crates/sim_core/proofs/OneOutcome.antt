@@ -1,11 +1,11 @@
 -- An input gets one status with a word.
 use Rattle.std.proofs.Common.{◌≡◌, ℕ, List, refl, sym, ◌∙◌}
 use Rattle.case_gen.specs.Case.{case_text}
-use Rattle.sim_core.specs.declared.reading.Input.{Input}
+use Rattle.input_reading.specs.declared.reading.Input.{Input}
 use Rattle.sim_core.specs.declared.status.Status.{Status}
 use Rattle.sim_core.specs.declared.status.Status.TheVariants.{Done, Refused}
 use Rattle.sim_core.specs.declared.words.Command.{Command}
-use Rattle.sim_core.specs.declared.words.Command.TheVariants.{Check, Scores, Graph, Survive, Replay, Gen, Help, Version}
+use Rattle.sim_core.specs.declared.words.Command.TheVariants.{Check, Scores, Graph, Survive, Audit, Replay, Gen, Help, Version}
 use Rattle.sim_core.specs.Check.{IsCheckText}
 use Rattle.sim_core.specs.Generated.{IsSummaryText}
 use Rattle.sim_core.specs.Graph.{IsGraphText}
@@ -13,7 +13,8 @@ use Rattle.sim_core.specs.Outputs.{IsOutput, IsRefusalText, IsTextOf}
 use Rattle.sim_core.specs.Scores.{IsScoresText}
 use Rattle.sim_core.specs.Survive.{IsSurviveText}
 use Rattle.sim_core.specs.Table.{Gets}
-use Rattle.sim_core.proofs.OneReading.{not_both}
+use Rattle.input_reading.proofs.OneReading.{not_both}
+use Rattle.sim_core.proofs.OneAudit.{AreExcluded, one_audit}
 use Rattle.sim_core.proofs.OneReplay.{OneEnd, one_replay}
 
 -- with a word that says something of each input
@@ -31,12 +32,13 @@ module _ (Says : Input → List ℕ → Type 0) where
   one_output input text more Refused _ a b = absurd b
   one_output input text more _ other a b = absurd a
 
-module _ (one_end : OneEnd) where
+module _ (one_end : OneEnd) (excluded : AreExcluded) where
   pub one_status : (word : Command) (input text more : List ℕ) (status other : Status) → Gets word input status text → Gets word input other more → status ≡ other
   one_status Check input text more status other a b = one_output IsCheckText input text more status other a b
   one_status Scores input text more status other a b = one_output IsScoresText input text more status other a b
   one_status Graph input text more status other a b = one_output IsGraphText input text more status other a b
   one_status Survive input text more status other a b = one_output IsSurviveText input text more status other a b
+  one_status Audit input text more status other a b = one_audit excluded input text more status other a b
   one_status Replay input text more status other a b = one_replay one_end input text more status other a b
   one_status (Gen number) input text more status other a b = one_output (IsSummaryText number) (case_text number) text more status other a b
   one_status Help input text more status other a b = a.0 ∙ sym b.0

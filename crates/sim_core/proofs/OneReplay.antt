@@ -8,11 +8,11 @@ use Rattle.live_lines.specs.Heads as heads
 use Rattle.live_run.specs.declared.live_end.LiveEnd.{LiveEnd}
 use Rattle.live_run.specs.declared.live_end.LiveEnd.TheVariants as end
 use Rattle.live_run.specs.Ends as ends
-use Rattle.sim_core.specs.declared.cause.InputCause.{InputCause}
-use Rattle.sim_core.specs.declared.reading.Head.{Head}
+use Rattle.input_reading.specs.declared.cause.InputCause.{InputCause}
+use Rattle.input_reading.specs.declared.reading.Head.{Head}
 use Rattle.sim_core.specs.declared.status.Status.{Status}
 use Rattle.sim_core.specs.declared.status.Status.TheVariants.{Done, Refused, TooLarge, Unexpected}
-use Rattle.sim_core.specs.Reading.{start_of}
+use Rattle.input_reading.specs.Reading.{start_of}
 use Rattle.sim_core.specs.Replay.{IsBegun, IsHeadFault, IsHeadRefusal, IsHeadTooLarge, IsReplayOutput, IsTextOfRun, coming_behind, head_in, lacks_words, says_nothing}
 
 -- a run gets one end

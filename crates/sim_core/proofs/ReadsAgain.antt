@@ -23,14 +23,13 @@ use Rattle.cluster_types.specs.Valid.{IsValid, KeepsLimits}
 use Rattle.faults.specs.declared.fault.Fault.{Fault}
 use Rattle.faults.specs.Reading.{faulting, ◌>>=◌}
 use Rattle.op_history.specs.FirstJournal.{journal_of, status_of}
-use Rattle.sim_core.specs.declared.cause.InputCause.{InputCause}
-use Rattle.sim_core.specs.declared.cause.InputCause.TheVariants as cause
-use Rattle.sim_core.specs.declared.reading.Configuration.{Configuration}
-use Rattle.sim_core.specs.declared.reading.Head.{Head}
-use Rattle.sim_core.specs.declared.reading.Input.{Input}
+use Rattle.input_reading.specs.declared.cause.InputCause.{InputCause}
+use Rattle.input_reading.specs.declared.cause.InputCause.TheVariants as cause
+use Rattle.input_reading.specs.declared.reading.Head.{Head}
+use Rattle.input_reading.specs.declared.reading.Input.{Input}
 use Rattle.sim_core.specs.Check.{check_text, counts_line, rules_in}
-use Rattle.sim_core.specs.Reading.{Reads, configuration_lines, configuration_of, following_lines, head_of, input_of, status_lines, with_cluster, with_results}
-use Rattle.sim_core.proofs.ValidInput.{cluster_valid, passed, passed_on, results_keep_head, stepped}
+use Rattle.input_reading.specs.Reading.{Reads, configuration_lines, configuration_of, following_lines, head_of, input_of, status_lines, with_cluster, with_results}
+use Rattle.input_reading.proofs.ValidInput.{IsStepped, cluster_valid, passed, passed_on, results_keep_head, stepped}
 use Rattle.sim_core.specs.Again.{IsReadAgain}
 use Rattle.sim_core.proofs.Comments.{counts, counts-comment}
 use Rattle.cluster_model.proofs.SameCluster.{same-resolution}
@@ -59,21 +58,21 @@ head-of crm cluster lines head e =
     rw made (record { same_crm = refl; same_cluster = refl })
 
 -- what a configuration was read of
-record IsConfigured (text : List ℕ) (found : Configuration) : Type 0 where
+record IsConfigured (text : List ℕ) (crm : Crm) (leaves : Leaves) : Type 0 where
   front : List Line
   rest : List Line
   are_lines : reads text ≡ Ok (front ++ rest)
-  are_statements : statements_of front ≡ Ok found.crm
-  are_leaves : expansion_of found.crm.statements ≡ Ok found.leaves
+  are_statements : statements_of front ≡ Ok crm
+  are_leaves : expansion_of crm.statements ≡ Ok leaves
 
-configured : (text : List ℕ) (found : Configuration) → configuration_of sections_of text ≡ Ok found → IsConfigured text found
+configured : (text : List ℕ) (whole : Input) (s : IsStepped text whole) → IsConfigured text s.found.crm s.found.leaves
 unfolding configuration_of
-configured text found e =
-    let lines = passed cause.Words (reads text) _ found e in
-    let marks = passed cause.Statements (sections_of lines.gave) _ found lines.goes_on in
-    let crm = passed cause.Statements (statements_of (configuration_lines marks.gave lines.gave)) _ found marks.goes_on in
-    let leaves = passed cause.Leaves (expansion_of crm.gave.statements) _ found crm.goes_on in
-    let made : found ≡ record { lines = lines.gave; marks = marks.gave; crm = crm.gave; leaves = leaves.gave } = cc in
+configured text whole s =
+    let lines = passed cause.Words (reads text) _ s.found s.configuration in
+    let marks = passed cause.Statements (sections_of lines.gave) _ s.found lines.goes_on in
+    let crm = passed cause.Statements (statements_of (configuration_lines marks.gave lines.gave)) _ s.found marks.goes_on in
+    let leaves = passed cause.Leaves (expansion_of crm.gave.statements) _ s.found crm.goes_on in
+    let made : s.found ≡ record { lines = lines.gave; marks = marks.gave; crm = crm.gave; leaves = leaves.gave } = cc in
     let n = marks.gave.status_at in
     rw made (
     record {
@@ -85,19 +84,18 @@ configured text found e =
     }
     )
 
-same-head : (found : Configuration) (cluster : Cluster) (input : Input) → with_cluster with_results found cluster ≡ Ok input
-    → IsOf found.crm cluster input.head
-same-head found cluster input e =
-    let lines = status_lines found.marks found.lines in
-    let head = passed_on (head_of found.crm cluster lines) (λ head. with_results head (following_lines found.marks found.lines)) input e in
-    let kept = results_keep_head head.gave (following_lines found.marks found.lines) input head.goes_on in
-    rw kept (head-of found.crm cluster lines head.gave head.is)
+same-head : (text : List ℕ) (whole : Input) (s : IsStepped text whole) → IsOf s.found.crm s.cluster whole.head
+same-head text whole s =
+    let lines = status_lines s.found.marks s.found.lines in
+    let head = passed_on (head_of s.found.crm s.cluster lines) (λ head. with_results head (following_lines s.found.marks s.found.lines)) whole s.made in
+    let kept = results_keep_head head.gave (following_lines s.found.marks s.found.lines) whole head.goes_on in
+    rw kept (head-of s.found.crm s.cluster lines head.gave head.is)
 
 steps-of : (text : List ℕ) (whole : Input) → Reads text whole → Steps text whole
 steps-of text whole r =
     let s = stepped text whole r in
-    let c = configured text s.found s.configuration in
-    let h = same-head s.found s.cluster whole s.made in
+    let c = configured text whole s in
+    let h = same-head text whole s in
     record {
       front = c.front;
       rest = c.rest;
@@ -115,20 +113,17 @@ nothing-behind lines = let none : length lines - (length lines + 1) ≡ 0 = omeg
 module _ (text : List ℕ) (lines : List Line) (crm : Crm) (leaves : Leaves) (cluster : Cluster) (are_lines : reads text ≡ Ok lines)
     (are_statements : statements_of lines ≡ Ok crm) (are_leaves : expansion_of crm.statements ≡ Ok leaves)
     (resolves : resolution_of leaves crm.statements ≡ Ok cluster) where
-  abbrev found : Configuration
-  found = record { lines = lines; marks = whole_text lines; crm = crm; leaves = leaves }
-
   abbrev pub alone : Input
   alone = record { head = record { crm = crm; cluster = cluster; journal = journal_of cluster [] }; results = [] }
 
-  configuration-is : configuration_of sections_of text ≡ Ok found
+  configuration-is : configuration_of sections_of text ≡ Ok (record { lines = lines; marks = whole_text lines; crm = crm; leaves = leaves })
   unfolding configuration_of
   configuration-is =
       let whole = statements-alone lines crm are_statements in
       let taken = take-length lines in
       rw (are_lines, whole, taken, are_statements, are_leaves) refl
 
-  goes-on : with_cluster with_results found cluster ≡ Ok alone
+  goes-on : with_cluster with_results (record { lines = lines; marks = whole_text lines; crm = crm; leaves = leaves }) cluster ≡ Ok alone
   unfolding head_of with_results
   goes-on = let none = nothing-behind lines in rw none refl
 

@@ -4,7 +4,7 @@ use Rattle.live_lines.specs.Courses.{answers_of}
 use Rattle.run_safety.proofs.SafeRuns.{safe_run}
 use Rattle.sim_core.specs.Answers.{IsSafeReplay}
 use Rattle.sim_core.specs.Replay.{IsBegun, coming_behind}
-use Rattle.sim_core.proofs.ValidHead.{cluster_valid, journal_at_rest}
+use Rattle.input_reading.proofs.ValidHead.{cluster_valid, journal_at_rest}
 
 pub safe_replay : (input : List ℕ) → IsSafeReplay input
 safe_replay input bytes head next room begun =

@@ -1,9 +1,9 @@
 -- What `check` writes is read again (rule of this project).
 use Rattle.std.specs.Prelude.{◌≡◌, ℕ, List}
 use Rattle.crm_print.specs.Again.{forms_of}
-use Rattle.sim_core.specs.declared.reading.Input.{Input}
+use Rattle.input_reading.specs.declared.reading.Input.{Input}
 use Rattle.sim_core.specs.Check.{check_text}
-use Rattle.sim_core.specs.Reading.{Reads}
+use Rattle.input_reading.specs.Reading.{Reads}
 
 -- the text is read as an input with the statements and the cluster of another, and `check` writes the text itself of it
 pub record IsReadAgain (text : List ℕ) (whole : Input) : Type 0 where

@@ -6,9 +6,9 @@ use Rattle.sim_core.specs.declared.status.Status.TheVariants.{Done, NoMemory, Us
 use Rattle.sim_core.specs.declared.words.Command.{Command}
 use Rattle.cluster_types.specs.Safety.{IsSafeRun}
 use Rattle.live_lines.specs.Courses.{answers_of}
-use Rattle.sim_core.specs.declared.reading.Head.{Head}
+use Rattle.input_reading.specs.declared.reading.Head.{Head}
 use Rattle.sim_core.specs.Live.{SaysLive}
-use Rattle.sim_core.specs.Reading.{most_bytes}
+use Rattle.input_reading.specs.Reading.{most_bytes}
 use Rattle.sim_core.specs.Replay.{IsBegun, coming_behind}
 use Rattle.sim_core.specs.Table.{Intake, nothing, whole, live, intake, takes_memory, Gets}
 

@@ -1,13 +1,13 @@
 pub mod Status
-pub mod Causes
-pub mod Reading
 pub mod Outputs
+pub mod Audit
 pub mod Check
 pub mod Scores
 pub mod Graph
 pub mod Survive
 pub mod Generated
 pub mod Replay
+pub mod Headline
 pub mod Live
 pub mod LiveSteps
 pub mod OwnText

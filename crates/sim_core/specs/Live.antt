@@ -9,12 +9,12 @@ use Rattle.cluster_types.specs.declared.cluster.Cluster.{Cluster}
 use Rattle.cluster_types.specs.declared.journal.Journal.{Journal}
 use Rattle.live_lines.specs.Heads as heads
 use Rattle.live_run.specs.Reached.{HasNoMemory, IsBrokenOff, IsCutOff}
-use Rattle.sim_core.specs.declared.cause.InputCause.{InputCause}
-use Rattle.sim_core.specs.declared.reading.Head.{Head}
+use Rattle.input_reading.specs.declared.cause.InputCause.{InputCause}
+use Rattle.input_reading.specs.declared.reading.Head.{Head}
 use Rattle.sim_core.specs.declared.status.Status.{Status}
 use Rattle.sim_core.specs.declared.status.Status.TheVariants.{Done, NoMemory, Usage, ReadFault, WriteFault, Refused, Unexpected, TooLarge, NotLawful}
-use Rattle.sim_core.specs.Outputs.{refusal_text}
-use Rattle.sim_core.specs.Reading.{longest_line}
+use Rattle.input_reading.specs.Causes.{refusal_text}
+use Rattle.input_reading.specs.Reading.{longest_line}
 use Rattle.sim_core.specs.Replay.{IsBegun, IsHeadFault, IsReplayOutput, head_in}
 
 -- what the sink holds before and after

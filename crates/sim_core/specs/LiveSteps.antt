@@ -11,13 +11,13 @@ use Rattle.live_run.specs.declared.live_end.LiveEnd.{LiveEnd}
 use Rattle.live_run.specs.declared.live_end.LiveEnd.TheVariants as end
 use Rattle.sim_core.specs.declared.beginning.HeadEnd.{HeadEnd}
 use Rattle.sim_core.specs.declared.beginning.HeadEnd.TheVariants as stop
-use Rattle.sim_core.specs.declared.cause.InputCause.{InputCause}
-use Rattle.sim_core.specs.declared.cause.InputCause.TheVariants.{Words}
-use Rattle.sim_core.specs.declared.reading.Head.{Head}
+use Rattle.input_reading.specs.declared.cause.InputCause.{InputCause}
+use Rattle.input_reading.specs.declared.cause.InputCause.TheVariants.{Words}
+use Rattle.input_reading.specs.declared.reading.Head.{Head}
 use Rattle.sim_core.specs.declared.status.Status.{Status}
 use Rattle.sim_core.specs.declared.status.Status.TheVariants.{Done, NoMemory, ReadFault, WriteFault, Refused, Unexpected, TooLarge}
-use Rattle.sim_core.specs.Outputs.{refusal_text}
-use Rattle.sim_core.specs.Reading.{longest_line, most_bytes}
+use Rattle.input_reading.specs.Causes.{refusal_text}
+use Rattle.input_reading.specs.Reading.{longest_line, most_bytes}
 use Rattle.sim_core.specs.Replay.{IsBegun, IsHeadFault, head_in}
 
 -- a reader from which nothing was read yet

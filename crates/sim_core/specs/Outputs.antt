@@ -1,15 +1,11 @@
 -- What is written by a word that reads an input: what the word says of it, or the fault of the input.
-use Rattle.std.specs.Prelude.{◌≡◌, ℕ, List, ◌++◌, codes, decimal}
-use Rattle.sim_core.specs.declared.cause.InputCause.{InputCause}
-use Rattle.sim_core.specs.declared.reading.Input.{Input}
+use Rattle.std.specs.Prelude.{◌≡◌, ℕ, List}
+use Rattle.input_reading.specs.declared.cause.InputCause.{InputCause}
+use Rattle.input_reading.specs.declared.reading.Input.{Input}
 use Rattle.sim_core.specs.declared.status.Status.{Status}
 use Rattle.sim_core.specs.declared.status.Status.TheVariants.{Done, Refused}
-use Rattle.sim_core.specs.Causes.{cause_name}
-use Rattle.sim_core.specs.Reading.{IsRefused, Reads}
-
--- `refused LINE CAUSE` (rule of this project)
-abbrev pub refusal_text : ℕ → InputCause → List ℕ
-refusal_text line why = codes "refused " ++ decimal line ++ codes " " ++ cause_name why ++ codes "\n"
+use Rattle.input_reading.specs.Causes.{refusal_text}
+use Rattle.input_reading.specs.Reading.{IsRefused, Reads}
 
 -- the text names the fault of the input
 pub record IsRefusalText (input text : List ℕ) : Type 0 where

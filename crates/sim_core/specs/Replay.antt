@@ -10,13 +10,13 @@ use Rattle.cluster_types.specs.Journals.{moment_of}
 use Rattle.live_lines.specs.Coming.{Coming, coming}
 use Rattle.live_lines.specs.Heads as heads
 use Rattle.live_run.specs.Ends.{IsBoundedText, IsCutText, IsRefusedText, IsWholeText}
-use Rattle.sim_core.specs.declared.cause.InputCause.{InputCause}
-use Rattle.sim_core.specs.declared.cause.InputCause.TheVariants as cause
-use Rattle.sim_core.specs.declared.reading.Head.{Head}
+use Rattle.input_reading.specs.declared.cause.InputCause.{InputCause}
+use Rattle.input_reading.specs.declared.cause.InputCause.TheVariants as cause
+use Rattle.input_reading.specs.declared.reading.Head.{Head}
 use Rattle.sim_core.specs.declared.status.Status.{Status}
 use Rattle.sim_core.specs.declared.status.Status.TheVariants.{Done, Refused, TooLarge, Unexpected}
-use Rattle.sim_core.specs.Outputs.{refusal_text}
-use Rattle.sim_core.specs.Reading.{longest_line, most_bytes, start_of}
+use Rattle.input_reading.specs.Causes.{refusal_text}
+use Rattle.input_reading.specs.Reading.{longest_line, most_bytes, start_of}
 
 -- the head of an input: its logical lines up to the one that begins the results, or all where none does
 abbrev pub head_in : List ℕ → heads.Head

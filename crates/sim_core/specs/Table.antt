@@ -4,7 +4,8 @@ use Rattle.case_gen.specs.Case.{case_text}
 use Rattle.sim_core.specs.declared.help.TheConstants.{HELP, VERSION}
 use Rattle.sim_core.specs.declared.status.Status.{Status}
 use Rattle.sim_core.specs.declared.words.Command.{Command}
-use Rattle.sim_core.specs.declared.words.Command.TheVariants.{Check, Scores, Graph, Survive, Replay, Gen, Help, Version}
+use Rattle.sim_core.specs.declared.words.Command.TheVariants.{Check, Scores, Graph, Survive, Audit, Replay, Gen, Help, Version}
+use Rattle.sim_core.specs.Audit.{IsAuditOutput}
 use Rattle.sim_core.specs.Check.{IsCheckText}
 use Rattle.sim_core.specs.Generated.{IsSummaryText}
 use Rattle.sim_core.specs.Graph.{IsGraphText}
@@ -25,6 +26,7 @@ intake Check = whole
 intake Scores = whole
 intake Graph = whole
 intake Survive = whole
+intake Audit = whole
 intake Replay = live
 intake (Gen number) = nothing
 intake Help = nothing
@@ -36,6 +38,7 @@ takes_memory Check = true
 takes_memory Scores = true
 takes_memory Graph = true
 takes_memory Survive = true
+takes_memory Audit = true
 takes_memory Replay = true
 takes_memory (Gen number) = true
 takes_memory Help = false
@@ -47,6 +50,7 @@ Gets Check input status text = IsOutput IsCheckText input status text
 Gets Scores input status text = IsOutput IsScoresText input status text
 Gets Graph input status text = IsOutput IsGraphText input status text
 Gets Survive input status text = IsOutput IsSurviveText input status text
+Gets Audit input status text = IsAuditOutput input status text
 Gets Replay input status text = IsReplayOutput input status text
 Gets (Gen number) input status text = IsOutput (IsSummaryText number) (case_text number) status text
 Gets Help input status text = IsOwnText HELP.now status text

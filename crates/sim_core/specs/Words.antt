@@ -3,7 +3,7 @@ use Rattle.std.specs.Prelude.{ℕ, nat_lt, ◌==◌, ◌&&◌, if◌then◌else�
 use Rattle.std.specs.Str.{bytes_eq}
 use Rattle.digits.specs.Digits.{number_up_to}
 use Rattle.sim_core.specs.declared.words.Command.{Command}
-use Rattle.sim_core.specs.declared.words.Command.TheVariants.{Check, Scores, Graph, Survive, Replay, Gen, Help, Version}
+use Rattle.sim_core.specs.declared.words.Command.TheVariants.{Check, Scores, Graph, Survive, Audit, Replay, Gen, Help, Version}
 
 abbrev pub word_command : List ℕ → Option Command
 word_command word =
@@ -11,9 +11,10 @@ word_command word =
     else (if bytes_eq word (codes "scores") then Some Scores
     else (if bytes_eq word (codes "graph") then Some Graph
     else (if bytes_eq word (codes "survive") then Some Survive
+    else (if bytes_eq word (codes "audit") then Some Audit
     else (if bytes_eq word (codes "replay") then Some Replay
     else (if bytes_eq word (codes "--help") then Some Help
-    else (if bytes_eq word (codes "--version") then Some Version else None))))))
+    else (if bytes_eq word (codes "--version") then Some Version else None)))))))
 
 -- the number of a case: without a leading zero, and of 32 bits
 abbrev pub case_number : List ℕ → Option ℕ

@@ -9,11 +9,9 @@ ghost use Rattle.cluster_types.specs.Valid.{IsValid};
 ghost use Rattle.live_lines.specs.Heads.{CanGoOn};
 ghost use Rattle.sim_core.specs.LiveSteps.{IsBehind, StopsBy, end_of, fresh};
 
-use crate::cause::InputCause;
-use crate::fault::InputFault;
-use crate::reading::{Head, read_start};
 use cluster_io::{LineReader, Source};
 use crm_lex::WordBuf;
+use input_reading::{Head, InputCause, InputFault, read_start};
 use live_lines::{HeadStop, HeadText, read_head};
 use std::alloc::Global;
 

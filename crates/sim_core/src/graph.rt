@@ -3,8 +3,8 @@
 ghost use Rattle.sim_core.specs.Graph.{IsGraphText};
 
 use crate::memory::NoMemory;
-use crate::reading::Input;
 use crate::text_word::TextWord;
+use input_reading::Input;
 use planner::plan;
 use std::alloc::Global;
 use trace_text::graph_text;

@@ -17,6 +17,10 @@ Usage: cekpayo WORD < INPUT > OUTPUT
              to its targets, and what must precede each
   survive    reads as check does, and writes where everything goes when a node
              is lost, for each node that is online
+  audit      reads a configuration and its status as check does, and behind a
+             line `%trace` a run as replay writes it; writes `lawful` if it is
+             the whole run of its own answers, or else `unlawful LINE CLAUSE`:
+             the first line that is not the due one, and what is due there
   replay     reads a configuration and its status as check does, and writes the
              run: where each resource goes, which actions begin and how they
              end, transition after transition. Each line is written as it
@@ -32,7 +36,6 @@ Usage: cekpayo WORD < INPUT > OUTPUT
 Not built yet (status 2):
 
   world N    reads as replay does, and writes a run in the simulated world N
-  audit      reads as replay does, with a run, and writes whether it is lawful
 
 Exit status:
 
@@ -47,5 +50,5 @@ Exit status:
      written
   7  the input has more than 16777216 bytes; nothing was written, or of replay
      the run so far
-  8  the run to be audited isn't lawful; its first wrong line was written
+  8  the run that audit read isn't lawful; `unlawful LINE CLAUSE` was written
 ";

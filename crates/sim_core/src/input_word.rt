@@ -4,16 +4,14 @@ ghost use Rattle.std.specs.Prelude.{◌≡◌, ◌≢◌, ℕ, ◌+◌, ◌≤�
 ghost use Rattle.cluster_io.specs.Streams.{Rose, TakesCount};
 ghost use Rattle.sim_core.specs.declared.status.Status.{Status as StatusOf};
 ghost use Rattle.sim_core.specs.Answers.{IsEarly, IsOutcome, MayAnswer, SaysOf};
-ghost use Rattle.sim_core.specs.Reading.{most_bytes};
+ghost use Rattle.input_reading.specs.Reading.{most_bytes};
 ghost use Rattle.sim_core.specs.Table.{whole};
 
 use crate::memory::NoMemory;
 use crate::status::Status;
 use cluster_io::{ReadEnd, Sink, Source, read_all, write_text};
+use input_reading::MOST_BYTES;
 use std::alloc::Global;
-
-/// The most bytes that an input may have: 16 MiB.
-pub(crate) const MOST_BYTES: usize = 16_777_216;
 
 /// A word that gives an input a status and a text.
 pub(crate) trait InputWord {

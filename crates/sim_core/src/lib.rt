@@ -1,9 +1,10 @@
 //! The words of the command line, and the top call that carries them out.
 //!
-//! `check`, `scores`, `graph` and `survive` read a whole input. `replay` reads its result lines while it writes the run, and `gen` reads nothing.
+//! `check`, `scores`, `graph`, `survive` and `audit` read a whole input. `replay` reads its result lines while it writes the run, and `gen` reads nothing.
 #![tactic(auto)]
 
 // The top call.
+mod audit;
 mod beginning;
 mod check;
 mod generated;
@@ -21,15 +22,7 @@ mod text_word;
 mod top;
 mod words;
 
-// What is read of a whole input, and its faults.
-mod cause;
-mod fault;
-mod reading;
-
-pub use cause::InputCause;
-pub use fault::InputFault;
 pub use help::{HELP, VERSION};
-pub use laws::{one_reading, what_check_writes_is_read_again, what_is_read_is_valid};
-pub use reading::{Head, Input, read_input};
+pub use laws::{what_check_writes_is_read_again, what_replay_writes_is_one_safe_run};
 pub use status::Status;
 pub use top::run;

@@ -9,14 +9,12 @@ ghost use Rattle.sim_core.specs.Replay.{IsReplayOutput};
 ghost use Rattle.sim_core.specs.Table.{live};
 
 use crate::beginning::{Beginning, HeadEnd, begin};
-use crate::cause::InputCause;
-use crate::input_word::MOST_BYTES;
-use crate::reading::Head;
 use crate::status::Status;
 use crate::text_word::refusal_text;
 use cluster_io::{HeldLines, LineReader, Sink, Source, write_text};
 use cluster_types::moment_of;
 use crm_lex::WordBuf;
+use input_reading::{Head, InputCause, MOST_BYTES};
 use live_lines::LineOutcomes;
 use live_run::{LiveEnd, run_live};
 use std::alloc::Global;

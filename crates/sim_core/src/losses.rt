@@ -3,8 +3,8 @@
 ghost use Rattle.sim_core.specs.Survive.{IsSurviveText};
 
 use crate::memory::NoMemory;
-use crate::reading::Input;
 use crate::text_word::TextWord;
+use input_reading::Input;
 use std::alloc::Global;
 use survive::survive;
 use trace_text::survive_text;

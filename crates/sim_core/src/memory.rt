@@ -15,3 +15,9 @@ impl From<crm_lex::NoMemory> for NoMemory {
         NoMemory
     }
 }
+
+impl From<cluster_io::NoMemory> for NoMemory {
+    fn from(_: cluster_io::NoMemory) -> Self {
+        NoMemory
+    }
+}

@@ -7,9 +7,9 @@ ghost use Rattle.cluster_types.specs.Valid.{IsValid};
 ghost use Rattle.sim_core.specs.Scores.{IsScoresText};
 
 use crate::memory::NoMemory;
-use crate::reading::{Head, Input};
 use crate::text_word::TextWord;
 use cluster_types::Placed;
+use input_reading::{Head, Input};
 use placement::place;
 use score_table::rows;
 use state_unpack::{unpack, valid_clusters_have_few_monitors};

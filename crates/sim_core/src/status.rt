@@ -20,7 +20,7 @@ pub enum Status {
     Unexpected,
     /// The source gives more than 16,777,216 bytes. Nothing was written; of `replay` behind the head the run up to the line that goes past them.
     TooLarge,
-    /// A trace isn't that of a lawful run.
+    /// The run of a trace isn't lawful. A line `unlawful LINE CLAUSE` was written.
     NotLawful,
 }
 

@@ -3,16 +3,15 @@
 ghost use Rattle.std.specs.Prelude.{◌≡◌, ◌<◌, ◌^◌, ℕ, List, IfOk};
 ghost use Rattle.cluster_types.specs.Journals.{moment_of};
 ghost use Rattle.cluster_types.specs.Valid.{IsValid};
-ghost use Rattle.sim_core.specs.declared.cause.InputCause.{InputCause as CauseOf};
-ghost use Rattle.sim_core.specs.declared.reading.Input.{Input as InputOf};
-ghost use Rattle.sim_core.specs.Outputs.{IsOutput, refusal_text};
+ghost use Rattle.input_reading.specs.declared.cause.InputCause.{InputCause as CauseOf};
+ghost use Rattle.input_reading.specs.declared.reading.Input.{Input as InputOf};
+ghost use Rattle.input_reading.specs.Causes.{refusal_text};
+ghost use Rattle.sim_core.specs.Outputs.{IsOutput};
 
-use crate::cause::InputCause;
-use crate::fault::InputFault;
 use crate::input_word::InputWord;
 use crate::memory::NoMemory;
-use crate::reading::{Input, read_input};
 use crate::status::Status;
+use input_reading::{Input, InputCause, InputFault, read_input};
 use std::alloc::Global;
 use trace_text::push_number;
 

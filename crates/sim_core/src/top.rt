@@ -2,10 +2,11 @@ ghost use Rattle.std.specs.Prelude.{◌≡◌, ◌≢◌, ◌↔◌, ◌+◌, �
 ghost use Rattle.std.specs.String.{string_bytes};
 ghost use Rattle.cluster_io.specs.Streams.{Rose, TakesCount};
 ghost use Rattle.sim_core.specs.Answers.{Answers, IsComplete, IsEarly, IsSafeReplay, IsStatusOf, ReadsLive, ReadsNothing, ReadsWhole};
-ghost use Rattle.sim_core.specs.Reading.{most_bytes};
+ghost use Rattle.input_reading.specs.Reading.{most_bytes};
 ghost use Rattle.sim_core.specs.Table.{intake, nothing, whole};
 ghost use Rattle.sim_core.specs.Words.{command_of};
 
+use crate::audit::AuditWord;
 use crate::check::CheckWord;
 use crate::generated::with_case;
 use crate::graph::GraphWord;
@@ -21,6 +22,7 @@ use crate::words::{Command, command_of};
 use cluster_io::{Sink, Source};
 use live_run::ends_are_one;
 use std::alloc::Global;
+use trace_audit::faulty_runs_are_not_lawful;
 
 /// Carries out a word. The clauses are those of `run` for the words that ask for it.
 fn carry_out<S: Source, W: Sink>(alloc: Global, word: Command, src: &mut S, out: &mut W) -> Status
@@ -47,6 +49,7 @@ fn carry_out<S: Source, W: Sink>(alloc: Global, word: Command, src: &mut S, out:
         Command::Scores => with_input(alloc, &Reading(ScoresWord), src, out),
         Command::Graph => with_input(alloc, &Reading(GraphWord), src, out),
         Command::Survive => with_input(alloc, &Reading(SurviveWord), src, out),
+        Command::Audit => with_input(alloc, &AuditWord, src, out),
         Command::Replay => replay(alloc, src, out),
         Command::Gen(number) => with_case(alloc, number, out),
         Command::Help => tell(out, HELP),
@@ -90,6 +93,7 @@ pub fn run<S: Source, W: Sink>(alloc: Global, words: &[String], src: &mut S, out
         → W.faults out.new ≡ W.faults out.old }
 {
     ends_are_one();
+    faulty_runs_are_not_lawful();
     match command_of(words) {
         Some(word) => carry_out(alloc, word, src, out),
         None => Status::Usage,

@@ -11,6 +11,7 @@ pub enum Command {
     Scores,
     Graph,
     Survive,
+    Audit,
     Replay,
     /// The run of the generated case of this number, in numbers.
     Gen(u32),
@@ -26,6 +27,7 @@ fn one_word(word: &str) -> Option<Command>
         "scores" => Some(Command::Scores),
         "graph" => Some(Command::Graph),
         "survive" => Some(Command::Survive),
+        "audit" => Some(Command::Audit),
         "replay" => Some(Command::Replay),
         "--help" => Some(Command::Help),
         "--version" => Some(Command::Version),

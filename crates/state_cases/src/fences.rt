@@ -6,10 +6,10 @@ use listed::Listed;
 use quorum_fence::{rights, to_fence};
 use state_unpack::unpack;
 use std::alloc::Global;
-use std::test::Fail;
+use std::process::Abort;
 
 /// Two nodes join, the leaf starts on the second, and a second later this node is lost.
-fn journal(alloc: Global, quorum: bool) -> Result<Journal, Fail> {
+fn journal(rt: &impl Abort, alloc: Global, quorum: bool) -> Journal {
     let started = Action::Cell {
         op: Op::Start,
         leaf: 0,
@@ -36,10 +36,10 @@ fn journal(alloc: Global, quorum: bool) -> Result<Journal, Fail> {
         Event::Wait { seconds: 1_000 },
         Event::Lost { node: 1 },
     ];
-    Ok(Journal {
-        events: Listed::from(history.to_vec(alloc)?),
+    Journal {
+        events: Listed::from(history.to_vec(alloc).expect(rt, "memory")),
         promotions: Listed::new(alloc),
-    })
+    }
 }
 
 const FENCES: &str = "node n1\nnode n2\nprimitive a ocf:pacemaker:Dummy\n";
@@ -59,19 +59,18 @@ const ROWS: [(&str, bool, bool); 4] = [
 ];
 
 #[test]
-fn a_lost_node_is_fenced_with_the_right_to(rt: HostRuntime) -> Result<(), Fail> {
+fn a_lost_node_is_fenced_with_the_right_to(rt: HostRuntime) {
     let alloc = rt.alloc();
     for row in &ROWS {
         let (text, quorum, fenced) = *row;
-        let cluster = cluster_of(&rt, alloc, text)?;
-        let journal = journal(alloc, quorum)?;
+        let cluster = cluster_of(&rt, alloc, text);
+        let journal = journal(&rt, alloc, quorum);
         assert!(rt; moment_of(journal.events.as_slice()) < 18_446_744_073_709_551_616);
-        let states = unpack(alloc, &cluster, &journal)?;
+        let states = unpack(alloc, &cluster, &journal).expect(&rt, "memory");
         assert!(rt; states.nodes.len() <= 256);
-        let nodes = to_fence(alloc, &cluster, &states)?;
+        let nodes = to_fence(alloc, &cluster, &states).expect(&rt, "memory");
         let expected: &[u32] = if fenced { &[1] } else { &[] };
         assert!(rt; nodes.as_slice() == expected);
         assert!(rt; rights(&cluster, &states).may_fence == fenced);
     }
-    Ok(())
 }

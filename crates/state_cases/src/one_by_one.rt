@@ -4,7 +4,6 @@ use crate::plain::cluster_of;
 use cluster_types::{Action, Event, NodeState, Op, Outcome, Role, moment_of};
 use state_unpack::Known;
 use std::process::Abort;
-use std::test::Fail;
 
 const STARTED: Event = Event::Ended {
     number: 0,
@@ -69,19 +68,18 @@ fn asked(rt: &impl Abort, known: &Known<'_>) -> (NodeState, bool, bool, bool) {
 }
 
 #[test]
-fn each_event_changes_what_is_known(rt: HostRuntime) -> Result<(), Fail> {
+fn each_event_changes_what_is_known(rt: HostRuntime) {
     let alloc = rt.alloc();
-    let cluster = cluster_of(&rt, alloc, "node n\nprimitive a ocf:pacemaker:Dummy\n")?;
+    let cluster = cluster_of(&rt, alloc, "node n\nprimitive a ocf:pacemaker:Dummy\n");
     let joined = [Event::Up { node: 0 }];
     assert!(rt; moment_of(joined.as_slice()) < 18_446_744_073_709_551_616);
-    let mut known = Known::new(alloc, &cluster, joined.as_slice())?;
+    let mut known = Known::new(alloc, &cluster, joined.as_slice()).expect(&rt, "memory");
     for row in &ROWS {
         let (event, state, has_joined, may, moment) = *row;
         tell(&rt, &mut known, event);
         assert!(rt; known.moment() == moment);
         assert!(rt; asked(&rt, &known) == (state, has_joined, may, false));
-        let states = known.states(alloc, &[])?;
+        let states = known.states(alloc, &[]).expect(&rt, "memory");
         assert!(rt; states.nodes.as_slice() == [state].as_slice());
     }
-    Ok(())
 }

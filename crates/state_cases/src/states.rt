@@ -6,7 +6,7 @@ use fail_counts::banned;
 use listed::Listed;
 use state_unpack::unpack;
 use std::alloc::Global;
-use std::test::Fail;
+use std::process::Abort;
 
 /// An operation, its interval in milliseconds, and how it ended. A monitor of interval 0 is a probe.
 type Record = (Op, u32, Outcome);
@@ -33,16 +33,16 @@ fn event(record: Record) -> Event {
 }
 
 /// The journal in which the node joins and then the records come.
-fn journal(alloc: Global, records: &[Record]) -> Result<Journal, Fail> {
+fn journal(rt: &impl Abort, alloc: Global, records: &[Record]) -> Journal {
     let mut events = Listed::new(alloc);
-    events.push(Event::Up { node: 0 })?;
+    events.push(Event::Up { node: 0 }).expect(rt, "memory");
     for record in records {
-        events.push(event(*record))?;
+        events.push(event(*record)).expect(rt, "memory");
     }
-    Ok(Journal {
+    Journal {
         events,
         promotions: Listed::new(alloc),
-    })
+    }
 }
 
 const FENCES: &str = "node n\nprimitive a ocf:pacemaker:Dummy op monitor interval=10s\n";
@@ -124,14 +124,14 @@ const ROWS: [Row; 8] = [
 ];
 
 #[test]
-fn states_of_one_leaf_on_one_node(rt: HostRuntime) -> Result<(), Fail> {
+fn states_of_one_leaf_on_one_node(rt: HostRuntime) {
     let alloc = rt.alloc();
     for row in &ROWS {
         let (records, text, state, ban, may, running) = *row;
-        let cluster = cluster_of(&rt, alloc, text)?;
-        let journal = journal(alloc, records)?;
+        let cluster = cluster_of(&rt, alloc, text);
+        let journal = journal(&rt, alloc, records);
         assert!(rt; moment_of(journal.events.as_slice()) < 18_446_744_073_709_551_616);
-        let states = unpack(alloc, &cluster, &journal)?;
+        let states = unpack(alloc, &cluster, &journal).expect(&rt, "memory");
         let told = Cell {
             state,
             may,
@@ -142,5 +142,4 @@ fn states_of_one_leaf_on_one_node(rt: HostRuntime) -> Result<(), Fail> {
         assert!(rt; states.cells.as_slice() == [told].as_slice());
         assert!(rt; banned(&cluster, &journal, 0, 0) == ban);
     }
-    Ok(())
 }

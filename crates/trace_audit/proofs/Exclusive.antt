@@ -22,13 +22,13 @@ use Rattle.trace_audit.proofs.NamedRuns.{named_run}
 use Rattle.trace_audit.proofs.Verdicts.{joined, stands}
 
 -- what stands at a place of the front of a list
-in_front : {X : Type 0} (xs more : List X) (i : ℕ) (x : X) → slice_get xs i ≡ Some x → slice_get (xs ++ more) i ≡ Some x
+pub in_front : {X : Type 0} (xs more : List X) (i : ℕ) (x : X) → slice_get xs i ≡ Some x → slice_get (xs ++ more) i ≡ Some x
 in_front [] more i x e = absurd (none-some x e)
 in_front (y ∷ xs) more zero x e = e
 in_front (y ∷ xs) more (suc i) x e = in_front xs more i x e
 
 -- each element of a list of texts was made of one
-made : {X : Type 0} (f : X → List ℕ) (xs : List X) (i : ℕ) (y : List ℕ) → slice_get (map f xs) i ≡ Some y → (x : X) × (slice_get xs i ≡ Some x) × (f x ≡ y)
+pub made : {X : Type 0} (f : X → List ℕ) (xs : List X) (i : ℕ) (y : List ℕ) → slice_get (map f xs) i ≡ Some y → (x : X) × (slice_get xs i ≡ Some x) × (f x ≡ y)
 made f [] i y e = absurd (none-some y e)
 made f (x ∷ xs) zero y e = (x, refl, cc)
 made f (x ∷ xs) (suc i) y e = made f xs i y e

@@ -6,4 +6,5 @@ pub mod Dues
 pub mod NamedRuns
 pub mod Verdicts
 pub mod Exclusive
+pub mod OneFault
 pub mod Stopped

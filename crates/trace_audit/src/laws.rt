@@ -1,6 +1,6 @@
 //! What follows from the definitions of `specs/`, for every valid cluster.
 
-ghost use Rattle.std.specs.Prelude.{ℕ, List};
+ghost use Rattle.std.specs.Prelude.{◌≡◌, ℕ, List};
 ghost use Rattle.std.specs.List.{AllByRecursion};
 ghost use Rattle.cluster_types.specs.declared.cluster.Cluster.{Cluster as ClusterOf};
 ghost use Rattle.cluster_types.specs.declared.journal.Journal.{Journal as JournalOf};
@@ -14,4 +14,10 @@ ghost use Rattle.trace_audit.specs.Lawful.{IsFaulty, IsLawful};
 pub fn faulty_runs_are_not_lawful()
     ensures { (c : ClusterOf) (journal : JournalOf) (lines : List LineOf) (place : ℕ) (kind : ClauseOf)
         → IsValid c → AllByRecursion IsNamed lines → IsFaulty c journal lines place kind → ¬ IsLawful c journal lines }
+{}
+
+/// A run has at most one first line that isn't the due one.
+pub fn faulty_lines_are_one()
+    ensures { (c : ClusterOf) (journal : JournalOf) (lines : List LineOf) (one other : ℕ) (kind sort : ClauseOf)
+        → IsFaulty c journal lines one kind → IsFaulty c journal lines other sort → (one ≡ other) × (kind ≡ sort) }
 {}

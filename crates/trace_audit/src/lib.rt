@@ -23,5 +23,5 @@ mod auditing;
 mod laws;
 
 pub use auditing::audit;
-pub use laws::faulty_runs_are_not_lawful;
+pub use laws::{faulty_lines_are_one, faulty_runs_are_not_lawful};
 pub use verdict::{Clause, Verdict};

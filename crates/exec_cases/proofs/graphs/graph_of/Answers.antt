@@ -4,4 +4,4 @@ use Rattle.exec_cases.proofs.graphs.graph_of.Goals as goal
 
 pub new-requires : goal.new-requires
 new-requires c =
-    rw c.from-2.ensures (rising_is_graph _ _ _ (omega arith) (rw c.as_slice.ensures.value at (sym c.all_rise.ensures ∙ c.if-not-all_rise.false)))
+    rw c.from.ensures (rising_is_graph _ _ _ (omega arith) (rw c.as_slice.ensures.value at (sym c.all_rise.ensures ∙ c.if-not-all_rise.false)))

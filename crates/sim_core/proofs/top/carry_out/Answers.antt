@@ -17,3 +17,6 @@ returns-in-Scores-clause-status g c = rw c.in-Scores.is c.with_input-in-Scores.e
 
 pub returns-in-Graph-clause-status : goal.returns-in-Graph-clause-status
 returns-in-Graph-clause-status g c = rw c.in-Graph.is c.with_input-in-Graph.ensures.status
+
+pub returns-in-Audit-clause-status : goal.returns-in-Audit-clause-status
+returns-in-Audit-clause-status g c = rw c.in-Audit.is c.with_input-in-Audit.ensures.status

@@ -1,0 +1,88 @@
+-- The names of the causes for which an input is refused, and the line that says so. The name of a cause is that of its variant (rules of this project).
+use Rattle.std.specs.Prelude.{ℕ, List, ◌++◌, codes, decimal}
+use Rattle.crm_parse.specs.declared.fault.ParseCause.{ParseCause}
+use Rattle.crm_parse.specs.declared.fault.ParseCause.TheVariants as parse
+use Rattle.clone_expand.specs.declared.fault.ExpandCause.{ExpandCause}
+use Rattle.clone_expand.specs.declared.fault.ExpandCause.TheVariants as expand
+use Rattle.cluster_model.specs.declared.fault.ModelCause.{ModelCause}
+use Rattle.cluster_model.specs.declared.fault.ModelCause.TheVariants as model
+use Rattle.op_history.specs.declared.fault.StatusCause.{StatusCause}
+use Rattle.op_history.specs.declared.fault.StatusCause.TheVariants as status
+use Rattle.crm_lex.specs.declared.fault.LexCause.{LexCause}
+use Rattle.crm_lex.specs.declared.fault.LexCause.TheVariants as lex
+use Rattle.op_history.specs.declared.fault.ResultCause.{ResultCause}
+use Rattle.op_history.specs.declared.fault.ResultCause.TheVariants as result
+use Rattle.line_words.specs.declared.cause.WordCause.{WordCause}
+use Rattle.line_words.specs.declared.cause.WordCause.TheVariants as word
+use Rattle.input_reading.specs.declared.cause.InputCause.{InputCause}
+use Rattle.input_reading.specs.declared.cause.InputCause.TheVariants.{Words, Statements, Leaves, Cluster, Status, Results, Run}
+
+abbrev pub lex_name : LexCause → List ℕ
+lex_name lex.NotUtf8 = codes "NotUtf8"
+lex_name lex.ControlByte = codes "ControlByte"
+lex_name lex.OpenQuote = codes "OpenQuote"
+lex_name lex.LineTooLong = codes "LineTooLong"
+
+abbrev pub parse_name : ParseCause → List ℕ
+parse_name parse.UnknownStatement = codes "UnknownStatement"
+parse_name parse.Unsupported = codes "Unsupported"
+parse_name parse.BadScore = codes "BadScore"
+parse_name parse.BadTime = codes "BadTime"
+parse_name parse.BadValue = codes "BadValue"
+parse_name parse.MissingWord = codes "MissingWord"
+parse_name parse.ExtraWord = codes "ExtraWord"
+parse_name parse.RepeatedKey = codes "RepeatedKey"
+
+abbrev pub expand_name : ExpandCause → List ℕ
+expand_name expand.DuplicateName = codes "DuplicateName"
+expand_name expand.UnknownName = codes "UnknownName"
+expand_name expand.NestedTwice = codes "NestedTwice"
+expand_name expand.EmptyGroup = codes "EmptyGroup"
+expand_name expand.MemberTwice = codes "MemberTwice"
+expand_name expand.UnsupportedMeta = codes "UnsupportedMeta"
+
+abbrev pub model_name : ModelCause → List ℕ
+model_name model.UnknownName = codes "UnknownName"
+model_name model.NotPromotable = codes "NotPromotable"
+model_name model.UnsupportedOrder = codes "UnsupportedOrder"
+model_name model.TooManyNodes = codes "TooManyNodes"
+model_name model.TooManyLeaves = codes "TooManyLeaves"
+model_name model.TooManyRules = codes "TooManyRules"
+model_name model.ColocationLoop = codes "ColocationLoop"
+model_name model.OrderLoop = codes "OrderLoop"
+
+abbrev pub status_name : StatusCause → List ℕ
+status_name status.UnknownStatement = codes "UnknownStatement"
+status_name status.MissingWord = codes "MissingWord"
+status_name status.ExtraWord = codes "ExtraWord"
+status_name status.BadValue = codes "BadValue"
+status_name status.UnknownName = codes "UnknownName"
+status_name status.Repeated = codes "Repeated"
+
+abbrev pub result_name : ResultCause → List ℕ
+result_name result.UnknownStatement = codes "UnknownStatement"
+result_name result.MissingWord = codes "MissingWord"
+result_name result.ExtraWord = codes "ExtraWord"
+result_name result.BadValue = codes "BadValue"
+result_name result.UnknownName = codes "UnknownName"
+result_name result.TooManyResults = codes "TooManyResults"
+
+abbrev pub word_name : WordCause → List ℕ
+word_name word.UnknownStatement = codes "UnknownStatement"
+word_name word.MissingWord = codes "MissingWord"
+word_name word.ExtraWord = codes "ExtraWord"
+word_name word.BadValue = codes "BadValue"
+word_name word.UnknownName = codes "UnknownName"
+
+abbrev pub cause_name : InputCause → List ℕ
+cause_name (Words cause) = lex_name cause
+cause_name (Statements cause) = parse_name cause
+cause_name (Leaves cause) = expand_name cause
+cause_name (Cluster cause) = model_name cause
+cause_name (Status cause) = status_name cause
+cause_name (Results cause) = result_name cause
+cause_name (Run cause) = word_name cause
+
+-- `refused LINE CAUSE`
+abbrev pub refusal_text : ℕ → InputCause → List ℕ
+refusal_text line why = codes "refused " ++ decimal line ++ codes " " ++ cause_name why ++ codes "\n"

@@ -1,0 +1,4 @@
+pub mod Causes
+pub mod Reading
+pub mod Sections
+pub mod Traces

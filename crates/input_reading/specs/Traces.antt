@@ -1,0 +1,46 @@
+-- What is read of a text with a trace: its configuration, its status and the lines of a written run. The first step that fails decides (crmsh manual,
+-- configure; the sections, the lines of the status and of a run, and the order of the steps are rules of this project).
+use Rattle.std.specs.Prelude.{◌≡◌, ℕ, List, Result, Ok, Err}
+use Rattle.faults.specs.declared.fault.Fault.{Fault}
+use Rattle.faults.specs.declared.fault.Fault.TheVariants.{At}
+use Rattle.faults.specs.Reading.{◌>>=◌, faulting}
+use Rattle.crm_lex.specs.declared.line.Line.{Line}
+use Rattle.cluster_model.specs.Resolution.{resolution_of}
+use Rattle.run_lines.specs.Reading.{lines_of}
+use Rattle.input_reading.specs.declared.cause.InputCause.{InputCause}
+use Rattle.input_reading.specs.declared.cause.InputCause.TheVariants as cause
+use Rattle.input_reading.specs.declared.reading.Head.{Head}
+use Rattle.input_reading.specs.declared.trace.Trace.{Trace}
+use Rattle.input_reading.specs.Reading.{configuration_of, line_behind, with_cluster}
+use Rattle.input_reading.specs.Sections.{sections_with_trace}
+
+-- the lines of a run follow, and the last line of the text stands before this one
+unfoldable pub with_run : ℕ → Head → List Line → Result Trace (Fault InputCause)
+with_run after head lines = do
+  run ← faulting cause.Run (lines_of head.cluster lines)
+  Ok (record { head = head; run = record { lines = run }; after = after })
+
+-- what is read of a whole text, or its fault: that of the first step that fails. The steps are the words of all lines, the sections, the statements,
+-- the leaves, the cluster, the status and the lines of the run
+unfoldable pub trace_of : List ℕ → Result Trace (Fault InputCause)
+trace_of text = do
+  found ← configuration_of sections_with_trace text
+  cluster ← faulting cause.Cluster (resolution_of found.leaves found.crm.statements)
+  with_cluster (with_run (line_behind found.lines)) found cluster
+
+-- the text is read, and says this
+abbrev pub ReadsTrace : List ℕ → Trace → Type 0
+ReadsTrace text trace = trace_of text ≡ Ok trace
+
+-- the text isn't read: it has a fault at this line, for this cause
+abbrev pub IsTraceRefused : List ℕ → ℕ → InputCause → Type 0
+IsTraceRefused text line why = trace_of text ≡ Err (At line why)
+
+pub record IsReadableTrace (text : List ℕ) : Type 0 where
+  pub whole : Trace
+  pub reads : ReadsTrace text whole
+
+pub record IsFaultyTrace (text : List ℕ) : Type 0 where
+  pub line : ℕ
+  pub why : InputCause
+  pub fault : IsTraceRefused text line why
