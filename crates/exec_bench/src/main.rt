@@ -40,8 +40,8 @@ fn words(rt: &HostRuntime) -> io::Result<Vec<String>> {
 }
 
 /// The cluster and the first journal of an input.
-fn start(alloc: Global, text: &[u8]) -> io::Result<(Cluster, Journal)>
-    requires { length text.now ≤ 16777216 }
+fn start(alloc: Global, text: Vec<u8>) -> io::Result<(Cluster, Journal)>
+    requires { length text.items ≤ 16777216 }
     ensures valid { IfOk result (λ start. IsValid start.0) }
     ensures moment { IfOk result (λ start. moment_of start.1.events < 2 ^ 40) }
 {
@@ -83,7 +83,7 @@ fn carry_out(rt: &HostRuntime, cluster: &Cluster, journal: Journal) -> io::Resul
 
 fn main(rt: HostRuntime) -> io::Result<()> {
     let bytes = text(&rt)?;
-    let (cluster, journal) = start(rt.alloc(), &bytes)?;
+    let (cluster, journal) = start(rt.alloc(), bytes)?;
     let Carried {
         actions,
         end,

@@ -24,9 +24,8 @@ pub(crate) fn start_of(rt: &impl Abort, alloc: Global, text: &str) -> (Cluster, 
 {
     valid_clusters_have_few_monitors();
     assert!(rt; text.len() <= 16_777_216);
-    let head = read_input(alloc, text.as_bytes())
-        .expect(rt, "the input is read")
-        .head;
+    let text = text.as_bytes().to_vec(alloc).expect(rt, "memory");
+    let head = read_input(alloc, text).expect(rt, "the input is read").head;
     (head.cluster, head.journal)
 }
 

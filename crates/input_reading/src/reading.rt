@@ -56,14 +56,15 @@ pub(crate) struct Configuration {
     pub leaves: Leaves,
 }
 
+/// The lines of a text, which goes back to memory here: the words of its lines are kept apart from it.
 #[tactic(auto, using(crate::proofs::FewLines::few_rows_read, crate::proofs::FewLines::few_lines_before))]
-fn lines_of(alloc: Global, text: &[u8]) -> Result<Vec<Line>, InputFault>
-    requires { length text.now ≤ most_bytes }
-    ensures lines { Gives (λ lines. lines.items) result (faulting cause.Words (reads text.now)) }
+fn lines_of(alloc: Global, text: Vec<u8>) -> Result<Vec<Line>, InputFault>
+    requires { length text.items ≤ most_bytes }
+    ensures lines { Gives (λ lines. lines.items) result (faulting cause.Words (reads text.items)) }
     ensures few { IfOk result (λ lines. length lines.items < 2 ^ 32) }
     ensures numbers { IfOk result (λ lines. line_behind lines.items < 2 ^ 32) }
 {
-    logical_lines(alloc, text).map_err(|fault| fault.map(InputCause::Words))
+    logical_lines(alloc, &text).map_err(|fault| fault.map(InputCause::Words))
 }
 
 fn statements_in(alloc: Global, lines: &[Line]) -> Result<Crm, InputFault>
@@ -83,10 +84,10 @@ fn leaves_in(alloc: Global, crm: &Crm) -> Result<Leaves, InputFault>
 pub(crate) fn configuration_of(
     alloc: Global,
     last: LastSection,
-    text: &[u8],
+    text: Vec<u8>,
 ) -> Result<Configuration, InputFault>
-    requires { length text.now ≤ most_bytes }
-    ensures given { Gives (λ found. found) result (configuration_of (sections_by last) text.now) }
+    requires { length text.items ≤ most_bytes }
+    ensures given { Gives (λ found. found) result (configuration_of (sections_by last) text.items) }
     ensures leaves { IfOk result (λ found. expansion_of found.crm.statements ≡ Ok found.leaves) }
     ensures results { IfOk result (λ found. found.marks.results_at ≤ length found.lines) }
     ensures end { IfOk result (λ found. found.marks.end ≤ length found.lines) }
@@ -211,9 +212,9 @@ fn with_status(alloc: Global, found: Configuration, cluster: Cluster) -> Result<
 
 /// All steps but the last, one after the other.
 #[tactic(auto, unfolding(crate::specs::Reading::start_of))]
-fn start_of(alloc: Global, text: &[u8]) -> Result<Head, InputFault>
-    requires { length text.now ≤ most_bytes }
-    ensures head { Gives (λ head. head) result (start_of text.now) }
+fn start_of(alloc: Global, text: Vec<u8>) -> Result<Head, InputFault>
+    requires { length text.items ≤ most_bytes }
+    ensures head { Gives (λ head. head) result (start_of text.items) }
     ensures moment { IfOk result (λ head. moment_of head.journal.events < 2 ^ 40) }
 {
     let found = configuration_of(alloc, LastSection::Results, text)?;
@@ -222,9 +223,9 @@ fn start_of(alloc: Global, text: &[u8]) -> Result<Head, InputFault>
 }
 
 /// Reads the head of an input that stands alone, of at most 16,777,216 bytes, as `read_input` reads a whole input.
-pub fn read_start(alloc: Global, text: &[u8]) -> Result<Head, InputFault>
-    requires { length text.now ≤ most_bytes }
-    ensures read { Gives (λ head. head) result (start_of text.now) }
+pub fn read_start(alloc: Global, text: Vec<u8>) -> Result<Head, InputFault>
+    requires { length text.items ≤ most_bytes }
+    ensures read { Gives (λ head. head) result (start_of text.items) }
     ensures valid { IfOk result (λ head. IsValid head.cluster) }
     ensures at_rest { IfOk result (λ head. IsAtRest head.journal.events) }
     ensures moment { IfOk result (λ head. moment_of head.journal.events < 2 ^ 40) }
@@ -234,9 +235,9 @@ pub fn read_start(alloc: Global, text: &[u8]) -> Result<Head, InputFault>
 
 /// All steps, one after the other.
 #[tactic(auto, unfolding(crate::specs::Reading::input_of))]
-fn input_of(alloc: Global, text: &[u8]) -> Result<Input, InputFault>
-    requires { length text.now ≤ most_bytes }
-    ensures input { Gives (λ input. input) result (input_of text.now) }
+fn input_of(alloc: Global, text: Vec<u8>) -> Result<Input, InputFault>
+    requires { length text.items ≤ most_bytes }
+    ensures input { Gives (λ input. input) result (input_of text.items) }
     ensures moment { IfOk result (λ input. moment_of input.head.journal.events < 2 ^ 40) }
 {
     let found = configuration_of(alloc, LastSection::Results, text)?;
@@ -249,13 +250,13 @@ fn input_of(alloc: Global, text: &[u8]) -> Result<Input, InputFault>
 ///
 /// The steps are the words of all lines, the sections, the statements of the configuration, its leaves, its cluster, the lines of the
 /// status and the result lines. A fault is that of the first step that fails, at the lowest line that is at fault in it, with the cause
-/// that the reader of that step gives. `NoMemory` comes when memory runs out.
+/// that the reader of that step gives. `NoMemory` comes when memory runs out. The text goes back to memory after the first step.
 ///
 /// What is read is valid: the cluster is, and the first journal is in order, has nothing in flight and a moment below 2^40 seconds. There are at
 /// most 10,000 result lines.
-pub fn read_input(alloc: Global, text: &[u8]) -> Result<Input, InputFault>
-    requires { length text.now ≤ most_bytes }
-    ensures read { Gives (λ input. input) result (input_of text.now) }
+pub fn read_input(alloc: Global, text: Vec<u8>) -> Result<Input, InputFault>
+    requires { length text.items ≤ most_bytes }
+    ensures read { Gives (λ input. input) result (input_of text.items) }
     ensures valid { IfOk result (λ input. IsValid input.head.cluster) }
     ensures orderly { IfOk result (λ input. Orderly input.head.journal.events) }
     ensures idle { IfOk result (λ input. in_flight input.head.journal.events ≡ []) }

@@ -86,9 +86,9 @@ fn with_cluster(alloc: Global, found: Configuration, cluster: Cluster) -> Result
 
 /// All steps, one after the other.
 #[tactic(auto, unfolding(crate::specs::Traces::trace_of))]
-fn trace_of(alloc: Global, text: &[u8]) -> Result<Trace, InputFault>
-    requires { length text.now ≤ most_bytes }
-    ensures trace { Gives (λ trace. trace) result (trace_of text.now) }
+fn trace_of(alloc: Global, text: Vec<u8>) -> Result<Trace, InputFault>
+    requires { length text.items ≤ most_bytes }
+    ensures trace { Gives (λ trace. trace) result (trace_of text.items) }
     ensures named { IfOk result (λ trace. AreNamed trace.run.lines) }
     ensures moment { IfOk result (λ trace. moment_of trace.head.journal.events < 2 ^ 40) }
 {
@@ -101,9 +101,9 @@ fn trace_of(alloc: Global, text: &[u8]) -> Result<Trace, InputFault>
 ///
 /// It is read as `read_input` reads one with results, and the lines of its trace as those of a run, the last step. So their faults come behind
 /// all others. What is read is valid in the same way, and each rule that the run says to hold a leaf back has a name.
-pub fn read_trace(alloc: Global, text: &[u8]) -> Result<Trace, InputFault>
-    requires { length text.now ≤ most_bytes }
-    ensures read { Gives (λ trace. trace) result (trace_of text.now) }
+pub fn read_trace(alloc: Global, text: Vec<u8>) -> Result<Trace, InputFault>
+    requires { length text.items ≤ most_bytes }
+    ensures read { Gives (λ trace. trace) result (trace_of text.items) }
     ensures valid { IfOk result (λ trace. IsValid trace.head.cluster) }
     ensures at_rest { IfOk result (λ trace. IsAtRest trace.head.journal.events) }
     ensures moment { IfOk result (λ trace. moment_of trace.head.journal.events < 2 ^ 40) }

@@ -24,7 +24,7 @@ pub(crate) fn start_of(
     ensures moment { IfOk result (λ start. moment_of start.1.events < 2 ^ 40) }
 {
     assert!(rt; text.len() <= 16_777_216);
-    match read_input(alloc, text.as_bytes()) {
+    match read_input(alloc, text.as_bytes().to_vec(alloc)?) {
         Ok(input) => Ok((input.head.cluster, input.head.journal)),
         Err(_) => Err(Fail::from("the input is refused")),
     }

@@ -18,6 +18,7 @@ pub fn input_of(rt: &impl Abort, alloc: Global, text: &[u8]) -> Input
 {
     valid_clusters_have_few_monitors();
     assert!(rt; text.len() <= 16_777_216);
+    let text = text.to_vec(alloc).expect(rt, "memory");
     read_input(alloc, text).expect(rt, "the input is read")
 }
 

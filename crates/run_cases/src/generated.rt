@@ -14,7 +14,7 @@ fn cases_are_read(rt: HostRuntime) -> Result<(), Fail> {
     for number in [7, 8] {
         let text = generate(alloc, number)?;
         assert!(rt; text.len() < 100_000);
-        let input = match read_input(alloc, &text) {
+        let input = match read_input(alloc, text) {
             Ok(input) => input,
             Err(InputFault::At { line, .. }) => return Err(Fail::new(line)),
             Err(InputFault::NoMemory) => return Err(Fail::from("no memory")),

@@ -21,9 +21,8 @@ pub fn known_by(rt: &impl Abort, alloc: Global, text: &str) -> Known
 {
     valid_clusters_have_few_monitors();
     assert!(rt; text.len() <= 16_777_216);
-    let head = read_input(alloc, text.as_bytes())
-        .expect(rt, "the input is read")
-        .head;
+    let text = text.as_bytes().to_vec(alloc).expect(rt, "memory");
+    let head = read_input(alloc, text).expect(rt, "the input is read").head;
     assert!(rt; moment_of(head.journal.events.as_slice()) < 18_446_744_073_709_551_616);
     let states = unpack(alloc, &head.cluster, &head.journal).expect(rt, "memory");
     Known {

@@ -79,10 +79,8 @@ stops old new (Some input) after why.ReadFault e told broken = amid old new inpu
 stops old new (Some input) after why.NoMemory e told broken = tt
 
 -- the same, by what reading it gave
-pub faulty_read : (old new : Reading) (text given : List ℕ) (next : ℕ) (before after : Option (List ℕ)) (found : Fault InputCause) (line : ℕ) (cause : InputCause)
-    → old ≡ fresh → IfSome before (λ left. head_behind [] old left ≡ taken text next new.room) → given ≡ text → found ≡ At line cause
-    → UnlessMemory found (start_of given ≡ Err found) → IfSome before (λ input. StopsBy input after (stop.Refused line cause))
-faulty_read old new text given next before after found line cause e told same is says =
-    let refused : start_of given ≡ Err (At line cause)
-    = subst (λ (f : Fault InputCause). UnlessMemory f (start_of given ≡ Err f)) is says in
-    faulty old new text next before after line cause e told (ap start_of (sym same) ∙ refused)
+pub faulty_read : (old new : Reading) (text : List ℕ) (next : ℕ) (before after : Option (List ℕ)) (found : Fault InputCause) (line : ℕ) (cause : InputCause)
+    → old ≡ fresh → IfSome before (λ left. head_behind [] old left ≡ taken text next new.room) → found ≡ At line cause
+    → UnlessMemory found (start_of text ≡ Err found) → IfSome before (λ input. StopsBy input after (stop.Refused line cause))
+faulty_read old new text next before after found line cause e told is says =
+    faulty old new text next before after line cause e told (subst (λ (f : Fault InputCause). UnlessMemory f (start_of text ≡ Err f)) is says)

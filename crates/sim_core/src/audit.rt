@@ -44,7 +44,7 @@ pub(crate) struct AuditWord;
 impl InputWord for AuditWord {
     ghost gets = { λ _. IsAuditOutput };
 
-    fn answer(&self, alloc: Global, input: &[u8]) -> Result<(Status, Vec<u8>), NoMemory> {
+    fn answer(&self, alloc: Global, input: Vec<u8>) -> Result<(Status, Vec<u8>), NoMemory> {
         let Trace { head, run, after } = match read_trace(alloc, input) {
             Ok(trace) => trace,
             Err(InputFault::At { line, cause }) => {

@@ -74,7 +74,7 @@ pub(crate) fn begin<S: Source>(
         Ok(head) => head,
         Err(stop) => return Err(head_end(stop)),
     };
-    match read_start(alloc, &text) {
+    match read_start(alloc, text) {
         Ok(head) => Ok(Beginning { head, next }),
         Err(InputFault::At { line, cause }) => Err(HeadEnd::Refused { line, cause }),
         Err(InputFault::NoMemory) => Err(HeadEnd::NoMemory),

@@ -79,9 +79,9 @@ fn summary_of(alloc: Global, number: u32, whole: Input) -> Result<Vec<u8>, NoMem
 }
 
 /// The status and the text that the case of this number gets.
-fn answer(alloc: Global, number: u32, case: &[u8]) -> Result<(Status, Vec<u8>), NoMemory>
-    requires { length case.now ≤ most_bytes }
-    ensures output { IfOk result (λ answer. IsOutput (IsSummaryText number) case.now answer.0 answer.1.items) }
+fn answer(alloc: Global, number: u32, case: Vec<u8>) -> Result<(Status, Vec<u8>), NoMemory>
+    requires { length case.items ≤ most_bytes }
+    ensures output { IfOk result (λ answer. IsOutput (IsSummaryText number) case.items answer.0 answer.1.items) }
     ensures status { IfOk result (λ answer. IsOutcome answer.0) }
 {
     match read_input(alloc, case) {
@@ -106,7 +106,7 @@ pub(crate) fn with_case<W: Sink>(alloc: Global, number: u32, out: &mut W) -> Sta
     let Ok(case) = generate(alloc, number) else {
         return Status::NoMemory;
     };
-    let Ok((status, text)) = answer(alloc, number, &case) else {
+    let Ok((status, text)) = answer(alloc, number, case) else {
         return Status::NoMemory;
     };
     match write_text(out, &text) {

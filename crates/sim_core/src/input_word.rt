@@ -19,9 +19,9 @@ pub(crate) trait InputWord {
     ghost gets: { Self → List ℕ → StatusOf → List ℕ → Type 0 };
 
     /// The status and the text that an input gets. The only error is out of memory.
-    fn answer(&self, alloc: Global, input: &[u8]) -> Result<(Status, Vec<u8>), NoMemory>
-        requires { length input.now ≤ most_bytes }
-        ensures output { IfOk result (λ answer. gets self.now input.now answer.0 answer.1.items) }
+    fn answer(&self, alloc: Global, input: Vec<u8>) -> Result<(Status, Vec<u8>), NoMemory>
+        requires { length input.items ≤ most_bytes }
+        ensures output { IfOk result (λ answer. gets self.now input.items answer.0 answer.1.items) }
         ensures status { IfOk result (λ answer. IsOutcome answer.0) };
 }
 
@@ -56,7 +56,7 @@ pub(crate) fn with_input<I: InputWord, S: Source, W: Sink>(
         Err(ReadEnd::TooLarge) => return Status::TooLarge,
         Err(ReadEnd::NoMemory) => return Status::NoMemory,
     };
-    let Ok((status, text)) = word.answer(alloc, &input) else {
+    let Ok((status, text)) = word.answer(alloc, input) else {
         return Status::NoMemory;
     };
     match write_text(out, &text) {

@@ -46,7 +46,7 @@ pub(crate) struct Reading<T>(pub T);
 impl<T: TextWord> InputWord for Reading<T> {
     ghost gets = { λ word. IsOutput (T.says word.0) };
 
-    fn answer(&self, alloc: Global, input: &[u8]) -> Result<(Status, Vec<u8>), NoMemory> {
+    fn answer(&self, alloc: Global, input: Vec<u8>) -> Result<(Status, Vec<u8>), NoMemory> {
         match read_input(alloc, input) {
             Ok(whole) => Ok((Status::Done, self.0.text(alloc, &whole)?)),
             Err(InputFault::At { line, cause }) => {

@@ -17,6 +17,7 @@ pub fn cluster_of(rt: &impl Abort, alloc: Global, text: &str) -> Cluster
 {
     valid_clusters_have_few_monitors();
     assert!(rt; text.len() <= 16_777_216);
-    let input = read_input(alloc, text.as_bytes()).expect(rt, "the input is read");
+    let text = text.as_bytes().to_vec(alloc).expect(rt, "memory");
+    let input = read_input(alloc, text).expect(rt, "the input is read");
     input.head.cluster
 }

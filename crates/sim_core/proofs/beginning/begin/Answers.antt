@@ -16,5 +16,5 @@ read_start-requires g c =
 
 pub returns-in-Err-At-clause-stopped : goal.returns-in-Err-At-clause-stopped
 returns-in-Err-At-clause-stopped g c =
-    faulty_read (reading_of c.args.reader.now) (reading_of c.read_head.new.reader) _ _ _ (g.S.Source.left (source_of c.args.reader.now))
-    (g.S.Source.left (source_of c.read_head.new.reader)) _ _ _ c.requires c.in-Ok.ensures.head c.deref.ensures.value c.in-Err-At.field-0-is c.in-Err-At.ensures.read
+    faulty_read (reading_of c.args.reader.now) (reading_of c.read_head.new.reader) _ _ (g.S.Source.left (source_of c.args.reader.now))
+    (g.S.Source.left (source_of c.read_head.new.reader)) _ _ _ c.requires c.in-Ok.ensures.head c.in-Err-At.field-0-is c.in-Err-At.ensures.read
