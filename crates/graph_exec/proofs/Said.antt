@@ -1,5 +1,5 @@
 -- Steps each end of which was said.
-use Rattle.std.proofs.Common.{◌≡◌, Bool, true, false, Option, Some, None, List, [], ◌∷◌, ◌++◌, refl}
+use Rattle.std.proofs.Common.{◌≡◌, Bool, true, false, Option, Some, None, List, [], ◌∷◌, ◌++◌, append_assoc, ap, refl, sym, subst, ◌∙◌}
 use Rattle.std.specs.Prelude.{option_map}
 use Rattle.cluster_types.specs.declared.journal.Answer.{Answer}
 use Rattle.cluster_types.specs.declared.journal.Event.{Event}
@@ -7,6 +7,7 @@ use Rattle.cluster_types.specs.Sources.{Says, told, used_up, untold}
 use Rattle.cluster_types.specs.Steps.{Transition, StepsOn, begins, takes, is_silent, Goes, here, one_more}
 use Rattle.graph_exec.specs.Rounds.{Began}
 use Rattle.graph_exec.specs.Running.{Running, Took, Went, going}
+use Rattle.graph_exec.specs.Saying.{TakesAnswers}
 use Rattle.graph_exec.specs.Transitions.{WentAsSaid}
 use Rattle.graph_exec.proofs.Carrying.{went_begun, went_nowhere, went_on, went_step}
 
@@ -34,22 +35,50 @@ module _ (ys : List Answer) where
       one_more since events later (with_more rest) (with_more middle) (with_more left) (step_more t since events rest middle step)
       (goes_more t (since ++ events) later middle left more)
 
-pub said_nothing : (r : Running) → WentAsSaid r r
-said_nothing r = record { answers = []; went = went_nowhere false r (Some []) }
+-- answers that were taken: none, one, and those of two parts
+pub taken_none : (rest : Option (List Answer)) → TakesAnswers rest [] rest
+taken_none None = refl
+taken_none (Some answers) = refl
 
-pub said_on : (first middle last : Running) → WentAsSaid first middle → WentAsSaid middle last → WentAsSaid first last
-said_on first middle last a b =
+pub taken_one : (whole : Bool) (rest left : Option (List Answer)) (given : Answer) (said : Option Answer) → said ≡ Some given → Says whole rest said left
+    → TakesAnswers rest (given ∷ []) left
+taken_one whole _ _ given _ is (told first rest) = cc
+taken_one whole _ _ given _ is (used_up h) = cc
+taken_one whole _ _ given _ is (untold said) = refl
+
+pub taken_then : (before between after : Option (List Answer)) (xs ys : List Answer) → TakesAnswers before xs between → TakesAnswers between ys after
+    → TakesAnswers before (xs ++ ys) after
+taken_then before between None xs ys a b = a ∙ ap (option_map (λ (left : List Answer). xs ++ left)) b
+taken_then before between (Some left) xs ys a b =
+    a ∙ (ap (option_map (λ (others : List Answer). xs ++ others)) b ∙ ap Some (sym (append_assoc xs ys left)))
+
+pub said_nothing : (r : Running) (rest : Option (List Answer)) → WentAsSaid r r rest rest
+said_nothing r rest = record { answers = []; went = went_nowhere false r (Some []); taken = taken_none rest }
+
+pub said_on : (first middle last : Running) (rest between left : Option (List Answer)) → WentAsSaid first middle rest between → WentAsSaid middle last between left
+    → WentAsSaid first last rest left
+said_on first middle last rest between left a b =
     let before : Went false first middle (Some (a.answers ++ b.answers)) (Some b.answers)
     = record { same = a.went.same; steps = goes_more b.answers (going first) first.since middle.since (Some a.answers) (Some []) a.went.steps } in
-    record { answers = a.answers ++ b.answers; went = went_on false first middle last _ _ _ before b.went }
+    record {
+      answers = a.answers ++ b.answers;
+      went = went_on false first middle last _ _ _ before b.went;
+      taken = taken_then rest between left a.answers b.answers a.taken b.taken;
+    }
 
-pub said_begun : (old new : Running) → Began old new → WentAsSaid old new
-said_begun old new b = record { answers = []; went = went_begun false old new (Some []) (Some []) b refl }
+pub said_begun : (old new : Running) (rest left : Option (List Answer)) → Began old new → left ≡ rest → WentAsSaid old new rest left
+said_begun old new rest left b same = record {
+  answers = [];
+  went = went_begun false old new (Some []) (Some []) b refl;
+  taken = subst (λ (x : Option (List Answer)). TakesAnswers rest [] x) (sym same) (taken_none rest);
+}
 
-pub said_taken : (old new : Running) (given : Answer) → Took old new given → WentAsSaid old new
-said_taken old new given t = record {
+pub said_taken : (whole : Bool) (old new : Running) (rest left : Option (List Answer)) (given : Answer) → Says whole rest (Some given) left → Took old new given
+    → WentAsSaid old new rest left
+said_taken whole old new rest left given said t = record {
   answers = given ∷ [];
   went = went_step false old new _ (Some (given ∷ [])) (Some []) t.goes_on (takes (Some (given ∷ [])) (Some []) given (told given []) t.takes);
+  taken = taken_one whole rest left given (Some given) refl said;
 }
 
 -- what is not so later wasn't so before

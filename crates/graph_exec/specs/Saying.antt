@@ -1,5 +1,5 @@
 -- What a source of outcomes says, and what it owes (rule of this project).
-use Rattle.std.specs.Prelude.{◌≡◌, ◌<◌, ◌+◌, ℕ, Bool, true, false, Option, Some, None, List, [], ◌++◌, length, count_by}
+use Rattle.std.specs.Prelude.{◌≡◌, ◌<◌, ◌+◌, ℕ, Bool, true, false, Option, Some, None, List, [], ◌++◌, length, count_by, option_map}
 use Rattle.cluster_types.specs.declared.cluster.Cluster.{Cluster}
 use Rattle.cluster_types.specs.declared.journal.Action.{Action}
 use Rattle.cluster_types.specs.declared.journal.Answer.{Answer}
@@ -15,6 +15,10 @@ abbrev pub Gives : Bool → Option (List Answer) → Option (List Answer) → Ne
 Gives whole before after (next.Answer given) = Says whole before (Some given) after
 Gives whole before after next.Silent = Says whole before None after
 Gives whole before after next.Failed = after ≡ before
+
+-- these answers were taken from the front of those to come, where these are told
+abbrev pub TakesAnswers : Option (List Answer) → List Answer → Option (List Answer) → Type 0
+TakesAnswers before answers after = before ≡ option_map (λ left. answers ++ left) after
 
 -- how many answers were taken
 abbrev pub taken_by : Next → ℕ

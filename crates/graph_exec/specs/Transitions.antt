@@ -12,6 +12,7 @@ use Rattle.graph_exec.specs.declared.ends.WatchedEnd.TheVariants as how
 use Rattle.graph_exec.specs.declared.outcomes.Next.{Next}
 use Rattle.graph_exec.specs.declared.outcomes.Next.TheVariants as next
 use Rattle.graph_exec.specs.Running.{Running, Went, going}
+use Rattle.graph_exec.specs.Saying.{TakesAnswers}
 
 -- each action has succeeded, and nothing aborted
 pub record IsComplete (r : Running) : Type 0 where
@@ -62,10 +63,11 @@ abbrev pub IsExpected : WatchedEnd → Type 0
 IsExpected (how.Unexpected given) = ⊥
 IsExpected _ = Unit {0}
 
--- it went on by steps, each end of which was said
-pub record WentAsSaid (old new : Running) : Type 0 where
+-- it went on by steps, each end of which was said. Their answers are those that were taken, where the answers to come are told
+pub record WentAsSaid (old new : Running) (rest left : Option (List Answer)) : Type 0 where
   pub answers : List Answer
   pub went : Went false old new (Some answers) (Some [])
+  pub taken : TakesAnswers rest answers left
 
 -- what a source has come to, by how the transition ended: where an answer doesn't apply or the source failed, that was said last; else no question failed
 abbrev pub HasCome : Type 0 → (Next → Type 0) → WatchedEnd → Type 0

@@ -23,7 +23,7 @@ impl<'c> Executor<'c> {
         watcher: &mut V,
     ) -> Option<Heard>
         ensures went { Went (S.whole outcomes.old) self.old self.new (S.rest outcomes.old) (S.rest outcomes.new) }
-        ensures said { WentAsSaid self.old self.new }
+        ensures said { WentAsSaid self.old self.new (S.rest outcomes.old) (S.rest outcomes.new) }
         ensures on { IfSome result (λ heard. begins_left self.new < begins_left self.old) }
         ensures settled { IfNone result (is_settled (going self.new) self.new.since ≡ true) }
         ensures asks { asks_left self.new ≤ asks_left self.old }
@@ -60,7 +60,7 @@ impl<'c> Executor<'c> {
         watcher: &mut V,
     ) -> Heard
         ensures went { Went (S.whole outcomes.old) self.old self.new (S.rest outcomes.old) (S.rest outcomes.new) }
-        ensures said { WentAsSaid self.old self.new }
+        ensures said { WentAsSaid self.old self.new (S.rest outcomes.old) (S.rest outcomes.new) }
         ensures settled { result ≡ Heard.Go → is_settled (going self.new) self.new.since ≡ true }
         ensures asks { asks_left self.new ≤ asks_left self.old }
         ensures under_way { IsUnderWay self.new }
@@ -107,8 +107,10 @@ impl<'c> Executor<'c> {
         ensures agrees { Accords (S.agrees outcomes.old) self.old → Accords (S.agrees outcomes.new) self.new }
         ensures source_follows { OnOk result (S.follows outcomes.old outcomes.new) }
         ensures source_came { IfErr result (HasCome (S.follows outcomes.old outcomes.new) (S.said outcomes.old outcomes.new)) }
-        ensures said { S.steady outcomes.old ≡ true → S.over outcomes.new ≡ false → OnOk result (WentAsSaid self.old self.new) }
+        ensures said { S.steady outcomes.old ≡ true → S.over outcomes.new ≡ false
+            → OnOk result (WentAsSaid self.old self.new (S.rest outcomes.old) (S.rest outcomes.new)) }
         ensures not_over { IfErr result (λ end. end ≡ WatchedEnd.SourceFault → S.over outcomes.old ≡ false) }
+        ensures unread { IfErr result (λ end. end ≡ WatchedEnd.SourceFault → S.rest outcomes.new ≡ S.rest outcomes.old) }
         ensures fitting { S.careful outcomes.old ≡ true → Accords (S.agrees outcomes.old) self.old → IfErr result IsExpected }
     {
         match outcomes.next(self.course.flight()) {
@@ -145,9 +147,11 @@ impl<'c> Executor<'c> {
         ensures agrees { Accords (S.agrees outcomes.old) self.old → Accords (S.agrees outcomes.new) self.new }
         ensures source_follows { IfNone result (S.follows outcomes.old outcomes.new) }
         ensures source_came { IfSome result (HasCome (S.follows outcomes.old outcomes.new) (S.said outcomes.old outcomes.new)) }
-        ensures said { S.steady outcomes.old ≡ true → S.over outcomes.new ≡ false → IfNone result (WentAsSaid self.old self.new) }
+        ensures said { S.steady outcomes.old ≡ true → S.over outcomes.new ≡ false
+            → IfNone result (WentAsSaid self.old self.new (S.rest outcomes.old) (S.rest outcomes.new)) }
         ensures failed { S.steady outcomes.old ≡ true → result ≡ Some WatchedEnd.SourceFault → self.new ≡ self.old }
         ensures not_over { result ≡ Some WatchedEnd.SourceFault → S.over outcomes.old ≡ false }
+        ensures unread { result ≡ Some WatchedEnd.SourceFault → S.rest outcomes.new ≡ S.rest outcomes.old }
         ensures fitting { S.careful outcomes.old ≡ true → Accords (S.agrees outcomes.old) self.old → IfSome result IsExpected }
 
         ensures told { Hears (S.whole outcomes.old) (V.names watcher.old) self.old self.new (S.rest outcomes.old) (S.rest outcomes.new)

@@ -34,10 +34,12 @@ pub fn run_watched<S: Outcomes, V: Watcher>(
     ensures steady { S.steady outcomes.new ≡ S.steady outcomes.old }
     ensures over { S.steady outcomes.old ≡ true → S.over outcomes.old ≡ true → S.over outcomes.new ≡ true }
 
-    // A steady source that fails, or isn't over at the end, has let no action end silently.
-    ensures said { S.steady outcomes.old ≡ true → result ≡ WatchedEnd.SourceFault → WentAsSaid executor.old executor.new }
+    // A steady source that fails, or isn't over at the end, has let no action end silently: the steps took the answers that it gave.
+    ensures said { S.steady outcomes.old ≡ true → result ≡ WatchedEnd.SourceFault
+        → WentAsSaid executor.old executor.new (S.rest outcomes.old) (S.rest outcomes.new) }
     ensures not_over { S.steady outcomes.old ≡ true → result ≡ WatchedEnd.SourceFault → S.over outcomes.old ≡ false }
-    ensures said_to_end { S.steady outcomes.old ≡ true → S.over outcomes.new ≡ false → HasGoneToEnd result → WentAsSaid executor.old executor.new }
+    ensures said_to_end { S.steady outcomes.old ≡ true → S.over outcomes.new ≡ false → HasGoneToEnd result
+        → WentAsSaid executor.old executor.new (S.rest outcomes.old) (S.rest outcomes.new) }
     ensures agrees { Accords (S.agrees outcomes.old) executor.old → Accords (S.agrees outcomes.new) executor.new }
     ensures source_follows { HasCome (S.follows outcomes.old outcomes.new) (S.said outcomes.old outcomes.new) result }
     ensures fitting { S.careful outcomes.old ≡ true → Accords (S.agrees outcomes.old) executor.old → IsExpected result }
@@ -79,11 +81,12 @@ pub fn run_transition<S: Outcomes>(executor: &mut Executor<'_>, outcomes: &mut S
     ensures steady { S.steady outcomes.new ≡ S.steady outcomes.old }
     ensures over { S.steady outcomes.old ≡ true → S.over outcomes.old ≡ true → S.over outcomes.new ≡ true }
 
-    // A steady source that fails, or isn't over at the end, has let no action end silently.
-    ensures said { S.steady outcomes.old ≡ true → result ≡ End.SourceFault → WentAsSaid executor.old executor.new }
+    // A steady source that fails, or isn't over at the end, has let no action end silently: the steps took the answers that it gave.
+    ensures said { S.steady outcomes.old ≡ true → result ≡ End.SourceFault
+        → WentAsSaid executor.old executor.new (S.rest outcomes.old) (S.rest outcomes.new) }
     ensures not_over { S.steady outcomes.old ≡ true → result ≡ End.SourceFault → S.over outcomes.old ≡ false }
     ensures said_to_end { S.steady outcomes.old ≡ true → S.over outcomes.new ≡ false → HasGoneToEnd (watched result)
-        → WentAsSaid executor.old executor.new }
+        → WentAsSaid executor.old executor.new (S.rest outcomes.old) (S.rest outcomes.new) }
     ensures agrees { Accords (S.agrees outcomes.old) executor.old → Accords (S.agrees outcomes.new) executor.new }
     ensures source_follows { HasCome (S.follows outcomes.old outcomes.new) (S.said outcomes.old outcomes.new) (watched result) }
     ensures fitting { S.careful outcomes.old ≡ true → Accords (S.agrees outcomes.old) executor.old → IsExpected (watched result) }

@@ -19,6 +19,7 @@ use Rattle.graph_exec.specs.Telling.{closing_line, text_of}
 use Rattle.graph_exec.specs.Transitions.{IsAborted, IsComplete, IsCutBy, WentAsSaid, WentTo}
 use Rattle.graph_exec.specs.Watching.{IsCutOff, IsTold}
 use Rattle.graph_exec.proofs.Beginning.{found_so}
+use Rattle.graph_exec.proofs.Said.{taken_none}
 use Rattle.run_laws.proofs.SoFar.{runs_once}
 use Rattle.replan.specs.Replays.{Setting, setting, sight}
 use Rattle.replan.specs.Turns.{Came, CameTo, EndsBroken, EndsCut, EndsStopped, closed_at, known_of, left_of}
@@ -45,14 +46,14 @@ module _ (whole steady : Bool) (names : Option Cluster) (k : ℕ) (r now : Runni
     same_going = ap going went.same
 
     module _ (told : IsTold names r now before text) where
-      went_here : (steady ≡ true → over_now ≡ false → WentAsSaid r now)
+      went_here : (steady ≡ true → over_now ≡ false → WentAsSaid r now rest left)
           → Came here_set (amid k (going r) []) (sight rest over before) (sight left over_now text) (amid k (going r) now.since)
       went_here said = came_carried here_set k r now fresh rest left over over_now before text went told said
 
       module _ (complete : Bool)
           (step : (w : Bool) (xs : Option (List Answer)) → RunsOn r.cluster r.promotions w (amid k (going r) now.since) xs (closing_line k complete ∷ []) (closed_at k complete (journal (going r) now.since)) xs)
           (after : Option (List ℕ)) where
-        closed_to : (steady ≡ true → over_now ≡ false → WentAsSaid r now) → Adds text (text_of names (closing_line k complete ∷ [])) after
+        closed_to : (steady ≡ true → over_now ≡ false → WentAsSaid r now rest left) → Adds text (text_of names (closing_line k complete ∷ [])) after
             → (j : JournalOf) → j ≡ known_of now
             → CameTo here_set (amid k (going r) []) (sight rest over before) (sight left over_now after) (closed_at k complete) j
         closed_to said added j is =
@@ -61,7 +62,11 @@ module _ (whole steady : Bool) (names : Option Cluster) (k : ℕ) (r now : Runni
             (went_here said) (closed_at k complete (journal (going r) now.since)) (λ steady h. h)
             (came_step here_set (amid k (going r) now.since) (closed_at k complete (journal (going r) now.since)) (sight left over_now text) (sight left over_now after)
             (closing_line k complete ∷ []) (step whole left) added
-            (λ steady open_still. record { answers = []; runs = λ ys. runs_once r.cluster r.promotions false _ _ (Some ys) (Some ys) _ (step false (Some ys)) })) in
+            (λ steady open_still. record {
+              answers = [];
+              runs = λ ys. runs_once r.cluster r.promotions false _ _ (Some ys) (Some ys) _ (step false (Some ys));
+              taken = taken_none left;
+            })) in
             record {
               cluster_stays = ap (λ (x : JournalOf). x.cluster) is ∙ ap (λ (x : Running). x.cluster) went.same;
               promotions_stay = ap (λ (x : JournalOf). x.promotions) is ∙ ap (λ (x : Running). x.promotions) went.same;
@@ -98,12 +103,12 @@ module _ (whole steady : Bool) (names : Option Cluster) (k : ℕ) (r now : Runni
           (subst (λ (t : Transition). has_aborted t now.since ≡ true) same_going (found_so (steps.aborts now.cluster) now.since (Some first) e.first_is))
 
       module _ (after : Option (List ℕ)) where
-        pub closes_complete : IsComplete now → (steady ≡ true → over_now ≡ false → WentAsSaid r now) → Adds text (text_of names (closing_line k true ∷ [])) after
+        pub closes_complete : IsComplete now → (steady ≡ true → over_now ≡ false → WentAsSaid r now rest left) → Adds text (text_of names (closing_line k true ∷ [])) after
             → (j : JournalOf) → j ≡ known_of now
             → CameTo here_set (amid k (going r) []) (sight rest over before) (sight left over_now after) (closed_at k true) j
         closes_complete e said added j is = closed_to true (complete_step e) after said added j is
 
-        pub closes_aborted : (first : Event) → IsAborted now first → (steady ≡ true → over_now ≡ false → WentAsSaid r now)
+        pub closes_aborted : (first : Event) → IsAborted now first → (steady ≡ true → over_now ≡ false → WentAsSaid r now rest left)
             → Adds text (text_of names (closing_line k false ∷ [])) after → (j : JournalOf) → j ≡ known_of now
             → CameTo here_set (amid k (going r) []) (sight rest over before) (sight left over_now after) (closed_at k false) j
         closes_aborted first e said added j is = closed_to false (aborted_step first e) after said added j is
@@ -117,7 +122,7 @@ module _ (whole steady : Bool) (names : Option Cluster) (k : ℕ) (r now : Runni
         stops_aborted first e front j is = closed_short false (aborted_step first e) after front j is
 
       -- the source failed
-      pub broken : IsWaiting (going now) now.since → (steady ≡ true → WentAsSaid r now) → (steady ≡ true → over ≡ false) → (j : Journal) → j ≡ left_of now
+      pub broken : IsWaiting (going now) now.since → (steady ≡ true → WentAsSaid r now rest left) → (steady ≡ true → over ≡ false) → (j : Journal) → j ≡ left_of now
           → EndsBroken here_set (amid k (going r) []) (sight rest over before) (sight left over_now text) j
       broken waiting said not_over j is = record {
         last = amid k (going r) now.since;
@@ -125,7 +130,7 @@ module _ (whole steady : Bool) (names : Option Cluster) (k : ℕ) (r now : Runni
         runs = part_runs r.cluster r.promotions whole k (going r) r.since now.since rest left fresh went.steps;
         told = part_told here_set k r now fresh names before text told;
         asking = subst (λ (t : Transition). IsWaiting t now.since) same_going waiting;
-        said = λ always. part_said here_set k r now fresh (said always);
+        said = λ always. part_said here_set k r now fresh rest left (said always);
         not_over = not_over;
         leaves = is ∙ ap (left_with now.since) went.same;
       }

@@ -8,7 +8,7 @@ use Rattle.cluster_types.specs.declared.journal.Journal.{Journal}
 use Rattle.cluster_types.specs.declared.run.RunLine.{RunLine}
 use Rattle.cluster_types.specs.Runs.{Standing, IsBetween, Runs, RunsOn, here}
 use Rattle.graph_exec.specs.Telling.{text_of}
-use Rattle.graph_exec.proofs.Said.{not_yet}
+use Rattle.graph_exec.proofs.Said.{not_yet, taken_none, taken_then}
 use Rattle.graph_exec.proofs.Told.{adds_nothing, text-append}
 use Rattle.run_laws.proofs.SoFar.{runs_joined, runs_once}
 use Rattle.replan.specs.declared.stop.ReplayStop.{ReplayStop}
@@ -18,22 +18,24 @@ use Rattle.replan.specs.Turns.{Came, EndsAs, EndsBetween, IsSaid}
 
 module _ (s : Setting) where
   -- nothing is a part too
-  pub said_none : (at : Standing) → IsSaid s at at []
-  said_none at = record { answers = []; runs = λ more. here at (Some more) }
+  pub said_none : (at : Standing) (rest : Option (List Answer)) → IsSaid s at at [] rest rest
+  said_none at rest = record { answers = []; runs = λ more. here at (Some more); taken = taken_none rest }
 
   pub came_nowhere : (at : Standing) (a : Sight) → Came s at a a at
-  came_nowhere at a = record { lines = []; runs = here at a.rest; told = adds_nothing s.names a.text; said = λ steady open_still. said_none at }
+  came_nowhere at a = record { lines = []; runs = here at a.rest; told = adds_nothing s.names a.text; said = λ steady open_still. said_none at a.rest }
 
   -- memory runs out between two transitions
   pub lacks_memory : (at : Standing) (a : Sight) → IsBetween s.cluster s.promotions s.whole at → EndsBetween s at a a
   lacks_memory at a between = record { at = at; lines = []; runs = here at a.rest; told = adds_nothing s.names a.text; between = between }
 
-  pub said_then : (from middle at : Standing) (lines more : List RunLine) → IsSaid s from middle lines → IsSaid s middle at more → IsSaid s from at (lines ++ more)
-  said_then from middle at lines more one two = record {
+  pub said_then : (from middle at : Standing) (lines more : List RunLine) (rest between left : Option (List Answer)) → IsSaid s from middle lines rest between
+      → IsSaid s middle at more between left → IsSaid s from at (lines ++ more) rest left
+  said_then from middle at lines more rest between left one two = record {
     answers = one.answers ++ two.answers;
     runs = λ ys. subst (λ (xs : List Answer). Runs s.cluster s.promotions false from (Some xs) (lines ++ more) at (Some ys)) (sym (append_assoc one.answers two.answers ys))
         (runs_joined s.cluster s.promotions false from middle at (Some (one.answers ++ (two.answers ++ ys))) (Some (two.answers ++ ys)) (Some ys) lines more
         (one.runs (two.answers ++ ys)) (two.runs ys));
+    taken = taken_then rest between left one.answers two.answers one.taken two.taken;
   }
 
   pub told_then : (lines more : List RunLine) (before text after : Option (List ℕ)) → Adds before (text_of s.names lines) text → Adds text (text_of s.names more) after
@@ -52,7 +54,8 @@ module _ (s : Setting) where
       lines = one.lines ++ two.lines;
       runs = joined at c.rest two.lines two.runs;
       told = told_then one.lines two.lines a.text b.text c.text one.told two.told;
-      said = λ steady open_still. said_then from middle at one.lines two.lines (one.said steady (not_yet b.over c.over (stays steady) open_still)) (two.said steady open_still);
+      said = λ steady open_still.
+          said_then from middle at one.lines two.lines a.rest b.rest c.rest (one.said steady (not_yet b.over c.over (stays steady) open_still)) (two.said steady open_still);
     }
 
     -- and so it is with how the run ends
@@ -80,7 +83,7 @@ module _ (s : Setting) where
       runs = joined w.last c.rest w.lines w.runs;
       told = told_then one.lines w.lines a.text b.text c.text one.told w.told;
       asking = w.asking;
-      said = λ steady. said_then from middle w.last one.lines w.lines (one.said steady (w.not_over steady)) (w.said steady);
+      said = λ steady. said_then from middle w.last one.lines w.lines a.rest b.rest c.rest (one.said steady (w.not_over steady)) (w.said steady);
       not_over = λ steady. not_yet a.over b.over (stays steady) (w.not_over steady);
       leaves = w.leaves;
     }
@@ -108,7 +111,7 @@ module _ (s : Setting) where
 
   -- a step, and the lines of it
   pub came_step : (at next : Standing) (a b : Sight) (lines : List RunLine) → RunsOn s.cluster s.promotions s.whole at a.rest lines next b.rest
-      → Adds a.text (text_of s.names lines) b.text → (s.steady ≡ true → b.over ≡ false → IsSaid s at next lines) → Came s at a b next
+      → Adds a.text (text_of s.names lines) b.text → (s.steady ≡ true → b.over ≡ false → IsSaid s at next lines a.rest b.rest) → Came s at a b next
   came_step at next a b lines step told said = record {
     lines = lines;
     runs = runs_once s.cluster s.promotions s.whole at next a.rest b.rest lines step;

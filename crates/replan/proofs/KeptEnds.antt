@@ -1,5 +1,5 @@
 -- What comes of a question while nothing is to be done, and how a run ends, where it is kept.
-use Rattle.std.proofs.Common.{arith, ◌≡◌, ◌<◌, ◌≤◌, ◌+◌, ℕ, Bool, true, false, List, [], ◌∷◌, ◌++◌, length, refl, sym, ap, ◌∙◌, subst}
+use Rattle.std.proofs.Common.{arith, ◌≡◌, ◌<◌, ◌≤◌, ◌+◌, ℕ, Bool, true, false, List, [], ◌∷◌, ◌++◌, length, append-nil, refl, sym, ap, ◌∙◌, subst}
 use Rattle.std.specs.Prelude.{Option, Some, None}
 use Rattle.std.specs.List.{AllByRecursion, flat_map}
 use Rattle.cluster_types.specs.declared.cluster.Cluster.{Cluster}
@@ -19,8 +19,9 @@ use Rattle.cluster_types.specs.Steps.{Applies, events_of, resting}
 use Rattle.cluster_types.specs.Texts.{all_passed_lines, event_lines}
 use Rattle.graph_exec.specs.Logs.{JournalOf}
 use Rattle.graph_exec.specs.Resting.{TookResting}
+use Rattle.graph_exec.specs.Saying.{TakesAnswers}
 use Rattle.graph_exec.proofs.Carrying.{rose_since}
-use Rattle.graph_exec.proofs.Said.{not_yet}
+use Rattle.graph_exec.proofs.Said.{not_yet, taken_one}
 use Rattle.run_laws.specs.Kept.{AreWithin}
 use Rattle.run_laws.proofs.Kept.{between_passed}
 use Rattle.run_laws.proofs.Printed.{answer_line}
@@ -67,11 +68,12 @@ module _ (s : Setting) (es : List Event) (first : Option (List Answer)) where
           runs = subst (λ (x : List RunLine). Runs s.cluster s.promotions s.whole (due 1 es) first x later left) lines
               (runs_joined s.cluster s.promotions s.whole (due 1 es) (idle k j.events) later first rest left so_far (line.Taken given ∷ []) keeps.runs
               (runs_once s.cluster s.promotions s.whole (idle k j.events) later rest left (line.Taken given ∷ []) (answers k j.events rest left given said applies)));
-          said = λ steady open_still. subst (λ (x : List RunLine). IsSaid s (due 1 es) later x) lines
-              (said_then s (due 1 es) (idle k j.events) later so_far (line.Taken given ∷ []) (keeps.said steady (not_yet over over_now (stays steady) open_still)) (record {
+          said = λ steady open_still. subst (λ (x : List RunLine). IsSaid s (due 1 es) later x first left) lines
+              (said_then s (due 1 es) (idle k j.events) later so_far (line.Taken given ∷ []) first rest left (keeps.said steady (not_yet over over_now (stays steady) open_still)) (record {
                 answers = given ∷ [];
                 runs = λ ys. runs_once s.cluster s.promotions false (idle k j.events) later (Some (given ∷ ys)) (Some ys) (line.Taken given ∷ [])
                     (answers k j.events (Some (given ∷ ys)) (Some ys) given (told given ys) applies);
+                taken = taken_one s.whole rest left given (Some given) refl said;
               }));
           each = each_more s.cluster s.promotions j.events added passed keeps.each;
         } in
@@ -103,7 +105,8 @@ module _ (s : Setting) (es : List Event) (first : Option (List Answer)) where
       keeps = record {
         runs = subst (λ (x : Option (List Answer)). Runs s.cluster s.promotions s.whole (due 1 es) first (all_passed_lines s.cluster j.events 1 passed) (idle k j.events) x)
             (sym w.left_is) keeps.runs;
-        said = λ steady open_still. keeps.said steady w.not_over;
+        said = λ steady open_still. subst (λ (x : Option (List Answer)). IsSaid s (due 1 es) (idle k j.events) (all_passed_lines s.cluster j.events 1 passed) first x)
+            (sym w.left_is) (keeps.said steady w.not_over);
         each = keeps.each;
       };
       asking = tt;
@@ -140,6 +143,7 @@ module _ (s : Setting) (es : List Event) (first : Option (List Answer)) where
           let of = w.keeps.said steady refl in
           record {
             answers = of.answers ++ [];
+            taken = subst (λ (x : List Answer). TakesAnswers first x left) (sym (append-nil of.answers)) of.taken;
             is = record {
               last = w.last;
               steps = subst (λ (x : List RunLine). Runs s.cluster s.promotions false (due 1 es) (Some (of.answers ++ [])) x w.last (Some [])) (printed journal w.last w.leaves)
@@ -201,7 +205,7 @@ expected_kept passed run.NoMemory h = tt
 pub starts_kept : (s : Setting) (es : List Event) (first : Option (List Answer)) (over : Bool) (passed : List Passed) (j : JournalOf) → passed ≡ [] → j.events ≡ es
     → KeepsTo s es first first over passed j
 starts_kept s es first over passed j none same =
-    let there : Keeps s es first first over [] (due 1 es) = record { runs = here (due 1 es) first; said = λ steady open_still. said_none s (due 1 es); each = tt } in
+    let there : Keeps s es first first over [] (due 1 es) = record { runs = here (due 1 es) first; said = λ steady open_still. said_none s (due 1 es) first; each = tt } in
     subst (λ (x : List Passed). Keeps s es first first over x (due (1 + length x) j.events)) (sym none)
     (subst (λ (x : List Event). Keeps s es first first over [] (due 1 x)) (sym same) there)
 

@@ -27,7 +27,7 @@ use Rattle.graph_exec.specs.Logs.{JournalOf}
 use Rattle.graph_exec.specs.Running.{Running, Went, going}
 use Rattle.graph_exec.specs.Transitions.{IsAborted, IsComplete, IsCutBy, WentAsSaid, WentTo}
 use Rattle.graph_exec.proofs.Beginning.{found_so}
-use Rattle.graph_exec.proofs.Said.{not_yet}
+use Rattle.graph_exec.proofs.Said.{not_yet, taken_none}
 use Rattle.run_laws.proofs.Kept.{one_passed_more}
 use Rattle.run_laws.proofs.SoFar.{runs_joined, runs_once}
 use Rattle.replan.specs.declared.ending.RunEnd.{RunEnd}
@@ -57,7 +57,7 @@ module _ (s : Setting) (es : List Event) (first rest : Option (List Answer)) (ov
   one_kept : (over_now : Bool) → (s.steady ≡ true → over ≡ true → over_now ≡ true) → (since : List Event) (left : Option (List Answer)) (p : Passed) (at : Standing)
       → journal_at at ≡ before ++ since → p.begins_at ≡ length before → p.ends_at ≡ length before + length since → IsOfPlan s.cluster s.promotions (before ++ since) p
       → Runs s.cluster s.promotions s.whole (due (1 + length passed) before) rest (lines_of_passed s.cluster (1 + length passed) since p) at left
-      → (s.steady ≡ true → over_now ≡ false → IsSaid s (due (1 + length passed) before) at (lines_of_passed s.cluster (1 + length passed) since p))
+      → (s.steady ≡ true → over_now ≡ false → IsSaid s (due (1 + length passed) before) at (lines_of_passed s.cluster (1 + length passed) since p) rest left)
       → Keeps s es first left over_now (passed ++ p ∷ []) at
   one_kept over_now stays since left p at there begins ends is runs said =
       let so_far = all_passed_lines s.cluster before 1 passed in
@@ -68,8 +68,8 @@ module _ (s : Setting) (es : List Event) (first rest : Option (List Answer)) (ov
       record {
         runs = subst (λ (x : List RunLine). Runs s.cluster s.promotions s.whole (due 1 es) first x at left) lines
             (runs_joined s.cluster s.promotions s.whole (due 1 es) (due (1 + length passed) before) at first rest left so_far more keeps.runs runs);
-        said = λ steady open_still. subst (λ (x : List RunLine). IsSaid s (due 1 es) at x) lines
-            (said_then s (due 1 es) (due (1 + length passed) before) at so_far more (keeps.said steady (not_yet over over_now (stays steady) open_still)) (said steady open_still));
+        said = λ steady open_still. subst (λ (x : List RunLine). IsSaid s (due 1 es) at x first left) lines
+            (said_then s (due 1 es) (due (1 + length passed) before) at so_far more first rest left (keeps.said steady (not_yet over over_now (stays steady) open_still)) (said steady open_still));
         each = subst (λ (x : List Event). AllByRecursion (IsOfPlan s.cluster s.promotions x) (passed ++ p ∷ [])) (sym there)
             (all_last (IsOfPlan s.cluster s.promotions (before ++ since)) passed p (each_more s.cluster s.promotions before since passed keeps.each) is);
       }
@@ -93,14 +93,15 @@ module _ (s : Setting) (es : List Event) (first rest : Option (List Answer)) (ov
         (planned_step s number before placed g out s.whole rest))
         (part_runs s.cluster s.promotions s.whole number on [] now.since rest left refl went.steps)
 
-    said_there : WentAsSaid (begun_on s before g) now → IsSaid s (due number before) (amid number on now.since) here_lines
-    said_there w =
+    said_there : (left : Option (List Answer)) → WentAsSaid (begun_on s before g) now rest left
+        → IsSaid s (due number before) (amid number on now.since) here_lines rest left
+    said_there left w =
         said_then s (due number before) (amid number on []) (amid number on now.since) (lines_of_plan s.cluster number placed) (flat_map event_lines now.since)
-        (planned_said s number before placed g out) (part_said s number (begun_on s before g) now refl w)
+        rest rest left (planned_said s number before placed g out rest) (part_said s number (begun_on s before g) now refl rest left w)
 
     -- the transition is kept, with what closes it
     module _ (over_now : Bool) (stays : s.steady ≡ true → over ≡ true → over_now ≡ true) (left : Option (List Answer)) (went : Went s.whole (begun_on s before g) now rest left)
-        (said : s.steady ≡ true → over_now ≡ false → WentAsSaid (begun_on s before g) now)
+        (said : s.steady ≡ true → over_now ≡ false → WentAsSaid (begun_on s before g) now rest left)
         (from to : ℕ) (begins : from ≡ length before) (ends : to ≡ length before + length now.since) where
       closed_so : (how : PassedEnd) (at : Standing) → journal_at at ≡ before ++ now.since → StandsSo on now.since how
           → ((w : Bool) (xs : Option (List Answer)) → Runs s.cluster s.promotions w (amid number on now.since) xs (end_lines s.cluster number how) at xs)
@@ -111,8 +112,8 @@ module _ (s : Setting) (es : List Event) (first rest : Option (List Answer)) (ov
           (subst (λ (t : Transition). StandsSo t now.since how) (carries-out s.cluster before s.promotions placed g out) stands))
           (runs_joined s.cluster s.promotions s.whole (due number before) (amid number on now.since) at rest left left here_lines (end_lines s.cluster number how)
           (there_by left went) (close s.whole left))
-          (λ steady open_still. said_then s (due number before) (amid number on now.since) at here_lines (end_lines s.cluster number how)
-          (said_there (said steady open_still)) (record { answers = []; runs = λ ys. close false (Some ys) }))
+          (λ steady open_still. said_then s (due number before) (amid number on now.since) at here_lines (end_lines s.cluster number how) rest left left
+          (said_there left (said steady open_still)) (record { answers = []; runs = λ ys. close false (Some ys); taken = taken_none left }))
 
       same_going : going now ≡ on
       same_going = ap going went.same
@@ -157,8 +158,8 @@ module _ (j : JournalOf) (p : Planned) (ready : IsReady j p) (whole steady : Boo
       went_fresh : Went whole (begun_on here_set j.events p.executor.graph) now rest left
       went_fresh = subst (λ (r : Running). Went whole r now rest left) ready.fresh went
 
-      said_fresh : WentAsSaid p.executor now → WentAsSaid (begun_on here_set j.events p.executor.graph) now
-      said_fresh w = subst (λ (r : Running). WentAsSaid r now) ready.fresh w
+      said_fresh : WentAsSaid p.executor now rest left → WentAsSaid (begun_on here_set j.events p.executor.graph) now rest left
+      said_fresh w = subst (λ (r : Running). WentAsSaid r now rest left) ready.fresh w
 
       planned_same : now.planned_at ≡ j.events
       planned_same = ap (λ (r : Running). r.planned_at) went_fresh.same
@@ -169,7 +170,7 @@ module _ (j : JournalOf) (p : Planned) (ready : IsReady j p) (whole steady : Boo
       known_events : (later : JournalOf) → later ≡ known_of now → j.events ++ now.since ≡ later.events
       known_events later e = sym (ap (λ (x : JournalOf). x.events) e ∙ ap (λ (x : List Event). x ++ now.since) planned_same)
 
-      module _ (over_now : Bool) (stays : steady ≡ true → over ≡ true → over_now ≡ true) (said : steady ≡ true → over_now ≡ false → WentAsSaid p.executor now) where
+      module _ (over_now : Bool) (stays : steady ≡ true → over ≡ true → over_now ≡ true) (said : steady ≡ true → over_now ≡ false → WentAsSaid p.executor now rest left) where
         idle_there : how ≡ passed_as.Complete → IsComplete now → (later : JournalOf) → later ≡ known_of now
             → Keeps here_set es first left over_now all (idle (1 + length passed) later.events)
         idle_there e complete later known =
@@ -228,7 +229,7 @@ module _ (j : JournalOf) (p : Planned) (ready : IsReady j p) (whole steady : Boo
 
     -- the source failed
     pub ends_failed : (left : Option (List Answer)) → Went whole p.executor now rest left → how ≡ passed_as.Cut → IsWaiting (going now) now.since
-        → (steady ≡ true → WentAsSaid p.executor now) → (steady ≡ true → over ≡ false) → (journal : Journal) → journal ≡ left_of now
+        → (steady ≡ true → WentAsSaid p.executor now rest left) → (steady ≡ true → over ≡ false) → (journal : Journal) → journal ≡ left_of now
         → KeepsSoFar here_set es first left all journal
     ends_failed left went e waiting said not_over journal leaves = record {
       last = amid (1 + length passed) (transition_on j.cluster p.executor.graph j.events) now.since;

@@ -13,13 +13,14 @@ use Rattle.cluster_types.specs.Steps.{events_of, resting}
 use Rattle.graph_exec.specs.Logs.{JournalOf}
 use Rattle.graph_exec.specs.Resting.{IsRefusedResting, TookResting}
 use Rattle.graph_exec.specs.Telling.{text_of}
+use Rattle.graph_exec.proofs.Said.{taken_one}
 use Rattle.graph_exec.proofs.Told.{adds_nothing}
 use Rattle.run_laws.proofs.SoFar.{runs_once}
 use Rattle.replan.specs.declared.ending.RunEnd.{RunEnd}
 use Rattle.replan.specs.declared.ending.RunEnd.TheVariants as run
 use Rattle.replan.specs.Keeping.{EndsWithCause, HasFailed, IsAnswered, IsRefused, IsSilent, IsUnanswered, watched_end}
 use Rattle.replan.specs.Replays.{Setting, HasCause, setting, sight}
-use Rattle.replan.specs.Turns.{Came, CameTo, EndsAs, EndsBroken, EndsCut, EndsStopped, EndsWhole, plain_of}
+use Rattle.replan.specs.Turns.{Came, CameTo, EndsAs, EndsBroken, EndsCut, EndsStopped, EndsWhole, IsSaid, plain_of}
 use Rattle.replan.proofs.Joined.{came_step, said_none}
 
 -- where nothing more is said, the answers to come stay as they were
@@ -57,7 +58,8 @@ module _ (whole steady : Bool) (names : Option Cluster) (k : ℕ) (j : JournalOf
       runs = runs_nowhere same;
       told = adds_nothing names text;
       asking = tt;
-      said = λ always. said_none here_set (idle k j.events);
+      said = λ always. subst (λ (x : Option (List Answer)). IsSaid here_set (idle k j.events) (idle k j.events) [] rest x) (sym same)
+          (said_none here_set (idle k j.events) rest);
       not_over = λ always. not_over;
       leaves = is;
     }
@@ -92,6 +94,7 @@ module _ (whole steady : Bool) (names : Option Cluster) (k : ℕ) (j : JournalOf
                 answers = given ∷ [];
                 runs = λ ys. runs_once j.cluster j.promotions false (idle k j.events) later_at (Some (given ∷ ys)) (Some ys) (line.Taken given ∷ [])
                     (answers k j.events (Some (given ∷ ys)) (Some ys) given (told given ys) took.applies);
+                taken = taken_one whole rest left given (Some given) refl said;
               }));
         }
 

@@ -21,7 +21,7 @@ use Rattle.graph_exec.specs.Running.{Running, Went, going}
 use Rattle.graph_exec.specs.Telling.{plan_lines, text_of}
 use Rattle.graph_exec.specs.Transitions.{WentAsSaid}
 use Rattle.graph_exec.specs.Watching.{IsTold}
-use Rattle.graph_exec.proofs.Said.{goes_more}
+use Rattle.graph_exec.proofs.Said.{goes_more, taken_none}
 use Rattle.run_laws.proofs.OneTransition.{goes_runs}
 use Rattle.run_laws.proofs.SoFar.{runs_once}
 use Rattle.replan.specs.Replays.{Setting, WritesNamesOf, sight}
@@ -45,15 +45,20 @@ module _ (s : Setting) (k : ℕ) (es : List Event) (placed : Placed) (g : GraphO
       subst (λ (t : Transition). RunsOn s.cluster s.promotions whole (due k es) rest (lines_of_plan s.cluster k placed) (amid k t []) rest)
       (sym (carries-out s.cluster es s.promotions placed g out)) (plans k es rest placed g.actions out.plan)
 
-  pub planned_said : IsSaid s (due k es) (amid k (transition_on s.cluster g es) []) (lines_of_plan s.cluster k placed)
-  planned_said = record { answers = []; runs = λ ys. runs_once s.cluster s.promotions false _ _ (Some ys) (Some ys) _ (planned_step false (Some ys)) }
+  pub planned_said : (rest : Option (List Answer))
+      → IsSaid s (due k es) (amid k (transition_on s.cluster g es) []) (lines_of_plan s.cluster k placed) rest rest
+  planned_said rest = record {
+    answers = [];
+    runs = λ ys. runs_once s.cluster s.promotions false _ _ (Some ys) (Some ys) _ (planned_step false (Some ys));
+    taken = taken_none rest;
+  }
 
   pub came_planned : (rest : Option (List Answer)) (over : Bool) (before after : Option (List ℕ)) → WritesNamesOf s.cluster s.names
       → Adds before (text_of s.names (plan_lines s.names k placed)) after
       → Came s (due k es) (sight rest over before) (sight rest over after) (amid k (transition_on s.cluster g es) [])
   came_planned rest over before after fits told =
       came_step s (due k es) (amid k (transition_on s.cluster g es) []) (sight rest over before) (sight rest over after) (lines_of_plan s.cluster k placed)
-      (planned_step s.whole rest) (subst (λ (bytes : List ℕ). Adds before bytes after) (plan_text s.cluster s.names k placed fits) told) (λ steady open_still. planned_said)
+      (planned_step s.whole rest) (subst (λ (bytes : List ℕ). Adds before bytes after) (plan_text s.cluster s.names k placed fits) told) (λ steady open_still. planned_said rest)
 
 -- the steps of a transition of which nothing had happened, as steps of a run
 pub part_runs : (c : Cluster) (promotions : List Promotion) (whole : Bool) (k : ℕ) (t : Transition) (since later : List Event) (rest left : Option (List Answer))
@@ -63,11 +68,13 @@ part_runs c promotions whole k t since later rest left fresh steps =
     subst (λ (es : List Event). Runs c promotions whole (amid k t []) rest (flat_map event_lines es) (amid k t later) left) (sym part.joined) part.runs
 
 module _ (s : Setting) (k : ℕ) (r now : Running) (fresh : r.since ≡ []) where
-  pub part_said : WentAsSaid r now → IsSaid s (amid k (going r) []) (amid k (going r) now.since) (flat_map event_lines now.since)
-  part_said w = record {
+  pub part_said : (rest left : Option (List Answer)) → WentAsSaid r now rest left
+      → IsSaid s (amid k (going r) []) (amid k (going r) now.since) (flat_map event_lines now.since) rest left
+  part_said rest left w = record {
     answers = w.answers;
     runs = λ ys. part_runs s.cluster s.promotions false k (going r) r.since now.since (Some (w.answers ++ ys)) (Some ys) fresh
         (goes_more ys (going r) r.since now.since (Some w.answers) (Some []) w.went.steps);
+    taken = w.taken;
   }
 
   pub part_told : (names : Option Cluster) (before after : Option (List ℕ)) → IsTold names r now before after
@@ -78,11 +85,11 @@ module _ (s : Setting) (k : ℕ) (r now : Running) (fresh : r.since ≡ []) wher
 
   -- the transition went on
   pub came_carried : (rest left : Option (List Answer)) (over over_now : Bool) (before after : Option (List ℕ)) → Went s.whole r now rest left
-      → IsTold s.names r now before after → (s.steady ≡ true → over_now ≡ false → WentAsSaid r now)
+      → IsTold s.names r now before after → (s.steady ≡ true → over_now ≡ false → WentAsSaid r now rest left)
       → Came s (amid k (going r) []) (sight rest over before) (sight left over_now after) (amid k (going r) now.since)
   came_carried rest left over over_now before after went told said = record {
     lines = flat_map event_lines now.since;
     runs = part_runs s.cluster s.promotions s.whole k (going r) r.since now.since rest left fresh went.steps;
     told = part_told s.names before after told;
-    said = λ steady open_still. part_said (said steady open_still);
+    said = λ steady open_still. part_said rest left (said steady open_still);
   }

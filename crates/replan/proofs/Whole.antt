@@ -1,5 +1,5 @@
 -- A run from its beginning, by how it ended.
-use Rattle.std.proofs.Common.{◌≡◌, ◌≤◌, ℕ, ◌+◌, Bool, false, List, [], ◌++◌, refl, sym, ap, subst}
+use Rattle.std.proofs.Common.{◌≡◌, ◌≤◌, ℕ, ◌+◌, Bool, false, List, [], ◌++◌, append-nil, refl, sym, ap, subst}
 use Rattle.std.specs.Prelude.{Option, Result, Ok, Err}
 use Rattle.cluster_types.specs.declared.cluster.Cluster.{Cluster}
 use Rattle.cluster_types.specs.declared.journal.Answer.{Answer}
@@ -11,6 +11,7 @@ use Rattle.cluster_types.specs.Journals.{Orderly}
 use Rattle.cluster_types.specs.Runs.{Standing, due, amid, idle, Runs, here, IsAsking, not_yet}
 use Rattle.cluster_types.specs.Safety.{IsAtRest, IsSafeRun}
 use Rattle.graph_exec.specs.Logs.{JournalOf}
+use Rattle.graph_exec.specs.Saying.{TakesAnswers}
 use Rattle.graph_exec.proofs.Carrying.{rose_since}
 use Rattle.graph_exec.proofs.Told.{adds_nothing}
 use Rattle.run_laws.proofs.Rests.{at_rest, in_order}
@@ -48,6 +49,7 @@ module _ (s : Setting) (es : List Event) (a b : Sight) where
     told = w.told;
     said = λ steady. record {
       answers = (w.said steady).answers ++ [];
+      taken = subst (λ (x : List Answer). TakesAnswers a.rest x b.rest) (sym (append-nil (w.said steady).answers)) (w.said steady).taken;
       run = record {
         last = w.last;
         steps = (w.said steady).runs [];

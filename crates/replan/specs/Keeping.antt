@@ -103,7 +103,7 @@ module _ (s : Setting) (es : List Event) (first : Option (List Answer)) where
   -- over, each of its answers was said
   pub record Keeps (rest : Option (List Answer)) (over : Bool) (passed : List Passed) (at : Standing) : Type 0 where
     pub runs : Runs s.cluster s.promotions s.whole (due 1 es) first (all_passed_lines s.cluster (journal_at at) 1 passed) at rest
-    pub said : s.steady ≡ true → over ≡ false → IsSaid s (due 1 es) at (all_passed_lines s.cluster (journal_at at) 1 passed)
+    pub said : s.steady ≡ true → over ≡ false → IsSaid s (due 1 es) at (all_passed_lines s.cluster (journal_at at) 1 passed) first rest
     pub each : AllByRecursion (IsOfPlan s.cluster s.promotions (journal_at at)) passed
 
   -- so it was kept up to where the next transition is due

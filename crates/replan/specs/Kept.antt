@@ -19,6 +19,7 @@ use Rattle.cluster_types.specs.Steps.{Transition, HasEnded, IsWaiting, has_abort
 use Rattle.cluster_types.specs.Texts.{Fits, between, run_lines}
 use Rattle.graph_exec.specs.declared.outcomes.Next.{Next}
 use Rattle.graph_exec.specs.declared.outcomes.Next.TheVariants as next
+use Rattle.graph_exec.specs.Saying.{TakesAnswers}
 use Rattle.replan.specs.declared.stop.ReplayEnd.{ReplayEnd}
 use Rattle.replan.specs.declared.stop.ReplayEnd.TheVariants as end
 
@@ -51,9 +52,11 @@ module _ (c : Cluster) (promotions : List Promotion) where
       pub is : IsWholeRun c promotions whole es rest (run_lines c run) run.journal.events
       pub unread : left ≡ is.behind
 
-    -- the run up to a step at which an answer is asked for is that of these answers, each of which was said
+    -- the run up to a step at which an answer is asked for is that of these answers, each of which was said: they are those that were taken, where the
+    -- answers to come are told
     pub record IsKeptOfAnswers (run : Run) : Type 0 where
       pub answers : List Answer
+      pub taken : TakesAnswers rest answers left
       pub is : IsRunSoFar c promotions false es (Some answers) (run_lines c run) run.journal.events (Some [])
 
     -- the run is kept up to a step at which the source failed. A steady source has let no action end silently

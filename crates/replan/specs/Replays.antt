@@ -10,6 +10,7 @@ use Rattle.cluster_types.specs.declared.journal.Promotion.{Promotion}
 use Rattle.cluster_types.specs.declared.run.RunLine.{RunLine}
 use Rattle.cluster_types.specs.Journals.{Orderly}
 use Rattle.cluster_types.specs.Runs.{Standing, due, Runs, IsBetween, IsCutRun, IsRunSoFar, IsRunUpTo, IsStoppedRun, IsWholeRun}
+use Rattle.graph_exec.specs.Saying.{TakesAnswers}
 use Rattle.graph_exec.specs.Telling.{text_of}
 use Rattle.graph_exec.specs.declared.outcomes.Next.{Next}
 use Rattle.graph_exec.specs.declared.outcomes.Next.TheVariants as next
@@ -55,9 +56,11 @@ module _ (s : Setting) (es : List Event) (old new : Sight) where
     pub run : IsCutRun s.cluster s.promotions s.whole es old.rest lines journal.events given new.rest
     pub told : Adds old.text (text_of s.names lines) new.text
 
-  -- the run up to a step at which an answer is asked for is that of these answers, each of which was said
+  -- the run up to a step at which an answer is asked for is that of these answers, each of which was said: they are those that were taken, where the answers
+  -- to come are told
   pub record IsOfAnswers (journal : Journal) (lines : List RunLine) : Type 0 where
     pub answers : List Answer
+    pub taken : TakesAnswers old.rest answers new.rest
     pub run : IsRunSoFar s.cluster s.promotions false es (Some answers) lines journal.events (Some [])
 
   -- the run was made up to a step at which the source failed, and each line up to there was told. A steady source has let no action end silently

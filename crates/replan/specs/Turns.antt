@@ -14,6 +14,7 @@ use Rattle.cluster_types.specs.Unpacked.{states_of}
 use Rattle.graph_exec.specs.Logs.{JournalOf}
 use Rattle.graph_exec.specs.Promises.{IsPlanned}
 use Rattle.graph_exec.specs.Running.{Running}
+use Rattle.graph_exec.specs.Saying.{TakesAnswers}
 use Rattle.graph_exec.specs.Telling.{ReasonsHaveNames, text_of}
 use Rattle.replan.specs.declared.planning.KeptPlan.{KeptPlan}
 use Rattle.replan.specs.declared.planning.Planned.{Planned}
@@ -36,10 +37,12 @@ left_of r = record { events = r.planned_at ++ r.since; promotions = r.promotions
 abbrev pub known_of : Running → JournalOf
 known_of r = record { cluster = r.cluster; events = r.planned_at ++ r.since; promotions = r.promotions }
 
--- the run from a standing on prints these lines up to another, and each of its answers was said
-pub record IsSaid (s : Setting) (from at : Standing) (lines : List RunLine) : Type 0 where
+-- the run from a standing on prints these lines up to another, and each of its answers was said: they are those that were taken, where the answers to come
+-- are told
+pub record IsSaid (s : Setting) (from at : Standing) (lines : List RunLine) (rest left : Option (List Answer)) : Type 0 where
   pub answers : List Answer
   pub runs : (more : List Answer) → Runs s.cluster s.promotions false from (Some (answers ++ more)) lines at (Some more)
+  pub taken : TakesAnswers rest answers left
 
 module _ (s : Setting) (from : Standing) (old new : Sight) where
   -- the run went on to here, and its lines were told. While a steady source isn't over, each of its answers was said
@@ -47,7 +50,7 @@ module _ (s : Setting) (from : Standing) (old new : Sight) where
     pub lines : List RunLine
     pub runs : Runs s.cluster s.promotions s.whole from old.rest lines at new.rest
     pub told : Adds old.text (text_of s.names lines) new.text
-    pub said : s.steady ≡ true → new.over ≡ false → IsSaid s from at lines
+    pub said : s.steady ≡ true → new.over ≡ false → IsSaid s from at lines old.rest new.rest
 
   -- the same, where the journal is kept with what it tells
   pub record CameTo (at : List Event → Standing) (journal : JournalOf) : Type 0 where
@@ -78,7 +81,7 @@ module _ (s : Setting) (from : Standing) (old new : Sight) where
     pub runs : Runs s.cluster s.promotions s.whole from old.rest lines last new.rest
     pub told : Adds old.text (text_of s.names lines) new.text
     pub asking : IsAsking s.cluster s.promotions s.whole last
-    pub said : s.steady ≡ true → IsSaid s from last lines
+    pub said : s.steady ≡ true → IsSaid s from last lines old.rest new.rest
     pub not_over : s.steady ≡ true → old.over ≡ false
     pub leaves : journal ≡ journal_of s last
 

@@ -17,7 +17,7 @@ loop-executor-init g c = record {
   careful = refl;
   steady = refl;
   over = λ steady h. h;
-  said = λ steady h. said_nothing _;
+  said = λ steady h. said_nothing _ _;
   agrees = λ h. h;
   source_follows = g.met.S.Outcomes.from_itself _;
   told = told_nothing _ _ _;
@@ -92,7 +92,7 @@ returns-then-count-eq0-clause-not_over g c steady fault = no_fault _ c.end.ensur
 
 pub returns-then-count-eq0-clause-said_to_end : goal.returns-then-count-eq0-clause-said_to_end
 returns-then-count-eq0-clause-said_to_end g c steady open_still end =
-    said_on _ _ _ (c.loop-executor.invariant.said steady (sym c.begin_all.ensures.over ∙ open_still)) c.begin_all.ensures.said
+    said_on _ _ _ _ _ _ (c.loop-executor.invariant.said steady (sym c.begin_all.ensures.over ∙ open_still)) c.begin_all.ensures.said
 
 pub returns-then-count-eq0-clause-fitting : goal.returns-then-count-eq0-clause-fitting
 returns-then-count-eq0-clause-fitting g c careful agrees = expected_done _ c.end.ensures.done
@@ -157,8 +157,8 @@ returns-in-Some-clause-stopped g c stop =
 pub returns-in-Some-clause-said : goal.returns-in-Some-clause-said
 returns-in-Some-clause-said g c steady fault =
     let begun = c.begin_all.ensures in
-    rw (c.in-Some.ensures.failed (begun.steady ∙ c.loop-executor.invariant.steady ∙ steady) (ap Some fault))
-    (said_on _ _ _ (c.loop-executor.invariant.said steady (sym begun.over ∙ c.in-Some.ensures.not_over (ap Some fault))) begun.said)
+    rw (c.in-Some.ensures.failed (begun.steady ∙ c.loop-executor.invariant.steady ∙ steady) (ap Some fault), c.in-Some.ensures.unread (ap Some fault))
+    (said_on _ _ _ _ _ _ (c.loop-executor.invariant.said steady (sym begun.over ∙ c.in-Some.ensures.not_over (ap Some fault))) begun.said)
 
 pub returns-in-Some-clause-not_over : goal.returns-in-Some-clause-not_over
 returns-in-Some-clause-not_over g c steady fault =
@@ -206,8 +206,8 @@ loop-executor-preserved g c =
       over = λ steady h. asked.over (begun.steady ∙ so_far.steady ∙ steady) (begun.over ∙ so_far.over steady h);
       said = λ steady open_still.
           let was_open = not_yet _ _ (asked.over (begun.steady ∙ so_far.steady ∙ steady)) open_still in
-          said_on _ _ _ (so_far.said steady (sym begun.over ∙ was_open))
-          (said_on _ _ _ begun.said (asked.said (begun.steady ∙ so_far.steady ∙ steady) open_still));
+          said_on _ _ _ _ _ _ (so_far.said steady (sym begun.over ∙ was_open))
+          (said_on _ _ _ _ _ _ begun.said (asked.said (begun.steady ∙ so_far.steady ∙ steady) open_still));
       agrees = λ h. asked.agrees (begun.agrees (so_far.agrees h));
       source_follows = g.met.S.Outcomes.from_before _ _ _ so_far.source_follows
           (g.met.S.Outcomes.from_before _ _ _ begun.source_follows asked.source_follows);

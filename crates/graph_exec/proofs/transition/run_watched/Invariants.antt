@@ -14,7 +14,8 @@ invariant-loop-executor g l = record {
   careful : g.S.Outcomes.careful l.outcomes ≡ g.S.Outcomes.careful l.fn.outcomes;
   steady : g.S.Outcomes.steady l.outcomes ≡ g.S.Outcomes.steady l.fn.outcomes;
   over : g.S.Outcomes.steady l.fn.outcomes ≡ true → g.S.Outcomes.over l.fn.outcomes ≡ true → g.S.Outcomes.over l.outcomes ≡ true;
-  said : g.S.Outcomes.steady l.fn.outcomes ≡ true → g.S.Outcomes.over l.outcomes ≡ false → WentAsSaid l.fn.executor l.executor;
+  said : g.S.Outcomes.steady l.fn.outcomes ≡ true → g.S.Outcomes.over l.outcomes ≡ false
+      → WentAsSaid l.fn.executor l.executor (g.S.Outcomes.rest l.fn.outcomes) (g.S.Outcomes.rest l.outcomes);
   agrees : Accords (g.S.Outcomes.agrees l.fn.outcomes) l.fn.executor → Accords (g.S.Outcomes.agrees l.outcomes) l.executor;
   source_follows : g.S.Outcomes.follows l.fn.outcomes l.outcomes;
   told : IsTold (g.V.Watcher.names l.fn.watcher) l.fn.executor l.executor (g.V.Watcher.told l.fn.watcher) (g.V.Watcher.told l.watcher);

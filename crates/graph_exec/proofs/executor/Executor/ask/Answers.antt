@@ -46,7 +46,7 @@ returns-in-Failed-clause-agrees g c h =
     (c.in-Failed.ensures.agrees _ _ _ h.agrees_now (seen c.args.self.now c.args.self.now (g.S.Outcomes.agrees c.args.outcomes.now) (g.S.Outcomes.agrees c.next.new.self) _ is under_way h))
 
 pub returns-in-Ok-clause-said : goal.returns-in-Ok-clause-said
-returns-in-Ok-clause-said g c steady open_still = said_taken _ _ c.in-Answer.answer c.in-Ok.ensures.ok
+returns-in-Ok-clause-said g c steady open_still = said_taken _ _ _ _ _ c.in-Answer.answer c.in-Answer.ensures.gives c.in-Ok.ensures.ok
 
 pub returns-in-Failed-clause-under_way : goal.returns-in-Failed-clause-under_way
 returns-in-Failed-clause-under_way g c = rw c.self.view_is at c.self.invariant

@@ -8,7 +8,7 @@ use Rattle.graph_exec.proofs.executor.Executor.begin_all.Goals as goal
 pub loop-init : goal.loop-init
 loop-init g c = record {
   went = went_nowhere _ _ _;
-  said = said_nothing _;
+  said = said_nothing _ _;
   asks = omega arith;
   whole = refl;
   count = omega arith;
@@ -39,7 +39,7 @@ loop-preserved g c =
     let stops_now = now.stops in
     record {
       went = went_on _ _ _ _ _ _ _ so_far.went (rw so_far.whole at now.went);
-      said = said_on _ _ _ so_far.said now.said;
+      said = said_on _ _ _ _ _ _ so_far.said now.said;
       asks = omega arith;
       whole = now.whole ∙ so_far.whole;
       count = omega arith;
@@ -62,7 +62,7 @@ pub returns-in-None-clause-went : goal.returns-in-None-clause-went
 returns-in-None-clause-went g c = went_on _ _ _ _ _ _ _ c.loop.invariant.went (rw c.loop.invariant.whole at c.begin_one.ensures.went)
 
 pub returns-in-None-clause-said : goal.returns-in-None-clause-said
-returns-in-None-clause-said g c = said_on _ _ _ c.loop.invariant.said c.begin_one.ensures.said
+returns-in-None-clause-said g c = said_on _ _ _ _ _ _ c.loop.invariant.said c.begin_one.ensures.said
 
 pub returns-in-None-clause-told : goal.returns-in-None-clause-told
 returns-in-None-clause-told g c = told_on _ _ _ _ _ _ _ c.loop.invariant.told (rw c.loop.invariant.names at c.in-None.ensures.told)
@@ -79,7 +79,7 @@ pub returns-in-Some-Stop-clause-went : goal.returns-in-Some-Stop-clause-went
 returns-in-Some-Stop-clause-went g c = went_on _ _ _ _ _ _ _ c.loop.invariant.went (rw c.loop.invariant.whole at c.begin_one.ensures.went)
 
 pub returns-in-Some-Stop-clause-said : goal.returns-in-Some-Stop-clause-said
-returns-in-Some-Stop-clause-said g c = said_on _ _ _ c.loop.invariant.said c.begin_one.ensures.said
+returns-in-Some-Stop-clause-said g c = said_on _ _ _ _ _ _ c.loop.invariant.said c.begin_one.ensures.said
 
 pub returns-in-Some-Stop-clause-told : goal.returns-in-Some-Stop-clause-told
 returns-in-Some-Stop-clause-told g c =

@@ -8,7 +8,7 @@ use Rattle.graph_exec.proofs.executor.Executor.begin_all.Given as goal
 abbrev pub invariant-loop : goal.invariant-loop
 invariant-loop g l = record {
   went : Went (g.S.Outcomes.whole l.fn.outcomes) l.fn.self l.self (g.S.Outcomes.rest l.fn.outcomes) (g.S.Outcomes.rest l.outcomes);
-  said : WentAsSaid l.fn.self l.self;
+  said : WentAsSaid l.fn.self l.self (g.S.Outcomes.rest l.fn.outcomes) (g.S.Outcomes.rest l.outcomes);
   asks : asks_left l.self ≤ asks_left l.fn.self;
   whole : g.S.Outcomes.whole l.outcomes ≡ g.S.Outcomes.whole l.fn.outcomes;
   count : g.S.Outcomes.faults l.fn.outcomes ≤ g.S.Outcomes.faults l.outcomes;

@@ -12,7 +12,7 @@ pub returns-in_default-clause-went : goal.returns-in_default-clause-went
 returns-in_default-clause-went g c = rw c.in_default.ensures.settled.same (went_nowhere _ _ _)
 
 pub returns-in_default-clause-said : goal.returns-in_default-clause-said
-returns-in_default-clause-said g c = rw c.in_default.ensures.settled.same (said_nothing _)
+returns-in_default-clause-said g c = rw c.in_default.ensures.settled.same (said_nothing _ _)
 
 pub returns-in_default-clause-source_follows : goal.returns-in_default-clause-source_follows
 returns-in_default-clause-source_follows g c = g.met.S.Outcomes.from_itself _
@@ -31,7 +31,7 @@ pub returns-clause-went : goal.returns-clause-went
 returns-clause-went g c = went_begun _ _ _ _ _ (record { number = c.in-Some.number; now = c.in-Some.ensures.begins }) c.begun.ensures.rest
 
 pub returns-clause-said : goal.returns-clause-said
-returns-clause-said g c = said_begun _ _ (record { number = c.in-Some.number; now = c.in-Some.ensures.begins })
+returns-clause-said g c = said_begun _ _ _ _ (record { number = c.in-Some.number; now = c.in-Some.ensures.begins }) c.begun.ensures.rest
 
 pub returns-clause-on : goal.returns-clause-on
 returns-clause-on g c = fewer_begins _ _ (record { number = c.in-Some.number; now = c.in-Some.ensures.begins })
