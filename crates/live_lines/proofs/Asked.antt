@@ -1,5 +1,5 @@
 -- What one question to a source of answers brings, by what came of reading on, and what that means for whoever asks.
-use Rattle.std.proofs.Common.{◌≡◌, ℕ, ◌+◌, ◌-◌, ◌^◌, ◌≤◌, min, true, false, Option, Some, None, List, option_map, is_none, refl, ap, sym, ◌∙◌, arith}
+use Rattle.std.proofs.Common.{◌≡◌, ℕ, ◌+◌, ◌-◌, ◌^◌, ◌≤◌, min, true, Option, Some, None, List, option_map, is_none, refl, ap, sym, ◌∙◌, arith}
 use Rattle.std.proofs.lemmas.Bool.{both_ways}
 use Rattle.cluster_io.specs.Streams.{Rose}
 use Rattle.cluster_types.specs.declared.journal.Answer.{Answer}

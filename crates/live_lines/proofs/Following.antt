@@ -1,14 +1,10 @@
 -- What one question to a source of answers has brought of its lines.
-use Rattle.std.proofs.Common.{◌≡◌, ◌≢◌, ◌⊎◌, inl, inr, ℕ, ◌+◌, ◌≤◌, Bool, true, false, Option, Some, None, List, [], ◌∷◌, ◌++◌, option_map, refl, ap, sym, subst, ◌∙◌, arith}
-use Rattle.std.proofs.lemmas.Bool.{both_ways}
-use Rattle.cluster_io.specs.Streams.{Rose}
-use Rattle.cluster_types.specs.declared.cluster.Cluster.{Cluster}
-use Rattle.graph_exec.specs.declared.outcomes.Next.{Next}
+use Rattle.std.proofs.Common.{◌≡◌, inr, ℕ, true, Option, Some, List, [], ◌∷◌, option_map, ap, sym, subst, ◌∙◌}
 use Rattle.graph_exec.specs.declared.outcomes.Next.TheVariants as next
 use Rattle.op_history.specs.declared.results.ResultLine.{ResultLine}
-use Rattle.live_lines.specs.Coming.{Coming, Lines, result_first}
-use Rattle.live_lines.specs.Courses.{Answers, Standing, has_ended, is_reading, stop_of, told_by, to_come}
-use Rattle.live_lines.specs.Followed.{AreNear, EndsInOne, Follows, HasAnswered, HasBroken, HasEnded, HasFailed, HasFaltered, HasFollowed, HasGiven, HasNotFailed, HasRead, HasSaid, HasStopped, IsStoppedBy, RestsBehind, View, answers, by_line, by_source, last_line, results_first, stays}
+use Rattle.live_lines.specs.Coming.{result_first}
+use Rattle.live_lines.specs.Courses.{Answers, Standing, is_reading, stop_of, told_by, to_come}
+use Rattle.live_lines.specs.Followed.{HasAnswered, HasBroken, HasEnded, HasFaltered, HasGiven, HasStopped, IsStoppedBy, RestsBehind}
 use Rattle.live_lines.specs.Saying.{is_last}
 use Rattle.live_lines.specs.declared.course.Course.{Course}
 use Rattle.live_lines.specs.declared.course.Course.TheVariants as course
@@ -46,7 +42,7 @@ module _ (old new : Standing) (before after : Option (List ℕ)) (same : new.clu
 
   pub faltered_broken : HasFaltered old.cluster old.lines new.lines before after → stop_of new ≡ Some ReadFault → Answers next.Failed old new before after
       → HasBroken old new before after
-  faltered_broken f why a = record { lines = f.lines; given = []; bytes = f.bytes; read = f.read; told = a.0; unfinished = f.unfinished; why = why }
+  faltered_broken f why a = record { lines = f.lines; given = []; bytes = f.bytes; read = f.read; told = a.0; unfinished = f.unfinished; undecided = f.undecided; why = why }
 
   pub stopped_by : (w : LineStop) → is_last w ≡ true → stop_of new ≡ Some w → IsStoppedBy old.cluster old.lines before after [] w
       → told_by old before ≡ option_map (λ left. record { results = []; stop = Some w }) after → HasStopped old new before after

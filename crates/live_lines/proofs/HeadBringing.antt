@@ -13,10 +13,10 @@ use Rattle.crm_lex.specs.declared.fault.LexCause.TheVariants.{LineTooLong}
 use Rattle.crm_lex.proofs.PhysicalLines.{concat-lines, few_lines}
 use Rattle.faults.specs.declared.fault.Fault.{Fault}
 use Rattle.faults.specs.declared.fault.Fault.TheVariants.{At, NoMemory}
-use Rattle.live_lines.specs.Heads.{BringsHead, CanGoOn, Head, KeepsBytes, Progress, begins_results, came_to, head_behind, head_of, lacks_memory, progress, read_says, refused, sized_says, WhileWell, stop_for, taken, too_large}
+use Rattle.live_lines.specs.Heads.{BringsHead, CanGoOn, Head, KeepsBytes, begins_results, came_to, head_behind, head_of, lacks_memory, progress, read_says, refused, sized_says, WhileWell, stop_for, taken, too_large}
 use Rattle.live_lines.specs.declared.head.HeadStop.{HeadStop}
 use Rattle.live_lines.specs.declared.head.HeadStop.TheVariants as stop
-use Rattle.live_lines.proofs.Bringing.{fewer_left, handed_answer, handed_cut, long_room, longest_is, next_is, numbers_fit, room_is, some_if, stop_is}
+use Rattle.live_lines.proofs.Bringing.{handed_answer, handed_cut, long_room, longest_is, next_is, numbers_fit, room_is, some_if, stop_is}
 use Rattle.live_lines.proofs.Cuts.{cut_of}
 
 -- what the words say that were read of a line

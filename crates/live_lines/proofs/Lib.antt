@@ -10,3 +10,4 @@ pub mod Few
 pub mod Readers
 pub mod Written
 pub mod HeadBringing
+pub mod HeadLines

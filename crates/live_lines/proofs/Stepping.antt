@@ -1,7 +1,7 @@
 -- What one answer of a reader of lines has read.
-use Rattle.std.proofs.Common.{◌≡◌, ◌⊎◌, inl, inr, ℕ, ◌+◌, ◌-◌, ◌<◌, ◌≤◌, true, Option, Some, None, List, [], ◌∷◌, ◌++◌, length, option_map, IfSome, append-nil, append_assoc, length-append, refl, ap, sym, subst, ◌∙◌, arith}
+use Rattle.std.proofs.Common.{◌≡◌, ◌⊎◌, inl, inr, ℕ, ◌+◌, ◌-◌, ◌<◌, true, Option, Some, None, List, [], ◌∷◌, ◌++◌, length, option_map, IfSome, append-nil, append_assoc, length-append, refl, ap, sym, subst, ◌∙◌, arith}
 use Rattle.std.specs.List.{concat}
-use Rattle.cluster_io.specs.NextLine.{answer_of, first_line, first_of, holds_line, line_answer}
+use Rattle.cluster_io.specs.NextLine.{first_line, first_of, holds_line, line_answer, IsUndecided}
 use Rattle.cluster_io.specs.Readings.{Answered, CameBy, Reading, nothing_came, more_came}
 use Rattle.cluster_io.specs.declared.line_step.LineStep.{LineStep}
 use Rattle.cluster_io.specs.declared.line_step.LineStep.TheVariants.{Line, End, TooLong, TooLarge, Failed}
@@ -25,10 +25,22 @@ use Rattle.live_lines.proofs.Cuts.{cut_of}
 use Rattle.live_lines.proofs.Unfinished.{longer}
 use Rattle.op_history.specs.declared.results.ResultLine.{ResultLine}
 
-bytes_one : (raw : List ℕ) → bytes_of (physical_lines raw ∷ []) ≡ raw
+pub bytes_one : (raw : List ℕ) → bytes_of (physical_lines raw ∷ []) ≡ raw
 bytes_one raw = append-nil (concat (physical_lines raw)) ∙ concat-lines raw
 
--- a line is handed out
+-- a line is handed out, which is the first of those to come
+pub line_cut : (old new : Reading) (before after : Option (List ℕ)) (a : Answered Line old new before after)
+    → option_map (λ left. raw_lines (old.held ++ left)) before ≡ option_map (λ left. (physical_lines new.raw ∷ []) ++ raw_lines (new.held ++ left)) after
+line_cut old new before after a = ap (option_map (λ left. raw_lines (old.held ++ left))) a.taken ∙ on after refl
+  where
+    on : (left : Option (List ℕ)) → after ≡ left → option_map (λ rest. raw_lines (old.held ++ rest)) (option_map (λ rest. a.bytes ++ rest) left)
+        ≡ option_map (λ rest. (physical_lines new.raw ∷ []) ++ raw_lines (new.held ++ rest)) left
+    on None is = refl
+    on (Some left) is =
+        ap Some (ap raw_lines (sym (append_assoc old.held a.bytes left))
+        ∙ (handed_cut old new before after a left (λ ended. subst (λ (o : Option (List ℕ)). IfSome o (λ (t : List ℕ). t ≡ [])) is (a.at_end ended))).lines)
+
+-- what comes of it
 module _ (c : Cluster) (at : Place) (old new : Reading) (before after : Option (List ℕ)) (a : Answered Line old new before after) where
   abbrev lines : List (List (List ℕ))
   lines = physical_lines new.raw ∷ []
@@ -38,16 +50,6 @@ module _ (c : Cluster) (at : Place) (old new : Reading) (before after : Option (
 
   line_parts : old.held ++ a.bytes ≡ bytes_of lines ++ new.held
   line_parts = a.leaves.parts ∙ ap (λ (t : List ℕ). t ++ new.held) (sym (bytes_one new.raw))
-
-  line_cut : option_map (λ left. raw_lines (old.held ++ left)) before ≡ option_map (λ left. lines ++ raw_lines (new.held ++ left)) after
-  line_cut = ap (option_map (λ left. raw_lines (old.held ++ left))) a.taken ∙ on after refl
-    where
-      on : (left : Option (List ℕ)) → after ≡ left → option_map (λ rest. raw_lines (old.held ++ rest)) (option_map (λ rest. a.bytes ++ rest) left)
-          ≡ option_map (λ rest. lines ++ raw_lines (new.held ++ rest)) left
-      on None is = refl
-      on (Some left) is =
-          ap Some (ap raw_lines (sym (append_assoc old.held a.bytes left))
-          ∙ (handed_cut old new before after a left (λ ended. subst (λ (o : Option (List ℕ)). IfSome o (λ (t : List ℕ). t ≡ [])) is (a.at_end ended))).lines)
 
   line_near : AreNear (lines_at at old) lines a.bytes
   line_near =
@@ -71,8 +73,14 @@ module _ (c : Cluster) (at : Place) (old new : Reading) (before after : Option (
   line_read s given is gives = record {
     taken = a.taken;
     parts = line_parts;
-    cut = line_cut;
+    cut = line_cut old new before after a;
     answered = λ others. says_first s is others ∙ gives (said_by c (behind s) others);
+    room =
+        let left = room_is old new before after a in
+        let in_room = a.leaves.in_room in
+        let size = ap length (bytes_one new.raw) in
+        omega (arith, left, in_room, size);
+    same_size = longest_is old new before after a;
   }
 
   line_last : (s : Said) (whole : Coming) → line_says c at new.raw ≡ s → said_first at s (said_by c (behind s) []) ≡ whole → 0 < count_said whole → HasLast c (lines_at at old) lines
@@ -91,7 +99,7 @@ module _ (c : Cluster) (at : Place) (old new : Reading) (before after : Option (
   }
   by_said (said.Stop w) is = record {
     lines = lines;
-    first = first before line_cut;
+    first = first before (line_cut old new before after a);
     said = says_first (said.Stop w) is [];
     ends = line_last (said.Stop w) (no_more (Some w)) is refl (omega arith);
     bytes = a.bytes;
@@ -112,7 +120,7 @@ module _ (c : Cluster) (at : Place) (old new : Reading) (before after : Option (
   line_until = by_said (line_says c at new.raw) refl
 
 -- no line is handed out
-unmoved : (step : LineStep) (old new : Reading) (before after : Option (List ℕ)) (a : Answered step old new before after) → (step ≡ Line → ⊥)
+pub unmoved : (step : LineStep) (old new : Reading) (before after : Option (List ℕ)) (a : Answered step old new before after) → (step ≡ Line → ⊥)
     → (new.held ≡ old.held ++ a.bytes) × ((new.room ≡ old.room) × (new.longest ≡ old.longest))
 unmoved Line old new before after a other = absurd (other refl)
 unmoved End old new before after a other =
@@ -124,19 +132,26 @@ unmoved TooLarge old new before after a other =
 unmoved Failed old new before after a other =
     (ap (λ (r : Reading). r.held) a.leaves.0, (ap (λ (r : Reading). r.room) a.leaves.0, ap (λ (r : Reading). r.longest) a.leaves.0))
 
-unmoved_read : (c : Cluster) (at : Place) (old new : Reading) (before after : Option (List ℕ)) (bytes : List ℕ) → before ≡ option_map (λ left. bytes ++ left) after
-    → new.held ≡ old.held ++ bytes → new.room ≡ old.room → new.longest ≡ old.longest → HasRead c (lines_at at old) (lines_at at new) before after [] [] bytes
-unmoved_read c at old new before after bytes taken held room longest = record {
-  taken = taken;
-  parts = sym held;
-  cut = ap (option_map (λ left. raw_lines (old.held ++ left))) taken ∙ on after;
-  answered = λ others. ap (λ (r : ℕ). coming c old.longest at r others) (sym room) ∙ ap (λ (n : ℕ). coming c n at new.room others) (sym longest);
-}
+-- what is to come stays
+pub unmoved_cut : (old new : Reading) (before after : Option (List ℕ)) (bytes : List ℕ) → before ≡ option_map (λ left. bytes ++ left) after
+    → new.held ≡ old.held ++ bytes → option_map (λ left. raw_lines (old.held ++ left)) before ≡ option_map (λ left. raw_lines (new.held ++ left)) after
+unmoved_cut old new before after bytes taken held = ap (option_map (λ left. raw_lines (old.held ++ left))) taken ∙ on after
   where
     on : (left : Option (List ℕ)) → option_map (λ rest. raw_lines (old.held ++ rest)) (option_map (λ rest. bytes ++ rest) left)
         ≡ option_map (λ rest. raw_lines (new.held ++ rest)) left
     on None = refl
     on (Some left) = ap (λ (t : List ℕ). Some (raw_lines t)) (sym (append_assoc old.held bytes left) ∙ ap (λ (t : List ℕ). t ++ left) (sym held))
+
+unmoved_read : (c : Cluster) (at : Place) (old new : Reading) (before after : Option (List ℕ)) (bytes : List ℕ) → before ≡ option_map (λ left. bytes ++ left) after
+    → new.held ≡ old.held ++ bytes → new.room ≡ old.room → new.longest ≡ old.longest → HasRead c (lines_at at old) (lines_at at new) before after [] [] bytes
+unmoved_read c at old new before after bytes taken held room longest = record {
+  taken = taken;
+  parts = sym held;
+  cut = unmoved_cut old new before after bytes taken held;
+  answered = λ others. ap (λ (r : ℕ). coming c old.longest at r others) (sym room) ∙ ap (λ (n : ℕ). coming c n at new.room others) (sym longest);
+  room = omega (arith, room);
+  same_size = longest;
+}
 
 pub end_until : (c : Cluster) (at : Place) (old new : Reading) (before after : Option (List ℕ)) → Answered End old new before after
     → ReadUntil c (Some came.End) (lines_at at old) (lines_at at new) before after
@@ -149,6 +164,10 @@ end_until c at old new before after a =
       all = record { none_held = u.0 ∙ a.leaves.1; none_left = a.at_end a.leaves.2 };
     }
 
+-- what is held gives no answer yet
+pub undecided_now : (old new : Reading) (before after : Option (List ℕ)) → Answered Failed old new before after → IsUndecided new.room new.longest new.held
+undecided_now old new before after a = subst (λ (r : Reading). IsUndecided r.room r.longest r.held) (sym a.leaves.0) (a.undecided refl)
+
 pub fault_until : (c : Cluster) (at : Place) (old new : Reading) (before after : Option (List ℕ)) → Answered Failed old new before after
     → ReadUntil c (Some came.Fault) (lines_at at old) (lines_at at new) before after
 fault_until c at old new before after a =
@@ -158,6 +177,7 @@ fault_until c at old new before after a =
       bytes = a.bytes;
       read = unmoved_read c at old new before after a.bytes a.taken u.0 u.1.0 u.1.1;
       unfinished = ap holds_line u.0 ∙ a.leaves.1;
+      undecided = undecided_now old new before after a;
     }
 
 -- a line isn't given, by its size: fewer than 4,096 bytes were taken behind it

@@ -1,9 +1,9 @@
 -- What is to come of result lines: their answers, up to the first line that is refused or goes past the limit (rule of this project).
-use Rattle.std.specs.Prelude.{◌≡◌, ℕ, ◌+◌, ◌-◌, ◌^◌, ◌≤◌, ◌<◌, ◌==◌, Bool, true, false, if◌then◌else◌, Option, Some, None, List, [], ◌∷◌, ◌++◌, length, option_map}
+use Rattle.std.specs.Prelude.{◌≡◌, ℕ, ◌+◌, ◌-◌, ◌^◌, ◌≤◌, ◌<◌, Bool, true, false, Option, Some, None, List, [], ◌∷◌, ◌++◌, length, option_map}
 use Rattle.std.specs.List.{concat}
 use Rattle.cluster_io.specs.Readings.{Reading}
 use Rattle.cluster_types.specs.declared.cluster.Cluster.{Cluster}
-use Rattle.crm_lex.specs.RawLines.{physical_lines, raw_lines}
+use Rattle.crm_lex.specs.RawLines.{raw_lines}
 use Rattle.op_history.specs.declared.results.ResultLine.{ResultLine}
 use Rattle.live_lines.specs.Saying.{is_last, place_behind, says}
 use Rattle.live_lines.specs.declared.came.Came.{Came}

@@ -1,8 +1,8 @@
 -- How a source of answers that are read from lines has come from another: which logical lines it has read since, how they were answered, and how far it has
 -- read its source of bytes (rule of this project).
-use Rattle.std.specs.Prelude.{◌≡◌, ◌≢◌, ◌⊎◌, ℕ, ◌+◌, ◌<◌, ◌≤◌, Bool, true, false, if◌then◌else◌, Option, Some, None, List, [], ◌∷◌, ◌++◌, length, is_some, option_map, IfSome}
+use Rattle.std.specs.Prelude.{◌≡◌, ◌⊎◌, ℕ, ◌+◌, ◌<◌, ◌≤◌, Bool, true, false, if◌then◌else◌, Option, Some, None, List, [], ◌∷◌, ◌++◌, length, is_some, option_map, sum_by, IfSome}
 use Rattle.std.specs.List.{concat, flat_map}
-use Rattle.cluster_io.specs.NextLine.{holds_line}
+use Rattle.cluster_io.specs.NextLine.{holds_line, IsUndecided}
 use Rattle.cluster_io.specs.Streams.{Rose, Takes}
 use Rattle.cluster_types.specs.declared.cluster.Cluster.{Cluster}
 use Rattle.crm_lex.specs.RawLines.{raw_lines}
@@ -22,6 +22,10 @@ use Rattle.live_lines.specs.declared.line_stop.LineStop.TheVariants.{ReadFault}
 -- the bytes of some logical lines, each of which is given by its physical lines
 abbrev pub bytes_of : List (List (List ℕ)) → List ℕ
 bytes_of lines = flat_map concat lines
+
+-- how many physical lines they have
+abbrev pub count_lines : List (List (List ℕ)) → ℕ
+count_lines lines = sum_by (λ (line : List (List ℕ)). length line) lines
 
 -- what some logical lines say, read from a place on
 abbrev pub said_by : Cluster → Lines → List (List (List ℕ)) → Coming
@@ -56,12 +60,15 @@ pub record HasLast (c : Cluster) (from : Lines) (lines : List (List (List ℕ)))
 abbrev pub EndsInOne : Cluster → Lines → List (List (List ℕ)) → Type 0
 EndsInOne c from lines = (lines ≡ []) ⊎ HasLast c from lines
 
--- these logical lines were read and answered so, and the bytes that were taken for them are theirs and those that are held now
+-- these logical lines were read and answered so, and the bytes that were taken for them are theirs and those that are held now. Each byte of theirs leaves
+-- less room
 pub record HasRead (c : Cluster) (old new : Lines) (before after : Option (List ℕ)) (lines : List (List (List ℕ))) (given : List ResultLine) (bytes : List ℕ) : Type 0 where
   pub taken : Takes before bytes after
   pub parts : old.reading.held ++ bytes ≡ bytes_of lines ++ new.reading.held
   pub cut : option_map (λ left. raw_lines (old.reading.held ++ left)) before ≡ option_map (λ left. lines ++ raw_lines (new.reading.held ++ left)) after
   pub answered : (others : List (List (List ℕ))) → said_by c old (lines ++ others) ≡ results_first given (said_by c new others)
+  pub room : length (bytes_of lines) + new.reading.room ≡ old.reading.room
+  pub same_size : new.reading.longest ≡ old.reading.longest
 
 -- nothing was taken; or behind these lines only what came with the end of the last of them: fewer than 4,096 bytes
 abbrev pub AreNear : Lines → List (List (List ℕ)) → List ℕ → Type 0
@@ -104,12 +111,13 @@ pub record HasEnded (c : Cluster) (old new : Lines) (before after : Option (List
   pub read : HasRead c old new before after lines [] bytes
   pub all : AllIsRead new after
 
--- the source of bytes failed, and no whole line is held
+-- the source of bytes failed. No whole line is held, and what is held gives no answer yet
 pub record HasFaltered (c : Cluster) (old new : Lines) (before after : Option (List ℕ)) : Type 0 where
   pub lines : List (List (List ℕ))
   pub bytes : List ℕ
   pub read : HasRead c old new before after lines [] bytes
   pub unfinished : holds_line new.reading.held ≡ false
+  pub undecided : IsUndecided new.reading.room new.reading.longest new.reading.held
 
 -- what was read until this came
 abbrev pub ReadUntil : Cluster → Option Came → Lines → Lines → Option (List ℕ) → Option (List ℕ) → Type 0
@@ -141,7 +149,7 @@ pub data Follows (old new : Standing) (before after : Option (List ℕ)) : Type 
   stays : new ≡ old → after ≡ before → Follows old new before after
   answers : is_reading old.course ≡ true → HasAnswered old new before after → Follows old new before after
 
--- the source of bytes failed: all lines that were taken whole were read
+-- the source of bytes failed: all lines that were taken whole were read, and what is held behind them gives no answer yet
 pub record HasBroken (old new : Standing) (before after : Option (List ℕ)) : Type 0 where
   pub lines : List (List (List ℕ))
   pub given : List ResultLine
@@ -149,6 +157,7 @@ pub record HasBroken (old new : Standing) (before after : Option (List ℕ)) : T
   pub read : HasRead old.cluster old.lines new.lines before after lines given bytes
   pub told : told_by old before ≡ option_map (λ left. results_first given (to_come new left)) after
   pub unfinished : holds_line new.lines.reading.held ≡ false
+  pub undecided : IsUndecided new.lines.reading.room new.lines.reading.longest new.lines.reading.held
   pub why : stop_of new ≡ Some ReadFault
 
 -- a line was refused, or goes past the limit: it stands behind those that were answered

@@ -1,20 +1,15 @@
 -- A source of answers that are read from lines has come from itself, and from what it came from on the way; and so has a writer of lines.
-use Rattle.std.proofs.Common.{◌≡◌, ◌≢◌, ◌⊎◌, inl, inr, ℕ, ◌+◌, ◌≤◌, Bool, true, false, Option, Some, None, List, [], ◌∷◌, ◌++◌, option_map, refl, ap, sym, subst, ◌∙◌, arith}
-use Rattle.std.proofs.lemmas.Bool.{both_ways}
-use Rattle.cluster_io.specs.Streams.{Rose}
+use Rattle.std.proofs.Common.{◌≡◌, ◌≢◌, ℕ, Bool, true, false, Option, Some, None, List, [], ◌∷◌, ◌++◌, option_map, refl, ap, sym, subst, ◌∙◌, arith}
 use Rattle.cluster_types.specs.declared.cluster.Cluster.{Cluster}
 use Rattle.graph_exec.specs.declared.outcomes.Next.{Next}
 use Rattle.graph_exec.specs.declared.outcomes.Next.TheVariants as next
 use Rattle.op_history.specs.declared.results.ResultLine.{ResultLine}
-use Rattle.live_lines.specs.Coming.{Coming, Lines, result_first}
-use Rattle.live_lines.specs.Courses.{Answers, Standing, has_ended, is_reading, stop_of, told_by, to_come}
-use Rattle.live_lines.specs.Followed.{AreNear, EndsInOne, Follows, HasAnswered, HasBroken, HasEnded, HasFailed, HasFaltered, HasFollowed, HasGiven, HasNotFailed, HasRead, HasSaid, HasStopped, IsStoppedBy, RestsBehind, View, answers, by_line, by_source, last_line, results_first, stays}
-use Rattle.live_lines.specs.Saying.{is_last}
+use Rattle.live_lines.specs.Coming.{Coming}
+use Rattle.live_lines.specs.Courses.{Standing, has_ended, is_reading, to_come}
+use Rattle.live_lines.specs.Followed.{EndsInOne, Follows, HasAnswered, HasBroken, HasFailed, HasFollowed, HasNotFailed, HasRead, HasSaid, HasStopped, IsStoppedBy, RestsBehind, View, answers, by_line, by_source, last_line, results_first, stays}
 use Rattle.live_lines.specs.Writing.{HasGoneOn, IsSameSink}
 use Rattle.live_lines.specs.declared.course.Course.{Course}
 use Rattle.live_lines.specs.declared.course.Course.TheVariants as course
-use Rattle.live_lines.specs.declared.line_stop.LineStop.{LineStop}
-use Rattle.live_lines.specs.declared.line_stop.LineStop.TheVariants.{ReadFault}
 use Rattle.live_lines.specs.ReadLaws.{ends_then, near_then, read_then, stopped_then, told_joined}
 
 pub reading_is : (k : Course) → is_reading k ≡ true → k ≡ course.Reading
@@ -74,6 +69,7 @@ module _ (a b d : Standing) (x y z : Option (List ℕ)) (p : HasAnswered a b x y
         (subst (λ (c : Cluster). HasRead c b.lines d.lines y z q.lines q.given q.bytes) p.cluster_stays q.read);
     told = p.told ∙ told_joined p.given q.given (to_come b) (to_come d) y z q.told;
     unfinished = q.unfinished;
+    undecided = q.undecided;
     why = q.why;
   }
 

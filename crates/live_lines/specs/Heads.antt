@@ -1,7 +1,7 @@
 -- The head of an input: its logical lines up to the one that begins the results, or all where none does (rule of this project).
 use Rattle.std.specs.Prelude.{◌≡◌, ℕ, ◌+◌, ◌-◌, ◌^◌, ◌≤◌, Bool, true, false, if◌then◌else◌, Option, Some, None, Result, Ok, Err, List, [], ◌∷◌, ◌++◌, length, codes, option_map}
 use Rattle.std.specs.List.{concat}
-use Rattle.cluster_io.specs.NextLine.{holds_line, line_answer}
+use Rattle.cluster_io.specs.NextLine.{holds_line, line_answer, IsUndecided}
 use Rattle.cluster_io.specs.Readings.{Reading}
 use Rattle.cluster_io.specs.declared.line_step.LineStep.{LineStep}
 use Rattle.cluster_io.specs.declared.line_step.LineStep.TheVariants as step
@@ -12,6 +12,7 @@ use Rattle.crm_lex.specs.declared.fault.LexCause.TheVariants.{LineTooLong}
 use Rattle.faults.specs.declared.fault.Fault.{Fault}
 use Rattle.faults.specs.declared.fault.Fault.TheVariants.{At, NoMemory}
 use Rattle.line_words.specs.Names.{is}
+use Rattle.live_lines.specs.Followed.{bytes_of, count_lines}
 use Rattle.live_lines.specs.declared.head.HeadStop.{HeadStop}
 use Rattle.live_lines.specs.declared.head.HeadStop.TheVariants as stop
 
@@ -99,13 +100,23 @@ IsStopOf head (stop.Refused line why) = head ≡ refused line why
 IsStopOf head stop.TooLarge = head ≡ too_large
 IsStopOf head _ = Unit {0}
 
+-- the first of the logical lines to come were taken, and this is their text: behind them a reader has the number and the room that they leave
+pub record HasTaken (old new : Reading) (text : List ℕ) (before after : Option (List ℕ)) : Type 0 where
+  pub lines : List (List (List ℕ))
+  pub text_is : text ≡ bytes_of lines
+  pub cut : option_map (λ left. raw_lines (old.held ++ left)) before ≡ option_map (λ left. lines ++ raw_lines (new.held ++ left)) after
+  pub number : new.next ≡ old.next + count_lines lines
+  pub room : length text + new.room ≡ old.room
+
 -- reading stopped amid the head: behind the lines that were taken whole, of which this is the text, the head is still to come, and no further line was
--- taken whole
+-- taken whole. What is held gives no answer yet
 pub record IsAmid (old new : Reading) (before after : Option (List ℕ)) : Type 0 where
   pub text : List ℕ
   pub keeps : KeepsBytes (progress [] old) (progress text new) before after
   pub to_come : option_map (head_behind [] old) before ≡ option_map (head_behind text new) after
+  pub taken : HasTaken old new text before after
   pub none_whole : holds_line new.held ≡ false
+  pub undecided : IsUndecided new.room new.longest new.held
   pub same_size : new.longest ≡ old.longest
 
 -- more lines can be read: of at most 1,048,576 bytes, with numbers below 2^32

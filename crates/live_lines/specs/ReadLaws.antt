@@ -1,18 +1,18 @@
 -- Logical lines that are read one after the other, and what follows of it.
-use Rattle.std.proofs.Common.{◌≡◌, ◌⊎◌, inl, inr, ℕ, ◌+◌, ◌<◌, ◌≤◌, Bool, if◌then◌else◌, Option, Some, None, List, [], ◌∷◌, ◌++◌, length, option_map, is_some, IfSome, append-nil, append_assoc, length-append, refl, ap, sym, subst, ◌∙◌, arith}
+use Rattle.std.proofs.Common.{◌≡◌, inl, inr, ℕ, ◌+◌, Option, Some, None, List, [], ◌∷◌, ◌++◌, length, option_map, IfSome, append-nil, append_assoc, length-append, refl, ap, sym, subst, ◌∙◌, arith}
 use Rattle.std.specs.List.{concat}
 use Rattle.std.proofs.lemmas.Grind.{flat_map-append}
 use Rattle.cluster_io.proofs.Pieces.{Takes-then}
 use Rattle.cluster_types.specs.declared.cluster.Cluster.{Cluster}
 use Rattle.crm_lex.specs.RawLines.{raw_lines}
 use Rattle.live_lines.specs.Coming.{Coming, Lines}
-use Rattle.live_lines.specs.Followed.{AreNear, EndsInOne, HasEnded, HasFaltered, HasGiven, HasLast, HasPassed, HasRead, IsStoppedBy, ReadUntil, StandFirst, bytes_of, count_said, results_first, said_by}
+use Rattle.live_lines.specs.Followed.{AreNear, EndsInOne, HasLast, HasPassed, HasRead, IsStoppedBy, ReadUntil, StandFirst, bytes_of, count_said, results_first, said_by}
 use Rattle.live_lines.specs.declared.came.Came.{Came}
 use Rattle.live_lines.specs.declared.came.Came.TheVariants as came
 use Rattle.live_lines.specs.declared.line_stop.LineStop.{LineStop}
 use Rattle.op_history.specs.declared.results.ResultLine.{ResultLine}
 
-bytes_joined : (xs ys : List (List (List ℕ))) → bytes_of (xs ++ ys) ≡ bytes_of xs ++ bytes_of ys
+pub bytes_joined : (xs ys : List (List (List ℕ))) → bytes_of (xs ++ ys) ≡ bytes_of xs ++ bytes_of ys
 bytes_joined xs ys = flat_map-append concat xs ys
 
 count_first : (given : List ResultLine) (others : Coming) → count_said (results_first given others) ≡ length given + count_said others
@@ -22,7 +22,7 @@ results_joined : (given more : List ResultLine) (others : Coming) → results_fi
 results_joined given more others = ap (λ (rs : List ResultLine). record { results = rs; stop = others.stop }) (sym (append_assoc given more others.results))
 
 -- what stands behind some of the first lines
-lines_joined : {X : Type 0} (xs ys : List X) (f g : List ℕ → List X) (before after : Option (List ℕ)) → option_map f before ≡ option_map (λ left. ys ++ g left) after
+pub lines_joined : {X : Type 0} (xs ys : List X) (f g : List ℕ → List X) (before after : Option (List ℕ)) → option_map f before ≡ option_map (λ left. ys ++ g left) after
     → option_map (λ left. xs ++ f left) before ≡ option_map (λ left. (xs ++ ys) ++ g left) after
 lines_joined xs ys f g None None e = refl
 lines_joined xs ys f g None (Some v) e = cc
@@ -39,8 +39,8 @@ told_joined given more f g (Some u) (Some v) e = ap (option_map (results_first g
 
 module _ (c : Cluster) where
   pub read_nothing : (at : Lines) (left : Option (List ℕ)) → HasRead c at at left left [] [] []
-  read_nothing at None = record { taken = refl; parts = append-nil at.reading.held; cut = refl; answered = λ others. refl }
-  read_nothing at (Some left) = record { taken = refl; parts = append-nil at.reading.held; cut = refl; answered = λ others. refl }
+  read_nothing at None = record { taken = refl; parts = append-nil at.reading.held; cut = refl; answered = λ others. refl; room = omega arith; same_size = refl }
+  read_nothing at (Some left) = record { taken = refl; parts = append-nil at.reading.held; cut = refl; answered = λ others. refl; room = omega arith; same_size = refl }
 
   pub passed_nothing : (at : Lines) (left : Option (List ℕ)) → HasPassed c at at left left
   passed_nothing at left = record { lines = []; bytes = []; read = read_nothing at left; near = inl refl }
@@ -61,6 +61,13 @@ module _ (c : Cluster) where
       answered = λ others.
           ap (said_by c a) (append_assoc xs ys others)
           ∙ (r.answered (ys ++ others) ∙ (ap (results_first given) (q.answered others) ∙ results_joined given more (said_by c d others)));
+      room =
+          let first = r.room in
+          let second = q.room in
+          let lines = ap length (bytes_joined xs ys) in
+          let sum = length-append (bytes_of xs) (bytes_of ys) in
+          omega (arith, first, second, lines, sum);
+      same_size = q.same_size ∙ r.same_size;
     }
 
     pub near_then : (ys : List (List (List ℕ))) (later : List ℕ) → AreNear a xs bytes → AreNear b ys later → AreNear a (xs ++ ys) (bytes ++ later)
@@ -146,4 +153,5 @@ module _ (c : Cluster) where
     bytes = p.bytes ++ q.bytes;
     read = read_then a b x y p.lines [] p.bytes p.read d z q.lines [] q.bytes q.read;
     unfinished = q.unfinished;
+    undecided = q.undecided;
   }

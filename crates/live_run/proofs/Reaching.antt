@@ -5,6 +5,7 @@ use Rattle.std.proofs.Math.Seq.{take-length}
 use Rattle.std.proofs.lemmas.Grind.{flat_map-append}
 use Rattle.std.proofs.lemmas.List.{append_cancel_right, map-append}
 use Rattle.cluster_io.proofs.Pieces.{Adds-then as adds_then}
+use Rattle.cluster_io.specs.NextLine.{IsUndecided}
 use Rattle.cluster_io.specs.Readings.{Reading}
 use Rattle.cluster_io.specs.Streams.{Adds, AddsPrefix, Rose}
 use Rattle.cluster_io.specs.declared.line_step.LineStep.{LineStep}
@@ -24,7 +25,7 @@ use Rattle.cluster_types.specs.Texts.{run_line}
 use Rattle.crm_lex.specs.RawLines.{raw_lines}
 use Rattle.live_lines.specs.Coming.{Coming, coming, no_more}
 use Rattle.live_lines.specs.Courses.{Standing, answers_of, has_ended, in_course, rest_of, starting, stop_of, to_come, told_by, whole_of, why_stopped}
-use Rattle.live_lines.specs.Followed.{AreNear, EndsInOne, Follows, HasAnswered, HasBroken, HasFailed, HasStopped, RestsBehind, StandFirst, View, answers, by_line, by_source, last_line, results_first, said_by, stays}
+use Rattle.live_lines.specs.Followed.{AreNear, EndsInOne, Follows, HasAnswered, HasBroken, HasFailed, HasStopped, RestsBehind, StandFirst, View, answers, by_line, by_source, bytes_of, last_line, results_first, said_by, stays}
 use Rattle.live_lines.specs.Saying.{is_last}
 use Rattle.live_lines.specs.Writing.{Puts, refusal_text}
 use Rattle.cluster_io.specs.declared.sink.WriteFault.{WriteFault}
@@ -363,6 +364,11 @@ module _ (c : Cluster) (journal : Journal) (reading : Reading) where
             taken = h.read.taken;
             parts = h.read.parts;
             unfinished = h.unfinished;
+            undecided =
+                let room = h.read.room in
+                let left_room : t.lines.reading.room ≡ reading.room - length (bytes_of h.lines) = omega (arith, room) in
+                subst (λ (n : ℕ). IsUndecided n reading.longest t.lines.reading.held) left_room
+                (subst (λ (n : ℕ). IsUndecided t.lines.reading.room n t.lines.reading.held) h.read.same_size h.undecided);
             given = h.given;
             said = ap (said_by c start.lines) (sym (append-nil h.lines)) ∙ (h.read.answered []
                 ∙ ap (λ (rs : List ResultLine). record { results = rs; stop = None }) (append-nil h.given));
@@ -372,7 +378,17 @@ module _ (c : Cluster) (journal : Journal) (reading : Reading) where
             journal_now = j.events;
             run = subst (λ (x : Option (List ℕ)). IsRunSoFar c journal.promotions (is_none (results_behind c journal reading left).stop) journal.events
                 (Some (answers_of (results_behind c journal reading left))) w.lines j.events (rest_of (told_by t x))) (sym o) w.run;
-            none_silent = let said = w.said refl in record { answers = said.answers; journal_now = j.events; run = said.run };
+            none_silent =
+                let said = w.said refl in
+                let behind = answers_of (to_come t unread) in
+                let taken : answers_of (results_behind c journal reading left) ≡ said.answers ++ behind
+                = some_same (answers_of (results_behind c journal reading left)) (said.answers ++ behind)
+                (subst (λ (x : Option (List ℕ)). Some (answers_of (results_behind c journal reading left)) ≡ option_map (λ xs. said.answers ++ xs) (rest_of (told_by t x))) (sym o)
+                said.taken) in
+                let split : answers_of (results_behind c journal reading left) ≡ map answer_in h.given ++ behind
+                = ap (λ (x : Coming). answers_of x) all ∙ map-append answer_in h.given (to_come t unread).results in
+                subst (λ (xs : List Answer). IsRunSoFar c journal.promotions false journal.events (Some xs) w.lines j.events (Some []))
+                (append_cancel_right said.answers (map answer_in h.given) behind (sym taken ∙ split)) said.run;
             added = subst (λ (x : Option (List ℕ)). Adds old (run_text c w.lines) x) (sym same) w.told;
           }
 
@@ -559,6 +575,10 @@ module _ (c : Cluster) (journal : Journal) (reading : Reading) (s t : Standing) 
     (before after old middle new : Option (List ℕ)) (was is : Bool) (j : Journal) where
   abbrev pub from : replays.Setting
   from = setting c journal.promotions (whole_of (told_by s before)) true (Some d)
+
+  pub done_from : replays.IsWhole from journal.events (sight (rest_of (told_by s before)) was old) (sight (rest_of (told_by t after)) is new) j
+      → IfSome before (λ left. Reaches c journal reading left after old new end.Done)
+  done_from w = done_reached c journal reading before after old new t was is j (rw (fresh, names) at w)
 
   pub unexpected_from : (a : Answer) → replays.IsCutOffBy from journal.events (sight (rest_of (told_by s before)) was old) (sight (rest_of (told_by t after)) is middle) j a → Follows s t before after
       → (how : LiveEnd) → EndsCut (run_line d (line.Unexpected t.line)) how middle new → IfSome before (λ left. Reaches c journal reading left after old new how)

@@ -1,6 +1,6 @@
 -- What a run over result lines has read and written at its end, by what its source of bytes had left at the beginning (rule of this project).
-use Rattle.std.specs.Prelude.{◌≡◌, ◌⊎◌, ℕ, false, Option, Some, None, List, [], ◌∷◌, ◌++◌, is_none, map}
-use Rattle.cluster_io.specs.NextLine.{holds_line}
+use Rattle.std.specs.Prelude.{◌≡◌, ◌⊎◌, ℕ, ◌-◌, length, false, Option, Some, None, List, [], ◌∷◌, ◌++◌, is_none, map}
+use Rattle.cluster_io.specs.NextLine.{holds_line, IsUndecided}
 use Rattle.cluster_io.specs.Readings.{Reading}
 use Rattle.cluster_io.specs.Streams.{Adds, AddsPrefix, Takes}
 use Rattle.cluster_types.specs.declared.cluster.Cluster.{Cluster}
@@ -62,13 +62,8 @@ module _ (c : Cluster) (journal : Journal) (reading : Reading) (left : List ℕ)
       pub gets : Gets c journal results how text
       pub added : Adds old text new
 
-    -- these lines are those of a run each of whose answers was said: no action has ended silently
-    pub record WereSaid (printed : List RunLine) : Type 0 where
-      pub answers : List Answer
-      pub journal_now : List Event
-      pub run : IsRunSoFar c journal.promotions false journal.events (Some answers) printed journal_now (Some [])
-
-    -- the source failed, behind all lines that were taken whole: the lines of the run were written that took the answers of these and asks for one more
+    -- the source failed, behind all lines that were taken whole: the lines of the run were written that took the answers of these, each of them and no other,
+    -- and asks for one more. What is held behind them gives no answer yet
     pub record IsBrokenOff : Type 0 where
       pub lines : List (List (List ℕ))
       pub held : List ℕ
@@ -79,6 +74,7 @@ module _ (c : Cluster) (journal : Journal) (reading : Reading) (left : List ℕ)
       pub taken : Takes (Some left) bytes after
       pub parts : reading.held ++ bytes ≡ bytes_of lines ++ held
       pub unfinished : holds_line held ≡ false
+      pub undecided : IsUndecided (reading.room - length (bytes_of lines)) reading.longest held
       pub given : List ResultLine
       pub said : said_by c (first_of c journal reading) lines ≡ record { results = given; stop = None }
       pub behind : List ResultLine
@@ -87,7 +83,7 @@ module _ (c : Cluster) (journal : Journal) (reading : Reading) (left : List ℕ)
       pub journal_now : List Event
       pub run : IsRunSoFar c journal.promotions (is_none results.stop) journal.events (Some (answers_of results)) printed journal_now
           (Some (map (λ (r : ResultLine). r.answer) behind))
-      pub none_silent : WereSaid printed
+      pub none_silent : IsRunSoFar c journal.promotions false journal.events (Some (map (λ (r : ResultLine). r.answer) given)) printed journal_now (Some [])
       pub added : Adds old (run_text c printed) new
 
     -- what is written with one call, behind these lines: some lines of the run, which has taken these answers by then; or the last line of all

@@ -1,11 +1,13 @@
 -- What reading the head of an input came to, by what the reader of its lines says.
-use Rattle.std.proofs.Common.{◌≡◌, ℕ, ◌<◌, Option, Some, None, List, [], ◌++◌, length, Ok, Err, IfSome, refl, sym, ap, subst, ◌∙◌}
+use Rattle.std.proofs.Common.{◌≡◌, ℕ, ◌+◌, ◌-◌, ◌<◌, Option, Some, None, List, [], ◌++◌, length, Ok, Err, IfSome, refl, sym, ap, subst, ◌∙◌, arith}
 use Rattle.std.specs.Option.{option_map}
+use Rattle.cluster_io.specs.NextLine.{IsUndecided}
 use Rattle.cluster_io.specs.Readings.{Reading}
 use Rattle.crm_lex.specs.RawLines.{raw_lines}
 use Rattle.faults.specs.declared.fault.Fault.{Fault}
 use Rattle.faults.specs.declared.fault.Fault.TheVariants.{At}
 use Rattle.faults.specs.Reading.{UnlessMemory}
+use Rattle.live_lines.specs.Followed.{bytes_of, count_lines}
 use Rattle.live_lines.specs.Heads as heads
 use Rattle.live_lines.specs.Heads.{CanGoOn, IsStopOf, KeepsBytes, head_behind, progress, taken}
 use Rattle.live_lines.specs.declared.head.HeadStop.{HeadStop}
@@ -14,7 +16,7 @@ use Rattle.sim_core.specs.declared.beginning.HeadEnd.TheVariants as stop
 use Rattle.input_reading.specs.declared.cause.InputCause.{InputCause}
 use Rattle.input_reading.specs.declared.reading.Head.{Head}
 use Rattle.sim_core.specs.LiveSteps.{IsAmid, IsBehind, StopsBy, end_of, fresh}
-use Rattle.input_reading.specs.Reading.{start_of}
+use Rattle.input_reading.specs.Reading.{longest_line, most_bytes, start_of}
 use Rattle.sim_core.specs.Replay.{head_in, lacks_words, says_nothing}
 
 -- the head behind a reader that was just made is that of the input
@@ -52,23 +54,44 @@ amid : (old new : Reading) (input : List ℕ) (after : Option (List ℕ)) → ol
     → IsAmid input after
 amid old new input None e a = let none = a.keeps in absurd cc
 amid old new input (Some unread) e a = record {
-  whole = a.text;
+  lines = a.taken.lines;
   held = new.held;
   unread = unread;
-  next = new.next;
-  room = new.room;
   left_is = refl;
   parts =
       let all : Some input ≡ Some (a.text ++ (new.held ++ unread))
       = subst (λ (r : Reading). Some ([] ++ (r.held ++ input)) ≡ Some (a.text ++ (new.held ++ unread))) e a.keeps in
+      let whole : input ≡ a.text ++ (new.held ++ unread) = cc in
+      whole ∙ ap (λ (t : List ℕ). t ++ (new.held ++ unread)) a.taken.text_is;
+  cut =
+      let all : Some (raw_lines input) ≡ Some (a.taken.lines ++ raw_lines (new.held ++ unread))
+      = subst (λ (r : Reading). Some (raw_lines (r.held ++ input)) ≡ Some (a.taken.lines ++ raw_lines (new.held ++ unread))) e a.taken.cut in
       cc;
   to_come =
       let told : Some (head_behind [] old input) ≡ Some (head_behind a.text new unread) = a.to_come in
       let same : head_behind [] old input ≡ head_behind a.text new unread = cc in
-      let size : new.longest ≡ 1048576 = a.same_size ∙ ap (λ (r : Reading). r.longest) e in
-      same_head old input e ∙ (same ∙ ap (λ (n : ℕ). heads.head_of n a.text new.room new.next (raw_lines (new.held ++ unread))) size);
+      same_head old input e ∙ (same
+      ∙ (ap (λ (n : ℕ). heads.head_of n a.text new.room new.next (raw_lines (new.held ++ unread))) size
+      ∙ (ap (λ (n : ℕ). heads.head_of longest_line a.text n new.next (raw_lines (new.held ++ unread))) room
+      ∙ (ap (λ (n : ℕ). heads.head_of longest_line a.text (most_bytes - length (bytes_of a.taken.lines)) n (raw_lines (new.held ++ unread))) number
+      ∙ ap (λ (t : List ℕ). heads.head_of longest_line t (most_bytes - length (bytes_of a.taken.lines)) (1 + count_lines a.taken.lines) (raw_lines (new.held ++ unread)))
+      a.taken.text_is))));
   unfinished = a.none_whole;
+  undecided = subst (λ (n : ℕ). IsUndecided n longest_line new.held) room (subst (λ (n : ℕ). IsUndecided new.room n new.held) size a.undecided);
 }
+  where
+    size : new.longest ≡ longest_line
+    size = a.same_size ∙ ap (λ (r : Reading). r.longest) e
+
+    room : new.room ≡ most_bytes - length (bytes_of a.taken.lines)
+    room =
+        let text = ap length a.taken.text_is in
+        let left = a.taken.room in
+        let first : old.room ≡ most_bytes = ap (λ (r : Reading). r.room) e in
+        omega (arith, text, left, first)
+
+    number : new.next ≡ 1 + count_lines a.taken.lines
+    number = a.taken.number ∙ ap (λ (r : Reading). r.next + count_lines a.taken.lines) e
 
 pub stops : (old new : Reading) (before after : Option (List ℕ)) (found : HeadStop) → old ≡ fresh → IfSome before (λ left. IsStopOf (head_behind [] old left) found)
     → (found ≡ why.ReadFault → heads.IsAmid old new before after) → IfSome before (λ input. StopsBy input after (end_of found))

@@ -68,15 +68,15 @@ large_says before input left large = record { text = []; due = inl (record { is 
 
 pub amid_says : (before : Option (List ℕ)) (input : List ℕ) (left : Option (List ℕ)) → StopsBy input left stop.ReadFault → SaysLive input left before before ReadFault
 amid_says before input left a = amid_head (record {
-  whole = a.whole;
+  lines = a.lines;
   held = a.held;
   unread = a.unread;
-  next = a.next;
-  room = a.room;
   left_is = a.left_is;
   parts = a.parts;
+  cut = a.cut;
   to_come = a.to_come;
   unfinished = a.unfinished;
+  undecided = a.undecided;
   nothing_written = refl;
 })
 

@@ -1,12 +1,13 @@
 -- What an answer to the word `replay` says of its input, of what was read of it, and of what was written, while the one goes on with the other (rules of
 -- this project).
-use Rattle.std.specs.Prelude.{◌≡◌, ℕ, ◌<◌, false, Option, Some, List, [], ◌++◌, length, IfSome}
-use Rattle.cluster_io.specs.NextLine.{holds_line}
+use Rattle.std.specs.Prelude.{◌≡◌, ℕ, ◌+◌, ◌-◌, ◌<◌, false, Option, Some, List, [], ◌++◌, length, IfSome}
+use Rattle.cluster_io.specs.NextLine.{holds_line, IsUndecided}
 use Rattle.cluster_io.specs.Readings.{Reading}
 use Rattle.cluster_io.specs.Streams.{Adds, AddsPrefix}
 use Rattle.crm_lex.specs.RawLines.{raw_lines}
 use Rattle.cluster_types.specs.declared.cluster.Cluster.{Cluster}
 use Rattle.cluster_types.specs.declared.journal.Journal.{Journal}
+use Rattle.live_lines.specs.Followed.{bytes_of, count_lines}
 use Rattle.live_lines.specs.Heads as heads
 use Rattle.live_run.specs.Reached.{HasNoMemory, IsBrokenOff, IsCutOff}
 use Rattle.input_reading.specs.declared.cause.InputCause.{InputCause}
@@ -14,7 +15,7 @@ use Rattle.input_reading.specs.declared.reading.Head.{Head}
 use Rattle.sim_core.specs.declared.status.Status.{Status}
 use Rattle.sim_core.specs.declared.status.Status.TheVariants.{Done, NoMemory, Usage, ReadFault, WriteFault, Refused, Unexpected, TooLarge, NotLawful}
 use Rattle.input_reading.specs.Causes.{refusal_text}
-use Rattle.input_reading.specs.Reading.{longest_line}
+use Rattle.input_reading.specs.Reading.{longest_line, most_bytes}
 use Rattle.sim_core.specs.Replay.{IsBegun, IsHeadFault, IsReplayOutput, head_in}
 
 -- what the sink holds before and after
@@ -30,18 +31,19 @@ module _ (input : List ℕ) (left before after : Option (List ℕ)) where
     pub at_end : IfSome left (λ bytes. bytes ≡ [])
     pub written : HasWritten Done
 
-  -- the source failed amid the head: of the bytes that were taken these are whole lines, behind which the head is still to come, and the others have no whole
-  -- line. Nothing was written
+  -- the source failed amid the head: of the bytes that were taken these are whole lines, behind which the head is still to come, and the others hold no whole
+  -- line and give no answer yet. Nothing was written
   pub record IsAmidHead : Type 0 where
-    pub whole : List ℕ
+    pub lines : List (List (List ℕ))
     pub held : List ℕ
     pub unread : List ℕ
-    pub next : ℕ
-    pub room : ℕ
     pub left_is : left ≡ Some unread
-    pub parts : input ≡ whole ++ (held ++ unread)
-    pub to_come : head_in input ≡ heads.head_of longest_line whole room next (raw_lines (held ++ unread))
+    pub parts : input ≡ bytes_of lines ++ (held ++ unread)
+    pub cut : raw_lines input ≡ lines ++ raw_lines (held ++ unread)
+    pub to_come : head_in input
+        ≡ heads.head_of longest_line (bytes_of lines) (most_bytes - length (bytes_of lines)) (1 + count_lines lines) (raw_lines (held ++ unread))
     pub unfinished : holds_line held ≡ false
+    pub undecided : IsUndecided (most_bytes - length (bytes_of lines)) longest_line held
     pub nothing_written : after ≡ before
 
   -- the head was taken whole, and this became of the run that follows from it. The source had these bytes left behind the head, and fewer than 4,096 more

@@ -1,6 +1,8 @@
 use Rattle.std.proofs.Common.{arith}
-use Rattle.live_lines.proofs.HeadBringing.{end_brings, fault_brings, keeps, line_brings, line_can, line_keeps, line_within, long_number, next_stays, too_large_brings, too_long_brings, while_well}
-use Rattle.live_lines.proofs.Bringing.{fewer_left, next_is, number_is, numbers_fit, room_is}
+use Rattle.live_lines.proofs.HeadBringing.{line_brings, line_can, line_keeps, line_within, long_number, too_large_brings, too_long_brings, while_well}
+use Rattle.live_lines.proofs.Bringing.{fewer_left, number_is, numbers_fit, room_is}
+use Rattle.live_lines.proofs.HeadLines.{line_taken, still_taken}
+use Rattle.live_lines.proofs.Stepping.{undecided_now}
 use Rattle.live_lines.proofs.head.step.Goals as goal
 
 -- a line is handed out
@@ -46,3 +48,24 @@ returns-in-TooLong-clause-brings g c =
 
 pub returns-in-TooLarge-clause-brings : goal.returns-in-TooLarge-clause-brings
 returns-in-TooLarge-clause-brings g c = too_large_brings c.args.head.now.text.items _ _ _ _ (c.in-TooLarge.ensures.answered c.requires.can.going)
+
+-- which lines were taken
+
+pub returns-in-Line-clause-taken : goal.returns-in-Line-clause-taken
+returns-in-Line-clause-taken g c memory first given t =
+    rw (c.take_line.ensures.text memory) (line_taken first _ _ c.args.head.now.text.items given _ _ t (c.in-Line.ensures.answered c.requires.can.going))
+
+pub returns-in-End-clause-taken : goal.returns-in-End-clause-taken
+returns-in-End-clause-taken g c memory first given t = still_taken first _ _ _ given _ _ t _ (c.in-End.ensures.answered c.requires.can.going) (λ e. cc)
+
+pub returns-in-TooLong-clause-taken : goal.returns-in-TooLong-clause-taken
+returns-in-TooLong-clause-taken g c memory first given t = still_taken first _ _ _ given _ _ t _ (c.in-TooLong.ensures.answered c.requires.can.going) (λ e. cc)
+
+pub returns-in-TooLarge-clause-taken : goal.returns-in-TooLarge-clause-taken
+returns-in-TooLarge-clause-taken g c memory first given t = still_taken first _ _ _ given _ _ t _ (c.in-TooLarge.ensures.answered c.requires.can.going) (λ e. cc)
+
+pub returns-in-Failed-clause-taken : goal.returns-in-Failed-clause-taken
+returns-in-Failed-clause-taken g c memory first given t = still_taken first _ _ _ given _ _ t _ (c.in-Failed.ensures.answered c.requires.can.going) (λ e. cc)
+
+pub returns-in-Failed-clause-undecided : goal.returns-in-Failed-clause-undecided
+returns-in-Failed-clause-undecided g c is = undecided_now _ _ _ _ (c.in-Failed.ensures.answered c.requires.can.going)

@@ -2,8 +2,16 @@ use Rattle.std.proofs.Common.{ap, refl}
 use Rattle.live_lines.specs.Courses.{Standing, has_ended, is_reading}
 use Rattle.live_lines.specs.LineSources.{source_in, standing_of, view_of}
 use Rattle.live_lines.specs.LineWriters.{cluster_of, sink_of}
-use Rattle.live_run.proofs.Reaching.{between_from, cut_off_from, failed_from, failed_kind, most_from, unexpected_from}
+use Rattle.live_run.proofs.Reaching.{between_from, cut_off_from, done_from, failed_from, failed_kind, most_from, unexpected_from}
 use Rattle.live_run.proofs.running.run_to_end.Goals as goal
+
+pub returns-in-Ok-clause-reaches : goal.returns-in-Ok-clause-reaches
+returns-in-Ok-clause-reaches g c =
+    done_from c.args.cluster.now c.args.journal (standing_of c.args.outcomes.now).lines.reading (standing_of c.args.outcomes.now)
+    (standing_of c.replay_watched.new.outcomes) (cluster_of c.args.writer.now) c.requires.fresh c.requires.names (g.S.Source.left (source_in c.args.outcomes.now))
+    (g.S.Source.left (source_in c.replay_watched.new.outcomes)) (g.W.Sink.written (sink_of c.args.writer.now)) (g.W.Sink.written (sink_of c.replay_watched.new.watcher))
+    (g.W.Sink.written (sink_of c.replay_watched.new.watcher)) (has_ended (standing_of c.args.outcomes.now).course) (has_ended (standing_of c.replay_watched.new.outcomes).course)
+    c.in-Ok.field-0 c.in-Ok.ensures.run
 
 pub returns-in-Err-Unexpected-clause-reaches : goal.returns-in-Err-Unexpected-clause-reaches
 returns-in-Err-Unexpected-clause-reaches g c =
