@@ -1,0 +1,4 @@
+pub mod Agreeing
+pub mod Moments
+mod Hearing
+mod Firsts

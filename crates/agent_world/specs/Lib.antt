@@ -1,0 +1,4 @@
+pub mod Worlds
+pub mod WorldLaws
+pub mod Moments
+pub mod Firsts
