@@ -4,12 +4,12 @@ use Rattle.cluster_io.specs.Streams.{Rose}
 use Rattle.sim_core.specs.declared.status.Status.{Status}
 use Rattle.sim_core.specs.declared.status.Status.TheVariants.{Done, NoMemory, Usage, ReadFault, WriteFault, Refused, Unexpected, TooLarge, NotLawful}
 use Rattle.sim_core.specs.declared.words.Command.{Command}
-use Rattle.sim_core.specs.declared.words.Command.TheVariants.{Check, Scores, Graph, Survive, Audit, Replay, Gen, Help, Version}
+use Rattle.sim_core.specs.declared.words.Command.TheVariants.{Check, Scores, Graph, Survive, Audit, Replay, Gen, World, Help, Version}
 use Rattle.sim_core.specs.Answers.{Answers, HasRoom, IsComplete, IsDue, IsWritten, SaysBy, SaysOf, Taken, Written, told_input}
 use Rattle.sim_core.specs.Live.{SaysLive, HasWritten}
 use Rattle.input_reading.specs.Reading.{most_bytes}
 use Rattle.sim_core.specs.Replay.{IsReplayOutput}
-use Rattle.sim_core.specs.Table.{Intake, nothing, whole, live, intake, Gets}
+use Rattle.sim_core.specs.Table.{Intake, nothing, whole, intake, Gets}
 use Rattle.sim_core.proofs.OneAudit.{AreExcluded}
 use Rattle.sim_core.proofs.OneOutcome.{one_status}
 use Rattle.sim_core.proofs.OneReplay.{OneEnd}
@@ -71,6 +71,7 @@ module _ (input : List ℕ) (left before after : Option (List ℕ)) (status : St
   word_due Audit room says = whole_due Audit room says
   word_due Replay room says = live_due input left before after status says memory read write
   word_due (Gen number) room says = free_due (Gen number) says
+  word_due (World number) room says = whole_due (World number) room says
   word_due Help room says = free_due Help says
   word_due Version room says = free_due Version says
 

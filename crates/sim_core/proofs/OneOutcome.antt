@@ -5,7 +5,7 @@ use Rattle.input_reading.specs.declared.reading.Input.{Input}
 use Rattle.sim_core.specs.declared.status.Status.{Status}
 use Rattle.sim_core.specs.declared.status.Status.TheVariants.{Done, Refused}
 use Rattle.sim_core.specs.declared.words.Command.{Command}
-use Rattle.sim_core.specs.declared.words.Command.TheVariants.{Check, Scores, Graph, Survive, Audit, Replay, Gen, Help, Version}
+use Rattle.sim_core.specs.declared.words.Command.TheVariants.{Check, Scores, Graph, Survive, Audit, Replay, Gen, World, Help, Version}
 use Rattle.sim_core.specs.Check.{IsCheckText}
 use Rattle.sim_core.specs.Generated.{IsSummaryText}
 use Rattle.sim_core.specs.Graph.{IsGraphText}
@@ -13,6 +13,7 @@ use Rattle.sim_core.specs.Outputs.{IsOutput, IsRefusalText, IsTextOf}
 use Rattle.sim_core.specs.Scores.{IsScoresText}
 use Rattle.sim_core.specs.Survive.{IsSurviveText}
 use Rattle.sim_core.specs.Table.{Gets}
+use Rattle.sim_core.specs.World.{IsWorldOf}
 use Rattle.input_reading.proofs.OneReading.{not_both}
 use Rattle.sim_core.proofs.OneAudit.{AreExcluded, one_audit}
 use Rattle.sim_core.proofs.OneReplay.{OneEnd, one_replay}
@@ -41,5 +42,6 @@ module _ (one_end : OneEnd) (excluded : AreExcluded) where
   one_status Audit input text more status other a b = one_audit excluded input text more status other a b
   one_status Replay input text more status other a b = one_replay one_end input text more status other a b
   one_status (Gen number) input text more status other a b = one_output (IsSummaryText number) (case_text number) text more status other a b
+  one_status (World number) input text more status other a b = one_output (IsWorldOf number) input text more status other a b
   one_status Help input text more status other a b = a.0 ∙ sym b.0
   one_status Version input text more status other a b = a.0 ∙ sym b.0

@@ -6,6 +6,7 @@ pub mod Scores
 pub mod Graph
 pub mod Survive
 pub mod Generated
+pub mod World
 pub mod Replay
 pub mod Headline
 pub mod Live

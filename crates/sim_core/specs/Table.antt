@@ -4,7 +4,7 @@ use Rattle.case_gen.specs.Case.{case_text}
 use Rattle.sim_core.specs.declared.help.TheConstants.{HELP, VERSION}
 use Rattle.sim_core.specs.declared.status.Status.{Status}
 use Rattle.sim_core.specs.declared.words.Command.{Command}
-use Rattle.sim_core.specs.declared.words.Command.TheVariants.{Check, Scores, Graph, Survive, Audit, Replay, Gen, Help, Version}
+use Rattle.sim_core.specs.declared.words.Command.TheVariants.{Check, Scores, Graph, Survive, Audit, Replay, Gen, World, Help, Version}
 use Rattle.sim_core.specs.Audit.{IsAuditOutput}
 use Rattle.sim_core.specs.Check.{IsCheckText}
 use Rattle.sim_core.specs.Generated.{IsSummaryText}
@@ -14,6 +14,7 @@ use Rattle.sim_core.specs.OwnText.{IsOwnText}
 use Rattle.sim_core.specs.Replay.{IsReplayOutput}
 use Rattle.sim_core.specs.Scores.{IsScoresText}
 use Rattle.sim_core.specs.Survive.{IsSurviveText}
+use Rattle.sim_core.specs.World.{IsWorldOf}
 
 -- what a word reads: nothing, an input to its end before it writes, or line by line while it writes
 pub data Intake : Type 0 where
@@ -29,6 +30,7 @@ intake Survive = whole
 intake Audit = whole
 intake Replay = live
 intake (Gen number) = nothing
+intake (World number) = whole
 intake Help = nothing
 intake Version = nothing
 
@@ -41,6 +43,7 @@ takes_memory Survive = true
 takes_memory Audit = true
 takes_memory Replay = true
 takes_memory (Gen number) = true
+takes_memory (World number) = true
 takes_memory Help = false
 takes_memory Version = false
 
@@ -53,5 +56,6 @@ Gets Survive input status text = IsOutput IsSurviveText input status text
 Gets Audit input status text = IsAuditOutput input status text
 Gets Replay input status text = IsReplayOutput input status text
 Gets (Gen number) input status text = IsOutput (IsSummaryText number) (case_text number) status text
+Gets (World number) input status text = IsOutput (IsWorldOf number) input status text
 Gets Help input status text = IsOwnText HELP.now status text
 Gets Version input status text = IsOwnText VERSION.now status text

@@ -3,7 +3,7 @@ use Rattle.std.specs.Prelude.{ℕ, nat_lt, ◌==◌, ◌&&◌, if◌then◌else�
 use Rattle.std.specs.Str.{bytes_eq}
 use Rattle.digits.specs.Digits.{number_up_to}
 use Rattle.sim_core.specs.declared.words.Command.{Command}
-use Rattle.sim_core.specs.declared.words.Command.TheVariants.{Check, Scores, Graph, Survive, Audit, Replay, Gen, Help, Version}
+use Rattle.sim_core.specs.declared.words.Command.TheVariants.{Check, Scores, Graph, Survive, Audit, Replay, Gen, World, Help, Version}
 
 abbrev pub word_command : List ℕ → Option Command
 word_command word =
@@ -16,12 +16,14 @@ word_command word =
     else (if bytes_eq word (codes "--help") then Some Help
     else (if bytes_eq word (codes "--version") then Some Version else None)))))))
 
--- the number of a case: without a leading zero, and of 32 bits
+-- the number of a case or of a simulated cluster: without a leading zero, and of 32 bits
 abbrev pub case_number : List ℕ → Option ℕ
 case_number word = if nat_lt 1 (length word) && slice_index word 0 == 48 then None else number_up_to 4294967295 word
 
 abbrev pub two_words_command : List ℕ → List ℕ → Option Command
-two_words_command word other = if bytes_eq word (codes "gen") then option_map Gen (case_number other) else None
+two_words_command word other =
+    if bytes_eq word (codes "gen") then option_map Gen (case_number other)
+    else (if bytes_eq word (codes "world") then option_map World (case_number other) else None)
 
 -- what these words ask for, or none where they are no form
 abbrev pub command_of : List (List ℕ) → Option Command

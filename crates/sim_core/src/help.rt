@@ -30,12 +30,13 @@ Usage: cekpayo WORD < INPUT > OUTPUT
              case N, 0 to 4294967295: the node that is lost, and how many
              nodes, leaves, transitions, begun actions, successes and targets
              there are
+  world N    reads as check does, and writes a run in the simulated cluster N, 0
+             to 4294967295, whose nodes and agents do what is drawn by N; then
+             `real RESOURCE NODE started`, or `promoted`, for each resource that
+             really runs on a node at its end, and `ended complete`, or `ended
+             more` where another transition is due after 1000
   --help     reads nothing, and writes this text
   --version  reads nothing, and writes the name and version of the program
-
-Not built yet (status 2):
-
-  world N    reads as replay does, and writes a run in the simulated world N
 
 Exit status:
 

@@ -1,6 +1,7 @@
 //! The words of the command line, and the top call that carries them out.
 //!
-//! `check`, `scores`, `graph`, `survive` and `audit` read a whole input. `replay` reads its result lines while it writes the run, and `gen` reads nothing.
+//! `check`, `scores`, `graph`, `survive`, `audit` and `world` read a whole input. `replay` reads its result lines while it writes the run, and `gen` reads
+//! nothing.
 #![tactic(auto)]
 
 // The top call.
@@ -21,6 +22,7 @@ mod status;
 mod text_word;
 mod top;
 mod words;
+mod world;
 
 pub use help::{HELP, VERSION};
 pub use laws::{what_check_writes_is_read_again, what_replay_writes_is_one_safe_run};

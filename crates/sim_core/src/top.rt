@@ -19,6 +19,7 @@ use crate::scores::ScoresWord;
 use crate::status::Status;
 use crate::text_word::Reading;
 use crate::words::{Command, command_of};
+use crate::world::WorldWord;
 use cluster_io::{Sink, Source};
 use live_run::ends_are_one;
 use std::alloc::Global;
@@ -52,6 +53,7 @@ fn carry_out<S: Source, W: Sink>(alloc: Global, word: Command, src: &mut S, out:
         Command::Audit => with_input(alloc, &AuditWord, src, out),
         Command::Replay => replay(alloc, src, out),
         Command::Gen(number) => with_case(alloc, number, out),
+        Command::World(number) => with_input(alloc, &WorldWord(number), src, out),
         Command::Help => tell(out, HELP),
         Command::Version => tell(out, VERSION),
     }

@@ -15,6 +15,8 @@ pub enum Command {
     Replay,
     /// The run of the generated case of this number, in numbers.
     Gen(u32),
+    /// The run in the simulated cluster of this number.
+    World(u32),
     Help,
     Version,
 }
@@ -35,7 +37,7 @@ fn one_word(word: &str) -> Option<Command>
     }
 }
 
-/// The number of a case.
+/// The number of a case or of a simulated cluster.
 fn case_number(word: &str) -> Option<u32>
     ensures { result ≡ case_number word.now }
 {
@@ -52,6 +54,7 @@ fn two_words(word: &str, other: &str) -> Option<Command>
 {
     match word {
         "gen" => case_number(other).map(Command::Gen),
+        "world" => case_number(other).map(Command::World),
         _ => None,
     }
 }

@@ -20,3 +20,9 @@ returns-in-Graph-clause-status g c = rw c.in-Graph.is c.with_input-in-Graph.ensu
 
 pub returns-in-Audit-clause-status : goal.returns-in-Audit-clause-status
 returns-in-Audit-clause-status g c = rw c.in-Audit.is c.with_input-in-Audit.ensures.status
+
+pub returns-in-World-clause-answers : goal.returns-in-World-clause-answers
+returns-in-World-clause-answers g c = rw c.in-World.is c.with_input-in-World.ensures.says
+
+pub returns-in-World-clause-status : goal.returns-in-World-clause-status
+returns-in-World-clause-status g c = rw c.in-World.is c.with_input-in-World.ensures.status
