@@ -31,3 +31,5 @@ mod scores;
 mod table;
 #[cfg(test)]
 mod words;
+#[cfg(test)]
+mod worlds;

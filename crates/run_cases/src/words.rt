@@ -39,7 +39,7 @@ fn are_no_form(alloc: Global, words: &[&str]) -> Result<bool, Fail> {
 #[test]
 fn words_that_are_no_form(rt: HostRuntime) -> Result<(), Fail> {
     let alloc = rt.alloc();
-    let lists: [&[&str]; 13] = [
+    let lists: [&[&str]; 14] = [
         &[],
         &["Replay"],
         &["replay", "x"],
@@ -52,7 +52,8 @@ fn words_that_are_no_form(rt: HostRuntime) -> Result<(), Fail> {
         &["gen", "+7"],
         &["gen", "4294967296"],
         &["gen", "7", "8"],
-        &["world", "7"],
+        &["world"],
+        &["world", "07"],
     ];
     for words in lists {
         assert!(rt; are_no_form(alloc, words)?, "{words:?}");
