@@ -8,7 +8,7 @@ _cekpayo() {
     [[ ${COMP_WORDS[at]} == -* ]] || { word=${COMP_WORDS[at]}; break; }
   done
   case $word in
-    "") mapfile -t COMPREPLY < <(compgen -W "check scores graph survive replay audit gen explain --all -q --build --help --version" -- "$current") ;;
+    "") mapfile -t COMPREPLY < <(compgen -W "check scores graph survive replay audit world gen explain --all -q --build --help --version" -- "$current") ;;
     explain) mapfile -t COMPREPLY < <(compgen -W "$causes" -- "$current") ;;
     check | scores | graph | survive | replay)
       compopt -o filenames 2>/dev/null
@@ -18,7 +18,7 @@ _cekpayo() {
         mapfile -t COMPREPLY < <(compgen -f -- "$current")
       fi
       ;;
-    audit) compopt -o filenames 2>/dev/null; mapfile -t COMPREPLY < <(compgen -f -- "$current") ;;
+    audit | world) compopt -o filenames 2>/dev/null; mapfile -t COMPREPLY < <(compgen -f -- "$current") ;;
     *) COMPREPLY=() ;;
   esac
 }
