@@ -1,44 +1,40 @@
 -- What a run over result lines has read and written at each of its ends.
-use Rattle.std.proofs.Common.{◌≡◌, ◌≢◌, ◌⊎◌, ◌↔◌, inl, inr, ℕ, ◌+◌, ◌-◌, ◌<◌, ◌≤◌, nat_lt, Bool, true, false, if◌then◌else◌, Option, Some, None, Result, Ok, Err, List, [], ◌∷◌, ◌++◌, is_none, map, option_map, IfSome, length, length-append, take, append_assoc, append-nil, refl, ap, sym, subst, ◌∙◌, arith}
-use Rattle.std.specs.List.{concat, flat_map}
+use Rattle.std.proofs.Common.{◌≡◌, ◌≢◌, ◌⊎◌, ◌↔◌, inl, inr, ℕ, ◌+◌, ◌-◌, Bool, true, false, Option, Some, None, List, [], ◌∷◌, ◌++◌, is_none, map, option_map, IfSome, length, append_assoc, append-nil, refl, ap, sym, subst, ◌∙◌, arith}
 use Rattle.std.proofs.Math.Seq.{take-length}
 use Rattle.std.proofs.lemmas.Grind.{flat_map-append}
 use Rattle.std.proofs.lemmas.List.{append_cancel_right, map-append}
 use Rattle.cluster_io.proofs.Pieces.{Adds-then as adds_then}
 use Rattle.cluster_io.specs.NextLine.{IsUndecided}
 use Rattle.cluster_io.specs.Readings.{Reading}
-use Rattle.cluster_io.specs.Streams.{Adds, AddsPrefix, Rose}
-use Rattle.cluster_io.specs.declared.line_step.LineStep.{LineStep}
-use Rattle.cluster_io.specs.declared.line_step.LineStep.TheVariants as step
+use Rattle.cluster_io.specs.Streams.{Adds, AddsPrefix}
 use Rattle.cluster_types.specs.declared.cluster.Cluster.{Cluster}
 use Rattle.cluster_types.specs.declared.journal.Answer.{Answer}
 use Rattle.cluster_types.specs.declared.journal.Event.{Event}
 use Rattle.cluster_types.specs.declared.journal.Journal.{Journal}
-use Rattle.cluster_types.specs.declared.journal.Promotion.{Promotion}
 use Rattle.cluster_types.specs.declared.run.RunLine.{RunLine}
 use Rattle.cluster_types.specs.declared.run.RunLine.TheVariants as line
 use Rattle.cluster_types.specs.Journals.{moment_of}
-use Rattle.cluster_types.specs.Runs.{Standing as Place, due, RunsOn, plans, goes, completes, aborts, answers as answers_come, Runs, here, one_more, IsCutRun, IsRunSoFar, IsStoppedRun, IsWholeRun}
-use Rattle.cluster_types.specs.Sources.{Says, told, used_up, untold}
-use Rattle.cluster_types.specs.Steps.{Transition, StepsOn, begins, takes, is_silent}
+use Rattle.cluster_types.specs.Runs.{due, IsCutRun, IsRunSoFar, IsStoppedRun, IsWholeRun}
+use Rattle.cluster_types.specs.Sources.{told}
+use Rattle.cluster_types.specs.Steps.{begins}
 use Rattle.cluster_types.specs.Texts.{run_line}
 use Rattle.crm_lex.specs.RawLines.{raw_lines}
 use Rattle.live_lines.specs.Coming.{Coming, coming, no_more}
-use Rattle.live_lines.specs.Courses.{Standing, answers_of, has_ended, in_course, rest_of, starting, stop_of, to_come, told_by, whole_of, why_stopped}
+use Rattle.live_lines.specs.Courses.{Standing, answers_of, in_course, rest_of, starting, stop_of, to_come, told_by, whole_of, why_stopped}
 use Rattle.live_lines.specs.Followed.{AreNear, EndsInOne, Follows, HasAnswered, HasBroken, HasFailed, HasStopped, RestsBehind, StandFirst, View, answers, by_line, by_source, bytes_of, last_line, results_first, said_by, stays}
 use Rattle.live_lines.specs.Saying.{is_last}
-use Rattle.live_lines.specs.Writing.{Puts, refusal_text}
+use Rattle.live_lines.specs.Writing.{refusal_text}
 use Rattle.cluster_io.specs.declared.sink.WriteFault.{WriteFault}
 use Rattle.live_lines.proofs.Written.{prefix_first, prefix_then}
 use Rattle.live_lines.specs.declared.course.Course.{Course}
 use Rattle.live_lines.specs.declared.course.Course.TheVariants as course
-use Rattle.live_lines.specs.declared.line_stop.LineCause.{LineCause}
 use Rattle.live_lines.specs.declared.line_stop.LineStop.{LineStop}
 use Rattle.live_lines.specs.declared.line_stop.LineStop.TheVariants as why
 use Rattle.live_run.specs.Ends.{AsksForMore, Gets, IsCut, IsDue, IsWhole, run_text}
-use Rattle.live_run.specs.Reached.{AskedFor, AskedForAll, EndsCut, EndsLines, HasNoMemory, HasWritten, IsBrokenOff, IsCutOff, Reaches, of_cut, of_refusal, of_run, results_behind}
+use Rattle.live_run.specs.Reached.{AskedFor, AskedForAll, EndsCut, EndsLines, IsBrokenOff, Reaches, of_cut, of_refusal, of_run, results_behind}
 use Rattle.live_run.specs.declared.live_end.LiveEnd.{LiveEnd}
 use Rattle.live_run.specs.declared.live_end.LiveEnd.TheVariants as end
+use Rattle.live_run.proofs.Behind.{answer_in, runs_back, says_next, last_one, line_of_last, some_same, answers_size}
 use Rattle.live_run.proofs.Dues.{begins_due, one_end}
 use Rattle.op_history.specs.declared.results.ResultLine.{ResultLine}
 use Rattle.replan.specs.Replays.{IsBetweenTwo, IsStopped, setting, sight}
@@ -50,102 +46,12 @@ use Rattle.live_lines.proofs.Few.{few_results}
 use Rattle.run_laws.proofs.Silent.{not_over}
 use Rattle.run_laws.proofs.SoFar.{runs_more}
 
-abbrev answer_in : ResultLine → Answer
-answer_in r = r.answer
-
--- what is left of the answers to come is how they end
-record IsBack (xs : List Answer) (left : Option (List Answer)) : Type 0 where
-  pub taken : List Answer
-  pub back : List Answer
-  pub is : left ≡ Some back
-  pub joined : xs ≡ taken ++ back
-
-all_back : (rest : Option (List Answer)) (xs : List Answer) → rest ≡ Some xs → IsBack xs rest
-all_back rest xs e = record { taken = []; back = xs; is = e; joined = refl }
-
-says_back : (whole : Bool) (rest left : Option (List Answer)) (said : Option Answer) (xs : List Answer) → Says whole rest said left → rest ≡ Some xs → IsBack xs left
-says_back whole _ _ _ xs (told given rest) e = record { taken = given ∷ []; back = rest; is = refl; joined = cc }
-says_back whole _ _ _ xs (used_up h) e = record { taken = []; back = []; is = refl; joined = cc }
-says_back whole _ _ _ xs (untold said) e = cc
-
-module _ (c : Cluster) (promotions : List Promotion) (whole : Bool) where
-  step_back : (t : Transition) (since events : List Event) (rest left : Option (List Answer)) (xs : List Answer) → StepsOn t whole since rest events left → rest ≡ Some xs → IsBack xs left
-  step_back t since _ rest _ xs (begins _ k a begin) e = all_back rest xs e
-  step_back t since _ rest left xs (takes _ _ given said taken) e = says_back whole rest left (Some given) xs said e
-  step_back t since _ rest left xs (is_silent _ _ k a said ends) e = says_back whole rest left None xs said e
-
-  one_back : (at next : Place) (rest left : Option (List Answer)) (lines : List RunLine) (xs : List Answer) → RunsOn c promotions whole at rest lines next left → rest ≡ Some xs → IsBack xs left
-  one_back _ _ rest _ _ xs (plans k es _ placed actions plan) e = all_back rest xs e
-  one_back _ _ rest left _ xs (goes k t since events _ _ step) e = step_back t since events rest left xs step e
-  one_back _ _ rest _ _ xs (completes k t since _ ended unaborted) e = all_back rest xs e
-  one_back _ _ rest _ _ xs (aborts k t since _ ended aborted) e = all_back rest xs e
-  one_back _ _ rest left _ xs (answers_come k es _ _ given said applies) e = says_back whole rest left (Some given) xs said e
-
-  runs_back : (at later : Place) (rest left : Option (List Answer)) (lines : List RunLine) (xs : List Answer) → Runs c promotions whole at rest lines later left → rest ≡ Some xs → IsBack xs left
-  runs_back at _ rest _ _ xs (here _ _) e = all_back rest xs e
-  runs_back at later rest left _ xs (one_more _ next _ _ middle _ lines more step runs) e =
-      let first = one_back at next rest middle lines xs step e in
-      let later_on = runs_back next later middle left more first.back runs first.is in
-      record {
-        taken = first.taken ++ later_on.taken;
-        back = later_on.back;
-        is = later_on.is;
-        joined = first.joined ∙ (ap (λ (t : List Answer). first.taken ++ t) later_on.joined ∙ sym (append_assoc first.taken later_on.taken later_on.back));
-      }
-
--- an answer is said, and is the first of those to come
-record SaysNext (given : Answer) (rest left : Option (List Answer)) : Type 0 where
-  pub back : List Answer
-  pub is : left ≡ Some back
-  pub front : rest ≡ Some (given ∷ back)
-
-says_next : (whole : Bool) (rest left : Option (List Answer)) (given : Answer) (xs : List Answer) → Says whole rest (Some given) left → rest ≡ Some xs → SaysNext given rest left
-says_next whole rest left given xs said e = by rest left (Some given) refl said e
-  where
-    by : (r l : Option (List Answer)) (s : Option Answer) → s ≡ Some given → Says whole r s l → r ≡ Some xs → SaysNext given r l
-    by _ _ _ f (told other rest) e = record { back = rest; is = refl; front = cc }
-    by _ _ _ f (used_up h) e = cc
-    by _ _ _ f (untold s) e = cc
-
--- the last of some answers
-record HasLastOne (xs : List ResultLine) (front : List Answer) (given : Answer) : Type 0 where
-  pub before : List ResultLine
-  pub last : ResultLine
-  pub joined : xs ≡ before ++ last ∷ []
-  pub is : last.answer ≡ given
-
-last_one : (xs : List ResultLine) (front : List Answer) (given : Answer) → map answer_in xs ≡ front ++ given ∷ [] → HasLastOne xs front given
-last_one [] [] given e = cc
-last_one [] (a ∷ front) given e = cc
-last_one (x ∷ []) [] given e = record { before = []; last = x; joined = refl; is = cc }
-last_one (x ∷ []) (a ∷ front) given e = let tail : [] ≡ front ++ given ∷ [] = cc in none front given tail
-  where
-    none : (ys : List Answer) (z : Answer) → [] ≡ ys ++ z ∷ [] → HasLastOne (x ∷ []) (a ∷ front) given
-    none [] z f = cc
-    none (y ∷ ys) z f = cc
-last_one (x ∷ y ∷ xs) [] given e = cc
-last_one (x ∷ y ∷ xs) (a ∷ front) given e =
-    let tail : map answer_in (y ∷ xs) ≡ front ++ given ∷ [] = cc in
-    let more = last_one (y ∷ xs) front given tail in
-    record { before = x ∷ more.before; last = more.last; joined = ap (λ (t : List ResultLine). x ∷ t) more.joined; is = more.is }
-
-line_of_last : (line : ℕ) (xs : List ResultLine) (r : ResultLine) → last_line line (xs ++ r ∷ []) ≡ r.line
-line_of_last line [] r = refl
-line_of_last line (x ∷ xs) r = line_of_last x.line xs r
-
-some_same : {X : Type 0} (x y : X) → Some x ≡ Some y → x ≡ y
-some_same x y e = cc
-
 -- all of a text is a front of it
 whole_prefix : (text : List ℕ) (old new : Option (List ℕ)) → Adds old text new → AddsPrefix text old new
 whole_prefix text old new a = record { count = length text; within = omega arith; added = subst (λ (t : List ℕ). Adds old t new) (sym (take-length text)) a }
 
 front_prefix : (xs text : List ℕ) (old new : Option (List ℕ)) → IsFront xs text → AddsPrefix xs old new → AddsPrefix text old new
 front_prefix xs text old new f p = subst (λ (t : List ℕ). AddsPrefix t old new) (sym f.joined) (prefix_first xs f.more old new p)
-
-answers_size : (xs : List ResultLine) → length (map answer_in xs) ≡ length xs
-answers_size [] = refl
-answers_size (x ∷ xs) = let n = answers_size xs in omega (arith, n)
 
 module _ (c : Cluster) (journal : Journal) (reading : Reading) where
   abbrev start : Standing
