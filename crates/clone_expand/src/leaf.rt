@@ -48,7 +48,7 @@ fn leaf_of(
     let meta = surroundings.meta_around(&group, &clone, pairs);
     let stop_fail = after_a_stop(surroundings.fencing);
     Ok(Leaf {
-        name: Name::from_bytes(alloc, id.bytes()).map_err(|_| NoMemory)?,
+        name: Name::from_bytes(alloc, id.bytes())?,
         copies: clone.copies,
         promoted_copies: clone.promoted_copies,
         cloned,
@@ -82,7 +82,7 @@ fn add_leaf(
         return Ok(());
     };
     let leaf = leaf_of(alloc, surroundings, id, meta.as_slice(), ops.as_slice())?;
-    leaves.push(leaf).map_err(|_| NoMemory)
+    Ok(leaves.push(leaf)?)
 }
 
 fn leaves_in(

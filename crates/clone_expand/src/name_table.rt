@@ -46,8 +46,8 @@ impl<V: Copy> NameTable<V> {
         if self.get(name).is_some() {
             return Ok(());
         }
-        let name = Name::from_bytes(alloc, name.bytes()).map_err(|_| NoMemory)?;
-        self.rows.insert(name, value).map_err(|_| NoMemory)?;
+        let name = Name::from_bytes(alloc, name.bytes())?;
+        self.rows.insert(name, value)?;
         Ok(())
     }
 }

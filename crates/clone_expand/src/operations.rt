@@ -137,9 +137,7 @@ fn add_monitor(monitors: &mut Listed<Monitor>, op: &Operation) -> Result<(), NoM
     ensures { OnOk result (monitors.new ≡ monitors.old ++ monitor_in op.now) }
 {
     if recurs(op) {
-        monitors
-            .push(monitor_of(op.pairs.as_slice()))
-            .map_err(|_| NoMemory)?;
+        monitors.push(monitor_of(op.pairs.as_slice()))?;
     }
     Ok(())
 }

@@ -116,13 +116,13 @@ fn add_span(
         _ => return Ok(()),
     };
     let ends = ends_named(numbers, groups, whole);
-    let name = Name::from_bytes(alloc, id.bytes()).map_err(|_| NoMemory)?;
+    let name = Name::from_bytes(alloc, id.bytes())?;
     let span = Span {
         name,
         first: ends.first,
         last: ends.last,
     };
-    spans.push(span).map_err(|_| NoMemory)
+    Ok(spans.push(span)?)
 }
 
 fn spans_in(

@@ -90,7 +90,7 @@ fn add_group(
     let mut before = first;
     for member in others {
         let colocation = member_colocation(alloc, directory, id, before, member)?;
-        colocations.push(colocation).map_err(|_| NoMemory)?;
+        colocations.push(colocation)?;
         before = member;
     }
     Ok(())
@@ -116,7 +116,7 @@ fn add_colocations(
             let role = role_of_word(primary.role);
             let primary = primary_at(directory, &primary.resource, role);
             let colocation = colocation_of(alloc, id, *score, dependent, primary)?;
-            colocations.push(colocation).map_err(|_| NoMemory)
+            Ok(colocations.push(colocation)?)
         }
         Form::Group { id, members, .. } => {
             add_group(alloc, directory, colocations, id, members.as_slice())

@@ -11,14 +11,14 @@ use std::alloc::Global;
 pub fn copy_name(alloc: Global, name: &Name) -> Result<Name, NoMemory>
     ensures { IfOk result (λ copy. copy ≡ name.now) }
 {
-    Name::from_bytes(alloc, name.bytes()).map_err(|_| NoMemory)
+    Ok(Name::from_bytes(alloc, name.bytes())?)
 }
 
 /// The same bytes as a text.
 pub fn copy_text(alloc: Global, bytes: &[u8]) -> Result<Text, NoMemory>
     ensures { IfOk result (λ copy. copy ≡ bytes.now) }
 {
-    Text::from_bytes(alloc, bytes).map_err(|_| NoMemory)
+    Ok(Text::from_bytes(alloc, bytes)?)
 }
 
 fn copy_test(alloc: Global, test: &Test) -> Result<Test, NoMemory>
@@ -57,7 +57,7 @@ fn copy_tests(alloc: Global, tests: &[Test]) -> Result<Listed<Test>, NoMemory>
 {
     let mut copies = Listed::new(alloc);
     for test in tests {
-        copies.push(copy_test(alloc, test)?).map_err(|_| NoMemory)?;
+        copies.push(copy_test(alloc, test)?)?;
     }
     Ok(copies)
 }
@@ -108,7 +108,7 @@ pub fn copy_leaves(alloc: Global, leaves: &[Leaf]) -> Result<Listed<Leaf>, NoMem
 {
     let mut copies = Listed::new(alloc);
     for leaf in leaves {
-        copies.push(copy_leaf(alloc, leaf)?).map_err(|_| NoMemory)?;
+        copies.push(copy_leaf(alloc, leaf)?)?;
     }
     Ok(copies)
 }

@@ -127,7 +127,7 @@ fn all_traits(
 {
     let mut all = Listed::new(alloc);
     for leaf in leaves {
-        all.push(traits_of(groups, leaf)).map_err(|_| NoMemory)?;
+        all.push(traits_of(groups, leaf))?;
     }
     Ok(all)
 }

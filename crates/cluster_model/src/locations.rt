@@ -54,7 +54,7 @@ fn add_location(
         score: *score,
         node: directory.node_named(node),
     };
-    locations.push(location).map_err(|_| NoMemory)
+    Ok(locations.push(location)?)
 }
 
 /// The locations, in the order of the text.
@@ -104,7 +104,7 @@ fn add_rules(
 {
     for rule in rules {
         let location = rule_location_of(alloc, directory, id, resource, written, rule)?;
-        locations.push(location).map_err(|_| NoMemory)?;
+        locations.push(location)?;
     }
     Ok(())
 }

@@ -26,9 +26,7 @@ fn attributes_of(alloc: Global, pairs: &[Kv]) -> Result<Listed<Pair>, NoMemory>
 {
     let mut attributes = Listed::new(alloc);
     for pair in pairs {
-        attributes
-            .push(attribute_of(alloc, pair)?)
-            .map_err(|_| NoMemory)?;
+        attributes.push(attribute_of(alloc, pair)?)?;
     }
     Ok(attributes)
 }
@@ -61,7 +59,7 @@ fn add_node(alloc: Global, nodes: &mut Listed<Node>, form: &Form) -> Result<(), 
         return Ok(());
     };
     let node = node_of(alloc, name, attributes.as_slice())?;
-    nodes.push(node).map_err(|_| NoMemory)
+    Ok(nodes.push(node)?)
 }
 
 /// The nodes, in the order of the text.

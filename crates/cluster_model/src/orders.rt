@@ -150,7 +150,7 @@ fn add_steps(
     let mut before = first;
     for step in others {
         let order = step_order(alloc, directory, id, kind, symmetrical, before, step)?;
-        orders.push(order).map_err(|_| NoMemory)?;
+        orders.push(order)?;
         before = step;
     }
     Ok(())
@@ -171,7 +171,7 @@ fn add_group(
     let mut before = first;
     for member in others {
         let order = member_order(alloc, directory, id, before, member)?;
-        orders.push(order).map_err(|_| NoMemory)?;
+        orders.push(order)?;
         before = member;
     }
     Ok(())

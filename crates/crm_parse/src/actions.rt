@@ -111,8 +111,7 @@ fn with_actions(
     for step in steps {
         action = action_after(promotable, action, step);
         let resource = Name::from_bytes(alloc, step.resource.bytes())?;
-        done.push(OrderStep { resource, action })
-            .map_err(|_| NoMemory)?;
+        done.push(OrderStep { resource, action })?;
     }
     Ok(done)
 }

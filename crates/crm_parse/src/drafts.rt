@@ -58,7 +58,7 @@ impl Drafts {
             mut keys,
         } = self;
         keys.add(alloc, &statement)?;
-        statements.push(statement).map_err(|_| NoMemory)?;
+        statements.push(statement)?;
         Ok(Drafts { statements, keys })
     }
 

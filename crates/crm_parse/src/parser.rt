@@ -64,7 +64,7 @@ fn statements(
     let mut statements = Listed::new(alloc);
     for draft in drafts {
         let statement = statement_of(alloc, promotable, draft)?;
-        statements.push(statement).map_err(|_| NoMemory)?;
+        statements.push(statement)?;
     }
     Ok(statements)
 }

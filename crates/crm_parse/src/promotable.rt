@@ -55,9 +55,7 @@ impl Promotable {
             mut known,
         } = self;
         known.add(alloc, name)?;
-        names
-            .push(Name::from_bytes(alloc, name.bytes())?)
-            .map_err(|_| NoMemory)?;
+        names.push(Name::from_bytes(alloc, name.bytes())?)?;
         Ok(Promotable { names, known })
     }
 }

@@ -38,7 +38,7 @@ fn is_plain(word: &[u8]) -> bool
 pub(crate) fn push_byte(text: &mut Vec<u8>, byte: u8) -> Result<(), NoMemory>
     ensures { OnOk result (text.new.items ≡ text.old.items ++ byte ∷ []) }
 {
-    text.push(byte).map_err(|_| NoMemory)
+    Ok(text.push(byte)?)
 }
 
 fn push_escaped(text: &mut Vec<u8>, byte: u8) -> Result<(), NoMemory>

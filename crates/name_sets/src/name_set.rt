@@ -44,7 +44,7 @@ impl NameSet {
         ensures err { OnErr result (self.new ≡ self.old) }
     {
         let name = Name::from_bytes(alloc, name.bytes())?;
-        self.names.insert(name).map_err(|_| NoMemory)?;
+        self.names.insert(name)?;
         Ok(())
     }
 }

@@ -164,7 +164,7 @@ fn promotions_of(alloc: Global, told: &[Told]) -> Result<Listed<Promotion>, NoMe
         let Told::Promoting(promotion) = *line else {
             continue;
         };
-        promotions.push(promotion).map_err(|_| NoMemory)?;
+        promotions.push(promotion)?;
     }
     Ok(promotions)
 }

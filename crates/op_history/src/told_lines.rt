@@ -56,7 +56,7 @@ impl ToldLines {
             mut keys,
         } = self;
         keys.add(&line)?;
-        lines.push(line).map_err(|_| NoMemory)?;
+        lines.push(line)?;
         Ok(ToldLines { lines, keys })
     }
 
