@@ -1,0 +1,5 @@
+pub mod FirstEvents
+pub mod OneLife
+pub mod Together
+pub mod Transitions
+pub mod OneEnd
