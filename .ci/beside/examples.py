@@ -1,6 +1,7 @@
 """Tries what the examples answer: as is kept of a reference program apart from this one, and as examples/README.md shows."""
 import os
 import re
+import shlex
 import textwrap
 
 from .expecting import TOP, expect, kept, own, tool
@@ -9,6 +10,7 @@ EXAMPLES = os.path.join(TOP, "examples")
 WORDS = ("scores", "graph", "survive", "replay")
 SHOWN = re.compile(r"^ +\$ (?:cat |\./cekpayo scores )(examples/\S+) \|(?: \./cekpayo scores \|)? tools/summary\n((?:    .*\n)+)", re.M)
 RUN = re.compile(r"^ +\$ cat (examples/\S+) \| \./cekpayo replay\n((?:    .*\n)+)", re.M)
+WALK = re.compile(r"^ +\$ \{ cat (examples/\S+); printf '%s\\n' (.*); \} \| \./cekpayo replay\n((?:    .*\n)+)", re.M)
 
 
 def read(path):
@@ -62,6 +64,12 @@ def try_page():
     for path, lines in sum(runs, []):
         output = own(parts_of(path), "replay")[1].decode()
         expect(f"the run that is shown of {path}", textwrap.dedent(lines) == output, output)
+    walks = WALK.findall(pages[1])
+    expect("the runs to walk through", len(walks) >= 2)
+    for path, results, lines in walks:
+        text = read(path) + "".join(line + "\n" for line in shlex.split(results)).encode()
+        output = own(text, "replay")[1].decode()
+        expect(f"the run of {path} with {results}", textwrap.dedent(lines) == output, output)
 
 
 def try_examples():
