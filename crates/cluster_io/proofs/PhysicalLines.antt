@@ -63,7 +63,7 @@ after_one : (lines : List (List ℕ)) → continues_after true lines ≡ true
 after_one [] = refl
 after_one (line ∷ lines) = refl
 
-first_of-onto_group : (line : List ℕ) (groups : List (List (List ℕ))) → first_of (onto_group line groups) ≡ line ∷ first_of groups
+pub first_of-onto_group : (line : List ℕ) (groups : List (List (List ℕ))) → first_of (onto_group line groups) ≡ line ∷ first_of groups
 first_of-onto_group line [] = refl
 first_of-onto_group line (group ∷ groups) = refl
 

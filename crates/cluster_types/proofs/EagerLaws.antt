@@ -4,6 +4,7 @@ use Rattle.std.specs.Prelude.{Option, Some, None, count_by, cond, map, find}
 use Rattle.std.specs.List.{list_all, list_any}
 use Rattle.std.specs.Option.{option_map_or}
 use Rattle.std.proofs.lemmas.List.Folds.{list_any-append}
+use Rattle.std.proofs.Math.Bool.{and-false, or-true}
 use Rattle.lemmas.proofs.Booleans.{sooner, later, one_of}
 use Rattle.lemmas.proofs.Counts.{count-append, count-none}
 use Rattle.cluster_types.specs.declared.journal.Action.{Action}
@@ -23,19 +24,11 @@ use Rattle.cluster_types.proofs.StepLaws.{split, map_all, joined_all, not_begun,
 
 not_all : (p : Event → Bool) (xs : List Event) (e : Event) → p e ≡ false → list_all p (xs ++ e ∷ []) ≡ false
 not_all p [] e h = rw h refl
-not_all p (x ∷ xs) e h = rw (not_all p xs e h) (and_false (p x))
-  where
-    and_false : (b : Bool) → b && false ≡ false
-    and_false true = refl
-    and_false false = refl
+not_all p (x ∷ xs) e h = rw (not_all p xs e h) (and-false (p x))
 
 kept_whole : (xs : List Event) (e : Event) → is_gone e ≡ false → without_gone (xs ++ e ∷ []) ≡ xs ++ e ∷ []
 kept_whole [] e h = rw h refl
 kept_whole (x ∷ xs) e h = rw (not_all is_gone (x ∷ xs) e h) (let rest = kept_whole xs e h in cc)
-
-rest_false : (a b : Bool) → a ≡ true → a && b ≡ false → b ≡ false
-rest_false true b h g = g
-rest_false false b h g = cc
 
 first_false : (a b c : Bool) → a && b ≡ false → (b ≡ false → c ≡ false) → a && c ≡ false
 first_false true b c h f = f h
@@ -108,7 +101,8 @@ pub record Keeps (t : Transition) (since : List Event) : Type 0 where
   pub once : (k : ℕ) → count_by (begins_number k) since ≤ 1
   pub gone_aborts : list_any is_gone since ≡ true → has_aborted t since ≡ true
 
-at_only : (R : Type 0) (x e : Event) (front after : List Event) → x ∷ [] ≡ front ++ e ∷ after → (front ≡ [] → x ≡ e → R) → R
+-- of one event there is no other
+pub at_only : (R : Type 0) (x e : Event) (front after : List Event) → x ∷ [] ≡ front ++ e ∷ after → (front ≡ [] → x ≡ e → R) → R
 at_only R x e [] after q f = f refl cc
 at_only R x e (b ∷ bs) after q f = let tail : [] ≡ bs ++ e ∷ after = cc in never bs tail
   where
@@ -187,11 +181,7 @@ loss-aborts c _ h = cc
 
 last-aborts : (c : Cluster) (xs : List Event) (e : Event) → aborts c e ≡ true → list_any (aborts c) (xs ++ e ∷ []) ≡ true
 last-aborts c [] e h = rw h refl
-last-aborts c (x ∷ xs) e h = rw (last-aborts c xs e h) (or_true (aborts c x))
-  where
-    or_true : (b : Bool) → b || true ≡ true
-    or_true true = refl
-    or_true false = refl
+last-aborts c (x ∷ xs) e h = rw (last-aborts c xs e h) (or-true (aborts c x))
 
 gone-aborts : (c : Cluster) (gone : List Event) (e : Event) → is_gone e ≡ false → (list_any is_gone gone ≡ true → is_lost e ≡ true)
     → list_any is_gone (gone ++ e ∷ []) ≡ true → list_any (aborts c) (gone ++ e ∷ []) ≡ true

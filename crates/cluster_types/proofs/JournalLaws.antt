@@ -9,13 +9,11 @@ use Rattle.cluster_types.specs.declared.journal.Action.TheVariants.{Probe, Cell}
 use Rattle.cluster_types.specs.declared.journal.Event.{Event}
 use Rattle.cluster_types.specs.declared.journal.Event.TheVariants.{Up, Down, Lost, Quorum, Wait, Cleanup, Begin, Ended}
 use Rattle.cluster_types.proofs.Booleans.{clash}
+use Rattle.cluster_types.proofs.StepLaws.{begins_nothing}
 use Rattle.cluster_types.specs.Journals.{NodeWord, online, offline, unclean, unsaid, NodeSign, joined, in_flight, sign_of, last_sign, wants_node, Orderly, is_reported, leaving, first_events}
 
-abbrev begins_nothing : Event → Bool
-begins_nothing (Begin k a) = false
-begins_nothing _ = true
-
-nothing_begun : (es : List Event) → list_all begins_nothing es ≡ true → in_flight es ≡ []
+-- events that begin nothing leave nothing in flight
+pub nothing_begun : (es : List Event) → list_all begins_nothing es ≡ true → in_flight es ≡ []
 nothing_begun [] h = refl
 nothing_begun (Begin k a ∷ es) h = cc
 nothing_begun (Up n ∷ es) h = nothing_begun es h

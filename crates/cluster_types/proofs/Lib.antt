@@ -33,6 +33,10 @@ pub mod Loads
 pub mod Moments
 pub mod SilentEnds
 pub mod GateGroups
+pub mod OpLaws
+pub mod RuleLeaves
+pub mod GoneLines
+pub mod LastSigns
 pub mod SourceLaws
 pub mod OneGate
 mod GuardExamples

@@ -53,10 +53,10 @@ found_in p xs ys all h = found_at p xs ys all (Any-from_list_any p xs h)
     found_at p xs ys all (k, a, lt, at, h) = passes_by p ys a (all a (k, lt, at)) h
 
 module _ (c : Cluster) (xs ys : List Action) (to : (a : Action) → Contains xs a → Contains ys a) (from : (a : Action) → Contains ys a → Contains xs a) where
-  same_migrating : (r : ℕ) → is_migrating xs r ≡ is_migrating ys r
+  pub same_migrating : (r : ℕ) → is_migrating xs r ≡ is_migrating ys r
   same_migrating r = same_test (is_migrating xs r) (is_migrating ys r) (found_in (sends r) xs ys to) (found_in (sends r) ys xs from)
 
-  same_place : (a : Action) → place_of c xs a ≡ place_of c ys a
+  pub same_place : (a : Action) → place_of c xs a ≡ place_of c ys a
   same_place (Fence n) = refl
   same_place (Probe r n) = refl
   same_place (Cell op.Start r n interval role) = refl

@@ -1,13 +1,16 @@
--- Where a table keeps a cell.
+-- Where a table keeps a cell, and what of a cell is told elsewhere in other words.
 use Rattle.std.proofs.Common.{arith, ◌≡◌, ◌<◌, ◌≤◌, ℕ, suc, ◌+◌, ◌*◌, ◌==◌, nat_lt, ◌&&◌, Bool, true, false, if◌then◌else◌, List, refl, length, get_or, set}
 use Rattle.std.proofs.Math.Nat.{mul-le-mul_right}
 use Rattle.std.proofs.lemmas.List.{get_or-set_same, get_or-set_other}
 use Rattle.std.proofs.lemmas.Option.{unwrap_or-slice_get}
+use Rattle.std.proofs.Math.Bool.{and-false}
 use Rattle.std.specs.Prelude.{slice_get, slice_set, unwrap_or}
+use Rattle.lemmas.proofs.Booleans.{equal_turned}
 use Rattle.cluster_types.specs.declared.placement.Table.{Table}
 use Rattle.cluster_types.specs.declared.placement.Target.{Target}
 use Rattle.cluster_types.specs.declared.placement.Target.TheVariants as target
-use Rattle.cluster_types.specs.Tables.{targets_of}
+use Rattle.cluster_types.specs.Cells.{is_same_cell}
+use Rattle.cluster_types.specs.Tables.{is_promoted_target, is_somewhere, targets_of}
 
 -- the cells of a leaf stand before those of each later one
 pub ordered : (nodes r n s m : ℕ) → n < nodes → r < s → r * nodes + n < s * nodes + m
@@ -15,6 +18,23 @@ ordered nodes r n s m within less =
     let up : suc r * nodes ≤ s * nodes = mul-le-mul_right nodes less in
     let one : suc r * nodes ≡ r * nodes + nodes = omega arith in
     omega arith
+
+-- the place of a cell is one of the list of all cells
+pub cell_within : (leaves nodes r n : ℕ) → r < leaves → n < nodes → r * nodes + n < leaves * nodes
+cell_within leaves nodes r n low within =
+    let up : suc r * nodes ≤ leaves * nodes = mul-le-mul_right nodes low in
+    let one : suc r * nodes ≡ r * nodes + nodes = omega arith in
+    omega (arith, up, one, within)
+
+-- a cell is another where leaf and node are the other's
+pub same_cell : (r n leaf node : ℕ) → (r == leaf && n == node) ≡ is_same_cell r n leaf node
+same_cell r n leaf node = rw (equal_turned r leaf, equal_turned n node) refl
+
+-- where a leaf is promoted, it is somewhere
+pub promoted_somewhere : (t : Target) → is_promoted_target t ≡ true → is_somewhere t ≡ true
+promoted_somewhere target.Nowhere h = cc
+promoted_somewhere target.Started h = cc
+promoted_somewhere target.Promoted h = refl
 
 -- cells of different leaves have different places
 other_leaf : (nodes r n s m : ℕ) → n < nodes → m < nodes → (r == s) ≡ false → (less : Bool) → nat_lt r s ≡ less
@@ -47,10 +67,6 @@ get-set xs place at x d within = rw (unwrap_or-slice_get (slice_set xs at x) pla
 elsewhere : (nodes n node : ℕ) → node < nodes → nat_lt n nodes ≡ false → (n == node) ≡ false
 elsewhere nodes n node on h = grind arith
 
-never : (b : Bool) → b && false ≡ false
-never true = refl
-never false = refl
-
 on_its_nodes : (table : Table) (r n leaf node : ℕ) (x : Target) → node < table.nodes → leaf * table.nodes + node < length table.targets
     → (on : Bool) → nat_lt n table.nodes ≡ on
     → targets_of (record { nodes = table.nodes; targets = slice_set table.targets (leaf * table.nodes + node) x }) r n
@@ -58,7 +74,7 @@ on_its_nodes : (table : Table) (r n leaf node : ℕ) (x : Target) → node < tab
 on_its_nodes table r n leaf node x on_node within true h =
     rw h (rw (← same_place table.nodes r n leaf node (grind arith) on_node (r == leaf) refl)
     (get-set table.targets (r * table.nodes + n) (leaf * table.nodes + node) x target.Nowhere within))
-on_its_nodes table r n leaf node x on_node within false h = rw h (rw (elsewhere table.nodes n node on_node h) (rw (never (r == leaf)) refl))
+on_its_nodes table r n leaf node x on_node within false h = rw h (rw (elsewhere table.nodes n node on_node h) (rw (and-false (r == leaf)) refl))
 
 -- the targets after one was set
 pub after_setting : (table : Table) (r n leaf node : ℕ) (x : Target) → node < table.nodes → leaf * table.nodes + node < length table.targets

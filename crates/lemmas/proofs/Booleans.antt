@@ -1,5 +1,6 @@
--- Truth of tests, beyond what std has of it (`and_parts`, `or_parts`, `and_from`, `or_left`, `or_right`, `not-true`, `not-false`, `or_cases`).
-use Rattle.std.proofs.Common.{◌≡◌, Bool, true, false, not, ◌&&◌, ◌||◌, refl}
+-- Truth of tests, beyond what std has of it (`and_parts`, `or_parts`, `and_from`, `or_left`, `or_right`, `or-true`, `or-false`, `and-false`,
+-- `not-true`, `not-false`, `or_cases`, `false_from_ne_true`, `lt-ltb`).
+use Rattle.std.proofs.Common.{◌≡◌, Bool, true, false, not, cond, ◌&&◌, ◌||◌, ℕ, ◌==◌, refl, arith}
 
 -- of two tests that pass the first does, and the second does
 pub sooner : (a b : Bool) → a && b ≡ true → a ≡ true
@@ -30,6 +31,22 @@ unless true true e h = refl
 unless true false e h = cc
 unless false b e h = cc
 
+-- the second of two tests fails where the first passes, and not both
+pub second_fails : (a b : Bool) → a ≡ true → a && b ≡ false → b ≡ false
+second_fails true b h g = g
+second_fails false b h g = cc
+
+-- what another test follows from fails where that fails
+pub fails_too : (a b : Bool) → (a ≡ true → b ≡ true) → b ≡ false → a ≡ false
+fails_too true b f h = let e = f refl in cc
+fails_too false b f h = refl
+
+pub cond-or : (a b : Bool) → cond a true b ≡ (b || a)
+cond-or true true = refl
+cond-or true false = refl
+cond-or false true = refl
+cond-or false false = refl
+
 pub contrary : (a b : Bool) → (a ≡ true → b ≡ true) → not b ≡ true → not a ≡ true
 contrary true true f h = cc
 contrary true false f h = let e : false ≡ true = f refl in cc
@@ -56,3 +73,10 @@ one_of false false c d f g h = g h
 pub by_test : (P : Bool → Type 0) (test : Bool) → P true → P false → P test
 by_test P true one other = one
 by_test P false one other = other
+
+-- numbers are compared the same from both sides, and a number is itself
+pub equal_turned : (a b : ℕ) → (a == b) ≡ (b == a)
+equal_turned a b = grind arith
+
+pub number_itself : (n : ℕ) → (n == n) ≡ true
+number_itself n = grind arith

@@ -1,11 +1,17 @@
 -- Members of lists that are made of others.
-use Rattle.std.proofs.Common.{arith, ◌≡◌, ◌<◌, ◌≤◌, ◌+◌, ℕ, suc, zero, Bool, true, false, List, [], ◌∷◌, ◌++◌, length, map, filter, take, cond, slice_index_or, refl, sym, ◌∙◌, ap, ◌⊎◌, inl, inr, Contains}
+use Rattle.std.proofs.Common.{arith, ◌≡◌, ◌<◌, ◌≤◌, ◌+◌, ℕ, suc, zero, Bool, true, false, List, [], ◌∷◌, ◌++◌, length, map, filter, take, cond, slice_get, slice_index_or, refl, sym, ◌∙◌, ap, ◌⊎◌, inl, inr, Contains}
 use Rattle.std.specs.List.{flat_map, range_with_len}
 use Rattle.std.proofs.lemmas.Bool.{cases_order}
 use Rattle.std.proofs.lemmas.List.{length-take, get_or-take, take_more}
 use Rattle.std.proofs.lemmas.List.Elements.{Contains-append_left, Contains-append_right, Contains-append_cases, Contains-push_cases}
 
 module _ {X : Type 0} where
+  -- of a joined list, what stands in its left part
+  pub slice_get_left : (xs ys : List X) (i : ℕ) → i < length xs → slice_get (xs ++ ys) i ≡ slice_get xs i
+  slice_get_left [] ys i lt = absurd (let f : ⊥ = omega arith in f)
+  slice_get_left (x ∷ xs) ys zero lt = refl
+  slice_get_left (x ∷ xs) ys (suc i) lt = slice_get_left xs ys i (omega arith)
+
   pub head_or_rest : (x : X) (xs : List X) (a : X) → Contains (x ∷ xs) a → (x ≡ a) ⊎ Contains xs a
   head_or_rest x xs a (zero, l, e) = inl e
   head_or_rest x xs a (suc k, l, e) = inr (k, omega arith, e)

@@ -15,7 +15,7 @@ use Rattle.loops.proofs.Members.{equal_laws, has_push, has_front, not_before}
 
 -- A position is taken: the edges into it are to be counted off.
 
-after_take : (cleared : List ℕ) (taken a : ℕ) → taken < length cleared
+pub after_take : (cleared : List ℕ) (taken a : ℕ) → taken < length cleared
     → has (take (taken + 1) cleared) a ≡ (has (take taken cleared) a || (a == slice_index_or cleared taken 0))
 after_take cleared taken a lt = rw (take_more cleared taken 0 lt) (has_push (take taken cleared) (slice_index_or cleared taken 0) a)
 
