@@ -5,4 +5,5 @@ pub mod RowLaws
 pub mod SmallRows
 pub mod StoredTotals
 pub mod Tallies
+pub mod Words
 pub mod NodeSets

@@ -1,56 +1,78 @@
-ghost use Rattle.std.specs.Prelude.{◌≡◌, ℕ, ◌+◌, ◌<◌, ◌≤◌, ◌&&◌, ◌==◌, ◌/◌, ◌%◌, ◌^◌, length, false, true, not};
+ghost use Rattle.std.specs.Prelude.{◌≡◌, ℕ, ◌+◌, ◌<◌, ◌≤◌, ◌&&◌, length, true, not, if◌then◌else◌};
 ghost use Rattle.std.specs.Int.{is_negative};
-ghost use Rattle.lane_rows.specs.Choice.{is_candidate};
-ghost use Rattle.lane_rows.specs.NodeSet.{has};
+ghost use Rattle.lane_rows.specs.Choice.{SaysEnough, is_candidate};
+ghost use Rattle.lane_rows.specs.NodeSet.{has, is_set};
 
 use crate::NodeSet;
-use crate::lanes::{is_set, reaching};
+use crate::form::Form;
+use crate::lanes::reaching;
 use score::Score;
 
-/// Whether a node is in the set and its bit is set.
-#[inline(always)]
-fn is_kept(within: &NodeSet, node: usize, bits: u64, k: usize) -> bool
-    requires node { node < 256 }
-    requires k { k < 64 }
-    ensures { result ≡ (has within.now node && (bits / 2 ^ k % 2 == 1)) }
+/// The bit of a total: 1 where it is 0 or more.
+fn bit_of(total: Score) -> u64
+    ensures { result ≡ (if is_negative total then 0 else 1) }
 {
-    within.flags[node] & is_set(bits, k)
+    u64::from(total.points >= 0)
 }
 
-/// Whether a total is 0 or more.
-fn is_enough(total: Score) -> bool
-    ensures { result ≡ not (is_negative total) }
+/// The word of the nodes from the first on, below an end, by that of the nodes below another: node by node.
+fn word_from(totals: &[Score], first: usize, from: usize, end: usize, before: u64) -> u64
+    requires end { end ≤ length totals.now }
+    requires few { end ≤ first + 64 }
+    requires first { first ≤ from }
+    requires from { from ≤ end }
+    requires before { SaysEnough totals.now first from before }
+    ensures { SaysEnough totals.now first end result }
 {
-    total.points >= 0
+    let mut word = before;
+    for node in from..end {
+        word |= bit_of(totals[node]) << (node - first);
+    }
+    word
 }
 
-/// Keeps which of eight nodes, from one on, are in the set and have a total of 0 or more.
-#[inline(always)]
-fn keep_block(totals: &[Score], within: &NodeSet, kept: &mut NodeSet, at: usize)
-    requires totals { at + 8 ≤ length totals.now }
-    requires nodes { at + 8 ≤ 256 }
-    ensures block { (n : ℕ) → at ≤ n → n < at + 8 → has kept.new n ≡ (has within.now n && is_candidate totals.now n) }
-    ensures below { (n : ℕ) → n < at → has kept.new n ≡ has kept.old n }
-    ensures above { (n : ℕ) → at + 8 ≤ n → has kept.new n ≡ has kept.old n }
+/// The word of the nodes from the first on, below an end, by lanes.
+fn word_by_lanes(totals: &[Score], first: usize, end: usize) -> u64
+    requires end { end ≤ length totals.now }
+    requires few { end ≤ first + 64 }
+    requires first { first ≤ end }
+    requires nodes { first + 64 ≤ 256 }
+    ensures { SaysEnough totals.now first end result }
 {
-    let bits = reaching(totals, at, Score { points: 0 });
-    for k in 0..8 {
-        kept.flags[at + k] = is_kept(within, at + k, bits, k);
+    let mut word = 0;
+    let mut at = first;
+    while end - at >= 8 {
+        word |= reaching(totals, at, Score { points: 0 }) << (at - first);
+        at += 8;
+    }
+    word_from(totals, first, at, end, word)
+}
+
+/// The word of 64 nodes from the first on, as far as they have totals.
+fn word_of(totals: &[Score], first: usize, form: Form) -> u64
+    requires { first + 64 ≤ 256 }
+    ensures { SaysEnough totals.now first (length totals.now) result }
+{
+    let end = totals.len().min(first + 64);
+    if end <= first {
+        return 0;
+    }
+    match form {
+        Form::Lanes => word_by_lanes(totals, first, end),
+        Form::Plain => word_from(totals, first, first, end, 0),
     }
 }
 
-/// Keeps which nodes, from one on and below another, are in the set and have a total of 0 or more, node by node.
-fn keep_from(totals: &[Score], within: &NodeSet, kept: &mut NodeSet, first: usize, count: usize)
-    requires totals { count ≤ length totals.now }
-    requires nodes { count ≤ 256 }
-    requires first { first ≤ count }
-    ensures kept { (n : ℕ) → first ≤ n → n < count → has kept.new n ≡ (has within.now n && is_candidate totals.now n) }
-    ensures below { (n : ℕ) → n < first → has kept.new n ≡ has kept.old n }
-    ensures above { (n : ℕ) → count ≤ n → has kept.new n ≡ has kept.old n }
+/// The nodes of the set whose total is 0 or more.
+fn kept(totals: &[Score], within: &NodeSet, form: Form) -> NodeSet
+    requires { (n : ℕ) → has within.now n ≡ true → n < length totals.now }
+    ensures { (n : ℕ) → has result n ≡ (has within.now n && is_candidate totals.now n) }
 {
-    for node in first..count {
-        kept.flags[node] = within.flags[node] && is_enough(totals[node]);
+    let mut kept = NodeSet::none();
+    for place in 0..4 {
+        kept.words[place] = within.words[place] & word_of(totals, 64 * place, form);
     }
+    kept
 }
 
 /// The nodes of the set whose total is 0 or more, by lanes.
@@ -58,15 +80,7 @@ pub fn candidates(totals: &[Score], within: &NodeSet) -> NodeSet
     requires { (n : ℕ) → has within.now n ≡ true → n < length totals.now }
     ensures { (n : ℕ) → has result n ≡ (has within.now n && is_candidate totals.now n) }
 {
-    let count = totals.len().min(256);
-    let mut kept = NodeSet::none();
-    let mut at = 0;
-    while count - at >= 8 {
-        keep_block(totals, within, &mut kept, at);
-        at += 8;
-    }
-    keep_from(totals, within, &mut kept, at, count);
-    kept
+    kept(totals, within, Form::Lanes)
 }
 
 /// The plain form of `candidates`: node by node alone.
@@ -74,7 +88,5 @@ pub fn candidates_plain(totals: &[Score], within: &NodeSet) -> NodeSet
     requires { (n : ℕ) → has within.now n ≡ true → n < length totals.now }
     ensures { (n : ℕ) → has result n ≡ (has within.now n && is_candidate totals.now n) }
 {
-    let mut kept = NodeSet::none();
-    keep_from(totals, within, &mut kept, 0, totals.len().min(256));
-    kept
+    kept(totals, within, Form::Plain)
 }

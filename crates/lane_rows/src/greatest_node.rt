@@ -39,7 +39,7 @@ fn greatest_from(
 {
     let mut best = before;
     for node in first..end {
-        if among.flags[node] {
+        if among.has(node as u32) {
             match best {
                 Some(other) if !goes_before(totals, loads, node, other) => {}
                 _ => best = Some(node),
@@ -82,6 +82,7 @@ fn number_of(node: Option<usize>) -> Option<u32>
 
 /// The node of the set with the greatest total, of these the one with the smallest load, of these the one with the smallest number, by lanes.
 /// None when the set is empty.
+#[tactic(auto, unfolding(crate::specs::NodeSet::has))]
 pub fn greatest(totals: &[Score], loads: &[u32], among: &NodeSet) -> Option<u32>
     requires nodes { (n : ℕ) → has among.now n ≡ true → n < length totals.now }
     requires loads { length loads.now ≡ length totals.now }
@@ -99,6 +100,7 @@ pub fn greatest(totals: &[Score], loads: &[u32], among: &NodeSet) -> Option<u32>
 }
 
 /// The plain form of `greatest`: node by node alone.
+#[tactic(auto, unfolding(crate::specs::NodeSet::has))]
 pub fn greatest_plain(totals: &[Score], loads: &[u32], among: &NodeSet) -> Option<u32>
     requires nodes { (n : ℕ) → has among.now n ≡ true → n < length totals.now }
     requires loads { length loads.now ≡ length totals.now }

@@ -1,5 +1,6 @@
-ghost use Rattle.std.specs.Prelude.{◌≡◌, ◌+◌, ◌<◌, ◌≤◌, ◌/◌, ◌%◌, ◌^◌, ◌==◌, ℕ, ◌+ℤ◌, pos, length, slice_index, if◌then◌else◌, nat_lt, not, int_lt};
+ghost use Rattle.std.specs.Prelude.{◌≡◌, ◌+◌, ◌<◌, ◌≤◌, ◌/◌, ◌%◌, ◌^◌, ℕ, ◌+ℤ◌, pos, length, slice_index, if◌then◌else◌, nat_lt, not, int_lt};
 ghost use Rattle.lane_rows.specs.Choice.{points_at};
+ghost use Rattle.lane_rows.specs.NodeSet.{is_set};
 
 use score::Score;
 use std::simd::prelude::*;
@@ -30,7 +31,8 @@ fn loaded(totals: &[Score], at: usize) -> u32x8
 #[inline(always)]
 fn reached(lanes: u32x8, floor: u32) -> u64
     requires { length lanes ≡ 8 }
-    ensures { (k : ℕ) → k < 8 → result / 2 ^ k % 2 ≡ (if nat_lt (slice_index lanes k) floor then 0 else 1) }
+    ensures eight { result < 2 ^ 8 }
+    ensures each { (k : ℕ) → k < 8 → result / 2 ^ k % 2 ≡ (if nat_lt (slice_index lanes k) floor then 0 else 1) }
 {
     lanes.simd_ge(u32x8::splat(floor)).to_bitmask()
 }
@@ -39,16 +41,8 @@ fn reached(lanes: u32x8, floor: u32) -> u64
 #[inline(always)]
 pub(crate) fn reaching(totals: &[Score], at: usize, floor: Score) -> u64
     requires { at + 8 ≤ length totals.now }
-    ensures { (k : ℕ) → k < 8 → (result / 2 ^ k % 2 == 1) ≡ not (int_lt (points_at totals.now (at + k)) floor) }
+    ensures eight { result < 2 ^ 8 }
+    ensures each { (k : ℕ) → k < 8 → is_set result k ≡ not (int_lt (points_at totals.now (at + k)) floor) }
 {
     reached(loaded(totals, at), above_least(floor))
-}
-
-/// Whether a bit is set.
-#[inline(always)]
-pub(crate) fn is_set(bits: u64, k: usize) -> bool
-    requires { k < 64 }
-    ensures { result ≡ (bits / 2 ^ k % 2 == 1) }
-{
-    (bits >> k) % 2 == 1
 }

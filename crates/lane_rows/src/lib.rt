@@ -8,15 +8,14 @@ mod flags;
 mod form;
 mod greatest_node;
 mod lanes;
-mod memory;
 mod node_set;
 mod row;
 mod row_totals;
 mod sums;
 
 pub use candidate_set::{candidates, candidates_plain};
+pub use faults::NoMemory;
 pub use greatest_node::{greatest, greatest_plain};
-pub use memory::NoMemory;
 pub use node_set::NodeSet;
 pub use row::{Row, add_row, add_row_plain};
 pub use row_totals::{totals, totals_plain};

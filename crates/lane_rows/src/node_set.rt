@@ -1,10 +1,10 @@
 ghost use Rattle.std.specs.Prelude.{◌≡◌, ℕ, ◌<◌, ◌≤◌, ◌&&◌, ◌||◌, ◌==◌, not, false, true};
 ghost use Rattle.lane_rows.specs.NodeSet.{has};
 
-/// A set of node numbers below 256.
+/// A set of node numbers below 256: a bit for each, 64 to a word.
 #[derive(Clone, Copy)]
 pub struct NodeSet {
-    pub(crate) flags: [bool; 256],
+    pub(crate) words: [u64; 4],
 }
 
 impl NodeSet {
@@ -12,9 +12,7 @@ impl NodeSet {
     pub fn none() -> NodeSet
         ensures { (n : ℕ) → has result n ≡ false }
     {
-        NodeSet {
-            flags: [false; 256],
-        }
+        NodeSet { words: [0; 4] }
     }
 
     /// Adds a node.
@@ -22,7 +20,7 @@ impl NodeSet {
         requires { node < 256 }
         ensures { (n : ℕ) → has self.new n ≡ (n == node || has self.old n) }
     {
-        self.flags[node as usize] = true;
+        self.words[node as usize / 64] |= 1 << (node % 64);
     }
 
     /// Adds a node, if it is wanted.
@@ -55,7 +53,7 @@ impl NodeSet {
         requires { node < 256 }
         ensures { (n : ℕ) → has self.new n ≡ (not (n == node) && has self.old n) }
     {
-        self.flags[node as usize] = false;
+        self.words[node as usize / 64] &= !(1 << (node % 64));
     }
 
     /// Whether a node is in the set.
@@ -63,6 +61,6 @@ impl NodeSet {
         requires { node < 256 }
         ensures { result ≡ has self.now node }
     {
-        self.flags[node as usize]
+        self.words[node as usize / 64] >> (node % 64) & 1 == 1
     }
 }
