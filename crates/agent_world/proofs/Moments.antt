@@ -27,22 +27,22 @@ use Rattle.world_state.proofs.Within.{always}
 use Rattle.agent_world.specs.Moments.{IsLivedWithin}
 
 -- the last of some events is the end of an action that is gone with its node
-abbrev pub ends_gone : List Event → Bool
+abbrev ends_gone : List Event → Bool
 ends_gone [] = false
 ends_gone (e ∷ []) = is_gone e
 ends_gone (e ∷ f ∷ es) = ends_gone (f ∷ es)
 
-pub behind : (es : List Event) (e : Event) (more : List Event) → ends_gone (es ++ e ∷ more) ≡ ends_gone (e ∷ more)
+behind : (es : List Event) (e : Event) (more : List Event) → ends_gone (es ++ e ∷ more) ≡ ends_gone (e ∷ more)
 behind [] e more = refl
 behind (x ∷ []) e more = refl
 behind (x ∷ y ∷ es) e more = behind (y ∷ es) e more
 
 -- a list is parted in two ways: the one ends within the first part, or behind it
-pub data IsParted (es batch xs more : List Event) : Type 0 where
+data IsParted (es batch xs more : List Event) : Type 0 where
   within : (rest : List Event) → es ≡ xs ++ rest → IsParted es batch xs more
   past : (e : Event) (some : List Event) → xs ≡ es ++ e ∷ some → batch ≡ (e ∷ some) ++ more → IsParted es batch xs more
 
-pub parted : (es batch xs more : List Event) → es ++ batch ≡ xs ++ more → IsParted es batch xs more
+parted : (es batch xs more : List Event) → es ++ batch ≡ xs ++ more → IsParted es batch xs more
 parted es batch [] more is = within es refl
 parted [] batch (x ∷ xs) more is = past x xs refl is
 parted (e ∷ es) batch (x ∷ xs) more is =
@@ -52,12 +52,12 @@ parted (e ∷ es) batch (x ∷ xs) more is =
     on (within rest f) head = within rest (let g : e ∷ es ≡ x ∷ (xs ++ rest) = cc in g)
     on (past f some g h) head = past f some (let i : x ∷ xs ≡ e ∷ (es ++ f ∷ some) = cc in i) h
 
-pub none_more : {X : Type 0} (xs : List X) → length xs ≡ 0 → xs ≡ []
+none_more : {X : Type 0} (xs : List X) → length xs ≡ 0 → xs ≡ []
 none_more [] e = refl
 none_more (x ∷ xs) e = absurd (let f : ⊥ = omega arith in f)
 
 -- of a list of which all but the last are gone, what ends otherwise is the whole
-pub no_part : (gone tail xs more : List Event) → list_all is_gone gone ≡ true → length tail ≤ 1 → gone ++ tail ≡ xs ++ more → 0 < length xs → ends_gone xs ≡ false → more ≡ []
+no_part : (gone tail xs more : List Event) → list_all is_gone gone ≡ true → length tail ≤ 1 → gone ++ tail ≡ xs ++ more → 0 < length xs → ends_gone xs ≡ false → more ≡ []
 no_part [] tail xs more all few is some last = none_more more (let l : length tail ≡ length (xs ++ more) = ap length is in let m = length-append xs more in omega arith)
 no_part (g ∷ gone) tail [] more all few is some last = absurd (let f : ⊥ = omega arith in f)
 no_part (g ∷ gone) tail (x ∷ []) more all few is some last = let head : g ≡ x = cc in both (is_gone g) refl all (ap is_gone head ∙ last)
@@ -72,26 +72,26 @@ no_part (g ∷ gone) tail (x ∷ y ∷ xs) more all few is some last = no_part g
     rest false e h = absurd (let i : list_all is_gone (g ∷ gone) ≡ false = rw e refl in let j : ⊥ = cc in j)
 
 -- what an answer adds: some that are gone, and then at most one event, which isn't gone
-pub record IsBatch (batch : List Event) : Type 0 where
-  pub gone : List Event
-  pub tail : List Event
-  pub all : list_all is_gone gone ≡ true
-  pub few : length tail ≤ 1
-  pub is : batch ≡ gone ++ tail
+record IsBatch (batch : List Event) : Type 0 where
+  gone : List Event
+  tail : List Event
+  all : list_all is_gone gone ≡ true
+  few : length tail ≤ 1
+  is : batch ≡ gone ++ tail
 
-pub one_batch : (batch : List Event) → length batch ≤ 1 → IsBatch batch
+one_batch : (batch : List Event) → length batch ≤ 1 → IsBatch batch
 one_batch batch few = record { gone = []; tail = batch; all = refl; few = few; is = refl }
 
-pub all_gone : (c : Cluster) (es : List Event) (flight ps : List (ℕ × Action)) → list_all is_gone (map (end_of c es flight Gone) ps) ≡ true
+all_gone : (c : Cluster) (es : List Event) (flight ps : List (ℕ × Action)) → list_all is_gone (map (end_of c es flight Gone) ps) ≡ true
 all_gone c es flight [] = refl
 all_gone c es flight (p ∷ ps) = all_gone c es flight ps
 
 module _ (c : Cluster) (es : List Event) (flight : List (ℕ × Action)) where
-  pub at_most_one : (o : Outcome) (found : Option (ℕ × Action)) → length (option_map_or (λ (p : ℕ × Action). end_of c es flight o p ∷ []) found []) ≤ 1
+  at_most_one : (o : Outcome) (found : Option (ℕ × Action)) → length (option_map_or (λ (p : ℕ × Action). end_of c es flight o p ∷ []) found []) ≤ 1
   at_most_one o None = omega arith
   at_most_one o (Some p) = omega arith
 
-  pub batch_of : (given : Answer) → IsBatch (added_by c es flight given)
+  batch_of : (given : Answer) → IsBatch (added_by c es flight given)
   batch_of (answer.End k code) = one_batch _ (at_most_one (Code code) (find (is_number_of k) flight))
   batch_of (answer.Timeout k) = one_batch _ (at_most_one TimedOut (find (is_number_of k) flight))
   batch_of (answer.Lost n) = record {
@@ -107,12 +107,12 @@ module _ (c : Cluster) (es : List Event) (flight : List (ℕ × Action)) where
   batch_of (answer.Report n r interval code) = one_batch _ (omega arith)
 
 -- a journal at which a run may stand: the first, or one that doesn't end with an action that is gone
-abbrev pub IsMoment : List Event → List Event → Type 0
+abbrev IsMoment : List Event → List Event → Type 0
 IsMoment first es = (es ≡ first) ⊎ (ends_gone es ≡ false)
 
 module _ (c : Cluster) (number : ℕ) (first : List Event) where
   -- the journal only grows
-  pub further : (es batch : List Event) → IsFront first es → IsFront first (es ++ batch)
+  further : (es batch : List Event) → IsFront first es → IsFront first (es ++ batch)
   further es batch f = record { more = f.more ++ batch; joined = ap (λ l. l ++ batch) f.joined ∙ regroup first f.more batch }
 
   pub grown : (es : List Event) (w : World) → Lives c number first es w → IsFront first es
