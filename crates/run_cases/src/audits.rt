@@ -2,7 +2,7 @@
 
 use crate::outcome::{EASY, outcome};
 use crate::table::{Row, assert_each, assert_whole_or_refused};
-use crate::{replay_losses, replay_roles, replay_starts};
+use crate::{inputs, replay_losses, replay_roles, replay_starts};
 use sim_core::Status;
 use std::alloc::{AllocError, Global};
 use std::process::Abort;
@@ -36,18 +36,7 @@ complete 1
 );
 
 /// A run has at least one transition.
-const NO_TRACE: Row = (
-    r#"node n1
-node n2
-primitive vip IPaddr2
-%status
-now 1000
-quorum yes
-node n1 online
-node n2 online
-"#,
-    "unlawful 9 Transition\n",
-);
+const NO_TRACE: Row = (inputs::TWO_NODES, "unlawful 9 Transition\n");
 
 /// The line behind no line is the first.
 const NO_INPUT: Row = (r#""#, "unlawful 1 Transition\n");

@@ -1,5 +1,6 @@
 //! What the word `graph` writes.
 
+use crate::inputs;
 use crate::table::{Row, assert_each, assert_whole_or_refused};
 use sim_core::Status;
 use std::test::Fail;
@@ -52,25 +53,7 @@ action 4 start b n1 after 1 2
 
 /// A promotion moves to another node, and what goes with it.
 const PROMOTABLE: Row = (
-    r#"node n1
-node n2
-primitive drbd ocf:linbit:drbd
-primitive vip IPaddr2
-ms md drbd meta notify=true
-colocation c inf: vip md:Master
-order o inf: md:promote vip:start
-%status
-quorum yes
-node n1 online
-node n2 online
-op n1 drbd start 0 0 900
-op n1 drbd promote 0 0 901
-op n2 drbd start 0 0 900
-op n1 vip start 0 0 902
-op n2 vip monitor 0 7 900
-promotion n1 drbd 10
-promotion n2 drbd 20
-"#,
+    inputs::PROMOTION_MOVES,
     r#"action 1 stop vip n1
 action 2 demote drbd n1 after 1
 action 3 promote drbd n2 after 2

@@ -12,6 +12,8 @@ mod generated;
 #[cfg(test)]
 mod graph;
 #[cfg(test)]
+mod inputs;
+#[cfg(test)]
 mod losses;
 #[cfg(test)]
 mod outcome;

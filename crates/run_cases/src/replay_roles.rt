@@ -1,30 +1,13 @@
 //! What the word `replay` writes: groups, promotions and migrations.
 
+use crate::inputs;
 use crate::table::{Row, assert_each, assert_whole_or_between};
 use sim_core::Status;
 use std::test::Fail;
 
 /// A member failed, and its group moves.
 const GROUP_MOVES: Row = (
-    r#"node n1
-node n2
-primitive a Dummy
-primitive b Dummy op monitor interval=10s meta migration-threshold=1
-primitive c Dummy
-group g a b c
-%status
-now 1000
-quorum yes
-node n1 online
-node n2 online
-op n1 a start 0 0 900
-op n2 a monitor 0 7 900
-op n1 b start 0 0 900
-op n2 b monitor 0 7 900
-op n1 c start 0 0 900
-op n2 c monitor 0 7 900
-op n1 b monitor 10000 1 990
-"#,
+    inputs::GROUP_MOVES,
     r#"transition 1
 target a n2 started
 target b n2 started
@@ -83,25 +66,7 @@ complete 1
 
 /// A promotion moves to another node, and what goes with it.
 const PROMOTION_MOVES: Row = (
-    r#"node n1
-node n2
-primitive drbd ocf:linbit:drbd
-primitive vip IPaddr2
-ms md drbd meta notify=true
-colocation c inf: vip md:Master
-order o inf: md:promote vip:start
-%status
-quorum yes
-node n1 online
-node n2 online
-op n1 drbd start 0 0 900
-op n1 drbd promote 0 0 901
-op n2 drbd start 0 0 900
-op n1 vip start 0 0 902
-op n2 vip monitor 0 7 900
-promotion n1 drbd 10
-promotion n2 drbd 20
-"#,
+    inputs::PROMOTION_MOVES,
     r#"transition 1
 target drbd n1 started
 target drbd n2 promoted
@@ -419,9 +384,9 @@ complete 2
 
 /// Inputs, and their runs.
 pub const ROWS: [Row; 12] = [
-    GROUP_MOVES,
+    inputs::GROUP_MOVES,
     CYCLED,
-    PROMOTION_MOVES,
+    inputs::PROMOTION_MOVES,
     PROMOTED_FROM_NOTHING,
     PROMOTED_STOPPED,
     PROMOTED_CYCLED,

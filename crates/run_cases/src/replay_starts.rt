@@ -1,5 +1,6 @@
 //! What the word `replay` writes: probes, starts and monitors, and how they end.
 
+use crate::inputs;
 use crate::table::{Row, assert_each};
 use sim_core::Status;
 use std::test::Fail;
@@ -23,15 +24,7 @@ complete 1
 
 /// A resource is probed on each node, and then started on one.
 const STARTED: Row = (
-    r#"node n1
-node n2
-primitive vip IPaddr2
-%status
-now 1000
-quorum yes
-node n1 online
-node n2 online
-"#,
+    inputs::TWO_NODES,
     r#"transition 1
 target vip n1 started
 begin 1 probe vip n1

@@ -1,5 +1,6 @@
 //! What the word `scores` writes.
 
+use crate::inputs;
 use crate::table::{Row, assert_each};
 use sim_core::Status;
 use std::test::Fail;
@@ -73,25 +74,7 @@ none b Held o
 
 /// The second member of a group failed, and leads the others away.
 const GROUP: Row = (
-    r#"node n1
-node n2
-primitive a Dummy
-primitive b Dummy op monitor interval=10s meta migration-threshold=1
-primitive c Dummy
-group g a b c
-%status
-now 1000
-quorum yes
-node n1 online
-node n2 online
-op n1 a start 0 0 900
-op n2 a monitor 0 7 900
-op n1 b start 0 0 900
-op n2 b monitor 0 7 900
-op n1 c start 0 0 900
-op n2 c monitor 0 7 900
-op n1 b monitor 10000 1 990
-"#,
+    inputs::GROUP_MOVES,
     r#"place a
 score a n1 -INFINITY
 score a n2 0
@@ -294,25 +277,7 @@ none report Held archive-then-report
 
 /// A promotable clone.
 const PROMOTABLE: Row = (
-    r#"node n1
-node n2
-primitive drbd ocf:linbit:drbd
-primitive vip IPaddr2
-ms md drbd meta notify=true
-colocation c inf: vip md:Master
-order o inf: md:promote vip:start
-%status
-quorum yes
-node n1 online
-node n2 online
-op n1 drbd start 0 0 900
-op n1 drbd promote 0 0 901
-op n2 drbd start 0 0 900
-op n1 vip start 0 0 902
-op n2 vip monitor 0 7 900
-promotion n1 drbd 10
-promotion n2 drbd 20
-"#,
+    inputs::PROMOTION_MOVES,
     r#"place drbd
 score drbd n1 1
 score drbd n2 1

@@ -1,5 +1,6 @@
 //! What the word `world` writes.
 
+use crate::inputs;
 use crate::outcome::{EASY, Pace, outcome};
 use sim_core::Status;
 use std::alloc::Global;
@@ -9,20 +10,10 @@ use std::test::Fail;
 /// The number of a simulated cluster, an input, and the text that is written.
 type WorldRow = (&'static str, &'static str, &'static str);
 
-const TWO_NODES: &str = r#"node n1
-node n2
-primitive vip IPaddr2
-%status
-now 1000
-quorum yes
-node n1 online
-node n2 online
-"#;
-
 /// A probe isn't answered in time.
 const TIMES_OUT: WorldRow = (
     "7",
-    TWO_NODES,
+    inputs::TWO_NODES,
     r#"transition 1
 target vip n1 started
 begin 1 probe vip n1
@@ -45,7 +36,7 @@ ended complete
 /// A node leaves, and is fenced.
 const LEAVES: WorldRow = (
     "0",
-    TWO_NODES,
+    inputs::TWO_NODES,
     r#"transition 1
 target vip n1 started
 begin 1 probe vip n1
@@ -65,33 +56,17 @@ ended complete
 "#,
 );
 
-/// The input has no node, and no draw is made.
-const EMPTY: WorldRow = ("3", "", "transition 1\ncomplete 1\nended complete\n");
+/// The input has no node, and no draw is made. Its results make no difference.
+const EMPTY: WorldRow = (
+    "3",
+    "%results\nend 9 0\n",
+    "transition 1\ncomplete 1\nended complete\n",
+);
 
-/// What may be promoted is promoted; the results of the input make no difference.
+/// What may be promoted is promoted.
 const PROMOTED: WorldRow = (
     "0",
-    r#"node n1
-node n2
-primitive drbd ocf:linbit:drbd
-primitive vip IPaddr2
-ms md drbd meta notify=true
-colocation c inf: vip md:Master
-order o inf: md:promote vip:start
-%status
-quorum yes
-node n1 online
-node n2 online
-op n1 drbd start 0 0 900
-op n1 drbd promote 0 0 901
-op n2 drbd start 0 0 900
-op n1 vip start 0 0 902
-op n2 vip monitor 0 7 900
-promotion n1 drbd 10
-promotion n2 drbd 20
-%results
-end 9 0
-"#,
+    inputs::PROMOTION_MOVES,
     r#"transition 1
 target drbd n1 started
 target drbd n2 promoted
@@ -118,25 +93,7 @@ ended complete
 /// A start that isn't answered in time comes true before the next answer.
 const RISES: WorldRow = (
     "5",
-    r#"node n1
-node n2
-primitive drbd ocf:linbit:drbd
-primitive vip IPaddr2
-ms md drbd meta notify=true
-colocation c inf: vip md:Master
-order o inf: md:promote vip:start
-%status
-quorum yes
-node n1 online
-node n2 online
-op n1 drbd start 0 0 900
-op n1 drbd promote 0 0 901
-op n2 drbd start 0 0 900
-op n1 vip start 0 0 902
-op n2 vip monitor 0 7 900
-promotion n1 drbd 10
-promotion n2 drbd 20
-"#,
+    inputs::PROMOTION_MOVES,
     r#"transition 1
 target drbd n1 started
 target drbd n2 promoted
