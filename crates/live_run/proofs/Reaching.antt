@@ -84,6 +84,7 @@ module _ (c : Cluster) (journal : Journal) (reading : Reading) where
             record {
               all = some_same results (results_first p.given (to_come t rest)) e
                   ∙ (ap (results_first p.given) ended ∙ ap (λ (rs : List ResultLine). record { results = rs; stop = None }) (append-nil p.given));
+              unstopped = refl;
               none_left = sym o ∙ ap Some h;
             }
           where

@@ -49,9 +49,10 @@ module _ (c : Cluster) (journal : Journal) (reading : Reading) (left : List ℕ)
     pub taken : Takes (Some left) bytes after
     pub near : AreNear (first_of c journal reading) lines bytes
 
-  -- all was asked for, and read
+  -- all was asked for, and read: no line of it ended the reading
   pub record AskedForAll (asked : Coming) : Type 0 where
     pub all : results ≡ asked
+    pub unstopped : asked.stop ≡ None
     pub none_left : after ≡ Some []
 
   -- and of what a sink held before and holds now
