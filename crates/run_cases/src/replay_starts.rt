@@ -37,6 +37,27 @@ complete 1
 "#,
 );
 
+/// Without quorum a resource is probed, and not started.
+const WITHOUT_QUORUM: Row = (
+    r#"node n1
+node n2
+primitive vip IPaddr2
+%status
+now 1000
+quorum no
+node n1 online
+node n2 online
+"#,
+    r#"transition 1
+none vip NoQuorum
+begin 1 probe vip n1
+begin 2 probe vip n2
+end 1 7
+end 2 7
+complete 1
+"#,
+);
+
 /// Two resources go to two nodes.
 const TWO_STARTED: Row = (
     r#"node n1
@@ -331,10 +352,11 @@ complete 1
 );
 
 /// Inputs, and their runs.
-pub const ROWS: [Row; 13] = [
+pub const ROWS: [Row; 14] = [
     NOTHING,
     A_NODE_ALONE,
     STARTED,
+    WITHOUT_QUORUM,
     TWO_STARTED,
     OTHER_ORDER,
     FOUND_RUNNING,
