@@ -3,7 +3,7 @@ use Rattle.std.proofs.Common.{arith, ◌≡◌, ◌≤◌, ◌+◌, ◌*◌, ◌
 use Rattle.std.proofs.lemmas.List.Folds.{Any-from_list_any}
 use Rattle.std.proofs.Math.Seq.{take-length}
 use Rattle.std.proofs.lemmas.List.{append-nil}
-use Rattle.std.proofs.lemmas.Bool.{both_ways}
+use Rattle.std.proofs.lemmas.Bool.{both_ways, false_from_ne_true}
 use Rattle.std.proofs.lemmas.Bool.Decides.{nat_tests}
 use Rattle.lemmas.proofs.Booleans.{later, same_test, sooner}
 use Rattle.lemmas.proofs.Searches.{passes_by}
@@ -25,11 +25,6 @@ use Rattle.rule_loops.proofs.NeedLoops.{first_joined, leaves_free, loop_of_needs
 use Rattle.rule_loops.proofs.Needs.{same_decision}
 use Rattle.rule_loops.proofs.OneFirst.{all_colocations, all_orders_loop, needs_apart, needs_stay, steps_apart, steps_stay}
 use Rattle.rule_loops.proofs.StepPlaces.{same_step}
-
--- a test that answers no where a yes can't be
-no_loop : (b : Bool) → (b ≡ true → ⊥) → b ≡ false
-no_loop true h = absurd (h refl)
-no_loop false h = refl
 
 -- where a chain of needs among some decisions ends, one of them stands
 module _ (c : Cluster) (among : List Decision) where
@@ -59,7 +54,7 @@ module _ (c : Cluster) where
       (end_among c (all_decisions c) (length (all_decisions c)) l.decision l.decision l.needed) l.needed
 
   pub need_of_none : has_need_loop c ≡ false → NeedsHaveNoLoop c
-  need_of_none h d = no_loop _ (λ needed. both_ways _ h (need_of_loop (record { decision = d; needed = needed })))
+  need_of_none h d = false_from_ne_true _ (λ needed. both_ways _ h (need_of_loop (record { decision = d; needed = needed })))
 
 -- the first link of a chain from a step
 record Begins (c : Cluster) (s : StepOf) : Type 0 where
@@ -85,7 +80,7 @@ module _ (c : Cluster) where
       passes_by (λ l. reaches c (4 * length c.leaves) l.before l.before) (links c) b.way b.among (rw b.from l.reached)
 
   pub step_of_none : has_step_loop c ≡ false → HasNoLoop c
-  step_of_none h s = no_loop _ (λ reached. both_ways _ h (step_of_loop (record { step = s; reached = reached })))
+  step_of_none h s = false_from_ne_true _ (λ reached. both_ways _ h (step_of_loop (record { step = s; reached = reached })))
 
 -- a cluster with the first so many colocations of another
 module _ (c d : Cluster) (joined : AllJoin c) (count : ℕ) (few : count ≤ length c.colocations) (leaves : d.leaves ≡ c.leaves)
@@ -116,7 +111,7 @@ module _ (c d : Cluster) (joined : AllJoin c) (count : ℕ) (few : count ≤ len
 
   pub needs_closed : (place : Option ℕ) → IsFirstColocation c place → has_need_loop d ≡ is_closed_by place count
   needs_closed None free =
-      no_loop _ (λ h. needs_apart c (all_colocations c joined (needs_stay c joined count (length c.colocations) few (first_needs (loop_of_need d h)))) free)
+      false_from_ne_true _ (λ h. needs_apart c (all_colocations c joined (needs_stay c joined count (length c.colocations) few (first_needs (loop_of_need d h)))) free)
   needs_closed (Some place) closes =
       same_test (has_need_loop d) (nat_lt place count) (λ h. early h (nat_lt place count) refl)
       (λ h. need_of_loop d (needs_of_first (needs_stay c joined (place + 1) count (grind (arith, nat_tests)) closes.closed)))
@@ -156,7 +151,7 @@ module _ (c d : Cluster) (ordered : AllOrder c) (count : ℕ) (few : count ≤ l
 
   pub steps_closed : (place : Option ℕ) → IsFirstOrder c place → has_step_loop d ≡ is_closed_by place count
   steps_closed None free =
-      no_loop _ (λ h. steps_apart c (all_orders_loop c ordered (steps_stay c ordered count (length c.orders) few (first_steps (loop_of_step d h)))) free)
+      false_from_ne_true _ (λ h. steps_apart c (all_orders_loop c ordered (steps_stay c ordered count (length c.orders) few (first_steps (loop_of_step d h)))) free)
   steps_closed (Some place) closes =
       same_test (has_step_loop d) (nat_lt place count) (λ h. early h (nat_lt place count) refl)
       (λ h. step_of_loop d (steps_of_first (steps_stay c ordered (place + 1) count (grind (arith, nat_tests)) closes.closed)))

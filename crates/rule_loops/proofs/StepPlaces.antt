@@ -6,6 +6,7 @@ use Rattle.cluster_types.specs.declared.leaf.Op.{Op}
 use Rattle.cluster_types.specs.declared.leaf.Op.TheVariants.{Start, Stop, Promote, Demote, Monitor}
 use Rattle.cluster_types.specs.Numbers.{StepOf, is_same_step}
 use Rattle.cluster_types.specs.Precedence.{inverse, is_same_op}
+use Rattle.cluster_types.proofs.OpLaws.{op_itself}
 use Rattle.rule_loops.specs.Edges.{op_number, step_position}
 
 -- the step is of a leaf that is there, and is no monitor
@@ -47,13 +48,6 @@ same_op Monitor Stop h = cc
 same_op Monitor Promote h = cc
 same_op Monitor Demote h = cc
 same_op Monitor Monitor h = refl
-
-op_itself : (o : Op) → is_same_op o o ≡ true
-op_itself Start = refl
-op_itself Stop = refl
-op_itself Promote = refl
-op_itself Demote = refl
-op_itself Monitor = refl
 
 -- where the words and the leaves are alike
 pub record Alike (o p : Op) (r s : ℕ) : Type 0 where

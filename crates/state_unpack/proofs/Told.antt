@@ -11,7 +11,7 @@ use Rattle.cluster_types.specs.declared.leaf.Monitor.{Monitor}
 use Rattle.cluster_types.specs.Cells.{is_same_cell}
 use Rattle.cluster_types.specs.CellStates.{is_running}
 use Rattle.cluster_types.specs.Fields.{monitors}
-use Rattle.cluster_types.proofs.TableCells.{ordered, same_place, get-at}
+use Rattle.cluster_types.proofs.TableCells.{ordered, same_place, get-at, same_cell}
 use Rattle.state_unpack.specs.declared.facts.Facts.{Facts}
 use Rattle.state_unpack.specs.Facts.{facts_of, facts_after, no_facts, runs}
 use Rattle.state_unpack.specs.Kept.{IsFull, cell_in, Keeps, Tells}
@@ -22,12 +22,6 @@ use Rattle.state_unpack.proofs.StillFacts.{facts-stay}
 -- the place of a cell that is there
 pub within : (c : Cluster) (cells : List Facts) (r n : ℕ) → IsFull c cells → r < length c.leaves → n < length c.nodes → r * length c.nodes + n < length cells
 within c cells r n full leaf node = let low = ordered (length c.nodes) r n (length c.leaves) 0 node leaf in omega (arith, low, full)
-
-same_cell : (r n leaf node : ℕ) → (r == leaf && n == node) ≡ is_same_cell r n leaf node
-same_cell r n leaf node = rw (turned r leaf, turned n node) refl
-  where
-    turned : (a b : ℕ) → (a == b) ≡ (b == a)
-    turned a b = grind arith
 
 module _ (c : Cluster) (e : Event) where
   -- one cell was told
