@@ -2,15 +2,17 @@
 import os
 import re
 import shlex
+import subprocess
 import textwrap
 
-from .expecting import TOP, expect, kept, own, tool
+from .expecting import ENVIRONMENT, TOP, WRAPPER, expect, kept, own, tool
 
 EXAMPLES = os.path.join(TOP, "examples")
 WORDS = ("scores", "graph", "survive", "replay")
 SHOWN = re.compile(r"^ +\$ (?:cat |\./cekpayo scores )(examples/\S+) \|(?: \./cekpayo scores \|)? tools/summary\n((?:    .*\n)+)", re.M)
 RUN = re.compile(r"^ +\$ cat (examples/\S+) \| \./cekpayo replay\n((?:    .*\n)+)", re.M)
 WALK = re.compile(r"^ +\$ \{ cat (examples/\S+); printf '%s\\n' (.*); \} \| \./cekpayo replay\n((?:    .*\n)+)", re.M)
+PIPE = re.compile(r"^    \$ mkfifo told\n((?:    .*\n)+)", re.M)
 
 
 def read(path):
@@ -72,6 +74,25 @@ def try_page():
         expect(f"the run of {path} with {results}", textwrap.dedent(lines) == output, output)
 
 
+def try_pipe():
+    """What docs/USAGE.md shows behind each command of a live pipe is there before the next one is given."""
+    shown = PIPE.search(read("docs/USAGE.md").decode())
+    steps = re.split(r"^\$ (.*)\n", textwrap.dedent(shown[1]), flags=re.M)[1:] if shown else []
+    expect("the live pipe", len(steps) >= 10)
+    process = subprocess.Popen(["timeout", "60", WRAPPER, "replay"], stdin=subprocess.PIPE, stdout=subprocess.PIPE, text=True, bufsize=1, env=ENVIRONMENT)
+    for step, lines in zip(steps[::2], steps[1::2]):
+        if step.startswith("{ cat "):
+            process.stdin.write(read("examples/first-run.crm").decode() + "%results\n")
+        elif step.startswith("echo "):
+            process.stdin.write(shlex.split(step)[1] + "\n")
+        elif step == "exec 3>&-":
+            process.stdin.close()
+        told = "".join(process.stdout.readline() for _ in lines.splitlines())
+        expect(f"what the live pipe says behind {step}", lines == told, told)
+    expect("the live pipe ends there", process.stdout.read() == "" and process.wait() == 0)
+
+
 def try_examples():
     try_answers()
     try_page()
+    try_pipe()
