@@ -10,7 +10,7 @@ ghost use Rattle.op_history.specs.Results.{most_results, result_of, results_of, 
 
 use crate::answers::answer_of;
 use crate::{ResultCause, ResultFault};
-use cluster_types::{Answer, Cluster, Event, Journal};
+use cluster_types::{Answer, Cluster, Journal, moment_of};
 use crm_lex::{Line, WordBuf};
 use line_words::Words;
 use std::alloc::Global;
@@ -33,27 +33,6 @@ fn seconds_in(answer: Answer) -> u64
         Answer::Wait { seconds } => seconds,
         _ => 0,
     }
-}
-
-fn seconds_of(event: Event) -> u64
-    ensures { result ≡ journals.seconds_of event }
-{
-    match event {
-        Event::Wait { seconds } => seconds,
-        _ => 0,
-    }
-}
-
-/// The moment after some events.
-fn moment_of(events: &[Event]) -> u64
-    requires { journals.moment_of events.now < 2 ^ 40 }
-    ensures { result ≡ journals.moment_of events.now }
-{
-    let mut moment = 0;
-    for event in events {
-        moment += seconds_of(*event);
-    }
-    moment
 }
 
 /// What a line answers, at a moment and after so many result lines.
@@ -125,7 +104,7 @@ pub fn read_results(
     requires moment { journals.moment_of journal.now.events < 2 ^ 40 }
     ensures { Gives (λ results. results.items) result (results_of cluster.now (journals.moment_of journal.now.events) lines.now) }
 {
-    let mut moment = moment_of(journal.events.as_slice());
+    let mut moment = moment_of(journal.events.as_slice()) as u64;
     let mut results = Vec::new(alloc);
     for line in lines {
         let answer = result_of(cluster, moment, results.len(), line.line, line)?;
