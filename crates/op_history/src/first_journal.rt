@@ -76,10 +76,8 @@ fn leaving(cluster: &Cluster, node: NodeId, word: Option<NodeWord>) -> Option<Ev
 fn add(events: &mut Listed<Event>, event: Event) -> Result<(), NoMemory>
     ensures { OnOk result (events.new ≡ events.old ++ event ∷ []) }
 {
-    match events.push(event) {
-        Ok(()) => Ok(()),
-        Err(_) => Err(NoMemory),
-    }
+    events.push(event)?;
+    Ok(())
 }
 
 /// Adds that each node joins.

@@ -54,12 +54,12 @@ impl ToldKeys {
             Told::Now(_) => self.moment = true,
             Told::Quorum(_) => self.quorum = true,
             Told::Node { node, .. } => {
-                self.nodes.insert(node).map_err(|_| NoMemory)?;
+                self.nodes.insert(node)?;
             }
             Told::Past(_) => {}
             Told::Promoting(promotion) => {
                 let cell = (promotion.leaf, promotion.node);
-                self.cells.insert(cell).map_err(|_| NoMemory)?;
+                self.cells.insert(cell)?;
             }
         }
         Ok(())

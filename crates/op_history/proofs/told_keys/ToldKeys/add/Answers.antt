@@ -5,8 +5,8 @@ use Rattle.op_history.specs.Repeats.{is_same}
 use Rattle.op_history.proofs.Repeats.{adds_cell}
 use Rattle.op_history.proofs.told_keys.ToldKeys.add.Goals as goal
 
-pub returns-in_ok-map_err-in-Promoting : goal.returns-in_ok-map_err-in-Promoting
-returns-in_ok-map_err-in-Promoting c =
+pub returns-in_ok-insert-in-Promoting : goal.returns-in_ok-insert-in-Promoting
+returns-in_ok-insert-in-Promoting c =
     let p = c.in-Promoting.promotion in
     let old = c.args.self.now in
     let more = c.insert-in-Promoting.new.self in
