@@ -19,8 +19,9 @@ use Rattle.cluster_types.specs.Pins.{pin_of}
 use Rattle.cluster_types.specs.Precedence.{is_up}
 use Rattle.cluster_types.specs.Tables.{Targets, holds_role, is_in_scope, is_promoted_target, is_somewhere}
 use Rattle.cluster_types.proofs.LeastSets.{held-least}
+use Rattle.cluster_types.proofs.OpLaws.{up_of}
 use Rattle.plan_laws.specs.HeldMarks.{is_mandatory_order, role_by}
-use Rattle.plan_laws.proofs.HeldTests.{gives_one, gives_up}
+use Rattle.plan_laws.proofs.HeldTests.{gives_one}
 use Rattle.plan_laws.proofs.MadeOnes.{never_both}
 use Rattle.held_cells.specs.declared.dependencies.Dependency.{Dependency}
 use Rattle.held_cells.specs.Dependencies.{dependencies_by, from_colocation, from_order, may_hold}
@@ -67,7 +68,7 @@ module _ (c : Cluster) (es : List Event) (chosen left : Targets) (is : IsLeft c 
         let kind : is_mandatory_order o.kind ≡ true = rw may.mandatory refl in
         let holds : may_hold o ≡ true
         = and_from (is_mandatory_order o.kind && is_up o.first_op) (is_up o.then_op)
-        (and_from (is_mandatory_order o.kind) (is_up o.first_op) kind (gives_up o.first_op first may.first_gives)) (gives_up o.then_op given may.then_gives) in
+        (and_from (is_mandatory_order o.kind) (is_up o.first_op) kind (up_of o.first_op first may.first_gives)) (up_of o.then_op given may.then_gives) in
         let rule : Dependency = from_order o in
         let lacks_it : LacksFirst c es chosen (HasGone left) o n (role_by o.first_op) = subst (LacksFirst c es chosen (HasGone left) o n) one lacks in
         let none : has_primary (length c.nodes) left rule n ≡ false

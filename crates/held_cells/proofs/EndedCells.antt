@@ -1,6 +1,6 @@
 -- Of the targets in the end: what is left was chosen, what isn't left is held, and what is held isn't left.
 use Rattle.std.proofs.Common.{◌≡◌, ◌<◌, ◌&&◌, not, nat_lt, ℕ, Bool, true, false, List, refl, sym, ◌∙◌, ap, length}
-use Rattle.std.proofs.lemmas.Bool.{false_from_ne_true}
+use Rattle.std.proofs.lemmas.Bool.{false_from_ne_true, not-true}
 use Rattle.lemmas.proofs.Booleans.{later, sooner}
 use Rattle.cluster_types.specs.declared.cluster.Cluster.{Cluster}
 use Rattle.cluster_types.specs.declared.journal.Event.{Event}
@@ -19,7 +19,7 @@ use Rattle.plan_laws.proofs.MadeOnes.{never_both}
 use Rattle.plan_laws.proofs.OneStep.{below}
 use Rattle.plan_laws.proofs.StayHeld.{has, holds_is, nowhere_has_none}
 use Rattle.plan_laws.proofs.TablesWithin.{StaysWithin, is_cell}
-use Rattle.held_cells.proofs.Lacking.{held_not, untrue}
+use Rattle.held_cells.proofs.Lacking.{held_not}
 use Rattle.held_cells.proofs.LeftOfChosen.{IsLeft}
 use Rattle.held_cells.proofs.RolesTaken.{promoted_is_started}
 
@@ -87,10 +87,10 @@ module _ (c : Cluster) (es : List Event) (chosen targets : Targets) (inside : St
   unfolding marks
   sound (Place r) n h =
       ended.held r role.Started n (sooner (holds_role chosen r role.Started n) (not (holds_role targets r role.Started n)) h)
-      (untrue (holds_role targets r role.Started n) (later (holds_role chosen r role.Started n) (not (holds_role targets r role.Started n)) h))
+      (not-true (holds_role targets r role.Started n) (later (holds_role chosen r role.Started n) (not (holds_role targets r role.Started n)) h))
   sound (Promote r) n h =
       ended.held r role.Promoted n (sooner (holds_role chosen r role.Promoted n) (not (holds_role targets r role.Promoted n)) h)
-      (untrue (holds_role targets r role.Promoted n) (later (holds_role chosen r role.Promoted n) (not (holds_role targets r role.Promoted n)) h))
+      (not-true (holds_role targets r role.Promoted n) (later (holds_role chosen r role.Promoted n) (not (holds_role targets r role.Promoted n)) h))
 
   marked_role : (r : ℕ) (given : Role) (n : ℕ) → holds_role chosen r given n ≡ true → holds_role targets r given n ≡ false → marks (decision_of r given) n ≡ true
   unfolding marks

@@ -1,6 +1,6 @@
 -- The tests for a rule that holds a leaf back say what the definitions say.
 use Rattle.std.proofs.Common.{◌≡◌, ◌<◌, ◌&&◌, not, ℕ, Bool, true, false, if◌then◌else◌, Some, None, List, refl, sym, subst, length}
-use Rattle.std.proofs.lemmas.Bool.{and_from}
+use Rattle.std.proofs.lemmas.Bool.{and_from, not-true}
 use Rattle.lemmas.proofs.Booleans.{later, sooner}
 use Rattle.rule_loops.proofs.Needs.{is_itself, same_decision}
 use Rattle.cluster_types.specs.declared.cluster.Cluster.{Cluster}
@@ -16,13 +16,14 @@ use Rattle.cluster_types.specs.Held.{Gives, Held, LacksFirst}
 use Rattle.cluster_types.specs.Precedence.{is_up}
 use Rattle.cluster_types.specs.Reasons.{IsHeldByColocation, IsHeldByOrder}
 use Rattle.cluster_types.specs.Tables.{Targets, holds_role}
+use Rattle.cluster_types.proofs.OpLaws.{up_of}
 use Rattle.plan_laws.specs.HeldMarks.{is_mandatory_order, role_by}
-use Rattle.plan_laws.proofs.HeldTests.{gives_by, gives_one, gives_up, of_kind}
+use Rattle.plan_laws.proofs.HeldTests.{gives_by, gives_one, of_kind}
 use Rattle.held_cells.specs.Dependencies.{from_colocation, from_order, may_hold, of_colocation, of_order}
 use Rattle.held_cells.specs.Reasoning.{holds_back}
 use Rattle.held_cells.specs.Taking.{has_primary}
 use Rattle.held_cells.proofs.EndTargets.{has_gone, missing, scoped}
-use Rattle.held_cells.proofs.Lacking.{held_not, lacked, lacking, untrue}
+use Rattle.held_cells.proofs.Lacking.{held_not, lacked, lacking}
 use Rattle.held_cells.proofs.LeftOfChosen.{IsLeft, in_scope}
 
 started_place : (r s : ℕ) (given : Role) → Place r ≡ decision_of s given → (s ≡ r) × (given ≡ role.Started)
@@ -44,7 +45,7 @@ module _ (c : Cluster) (es : List Event) (chosen targets : Targets) (is : IsLeft
             mandatory = e;
             dependent = sooner its (not has) h;
             lacking = λ was. is.held col.primary col.primary_role n was
-                (lacking (length c.nodes) targets (from_colocation col) n (untrue has (later its (not has) h)) n lt (λ e. refl));
+                (lacking (length c.nodes) targets (from_colocation col) n (not-true has (later its (not has) h)) n lt (λ e. refl));
           }
       go false e h = cc
 
@@ -74,7 +75,7 @@ module _ (c : Cluster) (es : List Event) (chosen targets : Targets) (is : IsLeft
             first = role_by o.first_op;
             gives = gives_by o.first_op (later (is_mandatory_order o.kind) (is_up o.first_op) two);
             lacking = λ m low scope was. is.held o.first (role_by o.first_op) m was
-                (lacking (length c.nodes) targets (from_order o) n (untrue has (later its (not has) h)) m low (in_scope o n m scope));
+                (lacking (length c.nodes) targets (from_order o) n (not-true has (later its (not has) h)) m low (in_scope o n m scope));
           }
       go false e h = cc
 
@@ -83,7 +84,7 @@ module _ (c : Cluster) (es : List Event) (chosen targets : Targets) (is : IsLeft
       let kind : is_mandatory_order o.kind ≡ true = rw h.mandatory refl in
       let holds : may_hold o ≡ true
       = and_from (is_mandatory_order o.kind && is_up o.first_op) (is_up o.then_op)
-      (and_from (is_mandatory_order o.kind) (is_up o.first_op) kind (gives_up o.first_op h.first h.gives)) (gives_up o.then_op role.Started h.starts) in
+      (and_from (is_mandatory_order o.kind) (is_up o.first_op) kind (up_of o.first_op h.first h.gives)) (up_of o.then_op role.Started h.starts) in
       let starts : role_by o.then_op ≡ role.Started = sym (gives_one o.then_op role.Started h.starts) in
       let same : is_same_decision (Place r) (decision_of o.then_leaf (role_by o.then_op)) ≡ true = rw (starts, h.later) (is_itself (Place r)) in
       let first : h.first ≡ role_by o.first_op = gives_one o.first_op h.first h.gives in

@@ -10,10 +10,6 @@ use Rattle.plan_laws.proofs.MadeOnes.{never_both}
 use Rattle.held_cells.specs.declared.dependencies.Dependency.{Dependency}
 use Rattle.held_cells.specs.Taking.{has_primary, is_anywhere}
 
-pub untrue : (b : Bool) → not b ≡ true → b ≡ false
-untrue true h = cc
-untrue false h = refl
-
 pub not_both : (a b : Bool) → a && not b ≡ false → b ≡ false → a ≡ false
 not_both true true h e = cc
 not_both true false h e = cc

@@ -1,5 +1,6 @@
 -- What is left was chosen, and what isn't left is held.
 use Rattle.std.proofs.Common.{◌≡◌, ◌<◌, ◌==◌, ◌&&◌, not, ℕ, Bool, true, false, Option, List, inl, inr, refl, sym, ◌∙◌, subst, Contains, length, map}
+use Rattle.std.proofs.lemmas.Bool.{not-true}
 use Rattle.std.specs.List.{range_with_len}
 use Rattle.lemmas.proofs.Booleans.{implied, later, sooner}
 use Rattle.cluster_types.specs.declared.cluster.Cluster.{Cluster}
@@ -23,7 +24,7 @@ use Rattle.plan_laws.proofs.OneStep.{equal}
 use Rattle.held_cells.specs.declared.dependencies.Dependency.{Dependency}
 use Rattle.held_cells.specs.Dependencies.{dependencies_by, from_colocation, from_order, may_hold}
 use Rattle.held_cells.specs.Taking.{Taken, has_primary, none_yet, one_more, takes, without}
-use Rattle.held_cells.proofs.Lacking.{lacking, untrue}
+use Rattle.held_cells.proofs.Lacking.{lacking}
 use Rattle.held_cells.proofs.RolesTaken.{Gone, gone, lowered}
 use Rattle.held_cells.proofs.RuleOrigins.{Origin, a_colocation, an_order, origin}
 use Rattle.held_cells.proofs.TakenSteps.{role_alike, takes_held}
@@ -46,7 +47,7 @@ module _ (c : Cluster) (es : List Event) (pins : List (Option Pin)) (are : pins 
         let rule : Dependency = from_colocation col in
         let there = takes_held (length c.nodes) left rule n taken in
         let none : has_primary (length c.nodes) left rule n ≡ false
-        = untrue (has_primary (length c.nodes) left rule n) (later (holds_role left rule.dependent rule.dependent_role n) (not (has_primary (length c.nodes) left rule n)) taken) in
+        = not-true (has_primary (length c.nodes) left rule n) (later (holds_role left rule.dependent rule.dependent_role n) (not (has_primary (length c.nodes) left rule n)) taken) in
         by_colocation col n
         (record { present = among; mandatory = mandatory; managed = free; within = lt; chosen = is.within col.dependent col.dependent_role n there })
         (λ was. is.held col.primary col.primary_role n was (lacking (length c.nodes) left rule n none n lt (λ e. refl)))
@@ -57,7 +58,7 @@ module _ (c : Cluster) (es : List Event) (pins : List (Option Pin)) (are : pins 
         let rule : Dependency = from_order o in
         let there = takes_held (length c.nodes) left rule n taken in
         let none : has_primary (length c.nodes) left rule n ≡ false
-        = untrue (has_primary (length c.nodes) left rule n) (later (holds_role left rule.dependent rule.dependent_role n) (not (has_primary (length c.nodes) left rule n)) taken) in
+        = not-true (has_primary (length c.nodes) left rule n) (later (holds_role left rule.dependent rule.dependent_role n) (not (has_primary (length c.nodes) left rule n)) taken) in
         let two = sooner (is_mandatory_order o.kind && is_up o.first_op) (is_up o.then_op) holds in
         by_order o n (role_by o.first_op) (role_by o.then_op)
         (record {

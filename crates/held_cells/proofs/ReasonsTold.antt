@@ -6,6 +6,7 @@ use Rattle.std.proofs.lemmas.Bool.{cases_lt}
 use Rattle.std.proofs.lemmas.List.FromFn.{length-map-range_with_len}
 use Rattle.std.proofs.lemmas.Option.{slice_get_past}
 use Rattle.lemmas.proofs.Ranges.{slice_get-range}
+use Rattle.lemmas.proofs.Results.{same_some}
 use Rattle.cluster_types.specs.declared.cluster.Cluster.{Cluster}
 use Rattle.cluster_types.specs.declared.journal.Event.{Event}
 use Rattle.cluster_types.specs.declared.journal.Promotion.{Promotion}
@@ -30,12 +31,9 @@ record At {X : Type 0} (f : ℕ → X) (n r : ℕ) (x : X) : Type 0 where
   pub low : r < n
   pub is : f r ≡ x
 
-one_is : {X : Type 0} (x y : X) → Some x ≡ Some y → x ≡ y
-one_is x y h = cc
-
 at_leaf : {X : Type 0} (f : ℕ → X) (n r : ℕ) (x : X) → slice_get (map f (range_with_len 0 n)) r ≡ Some x → At f n r x
 at_leaf f n r x h = elim (cases_lt r n) [
-  | inl lt ↦ record { low = lt; is = one_is (f r) x (sym (slice_get-range f n r lt) ∙ h) }
+  | inl lt ↦ record { low = lt; is = same_some (f r) x (sym (slice_get-range f n r lt) ∙ h) }
   | inr le ↦
       let size = length-map-range_with_len f 0 n in
       let past : length (map f (range_with_len 0 n)) ≤ r = omega arith in

@@ -5,7 +5,8 @@ use Rattle.cluster_types.specs.declared.leaf.Role.{Role}
 use Rattle.cluster_types.specs.declared.leaf.Role.TheVariants as role
 use Rattle.cluster_types.specs.declared.placement.Target.{Target}
 use Rattle.cluster_types.specs.declared.placement.Target.TheVariants as target
-use Rattle.cluster_types.specs.Tables.{Targets, holds_role, is_promoted_target, is_somewhere}
+use Rattle.cluster_types.specs.Tables.{Targets, holds_role}
+use Rattle.cluster_types.proofs.TableCells.{promoted_somewhere}
 use Rattle.plan_laws.proofs.MadeOnes.{never_both}
 use Rattle.plan_laws.proofs.OneStep.{equal}
 use Rattle.plan_laws.proofs.StayHeld.{has, holds_is}
@@ -13,18 +14,13 @@ use Rattle.held_cells.specs.Taking.{below, without}
 
 -- of one target
 
-promoted_is_somewhere : (t : Target) → is_promoted_target t ≡ true → is_somewhere t ≡ true
-promoted_is_somewhere target.Nowhere h = cc
-promoted_is_somewhere target.Started h = cc
-promoted_is_somewhere target.Promoted h = refl
-
 pub promoted_is_started : (table : Targets) (r n : ℕ) → holds_role table r role.Promoted n ≡ true → holds_role table r role.Started n ≡ true
-promoted_is_started table r n h = promoted_is_somewhere (table r n) h
+promoted_is_started table r n h = promoted_somewhere (table r n) h
 
 less_below : (t : Target) (given other : Role) → has given t ≡ true → has other (below given) ≡ true → has other t ≡ true
 less_below t role.Started role.Started h k = cc
 less_below t role.Started role.Promoted h k = cc
-less_below t role.Promoted role.Started h k = promoted_is_somewhere t h
+less_below t role.Promoted role.Started h k = promoted_somewhere t h
 less_below t role.Promoted role.Promoted h k = cc
 
 gone_below : (given other : Role) → has other (below given) ≡ false → (other ≡ given) ⊎ ((given ≡ role.Started) × (other ≡ role.Promoted))

@@ -1,13 +1,13 @@
 -- What is looked for once serves all nodes of a turn, since roles are only taken away.
 use Rattle.std.proofs.Common.{◌≡◌, ◌&&◌, not, ℕ, Bool, true, false, if◌then◌else◌, refl, sym, ◌∙◌, ap}
-use Rattle.std.proofs.lemmas.Bool.{false_from_ne_true}
+use Rattle.std.proofs.lemmas.Bool.{false_from_ne_true, not-true}
 use Rattle.lemmas.proofs.Booleans.{later, sooner}
 use Rattle.cluster_types.specs.declared.leaf.Role.{Role}
 use Rattle.cluster_types.specs.Tables.{Targets, holds_role}
 use Rattle.plan_laws.proofs.MadeOnes.{never_both}
 use Rattle.held_cells.specs.declared.dependencies.Dependency.{Dependency}
 use Rattle.held_cells.specs.Taking.{has_primary, has_primary_where, is_anywhere, takes}
-use Rattle.held_cells.proofs.Lacking.{anywhere_not, held_not, none_in_range, untrue}
+use Rattle.held_cells.proofs.Lacking.{anywhere_not, held_not, none_in_range}
 
 module _ (nodes : ℕ) (first : Targets) (rule : Dependency) (anywhere : Bool)
     (known : anywhere ≡ (not rule.local && is_anywhere nodes first rule.primary rule.primary_role)) (n : ℕ) where
@@ -34,7 +34,7 @@ module _ (nodes : ℕ) (first : Targets) (rule : Dependency) (anywhere : Bool)
   takes_now now less h =
       held_not (holds_role now rule.dependent rule.dependent_role n) (has_primary nodes now rule n)
       (sooner (holds_role now rule.dependent rule.dependent_role n) (not (has_primary_where now rule anywhere n)) h)
-      (go rule.local refl (untrue (has_primary_where now rule anywhere n)
+      (go rule.local refl (not-true (has_primary_where now rule anywhere n)
       (later (holds_role now rule.dependent rule.dependent_role n) (not (has_primary_where now rule anywhere n)) h)))
     where
       never : anywhere ≡ false → rule.local ≡ false → is_anywhere nodes now rule.primary rule.primary_role ≡ false

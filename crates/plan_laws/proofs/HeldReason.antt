@@ -17,8 +17,9 @@ use Rattle.cluster_types.specs.Held.{Gives, Held, by_colocation, by_order, by_pl
 use Rattle.cluster_types.specs.Precedence.{is_up}
 use Rattle.cluster_types.specs.Reasons.{IsFirstOf, IsHeldByColocation, IsHeldByOrder}
 use Rattle.cluster_types.specs.Tables.{Targets}
+use Rattle.cluster_types.proofs.OpLaws.{up_of}
 use Rattle.plan_laws.specs.HeldMarks.{Marks, is_mandatory_order, lacks_first, lacks_primary, role_by}
-use Rattle.plan_laws.proofs.HeldTests.{first_lacks, gives_by, gives_one, gives_up, lacks_of_first, lacks_of_primary, of_kind, primary_lacks}
+use Rattle.plan_laws.proofs.HeldTests.{first_lacks, gives_by, gives_one, lacks_of_first, lacks_of_primary, of_kind, primary_lacks}
 use Rattle.plan_laws.proofs.Firsts.{FirstOrNone, a_first, first_or_none, never, none_holds}
 
 module _ (c : Cluster) (es : List Event) (table : Targets) (marks : Marks) (sound : (d : Decision) (n : ℕ) → marks d n ≡ true → Held c es table d n)
@@ -69,8 +70,8 @@ module _ (c : Cluster) (es : List Event) (table : Targets) (marks : Marks) (soun
   order_no : (o : Order) → IsHeldByOrder c es table r n o → by_order_test o ≡ true
   order_no o h =
       let kind_is : is_mandatory_order o.kind ≡ true = rw h.mandatory refl in
-      let one = gives_up o.first_op h.first h.gives in
-      let other = gives_up o.then_op role.Started h.starts in
+      let one = up_of o.first_op h.first h.gives in
+      let other = up_of o.then_op role.Started h.starts in
       let role_is : role_by o.then_op ≡ role.Started = sym (gives_one o.then_op role.Started h.starts) in
       let same : is_same_decision (Place r) (decision_of o.then_leaf (role_by o.then_op)) ≡ true = rw (role_is, h.later) (is_itself (Place r)) in
       let lacks = lacks_of_first c es table marks (Held c es table) marked o n (rw (← gives_one o.first_op h.first h.gives) h.lacking) in

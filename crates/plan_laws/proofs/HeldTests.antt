@@ -1,10 +1,10 @@
 -- The tests of the rules that hold cells back say what the rules say.
-use Rattle.std.proofs.Common.{arith, ◌≡◌, ◌<◌, ◌&&◌, ◌||◌, not, nat_lt, ℕ, Bool, true, false, List, [], ◌∷◌, refl, length, Contains}
-use Rattle.std.specs.List.{list_all, range_with_len}
-use Rattle.std.proofs.lemmas.Bool.{and_from}
+use Rattle.std.proofs.Common.{arith, ◌≡◌, ◌&&◌, ◌||◌, not, nat_lt, ℕ, Bool, true, false, List, refl, length, Contains}
+use Rattle.std.specs.List.{range_with_len}
+use Rattle.std.proofs.lemmas.Bool.{and_from, lt-ltb, not-true}
 use Rattle.lemmas.proofs.Booleans.{implied, later, sooner}
-use Rattle.lemmas.proofs.Searches.{each_passes}
-use Rattle.lemmas.proofs.Members.{at_head, in_range, in_rest, of_range}
+use Rattle.lemmas.proofs.Searches.{each_passes, all_pass}
+use Rattle.lemmas.proofs.Members.{in_range, of_range}
 use Rattle.cluster_types.specs.declared.cluster.Cluster.{Cluster}
 use Rattle.cluster_types.specs.declared.journal.Event.{Event}
 use Rattle.cluster_types.specs.declared.leaf.Op.{Op}
@@ -21,16 +21,9 @@ use Rattle.cluster_types.specs.Held.{ColocationMayHold, Gives, LacksFirst, Lacks
 use Rattle.cluster_types.specs.Pins.{is_pinned}
 use Rattle.cluster_types.specs.Precedence.{is_up}
 use Rattle.cluster_types.specs.Tables.{Targets, holds_role, is_in_scope}
+use Rattle.cluster_types.proofs.OpLaws.{up_of}
 use Rattle.plan_laws.specs.HeldMarks.{Marks, is_mandatory_order, lacks_first, lacks_primary, may_colocation, may_order, role_by}
 use Rattle.plan_laws.proofs.OneStep.{below}
-
-pub all_pass : {X : Type 0} (p : X → Bool) (xs : List X) → ((x : X) → Contains xs x → p x ≡ true) → list_all p xs ≡ true
-all_pass p [] each = refl
-all_pass p (x ∷ xs) each = and_from (p x) (list_all p xs) (each x (at_head x xs x refl)) (all_pass p xs (λ y h. each y (in_rest x xs y h)))
-
-pub untrue : (b : Bool) → not b ≡ true → b ≡ false
-untrue true h = cc
-untrue false h = refl
 
 pub true_not : (b : Bool) → b ≡ false → not b ≡ true
 true_not b h = rw h refl
@@ -38,9 +31,6 @@ true_not b h = rw h refl
 pub if_then : (a b : Bool) → (a ≡ true → b ≡ true) → not a || b ≡ true
 if_then true b f = f refl
 if_then false b f = refl
-
-above : (n m : ℕ) → n < m → nat_lt n m ≡ true
-above n m h = grind arith
 
 pub of_kind : (k : OrderKind) → is_mandatory_order k ≡ true → k ≡ kind.Mandatory
 of_kind kind.Mandatory h = refl
@@ -54,10 +44,6 @@ gives_by op.Promote h = promoted
 gives_by op.Stop h = cc
 gives_by op.Demote h = cc
 gives_by op.Monitor h = cc
-
-pub gives_up : (o : Op) (given : Role) → Gives o given → is_up o ≡ true
-gives_up _ _ started = refl
-gives_up _ _ promoted = refl
 
 pub gives_one : (o : Op) (given : Role) → Gives o given → given ≡ role_by o
 gives_one _ _ started = refl
@@ -75,7 +61,7 @@ module _ (c : Cluster) (es : List Event) (table : Targets) where
         mandatory = of_kind o.kind (sooner (is_mandatory_order o.kind) (is_up o.first_op) two);
         first_gives = gives_by o.first_op (later (is_mandatory_order o.kind) (is_up o.first_op) two);
         then_gives = gives_by o.then_op (later _ (is_up o.then_op) three);
-        managed = untrue (is_pinned c es o.then_leaf) (later _ (not (is_pinned c es o.then_leaf)) four);
+        managed = not-true (is_pinned c es o.then_leaf) (later _ (not (is_pinned c es o.then_leaf)) four);
         within = below n (length c.nodes) (later _ (nat_lt n (length c.nodes)) five);
         chosen = later _ (holds_role table o.then_leaf (role_by o.then_op) n) h;
       }
@@ -83,10 +69,10 @@ module _ (c : Cluster) (es : List Event) (table : Targets) where
   pub may_of_order : (o : Order) (n : ℕ) (first given : Role) → OrderMayHold c es table o n first given → may_order c es table o n ≡ true
   may_of_order o n first given may =
       let kind_is : is_mandatory_order o.kind ≡ true = rw may.mandatory refl in
-      let one = gives_up o.first_op first may.first_gives in
-      let other = gives_up o.then_op given may.then_gives in
+      let one = up_of o.first_op first may.first_gives in
+      let other = up_of o.then_op given may.then_gives in
       let free = true_not (is_pinned c es o.then_leaf) may.managed in
-      let low = above n (length c.nodes) may.within in
+      let low = lt-ltb n (length c.nodes) may.within in
       let there : holds_role table o.then_leaf (role_by o.then_op) n ≡ true = rw (← gives_one o.then_op given may.then_gives) may.chosen in
       rw (kind_is, one, other, free, low) there
 
@@ -97,7 +83,7 @@ module _ (c : Cluster) (es : List Event) (table : Targets) where
       record {
         present = present;
         mandatory = sooner (is_mandatory col) (not (is_pinned c es col.dependent)) two;
-        managed = untrue (is_pinned c es col.dependent) (later (is_mandatory col) (not (is_pinned c es col.dependent)) two);
+        managed = not-true (is_pinned c es col.dependent) (later (is_mandatory col) (not (is_pinned c es col.dependent)) two);
         within = below n (length c.nodes) (later _ (nat_lt n (length c.nodes)) three);
         chosen = later _ (holds_role table col.dependent col.dependent_role n) h;
       }
@@ -105,7 +91,7 @@ module _ (c : Cluster) (es : List Event) (table : Targets) where
   pub may_of_colocation : (col : Colocation) (n : ℕ) → ColocationMayHold c es table col n → may_colocation c es table col n ≡ true
   may_of_colocation col n may =
       let free = true_not (is_pinned c es col.dependent) may.managed in
-      let low = above n (length c.nodes) may.within in
+      let low = lt-ltb n (length c.nodes) may.within in
       rw (may.mandatory, free, low) may.chosen
 
   -- what is lacking by the marks, of some set that has the marked cells

@@ -19,18 +19,14 @@ use Rattle.cluster_types.specs.Held.{AreTargets, Gives, Held, by_order, by_coloc
 use Rattle.cluster_types.specs.Pins.{is_pinned}
 use Rattle.cluster_types.specs.Tables.{Targets, holds_role, is_in_scope, is_somewhere, is_promoted_target}
 use Rattle.cluster_types.specs.Valid.{IsValid}
+use Rattle.cluster_types.proofs.TableCells.{promoted_somewhere}
 use Rattle.rule_loops.proofs.FromValid.{valid_join, valid_order}
 use Rattle.lemmas.proofs.Searches.{passes_by}
-
-somewhere_too : (t : Target) → is_promoted_target t ≡ true → is_somewhere t ≡ true
-somewhere_too target.Nowhere h = h
-somewhere_too target.Started h = refl
-somewhere_too target.Promoted h = refl
 
 module _ (c : Cluster) (es : List Event) (table : Targets) where
   module _ (r n : ℕ) where
     started_too : holds_role table r role.Promoted n ≡ true → holds_role table r role.Started n ≡ true
-    started_too h = somewhere_too (table r n) h
+    started_too h = promoted_somewhere (table r n) h
 
     one_target : (t u : Target) → Keeps c es table r n t → Keeps c es table r n u → t ≡ u
     one_target target.Nowhere target.Nowhere h k = refl

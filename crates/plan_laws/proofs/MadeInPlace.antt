@@ -25,7 +25,8 @@ use Rattle.plan_laws.proofs.StayHeld.{stay_held, untouched_first, untouched_late
 use Rattle.lemmas.proofs.Searches.{passes_by}
 use Rattle.rule_loops.proofs.Needs.{is_itself}
 
-among : (ds : List Decision) (d : Decision) → was_made ds d ≡ true → Contains ds d
+-- what was made stands in the list
+pub among : (ds : List Decision) (d : Decision) → was_made ds d ≡ true → Contains ds d
 among ds d h = at (Any-from_list_any (is_same_decision d) ds h)
   where
     at : Any (λ x. is_same_decision d x ≡ true) ds → Contains ds d

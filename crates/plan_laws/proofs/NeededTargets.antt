@@ -29,10 +29,6 @@ use Rattle.plan_laws.proofs.ChosenTargets.{fitted}
 use Rattle.plan_laws.proofs.NeededSteps.{MustBeGiven, given_again, given_anew}
 use Rattle.plan_laws.proofs.StayHeld.{holds_is}
 
-not_true : (b : Bool) → not b ≡ true → b ≡ false
-not_true true h = cc
-not_true false h = refl
-
 must_start : (a b k e : Bool) → a || b && k && e ≡ true → k ≡ false → a ≡ true
 must_start true b k e h g = refl
 must_start false true true e h g = cc

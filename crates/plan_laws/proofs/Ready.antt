@@ -26,7 +26,7 @@ module _ (c : Cluster) (es : List Event) (made : List Decision) (d : Decision) (
       (each_passes (λ e. not (needs c d e) || was_made made e) (decisions c es) e (later _ _ ready) (there c es e is)) wants
 
 -- a leaf is placed before it is promoted
-needs_place : (c : Cluster) (r : ℕ) → needs c (Promote r) (Place r) ≡ true
+pub needs_place : (c : Cluster) (r : ℕ) → needs c (Promote r) (Place r) ≡ true
 needs_place c r = rw (is_itself (Place r)) refl
 
 pub place_is_made : (c : Cluster) (es : List Event) (made : List Decision) (r : ℕ) → is_ready c es made (Promote r) ≡ true → was_made made (Place r) ≡ true

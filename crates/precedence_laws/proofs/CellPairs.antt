@@ -1,6 +1,6 @@
 -- What must come first by its kind or on its cell: probes, stops, fences and demotes before starts and promotes, and all of them before monitors.
 use Rattle.std.proofs.Common.{◌≡◌, ◌<◌, ◌==◌, ◌&&◌, ◌||◌, nat_lt, ℕ, Bool, true, false, Option, Some, None, List, [], ◌∷◌, length, Contains, refl, sym, subst}
-use Rattle.std.proofs.lemmas.Bool.{and_parts, eqb-true}
+use Rattle.std.proofs.lemmas.Bool.{and_parts, eqb-true, lt-ltb}
 use Rattle.lemmas.proofs.Booleans.{either}
 use Rattle.lemmas.proofs.Members.{at_head, in_rest}
 use Rattle.cluster_types.specs.declared.cluster.Cluster.{Cluster}
@@ -16,7 +16,6 @@ use Rattle.cluster_types.specs.Precedence.{CellOf, both, change_cell, comes_firs
 use Rattle.cluster_types.specs.Tables.{Targets, holds_role}
 use Rattle.precedence_laws.proofs.Links.{link_of_leaf}
 use Rattle.precedence_laws.proofs.NeededActions.{bounds_of_cell, gets_step, promotable_by_demote, target_by_promote}
-use Rattle.precedence_laws.proofs.OrderWords.{below}
 use Rattle.precedence_laws.proofs.Phases.{gives_by_rank, stop_place, takes_by_rank}
 use Rattle.precedence_laws.proofs.Roles.{GivesTo, gives_start, gives_sent, gives_promote, given_any}
 use Rattle.precedence_laws.proofs.Words.{OfCell, of_cell, both_there, cell_there}
@@ -94,7 +93,7 @@ module _ (c : Cluster) (es : List Event) (targets : Targets) (actions : List Act
           let yes = promotable_by_demote c es targets r n (gets_step c es targets op.Demote r n i role refl need) in
           let up = rise (link op.Demote r op.Stop r)
           (link_of_leaf c r (link op.Demote r op.Stop r) within.0 refl yes refl (at_head (link op.Demote r op.Stop r) (link op.Start r op.Promote r ∷ []) (link op.Demote r op.Stop r) refl)) in
-          takes_by_rank _ _ r s n m 0 0 (subst (λ v. nat_lt (rank c (step_of op.Demote r)) (rank c (step_of op.Stop v)) ≡ true) same (below _ _ up))
+          takes_by_rank _ _ r s n m 0 0 (subst (λ v. nat_lt (rank c (step_of op.Demote r)) (rank c (step_of op.Stop v)) ≡ true) same (lt-ltb _ _ up))
 
   start_promote : (x y : Action) (r n s m : ℕ) → r ≡ s → Contains actions y → OfCell op.Start x r n → OfCell op.Promote y s m → is_earlier c actions x y ≡ true
   start_promote _ _ _ _ _ _ same iny (of_cell r n i role) (of_cell s m j other) =
@@ -104,7 +103,7 @@ module _ (c : Cluster) (es : List Event) (targets : Targets) (actions : List Act
       let up = rise (link op.Start s op.Promote s)
       (link_of_leaf c s (link op.Start s op.Promote s) within.0 refl refl yes
       (in_rest (link op.Demote s op.Stop s) (link op.Start s op.Promote s ∷ []) (link op.Start s op.Promote s) (at_head (link op.Start s op.Promote s) [] (link op.Start s op.Promote s) refl))) in
-      gives_by_rank _ _ r s n m 0 0 (subst (λ v. nat_lt (rank c (step_of op.Start v)) (rank c (step_of op.Promote s)) ≡ true) (sym same) (below _ _ up))
+      gives_by_rank _ _ r s n m 0 0 (subst (λ v. nat_lt (rank c (step_of op.Start v)) (rank c (step_of op.Promote s)) ≡ true) (sym same) (lt-ltb _ _ up))
 
   change_monitor : (x y : Action) (a : CellOf) (s m : ℕ) → change_cell x ≡ Some a → OfCell op.Monitor y s m → is_earlier c actions x y ≡ true
   change_monitor (Cell op.Start r n i role) _ a _ _ h (of_cell s m j other) = refl

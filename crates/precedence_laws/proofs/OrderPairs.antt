@@ -1,7 +1,7 @@
 -- The pairs of an order that isn't Serialize stand rightly, so the earlier has the lower number.
 use Rattle.std.proofs.Common.{arith, inl, inr, ◌≡◌, ◌≢◌, ◌<◌, ◌==◌, ◌&&◌, ◌||◌, not, if◌then◌else◌, ℕ, Bool, true, false, List, Contains, refl, sym, subst}
 use Rattle.std.specs.List.{list_any}
-use Rattle.std.proofs.lemmas.Bool.{and_parts, both_ways, eqb-true, eqb-false, not-true}
+use Rattle.std.proofs.lemmas.Bool.{and_parts, both_ways, eqb-true, eqb-false, not-true, lt-ltb}
 use Rattle.lemmas.proofs.Booleans.{either}
 use Rattle.cluster_types.specs.declared.cluster.Cluster.{Cluster}
 use Rattle.cluster_types.specs.declared.journal.Action.{Action}
@@ -17,7 +17,7 @@ use Rattle.cluster_types.specs.Tables.{Targets, is_in_scope}
 use Rattle.cluster_types.specs.Valid.{IsValidOrder, MayHaveWord}
 use Rattle.precedence_laws.proofs.Links.{inverse_by_word, inverse_link, link_of_order, own_link, step_by_word, taken_link, taker_by_word, turned_link}
 use Rattle.precedence_laws.proofs.NeededActions.{found, Migrant, disturbed_by, is_monitor, migrant_disturbed, migrates_by_sent, migrates_by_taken, migrating}
-use Rattle.precedence_laws.proofs.OrderWords.{below, inverse_is_step, not_start, stop_takes, taker_takes, turned_up, word_is_step}
+use Rattle.precedence_laws.proofs.OrderWords.{inverse_is_step, not_start, stop_takes, taker_takes, turned_up, word_is_step}
 use Rattle.precedence_laws.proofs.Phases.{Rightly, rightly_upward}
 use Rattle.precedence_laws.proofs.Words.{both_there, Earlier, first_start, first_taken_in, first_stop, first_promote, first_demote, earlier, Later, then_start, then_sent_to, then_sent_off, then_stop, then_promote, then_demote, later}
 
@@ -95,7 +95,7 @@ module _ (c : Cluster) (es : List Event) (targets : Targets) (actions : List Act
 
     own_rightly : IsDisturbed c es targets o.first → IsDisturbed c es targets o.then_leaf → Rightly c actions o.first_op o.first o.then_op o.then_leaf
     own_rightly d later_d = record {
-      linked = λ w. below (rank c (step_of o.first_op o.first)) (rank c (step_of o.then_op o.then_leaf)) (rises o.first_op o.then_op o.first o.then_leaf (step_by_word c o.first o.first_op valid.first) (step_by_word c o.then_leaf o.then_op valid.later) (own_link o kind) w);
+      linked = λ w. lt-ltb (rank c (step_of o.first_op o.first)) (rank c (step_of o.then_op o.then_leaf)) (rises o.first_op o.then_op o.first o.then_leaf (step_by_word c o.first o.first_op valid.first) (step_by_word c o.then_leaf o.then_op valid.later) (own_link o kind) w);
       rising = valid.upward;
       first_stays = λ h e. first_moves h (λ k. let f : op.Stop ≡ op.Start = cc in cc) later_d;
       then_stays = λ h up q. same_or_not (own_self o.first_op refl up h q) (λ other. then_moves h other d);
@@ -114,7 +114,7 @@ module _ (c : Cluster) (es : List Event) (targets : Targets) (actions : List Act
       taken_rightly p q up inp inq d first_d =
           let ups = and_parts (is_up o.first_op) (is_up o.then_op) up in
           record {
-            linked = λ w. below (rank c (step_of p o.then_leaf)) (rank c (step_of q o.first)) (taken_rises p q up inp inq w);
+            linked = λ w. lt-ltb (rank c (step_of p o.then_leaf)) (rank c (step_of q o.first)) (taken_rises p q up inp inq w);
             rising = λ h. let k = (taker_takes o.then_op p inp).1 in absurd (let f : true ≡ false = cc in cc);
             first_stays = λ h e. same_or_not
                 (λ same. no_self op.Stop op.Stop o.then_leaf o.first refl (sym same) (taken_rises op.Stop op.Stop up (stop_takes o.then_op ups.1) (stop_takes o.first_op ups.0) refl))
@@ -135,7 +135,7 @@ module _ (c : Cluster) (es : List Event) (targets : Targets) (actions : List Act
       turned_rightly e d first_d =
           let other = not_start o.first_op (first_takes e) in
           record {
-            linked = λ w. below (rank c (step_of (inverse o.then_op) o.then_leaf)) (rank c (step_of (inverse o.first_op) o.first))
+            linked = λ w. lt-ltb (rank c (step_of (inverse o.then_op) o.then_leaf)) (rank c (step_of (inverse o.first_op) o.first))
                 (rises (inverse o.then_op) (inverse o.first_op) o.then_leaf o.first (inverse_by_word c o.then_leaf o.then_op valid.later) (inverse_by_word c o.first o.first_op valid.first)
                 (inverse_link o (link (inverse o.then_op) o.then_leaf (inverse o.first_op) o.first) kind both_ways (turned_link o e)) w);
             rising = λ h. turned_up o.first_op (word_is_step c o.first o.first_op valid.first) (first_takes e);

@@ -1,5 +1,5 @@
 -- What the words of orders are: of steps, that give a role or take one.
-use Rattle.std.proofs.Common.{arith, ◌≡◌, ◌≢◌, ◌<◌, nat_lt, ℕ, true, false, [], ◌∷◌, Contains, refl, subst}
+use Rattle.std.proofs.Common.{◌≡◌, ◌≢◌, ℕ, true, false, [], ◌∷◌, Contains, refl, subst}
 use Rattle.lemmas.proofs.Members.{at_head, in_rest}
 use Rattle.lemmas.proofs.Searches.{of_none}
 use Rattle.cluster_types.specs.declared.cluster.Cluster.{Cluster}
@@ -50,6 +50,3 @@ turned_up op.Monitor e h = cc
 
 pub not_start : (o : Op) → is_up o ≡ false → o ≢ op.Start
 not_start o h e = let f : is_up op.Start ≡ false = subst (λ v. is_up v ≡ false) e h in cc
-
-pub below : (a b : ℕ) → a < b → nat_lt a b ≡ true
-below a b h = grind arith
