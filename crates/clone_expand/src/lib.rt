@@ -37,4 +37,5 @@ pub use fault::{ExpandCause, ExpandFault};
 pub use laws::{each_primitive_is_a_leaf, leaf_names_differ};
 pub use leaves::{Leaves, Span};
 pub use name_table::NameTable;
-pub use values::{bool_at, count_at, value_of};
+pub use settings::properties_in;
+pub use values::{bool_at, count_at};

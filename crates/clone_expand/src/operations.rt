@@ -1,17 +1,17 @@
 //! The operations of a primitive that have effect.
 
 ghost use Rattle.std.specs.Prelude.{◌≡◌, ◌++◌, codes, find, unwrap_or, false, IfOk, OnOk};
-ghost use Rattle.std.specs.Option.{option_and_then, option_copied, option_map_or};
-ghost use Rattle.crm_parse.specs.Operations.{interval_of, recurs, says_no, value_of};
+ghost use Rattle.std.specs.Option.{option_copied, option_map_or};
+ghost use Rattle.crm_parse.specs.Operations.{interval_of, recurs, value_of};
 ghost use Rattle.crm_parse.specs.Texts.{is};
 ghost use Rattle.crm_parse.specs.Values.{role_of};
 ghost use Rattle.clone_expand.specs.Metas.{read_as};
 ghost use Rattle.clone_expand.specs.Operations.{after_a_stop, fail_of, on_fail_in, on_fail_of};
 ghost use Rattle.clone_expand.specs.Operations.{is_promoted, monitor_in, monitor_of, monitor_role, monitors_of};
 
-use crate::values::{is, role_at, time_at, value_of};
+use crate::values::role_at;
 use cluster_types::{Monitor, NoMemory, OnFail, Role};
-use crm_parse::{Kv, Operation, RoleName, bool_of};
+use crm_parse::{Kv, Operation, RoleName, interval_of, is, recurs, value_of};
 use listed::Listed;
 use std::alloc::Global;
 
@@ -63,38 +63,6 @@ pub fn after_a_stop(fencing: bool) -> OnFail
     } else {
         OnFail::Block
     }
-}
-
-fn says_no(word: &[u8]) -> bool
-    ensures { result ≡ says_no word.now }
-{
-    match bool_of(word) {
-        Some(yes) => !yes,
-        None => false,
-    }
-}
-
-fn is_switched_off(pairs: &[Kv]) -> bool
-    ensures { result ≡ option_map_or says_no (value_of (codes "enabled") pairs.now) false }
-{
-    match value_of(b"enabled", pairs) {
-        Some(value) => says_no(value),
-        None => false,
-    }
-}
-
-fn interval_of(pairs: &[Kv]) -> u32
-    ensures { result ≡ interval_of pairs.now }
-{
-    time_at(b"interval", pairs).unwrap_or(0)
-}
-
-/// Whether the operation is a recurring monitor.
-fn recurs(op: &Operation) -> bool
-    ensures { result ≡ recurs op.now }
-{
-    let pairs = op.pairs.as_slice();
-    is(op.name.bytes(), b"monitor") && !is_switched_off(pairs) && interval_of(pairs) > 0
 }
 
 fn is_promoted(role: RoleName) -> bool

@@ -10,7 +10,8 @@ use crate::values::bool_at;
 use cluster_types::NoMemory;
 use crm_parse::{Form, Kv, SettingsWord, Statement};
 
-fn properties_in(form: &Form) -> &[Kv]
+/// The pairs of the options of the cluster that a statement sets: none where it sets no such options.
+pub fn properties_in(form: &Form) -> &[Kv]
     ensures { result.now ≡ properties_in form.now }
 {
     match form {

@@ -1,35 +1,12 @@
 //! The values of keys.
 
-ghost use Rattle.std.specs.Prelude.{◌≡◌, find};
-ghost use Rattle.std.specs.Option.{option_copied, option_map_or};
+ghost use Rattle.std.specs.Prelude.{◌≡◌};
 ghost use Rattle.score.specs.ScoreText.{read_score};
-ghost use Rattle.crm_parse.specs.Operations.{value_of};
-ghost use Rattle.crm_parse.specs.Texts.{is};
 ghost use Rattle.crm_parse.specs.Values.{bool_of, count_of, role_of, time_of};
 ghost use Rattle.clone_expand.specs.Metas.{read_as};
 
-use crm_parse::{Kv, RoleName, bool_of, count_of, role_of, time_of};
+use crm_parse::{Kv, RoleName, bool_of, count_of, role_of, time_of, value_of};
 use score::Score;
-
-/// Whether the word is this text, byte by byte.
-pub fn is(word: &[u8], text: &[u8]) -> bool
-    ensures { result ≡ is word.now text.now }
-{
-    word == text
-}
-
-fn pair_of<'a>(key: &[u8], pairs: &'a [Kv]) -> Option<&'a Kv>
-    ensures { option_copied result ≡ find (λ pair. is pair.key key.now) pairs.now }
-{
-    pairs.iter().find(|pair| is(pair.key.bytes(), key))
-}
-
-/// The value of the first pair of a key.
-pub fn value_of<'a>(key: &[u8], pairs: &'a [Kv]) -> Option<&'a [u8]>
-    ensures { option_copied result ≡ value_of key.now pairs.now }
-{
-    pair_of(key, pairs).map(|pair| pair.value.bytes())
-}
 
 pub fn score_at(key: &[u8], pairs: &[Kv]) -> Option<Score>
     ensures { result ≡ read_as read_score key.now pairs.now }

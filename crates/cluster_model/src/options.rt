@@ -8,22 +8,9 @@ ghost use Rattle.clone_expand.specs.Settings.{properties_in};
 ghost use Rattle.cluster_types.specs.declared.cluster.Policy.TheVariants.{Stop};
 ghost use Rattle.cluster_model.specs.Options.{flag_of, policy_of, properties_of, setting_of};
 
-use clone_expand::value_of;
+use clone_expand::properties_in;
 use cluster_types::{Policy, Properties};
-use crm_parse::{Form, Kv, SettingsWord, Statement, bool_of, count_of};
-
-fn properties_in(form: &Form) -> &[Kv]
-    ensures { result.now ≡ properties_in form.now }
-{
-    match form {
-        Form::Settings {
-            what: SettingsWord::Property,
-            pairs,
-            ..
-        } => pairs.as_slice(),
-        _ => &[],
-    }
-}
+use crm_parse::{Statement, bool_of, count_of, is, value_of};
 
 /// What an option is set to, by the first statement that sets it.
 fn setting_of<'a>(key: &[u8], statements: &'a [Statement]) -> Option<&'a [u8]>
@@ -45,13 +32,6 @@ fn flag_of(key: &[u8], default: bool, statements: &[Statement]) -> bool
         Some(value) => bool_of(value).unwrap_or(default),
         None => default,
     }
-}
-
-/// Whether the word is this text, byte by byte.
-fn is(word: &[u8], text: &[u8]) -> bool
-    ensures { result ≡ is word.now text.now }
-{
-    word == text
 }
 
 #[tactic(auto, unfolding(crate::specs::Options::policy_of))]

@@ -82,7 +82,7 @@ fn first_of_key<'a>(key: &[u8], pairs: &'a [Kv]) -> Option<&'a Kv>
     pairs.iter().find(|pair| is(pair.key.bytes(), key))
 }
 
-/// The value of the first pair of a key.
+/// The value of the first pair of a key. None where no pair has it.
 pub fn value_of<'a>(key: &[u8], pairs: &'a [Kv]) -> Option<&'a [u8]>
     ensures { option_copied result ≡ value_of key.now pairs.now }
 {
@@ -116,15 +116,15 @@ fn time_or_zero(value: Option<&[u8]>) -> u32
     }
 }
 
-/// The milliseconds between two runs of an operation, and 0 where it doesn't recur.
-fn interval_of(pairs: &[Kv]) -> u32
+/// The milliseconds between two runs of an operation by its pairs, and 0 where none of them says a time.
+pub fn interval_of(pairs: &[Kv]) -> u32
     ensures { result ≡ interval_of pairs.now }
 {
     time_or_zero(value_of(b"interval", pairs))
 }
 
-/// Whether the operation is a recurring monitor.
-fn recurs(operation: &Operation) -> bool
+/// Whether the operation is a recurring monitor: it has an interval, and isn't switched off.
+pub fn recurs(operation: &Operation) -> bool
     ensures { result ≡ recurs operation.now }
 {
     let pairs = operation.pairs.as_slice();

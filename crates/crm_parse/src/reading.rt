@@ -74,7 +74,7 @@ fn are_name_bytes(bytes: &[u8]) -> bool
     bytes.iter().all(|byte| is_name_byte(*byte))
 }
 
-/// Whether the word may name a node, a resource or a rule.
+/// Whether the word may name a node, a resource or a rule: 1 to 256 ASCII letters, digits, `_`, `-` and `.`.
 pub fn is_name(word: &[u8]) -> bool
     ensures { result ≡ is_name word.now }
 {
