@@ -1,16 +1,12 @@
 //! The words of the lines of a run, and what they stand for.
 
 ghost use Rattle.std.specs.Prelude.{◌≡◌};
-ghost use Rattle.std.specs.List.{list_all};
-ghost use Rattle.crm_lex.specs.Names.{is_name, is_name_byte};
 ghost use Rattle.faults.specs.Reading.{Reads};
 ghost use Rattle.run_lines.specs.LineWords.{action_word, action_word_at, id_at, line_word, pin_at, pin_of, reason_of, target_at, target_of};
 
 use cluster_types::{NoReason, Op, Pin, Target};
+use crm_parse::is_name;
 use line_words::{WordCause, Words, is, word_at};
-
-/// How many bytes a name may have.
-const LONGEST_NAME: usize = 256;
 
 /// The forms of the lines of a run.
 #[derive(Clone, Copy, Debug, PartialEq, Eq)]
@@ -136,30 +132,6 @@ fn action_word(word: &[u8]) -> Option<ActionWord>
     } else {
         None
     }
-}
-
-fn is_name_byte(byte: u8) -> bool
-    ensures { result ≡ is_name_byte byte }
-{
-    byte >= b'a' && byte <= b'z'
-        || byte >= b'A' && byte <= b'Z'
-        || byte >= b'0' && byte <= b'9'
-        || byte == b'_'
-        || byte == b'-'
-        || byte == b'.'
-}
-
-fn all_name_bytes(word: &[u8]) -> bool
-    ensures { result ≡ list_all is_name_byte word.now }
-{
-    word.iter().all(|byte| is_name_byte(*byte))
-}
-
-/// Whether the word may be the id of a rule.
-fn is_name(word: &[u8]) -> bool
-    ensures { result ≡ is_name word.now }
-{
-    !word.is_empty() && word.len() <= LONGEST_NAME && all_name_bytes(word)
 }
 
 /// Why a leaf is left as it is.
