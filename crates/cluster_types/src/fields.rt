@@ -1,11 +1,12 @@
 //! What a cluster says of one of its leaves or nodes, by its number. A number that the cluster doesn't have gets the plainest value.
 
 ghost use Rattle.std.specs.Prelude.{◌≡◌};
+ghost use Rattle.cluster_types.specs.Answering.{role_of_interval};
 ghost use Rattle.cluster_types.specs.Fields as fields;
 ghost use Rattle.cluster_types.specs.NodeStates.{is_standby};
 
 use crate::cluster::Cluster;
-use crate::leaf::{LeafId, Monitor, TargetRole};
+use crate::leaf::{LeafId, Monitor, Role, TargetRole};
 use crate::node::NodeId;
 use score::Score;
 
@@ -118,6 +119,19 @@ impl Cluster {
             Some(leaf) => leaf.monitors.as_slice(),
             None => &[],
         }
+    }
+
+    /// The role of its recurring monitor of this interval, in milliseconds: `Started` where it has none.
+    pub fn role_of_interval(&self, leaf: LeafId, interval_ms: u32) -> Role
+        ensures { result ≡ role_of_interval (fields.monitors self.now leaf) interval_ms }
+    {
+        let monitors = self.monitors(leaf);
+        for monitor in monitors {
+            if monitor.interval_ms == interval_ms {
+                return monitor.role;
+            }
+        }
+        Role::Started
     }
 
     /// The role that was asked for: `Started` where none was.

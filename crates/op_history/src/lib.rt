@@ -28,4 +28,3 @@ pub use laws::first_journals_are_at_rest;
 pub use recovery::{Recovery, class_of};
 pub use results::{ResultLine, read_result, read_results};
 pub use status::read_status;
-pub use status_lines::role_of;

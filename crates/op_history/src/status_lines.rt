@@ -1,8 +1,6 @@
 //! What one line of a status tells.
 
 ghost use Rattle.std.specs.Prelude.{◌≡◌, ◌<◌, ◌^◌, ℕ, length, true, IfOk};
-ghost use Rattle.cluster_types.specs.Fields.{monitors};
-ghost use Rattle.cluster_types.specs.Answering.{role_of_interval};
 ghost use Rattle.cluster_types.specs.Journals.{is_reported};
 ghost use Rattle.cluster_types.specs.declared.journal.Event.TheVariants as event;
 ghost use Rattle.cluster_types.specs.Valid.{KeepsLimits};
@@ -11,9 +9,7 @@ ghost use Rattle.op_history.specs.FirstJournal.{is_known};
 ghost use Rattle.op_history.specs.Status.{action_as, cleanup_line, fitting, interval_as, interval_at, may_have, node_line, node_word, now_line, op_at, op_line, op_of, outcome_at, outcome_of, promotable, promotable_at, promotion_line, quorum_line, score_at, state_at, status_word, told_as, told_of};
 
 use crate::told::{NodeWord, Told};
-use cluster_types::{
-    Action, Cluster, Event, LeafId, Monitor, NodeId, Op, Outcome, Promotion, Role,
-};
+use cluster_types::{Action, Cluster, Event, LeafId, NodeId, Op, Outcome, Promotion, Role};
 use digits::number_up_to;
 use line_words::{
     WordCause, Words, code_of, end_at, interval_of, is, leaf_at, node_at, seconds_at, word_at,
@@ -203,24 +199,6 @@ fn outcome_at<W: Words>(place: usize, words: &W) -> Result<Outcome, WordCause>
     outcome_of(word).ok_or(WordCause::BadValue)
 }
 
-fn role_in(monitors: &[Monitor], interval_ms: u32) -> Role
-    ensures { result ≡ role_of_interval monitors.now interval_ms }
-{
-    for monitor in monitors {
-        if monitor.interval_ms == interval_ms {
-            return monitor.role;
-        }
-    }
-    Role::Started
-}
-
-/// The role of the leaf's recurring monitor of this interval, in milliseconds: `Started` where it has none.
-pub fn role_of(cluster: &Cluster, leaf: LeafId, interval_ms: u32) -> Role
-    ensures { result ≡ role_of_interval (monitors cluster.now leaf) interval_ms }
-{
-    role_in(cluster.monitors(leaf), interval_ms)
-}
-
 /// The operation as an action of the cell.
 fn action_as(cluster: &Cluster, op: Op, leaf: LeafId, node: NodeId, interval_ms: u32) -> Action
     requires { node < length cluster.now.nodes }
@@ -234,7 +212,7 @@ fn action_as(cluster: &Cluster, op: Op, leaf: LeafId, node: NodeId, interval_ms:
             leaf,
             node,
             interval_ms,
-            role: role_of(cluster, leaf, interval_ms),
+            role: cluster.role_of_interval(leaf, interval_ms),
         },
         Op::Start | Op::Stop | Op::Promote | Op::Demote => Action::Cell {
             op,

@@ -8,7 +8,6 @@ ghost use Rattle.run_lines.specs.Reading.{action_as, fence_at_end, migrate_from_
 use crate::words::ActionWord;
 use cluster_types::{Action, Cluster, LeafId, NodeId, Op, Role};
 use line_words::{WordCause, Words, end_at, leaf_at, node_at, number_at};
-use op_history::role_of;
 
 #[tactic(auto, unfolding(crate::specs::Reading::fence_at_end))]
 fn fence_at_end<W: Words>(cluster: &Cluster, words: &W) -> Result<Action, WordCause>
@@ -40,7 +39,7 @@ fn monitor_action(cluster: &Cluster, leaf: LeafId, node: NodeId, interval_ms: u3
         leaf,
         node,
         interval_ms,
-        role: role_of(cluster, leaf, interval_ms),
+        role: cluster.role_of_interval(leaf, interval_ms),
     }
 }
 
