@@ -2,8 +2,9 @@
 use Rattle.std.proofs.Common.{◌≡◌, ◌≢◌, ◌<◌, ◌==◌, ◌&&◌, ◌||◌, ◌↔◌, not, ℕ, Bool, true, false, List, length, refl, sym, ap, ◌⊎◌, inl, inr, Contains}
 use Rattle.std.specs.List.{list_all}
 use Rattle.std.proofs.lemmas.Bool.{and_from, both_ways, eq-eqb, eqb-true, ne_eqb}
+use Rattle.std.proofs.Math.Bool.{and-false}
 use Rattle.lemmas.proofs.Booleans.{later, sooner}
-use Rattle.lemmas.proofs.Searches.{each_passes}
+use Rattle.lemmas.proofs.Searches.{each_passes, all_pass}
 use Rattle.cluster_types.specs.declared.cluster.Cluster.{Cluster}
 use Rattle.cluster_types.specs.declared.journal.Event.{Event}
 use Rattle.cluster_types.specs.declared.leaf.Op.{Op}
@@ -19,7 +20,6 @@ use Rattle.cluster_types.specs.Tables.{Targets}
 use Rattle.rule_loops.specs.FirstLoops.{AllJoin, AllOrder}
 use Rattle.rule_loops.proofs.StepPlaces.{same_op}
 use Rattle.action_build.specs.Actions.{is_free, is_harmless_colocation, is_harmless_order, keeps_first}
-use Rattle.action_build.proofs.StepTests.{all_of}
 
 -- the first of an order, by tests: it is this leaf, the kind is Serialize, the word is a start, and the then gets a step
 first_kept : (same s u t : Bool) → not (same && ((s || not u) && t)) ≡ true → same ≡ true → ((s ≡ false) × (u ≡ true)) ⊎ (t ≡ false)
@@ -30,16 +30,12 @@ first_kept true false false true h e = cc
 first_kept true false false false h e = inr refl
 first_kept false s u t h e = cc
 
-no_step : (b : Bool) → (b && false) ≡ false
-no_step true = refl
-no_step false = refl
-
 first_free : (same s u t : Bool) → (same ≡ true → ((s ≡ false) × (u ≡ true)) ⊎ (t ≡ false)) → not (same && ((s || not u) && t)) ≡ true
 first_free false s u t f = refl
 first_free true s u t f = on (f refl) where
   on : ((s ≡ false) × (u ≡ true)) ⊎ (t ≡ false) → not ((s || not u) && t) ≡ true
   on (inl (e, k)) = rw (e, k) refl
-  on (inr e) = rw e (ap not (no_step (s || not u)))
+  on (inr e) = rw e (ap not (and-false (s || not u)))
 
 -- its then likewise: it is this leaf, and both are one
 then_kept : (same e t : Bool) → not (same && (not e && t)) ≡ true → same ≡ true → e ≡ false → t ≡ false
@@ -165,7 +161,7 @@ module _ (c : Cluster) (es : List Event) (targets : Targets) (touched : ℕ → 
       pub is_free_where : Free → is_free c touched r ≡ true
       is_free_where f =
           and_from (list_all (is_harmless_order touched r) c.orders) _
-          (all_of (is_harmless_order touched r) c.orders (λ o k. let s = ordered o k in (order_harmless o s.first s.later).1 (f.orders o k)))
-          (all_of (is_harmless_colocation touched r) c.colocations (λ col k.
+          (all_pass (is_harmless_order touched r) c.orders (λ o k. let s = ordered o k in (order_harmless o s.first s.later).1 (f.orders o k)))
+          (all_pass (is_harmless_colocation touched r) c.colocations (λ col k.
           let s = joined col k in
           (colocation_harmless col s.dependent s.primary).1 (f.colocations col k)))

@@ -1,8 +1,8 @@
 -- No cell is left to mark, where no order has as its then the first of one that stands before it.
-use Rattle.std.proofs.Common.{arith, ◌≡◌, ◌≢◌, ◌<◌, ◌==◌, ◌&&◌, ◌||◌, nat_lt, ℕ, Bool, true, false, List, [], ◌∷◌, length, refl, sym, ◌∙◌, ap, inl, inr, Contains}
+use Rattle.std.proofs.Common.{arith, ◌≡◌, ◌≢◌, ◌<◌, ◌==◌, ◌&&◌, ◌||◌, nat_lt, ℕ, true, false, List, [], ◌∷◌, length, refl, sym, ◌∙◌, ap, inl, inr, Contains}
 use Rattle.std.specs.List.{list_any, range_with_len}
 use Rattle.std.proofs.Math.Bool.{or-false}
-use Rattle.std.proofs.lemmas.Bool.{eq-eqb, lt-ltb, ne_eqb, and_from, or_right}
+use Rattle.std.proofs.lemmas.Bool.{eq-eqb, lt-ltb, ne_eqb, and_from, or_right, or_left}
 use Rattle.lemmas.proofs.Searches.{passes_by}
 use Rattle.lemmas.proofs.Members.{at_head, head_or_rest, in_none, in_range, in_rest}
 use Rattle.cluster_types.specs.declared.cluster.Cluster.{Cluster}
@@ -11,18 +11,15 @@ use Rattle.cluster_types.specs.declared.leaf.Role.{Role}
 use Rattle.cluster_types.specs.declared.rules.Order.{Order}
 use Rattle.cluster_types.specs.Needed.{IsClosed, OrderMayCycle, can_cycle, has_disturbing, steps_at}
 use Rattle.cluster_types.specs.Tables.{Targets, is_in_scope}
+use Rattle.cluster_types.proofs.OpLaws.{up_of}
 use Rattle.action_build.specs.Cycling.{Marks, NoneComesBack, first_marks, is_cycling, is_disturbed, may_be_marked, role_given, with_order, with_orders}
-use Rattle.action_build.proofs.OrderWords.{cycling_of, role_of, up_of}
-
-pub on_left : (a b : Bool) → a ≡ true → a || b ≡ true
-on_left true b h = refl
-on_left false b h = cc
+use Rattle.action_build.proofs.OrderWords.{cycling_of, role_of}
 
 module _ (c : Cluster) (es : List Event) (targets : Targets) where
   -- what is marked stays so
   pub stays_marked : (os : List Order) (marks : Marks) (r n : ℕ) → marks r n ≡ true → with_orders c es targets marks os r n ≡ true
   stays_marked [] marks r n h = h
-  stays_marked (o ∷ os) marks r n h = stays_marked os (with_order c es targets marks o) r n (on_left (marks r n) _ h)
+  stays_marked (o ∷ os) marks r n h = stays_marked os (with_order c es targets marks o) r n (or_left (marks r n) _ h)
 
   -- an order adds marks of its then alone
   order_elsewhere : (marks : Marks) (o : Order) (r n : ℕ) → o.then_leaf ≢ r → with_order c es targets marks o r n ≡ marks r n
@@ -110,7 +107,7 @@ module _ (c : Cluster) (es : List Event) (targets : Targets) where
           (and_from (nat_lt r (length c.leaves) && nat_lt n (length c.nodes) && can_cycle c es targets r n) _
           (and_from (nat_lt r (length c.leaves) && nat_lt n (length c.nodes)) _
           (and_from (nat_lt r (length c.leaves)) _ (lt-ltb _ _ lr) (lt-ltb _ _ ln)) can) more);
-      by_order = λ o n m first later may h. reached o n m first later may (on_left _ _ h);
+      by_order = λ o n m first later may h. reached o n m first later may (or_left _ _ h);
       by_cycled = λ o n m first later may set h.
           reached o n m first later may
           (or_right (has_disturbing o.first_op (steps_at c es targets o.first m false)) _ (and_from (last_marks o.first m) _ set h));

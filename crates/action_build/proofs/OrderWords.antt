@@ -19,10 +19,6 @@ gives_of Promote h = promoted
 gives_of Demote h = cc
 gives_of Monitor h = cc
 
-pub up_of : (o : Op) (role : Role) → Gives o role → is_up o ≡ true
-up_of _ _ started = refl
-up_of _ _ promoted = refl
-
 pub role_of : (o : Op) (role : Role) → Gives o role → role ≡ role_given o
 role_of _ _ started = refl
 role_of _ _ promoted = refl

@@ -1,12 +1,10 @@
 -- Lists in which a relation holds of each element and each later one.
-use Rattle.std.proofs.Common.{arith, ◌≡◌, ◌≢◌, ◌≤◌, ◌+◌, ℕ, suc, zero, Bool, true, false, if◌then◌else◌, List, [], ◌∷◌, ◌++◌, map, get_or, refl, ap, inl, inr, All, AllPairs, Contains}
+use Rattle.std.proofs.Common.{arith, ◌≡◌, ◌≢◌, ◌≤◌, ◌+◌, ℕ, suc, zero, Bool, true, false, if◌then◌else◌, List, [], ◌∷◌, ◌++◌, map, refl, ap, inl, inr, AllPairs, Contains}
 use Rattle.std.specs.List.{flat_map, range_with_len}
-use Rattle.std.proofs.lemmas.List.Elements.{Contains-append_cases, Contains-get_or}
+use Rattle.std.proofs.lemmas.List.Elements.{Contains-append_cases}
 use Rattle.std.proofs.lemmas.List.Kept.{AllPairs-cons}
 use Rattle.lemmas.proofs.Members.{at_head, head_or_rest, in_none, in_rest, of_flat, of_map}
-
-pub all_where : {X : Type 0} (P : X → Type 0) (xs : List X) → ((x : X) → Contains xs x → P x) → All P xs
-all_where P xs f = λ k d lt. f (get_or xs k d) (Contains-get_or xs k d lt)
+use Rattle.lemmas.proofs.Searches.{all_where}
 
 module _ {X : Type 0} (R : X → X → Type 0) where
   pub no_pairs : AllPairs R []

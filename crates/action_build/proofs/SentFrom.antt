@@ -5,7 +5,7 @@ use Rattle.std.specs.List.{list_all, range_with_len}
 use Rattle.std.proofs.lemmas.Bool.{and_from, both_ways, eq-eqb, ne_eqb, not-true, not_from_false}
 use Rattle.lemmas.proofs.Booleans.{later, sooner}
 use Rattle.lemmas.proofs.Members.{in_range, of_range}
-use Rattle.lemmas.proofs.Searches.{each_passes}
+use Rattle.lemmas.proofs.Searches.{each_passes, all_pass}
 use Rattle.cluster_types.specs.declared.cluster.Cluster.{Cluster}
 use Rattle.cluster_types.specs.declared.journal.Event.{Event}
 use Rattle.cluster_types.specs.declared.leaf.Op.TheVariants as op
@@ -20,7 +20,7 @@ use Rattle.cluster_types.specs.Tables.{Targets}
 use Rattle.action_build.specs.Actions.{first_node, is_alone, is_on_state, is_source, may_be_sent, source_at, source_of, steps_in}
 use Rattle.action_build.specs.Cycling.{Marks}
 use Rattle.action_build.specs.declared.steps.CellNeed.{CellNeed}
-use Rattle.action_build.proofs.StepTests.{all_of, found_is, has_it, it_is, only_found}
+use Rattle.action_build.proofs.StepTests.{found_is, has_it, it_is, only_found}
 use Rattle.action_build.proofs.StepsGot.{Tells, gets, got}
 
 -- what runs in a cell may run there
@@ -86,7 +86,7 @@ module _ (c : Cluster) (es : List Event) (targets : Targets) where
         sym (may_known k lk) ∙ not-true (need r k).may (other_passes (n == k) (not (need r k).may) p (ne_eqb n k (λ s. d (sym s))))
 
     is_alone_where : (n : ℕ) → ((k : ℕ) → k < length c.nodes → k ≢ n → may c r k es ≡ false) → is_alone c need r n ≡ true
-    is_alone_where n f = all_of (λ k. n == k || not (need r k).may) (range_with_len 0 (length c.nodes)) (λ k h. (
+    is_alone_where n f = all_pass (λ k. n == k || not (need r k).may) (range_with_len 0 (length c.nodes)) (λ k h. (
         let w = of_range 0 (length c.nodes) k h in
         let lk : k < length c.nodes = omega arith in
         either_passes (n == k) (not (need r k).may) (λ e.

@@ -1,14 +1,14 @@
 -- Tests of lists, and what passes them.
 use Rattle.std.proofs.Common.{◌≡◌, ◌≢◌, ℕ, Bool, true, false, cond, Some, List, [], ◌∷◌, refl, sym, ap, subst, ◌⊎◌, inl, inr, Contains, Any}
 use Rattle.std.specs.Prelude.{find}
-use Rattle.std.specs.List.{list_all, list_any}
-use Rattle.std.proofs.lemmas.Bool.{and_from, cases_eq}
+use Rattle.std.specs.List.{list_any}
+use Rattle.std.proofs.lemmas.Bool.{cases_eq}
 use Rattle.std.proofs.lemmas.List.Folds.{Any-from_list_any}
 use Rattle.lemmas.proofs.Members.{at_head, head_or_rest, in_none, in_rest}
 use Rattle.lemmas.proofs.Searches.{passes_by}
 use Rattle.cluster_types.specs.declared.leaf.Op.{Op}
-use Rattle.cluster_types.specs.declared.leaf.Op.TheVariants.{Start, Stop, Promote, Demote, Monitor}
 use Rattle.cluster_types.specs.Precedence.{is_same_op}
+use Rattle.cluster_types.proofs.OpLaws.{op_itself}
 use Rattle.rule_loops.proofs.StepPlaces.{same_op}
 use Rattle.action_build.specs.Actions.{has_op, is_filled}
 
@@ -22,17 +22,6 @@ pub some_of : {X : Type 0} (p : X → Bool) (xs : List X) → list_any p xs ≡ 
 some_of p xs h = on (Any-from_list_any p xs h) where
   on : Any (λ x. p x ≡ true) xs → Passing p xs
   on (k, x, l, at, e) = record { member = x; among = (k, l, at); passes = e }
-
-pub all_of : {X : Type 0} (p : X → Bool) (xs : List X) → ((x : X) → Contains xs x → p x ≡ true) → list_all p xs ≡ true
-all_of p [] each = refl
-all_of p (x ∷ xs) each = and_from (p x) _ (each x (at_head x xs x refl)) (all_of p xs (λ y h. each y (in_rest x xs y h)))
-
-op_itself : (o : Op) → is_same_op o o ≡ true
-op_itself Start = refl
-op_itself Stop = refl
-op_itself Promote = refl
-op_itself Demote = refl
-op_itself Monitor = refl
 
 pub has_it : (o : Op) (os : List Op) → Contains os o → has_op o os ≡ true
 has_it o os h = passes_by (is_same_op o) os o h (op_itself o)
