@@ -9,7 +9,7 @@ ghost use Rattle.cluster_types.specs.Steps.{flying, journal, outside};
 ghost use Rattle.graph_exec.specs.Running.{going};
 
 use crate::course::Course;
-use cluster_types::{Action, Answer, LeafId, Monitor, NodeId, NodeState, Op, Outcome, Role};
+use cluster_types::{Action, Answer, LeafId, NodeId, NodeState, Op, Outcome};
 use fail_counts::{is_bad, is_ignored};
 
 /// How many answers from outside a transition takes at most.
@@ -17,18 +17,6 @@ const MOST_FROM_OUTSIDE: usize = 256;
 
 /// The moment stays below this one, in seconds.
 const END_OF_TIME: u64 = 1 << 40;
-
-/// The role of the recurring monitor of this interval.
-fn role_of_interval(monitors: &[Monitor], interval_ms: u32) -> Role
-    ensures { result ≡ answering.role_of_interval monitors.now interval_ms }
-{
-    for monitor in monitors {
-        if monitor.interval_ms == interval_ms {
-            return monitor.role;
-        }
-    }
-    Role::Started
-}
 
 impl<'c> Course<'c> {
     fn is_node(&self, node: NodeId) -> bool
@@ -84,7 +72,7 @@ impl<'c> Course<'c> {
             leaf,
             node,
             interval_ms,
-            role: role_of_interval(self.log.cluster().monitors(leaf), interval_ms),
+            role: self.log.cluster().role_of_interval(leaf, interval_ms),
         }
     }
 
