@@ -12,8 +12,8 @@ use Rattle.cluster_types.specs.Runs.{Standing, due, amid, idle, RunsOn, plans, g
 use Rattle.cluster_types.specs.Safety.{IsAtRest, IsSafeAt, IsSafeRun}
 use Rattle.cluster_types.specs.Steps.{Goes, here as none_yet, action_at, events_of, resting}
 use Rattle.cluster_types.proofs.SourceLaws.{goes-more, none-in_flight, step-untold}
+use Rattle.cluster_types.proofs.JournalLaws.{nothing_begun}
 use Rattle.run_safety.proofs.AtRest.{nothing_left}
-use Rattle.run_safety.proofs.Flown.{none_begun}
 use Rattle.run_safety.proofs.InFlight.{number_within}
 use Rattle.run_safety.proofs.SafeRuns.{silent}
 use Rattle.run_safety.proofs.Shapes.{answer_adds}
@@ -38,7 +38,7 @@ module _ (c : Cluster) (promotions : List Promotion) (whole : Bool) where
   one_rests _ _ rest left _ (answers k es _ _ given said applies) at =
       let t = resting c es in
       none-in_flight es (events_of t [] given) at
-      ∙ none_begun (events_of t [] given) (silent t [] (events_of t [] given) (λ k a begins. no_action c es k a begins.action) (answer_adds t [] given applies))
+      ∙ nothing_begun (events_of t [] given) (silent t [] (events_of t [] given) (λ k a begins. no_action c es k a begins.action) (answer_adds t [] given applies))
 
   pub none_flies : (first : List Event) (at : Standing) (rest left : Option (List Answer)) (lines : List RunLine) → in_flight first ≡ []
       → Runs c promotions whole (due 1 first) rest lines at left → IsBetween c promotions whole at → in_flight (journal_at at) ≡ []

@@ -52,10 +52,10 @@ module _ (c : Cluster) (promotions : List Promotion) (whole : Bool) where
       let both = begins_whole c promotions whole one_plan es rest known run.last behind ((told ++ call) ++ closing) (stopped_runs es left rest behind told call closing run) right others over in
       (both.0, subst (λ z. IsFront z right) (sym run.leaves) both.1)
 
-nothing_said : {R : Type 0} (left : Option (List Answer)) (given : Answer) → Says false (Some []) (Some given) left → R
+pub nothing_said : {R : Type 0} (left : Option (List Answer)) (given : Answer) → Says false (Some []) (Some given) left → R
 nothing_said left given said = some_or_none given (says_just false (Some []) left (Some given) said).0
 
-step_asks : (t : Transition) (since events : List Event) (rest left : Option (List Answer)) → rest ≡ Some [] → IsWaiting t since → StepsOn t false since rest events left → ⊥
+pub step_asks : (t : Transition) (since events : List Event) (rest left : Option (List Answer)) → rest ≡ Some [] → IsWaiting t since → StepsOn t false since rest events left → ⊥
 step_asks t since _ rest _ e waiting (begins _ k a begin) = unsettled t since k a begin waiting.settled
 step_asks t since _ rest left e waiting (takes _ _ given said taken) = nothing_said left given (subst (λ z. Says false z (Some given) left) e said)
 step_asks t since _ rest left e waiting (is_silent _ _ k a said ends) = says_something (Some []) left tt (subst (λ z. Says false z None left) e said)

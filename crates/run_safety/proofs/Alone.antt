@@ -1,6 +1,7 @@
 -- At each begin of a migration its leaf may run on its source alone, or on its source and its target.
 use Rattle.std.proofs.Common.{◌≡◌, ◌<◌, ◌==◌, ℕ, Bool, true, false, List, [], length, eqb-true, refl, sym, subst}
 use Rattle.std.specs.Prelude.{Option}
+use Rattle.lemmas.proofs.Booleans.{number_itself}
 use Rattle.cluster_types.specs.declared.journal.Action.{Action}
 use Rattle.cluster_types.specs.declared.journal.Action.TheVariants.{Fence, Probe, Cell, MigrateTo, MigrateFrom}
 use Rattle.cluster_types.specs.declared.journal.Answer.{Answer}
@@ -17,7 +18,7 @@ use Rattle.run_safety.proofs.Calm.{Calm}
 use Rattle.run_safety.proofs.Carried.{Carries, IsSound}
 use Rattle.run_safety.proofs.Migrations.{on_no_third}
 use Rattle.run_safety.proofs.Sending.{not_there_yet}
-use Rattle.run_safety.proofs.Truths.{refuse, itself}
+use Rattle.run_safety.proofs.Truths.{refuse}
 
 module _ (t : Transition) (targets : Targets) (carries : Carries t targets) (sound : IsSound t targets) (valid : IsValid t.cluster) where
   sending_alone : (since : List Event) (k r n to : ℕ) → Calm t since → Begins t since k (MigrateTo r n to) → MigratesAlone t since (MigrateTo r n to)
@@ -27,7 +28,7 @@ module _ (t : Transition) (targets : Targets) (carries : Carries t targets) (sou
       g = migrates_by_sent t.cluster t.planned_at targets r n to (carries.needed k (MigrateTo r n to) begins.action)
 
       by : (b : Bool) → (m == to) ≡ b → may t.cluster r m (journal t since) ≡ false
-      by false e = on_no_third t targets carries sound valid r n to g since calm m low not_source (λ same. refuse (m == to) e (subst (λ z. (m == z) ≡ true) same (itself m)))
+      by false e = on_no_third t targets carries sound valid r n to g since calm m low not_source (λ same. refuse (m == to) e (subst (λ z. (m == z) ≡ true) same (number_itself m)))
       by true e =
           let same = eqb-true m to e in
           subst (λ z. may t.cluster r z (journal t since) ≡ false) (sym same) (not_there_yet t targets carries sound valid r n to g since k calm begins (subst (λ z. z < length t.cluster.nodes) same low))

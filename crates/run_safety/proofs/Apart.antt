@@ -3,6 +3,7 @@ use Rattle.std.proofs.Common.{◌≡◌, ◌<◌, ◌==◌, ◌&&◌, ℕ, Bool,
 use Rattle.std.specs.Prelude.{Option, Some, None, Contains, IfSome}
 use Rattle.std.proofs.lemmas.Bool.{both_ways, or_left, or_right, true_from_ne_false, and_from}
 use Rattle.lemmas.proofs.Searches.{passes_by}
+use Rattle.lemmas.proofs.Booleans.{number_itself}
 use Rattle.cluster_types.specs.declared.journal.Action.{Action}
 use Rattle.cluster_types.specs.declared.journal.Action.TheVariants.{Fence, Probe, Cell, MigrateTo, MigrateFrom}
 use Rattle.cluster_types.specs.declared.journal.Answer.{Answer}
@@ -32,7 +33,7 @@ use Rattle.run_safety.proofs.Leads.{Must, by_fence, by_part}
 use Rattle.run_safety.proofs.Needing.{Done, succeeded}
 use Rattle.run_safety.proofs.Neighbours.{holds_not}
 use Rattle.run_safety.proofs.Placing.{IsGiven}
-use Rattle.run_safety.proofs.Truths.{itself, own_cell}
+use Rattle.run_safety.proofs.Truths.{own_cell}
 
 -- what gives a role gives something
 role_gives : (held : Role) (a : Action) (at : CellOf) → gives_role held a ≡ Some at → gives_any a ≡ Some at
@@ -92,7 +93,7 @@ module _ (t : Transition) (targets : Targets) (carries : Carries t targets) (sou
           where
             pair : is_parted s other r held x a ≡ true
             pair = rw (takes, gives) (and_from ((s == s) && (at.leaf == r)) (at.node == at.node)
-                (and_from (s == s) (at.leaf == r) (itself s) (subst (λ z. (at.leaf == z) ≡ true) same (itself at.leaf))) (itself at.node))
+                (and_from (s == s) (at.leaf == r) (number_itself s) (subst (λ z. (at.leaf == z) ≡ true) same (number_itself at.leaf))) (number_itself at.node))
 
         done : (x : Action) → Must t x a → Done t since x
         done x must = succeeded t targets carries since k x a begins must

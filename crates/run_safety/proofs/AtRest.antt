@@ -3,7 +3,7 @@ use Rattle.std.proofs.Common.{arith, ◌≡◌, ◌==◌, ℕ, Bool, true, false
 use Rattle.std.specs.Prelude.{Option, cond, map}
 use Rattle.std.specs.List.{list_any}
 use Rattle.std.proofs.lemmas.List.Folds.{list_any-append}
-use Rattle.lemmas.proofs.Booleans.{sooner, either}
+use Rattle.lemmas.proofs.Booleans.{sooner, either, number_itself}
 use Rattle.lemmas.proofs.Ranges.{some_in_range}
 use Rattle.cluster_types.specs.declared.journal.Action.{Action}
 use Rattle.cluster_types.specs.declared.journal.Answer.{Answer}
@@ -19,7 +19,7 @@ use Rattle.run_safety.proofs.Flown.{Flown, begin_flown, silent_flown}
 use Rattle.run_safety.proofs.InFlight.{number_within}
 use Rattle.run_safety.proofs.Losses.{gone_begins_nothing}
 use Rattle.run_safety.proofs.Shapes.{Adds, nothing, begun, over, reported, lost, up, quorum, wait, Flies, all_fly, gone_with, step_adds}
-use Rattle.run_safety.proofs.Truths.{refuse, itself}
+use Rattle.run_safety.proofs.Truths.{refuse}
 
 module _ (t : Transition) where
   -- what ends with its node had begun
@@ -71,7 +71,7 @@ module _ (t : Transition) where
   idle_flown since idle _ none = refl
   idle_flown since idle _ (more p ps f rest) =
       let within = number_within t.actions p.0 p.1 f.action in
-      absurd (passes_none (is_in_flight_number t since) p.0 f.in_flight (numbers t) (some_in_range (λ j. j == p.0) 1 (length t.actions) p.0 (omega (arith, within.0)) (omega (arith, within.1)) (itself p.0)) idle)
+      absurd (passes_none (is_in_flight_number t since) p.0 f.in_flight (numbers t) (some_in_range (λ j. j == p.0) 1 (length t.actions) p.0 (omega (arith, within.0)) (omega (arith, within.1)) (number_itself p.0)) idle)
 
   pub nothing_left : (whole : Bool) (rest left : Option (List Answer)) (later : List Event) → in_flight t.planned_at ≡ [] → Goes t whole [] rest later left
       → flight t later ≡ [] → in_flight (journal t later) ≡ []

@@ -9,8 +9,9 @@ use Rattle.cluster_types.specs.declared.journal.Event.TheVariants.{Begin}
 use Rattle.cluster_types.specs.Safety.{AtEachBegin}
 use Rattle.cluster_types.specs.Steps.{Transition, Begins, Goes, here, one_more, has_aborted}
 use Rattle.cluster_types.proofs.StepLaws.{split, no_begin, begins_nothing, not_aborted}
+use Rattle.cluster_types.proofs.EagerLaws.{at_only}
 use Rattle.run_safety.proofs.Calm.{Calm, none, add_calm}
-use Rattle.run_safety.proofs.InOrder.{at_only, aborted_before}
+use Rattle.run_safety.proofs.InOrder.{aborted_before}
 use Rattle.run_safety.proofs.Losses.{gone_begins_nothing}
 use Rattle.run_safety.proofs.Shapes.{Adds, nothing, begun, over, reported, lost, up, quorum, wait, step_adds}
 

@@ -3,6 +3,7 @@ use Rattle.std.proofs.Common.{arith, inr, ◌≡◌, ◌<◌, ◌≤◌, ◌==�
 use Rattle.std.specs.Prelude.{Option, Some, IfSome}
 use Rattle.std.proofs.lemmas.Bool.{both_ways, or_right, true_from_ne_false}
 use Rattle.std.proofs.lemmas.Bool.Decides.{nat_tests}
+use Rattle.lemmas.proofs.Booleans.{number_itself}
 use Rattle.cluster_types.specs.declared.cluster.Cluster.{Cluster}
 use Rattle.cluster_types.specs.declared.journal.Action.{Action}
 use Rattle.cluster_types.specs.declared.journal.Action.TheVariants.{Fence, Probe, Cell, MigrateTo, MigrateFrom}
@@ -31,7 +32,6 @@ use Rattle.run_safety.proofs.Elsewhere.{elsewhere_off}
 use Rattle.run_safety.proofs.Leads.{Must, by_probe, by_stop, by_fence, by_demote}
 use Rattle.run_safety.proofs.Needing.{succeeded}
 use Rattle.run_safety.proofs.Placing.{IsGiven, given}
-use Rattle.run_safety.proofs.Truths.{itself}
 
 -- a cap is no more than the copies
 pub cap_copies : (c : Cluster) (es : List Event) (r : ℕ) → cap_of c es (Place r) ≤ copies c r
@@ -83,15 +83,15 @@ module _ (t : Transition) (targets : Targets) (carries : Carries t targets) (sou
 module _ (t : Transition) (targets : Targets) (carries : Carries t targets) (sound : IsSound t targets) (orderly : Orderly t.planned_at) where
   before_start : (r n i : ℕ) (held : Role) → nat_lt (copies t.cluster r) (length t.cluster.nodes) ≡ true → (m : ℕ) → Precedes t targets carries sound orderly r (Cell op.Start r n i held) m
   before_start r n i held few m = record {
-    probed = by_probe t (Probe r m) (Cell op.Start r n i held) (itself r);
-    stopped = by_stop t (Cell op.Stop r m 0 role.Started) (Cell op.Start r n i held) (rw (itself r) (rw few (or_right (m == n) true refl)));
+    probed = by_probe t (Probe r m) (Cell op.Start r n i held) (number_itself r);
+    stopped = by_stop t (Cell op.Stop r m 0 role.Started) (Cell op.Start r n i held) (rw (number_itself r) (rw few (or_right (m == n) true refl)));
     fenced = by_fence t (Fence m) (Cell op.Start r n i held) refl;
   }
 
   pub before_promote : (r n i : ℕ) (held : Role) (m : ℕ) → Precedes t targets carries sound orderly r (Cell op.Promote r n i held) m
   before_promote r n i held m = record {
-    probed = by_probe t (Probe r m) (Cell op.Promote r n i held) (itself r);
-    stopped = by_demote t (Cell op.Stop r m 0 role.Started) (Cell op.Promote r n i held) (itself r);
+    probed = by_probe t (Probe r m) (Cell op.Promote r n i held) (number_itself r);
+    stopped = by_demote t (Cell op.Stop r m 0 role.Started) (Cell op.Promote r n i held) (number_itself r);
     fenced = by_fence t (Fence m) (Cell op.Promote r n i held) refl;
   }
 

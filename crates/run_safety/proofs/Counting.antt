@@ -5,10 +5,9 @@ use Rattle.std.specs.List.{range_with_len}
 use Rattle.std.proofs.lemmas.Bool.{and_from, and_parts, and_right, ne_eqb, not_from_false, not_from_true}
 use Rattle.std.proofs.lemmas.Bool.Decides.{nat_tests}
 use Rattle.std.proofs.lemmas.List.FromFn.{length-range_with_len, get_or-range_with_len}
-use Rattle.lemmas.proofs.Booleans.{later}
+use Rattle.lemmas.proofs.Booleans.{later, number_itself, second_fails}
 use Rattle.lemmas.proofs.Counts.{count-cons, count_none, count_one_more}
 use Rattle.lemmas.proofs.Ranges.{count-same}
-use Rattle.run_safety.proofs.Truths.{itself, second_passes}
 
 module _ (p q : ℕ → Bool) (n nodes : ℕ) (low : n < nodes) (here : q n ≡ true) (follows : (m : ℕ) → m < nodes → (m == n) ≡ false → p m ≡ true → q m ≡ true) where
   abbrev others : ℕ → Bool
@@ -32,7 +31,7 @@ module _ (p q : ℕ → Bool) (n nodes : ℕ) (low : n < nodes) (here : q n ≡ 
       apart true b h = cc
 
   not_itself : within n ≡ false
-  not_itself = and_right (nat_lt n nodes) (others n) (let e : not (n == n) ≡ false = not_from_true (n == n) (itself n) in rw e refl)
+  not_itself = and_right (nat_lt n nodes) (others n) (let e : not (n == n) ≡ false = not_from_true (n == n) (number_itself n) in rw e refl)
 
   -- those that pass on other nodes are fewer than those that pass a weaker test, where this one is among them
   pub others_fewer : count_by (λ m. not (m == n) && p m) (range_with_len 0 nodes) < count_by q (range_with_len 0 nodes)
@@ -62,5 +61,5 @@ pub none_elsewhere : (p : ℕ → Bool) (n m nodes : ℕ) → count_by (λ m. no
 none_elsewhere p n m nodes h low other =
     let long = length-range_with_len 0 nodes in
     let at : slice_index_or (range_with_len 0 nodes) m m ≡ m = (let f = get_or-range_with_len 0 nodes m m low in omega (arith, f)) in
-    second_passes (not (m == n)) (p m) (not_from_false (m == n) (ne_eqb m n other))
+    second_fails (not (m == n)) (p m) (not_from_false (m == n) (ne_eqb m n other))
     (count_none (λ m. not (m == n) && p m) (range_with_len 0 nodes) h m m (omega (arith, long, low)) at)

@@ -2,7 +2,7 @@
 use Rattle.std.proofs.Common.{arith, inl, inr, ◌⊎◌, ◌≡◌, ◌<◌, if◌then◌else◌, ℕ, Bool, true, false, Some, List, [], ◌∷◌, ◌++◌, length, refl, sym, subst}
 use Rattle.std.specs.Prelude.{Contains}
 use Rattle.std.proofs.lemmas.Bool.{and_from, both_ways, false_from_ne_true}
-use Rattle.lemmas.proofs.Booleans.{sooner}
+use Rattle.lemmas.proofs.Booleans.{sooner, number_itself}
 use Rattle.cluster_types.specs.declared.journal.Action.{Action}
 use Rattle.cluster_types.specs.declared.journal.Action.TheVariants.{Fence, Probe, Cell}
 use Rattle.cluster_types.specs.declared.journal.Event.{Event}
@@ -31,7 +31,7 @@ use Rattle.run_safety.proofs.Leads.{Must, by_cell}
 use Rattle.run_safety.proofs.Needing.{Acts, Done, IsNeeded, fence_needed, probe_needed, state, step_needed, uncycled_nowhere}
 use Rattle.run_safety.proofs.Offline.{out_closes, not_online, IsOut}
 use Rattle.run_safety.proofs.Touching.{gives_run, takes_run}
-use Rattle.run_safety.proofs.Truths.{itself, own_cell, refuse}
+use Rattle.run_safety.proofs.Truths.{own_cell, refuse}
 use Rattle.run_safety.proofs.Turning.{turned, unturned}
 
 -- what runs where there is no target is stopped
@@ -96,7 +96,7 @@ module _ (t : Transition) (targets : Targets) (carries : Carries t targets) (r n
   demote_first : Must t (Cell op.Demote r n 0 role.Started) (Cell op.Stop r n 0 role.Started)
   demote_first =
       by_cell t (Cell op.Demote r n 0 role.Started) (Cell op.Stop r n 0 role.Started)
-      (rw (itself r) (rw (itself n) refl))
+      (rw (number_itself r) (rw (number_itself n) refl))
 
   -- Once its probe, its stop and the fence of its node have succeeded, as far as they are needed.
   module _ (since : List Event) (calm : Calm t since) (h : r < length t.cluster.leaves) (l : n < length t.cluster.nodes)
@@ -131,5 +131,5 @@ module _ (t : Transition) (targets : Targets) (carries : Carries t targets) (r n
             gone (inl (unclean, fencing)) (inl online) = refuse (is_online t.cluster n t.planned_at) (says_of t.cluster r n t.planned_at cell.Away e) online
             gone (inl (unclean, fencing)) (inr able) =
                 let quorate : may_act_by t.cluster (has_quorum t.planned_at) ≡ true = sooner (may_act_by t.cluster (has_quorum t.planned_at)) _ able in
-                taken_by (Fence n) (fence_needed t targets n l (and_from _ _ (and_from _ _ fencing quorate) unclean)) fenced (itself n)
+                taken_by (Fence n) (fence_needed t targets n l (and_from _ _ (and_from _ _ fencing quorate) unclean)) fenced (number_itself n)
                 (λ p. refuse (is_promoted_state (state t r n)) (rw e refl) p)

@@ -3,17 +3,17 @@ use Rattle.std.proofs.Common.{◌≡◌, ◌<◌, ◌||◌, if◌then◌else◌,
 use Rattle.std.specs.List.{list_any, list_all}
 use Rattle.std.proofs.lemmas.Bool.{both_ways, false_from_ne_true, not-true, not_from_false, or_left, or_right, and_from, or_from}
 use Rattle.std.proofs.lemmas.List.Folds.{list_any-append}
-use Rattle.lemmas.proofs.Booleans.{sooner, later, either}
+use Rattle.lemmas.proofs.Booleans.{sooner, later, either, number_itself}
 use Rattle.cluster_types.specs.declared.journal.Action.{Action}
 use Rattle.cluster_types.specs.declared.journal.Event.{Event}
 use Rattle.cluster_types.specs.declared.journal.Event.TheVariants.{Up, Down, Lost, Quorum, Wait, Cleanup, Begin, Ended}
 use Rattle.cluster_types.specs.Journals.{ends_number, in_flight}
 use Rattle.cluster_types.specs.Steps.{Transition, Begins, begins_number, has_begun, has_ended}
 use Rattle.cluster_types.proofs.StepLaws.{begins_nothing, not_begun}
+use Rattle.cluster_types.proofs.JournalLaws.{nothing_begun}
 use Rattle.run_safety.proofs.Each.{Each, more, none}
 use Rattle.run_safety.proofs.InFlight.{number_within}
 use Rattle.run_safety.proofs.Shapes.{Flies}
-use Rattle.run_safety.proofs.Truths.{itself}
 
 -- one begin more is in flight
 begin_flies : (es : List Event) (k : ℕ) (a : Action) → in_flight (es ++ Begin k a ∷ []) ≡ in_flight es ++ (k, a) ∷ []
@@ -36,22 +36,11 @@ begin_flies (Wait s ∷ es) k a = begin_flies es k a
 begin_flies (Cleanup r n ∷ es) k a = begin_flies es k a
 begin_flies (Ended j b o m ∷ es) k a = begin_flies es k a
 
-pub none_begun : (ys : List Event) → list_all begins_nothing ys ≡ true → in_flight ys ≡ []
-none_begun [] h = refl
-none_begun (Begin k a ∷ ys) h = cc
-none_begun (Up n ∷ ys) h = none_begun ys h
-none_begun (Down n ∷ ys) h = none_begun ys h
-none_begun (Lost n ∷ ys) h = none_begun ys h
-none_begun (Quorum now ∷ ys) h = none_begun ys h
-none_begun (Wait s ∷ ys) h = none_begun ys h
-none_begun (Cleanup r n ∷ ys) h = none_begun ys h
-none_begun (Ended j b o m ∷ ys) h = none_begun ys h
-
 -- what is in flight after events that begin nothing was in flight, and doesn't end by them
 module _ (P : ℕ × Action → Type 0) (Q : ℕ × Action → Type 0) (ys : List Event) (silent : list_all begins_nothing ys ≡ true)
     (kept : (p : ℕ × Action) → P p → list_any (ends_number p.0) ys ≡ false → Q p) where
   still_flying : (es : List Event) → Each P (in_flight es) → Each Q (in_flight (es ++ ys))
-  still_flying [] h = subst (Each Q) (sym (none_begun ys silent)) none
+  still_flying [] h = subst (Each Q) (sym (nothing_begun ys silent)) none
   still_flying (Begin j b ∷ es) h = by (list_any (ends_number j) es) refl h (still_flying es) (list_any (ends_number j) ys) refl
     where
       first : Each P ((j, b) ∷ in_flight es) → P (j, b) × Each P (in_flight es)
@@ -114,7 +103,7 @@ module _ (t : Transition) where
       new = record {
         action = begins.action;
         in_flight = and_from (has_begun t (since ++ Begin k a ∷ []) k) _
-            (list_any-append (begins_number k) since (Begin k a ∷ []) ∙ or_right (has_begun t since k) (list_any (begins_number k) (Begin k a ∷ [])) (rw (itself k) refl))
+            (list_any-append (begins_number k) since (Begin k a ∷ []) ∙ or_right (has_begun t since k) (list_any (begins_number k) (Begin k a ∷ [])) (rw (number_itself k) refl))
             (not_from_false _ (ended_after k fresh));
       }
 

@@ -14,14 +14,10 @@ use Rattle.cluster_types.specs.declared.placement.Target.TheVariants as target
 use Rattle.cluster_types.specs.CellStates.{cell_state}
 use Rattle.cluster_types.specs.Needed.{FirstSet, fence, probe, step, monitor, Needed, kept, sent, taken_in, is_monitor_for}
 use Rattle.cluster_types.specs.Tables.{Targets, is_promoted_target, is_somewhere}
+use Rattle.cluster_types.proofs.TableCells.{promoted_somewhere}
 use Rattle.precedence_laws.proofs.CellSteps.{IsStep, is_step, is_known, is_promoted_state}
 use Rattle.run_safety.proofs.Touching.{gives_run, gives_promoted}
 use Rattle.run_safety.proofs.Truths.{one_cell}
-
-pub promoted_somewhere : (t : Target) → is_promoted_target t ≡ true → is_somewhere t ≡ true
-promoted_somewhere target.Promoted h = refl
-promoted_somewhere target.Nowhere h = cc
-promoted_somewhere target.Started h = cc
 
 pub monitored_somewhere : (held : Role) (t : Target) → is_monitor_for held t ≡ true → is_somewhere t ≡ true
 monitored_somewhere held target.Started h = refl

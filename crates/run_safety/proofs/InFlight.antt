@@ -7,6 +7,7 @@ use Rattle.std.proofs.lemmas.Bool.{or_right}
 use Rattle.std.proofs.lemmas.List.Folds.{list_any-append}
 use Rattle.std.proofs.lemmas.Option.{slice_get_within}
 use Rattle.lemmas.proofs.Ranges.{some_in_range}
+use Rattle.lemmas.proofs.Booleans.{number_itself}
 use Rattle.cluster_types.specs.declared.journal.Action.{Action}
 use Rattle.cluster_types.specs.declared.journal.Event.{Event}
 use Rattle.cluster_types.specs.declared.journal.Outcome.TheVariants.{Gone}
@@ -14,7 +15,6 @@ use Rattle.cluster_types.specs.Answering.{end_of}
 use Rattle.cluster_types.specs.Journals.{is_on, ends_number}
 use Rattle.cluster_types.specs.Steps.{Transition, action_at, begins_number, flying, has_begun, has_ended, is_in_flight_number, journal, numbered, numbers}
 use Rattle.run_safety.proofs.Shapes.{gone_with}
-use Rattle.run_safety.proofs.Truths.{itself}
 
 -- what is in flight, and didn't begin just now, was in flight, and doesn't end just now
 parted : (a b c d : Bool) → b ≡ false → (a || b) && not (c || d) ≡ true → (a && not c ≡ true) × (d ≡ false)
@@ -70,7 +70,7 @@ module _ (t : Transition) (since : List Event) (k : ℕ) (a : Action) (test : �
   pub among_flying : list_any test (flying t since) ≡ true
   among_flying =
       let within = number_within t.actions k a is in
-      among (numbers t) (some_in_range (λ j. j == k) 1 (length t.actions) k (omega (arith, within.0)) (omega (arith, within.1)) (itself k))
+      among (numbers t) (some_in_range (λ j. j == k) 1 (length t.actions) k (omega (arith, within.0)) (omega (arith, within.1)) (number_itself k))
 
 ends_among : (k n : ℕ) (end : ℕ × Action → Event) → ((p : ℕ × Action) → ends_number k (end p) ≡ (p.0 == k)) → (ps : List (ℕ × Action))
     → list_any (λ (p : ℕ × Action). p.0 == k && is_on n p.1) ps ≡ true → list_any (ends_number k) (map end (filter (λ (p : ℕ × Action). is_on n p.1) ps)) ≡ true
@@ -89,4 +89,4 @@ pub ends_with_node : (t : Transition) (since : List Event) (k n : ℕ) (a : Acti
     → list_any (ends_number k) (gone_with t since n) ≡ true
 ends_with_node t since k n a is flies on =
     ends_among k n (end_of t.cluster (journal t since) (flying t since) Gone) (λ p. refl) (flying t since)
-    (among_flying t since k a (λ (p : ℕ × Action). p.0 == k && is_on n p.1) (rw (itself k) on) is flies)
+    (among_flying t since k a (λ (p : ℕ × Action). p.0 == k && is_on n p.1) (rw (number_itself k) on) is flies)

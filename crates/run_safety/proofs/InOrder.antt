@@ -16,20 +16,12 @@ use Rattle.cluster_types.specs.Journals.{joined, Orderly, is_on, last_sign, sign
 use Rattle.cluster_types.specs.NodeStates.{is_online}
 use Rattle.cluster_types.specs.Steps.{Transition, aborts, action_at, begins_number, flying, has_aborted, is_in_flight_number, journal}
 use Rattle.cluster_types.proofs.StepLaws.{split}
+use Rattle.cluster_types.proofs.EagerLaws.{at_only}
 use Rattle.run_safety.proofs.Each.{Each, none, more}
 use Rattle.run_safety.proofs.InFlight.{was_in_flight}
 use Rattle.run_safety.proofs.Shapes.{Flies}
 use Rattle.run_safety.proofs.Signs.{is_kept, stays}
 use Rattle.run_safety.proofs.Standing.{KeepsToNodes, Stands}
-
--- of one event there is no other
-pub at_only : (R : Type 0) (x e : Event) (front after : List Event) → x ∷ [] ≡ front ++ e ∷ after → (front ≡ [] → x ≡ e → R) → R
-at_only R x e [] after q f = f refl cc
-at_only R x e (b ∷ bs) after q f = let tail : [] ≡ bs ++ e ∷ after = cc in never bs tail
-  where
-    never : (bs : List Event) → [] ≡ bs ++ e ∷ after → R
-    never [] h = absurd (let g : ⊥ = cc in g)
-    never (b ∷ bs) h = absurd (let g : ⊥ = cc in g)
 
 -- more events behind a journal in order, of which each finds its node there
 pub ordered : (es ys : List Event) → Orderly es

@@ -7,6 +7,7 @@ use Rattle.std.proofs.lemmas.Bool.{both_ways, false_from_ne_true}
 use Rattle.std.proofs.lemmas.Bool.Decides.{nat_tests}
 use Rattle.std.proofs.lemmas.List.Sums.{sum_by-append}
 use Rattle.lemmas.proofs.Ranges.{any-same}
+use Rattle.lemmas.proofs.Booleans.{number_itself}
 use Rattle.cluster_types.specs.declared.journal.Action.TheVariants.{Probe}
 use Rattle.cluster_types.specs.declared.journal.Event.{Event}
 use Rattle.cluster_types.specs.declared.journal.Event.TheVariants.{Wait, Begin, Ended}
@@ -26,7 +27,7 @@ use Rattle.run_safety.proofs.Carried.{HasNumber, Carries}
 use Rattle.run_safety.proofs.Needing.{Done, state, probe_needed}
 use Rattle.run_safety.proofs.Outcomes.{IsSeen, none_more, success_fails_not, seen_more, seen_here}
 use Rattle.run_safety.proofs.Signs.{online_joined}
-use Rattle.run_safety.proofs.Truths.{refuse, itself}
+use Rattle.run_safety.proofs.Truths.{refuse}
 use Rattle.run_safety.proofs.Turning.{turned, unturned}
 
 -- what is forgotten stays forgotten
@@ -129,7 +130,7 @@ module _ (t : Transition) (since : List Event) (calm : Calm t since) where
         asked u =
             let number : HasNumber t (Probe r n) = carries.numbered (Probe r n) (probe_needed t targets r n h l u) in
             turned t (IsSeen t.cluster r n) number.number (Probe r n) number.is
-            (λ es o m ok. seen_here t.cluster r n es (Ended number.number (Probe r n) o m) refl (rw (itself r) (rw (itself n) refl)))
+            (λ es o m ok. seen_here t.cluster r n es (Ended number.number (Probe r n) o m) refl (rw (number_itself r) (rw (number_itself n) refl)))
             (λ es j y is known. inr (seen_more t.cluster r n es (Begin j y) refl known))
             (λ es j m y o is ok known. inr (seen_more t.cluster r n es (Ended j y o m) refl known))
             (λ es s known. seen_more t.cluster r n es (Wait s) refl known) since calm (probed number)

@@ -16,9 +16,10 @@ use Rattle.cluster_types.specs.Journals.{joined, Orderly, ends_number, is_on, la
 use Rattle.cluster_types.specs.NodeStates.{is_online}
 use Rattle.cluster_types.specs.Steps.{Transition, Goes, here, one_more, aborts, action_at, begins_number, flying, has_aborted, is_in_flight_number, journal}
 use Rattle.cluster_types.proofs.StepLaws.{split, not_aborted, begins_nothing, joined_all, map_all}
+use Rattle.cluster_types.proofs.EagerLaws.{at_only}
 use Rattle.run_safety.proofs.Each.{Each, each_at, each_end, each_map, none_passes}
 use Rattle.run_safety.proofs.InFlight.{was_in_flight, ends_with_node}
-use Rattle.run_safety.proofs.InOrder.{at_only, ordered, end_shows_nothing, gone_flies, begin_stands, stands_still, up_kept}
+use Rattle.run_safety.proofs.InOrder.{ordered, end_shows_nothing, gone_flies, begin_stands, stands_still, up_kept}
 use Rattle.run_safety.proofs.Shapes.{Adds, nothing, begun, over, reported, lost, up, quorum, wait, all_fly, gone_with, step_adds}
 use Rattle.run_safety.proofs.Signs.{still, online_joined}
 use Rattle.run_safety.proofs.Standing.{KeepsToNodes, Stands}

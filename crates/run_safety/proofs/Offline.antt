@@ -2,6 +2,7 @@
 use Rattle.std.proofs.Common.{inl, inr, ◌⊎◌, ◌≡◌, ◌==◌, ◌&&◌, ◌||◌, not, if◌then◌else◌, ℕ, Bool, true, false, Option, Some, None, List, [], ◌∷◌, ◌++◌, length, append-nil, refl, sym, subst, ap, ◌∙◌}
 use Rattle.std.specs.List.{list_any, range_with_len}
 use Rattle.std.proofs.lemmas.List.{append_assoc}
+use Rattle.std.proofs.lemmas.Bool.{or_left}
 use Rattle.lemmas.proofs.Booleans.{sooner, later}
 use Rattle.cluster_types.specs.declared.cluster.Cluster.{Cluster}
 use Rattle.cluster_types.specs.declared.journal.Action.TheVariants.{Fence, Probe, Cell, MigrateTo, MigrateFrom}
@@ -16,8 +17,9 @@ use Rattle.cluster_types.specs.May.{may, opens, closes, opens_cell}
 use Rattle.cluster_types.specs.NodeStates.{is_online, is_online_state, is_unclean, is_to_blame, state_by, wants_fence}
 use Rattle.cluster_types.specs.Outcomes.{effective, is_among, is_fence, fail_of}
 use Rattle.cluster_types.proofs.MayLaws.{may-last}
+use Rattle.cluster_types.proofs.LastSigns.{signed}
 use Rattle.run_safety.proofs.Each.{more, none}
-use Rattle.run_safety.proofs.Signs.{still, shown}
+use Rattle.run_safety.proofs.Signs.{still}
 use Rattle.run_safety.proofs.Truths.{still_shut, shut, refuse}
 
 -- A list seen from its end.
@@ -71,10 +73,6 @@ record Closes (c : Cluster) (r n : ℕ) (e : Event) : Type 0 where
   pub closes_it : closes c r n e ≡ true
   pub opens_none : opens c r n e ≡ false
 
-first : (a b : Bool) → a ≡ true → a || b ≡ true
-first true b h = refl
-first false b h = cc
-
 signs_close : (c : Cluster) (r n : ℕ) (e : Event) (s : NodeSign) → sign_of n e ≡ Some s → is_out c.properties.fencing (Some s) ≡ true → Closes c r n e
 signs_close c r n (Up node) s h out = by (node == n) h
   where
@@ -97,7 +95,7 @@ signs_close c r n (Lost node) s h out = by (node == n) refl h
 signs_close c r n (Ended k (Fence node) o moment) s h out = by (node == n && is_among (0 ∷ []) o) refl h
   where
     by : (b : Bool) → (node == n && is_among (0 ∷ []) o) ≡ b → (if b then Some was_fenced else None) ≡ Some s → Closes c r n (Ended k (Fence node) o moment)
-    by true e h = record { closes_it = first _ _ e; opens_none = refl }
+    by true e h = record { closes_it = or_left _ _ e; opens_none = refl }
     by false e h = absurd (let f : ⊥ = cc in f)
 signs_close c r n _ s h out = absurd (let f : ⊥ = cc in f)
 
@@ -122,7 +120,7 @@ module _ (c : Cluster) (r n : ℕ) where
                   refuse (is_out c.properties.fencing (last_sign n es)) (rw there refl) was
               wanted (inr j) = absurd (let f : ⊥ = cc in f)
       by (Some s) h before =
-          let closing = signs_close c r n e s h (subst (λ z. is_out c.properties.fencing z ≡ true) (shown n es e s h) out) in
+          let closing = signs_close c r n e s h (subst (λ z. is_out c.properties.fencing z ≡ true) (signed n es e s h) out) in
           may-last c r n e es ∙ shut _ _ _ closing.opens_none closing.closes_it
 
   pub out_closes : (es : List Event) → Orderly es → is_out c.properties.fencing (last_sign n es) ≡ true → may c r n es ≡ false

@@ -14,8 +14,9 @@ use Rattle.cluster_types.specs.Needed.{FirstSet, fence, probe, step, monitor, Ne
 use Rattle.cluster_types.specs.Pins.{is_pinned}
 use Rattle.cluster_types.specs.Precedence.{CellOf, cell_of, gives_any}
 use Rattle.cluster_types.specs.Tables.{Targets, is_somewhere}
+use Rattle.cluster_types.proofs.TableCells.{promoted_somewhere}
 use Rattle.precedence_laws.proofs.CellSteps.{IsStep, is_step, is_known}
-use Rattle.run_safety.proofs.Givers.{start_step, promoted_somewhere}
+use Rattle.run_safety.proofs.Givers.{start_step}
 
 module _ (c : Cluster) (es : List Event) (targets : Targets) where
   pub record IsGiven (r n : ℕ) : Type 0 where

@@ -23,7 +23,8 @@ any_implied : (p q : Event → Bool) → ((e : Event) → p e ≡ true → q e �
 any_implied p q f [] h = h
 any_implied p q f (x ∷ xs) h = either (p x) _ h (λ k. or_left _ _ (f x k)) (λ k. or_right (q x) _ (any_implied p q f xs k))
 
-success_ends : (c : Cluster) (k : ℕ) (e : Event) → succeeds_number c k e ≡ true → ends_number k e ≡ true
+-- what succeeds, ends
+pub success_ends : (c : Cluster) (k : ℕ) (e : Event) → succeeds_number c k e ≡ true → ends_number k e ≡ true
 success_ends c k (Ended j a o m) h = sooner (j == k) _ h
 success_ends c k _ h = cc
 

@@ -2,7 +2,7 @@
 use Rattle.std.proofs.Common.{inl, inr, ◌⊎◌, ◌≡◌, ◌<◌, ◌≤◌, if◌then◌else◌, ℕ, Bool, true, false, List, [], ◌∷◌, ◌++◌, length, refl, sym, subst}
 use Rattle.std.specs.Prelude.{Some, Contains}
 use Rattle.std.proofs.lemmas.Bool.{not-true, and_from}
-use Rattle.lemmas.proofs.Booleans.{later}
+use Rattle.lemmas.proofs.Booleans.{later, number_itself}
 use Rattle.cluster_types.specs.declared.journal.Action.{Action}
 use Rattle.cluster_types.specs.declared.journal.Action.TheVariants.{Fence, Probe, Cell}
 use Rattle.cluster_types.specs.declared.journal.Event.{Event}
@@ -35,7 +35,7 @@ use Rattle.run_safety.proofs.PromotedSteps.{is_fresh, promote_of, promote_of_cyc
 use Rattle.run_safety.proofs.PromotedTakers.{is_a_step, is_taker, is_watch, taken_or_not, Takes, Gets, is_probe}
 use Rattle.run_safety.proofs.RunsAt.{done}
 use Rattle.run_safety.proofs.Touching.{takes_promoted}
-use Rattle.run_safety.proofs.Truths.{refuse, itself}
+use Rattle.run_safety.proofs.Truths.{refuse}
 use Rattle.run_safety.proofs.Turning.{turned, unturned}
 
 module _ (t : Transition) (targets : Targets) (carries : Carries t targets) (sound : IsSound t targets) (orderly : Orderly t.planned_at)
@@ -51,7 +51,7 @@ module _ (t : Transition) (targets : Targets) (carries : Carries t targets) (sou
     raised : IsNeeded t targets (Cell op.Promote r n 0 role.Started) → IsUp (journal t since)
     raised needed =
         turned t IsUp number.number (Cell op.Promote r n 0 role.Started) number.is
-        (λ es o m ok. up_turned t.cluster r n es number.number m (Cell op.Promote r n 0 role.Started) o (rw (itself r) (rw (itself n) refl)))
+        (λ es o m ok. up_turned t.cluster r n es number.number m (Cell op.Promote r n 0 role.Started) o (rw (number_itself r) (rw (number_itself n) refl)))
         (λ es j y is up. inr (up_begun t.cluster r n es j y up))
         (λ es j m y o is ok up. taken_or_not t targets carries sound r n online ((t.precedes j number.number ≡ true) ⊎ IsUp (es ++ Ended j y o m ∷ [])) j y is
         (λ e. inr (up_done t.cluster r n es j m y o ok e up)) (λ takes. inl (first j y is takes)))
@@ -64,14 +64,14 @@ module _ (t : Transition) (targets : Targets) (carries : Carries t targets) (sou
         precedes j y z is same must = carries.precede j number.number z (Cell op.Promote r n 0 role.Started) (subst (λ w. action_at t j ≡ Some w) same is) number.is must
 
         step_first : (o : Op) → is_taker o ≡ true → Must t (Cell o r n 0 role.Started) (Cell op.Promote r n 0 role.Started)
-        step_first op.Start e = by_cell t (Cell op.Start r n 0 role.Started) (Cell op.Promote r n 0 role.Started) (rw (itself r) (rw (itself n) refl))
-        step_first op.Stop e = by_demote t (Cell op.Stop r n 0 role.Started) (Cell op.Promote r n 0 role.Started) (itself r)
-        step_first op.Demote e = by_demote t (Cell op.Demote r n 0 role.Started) (Cell op.Promote r n 0 role.Started) (rw (itself r) refl)
+        step_first op.Start e = by_cell t (Cell op.Start r n 0 role.Started) (Cell op.Promote r n 0 role.Started) (rw (number_itself r) (rw (number_itself n) refl))
+        step_first op.Stop e = by_demote t (Cell op.Stop r n 0 role.Started) (Cell op.Promote r n 0 role.Started) (number_itself r)
+        step_first op.Demote e = by_demote t (Cell op.Demote r n 0 role.Started) (Cell op.Promote r n 0 role.Started) (rw (number_itself r) refl)
         step_first op.Promote e = cc
         step_first op.Monitor e = cc
 
         first : (j : ℕ) (y : Action) → action_at t j ≡ Some y → Takes t targets r n y → t.precedes j number.number ≡ true
-        first j y is (is_probe same u) = precedes j y (Probe r n) is same (by_probe t (Probe r n) (Cell op.Promote r n 0 role.Started) (itself r))
+        first j y is (is_probe same u) = precedes j y (Probe r n) is same (by_probe t (Probe r n) (Cell op.Promote r n 0 role.Started) (number_itself r))
         first j y is (is_a_step o same takes g) = precedes j y (Cell o r n 0 role.Started) is same (step_first o takes)
         first j y is (is_watch e) = unwatched e
 

@@ -2,7 +2,7 @@
 use Rattle.std.proofs.Common.{arith, inr, ◌≡◌, ◌<◌, ◌≤◌, ◌||◌, if◌then◌else◌, min, ℕ, Bool, true, false, List, [], length, refl}
 use Rattle.std.specs.Prelude.{Option, IfSome}
 use Rattle.std.proofs.lemmas.Bool.{both_ways, true_from_ne_false}
-use Rattle.lemmas.proofs.Booleans.{later}
+use Rattle.lemmas.proofs.Booleans.{later, number_itself}
 use Rattle.cluster_types.specs.declared.cluster.Cluster.{Cluster}
 use Rattle.cluster_types.specs.declared.journal.Action.{Action}
 use Rattle.cluster_types.specs.declared.journal.Action.TheVariants.{Fence, Probe, Cell, MigrateTo, MigrateFrom}
@@ -31,7 +31,7 @@ use Rattle.run_safety.proofs.Givers.{promoted_gives}
 use Rattle.run_safety.proofs.Leads.{Must, by_demote}
 use Rattle.run_safety.proofs.Needing.{Done, succeeded}
 use Rattle.run_safety.proofs.Placing.{IsGiven}
-use Rattle.run_safety.proofs.Truths.{itself, own_cell}
+use Rattle.run_safety.proofs.Truths.{own_cell}
 
 cap_promoted : (c : Cluster) (es : List Event) (r : ℕ) → cap_of c es (Promote r) ≤ promoted_copies c r
 cap_promoted c es r = by (is_stopped_role (target_role_of c r) || is_unpromoted_role (target_role_of c r))
@@ -58,7 +58,7 @@ module _ (t : Transition) (targets : Targets) (carries : Carries t targets) (sou
         never : is_promoted_target (targets r m) ≡ false → ⊥
         never e =
             let first = before_promote t targets carries sound orderly r n i held m in
-            let demoted = by_demote t (Cell op.Demote r m 0 role.Started) (Cell op.Promote r n i held) (rw (itself r) refl) in
+            let demoted = by_demote t (Cell op.Demote r m 0 role.Started) (Cell op.Promote r n i held) (rw (number_itself r) refl) in
             both_ways (is_left_promoted t.cluster r m (journal t since))
             (elsewhere_down t targets carries r m e since calm given_here.leaf low given_here.free orderly
             (inr (is_able t targets carries sound orderly since k (Cell op.Promote r n i held) calm begins (record { leaf = r; node = n }) refl))

@@ -1,6 +1,7 @@
 -- Once all have succeeded, a leaf may run on an online node just where it has a target.
 use Rattle.std.proofs.Common.{inl, inr, ◌⊎◌, ◌≡◌, ◌<◌, ◌≤◌, ℕ, Bool, true, false, List, [], ◌∷◌, ◌++◌, length, refl, subst}
 use Rattle.std.specs.Prelude.{Some}
+use Rattle.lemmas.proofs.Booleans.{number_itself}
 use Rattle.cluster_types.specs.declared.journal.Action.{Action}
 use Rattle.cluster_types.specs.declared.journal.Action.TheVariants.{Fence, Probe, Cell, MigrateTo, MigrateFrom}
 use Rattle.cluster_types.specs.declared.journal.Event.{Event}
@@ -26,7 +27,7 @@ use Rattle.run_safety.proofs.Preceded.{preceded, succeeded_begun}
 use Rattle.run_safety.proofs.Running.{How, by_start, by_taking, stays, how}
 use Rattle.run_safety.proofs.Takers.{GetsStop, Takes, is_probe, is_stop, takes_needs, running_may, MigratesHere}
 use Rattle.run_safety.proofs.Touching.{takes_run}
-use Rattle.run_safety.proofs.Truths.{refuse, itself}
+use Rattle.run_safety.proofs.Truths.{refuse}
 use Rattle.run_safety.proofs.Turning.{turned, turned_when, unturned}
 
 module _ (t : Transition) (targets : Targets) (carries : Carries t targets) (sound : IsSound t targets) (orderly : Orderly t.planned_at)
@@ -39,8 +40,8 @@ module _ (t : Transition) (targets : Targets) (carries : Carries t targets) (sou
       → (so_far : List Event) → Calm t so_far → has_begun t so_far k ≡ true → has_succeeded t so_far j ≡ true
   probe_before_taking r n from j k g asks takes_in so_far calm begun =
       let sending : HasNumber t (MigrateTo r from n) = carries.numbered (MigrateTo r from n) (sent r from n g) in
-      let sends = by_migration t (MigrateTo r from n) (MigrateFrom r from n) (itself r) in
-      let probes = by_probe t (Probe r n) (MigrateTo r from n) (itself r) in
+      let sends = by_migration t (MigrateTo r from n) (MigrateFrom r from n) (number_itself r) in
+      let probes = by_probe t (Probe r n) (MigrateTo r from n) (number_itself r) in
       let low = number_within t.actions sending.number (MigrateTo r from n) sending.is in
       let high = number_within t.actions j (Probe r n) asks in
       let sent = preceded t so_far k sending.number calm begun low.0 low.1 (carries.precede sending.number k (MigrateTo r from n) (MigrateFrom r from n) sending.is takes_in sends) in
@@ -60,7 +61,7 @@ module _ (t : Transition) (targets : Targets) (carries : Carries t targets) (sou
 
     started : IsNeeded t targets (Cell op.Start r n 0 role.Started) → IsOn (journal t since)
     started needed =
-        turned t IsOn number.number x number.is (λ es o m ok. on_turned t.cluster r n es number.number m x o (rw (itself r) (rw (itself n) refl)))
+        turned t IsOn number.number x number.is (λ es o m ok. on_turned t.cluster r n es number.number m x o (rw (number_itself r) (rw (number_itself n) refl)))
         (λ es j y is on. inr (on_begun t.cluster r n es j y on))
         (λ es j m y o is ok on. taken_or_not ((t.precedes j number.number ≡ true) ⊎ IsOn (es ++ Ended j y o m ∷ [])) j y is
         (λ e. inr (on_done t.cluster r n es j m y o ok e on)) (λ takes. inl (first j y is takes)))
@@ -76,16 +77,16 @@ module _ (t : Transition) (targets : Targets) (carries : Carries t targets) (sou
         precedes j y z is same must = carries.precede j number.number z (Cell op.Start r n 0 role.Started) (subst (λ w. action_at t j ≡ Some w) same is) number.is must
 
         first : (j : ℕ) (y : Action) → action_at t j ≡ Some y → Takes t targets carries r n y → t.precedes j number.number ≡ true
-        first j y is (is_probe same u) = precedes j y (Probe r n) is same (by_probe t (Probe r n) (Cell op.Start r n 0 role.Started) (itself r))
+        first j y is (is_probe same u) = precedes j y (Probe r n) is same (by_probe t (Probe r n) (Cell op.Start r n 0 role.Started) (number_itself r))
         first j y is (is_stop same g) =
             precedes j y (Cell op.Stop r n 0 role.Started) is same
-            (by_stop t (Cell op.Stop r n 0 role.Started) (Cell op.Start r n 0 role.Started) (rw (itself r) (rw (itself n) refl)))
+            (by_stop t (Cell op.Stop r n 0 role.Started) (Cell op.Start r n 0 role.Started) (rw (number_itself r) (rw (number_itself n) refl)))
 
     taken_there : MigratesHere t targets carries r n → IsOn (journal t since)
     taken_there here =
         turned_when t IsOn number.number (MigrateFrom r here.from n) number.is (λ j. action_at t j ≡ Some (Probe r n))
         (λ j is so_far quiet begun. probe_before_taking r n here.from j number.number here.migrates is number.is so_far quiet begun)
-        (λ es o m ok. on_turned t.cluster r n es number.number m (MigrateFrom r here.from n) o (rw (itself r) (rw (itself n) refl)))
+        (λ es o m ok. on_turned t.cluster r n es number.number m (MigrateFrom r here.from n) o (rw (number_itself r) (rw (number_itself n) refl)))
         (λ es j y is on. inr (on_begun t.cluster r n es j y on))
         (λ es j m y o is ok on. taken_or_not ((action_at t j ≡ Some (Probe r n)) ⊎ IsOn (es ++ Ended j y o m ∷ [])) j y is
         (λ e. inr (on_done t.cluster r n es j m y o ok e on)) (λ takes. first (IsOn (es ++ Ended j y o m ∷ [])) j y is takes))

@@ -16,7 +16,7 @@ use Rattle.cluster_types.specs.Steps.{Transition, Begins, Goes, StepsOn, here as
 use Rattle.cluster_types.specs.Valid.{IsValid}
 use Rattle.cluster_types.proofs.SourceLaws.{goes-more, none-in_flight, step-untold}
 use Rattle.cluster_types.proofs.StepLaws.{begins_nothing}
-use Rattle.run_safety.proofs.Flown.{none_begun}
+use Rattle.cluster_types.proofs.JournalLaws.{nothing_begun}
 use Rattle.run_safety.proofs.InFlight.{number_within}
 use Rattle.run_safety.proofs.Losses.{add_stands, at_first, gone_begins_nothing}
 use Rattle.run_safety.proofs.Planned.{of_plan}
@@ -59,7 +59,7 @@ module _ (c : Cluster) (promotions : List Promotion) (whole : Bool) (valid : IsV
       let t = resting c es in (
         (add_stands t (record { online = λ k n a is w. never k a is; fences = λ k n is. never k _ is }) [] (events_of t [] given) (at_first t
             (record { online = λ k n a is w. never k a is; fences = λ k n is. never k _ is }) at.0) (answer_adds t [] given applies)).orderly,
-        none-in_flight es (events_of t [] given) at.1 ∙ none_begun (events_of t [] given) (silent t [] (events_of t [] given) (λ k a begins. never k a begins.action) (answer_adds t [] given applies)),
+        none-in_flight es (events_of t [] given) at.1 ∙ nothing_begun (events_of t [] given) (silent t [] (events_of t [] given) (λ k a begins. never k a begins.action) (answer_adds t [] given applies)),
       )
     where
       never : {R : Type 0} (k : ℕ) (a : Action) → action_at (resting c es) k ≡ Some a → R

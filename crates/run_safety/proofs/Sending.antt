@@ -3,6 +3,7 @@ use Rattle.std.proofs.Common.{inl, inr, ◌⊎◌, ◌≡◌, ◌<◌, ◌==◌,
 use Rattle.std.specs.Prelude.{Option, Some, None}
 use Rattle.std.specs.Option.{option_map_or}
 use Rattle.std.proofs.lemmas.Bool.{and_from}
+use Rattle.lemmas.proofs.Booleans.{number_itself}
 use Rattle.cluster_types.specs.declared.journal.Action.{Action}
 use Rattle.cluster_types.specs.declared.journal.Action.TheVariants.{Cell, MigrateTo, MigrateFrom}
 use Rattle.cluster_types.specs.declared.journal.Event.{Event}
@@ -32,7 +33,7 @@ use Rattle.run_safety.proofs.Needing.{state}
 use Rattle.run_safety.proofs.Placing.{IsGiven}
 use Rattle.run_safety.proofs.Preceded.{preceded, succeeded_begun}
 use Rattle.run_safety.proofs.Touching.{gives_run}
-use Rattle.run_safety.proofs.Truths.{one_cell, refuse, itself}
+use Rattle.run_safety.proofs.Truths.{one_cell, refuse}
 use Rattle.run_safety.proofs.Turning.{kept as stays_kept}
 
 module _ (t : Transition) (targets : Targets) (carries : Carries t targets) (sound : IsSound t targets) (valid : IsValid t.cluster) where
@@ -72,8 +73,8 @@ module _ (t : Transition) (targets : Targets) (carries : Carries t targets) (sou
     first_comes _ (step s m o k l gets) needs other h = step_comes s m o (is_step t.cluster t.planned_at targets s m o gets) needs other h
     first_comes _ (monitor s m w k l has watch) needs other h =
         let same = one_cell r to s m h in
-        let leaf : (r == s) ≡ true = subst (λ z. (z == s) ≡ true) same.0 (itself s) in
-        let node : (m == to) ≡ true = subst (λ z. (m == z) ≡ true) same.1 (itself m) in
+        let leaf : (r == s) ≡ true = subst (λ z. (z == s) ≡ true) same.0 (number_itself s) in
+        let node : (m == to) ≡ true = subst (λ z. (m == z) ≡ true) same.1 (number_itself m) in
         after_taking (by_migration t (MigrateFrom r n to) (Cell op.Monitor s m w.interval_ms w.role) (and_from (r == s) (m == to) leaf node))
 
     -- a leaf that migrates does so from one node
@@ -85,7 +86,7 @@ module _ (t : Transition) (targets : Targets) (carries : Carries t targets) (sou
         by false e =
             let low = (bounds_of_stop t.cluster t.planned_at targets r from other.stopped).1 in
             let on = (says_of t.cluster r from t.planned_at cell.On other.running).4 in
-            refuse (may t.cluster r from t.planned_at) (g.nowhere_else from low (λ same. refuse (from == n) e (subst (λ z. (from == z) ≡ true) same (itself from)))) on
+            refuse (may t.cluster r from t.planned_at) (g.nowhere_else from low (λ same. refuse (from == n) e (subst (λ z. (from == z) ≡ true) same (number_itself from)))) on
 
     comes : (y : Action) → Needed t.cluster t.planned_at targets y → gives_run r to y ≡ true → Comes y
     comes y (kept _ f others) h = first_comes y f (kept y f others) (others r n to g) h
@@ -97,7 +98,7 @@ module _ (t : Transition) (targets : Targets) (carries : Carries t targets) (sou
         is_it (subst (λ z. MigrateTo z from m ≡ MigrateTo r n to) (sym leaf) (subst (λ z. MigrateTo r z m ≡ MigrateTo r n to) (sym source) (ap (λ z. MigrateTo r n z) node)))
     comes _ (taken_in s from m other) h =
         let same = one_cell r to s m h in
-        after_sending (by_migration t (MigrateTo r n to) (MigrateFrom s from m) (subst (λ z. (z == s) ≡ true) same.0 (itself s)))
+        after_sending (by_migration t (MigrateTo r n to) (MigrateFrom s from m) (subst (λ z. (z == s) ≡ true) same.0 (number_itself s)))
 
     module _ (since : List Event) (k : ℕ) (calm : Calm t since) (begins : Begins t since k (MigrateTo r n to)) where
       -- what comes after something that hasn't begun hasn't begun
@@ -123,7 +124,7 @@ module _ (t : Transition) (targets : Targets) (carries : Carries t targets) (sou
           by (after_sending must) = later_too k j (MigrateTo r n to) y begins.action is must fresh
           by (after_taking must) =
               let taking : HasNumber t (MigrateFrom r n to) = carries.numbered (MigrateFrom r n to) (taken_in r n to g) in
-              let sends = by_migration t (MigrateTo r n to) (MigrateFrom r n to) (itself r) in
+              let sends = by_migration t (MigrateTo r n to) (MigrateFrom r n to) (number_itself r) in
               later_too taking.number j (MigrateFrom r n to) y taking.is is must (later_too k taking.number (MigrateTo r n to) (MigrateFrom r n to) begins.action taking.is sends fresh)
 
       abbrev IsOff : List Event → Type 0

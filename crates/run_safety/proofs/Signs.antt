@@ -7,7 +7,7 @@ use Rattle.cluster_types.specs.declared.journal.Event.{Event}
 use Rattle.cluster_types.specs.declared.states.NodeState.TheVariants as node
 use Rattle.cluster_types.specs.Journals.{NodeSign, joined, went_down, was_lost, was_fenced, sign_of, last_sign}
 use Rattle.cluster_types.specs.NodeStates.{is_online, is_online_state, state_by}
-use Rattle.lemmas.proofs.Lasts.{last-more}
+use Rattle.cluster_types.proofs.LastSigns.{signed}
 use Rattle.run_safety.proofs.Each.{Each, none, more}
 
 module _ (n : ℕ) where
@@ -20,9 +20,6 @@ module _ (n : ℕ) where
   still es ys h =
       ap (last_or None) (filter_map-append (sign_of n) es ys ∙ (ap (λ xs. filter_map (sign_of n) es ++ xs) (signs_none ys h) ∙ append-nil (filter_map (sign_of n) es)))
 
-  pub shown : (es : List Event) (e : Event) (s : NodeSign) → sign_of n e ≡ Some s → last_sign n (es ++ e ∷ []) ≡ Some s
-  shown es e s h = ap (last_or None) (filter_map-append (sign_of n) es (e ∷ [])) ∙ (rw h (last-more None (filter_map (sign_of n) es) s))
-
   -- a node that is there stays there, where nothing but its joining is shown
   abbrev pub is_kept : Option NodeSign → Bool
   is_kept None = true
@@ -34,7 +31,7 @@ module _ (n : ℕ) where
     where
       by : (s : Option NodeSign) → sign_of n e ≡ s → is_kept s ≡ true → last_sign n (es ++ e ∷ []) ≡ Some joined
       by None g h = still es (e ∷ []) (more e [] g none) ∙ there
-      by (Some joined) g h = shown es e joined g
+      by (Some joined) g h = signed n es e joined g
       by (Some went_down) g h = cc
       by (Some was_lost) g h = cc
       by (Some was_fenced) g h = cc

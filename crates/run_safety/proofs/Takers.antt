@@ -2,7 +2,7 @@
 use Rattle.std.proofs.Common.{inl, inr, ◌⊎◌, ◌≡◌, ◌<◌, ◌+◌, ◌-◌, ◌==◌, ℕ, Bool, true, false, length, eqb-true, refl, sym, subst, ap}
 use Rattle.std.specs.List.{list_any}
 use Rattle.std.proofs.lemmas.Bool.{and_from}
-use Rattle.lemmas.proofs.Booleans.{later}
+use Rattle.lemmas.proofs.Booleans.{later, number_itself}
 use Rattle.cluster_types.specs.declared.journal.Action.{Action}
 use Rattle.cluster_types.specs.declared.journal.Action.TheVariants.{Probe, Cell, MigrateTo}
 use Rattle.cluster_types.specs.declared.leaf.Op.{Op}
@@ -27,7 +27,7 @@ use Rattle.run_safety.proofs.Needing.{state, IsNeeded}
 use Rattle.run_safety.proofs.Nodes.{unclean_offline}
 use Rattle.run_safety.proofs.Planned.{number_of, place_of}
 use Rattle.run_safety.proofs.Touching.{takes_run}
-use Rattle.run_safety.proofs.Truths.{one_cell, refuse, itself}
+use Rattle.run_safety.proofs.Truths.{one_cell, refuse}
 
 module _ (t : Transition) (targets : Targets) (carries : Carries t targets) (r n : ℕ) where
   abbrev pub GetsStop : Type 0
@@ -117,4 +117,4 @@ module _ (t : Transition) (targets : Targets) (carries : Carries t targets) (r n
           let node : n ≡ m = cc in
           let number = carries.numbered (MigrateTo s from m) (sent s from m mig) in
           let absent = find_none (is_sent_to r n) t.actions e (number.number - 1) (MigrateTo s from m) (place_of t.actions number.number _ number.is) in
-          refuse _ absent (and_from (s == r) (m == n) (subst (λ z. (s == z) ≡ true) (sym leaf) (itself s)) (subst (λ z. (m == z) ≡ true) (sym node) (itself m)))))
+          refuse _ absent (and_from (s == r) (m == n) (subst (λ z. (s == z) ≡ true) (sym leaf) (number_itself s)) (subst (λ z. (m == z) ≡ true) (sym node) (number_itself m)))))

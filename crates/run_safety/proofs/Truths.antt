@@ -1,7 +1,7 @@
 -- Truth of tests, beyond what std and the crate of lemmas have.
-use Rattle.std.proofs.Common.{arith, ◌≡◌, ◌==◌, ◌&&◌, ◌||◌, not, ℕ, Bool, true, false, eqb-true, refl}
+use Rattle.std.proofs.Common.{◌≡◌, ◌==◌, ◌&&◌, ◌||◌, not, ℕ, Bool, true, false, eqb-true, refl}
 use Rattle.std.proofs.lemmas.Bool.{both_ways, and_from}
-use Rattle.lemmas.proofs.Booleans.{sooner, later}
+use Rattle.lemmas.proofs.Booleans.{sooner, later, number_itself}
 use Rattle.cluster_types.specs.Cells.{is_same_cell}
 
 -- no test fails and passes
@@ -9,11 +9,11 @@ pub refuse : {R : Type 0} (a : Bool) → a ≡ false → a ≡ true → R
 refuse a h g = absurd (both_ways a h g)
 
 pub itself : (n : ℕ) → (n == n) ≡ true
-itself n = grind arith
+itself n = number_itself n
 
 -- a cell is that of its leaf and node, and of no other
 pub own_cell : (r n : ℕ) → is_same_cell r n r n ≡ true
-own_cell r n = and_from (r == r) (n == n) (itself r) (itself n)
+own_cell r n = and_from (r == r) (n == n) (number_itself r) (number_itself n)
 
 pub one_cell : (r n leaf node : ℕ) → is_same_cell r n leaf node ≡ true → (leaf ≡ r) × (node ≡ n)
 one_cell r n leaf node h = (eqb-true leaf r (sooner (leaf == r) _ h), eqb-true node n (later (leaf == r) _ h))
@@ -21,11 +21,6 @@ one_cell r n leaf node h = (eqb-true leaf r (sooner (leaf == r) _ h), eqb-true n
 pub only : (b : Bool) → b || false ≡ true → b ≡ true
 only true h = refl
 only false h = cc
-
--- what passes together with a test that passes
-pub second_passes : (a b : Bool) → a ≡ true → a && b ≡ false → b ≡ false
-second_passes true b h g = g
-second_passes false b h g = cc
 
 -- A latch: what opens it, what it was, and what shuts it.
 pub still_shut : (set was clear : Bool) → set ≡ false → was ≡ false → set || was && not clear ≡ false

@@ -6,7 +6,7 @@ use Rattle.std.specs.List.{list_any}
 use Rattle.std.proofs.lemmas.Bool.{both_ways, or_parts, or_right}
 use Rattle.std.proofs.lemmas.List.{append_assoc}
 use Rattle.std.proofs.lemmas.List.Folds.{list_any-append}
-use Rattle.lemmas.proofs.Booleans.{sooner}
+use Rattle.lemmas.proofs.Booleans.{sooner, number_itself}
 use Rattle.cluster_types.specs.declared.journal.Action.{Action}
 use Rattle.cluster_types.specs.declared.journal.Event.{Event}
 use Rattle.cluster_types.specs.declared.journal.Event.TheVariants.{Wait, Begin, Ended}
@@ -16,7 +16,7 @@ use Rattle.cluster_types.proofs.StepLaws.{not_begun}
 use Rattle.run_safety.proofs.Calm.{Calm, none, begun, done, waited}
 use Rattle.run_safety.proofs.InFlight.{number_within}
 use Rattle.run_safety.proofs.Preceded.{any_split, in_flight_not_done, preceded, succeeded_begun}
-use Rattle.run_safety.proofs.Truths.{itself, refuse}
+use Rattle.run_safety.proofs.Truths.{refuse}
 
 module _ (t : Transition) where
   same_action : (k j : ℕ) (a b : Action) → action_at t k ≡ Some a → action_at t j ≡ Some b → k ≡ j → a ≡ b
@@ -97,7 +97,7 @@ module _ (t : Transition) where
       where
         by : (late j ≡ true) ⊎ P (journal t since ++ Begin j y ∷ []) → P (journal t since ++ Begin j y ∷ [])
         by (inl l) =
-            refuse _ (h j l) (list_any-append (begins_number j) since (Begin j y ∷ []) ∙ or_right (has_begun t since j) (list_any (begins_number j) (Begin j y ∷ [])) (rw (itself j) refl))
+            refuse _ (h j l) (list_any-append (begins_number j) since (Begin j y ∷ []) ∙ or_right (has_begun t since j) (list_any (begins_number j) (Begin j y ∷ [])) (rw (number_itself j) refl))
         by (inr q) = q
     kept _ (done since j m y o calm is_y flies ok) h p =
         subst P (append_assoc t.planned_at since _)
