@@ -40,6 +40,11 @@ is_active cell.Promoted = true
 is_active cell.Failed = true
 is_active _ = false
 
+-- how much a leaf wants to be promoted on a node: what its agent said, else -1 (rule of this project)
+abbrev pub promotion_score : List Promotion → ℕ → ℕ → ℤ
+promotion_score promotions r n =
+    option_map_or (λ (p : Promotion). p.score) (find (λ p. p.leaf == r && p.node == n) promotions) (neg_ℤ (pos 1))
+
 module _ (c : Cluster) where
   -- the colocation ties two uncloned leaves for good, both in the role Started
   abbrev pub is_tie : Colocation → Bool
@@ -107,11 +112,6 @@ module _ (c : Cluster) (es : List Event) where
   -- the leaf with the lenders that join it, tried in their order
   abbrev pub with_lenders : ℕ → List ℕ
   with_lenders r = fold with_lender (r ∷ []) (lenders c r)
-
-  -- how much a leaf wants to be promoted on a node: what its agent said, else -1 (rule of this project)
-  abbrev pub promotion_score : List Promotion → ℕ → ℕ → ℤ
-  promotion_score promotions r n =
-      option_map_or (λ (p : Promotion). p.score) (find (λ p. p.leaf == r && p.node == n) promotions) (neg_ℤ (pos 1))
 
   -- the total of a decision on a node, before colocations
   abbrev pub base : List Promotion → Decision → ℕ → ℤ

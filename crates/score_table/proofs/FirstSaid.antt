@@ -9,7 +9,8 @@ use Rattle.std.proofs.lemmas.Option.{slice_get-get_or, slice_get_within}
 use Rattle.cluster_types.specs.declared.cluster.Cluster.{Cluster}
 use Rattle.cluster_types.specs.declared.journal.Promotion.{Promotion}
 use Rattle.cluster_types.proofs.TableCells.{ordered, same_place}
-use Rattle.score_table.specs.Promotions.{AreSaid, is_free, said_of, wish_of}
+use Rattle.cluster_types.specs.Terms.{promotion_score}
+use Rattle.score_table.specs.Promotions.{AreSaid, is_free, said_of}
 
 -- the first stands; without one the new one counts if it is of the cell
 abbrev first_or : Option ℤ → Bool → ℤ → Option ℤ
@@ -126,7 +127,7 @@ pub taken : (said : List (Option ℤ)) (place : ℕ) → is_free said place ≡ 
 taken said place h at = false≢true (sym h ∙ ap (λ kept. option_map_or is_none kept false) at)
 
 -- how much the leaf wants to be promoted is the first that is said, else -1
-pub wish-is : (promotions : List Promotion) (r n : ℕ) → wish_of promotions r n ≡ unwrap_or (said_of promotions r n) (neg_ℤ (pos 1))
+pub wish-is : (promotions : List Promotion) (r n : ℕ) → promotion_score promotions r n ≡ unwrap_or (said_of promotions r n) (neg_ℤ (pos 1))
 wish-is promotions r n = go (find (λ (p : Promotion). p.leaf == r && p.node == n) promotions)
   where
     go : (first : Option Promotion) → option_map_or (λ (p : Promotion). p.score) first (neg_ℤ (pos 1)) ≡ unwrap_or (option_map (λ (p : Promotion). p.score) first) (neg_ℤ (pos 1))
@@ -134,7 +135,7 @@ wish-is promotions r n = go (find (λ (p : Promotion). p.leaf == r && p.node == 
     go None = refl
 
 pub wish-kept : (c : Cluster) (promotions : List Promotion) (said : List (Option ℤ)) (r n nodes place : ℕ) → AreSaid c promotions said → r < length c.leaves → n < length c.nodes
-    → nodes ≡ length c.nodes → place ≡ r * nodes + n → unwrap_or (unwrap_or (slice_get said place) None) (neg_ℤ (pos 1)) ≡ wish_of promotions r n
+    → nodes ≡ length c.nodes → place ≡ r * nodes + n → unwrap_or (unwrap_or (slice_get said place) None) (neg_ℤ (pos 1)) ≡ promotion_score promotions r n
 wish-kept c promotions said r n nodes place are leaf node size at =
     let here : place ≡ r * length c.nodes + n = at ∙ ap (λ k. r * k + n) size in
     let kept = ap (slice_get said) here ∙ are.each r n leaf node in

@@ -38,7 +38,7 @@ module _ (c : Cluster) (es : List Event) (ps : List Promotion) where
   promote-is : (r n : ℕ) → promote_by c (states_of c es ps) r n ≡ base c es ps (Promote r) n
   promote-is r n =
       let given = location_scores c es is_promoted r n in
-      let wish = promotion_score c es ps r n in
+      let wish = promotion_score ps r n in
       same_total (given ++ wish ∷ []) (wish ∷ given) (IsPermutation-append_comm given (wish ∷ []))
 
   pub table-is : table_by c (states_of c es ps) ≡ scores_of c es ps

@@ -1,18 +1,14 @@
 -- The promotion scores that a status says, cell by cell (follows from the definition of promotion scores).
-use Rattle.std.specs.Prelude.{◌≡◌, Bool, false, is_none, ℕ, ◌+◌, ◌*◌, ◌<◌, ◌==◌, ◌&&◌, ℤ, neg_ℤ, pos, Option, Some, List, [], ◌∷◌, ◌++◌, find, length, slice_get}
+use Rattle.std.specs.Prelude.{◌≡◌, Bool, false, is_none, ℕ, ◌+◌, ◌*◌, ◌<◌, ◌==◌, ◌&&◌, ℤ, Option, Some, List, [], ◌∷◌, ◌++◌, find, length, slice_get}
 use Rattle.std.specs.Option.{option_map, option_map_or}
 use Rattle.cluster_types.specs.declared.cluster.Cluster.{Cluster}
 use Rattle.cluster_types.specs.declared.journal.Promotion.{Promotion}
-use Rattle.cluster_types.specs.Terms.{is_promoted}
+use Rattle.cluster_types.specs.Terms.{is_promoted, promotion_score}
 use Rattle.score_table.specs.Locations.{given}
 
 -- the first of these scores that is said of the leaf on the node
 abbrev pub said_of : List Promotion → ℕ → ℕ → Option ℤ
 said_of promotions r n = option_map (λ (p : Promotion). p.score) (find (λ p. p.leaf == r && p.node == n) promotions)
-
--- how much the leaf wants to be promoted on the node: what is said of it, else -1
-abbrev pub wish_of : List Promotion → ℕ → ℕ → ℤ
-wish_of promotions r n = option_map_or (λ (p : Promotion). p.score) (find (λ p. p.leaf == r && p.node == n) promotions) (neg_ℤ (pos 1))
 
 -- the place is there, and nothing is kept at it
 abbrev pub is_free : List (Option ℤ) → ℕ → Bool
@@ -27,4 +23,4 @@ module _ (c : Cluster) where
 
   -- what counts for promoting the leaf on a node, the promotion score at the end
   abbrev pub wished_by : ℕ → List Promotion → ℕ → ℕ → List ℤ
-  wished_by moment promotions r n = given c moment is_promoted r c.locations c.rule_locations n ++ wish_of promotions r n ∷ []
+  wished_by moment promotions r n = given c moment is_promoted r c.locations c.rule_locations n ++ promotion_score promotions r n ∷ []

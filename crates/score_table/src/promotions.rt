@@ -3,6 +3,7 @@
 ghost use Rattle.std.specs.Prelude.{◌≡◌, ◌<◌, ◌≤◌, ◌++◌, ◌∷◌, [], ℕ, List, None, length, slice_get, unwrap_or, IfOk};
 ghost use Rattle.cluster_types.specs.declared.journal.Promotion.{Promotion as PromotionOf};
 ghost use Rattle.cluster_types.specs.Valid.{IsValid, KeepsLimits};
+ghost use Rattle.cluster_types.specs.Terms.{promotion_score};
 ghost use Rattle.score_table.specs.Promotions as spec;
 ghost use Rattle.score_table.specs.Rows.{IsRow};
 
@@ -71,7 +72,7 @@ fn wish(cluster: &Cluster, said: &[Option<Score>], leaf: LeafId, node: NodeId) -
     requires limits { KeepsLimits cluster.now }
     requires leaf { leaf < length cluster.now.leaves }
     requires node { node < length cluster.now.nodes }
-    ensures { (promotions : List PromotionOf) → spec.AreSaid cluster.now promotions said.now → result ≡ spec.wish_of promotions leaf node }
+    ensures { (promotions : List PromotionOf) → spec.AreSaid cluster.now promotions said.now → result ≡ promotion_score promotions leaf node }
 {
     let place = cell_place(cluster.nodes.len(), leaf, node);
     kept_at(said, place).unwrap_or(Score { points: -1 })

@@ -1,7 +1,6 @@
 use Rattle.std.proofs.Common.{rules, ◌+◌, length, sym, subst, ◌∙◌, arith}
-use Rattle.cluster_types.specs.Terms.{is_promoted}
+use Rattle.cluster_types.specs.Terms.{is_promoted, promotion_score}
 use Rattle.score_table.specs.Locations.{given}
-use Rattle.score_table.specs.Promotions.{wish_of}
 use Rattle.score_table.specs.Rows.{IsRow, IsRoomy}
 use Rattle.score_table.proofs.Given.{few-given}
 use Rattle.score_table.proofs.OwnTerms.{small-own}
@@ -16,7 +15,7 @@ loop-node-init c =
     let terms = given cluster c.args.moment is_promoted c.args.leaf cluster.locations cluster.rule_locations in
     let first : IsRow nodes terms c.in_ok-row.row = search rules in
     record {
-      terms = λ promotions are. row-same nodes terms (wished terms (wish_of promotions c.args.leaf) 0) c.in_ok-row.row (λ n low. wish-none terms (wish_of promotions c.args.leaf) n) first;
+      terms = λ promotions are. row-same nodes terms (wished terms (promotion_score promotions c.args.leaf) 0) c.in_ok-row.row (λ n low. wish-none terms (promotion_score promotions c.args.leaf) n) first;
       size = row-length nodes terms c.in_ok-row.row first;
       later = λ n high. row-room nodes terms c.in_ok-row.row first
           (λ m low. let a = few-given cluster c.args.moment is_promoted c.args.leaf cluster.locations cluster.rule_locations m in
@@ -33,9 +32,9 @@ loop-node-preserved c =
     let nodes = length cluster.nodes in
     let terms = given cluster c.args.moment is_promoted c.args.leaf cluster.locations cluster.rule_locations in
     record {
-      terms = λ promotions are. row-same nodes _ (wished terms (wish_of promotions c.args.leaf) (l.node + 1)) c.put_if.new.row
-          (λ n low. wish-more terms (wish_of promotions c.args.leaf) l.node c.wish-term.result (c.wish-term.ensures promotions are) n)
-          (c.put_if.ensures.terms nodes (wished terms (wish_of promotions c.args.leaf) l.node) (sym l.invariant.size) (l.invariant.terms promotions are));
+      terms = λ promotions are. row-same nodes _ (wished terms (promotion_score promotions c.args.leaf) (l.node + 1)) c.put_if.new.row
+          (λ n low. wish-more terms (promotion_score promotions c.args.leaf) l.node c.wish-term.result (c.wish-term.ensures promotions are) n)
+          (c.put_if.ensures.terms nodes (wished terms (promotion_score promotions c.args.leaf) l.node) (sym l.invariant.size) (l.invariant.terms promotions are));
       size = c.put_if.ensures.nodes ∙ l.invariant.size;
       later = λ n high. subst IsRoomy (sym (c.put_if.ensures.others n (λ e. absurd (let f : ⊥ = omega (arith, e, high) in f)))) (l.invariant.later n (omega (arith, high)));
     }
@@ -46,6 +45,6 @@ returns c = λ promotions are.
     let cluster = c.args.cluster.now in
     let nodes = length cluster.nodes in
     let terms = given cluster c.args.moment is_promoted c.args.leaf cluster.locations cluster.rule_locations in
-    row-same nodes (wished terms (wish_of promotions c.args.leaf) l.node) _ l.row
-    (λ n low. wish-all terms (wish_of promotions c.args.leaf) nodes l.node n (omega (arith, c.loop-node-test.false, c.len-node-end.ensures)) low)
+    row-same nodes (wished terms (promotion_score promotions c.args.leaf) l.node) _ l.row
+    (λ n low. wish-all terms (promotion_score promotions c.args.leaf) nodes l.node n (omega (arith, c.loop-node-test.false, c.len-node-end.ensures)) low)
     (l.invariant.terms promotions are)
