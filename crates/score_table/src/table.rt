@@ -53,7 +53,7 @@ impl ScoreTable {
 }
 
 /// The totals of placing each leaf, leaf by leaf and node by node.
-fn place_totals(alloc: Global, own: &OwnRows) -> Result<Vec<Score>, lane_rows::NoMemory>
+fn place_totals(alloc: Global, own: &OwnRows) -> Result<Vec<Score>, NoMemory>
     requires { IsValid own.now.cluster.now }
     ensures { IfOk result (λ all. all.items ≡ spec.cells_of own.now.cluster.now (spec.place_by own.now.cluster.now own.now.states.now)) }
 {
@@ -73,7 +73,7 @@ fn promote_totals(
     alloc: Global,
     cluster: &Cluster,
     states: &States,
-) -> Result<Vec<Score>, lane_rows::NoMemory>
+) -> Result<Vec<Score>, NoMemory>
     requires { IsValid cluster.now }
     ensures { IfOk result (λ all. all.items ≡ spec.cells_of cluster.now (spec.promote_by cluster.now states.now)) }
 {
@@ -92,7 +92,7 @@ fn table_by(
     alloc: Global,
     cluster: &Cluster,
     states: &States,
-) -> Result<ScoreTable, lane_rows::NoMemory>
+) -> Result<ScoreTable, NoMemory>
     requires { IsValid cluster.now }
     ensures { IfOk result (λ table. table ≡ spec.table_by cluster.now states.now) }
 {
@@ -115,5 +115,5 @@ pub fn rows(alloc: Global, cluster: &Cluster, states: &States) -> Result<ScoreTa
     ensures { (events : List Event) (promotions : List PromotionOf) → states.now ≡ states_of cluster.now events promotions
         → IfOk result (λ table. table ≡ spec.scores_of cluster.now events promotions) }
 {
-    table_by(alloc, cluster, states).map_err(|_| NoMemory)
+    table_by(alloc, cluster, states)
 }

@@ -5,5 +5,5 @@ use Rattle.score_table.proofs.table.rows.Goals as goal
 
 pub returns : goal.returns
 returns c = λ events promotions is.
-    let made : IfOk c.map_err.result (λ table. table ≡ table_by c.args.cluster.now c.args.states.now) = search rules in
-    subst (λ t. IfOk c.map_err.result (λ table. table ≡ t)) (ap (table_by c.args.cluster.now) is ∙ table-is c.args.cluster.now events promotions) made
+    let made : IfOk c.table_by.result (λ table. table ≡ table_by c.args.cluster.now c.args.states.now) = search rules in
+    subst (λ t. IfOk c.table_by.result (λ table. table ≡ t)) (ap (table_by c.args.cluster.now) is ∙ table-is c.args.cluster.now events promotions) made
