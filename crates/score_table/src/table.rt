@@ -69,11 +69,7 @@ fn place_totals(alloc: Global, own: &OwnRows) -> Result<Vec<Score>, NoMemory>
 }
 
 /// The totals of promoting each leaf, leaf by leaf and node by node.
-fn promote_totals(
-    alloc: Global,
-    cluster: &Cluster,
-    states: &States,
-) -> Result<Vec<Score>, NoMemory>
+fn promote_totals(alloc: Global, cluster: &Cluster, states: &States) -> Result<Vec<Score>, NoMemory>
     requires { IsValid cluster.now }
     ensures { IfOk result (λ all. all.items ≡ spec.cells_of cluster.now (spec.promote_by cluster.now states.now)) }
 {
@@ -88,11 +84,7 @@ fn promote_totals(
 }
 
 /// The table of what is known by these states.
-fn table_by(
-    alloc: Global,
-    cluster: &Cluster,
-    states: &States,
-) -> Result<ScoreTable, NoMemory>
+fn table_by(alloc: Global, cluster: &Cluster, states: &States) -> Result<ScoreTable, NoMemory>
     requires { IsValid cluster.now }
     ensures { IfOk result (λ table. table ≡ spec.table_by cluster.now states.now) }
 {
