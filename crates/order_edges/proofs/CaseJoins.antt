@@ -1,7 +1,8 @@
 -- Each case of what must precede that hangs on no rule is a join.
-use Rattle.std.proofs.Common.{arith, ◌≡◌, ◌==◌, ◌&&◌, ◌||◌, nat_lt, if◌then◌else◌, ℕ, Bool, true, false, Option, Some, None, length, refl, sym, ap, subst, ◌∙◌}
+use Rattle.std.proofs.Common.{◌≡◌, ◌==◌, ◌&&◌, ◌||◌, nat_lt, if◌then◌else◌, ℕ, Bool, true, false, Option, Some, None, length, refl, sym, ap, subst, ◌∙◌}
 use Rattle.std.proofs.lemmas.Bool.{eqb-true}
 use Rattle.std.proofs.Math.Bool.{or-false, and-true, or-true}
+use Rattle.lemmas.proofs.Booleans.{equal_turned}
 use Rattle.cluster_types.specs.declared.cluster.Cluster.{Cluster}
 use Rattle.cluster_types.specs.declared.journal.Action.{Action}
 use Rattle.cluster_types.specs.declared.journal.Action.TheVariants.{Fence, Probe, Cell, MigrateTo, MigrateFrom}
@@ -63,9 +64,6 @@ abbrev pub sends_then_takes : Action → Action → Bool
 sends_then_takes x y = both is_one_cell (send_cell x) (take_in_cell y)
 
 -- what comes before a stop in its cell, before a promote and before a monitor, and what is sent before what is taken in
-swapped : (a b : ℕ) → (a == b) ≡ (b == a)
-swapped a b = grind arith
-
 both_last : (a b : Bool) → ((a || b) || false) ≡ (a || (b || false))
 both_last true b = refl
 both_last false b = refl
@@ -92,9 +90,9 @@ in_cell_joined (MigrateTo r s t) (MigrateFrom q f g) = sym (and-true (r == q))
 in_cell_joined (MigrateFrom r s t) (Fence n) = refl
 in_cell_joined (MigrateFrom r s t) (Probe q n) = refl
 in_cell_joined (MigrateFrom r s t) (Cell op.Start q n i role) = refl
-in_cell_joined (MigrateFrom r s t) (Cell op.Stop q n i role) = ap (λ v. (r == q) && v) (swapped n s) ∙ sym (or-false ((r == q) && (s == n)))
+in_cell_joined (MigrateFrom r s t) (Cell op.Stop q n i role) = ap (λ v. (r == q) && v) (equal_turned n s) ∙ sym (or-false ((r == q) && (s == n)))
 in_cell_joined (MigrateFrom r s t) (Cell op.Promote q n i role) = refl
 in_cell_joined (MigrateFrom r s t) (Cell op.Demote q n i role) = refl
-in_cell_joined (MigrateFrom r s t) (Cell op.Monitor q n i role) = ap (λ v. (r == q) && v) (swapped n t) ∙ sym (or-false ((r == q) && (t == n)))
+in_cell_joined (MigrateFrom r s t) (Cell op.Monitor q n i role) = ap (λ v. (r == q) && v) (equal_turned n t) ∙ sym (or-false ((r == q) && (t == n)))
 in_cell_joined (MigrateFrom r s t) (MigrateTo q f g) = refl
 in_cell_joined (MigrateFrom r s t) (MigrateFrom q f g) = refl

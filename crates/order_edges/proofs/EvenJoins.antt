@@ -1,5 +1,5 @@
 -- Both sides of each join of a cluster have as many leaves and nodes.
-use Rattle.std.proofs.Common.{arith, ◌&&◌, if◌then◌else◌, Bool, true, false, [], ◌∷◌, ◌++◌, Contains, refl, inl, inr}
+use Rattle.std.proofs.Common.{◌&&◌, if◌then◌else◌, Bool, true, false, [], ◌∷◌, ◌++◌, Contains, refl, inl, inr}
 use Rattle.std.specs.List.{flat_map}
 use Rattle.std.proofs.lemmas.List.Elements.{All-contains, All-from_recursion, Contains-append_cases}
 use Rattle.cluster_types.specs.declared.cluster.Cluster.{Cluster}
@@ -12,9 +12,7 @@ use Rattle.order_edges.specs.declared.sides.Side.TheVariants as side
 use Rattle.order_edges.specs.Joins.{colocation_joins, first_joins, inverse_join, join, joins_of, order_joins}
 use Rattle.order_edges.specs.Rooms.{IsEven}
 use Rattle.lemmas.proofs.Members.{of_flat}
-
-no_more : {X : Type 0} (P : X → Type 0) (a : X) → Contains [] a → P a
-no_more P a (k, l, e) = absurd (omega arith)
+use Rattle.lemmas.proofs.Searches.{of_none}
 
 module _ (c : Cluster) where
   first_even : (j : Join) → Contains first_joins j → IsEven c j
@@ -56,7 +54,7 @@ module _ (c : Cluster) where
           (All-from_recursion (IsEven c) (join (side.Parts col.dependent col.dependent_role) (side.GivesRole col.primary col.primary_role)
           ∷ join (side.Parts col.primary col.primary_role) (side.GivesRole col.dependent col.dependent_role) ∷ [])
           (record { rows = refl; width = refl }, (record { rows = refl; width = refl }, tt))) h
-      on false h = no_more (IsEven c) j h
+      on false h = of_none (IsEven c) j h
 
   pub inverse_even : (o : Order) → IsEven c (inverse_join o)
   inverse_even o = on (is_up o.first_op && is_up o.then_op)
@@ -71,7 +69,7 @@ module _ (c : Cluster) where
     where
       on : (b d : Bool) → Contains (if b then [] else join (side.Earlier o.first o.first_op o.local) (side.Later o.then_leaf o.then_op o.local)
           ∷ (if d then inverse_join o ∷ [] else [])) j → IsEven c j
-      on true d h = no_more (IsEven c) j h
+      on true d h = of_none (IsEven c) j h
       on false true h =
           All-contains (IsEven c) (join (side.Earlier o.first o.first_op o.local) (side.Later o.then_leaf o.then_op o.local) ∷ inverse_join o ∷ []) j
           (All-from_recursion (IsEven c) (join (side.Earlier o.first o.first_op o.local) (side.Later o.then_leaf o.then_op o.local) ∷ inverse_join o ∷ [])

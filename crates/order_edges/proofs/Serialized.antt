@@ -3,6 +3,7 @@ use Rattle.std.proofs.Common.{◌≡◌, ◌<◌, ◌==◌, ◌&&◌, ◌||◌, 
 use Rattle.std.specs.List.{slice_get}
 use Rattle.std.specs.Option.{option_map_or}
 use Rattle.std.proofs.lemmas.Bool.{and_from, and_parts, eq-eqb, eqb-true}
+use Rattle.lemmas.proofs.Booleans.{number_itself}
 use Rattle.cluster_types.specs.declared.journal.Action.{Action}
 use Rattle.cluster_types.specs.declared.rules.Order.{Order}
 use Rattle.cluster_types.specs.Precedence.{CellOf, both, cell_of, change_cell, is_across, is_one_cell, is_serialize, is_serialized}
@@ -18,13 +19,10 @@ pub record OnOne (u v : Option CellOf) : Type 0 where
   pub one : is_on node u ≡ true
   pub other : is_on node v ≡ true
 
-itself : (n : ℕ) → (n == n) ≡ true
-itself n = eq-eqb n n refl
-
 on_one : (u v : Option CellOf) → both is_one_cell u v ≡ true → OnOne u v
 on_one (Some a) (Some b) h =
     let (p, q) = and_parts (a.leaf == b.leaf) (a.node == b.node) h in
-    record { node = b.node; one = q; other = itself b.node }
+    record { node = b.node; one = q; other = number_itself b.node }
 on_one (Some a) None h = cc
 on_one None v h = cc
 
