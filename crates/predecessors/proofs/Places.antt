@@ -1,7 +1,7 @@
 -- What is found, by the numbers of actions and gates.
 use Rattle.std.proofs.Common.{arith, ◌≡◌, ◌≢◌, ◌⊎◌, inl, inr, ◌<◌, ◌≤◌, ◌+◌, ◌-◌, ◌==◌, ◌||◌, ◌&&◌, not, ℕ, Bool, true, false, List, [], length, get_or, set, refl, sym, ap, ◌∙◌}
 use Rattle.std.specs.Prelude.{nat_lt}
-use Rattle.std.proofs.Math.Bool.{or-false}
+use Rattle.std.proofs.Math.Bool.{or-false, and-false, or-true}
 use Rattle.std.proofs.lemmas.Bool.{cases_eq, ne_eqb, lt-ltb, le-ltb, ltb-true, ltb-false}
 use Rattle.std.proofs.lemmas.List.{get_or-set_same, get_or-set_other, length-set}
 use Rattle.number_set.specs.Sets.{is_member, members}
@@ -31,10 +31,6 @@ found_action f x lt = let t : nat_lt x (length f.actions) ≡ true = lt-ltb x (l
 
 pub found_gate : (f : Found) (x : ℕ) → length f.actions ≤ x → is_found f x ≡ is_member f.gates (f.positions - x)
 found_gate f x le = let t : nat_lt x (length f.actions) ≡ false = le-ltb x (length f.actions) le in rw t refl
-
-or-true : (b : Bool) → (b || true) ≡ true
-or-true true = refl
-or-true false = refl
 
 or_same : (was : Bool) (y x : ℕ) → y ≡ x → (was || y == x) ≡ true
 or_same was y x same = let t : (y == x) ≡ true = grind arith in rw t (or-true was)
@@ -128,10 +124,6 @@ without_gate old new gate room low high positions actions gates x lt = on (cases
 
   here : new.gates ≡ set old.gates (old.positions - (old.positions - gate) - 1) false
   here = rw place gates
-
-  and-false : (b : Bool) → (b && false) ≡ false
-  and-false true = refl
-  and-false false = refl
 
   and-true : (b : Bool) → (b && true) ≡ b
   and-true true = refl
