@@ -6,6 +6,7 @@ use Rattle.std.specs.List.Sorted.{IsPermutation, IsSortedBy, IsSortedByKey}
 use Rattle.std.proofs.lemmas.List.Elements.{Contains-get_or}
 use Rattle.std.proofs.lemmas.List.Sorted.{Contains-permutation, IsPermutation-sym, list_any-IsPermutation, sorted_far}
 use Rattle.std.proofs.lemmas.Map.Keys.{IsDistinct-IsPermutation, IsDistinct-from_apart, apart_from_distinct}
+use Rattle.std.proofs.lemmas.Bool.{false_from_ne_true}
 use Rattle.cluster_types.specs.declared.cluster.Cluster.{Cluster}
 use Rattle.cluster_types.specs.declared.journal.Action.{Action}
 use Rattle.cluster_types.specs.Needed.{Needed}
@@ -26,10 +27,6 @@ still_migrating xs ys flags moved h = λ r. h r ∙ list_any-IsPermutation (send
 -- a list in an order has the same members in whatever order they stood
 pub moved_members : (xs ys : List Action) → IsPermutation xs ys → (a : Action) → Contains xs a ↔ Contains ys a
 moved_members xs ys moved a = (Contains-permutation xs ys a moved, Contains-permutation ys xs a (IsPermutation-sym xs ys moved))
-
-never : (b : Bool) → (b ≡ true → ⊥) → b ≡ false
-never true f = absurd (f refl)
-never false f = refl
 
 either_way : (a b : Bool) → not (a || b) ≡ not (b || a)
 either_way true true = refl
@@ -53,7 +50,7 @@ module _ (c : Cluster) (valid : IsValid c) (xs ys : List Action) (planned : AreP
 
   less_weak : IsStrictWeakOrder less
   less_weak = record {
-    one_way = λ x y h. never (less y x) (not_both (place_of c ys x) (place_of c ys y) h);
+    one_way = λ x y h. false_from_ne_true (less y x) (not_both (place_of c ys x) (place_of c ys y) h);
     chain = λ x y z. chain_places (place_of c ys x) (place_of c ys y) (place_of c ys z);
   }
 
