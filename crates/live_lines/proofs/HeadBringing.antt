@@ -39,27 +39,33 @@ words_stop (Ok all) fault e text reading others = cc
 words_stop (Err (At line why)) fault e text reading others = cc
 words_stop (Err NoMemory) fault e text reading others = cc
 
--- a line that is handed out, and then the others
-line_head : (longest : ℕ) (before : List ℕ) (room n : ℕ) (raw rest : List ℕ) → line_answer room longest (physical_lines raw) ≡ Line
-    → head_of longest before room n (physical_lines raw ∷ raw_lines rest)
+-- a line that is handed out, and then others
+pub line_head : (longest : ℕ) (before : List ℕ) (room n : ℕ) (raw : List ℕ) (more : List (List (List ℕ))) → line_answer room longest (physical_lines raw) ≡ Line
+    → head_of longest before room n (physical_lines raw ∷ more)
     ≡ read_says (reads_line n raw) (taken (before ++ raw) (n + length (physical_lines raw)) (room - length raw))
-    (head_of longest (before ++ raw) (room - length raw) (n + length (physical_lines raw)) (raw_lines rest))
-line_head longest before room n raw rest line =
+    (head_of longest (before ++ raw) (room - length raw) (n + length (physical_lines raw)) more)
+line_head longest before room n raw more line =
     let bytes = concat (physical_lines raw) in
     let lines = length (physical_lines raw) in
     ap (λ s. sized_says s n bytes (taken (before ++ bytes) (n + lines) (room - length bytes))
-    (head_of longest (before ++ bytes) (room - length bytes) (n + lines) (raw_lines rest))) line
+    (head_of longest (before ++ bytes) (room - length bytes) (n + lines) more)) line
     ∙ ap (λ (t : List ℕ). read_says (reads_line n t) (taken (before ++ t) (n + lines) (room - length t))
-    (head_of longest (before ++ t) (room - length t) (n + lines) (raw_lines rest))) (concat-lines raw)
+    (head_of longest (before ++ t) (room - length t) (n + lines) more)) (concat-lines raw)
 
 module _ (text : List ℕ) (old new : Reading) (before : Option (List ℕ)) (left : List ℕ) (a : Answered Line old new before (Some left)) where
+  -- the line, and then others
+  pub line_then : (more : List (List (List ℕ))) → head_of old.longest text old.room old.next (physical_lines new.raw ∷ more)
+      ≡ read_says (reads_line old.next new.raw) (taken (text ++ new.raw) new.next new.room) (head_of new.longest (text ++ new.raw) new.room new.next more)
+  line_then more =
+      line_head old.longest text old.room old.next new.raw more (handed_answer old new before (Some left) a left a.at_end)
+      ∙ rw (longest_is old new before (Some left) a, room_is old new before (Some left) a, next_is old new before (Some left) a) refl
+
   line_whole : head_behind text old (a.bytes ++ left)
       ≡ read_says (reads_line old.next new.raw) (taken (text ++ new.raw) new.next new.room) (head_behind (text ++ new.raw) new left)
   line_whole =
       ap (λ (t : List ℕ). head_of old.longest text old.room old.next (raw_lines t)) (sym (append_assoc old.held a.bytes left))
       ∙ ap (head_of old.longest text old.room old.next) (handed_cut old new before (Some left) a left a.at_end).lines
-      ∙ line_head old.longest text old.room old.next new.raw (new.held ++ left) (handed_answer old new before (Some left) a left a.at_end)
-      ∙ rw (longest_is old new before (Some left) a, room_is old new before (Some left) a, next_is old new before (Some left) a) refl
+      ∙ line_then (raw_lines (new.held ++ left))
 
 pub line_brings : (came : Option (Result (Unit {0}) HeadStop)) (text : List ℕ) (old new : Reading) (before after : Option (List ℕ)) → Answered Line old new before after
     → ((others : Head) → came_to came (text ++ new.raw) new others

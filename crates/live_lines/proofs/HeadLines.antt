@@ -1,21 +1,28 @@
 -- Which logical lines of an input its head has taken, line by line.
-use Rattle.std.proofs.Common.{◌≡◌, ℕ, ◌+◌, Option, Some, None, List, [], ◌∷◌, ◌++◌, length, option_map, length-append, refl, ap, sym, ◌∙◌, arith}
+use Rattle.std.proofs.Common.{◌≡◌, ℕ, ◌+◌, Option, Some, None, Result, Ok, Err, List, [], ◌∷◌, ◌++◌, length, option_map, append_assoc, length-append, refl, ap, sym, ◌∙◌, arith}
 use Rattle.std.proofs.lemmas.List.Sums.{sum_by-append}
 use Rattle.cluster_io.specs.Readings.{Answered, Reading}
 use Rattle.cluster_io.specs.declared.line_step.LineStep.{LineStep}
-use Rattle.cluster_io.specs.declared.line_step.LineStep.TheVariants.{Line}
+use Rattle.cluster_io.specs.declared.line_step.LineStep.TheVariants.{Line, Failed}
 use Rattle.crm_lex.specs.RawLines.{physical_lines, raw_lines}
+use Rattle.crm_lex.specs.Reading.{reads_line}
 use Rattle.live_lines.specs.Followed.{bytes_of}
-use Rattle.live_lines.specs.Heads.{HasTaken}
+use Rattle.live_lines.specs.Heads.{HasGoneOn, HasTaken, Head, StillAmid, head_of, read_says, taken}
+use Rattle.live_lines.specs.declared.head.HeadStop.{HeadStop}
+use Rattle.live_lines.specs.declared.head.HeadStop.TheVariants as stop
 use Rattle.live_lines.specs.ReadLaws.{bytes_joined, lines_joined}
 use Rattle.live_lines.proofs.Bringing.{next_is, room_is}
-use Rattle.live_lines.proofs.HeadBringing.{next_stays}
+use Rattle.live_lines.proofs.HeadBringing.{line_then, next_stays}
 use Rattle.live_lines.proofs.Stepping.{bytes_one, line_cut, unmoved, unmoved_cut}
 
 -- none yet
 pub none_taken : (reading : Reading) (left : Option (List ℕ)) → HasTaken reading reading [] left left
 none_taken reading None = record { lines = []; text_is = refl; cut = refl; number = omega arith; room = omega arith }
 none_taken reading (Some left) = record { lines = []; text_is = refl; cut = refl; number = omega arith; room = omega arith }
+
+pub none_gone : (reading : Reading) (left : Option (List ℕ)) → HasGoneOn reading reading [] left left
+none_gone reading None = record { taken = none_taken reading None; goes_on = tt }
+none_gone reading (Some left) = record { taken = none_taken reading (Some left); goes_on = λ more. refl }
 
 module _ (first old new : Reading) (text : List ℕ) (given before after : Option (List ℕ)) (t : HasTaken first old text given before) where
   -- one more is handed out
@@ -60,3 +67,37 @@ module _ (first old new : Reading) (text : List ℕ) (given before after : Optio
       behind None (Some y) e = cc
       behind (Some x) None e = cc
       behind (Some x) (Some y) e = ap (option_map (λ (rest : List (List (List ℕ))). t.lines ++ rest)) e
+
+module _ (first old new : Reading) (text : List ℕ) (given : Option (List ℕ)) where
+  -- behind one more the head goes on
+  pub line_gone : (before after : Option (List ℕ)) → HasGoneOn first old text given before → (a : Answered Line old new before after)
+      → ((others : Head) → others ≡ read_says (reads_line old.next new.raw) (taken (text ++ new.raw) new.next new.room) others)
+      → HasGoneOn first new (text ++ new.raw) given after
+  line_gone before None h a says = record { taken = line_taken first old new text given before None h.taken a; goes_on = tt }
+  line_gone None (Some left) h a says = let none = a.taken in absurd (let f : ⊥ = cc in f)
+  line_gone (Some bytes) (Some left) h a says = record {
+    taken = line_taken first old new text given (Some bytes) (Some left) h.taken a;
+    goes_on = λ more.
+        ap (head_of first.longest [] first.room first.next) (append_assoc h.taken.lines (physical_lines new.raw ∷ []) more)
+        ∙ (h.goes_on (physical_lines new.raw ∷ more)
+        ∙ (line_then text old new (Some bytes) left a more ∙ sym (says (head_of new.longest (text ++ new.raw) new.room new.next more))));
+  }
+
+  -- where the source fails, no more was taken
+  pub still_gone : (before after : Option (List ℕ)) → HasGoneOn first old text given before → (a : Answered Failed old new before after)
+      → HasGoneOn first new text given after
+  still_gone before None h a = record { taken = still_taken first old new text given before None h.taken Failed a (λ e. cc); goes_on = tt }
+  still_gone None (Some left) h a = let none = a.taken in absurd (let f : ⊥ = cc in f)
+  still_gone (Some bytes) (Some left) h a = record {
+    taken = still_taken first old new text given (Some bytes) (Some left) h.taken Failed a (λ e. cc);
+    goes_on = λ more. h.goes_on more ∙ ap (λ (r : Reading). head_of r.longest text r.room r.next more) (sym a.leaves.0);
+  }
+
+-- reading goes on, and then it goes on so
+pub amid_line : (came : Option (Result (Unit {0}) HeadStop)) (P : Type 0) → (came ≡ Some (Err stop.ReadFault) → ⊥) → (came ≡ None → P) → StillAmid came P
+amid_line None P other goes = goes refl
+amid_line (Some (Ok end)) P other goes = tt
+amid_line (Some (Err stop.ReadFault)) P other goes = absurd (other refl)
+amid_line (Some (Err (stop.Refused line why))) P other goes = tt
+amid_line (Some (Err stop.TooLarge)) P other goes = tt
+amid_line (Some (Err stop.NoMemory)) P other goes = tt

@@ -1,5 +1,5 @@
 -- The head of an input: its logical lines up to the one that begins the results, or all where none does (rule of this project).
-use Rattle.std.specs.Prelude.{◌≡◌, ℕ, ◌+◌, ◌-◌, ◌^◌, ◌≤◌, Bool, true, false, if◌then◌else◌, Option, Some, None, Result, Ok, Err, List, [], ◌∷◌, ◌++◌, length, codes, option_map}
+use Rattle.std.specs.Prelude.{◌≡◌, ℕ, ◌+◌, ◌-◌, ◌^◌, ◌≤◌, Bool, true, false, if◌then◌else◌, Option, Some, None, Result, Ok, Err, List, [], ◌∷◌, ◌++◌, length, codes, option_map, IfSome}
 use Rattle.std.specs.List.{concat}
 use Rattle.cluster_io.specs.NextLine.{holds_line, line_answer, IsUndecided}
 use Rattle.cluster_io.specs.Readings.{Reading}
@@ -108,13 +108,28 @@ pub record HasTaken (old new : Reading) (text : List ℕ) (before after : Option
   pub number : new.next ≡ old.next + count_lines lines
   pub room : length text + new.room ≡ old.room
 
+-- behind some lines, whatever lines follow, the head is still to come: each of them is a line behind which it goes on. A reader has this text of them
+abbrev pub GoesOnBehind : List (List (List ℕ)) → Reading → Reading → List ℕ → Type 0
+GoesOnBehind lines old new text =
+    (more : List (List (List ℕ))) → head_of old.longest [] old.room old.next (lines ++ more) ≡ head_of new.longest text new.room new.next more
+
+-- the same of the lines that were taken, where the source tells its bytes
+pub record HasGoneOn (old new : Reading) (text : List ℕ) (before after : Option (List ℕ)) : Type 0 where
+  pub taken : HasTaken old new text before after
+  pub goes_on : IfSome after (λ left. GoesOnBehind taken.lines old new text)
+
+-- reading goes on, or the source failed
+abbrev pub StillAmid : Option (Result (Unit {0}) HeadStop) → Type 0 → Type 0
+StillAmid None P = P
+StillAmid (Some (Err stop.ReadFault)) P = P
+StillAmid _ P = Unit {0}
+
 -- reading stopped amid the head: behind the lines that were taken whole, of which this is the text, the head is still to come, and no further line was
 -- taken whole. What is held gives no answer yet
 pub record IsAmid (old new : Reading) (before after : Option (List ℕ)) : Type 0 where
   pub text : List ℕ
   pub keeps : KeepsBytes (progress [] old) (progress text new) before after
-  pub to_come : option_map (head_behind [] old) before ≡ option_map (head_behind text new) after
-  pub taken : HasTaken old new text before after
+  pub gone_on : HasGoneOn old new text before after
   pub none_whole : holds_line new.held ≡ false
   pub undecided : IsUndecided new.room new.longest new.held
   pub same_size : new.longest ≡ old.longest

@@ -8,7 +8,7 @@ ghost use Rattle.crm_lex.specs.RawLines.{physical_lines};
 ghost use Rattle.cluster_io.specs.Readings.{Reading};
 ghost use Rattle.crm_lex.specs.Reading.{kept, reads_line};
 ghost use Rattle.faults.specs.declared.fault.Fault.TheVariants as found;
-ghost use Rattle.live_lines.specs.Heads.{BringsHead, CanGoOn, HasTaken, Head, IsAmid, IsStopOf, KeepsBytes, WhileWell, begins_results, came_to, head_behind, lacks_memory, progress, read_says, stop_for, taken};
+ghost use Rattle.live_lines.specs.Heads.{BringsHead, CanGoOn, HasGoneOn, Head, IsAmid, IsStopOf, KeepsBytes, StillAmid, WhileWell, begins_results, came_to, head_behind, lacks_memory, progress, read_says, stop_for, taken};
 
 use cluster_io::{LineReader, LineStep, Source};
 use crm_lex::{LexCause, LexFault, NoMemory, WordBuf, lex_one, line_count};
@@ -126,9 +126,9 @@ fn step<S: Source>(
     ensures next { head.new.next ≡ (reading_of reader.new).next }
     ensures fewer { result ≡ None → (reading_of reader.new).room < (reading_of reader.old).room }
     ensures within { WhileWell result (length head.new.text.items + (reading_of reader.new).room ≡ length head.old.text.items + (reading_of reader.old).room) }
-    ensures taken { lacks_memory result ≡ false → (first : Reading) (given : Option (List ℕ))
-        → HasTaken first (reading_of reader.old) head.old.text.items given (S.left (source_of reader.old))
-        → HasTaken first (reading_of reader.new) head.new.text.items given (S.left (source_of reader.new)) }
+    ensures gone_on { StillAmid result ((first : Reading) (given : Option (List ℕ))
+        → HasGoneOn first (reading_of reader.old) head.old.text.items given (S.left (source_of reader.old))
+        → HasGoneOn first (reading_of reader.new) head.new.text.items given (S.left (source_of reader.new))) }
     ensures amid { result ≡ Some (Err HeadStop.ReadFault) → holds_line (reading_of reader.new).held ≡ false }
     ensures undecided { result ≡ Some (Err HeadStop.ReadFault)
         → IsUndecided (reading_of reader.new).room (reading_of reader.new).longest (reading_of reader.new).held }

@@ -15,7 +15,8 @@ use Rattle.live_lines.specs.declared.head.HeadStop.TheVariants as why
 use Rattle.sim_core.specs.declared.beginning.HeadEnd.TheVariants as stop
 use Rattle.input_reading.specs.declared.cause.InputCause.{InputCause}
 use Rattle.input_reading.specs.declared.reading.Head.{Head}
-use Rattle.sim_core.specs.LiveSteps.{IsAmid, IsBehind, StopsBy, end_of, fresh}
+use Rattle.sim_core.specs.Live.{IsAmidHead}
+use Rattle.sim_core.specs.LiveSteps.{IsBehind, StopsBy, end_of, fresh}
 use Rattle.input_reading.specs.Reading.{longest_line, most_bytes, start_of}
 use Rattle.sim_core.specs.Replay.{head_in, lacks_words, says_nothing}
 
@@ -51,10 +52,10 @@ faulty old new text next (Some input) after line cause e told says = says_nothin
 
 -- reading it stopped
 amid : (old new : Reading) (input : List ℕ) (after : Option (List ℕ)) → old ≡ fresh → heads.IsAmid old new (Some input) after
-    → IsAmid input after
+    → IsAmidHead input after
 amid old new input None e a = let none = a.keeps in absurd cc
 amid old new input (Some unread) e a = record {
-  lines = a.taken.lines;
+  lines = a.gone_on.taken.lines;
   held = new.held;
   unread = unread;
   left_is = refl;
@@ -62,20 +63,19 @@ amid old new input (Some unread) e a = record {
       let all : Some input ≡ Some (a.text ++ (new.held ++ unread))
       = subst (λ (r : Reading). Some ([] ++ (r.held ++ input)) ≡ Some (a.text ++ (new.held ++ unread))) e a.keeps in
       let whole : input ≡ a.text ++ (new.held ++ unread) = cc in
-      whole ∙ ap (λ (t : List ℕ). t ++ (new.held ++ unread)) a.taken.text_is;
+      whole ∙ ap (λ (t : List ℕ). t ++ (new.held ++ unread)) a.gone_on.taken.text_is;
   cut =
-      let all : Some (raw_lines input) ≡ Some (a.taken.lines ++ raw_lines (new.held ++ unread))
-      = subst (λ (r : Reading). Some (raw_lines (r.held ++ input)) ≡ Some (a.taken.lines ++ raw_lines (new.held ++ unread))) e a.taken.cut in
+      let all : Some (raw_lines input) ≡ Some (a.gone_on.taken.lines ++ raw_lines (new.held ++ unread))
+      = subst (λ (r : Reading). Some (raw_lines (r.held ++ input)) ≡ Some (a.gone_on.taken.lines ++ raw_lines (new.held ++ unread))) e a.gone_on.taken.cut in
       cc;
-  to_come =
-      let told : Some (head_behind [] old input) ≡ Some (head_behind a.text new unread) = a.to_come in
-      let same : head_behind [] old input ≡ head_behind a.text new unread = cc in
-      same_head old input e ∙ (same
-      ∙ (ap (λ (n : ℕ). heads.head_of n a.text new.room new.next (raw_lines (new.held ++ unread))) size
-      ∙ (ap (λ (n : ℕ). heads.head_of longest_line a.text n new.next (raw_lines (new.held ++ unread))) room
-      ∙ (ap (λ (n : ℕ). heads.head_of longest_line a.text (most_bytes - length (bytes_of a.taken.lines)) n (raw_lines (new.held ++ unread))) number
-      ∙ ap (λ (t : List ℕ). heads.head_of longest_line t (most_bytes - length (bytes_of a.taken.lines)) (1 + count_lines a.taken.lines) (raw_lines (new.held ++ unread)))
-      a.taken.text_is))));
+  goes_on = λ more.
+      ap (λ (r : Reading). heads.head_of r.longest [] r.room r.next (a.gone_on.taken.lines ++ more)) (sym e)
+      ∙ (a.gone_on.goes_on more
+      ∙ (ap (λ (n : ℕ). heads.head_of n a.text new.room new.next more) size
+      ∙ (ap (λ (n : ℕ). heads.head_of longest_line a.text n new.next more) room
+      ∙ (ap (λ (n : ℕ). heads.head_of longest_line a.text (most_bytes - length (bytes_of a.gone_on.taken.lines)) n more) number
+      ∙ ap (λ (t : List ℕ). heads.head_of longest_line t (most_bytes - length (bytes_of a.gone_on.taken.lines)) (1 + count_lines a.gone_on.taken.lines) more)
+      a.gone_on.taken.text_is))));
   unfinished = a.none_whole;
   undecided = subst (λ (n : ℕ). IsUndecided n longest_line new.held) room (subst (λ (n : ℕ). IsUndecided new.room n new.held) size a.undecided);
 }
@@ -83,15 +83,15 @@ amid old new input (Some unread) e a = record {
     size : new.longest ≡ longest_line
     size = a.same_size ∙ ap (λ (r : Reading). r.longest) e
 
-    room : new.room ≡ most_bytes - length (bytes_of a.taken.lines)
+    room : new.room ≡ most_bytes - length (bytes_of a.gone_on.taken.lines)
     room =
-        let text = ap length a.taken.text_is in
-        let left = a.taken.room in
+        let text = ap length a.gone_on.taken.text_is in
+        let left = a.gone_on.taken.room in
         let first : old.room ≡ most_bytes = ap (λ (r : Reading). r.room) e in
         omega (arith, text, left, first)
 
-    number : new.next ≡ 1 + count_lines a.taken.lines
-    number = a.taken.number ∙ ap (λ (r : Reading). r.next + count_lines a.taken.lines) e
+    number : new.next ≡ 1 + count_lines a.gone_on.taken.lines
+    number = a.gone_on.taken.number ∙ ap (λ (r : Reading). r.next + count_lines a.gone_on.taken.lines) e
 
 pub stops : (old new : Reading) (before after : Option (List ℕ)) (found : HeadStop) → old ≡ fresh → IfSome before (λ left. IsStopOf (head_behind [] old left) found)
     → (found ≡ why.ReadFault → heads.IsAmid old new before after) → IfSome before (λ input. StopsBy input after (end_of found))

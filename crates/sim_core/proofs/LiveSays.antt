@@ -67,18 +67,7 @@ pub large_says : (before : Option (List ℕ)) (input : List ℕ) (left : Option 
 large_says before input left large = record { text = []; due = inl (record { is = large; printed = refl }); added = nothing_added before }
 
 pub amid_says : (before : Option (List ℕ)) (input : List ℕ) (left : Option (List ℕ)) → StopsBy input left stop.ReadFault → SaysLive input left before before ReadFault
-amid_says before input left a = amid_head (record {
-  lines = a.lines;
-  held = a.held;
-  unread = a.unread;
-  left_is = a.left_is;
-  parts = a.parts;
-  cut = a.cut;
-  to_come = a.to_come;
-  unfinished = a.unfinished;
-  undecided = a.undecided;
-  nothing_written = refl;
-})
+amid_says before input left a = amid_head a refl
 
 -- the run that follows from the head
 module _ (input : List ℕ) (head : Head) (reading : Reading) (from left before after : Option (List ℕ)) (k : IsBehind input head reading from) where

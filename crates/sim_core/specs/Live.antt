@@ -18,6 +18,20 @@ use Rattle.input_reading.specs.Causes.{refusal_text}
 use Rattle.input_reading.specs.Reading.{longest_line, most_bytes}
 use Rattle.sim_core.specs.Replay.{IsBegun, IsHeadFault, IsReplayOutput, head_in}
 
+-- reading stopped amid the head: of the bytes that were taken these are whole lines, each of which the head goes on behind, whatever follows. The others hold
+-- no whole line and give no answer yet
+pub record IsAmidHead (input : List ℕ) (left : Option (List ℕ)) : Type 0 where
+  pub lines : List (List (List ℕ))
+  pub held : List ℕ
+  pub unread : List ℕ
+  pub left_is : left ≡ Some unread
+  pub parts : input ≡ bytes_of lines ++ (held ++ unread)
+  pub cut : raw_lines input ≡ lines ++ raw_lines (held ++ unread)
+  pub goes_on : (more : List (List (List ℕ))) → heads.head_of longest_line [] most_bytes 1 (lines ++ more)
+      ≡ heads.head_of longest_line (bytes_of lines) (most_bytes - length (bytes_of lines)) (1 + count_lines lines) more
+  pub unfinished : holds_line held ≡ false
+  pub undecided : IsUndecided (most_bytes - length (bytes_of lines)) longest_line held
+
 -- what the sink holds before and after
 module _ (input : List ℕ) (left before after : Option (List ℕ)) where
   -- the whole text was written that comes with this status
@@ -30,21 +44,6 @@ module _ (input : List ℕ) (left before after : Option (List ℕ)) where
   pub record IsDone : Type 0 where
     pub at_end : IfSome left (λ bytes. bytes ≡ [])
     pub written : HasWritten Done
-
-  -- the source failed amid the head: of the bytes that were taken these are whole lines, behind which the head is still to come, and the others hold no whole
-  -- line and give no answer yet. Nothing was written
-  pub record IsAmidHead : Type 0 where
-    pub lines : List (List (List ℕ))
-    pub held : List ℕ
-    pub unread : List ℕ
-    pub left_is : left ≡ Some unread
-    pub parts : input ≡ bytes_of lines ++ (held ++ unread)
-    pub cut : raw_lines input ≡ lines ++ raw_lines (held ++ unread)
-    pub to_come : head_in input
-        ≡ heads.head_of longest_line (bytes_of lines) (most_bytes - length (bytes_of lines)) (1 + count_lines lines) (raw_lines (held ++ unread))
-    pub unfinished : holds_line held ≡ false
-    pub undecided : IsUndecided (most_bytes - length (bytes_of lines)) longest_line held
-    pub nothing_written : after ≡ before
 
   -- the head was taken whole, and this became of the run that follows from it. The source had these bytes left behind the head, and fewer than 4,096 more
   -- were taken with it
@@ -66,9 +65,9 @@ module _ (input : List ℕ) (left before after : Option (List ℕ)) where
     pub fault : IsHeadFault input line why
     pub front : AddsPrefix (refusal_text line why) before after
 
-  -- the source failed, amid the head or behind it
+  -- the source failed, amid the head, where nothing was written, or behind it
   pub data HasReadFault : Type 0 where
-    amid_head : IsAmidHead → HasReadFault
+    amid_head : IsAmidHead input left → after ≡ before → HasReadFault
     behind_head : IsBehindHead IsBrokenOff → HasReadFault
 
   -- the sink failed

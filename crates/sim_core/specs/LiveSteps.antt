@@ -1,10 +1,7 @@
 -- The steps of the word `replay`: the head of its input, and the run behind it. No public clause cites this module (rule of this project).
-use Rattle.std.specs.Prelude.{◌≡◌, ℕ, ◌+◌, ◌-◌, ◌<◌, false, Option, Some, None, List, [], ◌++◌, length, IfSome}
-use Rattle.cluster_io.specs.NextLine.{holds_line, IsUndecided}
+use Rattle.std.specs.Prelude.{◌≡◌, ℕ, ◌<◌, Option, Some, None, List, [], ◌++◌, length, IfSome}
 use Rattle.cluster_io.specs.Readings.{Reading}
 use Rattle.cluster_io.specs.Streams.{Adds, AddsPrefix}
-use Rattle.crm_lex.specs.RawLines.{raw_lines}
-use Rattle.live_lines.specs.Followed.{bytes_of, count_lines}
 use Rattle.live_lines.specs.Heads as heads
 use Rattle.live_lines.specs.declared.head.HeadStop.{HeadStop}
 use Rattle.live_lines.specs.declared.head.HeadStop.TheVariants as found
@@ -19,6 +16,7 @@ use Rattle.sim_core.specs.declared.status.Status.{Status}
 use Rattle.sim_core.specs.declared.status.Status.TheVariants.{Done, NoMemory, ReadFault, WriteFault, Refused, Unexpected, TooLarge}
 use Rattle.input_reading.specs.Causes.{refusal_text}
 use Rattle.input_reading.specs.Reading.{longest_line, most_bytes}
+use Rattle.sim_core.specs.Live.{IsAmidHead}
 use Rattle.sim_core.specs.Replay.{IsBegun, IsHeadFault, head_in}
 
 -- a reader from which nothing was read yet
@@ -35,24 +33,11 @@ pub record IsBehind (input : List ℕ) (head : Head) (reading : Reading) (left :
   pub short : length reading.held < 4096
   pub longest : reading.longest ≡ longest_line
 
--- reading stopped amid the head: of the bytes that were taken these are whole lines, behind which the head is still to come
-pub record IsAmid (input : List ℕ) (left : Option (List ℕ)) : Type 0 where
-  pub lines : List (List (List ℕ))
-  pub held : List ℕ
-  pub unread : List ℕ
-  pub left_is : left ≡ Some unread
-  pub parts : input ≡ bytes_of lines ++ (held ++ unread)
-  pub cut : raw_lines input ≡ lines ++ raw_lines (held ++ unread)
-  pub to_come : head_in input
-      ≡ heads.head_of longest_line (bytes_of lines) (most_bytes - length (bytes_of lines)) (1 + count_lines lines) (raw_lines (held ++ unread))
-  pub unfinished : holds_line held ≡ false
-  pub undecided : IsUndecided (most_bytes - length (bytes_of lines)) longest_line held
-
 -- why the run isn't begun
 abbrev pub StopsBy : List ℕ → Option (List ℕ) → HeadEnd → Type 0
 StopsBy input left (stop.Refused line why) = IsHeadFault input line why
 StopsBy input left stop.TooLarge = head_in input ≡ heads.too_large
-StopsBy input left stop.ReadFault = IsAmid input left
+StopsBy input left stop.ReadFault = IsAmidHead input left
 StopsBy input left stop.NoMemory = Unit {0}
 
 -- why the run isn't begun, by why the head isn't read

@@ -1,6 +1,6 @@
-use Rattle.std.proofs.Common.{◌≡◌, Option, List, ℕ, Result, Some, Err, false, option_map, ap, sym, ◌∙◌}
+use Rattle.std.proofs.Common.{◌≡◌, Option, List, ℕ, Result, Some, Err, false, ap, subst, sym, ◌∙◌}
 use Rattle.cluster_io.specs.LineReaders.{reading_of, source_of}
-use Rattle.live_lines.specs.Heads.{came_to, head_behind, lacks_memory}
+use Rattle.live_lines.specs.Heads.{StillAmid, lacks_memory}
 use Rattle.live_lines.specs.declared.head.HeadStop.{HeadStop}
 use Rattle.live_lines.specs.declared.head.HeadStop.TheVariants as stop
 use Rattle.live_lines.proofs.head.read_head.Goals as goal
@@ -16,10 +16,7 @@ returns-in-Err-clause-amid g c why =
     record {
       text = text;
       keeps = so_far.keeps ∙ now.keeps memory;
-      to_come = so_far.told ∙ (now.brings memory
-          ∙ ap (λ (came : Option (Result (Unit {0}) HeadStop)).
-          option_map (λ (left : List ℕ). came_to came text reading (head_behind text reading left)) (g.S.Source.left (source_of c.step.new.reader))) fault);
-      taken = now.taken memory _ _ so_far.taken;
+      gone_on = subst (λ (came : Option (Result (Unit {0}) HeadStop)). StillAmid came _) fault now.gone_on _ _ so_far.gone_on;
       none_whole = now.amid fault;
       undecided = now.undecided fault;
       same_size = now.same_size fault ∙ (so_far.can.longest ∙ sym c.requires.can.longest);

@@ -1,7 +1,9 @@
-use Rattle.std.proofs.Common.{arith}
+use Rattle.std.proofs.Common.{◌≡◌, Option, Result, false, ap, sym, ◌∙◌, arith}
+use Rattle.live_lines.specs.Heads.{came_to, lacks_memory}
+use Rattle.live_lines.specs.declared.head.HeadStop.{HeadStop}
 use Rattle.live_lines.proofs.HeadBringing.{line_brings, line_can, line_keeps, line_within, long_number, too_large_brings, too_long_brings, while_well}
 use Rattle.live_lines.proofs.Bringing.{fewer_left, number_is, numbers_fit, room_is}
-use Rattle.live_lines.proofs.HeadLines.{line_taken, still_taken}
+use Rattle.live_lines.proofs.HeadLines.{amid_line, line_gone, still_gone}
 use Rattle.live_lines.proofs.Stepping.{undecided_now}
 use Rattle.live_lines.proofs.head.step.Goals as goal
 
@@ -49,23 +51,19 @@ returns-in-TooLong-clause-brings g c =
 pub returns-in-TooLarge-clause-brings : goal.returns-in-TooLarge-clause-brings
 returns-in-TooLarge-clause-brings g c = too_large_brings c.args.head.now.text.items _ _ _ _ (c.in-TooLarge.ensures.answered c.requires.can.going)
 
--- which lines were taken
+-- which lines were taken, behind which the head goes on
 
-pub returns-in-Line-clause-taken : goal.returns-in-Line-clause-taken
-returns-in-Line-clause-taken g c memory first given t =
-    rw (c.take_line.ensures.text memory) (line_taken first _ _ c.args.head.now.text.items given _ _ t (c.in-Line.ensures.answered c.requires.can.going))
+pub returns-in-Line-clause-gone_on : goal.returns-in-Line-clause-gone_on
+returns-in-Line-clause-gone_on g c =
+    let a = c.in-Line.ensures.answered c.requires.can.going in
+    amid_line c.take_line.result _ c.take_line.ensures.fault (λ none first given h.
+    let memory : lacks_memory c.take_line.result ≡ false = ap lacks_memory none in
+    rw (c.take_line.ensures.text memory) (line_gone first _ _ c.args.head.now.text.items given _ _ h a (λ others.
+    ap (λ (k : Option (Result (Unit {0}) HeadStop)). came_to k _ _ others) (sym none)
+    ∙ rw (← number_is _ _ _ _ a) (c.take_line.ensures.says memory _ _ others))))
 
-pub returns-in-End-clause-taken : goal.returns-in-End-clause-taken
-returns-in-End-clause-taken g c memory first given t = still_taken first _ _ _ given _ _ t _ (c.in-End.ensures.answered c.requires.can.going) (λ e. cc)
-
-pub returns-in-TooLong-clause-taken : goal.returns-in-TooLong-clause-taken
-returns-in-TooLong-clause-taken g c memory first given t = still_taken first _ _ _ given _ _ t _ (c.in-TooLong.ensures.answered c.requires.can.going) (λ e. cc)
-
-pub returns-in-TooLarge-clause-taken : goal.returns-in-TooLarge-clause-taken
-returns-in-TooLarge-clause-taken g c memory first given t = still_taken first _ _ _ given _ _ t _ (c.in-TooLarge.ensures.answered c.requires.can.going) (λ e. cc)
-
-pub returns-in-Failed-clause-taken : goal.returns-in-Failed-clause-taken
-returns-in-Failed-clause-taken g c memory first given t = still_taken first _ _ _ given _ _ t _ (c.in-Failed.ensures.answered c.requires.can.going) (λ e. cc)
+pub returns-in-Failed-clause-gone_on : goal.returns-in-Failed-clause-gone_on
+returns-in-Failed-clause-gone_on g c first given h = still_gone first _ _ _ given _ _ h (c.in-Failed.ensures.answered c.requires.can.going)
 
 pub returns-in-Failed-clause-undecided : goal.returns-in-Failed-clause-undecided
 returns-in-Failed-clause-undecided g c is = undecided_now _ _ _ _ (c.in-Failed.ensures.answered c.requires.can.going)
