@@ -15,10 +15,11 @@ use Rattle.cluster_model.specs.declared.directory.Directory.{Directory}
 use Rattle.cluster_model.specs.declared.fault.ModelCause.{ModelCause}
 use Rattle.cluster_model.specs.declared.fault.ModelCause.TheVariants.{ColocationLoop, OrderLoop}
 use Rattle.cluster_model.specs.Colocations.{colocations_in, colocations_of}
-use Rattle.cluster_model.specs.Counting.{colocation_count, colocations_in_all, order_count, orders_in_all}
+use Rattle.cluster_model.specs.Counting.{colocation_count, order_count}
 use Rattle.cluster_model.specs.FirstFaults.{fault_at, first_fault}
 use Rattle.cluster_model.specs.Orders.{orders_in, orders_of}
-use Rattle.cluster_model.specs.Resolution.{cause_of_loops, closed_by, closing_cause, cluster_of, loop_cause}
+use Rattle.cluster_model.specs.Resolution.{cause_of_loops, cluster_of, loop_cause}
+use Rattle.cluster_model.specs.Search.{closed_by, closing_cause, colocations_in_all, orders_in_all}
 use Rattle.cluster_model.proofs.Limits.{colocations_are, orders_are}
 
 -- the pass that looks for the statements of two places

@@ -8,8 +8,9 @@ use Rattle.cluster_model.specs.declared.directory.Directory.{Directory}
 use Rattle.cluster_model.specs.declared.fault.ModelCause.{ModelCause}
 use Rattle.cluster_model.specs.Checks.{cause_of}
 use Rattle.cluster_model.specs.Counting.{all_counted, counted_with, counts_of, nothing_counted}
-use Rattle.cluster_model.specs.FirstFaults.{count_on, fault_at, first_fault, sound_count}
+use Rattle.cluster_model.specs.FirstFaults.{fault_at, first_fault}
 use Rattle.cluster_model.specs.Resolution.{own_cause}
+use Rattle.cluster_model.specs.Search.{count_on, sound_count}
 
 -- the line and the cause of a statement that is at fault, behind so many that aren't, and else what comes of the others
 abbrev pub unless_cause : Option ModelCause → ℕ → ℕ → Checked → Checked

@@ -31,8 +31,9 @@ use Rattle.cluster_model.specs.Counting.{counted_with, nothing_counted}
 use Rattle.cluster_model.specs.Directories.{directory_of, groups_of, is_unknown, traits_of}
 use Rattle.cluster_model.specs.Locations.{role_of_word}
 use Rattle.cluster_model.specs.Orders.{first_point, kind_of_word, member_order, op_of, orders_in, orders_of, step_order, then_point}
-use Rattle.cluster_model.specs.FirstFaults.{first_fault, sound_count}
+use Rattle.cluster_model.specs.FirstFaults.{first_fault}
 use Rattle.cluster_model.specs.Resolution.{cause_after, cluster_of, loop_cause, own_cause, resolution_of}
+use Rattle.cluster_model.specs.Search.{sound_count}
 use Rattle.faults.specs.Reading.{UnlessMemory, unless}
 use Rattle.cluster_model.proofs.Passes.{check_all, fault_after, passes, unless_cause}
 use Rattle.cluster_model.proofs.Split.{none_all, split}

@@ -5,7 +5,8 @@ use Rattle.std.proofs.lemmas.List.{append-nil, append_assoc}
 use Rattle.faults.specs.declared.fault.Fault.{Fault}
 use Rattle.crm_parse.specs.declared.statement.Statement.{Statement}
 use Rattle.cluster_model.specs.declared.fault.ModelCause.{ModelCause}
-use Rattle.cluster_model.specs.FirstFaults.{count_on, fault_at, first_fault, sound_count}
+use Rattle.cluster_model.specs.FirstFaults.{fault_at, first_fault}
+use Rattle.cluster_model.specs.Search.{count_on, sound_count}
 
 module _ (own loop : List Statement → Statement → Option ModelCause) where
   pub split : (before statements : List Statement)

@@ -1,5 +1,5 @@
 -- How many nodes, leaves and rules statements have (their limits are rules of this project).
-use Rattle.std.specs.Prelude.{ℕ, ◌+◌, ◌-◌, List, [], ◌∷◌, length, sum_by}
+use Rattle.std.specs.Prelude.{ℕ, ◌+◌, ◌-◌, List, [], ◌∷◌, length}
 use Rattle.crm_parse.specs.declared.form.Form.{Form}
 use Rattle.crm_parse.specs.declared.form.Form.TheVariants as form
 use Rattle.crm_parse.specs.declared.statement.Statement.{Statement}
@@ -52,10 +52,3 @@ all_counted counts (s ∷ statements) = all_counted (counted_with counts s.form)
 
 abbrev pub counts_of : List Statement → Counts
 counts_of statements = all_counted nothing_counted statements
-
--- how many colocations and how many orders some statements have
-abbrev pub colocations_in_all : List Statement → ℕ
-colocations_in_all statements = sum_by (λ s. colocation_count s.form) statements
-
-abbrev pub orders_in_all : List Statement → ℕ
-orders_in_all statements = sum_by (λ s. order_count s.form) statements

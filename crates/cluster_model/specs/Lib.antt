@@ -9,3 +9,4 @@ pub mod Counting
 pub mod Checks
 pub mod FirstFaults
 pub mod Resolution
+pub mod Search

@@ -1,19 +1,19 @@
 -- The cluster that a configuration says, or its first fault (the causes and their order are rules of this project).
-use Rattle.std.specs.Prelude.{ℕ, if◌then◌else◌, List, [], ◌∷◌, ◌++◌, Option, Some, None, Result}
+use Rattle.std.specs.Prelude.{if◌then◌else◌, List, [], ◌∷◌, ◌++◌, Option, Some, None, Result}
 use Rattle.std.specs.Option.{option_or}
 use Rattle.faults.specs.declared.fault.Fault.{Fault}
 use Rattle.faults.specs.Reading.{unless}
 use Rattle.crm_parse.specs.declared.statement.Statement.{Statement}
 use Rattle.cluster_types.specs.declared.cluster.Cluster.{Cluster}
 use Rattle.cluster_types.specs.declared.leaf.Leaf.{Leaf}
-use Rattle.rule_loops.specs.FirstLoops.{has_need_loop, has_step_loop, is_closed_by}
+use Rattle.rule_loops.specs.FirstLoops.{has_need_loop, has_step_loop}
 use Rattle.clone_expand.specs.declared.leaves.Leaves.{Leaves}
 use Rattle.cluster_model.specs.declared.directory.Directory.{Directory}
 use Rattle.cluster_model.specs.declared.fault.ModelCause.{ModelCause}
 use Rattle.cluster_model.specs.declared.fault.ModelCause.TheVariants.{ColocationLoop, OrderLoop}
 use Rattle.cluster_model.specs.Checks.{cause_of}
 use Rattle.cluster_model.specs.Colocations.{colocations_of}
-use Rattle.cluster_model.specs.Counting.{colocations_in_all, counts_of, orders_in_all}
+use Rattle.cluster_model.specs.Counting.{counts_of}
 use Rattle.cluster_model.specs.Directories.{directory_of}
 use Rattle.cluster_model.specs.FirstFaults.{first_fault}
 use Rattle.cluster_model.specs.Locations.{locations_of, rule_locations_of}
@@ -54,12 +54,3 @@ unfoldable pub resolution_of : Leaves → List Statement → Result Cluster (Fau
 resolution_of leaves statements =
     let d = directory_of leaves statements in
     unless (first_fault (cause_after d leaves.leaves) [] statements) (cluster_of d leaves.leaves statements)
-
--- What the search for the first fault (`cause_of` and those below it) works by: the cause when the first loops are closed by the colocation at one place and the order at the other, and so many rules were added
-abbrev pub closed_by : Option ℕ → Option ℕ → ℕ → ℕ → Option ModelCause
-closed_by colocation order colocations orders =
-    if is_closed_by colocation colocations then Some ColocationLoop else if is_closed_by order orders then Some OrderLoop else None
-
-abbrev pub closing_cause : Option ℕ → Option ℕ → List Statement → Statement → Option ModelCause
-closing_cause colocation order before s =
-    closed_by colocation order (colocations_in_all (before ++ s ∷ [])) (orders_in_all (before ++ s ∷ []))

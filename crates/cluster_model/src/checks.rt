@@ -7,8 +7,9 @@ ghost use Rattle.cluster_model.specs.Chains.{successive};
 ghost use Rattle.cluster_model.specs.Locations.{role_written};
 ghost use Rattle.cluster_model.specs.Directories.{is_unknown};
 ghost use Rattle.cluster_model.specs.Checks.{cause_of, excess_of, has_unknown, has_unpromotable, is_unsupported, lacks_action, lacks_in_pair, lacks_role, side_lacks, turns_down};
-ghost use Rattle.cluster_model.specs.FirstFaults.{first_fault, sound_count};
+ghost use Rattle.cluster_model.specs.FirstFaults.{first_fault};
 ghost use Rattle.cluster_model.specs.Resolution.{own_cause};
+ghost use Rattle.cluster_model.specs.Search.{sound_count};
 
 use crate::colocations::{Bearer, dependent_at, primary_at};
 use crate::counts::{Counts, counted_with, nothing_counted};

@@ -1,6 +1,7 @@
 use Rattle.std.proofs.Common.{◌≡◌, [], drop}
-use Rattle.cluster_model.specs.FirstFaults.{first_fault, sound_count}
+use Rattle.cluster_model.specs.FirstFaults.{first_fault}
 use Rattle.cluster_model.specs.Resolution.{own_cause}
+use Rattle.cluster_model.specs.Search.{sound_count}
 use Rattle.cluster_model.proofs.Passes.{fault_after}
 use Rattle.cluster_model.proofs.checks.first_fault.Given as goal
 
