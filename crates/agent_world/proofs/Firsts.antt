@@ -1,5 +1,5 @@
 -- What a simulated cluster is made of at first is what the journal says.
-use Rattle.std.proofs.Common.{◌≡◌, ℕ, ◌+◌, ◌*◌, ◌%◌, ◌<◌, ◌==◌, Bool, true, false, if◌then◌else◌, is_some, is_none, Option, Some, None, List, [], ◌∷◌, ◌++◌, length, length-append, slice_get, refl, sym, ap, ◌∙◌, eqb-true, arith}
+use Rattle.std.proofs.Common.{◌≡◌, ℕ, ◌+◌, ◌*◌, ◌<◌, ◌==◌, Bool, true, false, if◌then◌else◌, is_some, is_none, Option, Some, None, List, [], ◌∷◌, ◌++◌, length, length-append, slice_get, refl, sym, ap, ◌∙◌, eqb-true, arith}
 use Rattle.std.proofs.lemmas.Bool.{and_parts}
 use Rattle.std.proofs.lemmas.List.{get_or_append_left, get_or_push}
 use Rattle.std.proofs.lemmas.Option.{slice_get-get_or}
@@ -16,7 +16,7 @@ use Rattle.world_state.specs.declared.real.Real.{Real}
 use Rattle.world_state.specs.declared.real.Real.TheVariants as real
 use Rattle.world_state.specs.declared.real.Standing.{Standing}
 use Rattle.world_state.specs.declared.real.Standing.TheVariants as standing
-use Rattle.world_state.specs.Draws.{state_after}
+use Rattle.draws.specs.Draws.{state_after}
 use Rattle.world_state.specs.Kept.{Holds, HoldsNodes, Shows, reality}
 use Rattle.world_state.specs.Worlds.{Cells, first_real, first_world, is_rising, standing_by}
 use Rattle.agent_world.specs.Firsts.{IsFilled}
@@ -126,8 +126,7 @@ never_rising c es r n = on (is_none (last_outcome c r n es)) (may_promoted c r n
 
 pub first_shows : (c : Cluster) (es : List Event) (nodes : List Standing) (cells : List Real) (number : ℕ)
     → HoldsNodes (length c.nodes) nodes (λ n. standing_by c (last_sign n es)) → Holds c cells (first_real c es)
-    → Shows (reality c nodes cells None number (number % 2147483648) 0) (first_world c es)
-unfolding state_after
+    → Shows (reality c nodes cells None number (state_after number 0) 0) (first_world c es)
 first_shows c es nodes cells number n h = record {
   nodes = n;
   cells = h;

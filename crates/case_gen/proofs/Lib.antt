@@ -1,3 +1,2 @@
-pub mod DrawLaws
 pub mod LineLaws
 pub mod ShortLines

@@ -3,7 +3,6 @@
 #![tactic(auto)]
 
 mod case;
-mod draws;
 
 // The lines of the configuration, of the status and of the results.
 mod resources;

@@ -6,7 +6,7 @@ use Rattle.cluster_types.specs.declared.cluster.Cluster.{Cluster}
 use Rattle.world_state.specs.declared.turn.Fate.{Fate}
 use Rattle.world_state.specs.declared.turn.Turn.{Turn}
 use Rattle.world_state.specs.declared.turn.Turn.TheVariants as turn
-use Rattle.world_state.specs.Draws.{draw}
+use Rattle.draws.specs.Draws.{draw}
 use Rattle.world_state.specs.Turns.{die, draws_for_end, drawn_node, fate_by, is_fault, joins_now, leaves_now, turn_of}
 use Rattle.world_state.specs.Worlds.{World, is_off, is_up}
 

@@ -1,23 +1,16 @@
 -- What is kept stands for the simulated cluster, step by step.
-use Rattle.std.proofs.Common.{◌≡◌, ℕ, suc, ◌+◌, ◌%◌, Bool, true, false, if◌then◌else◌, Option, Some, None, List, length, refl, sym, ap, ◌∙◌, arith}
+use Rattle.std.proofs.Common.{◌≡◌, ℕ, suc, ◌+◌, Bool, true, false, if◌then◌else◌, Option, Some, None, List, length, refl, sym, ap, ◌∙◌, arith}
 use Rattle.cluster_types.specs.declared.cluster.Cluster.{Cluster}
 use Rattle.cluster_types.specs.declared.journal.Action.{Action}
 use Rattle.world_state.specs.declared.real.Real.{Real}
 use Rattle.world_state.specs.declared.real.Real.TheVariants as real
 use Rattle.world_state.specs.declared.real.Standing.{Standing}
-use Rattle.world_state.specs.Draws.{draw, next_state, state_after, taken_of}
+use Rattle.draws.specs.Draws.{draw, next_state, state_after, taken_of}
+use Rattle.draws.proofs.DrawLaws.{state_more}
 use Rattle.world_state.specs.Kept.{Holds, HoldsNodes, IsAlone, RealityOf, Shows, reality}
 use Rattle.world_state.specs.Turns.{after_begin, calm, with_draws}
 use Rattle.world_state.specs.Worlds.{Cells, World, begun, done, is_rising, risen, undone, without_node}
 use Rattle.world_state.proofs.Holding.{begun_rising, cleared_rising, done_rising, undone_rising}
-
-pub state_begins : (number : ℕ) → state_after number 0 ≡ number % 2147483648
-unfolding state_after
-state_begins number = refl
-
-pub state_more : (number drawn : ℕ) → state_after number (drawn + 1) ≡ next_state (state_after number drawn)
-unfolding state_after
-state_more number drawn = let on : drawn + 1 ≡ suc drawn = omega arith in rw on refl
 
 never_risen : (x : Real) → risen x ≡ real.Rising → ⊥
 never_risen real.Off e = let no = ap is_rising e in cc

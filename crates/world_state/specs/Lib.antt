@@ -1,4 +1,3 @@
-pub mod Draws
 pub mod Worlds
 pub mod Turns
 pub mod Lives

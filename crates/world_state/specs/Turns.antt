@@ -11,7 +11,7 @@ use Rattle.world_state.specs.declared.turn.Fate.{Fate}
 use Rattle.world_state.specs.declared.turn.Fate.TheVariants as fate
 use Rattle.world_state.specs.declared.turn.Turn.{Turn}
 use Rattle.world_state.specs.declared.turn.Turn.TheVariants as turn
-use Rattle.world_state.specs.Draws.{draw}
+use Rattle.draws.specs.Draws.{draw}
 use Rattle.world_state.specs.Worlds.{Cells, World, begun, done, given_up, is_off, is_up, risen, true_code, undone, without_node}
 
 -- how many faults a simulated cluster is given at most

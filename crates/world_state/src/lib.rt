@@ -8,7 +8,6 @@ mod turn;
 // What is kept of it.
 mod acts;
 mod cells;
-mod draws;
 mod nodes;
 mod reality;
 mod rising;

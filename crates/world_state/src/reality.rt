@@ -1,8 +1,8 @@
 //! A simulated cluster as it is kept.
 
-ghost use Rattle.std.specs.Prelude.{◌≡◌, ◌*◌, ◌+◌, ◌%◌, ◌<◌, None, length};
+ghost use Rattle.std.specs.Prelude.{◌≡◌, ◌*◌, ◌+◌, ◌<◌, None, length};
 ghost use Rattle.cluster_types.specs.Valid.{KeepsLimits};
-ghost use Rattle.world_state.specs.Draws as draws;
+ghost use Rattle.draws.specs.Draws as drawing;
 ghost use Rattle.world_state.specs.Kept.{IsOfSame, Shows, reality};
 ghost use Rattle.world_state.specs.Turns.{after_begin, calm, with_draws};
 ghost use Rattle.world_state.specs.Worlds as worlds;
@@ -10,10 +10,10 @@ ghost use Rattle.world_state.specs.Worlds.{World};
 
 use crate::acts::begin;
 use crate::cells::found_at;
-use crate::draws::{first_state, next_state, taken_of};
 use crate::real::{Real, Standing};
 use crate::rising::raise;
 use cluster_types::{Action, Cluster, LeafId, NodeId};
+use draws::{first_state, next_state, taken_of};
 use std::marker::Model;
 
 /// A simulated cluster: how its nodes stand, and what really runs.
@@ -53,7 +53,7 @@ impl<'c> Reality<'c> {
         requires limits { KeepsLimits cluster.now }
         requires nodes { length nodes.items ≡ length cluster.now.nodes }
         requires cells { length cells.items ≡ length cluster.now.leaves * length cluster.now.nodes }
-        ensures { result ≡ reality cluster.now nodes.items cells.items None number (number % 2147483648) 0 }
+        ensures { result ≡ reality cluster.now nodes.items cells.items None number (drawing.state_after number 0) 0 }
     {
         Reality {
             cluster,
@@ -95,7 +95,7 @@ impl<'c> Reality<'c> {
     /// The next number that is drawn, below the bound.
     pub(crate) fn draw(&mut self, bound: u32) -> u32
         requires { 0 < bound }
-        ensures drawn { (w : World) → Shows self.old w → result ≡ draws.draw self.old.number (w.drawn + 1) bound }
+        ensures drawn { (w : World) → Shows self.old w → result ≡ drawing.draw self.old.number (w.drawn + 1) bound }
         ensures low { result < bound }
         ensures shows { (w : World) → Shows self.old w → Shows self.new (with_draws w 1) }
         ensures rising { self.new.rising ≡ self.old.rising }

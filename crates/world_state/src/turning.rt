@@ -1,7 +1,7 @@
 //! What comes next is drawn.
 
 ghost use Rattle.std.specs.Prelude.{◌≡◌, ◌+◌, ◌<◌, nat_lt, if◌then◌else◌, None, IfSome, length};
-ghost use Rattle.world_state.specs.Draws as draws;
+ghost use Rattle.draws.specs.Draws as drawing;
 ghost use Rattle.world_state.specs.Kept.{IsOfSame, Shows};
 ghost use Rattle.world_state.specs.Turns as turns;
 ghost use Rattle.world_state.specs.Turns.{IsOfNode, MayCome, die, node_turn_from, turn_of, turned, with_draws};
@@ -43,7 +43,7 @@ impl Reality<'_> {
     /// A node is drawn. Where the cluster has none, it isn't one of it.
     fn draw_node(&mut self) -> NodeId
         ensures drawn { (w : World) → Shows self.old w → 0 < length self.old.cluster.nodes
-            → result ≡ draws.draw self.old.number (w.drawn + 1) (length self.old.cluster.nodes) }
+            → result ≡ drawing.draw self.old.number (w.drawn + 1) (length self.old.cluster.nodes) }
         ensures shows { (w : World) → Shows self.old w → Shows self.new (with_draws w 1) }
         ensures rising { self.new.rising ≡ self.old.rising }
         ensures given { self.new.given ≡ self.old.given }

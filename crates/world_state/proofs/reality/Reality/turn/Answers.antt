@@ -1,6 +1,6 @@
 use Rattle.std.proofs.Common.{◌≡◌, ◌+◌, Option, Some, None, ◌∙◌, arith}
 use Rattle.world_state.specs.declared.turn.Turn.{Turn}
-use Rattle.world_state.specs.Draws.{draw}
+use Rattle.draws.specs.Draws.{draw}
 use Rattle.world_state.specs.Turns.{calm, die, node_turn, with_draws}
 use Rattle.world_state.proofs.Turned.{ends_may, for_node, none_shows, none_turn, of_node_may, some_shows, some_turn}
 use Rattle.world_state.proofs.reality.Reality.turn.Goals as goal

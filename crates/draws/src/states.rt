@@ -1,11 +1,12 @@
-//! The numbers that are drawn.
+//! States, from one draw to the next.
 
-ghost use Rattle.std.specs.Prelude.{◌≡◌, ◌<◌, ◌%◌};
-ghost use Rattle.world_state.specs.Draws.{next_state, taken_of};
+ghost use Rattle.std.specs.Prelude.{◌≡◌, ◌<◌};
+ghost use Rattle.draws.specs.Draws.{next_state, state_after, taken_of};
 
 /// The state before the first draw.
+#[tactic(auto, using(crate::proofs::DrawLaws::state_begins))]
 pub fn first_state(number: u32) -> u32
-    ensures { result ≡ number % 2147483648 }
+    ensures { result ≡ state_after number 0 }
 {
     number % 2_147_483_648
 }

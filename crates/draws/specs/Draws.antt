@@ -1,5 +1,5 @@
--- The numbers that are drawn for a simulated cluster: a linear congruential generator with the factor and the addend of the C standard's example of
--- `rand` (that it begins with the number of the cluster, and what is taken of a state, are rules of this project).
+-- Numbers that are drawn one after the other: a linear congruential generator with the factor and the addend of the C standard's example of `rand` (that it
+-- begins with a number of the caller, and what is taken of a state, are rules of this project).
 use Rattle.std.specs.Prelude.{ℕ, zero, suc, ◌+◌, ◌*◌, ◌/◌, ◌%◌}
 
 -- the state that follows one

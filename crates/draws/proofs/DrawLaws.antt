@@ -1,6 +1,6 @@
 -- The state before the first draw, and after one draw more.
 use Rattle.std.proofs.Common.{arith, ◌≡◌, ◌+◌, ◌%◌, ℕ, suc, refl}
-use Rattle.case_gen.specs.Draws.{next_state, state_after}
+use Rattle.draws.specs.Draws.{next_state, state_after}
 
 pub state_begins : (number : ℕ) → state_after number 0 ≡ number % 2147483648
 unfolding state_after
