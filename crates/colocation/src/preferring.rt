@@ -5,10 +5,9 @@ ghost use Rattle.cluster_types.specs.Choice as choice;
 ghost use Rattle.cluster_types.specs.Tables.{targets_of};
 ghost use Rattle.cluster_types.specs.Valid.{KeepsLimits};
 ghost use Rattle.colocation.specs.Tests as spec;
-ghost use Rattle.score.specs.Total.{cut};
 
 use cluster_types::{Cluster, Colocation, Decision, NodeId, Table};
-use score::Score;
+use score::{Score, cut};
 
 /// Whether the colocation is finite and counts for the decision on the node, since its primary holds its role there.
 pub fn counts(rule: &Colocation, table: &Table, decision: Decision, node: NodeId) -> bool
@@ -30,17 +29,6 @@ fn points(rule: &Colocation, table: &Table, decision: Decision, node: NodeId) ->
         i64::from(rule.score.points)
     } else {
         0
-    }
-}
-
-/// The score of the sum, cut at -INFINITY and INFINITY.
-fn cut(sum: i64) -> Score
-    ensures { result ≡ cut sum }
-{
-    let least = i64::from(Score::MINUS_INFINITY.points);
-    let most = i64::from(Score::INFINITY.points);
-    Score {
-        points: sum.min(most).max(least) as i32,
     }
 }
 

@@ -8,4 +8,4 @@ mod totals;
 
 pub use laws::{total_in_any_order, total_of_one, total_within, written_reads_back};
 pub use points::Score;
-pub use totals::total;
+pub use totals::{cut, total};

@@ -21,8 +21,8 @@ fn exact_sum(terms: &[Score]) -> i64
     sum
 }
 
-/// The score of the sum, cut at -INFINITY and INFINITY.
-fn cut(sum: i64) -> Score
+/// The score of a sum of points, cut at -INFINITY and INFINITY.
+pub fn cut(sum: i64) -> Score
     ensures { result ≡ cut sum }
 {
     let least = i64::from(Score::MINUS_INFINITY.points);
