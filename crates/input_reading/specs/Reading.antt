@@ -70,6 +70,15 @@ module _ {X : Type 0} (read_on : Head → List Line → Result X (Fault InputCau
   with_cluster found cluster =
       head_of found.crm cluster (status_lines found.marks found.lines) >>= (λ head. read_on head (following_lines found.marks found.lines))
 
+-- the steps of reading a text that has these sections, where what follows the status is read so, from all lines and the head. They are the words of all
+-- lines, the sections, the statements, the leaves, the cluster, the status and what follows it
+abbrev pub steps_of : {X : Type 0} (sections : List Line → Result SectionMarks (Fault ParseCause))
+    (read_on : List Line → Head → List Line → Result X (Fault InputCause)) → List ℕ → Result X (Fault InputCause)
+steps_of sections read_on text = do
+  found ← configuration_of sections text
+  cluster ← faulting cause.Cluster (resolution_of found.leaves found.crm.statements)
+  with_cluster (read_on found.lines) found cluster
+
 -- what follows isn't read
 abbrev pub nothing_yet : Head → List Line → Result Head (Fault InputCause)
 nothing_yet head lines = Ok head
@@ -80,20 +89,13 @@ with_results head lines = do
   answers ← faulting cause.Results (results_of head.cluster (moment_of head.journal.events) lines)
   Ok (record { head = head; results = answers })
 
--- what is read of a whole text, or its fault: that of the first step that fails. The steps are the words of all lines, the sections, the statements,
--- the leaves, the cluster, the status and the results
+-- what is read of a whole text, or its fault: that of the first step that fails
 unfoldable pub input_of : List ℕ → Result Input (Fault InputCause)
-input_of text = do
-  found ← configuration_of sections_of text
-  cluster ← faulting cause.Cluster (resolution_of found.leaves found.crm.statements)
-  with_cluster with_results found cluster
+input_of text = steps_of sections_of (λ all. with_results) text
 
 -- what is read of a head that stands alone, or its fault: the same steps without the last
 unfoldable pub start_of : List ℕ → Result Head (Fault InputCause)
-start_of text = do
-  found ← configuration_of sections_of text
-  cluster ← faulting cause.Cluster (resolution_of found.leaves found.crm.statements)
-  with_cluster nothing_yet found cluster
+start_of text = steps_of sections_of (λ all. nothing_yet) text
 
 -- the text is read, and says this
 abbrev pub Reads : List ℕ → Input → Type 0

@@ -5,13 +5,12 @@ use Rattle.faults.specs.declared.fault.Fault.{Fault}
 use Rattle.faults.specs.declared.fault.Fault.TheVariants.{At}
 use Rattle.faults.specs.Reading.{◌>>=◌, faulting}
 use Rattle.crm_lex.specs.declared.line.Line.{Line}
-use Rattle.cluster_model.specs.Resolution.{resolution_of}
 use Rattle.run_lines.specs.Reading.{lines_of}
 use Rattle.input_reading.specs.declared.cause.InputCause.{InputCause}
 use Rattle.input_reading.specs.declared.cause.InputCause.TheVariants as cause
 use Rattle.input_reading.specs.declared.reading.Head.{Head}
 use Rattle.input_reading.specs.declared.trace.Trace.{Trace}
-use Rattle.input_reading.specs.Reading.{configuration_of, line_behind, with_cluster}
+use Rattle.input_reading.specs.Reading.{line_behind, steps_of}
 use Rattle.input_reading.specs.Sections.{sections_with_trace}
 
 -- the lines of a run follow, and the last line of the text stands before this one
@@ -20,13 +19,9 @@ with_run after head lines = do
   run ← faulting cause.Run (lines_of head.cluster lines)
   Ok (record { head = head; run = record { lines = run }; after = after })
 
--- what is read of a whole text, or its fault: that of the first step that fails. The steps are the words of all lines, the sections, the statements,
--- the leaves, the cluster, the status and the lines of the run
+-- what is read of a whole text, or its fault: that of the first step that fails
 unfoldable pub trace_of : List ℕ → Result Trace (Fault InputCause)
-trace_of text = do
-  found ← configuration_of sections_with_trace text
-  cluster ← faulting cause.Cluster (resolution_of found.leaves found.crm.statements)
-  with_cluster (with_run (line_behind found.lines)) found cluster
+trace_of text = steps_of sections_with_trace (λ all. with_run (line_behind all)) text
 
 -- the text is read, and says this
 abbrev pub ReadsTrace : List ℕ → Trace → Type 0
