@@ -4,7 +4,7 @@ use Rattle.std.specs.BTreeMap.{insert_entry}
 use Rattle.std.specs.Cmp.Lexicographic.{slice_cmp}
 use Rattle.std.specs.Ordering.{nat_cmp}
 use Rattle.std.specs.Map as std_map
-use Rattle.crm_parse.specs.Texts.{is}
+use Rattle.crm_lex.specs.Names.{is}
 
 module _ {V : Type 0} where
   -- what a name stands for

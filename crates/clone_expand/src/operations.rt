@@ -2,8 +2,8 @@
 
 ghost use Rattle.std.specs.Prelude.{◌≡◌, ◌++◌, codes, find, unwrap_or, false, IfOk, OnOk};
 ghost use Rattle.std.specs.Option.{option_copied, option_map_or};
+ghost use Rattle.crm_lex.specs.Names.{is};
 ghost use Rattle.crm_parse.specs.Operations.{interval_of, recurs, value_of};
-ghost use Rattle.crm_parse.specs.Texts.{is};
 ghost use Rattle.crm_parse.specs.Values.{role_of};
 ghost use Rattle.clone_expand.specs.Metas.{read_as};
 ghost use Rattle.clone_expand.specs.Operations.{after_a_stop, fail_of, on_fail_in, on_fail_of};
@@ -11,7 +11,8 @@ ghost use Rattle.clone_expand.specs.Operations.{is_promoted, monitor_in, monitor
 
 use crate::values::role_at;
 use cluster_types::{Monitor, NoMemory, OnFail, Role};
-use crm_parse::{Kv, Operation, RoleName, interval_of, is, recurs, value_of};
+use crm_lex::is;
+use crm_parse::{Kv, Operation, RoleName, interval_of, recurs, value_of};
 use listed::Listed;
 use std::alloc::Global;
 

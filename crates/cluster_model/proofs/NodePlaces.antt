@@ -9,12 +9,12 @@ use Rattle.std.specs.declared.cmp.Ordering.{Ordering}
 use Rattle.std.specs.declared.cmp.Ordering.TheVariants.{Less, Equal, Greater}
 use Rattle.std.specs.Option.{option_map_or}
 use Rattle.std.proofs.lemmas.List.{length-map}
+use Rattle.crm_lex.specs.Names.{is}
 use Rattle.cluster_types.specs.declared.node.Node.{Node}
 use Rattle.cluster_types.specs.declared.rules.Location.{Location}
 use Rattle.crm_parse.specs.declared.form.Form.{Form}
 use Rattle.crm_parse.specs.declared.form.Form.TheVariants as form
 use Rattle.crm_parse.specs.declared.statement.Statement.{Statement}
-use Rattle.crm_parse.specs.Texts.{is}
 use Rattle.clone_expand.specs.declared.leaves.Leaves.{Leaves}
 use Rattle.clone_expand.specs.Settings.{nodes_in}
 use Rattle.clone_expand.specs.Tables.{lookup, with_row, with_rows}

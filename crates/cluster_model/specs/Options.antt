@@ -1,9 +1,9 @@
 -- The options of a cluster, with their defaults (Pacemaker Explained, "Cluster Options").
 use Rattle.std.specs.Prelude.{ℕ, Bool, true, false, if◌then◌else◌, List, [], ◌∷◌, codes, unwrap_or, Option, Some, None}
 use Rattle.std.specs.Option.{option_and_then, option_or}
+use Rattle.crm_lex.specs.Names.{is}
 use Rattle.crm_parse.specs.declared.statement.Statement.{Statement}
 use Rattle.crm_parse.specs.Operations.{value_of}
-use Rattle.crm_parse.specs.Texts.{is}
 use Rattle.crm_parse.specs.Values.{bool_of, count_of}
 use Rattle.cluster_types.specs.declared.cluster.Policy.{Policy}
 use Rattle.cluster_types.specs.declared.cluster.Policy.TheVariants.{Stop, Ignore, Freeze}

@@ -29,6 +29,11 @@ use Rattle.cluster_types.specs.Outcomes.{is_bad, is_ignored}
 abbrev pub most_from_outside : ℕ
 most_from_outside = 256
 
+-- the seconds that an answer lets go by
+abbrev pub seconds_in : Answer → ℕ
+seconds_in (answer.Wait seconds) = seconds
+seconds_in _ = 0
+
 -- the role of the recurring monitor of this interval; without a statement of the interval it is Started
 abbrev pub role_of_interval : List MonitorOf → ℕ → Role
 role_of_interval ms interval = option_map_or (λ (m : MonitorOf). m.role) (find (λ m. m.interval_ms == interval) ms) role.Started

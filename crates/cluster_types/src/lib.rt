@@ -35,7 +35,7 @@ pub use laws::{
 pub use leaf::{Leaf, LeafId, Monitor, OnFail, Op, Role, TargetRole};
 pub use moment::moment_of;
 pub use node::{Node, NodeId};
-pub use placement::{Decided, Decision, NoReason, Pin, Placed, Table, Target, is_pinned};
+pub use placement::{Decided, Decision, NoReason, Pin, Placed, Table, Target, is_pinned, pin_of};
 pub use plan::Plan;
 pub use rules::{Colocation, Location, Order, OrderKind, RuleLocation};
 pub use run::{Passed, PassedEnd, Run, RunLine};

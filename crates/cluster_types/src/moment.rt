@@ -1,9 +1,10 @@
-//! The moment at the end of a journal.
+//! The seconds that go by, and the moment at the end of a journal.
 
 ghost use Rattle.std.specs.Prelude.{◌≡◌};
+ghost use Rattle.cluster_types.specs.Answering.{seconds_in};
 ghost use Rattle.cluster_types.specs.Journals as journals;
 
-use crate::journal::Event;
+use crate::journal::{Answer, Event};
 
 impl Event {
     /// The seconds that go by with the event.
@@ -12,6 +13,18 @@ impl Event {
     {
         match self {
             Event::Wait { seconds } => seconds,
+            _ => 0,
+        }
+    }
+}
+
+impl Answer {
+    /// The seconds that it lets go by.
+    pub fn seconds(self) -> u64
+        ensures { result ≡ seconds_in self }
+    {
+        match self {
+            Answer::Wait { seconds } => seconds,
             _ => 0,
         }
     }

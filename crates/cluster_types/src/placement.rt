@@ -1,4 +1,4 @@
-ghost use Rattle.std.specs.Prelude.{◌≡◌, ◌+◌, ◌*◌, ◌<◌, ◌==◌, ◌&&◌, if◌then◌else◌, IfOk, ℕ, length, replicate};
+ghost use Rattle.std.specs.Prelude.{◌≡◌, ◌+◌, ◌*◌, ◌<◌, ◌==◌, ◌&&◌, if◌then◌else◌, IfOk, None, ℕ, length, replicate, slice_get, unwrap_or};
 ghost use Rattle.cluster_types.specs.Choice as choice;
 ghost use Rattle.cluster_types.specs.Decisions as decisions;
 ghost use Rattle.cluster_types.specs.Pins.{is_pinned_in};
@@ -151,6 +151,16 @@ pub fn is_pinned(pins: &[Option<Pin>], leaf: LeafId) -> bool
     match pins.get(leaf as usize) {
         Some(pin) => pin.is_some(),
         None => true,
+    }
+}
+
+/// Why the leaf is left as it is, by the list of why each leaf is. None where it isn't, or where the list doesn't have it.
+pub fn pin_of(pins: &[Option<Pin>], leaf: LeafId) -> Option<Pin>
+    ensures { result ≡ unwrap_or (slice_get pins.now leaf) None }
+{
+    match pins.get(leaf as usize) {
+        Some(pin) => *pin,
+        None => None,
     }
 }
 

@@ -1,6 +1,11 @@
--- What a name is.
-use Rattle.std.specs.Prelude.{ℕ, nat_le, ◌==◌, ◌&&◌, ◌||◌, Bool, not, List, length}
+-- What a name is, and when a word is a text.
+use Rattle.std.specs.Prelude.{ℕ, nat_eq, nat_le, ◌==◌, ◌&&◌, ◌||◌, Bool, not, List, length}
+use Rattle.std.specs.Cmp.Lexicographic.{pointwise}
 use Rattle.std.specs.List.{list_all}
+
+-- two texts are the same, byte by byte
+abbrev pub is : List ℕ → List ℕ → Bool
+is word text = pointwise nat_eq word text
 
 -- an ASCII letter or digit, `_`, `-` or `.`
 abbrev pub is_name_byte : ℕ → Bool

@@ -10,6 +10,7 @@ mod physical;
 mod quoting;
 mod reading;
 mod span;
+mod text;
 mod word;
 mod word_buf;
 
@@ -20,4 +21,5 @@ pub use line::Line;
 pub use logical::{LONGEST_LINE, line_count};
 pub use name::Name;
 pub use reading::logical_lines;
+pub use text::is;
 pub use word_buf::{WordBuf, lex_one};

@@ -6,9 +6,9 @@ use Rattle.std.proofs.lemmas.List.{length-append, take-append-drop}
 use Rattle.std.specs.List.{list_all}
 use Rattle.std.proofs.lemmas.Bool.{and_parts, false≢true}
 use Rattle.std.proofs.lemmas.List.Folds.{list_all-append}
-use Rattle.crm_lex.specs.Names.{is_name, is_name_byte}
+use Rattle.crm_lex.specs.Names.{is, is_name, is_name_byte}
 use Rattle.crm_parse.specs.Reading.{Words, colon_at, prefixed_at}
-use Rattle.crm_parse.specs.Texts.{after, before, is}
+use Rattle.crm_parse.specs.Texts.{after, before}
 use Rattle.crm_parse.proofs.Binds.{is-same, is-true}
 
 -- a choice that gives something

@@ -2,12 +2,11 @@
 use Rattle.std.proofs.Common.{◌≡◌, ℕ, Bool, true, false, cond, eqb, List, [], ◌∷◌, Option, Some, None, Result, Ok, Err, refl, sym, ap, subst}
 use Rattle.std.specs.Option.{ok_or}
 use Rattle.std.proofs.lemmas.Bool.{and_parts, and_from, eqb-true, eq-eqb}
-use Rattle.crm_lex.specs.Names.{is_name}
+use Rattle.crm_lex.specs.Names.{is, is_name}
 use Rattle.crm_parse.specs.declared.fault.ParseCause.{ParseCause}
 use Rattle.crm_parse.specs.declared.fault.ParseCause.TheVariants.{BadValue}
 use Rattle.crm_parse.specs.Keys.{when}
 use Rattle.crm_parse.specs.Reading.{Words, word_at, name_of, name_at, some_name, colon_at, given_at}
-use Rattle.crm_parse.specs.Texts.{is}
 use Rattle.faults.proofs.Steps.{bind-ok}
 
 -- a text is itself

@@ -2,7 +2,7 @@
 use Rattle.std.proofs.Common.{◌≡◌, ℕ, zero, suc, Bool, true, false, cond, List, [], ◌∷◌, ◌++◌, length, Option, Some, None, Result, Ok, refl, sym, subst}
 use Rattle.std.specs.Prelude.{codes}
 use Rattle.std.specs.List.{flat_map}
-use Rattle.crm_lex.specs.Names.{is_name}
+use Rattle.crm_lex.specs.Names.{is, is_name}
 use Rattle.crm_parse.specs.declared.fault.ParseCause.{ParseCause}
 use Rattle.crm_parse.specs.declared.fault.ParseCause.TheVariants.{ExtraWord}
 use Rattle.crm_parse.specs.declared.form.Form.{Form}
@@ -14,7 +14,6 @@ use Rattle.crm_parse.specs.Keys.{when}
 use Rattle.crm_parse.specs.Location.{begins_rule, discovery_at, discovery_in, either_at, location_at, place_at, plain_at, resource_at, role_at, rule_at, rule_id_at, rule_role_at, rule_score_of, ruled_at, some_role, with_rule, with_rules}
 use Rattle.crm_parse.specs.Reading.{Words, name_at, prefixed_at, resource_of, some_name, word_at}
 use Rattle.crm_parse.specs.Rules.{expression_at}
-use Rattle.crm_parse.specs.Texts.{is}
 use Rattle.crm_parse.proofs.Affixes.{noted_words, prefixed_at-words}
 use Rattle.crm_parse.proofs.Binds.{name_at-ok, some_name-ok, word_at-ok, ok-same}
 use Rattle.faults.proofs.Steps.{bind-ok}

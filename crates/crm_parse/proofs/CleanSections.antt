@@ -3,6 +3,7 @@ use Rattle.std.proofs.Common.{◌≡◌, ℕ, Bool, true, false, List, [], ◌�
 use Rattle.std.specs.Prelude.{codes}
 use Rattle.std.specs.List.{AllByRecursion, flat_map}
 use Rattle.std.proofs.lemmas.List.{map-append}
+use Rattle.crm_lex.specs.Names.{is}
 use Rattle.crm_parse.specs.declared.fault.ParseCause.TheVariants.{ExtraWord, Unsupported}
 use Rattle.crm_parse.specs.declared.owner.Owner.{Owner}
 use Rattle.crm_parse.specs.declared.owner.SectionWord.{SectionWord}
@@ -15,7 +16,6 @@ use Rattle.crm_parse.specs.Operations.{operation_of}
 use Rattle.crm_parse.specs.Pairs.{with_pairs, with_section}
 use Rattle.crm_parse.specs.Reading.{Words}
 use Rattle.crm_parse.specs.Sections.{Part, cut, may_follow, no_sections, onto, place_of, section_of, sections_at, takes_name, with_cut, with_part, with_parts, with_words}
-use Rattle.crm_parse.specs.Texts.{is}
 use Rattle.crm_parse.proofs.Binds.{if-ok, unless-ok}
 use Rattle.faults.proofs.Steps.{bind-ok}
 use Rattle.crm_parse.proofs.Clean.{AllClean, Clean, clean-ascii}

@@ -2,6 +2,7 @@
 use Rattle.std.proofs.Common.{◌≡◌, ℕ, zero, suc, Bool, true, false, List, [], ◌∷◌, ◌++◌, length, Option, Some, None, Result, Ok, refl, subst}
 use Rattle.std.specs.Prelude.{codes, if◌then◌else◌}
 use Rattle.std.specs.Option.{ok_or}
+use Rattle.crm_lex.specs.Names.{is}
 use Rattle.date_rules.specs.declared.rule.Test.TheVariants.{Attribute, Defined, NotDefined, Before, After, Within}
 use Rattle.crm_parse.specs.declared.expression.DateTest.{DateTest}
 use Rattle.crm_parse.specs.declared.expression.DateTest.TheVariants as date
@@ -11,7 +12,7 @@ use Rattle.crm_parse.specs.declared.fault.ParseCause.TheVariants.{BadValue}
 use Rattle.crm_parse.specs.Reading.{Words, word_at}
 use Rattle.faults.specs.Reading.{◌>>=◌}
 use Rattle.crm_parse.specs.Rules.{attribute_at, comparable, comparison_of, date_at, date_test_at, date_test_of, date_test_text, dates_at, defined_at, end_at, end_text, expression_at, filled, joined_alike, joiner_at, moment_of, no_tests, noted_at, start_at, test_after, test_at, with_joined, with_test, with_tests}
-use Rattle.crm_parse.specs.Texts.{after, is}
+use Rattle.crm_parse.specs.Texts.{after}
 use Rattle.crm_parse.proofs.Binds.{word_at-ok}
 use Rattle.faults.proofs.Steps.{bind-ok}
 use Rattle.crm_parse.proofs.Clean.{AllClean, Clean, clean-ascii}

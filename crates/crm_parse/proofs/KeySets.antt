@@ -1,11 +1,11 @@
 -- One more key.
 use Rattle.std.proofs.Common.{◌≡◌, ℕ, Bool, true, false, ◌&&◌, ◌||◌, List, [], ◌∷◌, refl}
 use Rattle.std.specs.List.{list_any}
+use Rattle.crm_lex.specs.Names.{is}
 use Rattle.crm_parse.specs.declared.pair.Kv.{Kv}
 use Rattle.crm_parse.specs.declared.place.Place.{Place}
 use Rattle.crm_parse.specs.Keys.{is_clone_meta, is_promoted_max}
 use Rattle.crm_parse.specs.Pairs.{is_same_key}
-use Rattle.crm_parse.specs.Texts.{is}
 
 either_one : (a b p q r s : Bool) → ((p || a && q && b) || (r || a && b && s)) ≡ ((p || r) || a && b && (q || s))
 either_one false b true q r s = refl

@@ -1,6 +1,7 @@
 -- Lines that are read as statements have no section among them.
 use Rattle.std.proofs.Common.{arith, ◌≡◌, ℕ, ◌+◌, ◌==◌, ◌&&◌, ◌||◌, not, min, Bool, true, false, Option, None, List, [], ◌∷◌, ◌++◌, length, codes, Ok, Err, refl, ap, sym, subst, ◌∙◌}
 use Rattle.std.specs.List.{AllByRecursion, position_or_len}
+use Rattle.crm_lex.specs.Names.{is}
 use Rattle.crm_lex.specs.declared.line.Line.{Line}
 use Rattle.crm_parse.specs.declared.draft.Draft.{Draft}
 use Rattle.crm_parse.specs.declared.draft.DraftStatement.{DraftStatement}
@@ -10,7 +11,6 @@ use Rattle.crm_parse.specs.declared.statement.Crm.{Crm}
 use Rattle.crm_parse.specs.Marks.{begins_with, first_word, has_percent, is_mark, misplaced, sections_of, unless}
 use Rattle.crm_parse.specs.Reading.{Words}
 use Rattle.crm_parse.specs.Statements.{draft_of, keyword_of, statements_of, with_lines}
-use Rattle.crm_parse.specs.Texts.{is}
 use Rattle.crm_parse.proofs.LinesAgain.{Says, read_of-ok, said}
 
 abbrev IsPlain : Line → Type 0

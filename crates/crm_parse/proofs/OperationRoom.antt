@@ -4,6 +4,7 @@ use Rattle.std.specs.Prelude.{codes, find, unwrap_or, ◌==◌, length}
 use Rattle.std.specs.List.{AllByRecursion}
 use Rattle.std.specs.Option.{option_and_then, option_map, option_map_or}
 use Rattle.std.proofs.lemmas.Bool.{and_parts, and_from}
+use Rattle.crm_lex.specs.Names.{is}
 use Rattle.crm_parse.specs.declared.fault.ParseCause.TheVariants.{RepeatedKey}
 use Rattle.crm_parse.specs.declared.pair.Kv.{Kv}
 use Rattle.crm_parse.specs.declared.pair.Operation.{Operation}
@@ -13,7 +14,7 @@ use Rattle.crm_parse.specs.Keys.{accepts, is_monitor, stray}
 use Rattle.crm_parse.specs.Operations.{has_room, interval_in, interval_of, is_off, new_name, op_name, op_pairs, operation_of, recurs, says_no, value_of, with_op_pair, with_op_pairs}
 use Rattle.crm_parse.specs.Pairs.{kv_of, pair_of, repeats, with_pair}
 use Rattle.crm_parse.specs.Reading.{Words}
-use Rattle.crm_parse.specs.Texts.{cut_at, is}
+use Rattle.crm_parse.specs.Texts.{cut_at}
 use Rattle.crm_parse.specs.Values.{time_of}
 use Rattle.crm_parse.proofs.Binds.{is-true, unless-ok}
 use Rattle.faults.proofs.Steps.{bind-ok}

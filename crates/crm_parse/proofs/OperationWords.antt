@@ -1,6 +1,7 @@
 -- The words of some operations are read as those operations again.
 use Rattle.std.proofs.Common.{◌≡◌, ℕ, Bool, not, ◌&&◌, cond, List, [], ◌∷◌, ◌++◌, Result, Ok, refl, sym, ap, ◌∙◌, subst}
 use Rattle.std.specs.Prelude.{codes}
+use Rattle.crm_lex.specs.Names.{is}
 use Rattle.crm_parse.specs.declared.fault.ParseCause.{ParseCause}
 use Rattle.crm_parse.specs.declared.fault.ParseCause.TheVariants.{RepeatedKey, Unsupported}
 use Rattle.crm_parse.specs.declared.pair.Kv.{Kv}
@@ -13,7 +14,6 @@ use Rattle.crm_parse.specs.Operations.{has_op, has_room, interval_in, is_off, is
 use Rattle.crm_parse.specs.Pairs.{with_pair}
 use Rattle.crm_parse.specs.Reading.{Words, name_of}
 use Rattle.faults.specs.Reading.{◌>>=◌}
-use Rattle.crm_parse.specs.Texts.{is}
 use Rattle.crm_parse.proofs.Binds.{name_of-ok, unless-ok}
 use Rattle.faults.proofs.Steps.{bind-ok}
 use Rattle.crm_parse.proofs.PairLists.{Adds, AddsAll, adds_none, adds_more, pair_words, with_pair-adds}

@@ -2,12 +2,12 @@
 use Rattle.std.proofs.Common.{◌≡◌, ℕ, List, [], ◌∷◌, ◌++◌, Ok, refl, sym, ap, ◌∙◌, subst, append_assoc, append-nil}
 use Rattle.std.specs.Prelude.{codes, map}
 use Rattle.std.proofs.lemmas.List.{map-append}
+use Rattle.crm_lex.specs.Names.{is}
 use Rattle.crm_parse.specs.declared.fault.ParseCause.TheVariants.{RepeatedKey, Unsupported}
 use Rattle.crm_parse.specs.declared.pair.Kv.{Kv}
 use Rattle.crm_parse.specs.declared.place.Place.{Place}
 use Rattle.crm_parse.specs.Pairs.{kv_of, repeats, with_pair, with_pairs, with_section}
 use Rattle.crm_parse.specs.Reading.{Words}
-use Rattle.crm_parse.specs.Texts.{is}
 use Rattle.crm_parse.proofs.Binds.{unless-ok}
 use Rattle.faults.proofs.Steps.{bind-ok}
 use Rattle.crm_parse.proofs.PairWords.{pair_word, pair_word-differs, kv_of-word}

@@ -5,11 +5,12 @@ use Rattle.std.specs.List.{list_any, position_or_len}
 use Rattle.std.proofs.Math.Seq.{take-append_seam, drop-append-add}
 use Rattle.std.proofs.lemmas.List.{length-append}
 use Rattle.std.proofs.lemmas.Bool.{or_parts, or_from, or_left, or_right, false≢true, false_from_ne_true, lt-ltb, ltb-true, eq-eqb, eqb-true}
+use Rattle.crm_lex.specs.Names.{is}
 use Rattle.crm_parse.specs.declared.pair.Kv.{Kv}
 use Rattle.crm_parse.specs.declared.place.Place.{Place}
 use Rattle.crm_parse.specs.Keys.{accepts, stray}
 use Rattle.crm_parse.specs.Pairs.{kv_of, pair_of}
-use Rattle.crm_parse.specs.Texts.{cut_at, place_of, is}
+use Rattle.crm_parse.specs.Texts.{cut_at, place_of}
 use Rattle.crm_parse.proofs.Affixes.{some-ok}
 use Rattle.crm_parse.proofs.Binds.{unless-ok, is-true}
 use Rattle.faults.proofs.Steps.{bind-ok}

@@ -3,6 +3,7 @@ use Rattle.std.proofs.Common.{◌≡◌, ℕ, ℤ, ◌≤◌, zero, suc, List, [
 use Rattle.std.specs.Prelude.{codes, is_some}
 use Rattle.std.specs.List.{AllByRecursion, flat_map}
 use Rattle.std.proofs.lemmas.List.{length-append}
+use Rattle.crm_lex.specs.Names.{is}
 use Rattle.crm_parse.specs.declared.expression.Expression.{Expression}
 use Rattle.crm_parse.specs.declared.fault.ParseCause.TheVariants.{ExtraWord, Unsupported}
 use Rattle.crm_parse.specs.declared.rule_form.RuleForm.{RuleForm}
@@ -12,7 +13,7 @@ use Rattle.crm_parse.specs.Keys.{when}
 use Rattle.crm_parse.specs.Location.{all_of, either_at, rule_at, rule_id_at, rule_role_at, rule_score_of, with_rule, with_rules}
 use Rattle.crm_parse.specs.Reading.{Words, prefixed_at, rule_role_of, score_of, some_name, word_at}
 use Rattle.crm_parse.specs.Rules.{expression_at, joiner_at}
-use Rattle.crm_parse.specs.Texts.{after, is}
+use Rattle.crm_parse.specs.Texts.{after}
 use Rattle.crm_parse.proofs.Affixes.{noted_words, prefixed_at-again}
 use Rattle.crm_parse.proofs.Binds.{some_name-ok, unless-ok, ok-same}
 use Rattle.faults.proofs.Steps.{bind-ok}

@@ -2,8 +2,8 @@
 use Rattle.std.proofs.Common.{◌≡◌, ℕ, not, Bool, true, false, List, [], ◌∷◌, ◌++◌, length, None, refl, ap, arith}
 use Rattle.std.specs.List.{list_any, position_or_len, prefix_len}
 use Rattle.std.proofs.lemmas.Bool.{or_parts}
+use Rattle.crm_lex.specs.Names.{is}
 use Rattle.crm_lex.specs.declared.line.Line.{Line}
-use Rattle.crm_parse.specs.Texts.{is}
 use Rattle.crm_parse.specs.Marks.{first_word, begins_with, has_percent, is_mark, misplaced}
 use Rattle.crm_parse.proofs.Binds.{is-true}
 

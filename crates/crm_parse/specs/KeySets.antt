@@ -1,9 +1,9 @@
 -- Keys in a set, beside the list that they come from.
 use Rattle.std.specs.Prelude.{◌≡◌, ℕ, List}
 use Rattle.std.specs.List.{list_any}
+use Rattle.crm_lex.specs.Names.{is}
 use Rattle.name_sets.specs.NameSets.{has}
 use Rattle.crm_parse.specs.declared.pair.Kv.{Kv}
-use Rattle.crm_parse.specs.Texts.{is}
 
 -- the set has the keys of the pairs, and no other
 abbrev pub HasKeysOf : List (List ℕ) → List Kv → Type 0

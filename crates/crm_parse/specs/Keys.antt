@@ -2,6 +2,7 @@
 -- attributes, clone options, operation properties, node attributes; the accepted values are a rule of this project). Any other key is free.
 use Rattle.std.specs.Prelude.{Bool, true, false, not, ◌&&◌, ◌||◌, if◌then◌else◌, int_le, pos, List, ℕ, codes, is_some, Option, Some, None, Result, Ok, Err}
 use Rattle.std.specs.Option.{option_map_or}
+use Rattle.crm_lex.specs.Names.{is}
 use Rattle.score.specs.ScoreText.{read_score}
 use Rattle.crm_parse.specs.declared.fault.ParseCause.{ParseCause}
 use Rattle.crm_parse.specs.declared.fault.ParseCause.TheVariants.{BadScore, BadTime, BadValue, ExtraWord, Unsupported}
@@ -11,7 +12,6 @@ use Rattle.crm_parse.specs.declared.place.Place.{Place}
 use Rattle.crm_parse.specs.declared.place.Place.TheVariants as place
 use Rattle.crm_parse.specs.declared.values.RoleName.{RoleName}
 use Rattle.crm_parse.specs.declared.values.RoleName.TheVariants.{Started, Promoted, Unpromoted, Stopped}
-use Rattle.crm_parse.specs.Texts.{is}
 use Rattle.crm_parse.specs.Values.{bool_of, count_of, role_of, time_of}
 
 -- a value is taken, or refused for this cause

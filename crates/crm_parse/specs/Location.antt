@@ -1,6 +1,7 @@
 -- `location ID RSC [role=ROLE] [resource-discovery=always] SCORE: NODE`, and the same with rules in the place of a score and a node
 -- (crmsh manual, location and rule expressions).
 use Rattle.std.specs.Prelude.{ℕ, zero, suc, ℤ, Bool, true, false, if◌then◌else◌, List, [], ◌∷◌, ◌++◌, length, codes, is_some, Option, Some, None, Result, Ok, Err}
+use Rattle.crm_lex.specs.Names.{is}
 use Rattle.crm_parse.specs.declared.fault.ParseCause.{ParseCause}
 use Rattle.crm_parse.specs.declared.fault.ParseCause.TheVariants.{ExtraWord, Unsupported}
 use Rattle.crm_parse.specs.declared.form.Form.{Form}
@@ -11,7 +12,7 @@ use Rattle.crm_parse.specs.Keys.{when}
 use Rattle.crm_parse.specs.Reading.{Words, end_at, name_at, prefixed_at, resource_of, rule_role_of, score_of, some_name, word_at}
 use Rattle.faults.specs.Reading.{◌>>=◌}
 use Rattle.crm_parse.specs.Rules.{expression_at}
-use Rattle.crm_parse.specs.Texts.{after, is}
+use Rattle.crm_parse.specs.Texts.{after}
 
 abbrev pub some_role : Option (List ℕ) → Result (Option RoleWord) ParseCause
 some_role None = Ok None

@@ -2,6 +2,7 @@
 -- `%results` or `%trace` on. Each of the two lines may be missing, and holds one word (rule of this project).
 use Rattle.std.specs.Prelude.{ℕ, ◌==◌, ◌&&◌, ◌||◌, not, min, Bool, false, if◌then◌else◌, List, [], ◌∷◌, ◌++◌, length, codes, Option, Some, None, Result, Ok, Err}
 use Rattle.std.specs.List.{list_any, position_or_len}
+use Rattle.crm_lex.specs.Names.{is}
 use Rattle.crm_lex.specs.declared.line.Line.{Line}
 use Rattle.crm_parse.specs.declared.fault.ParseCause.TheVariants.{UnknownStatement}
 use Rattle.faults.specs.declared.fault.Fault.{Fault}
@@ -9,7 +10,6 @@ use Rattle.faults.specs.declared.fault.Fault.TheVariants.{At}
 use Rattle.crm_parse.specs.declared.fault.ParseCause.{ParseCause}
 use Rattle.crm_parse.specs.declared.marks.AuditMarks.{AuditMarks}
 use Rattle.crm_parse.specs.declared.marks.SectionMarks.{SectionMarks}
-use Rattle.crm_parse.specs.Texts.{is}
 
 -- the first word of a line
 abbrev pub first_word : List (List ℕ) → List ℕ

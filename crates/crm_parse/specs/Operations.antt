@@ -2,6 +2,7 @@
 use Rattle.std.specs.Prelude.{ℕ, ◌==◌, nat_le, nat_lt, Bool, true, false, not, ◌&&◌, if◌then◌else◌, List, [], ◌∷◌, length, filter, find, codes, unwrap_or, Option, Some, None, Result, Ok, Err}
 use Rattle.std.specs.List.{list_any}
 use Rattle.std.specs.Option.{option_and_then, option_map, option_map_or}
+use Rattle.crm_lex.specs.Names.{is}
 use Rattle.crm_parse.specs.declared.fault.ParseCause.{ParseCause}
 use Rattle.crm_parse.specs.declared.fault.ParseCause.TheVariants.{MissingWord, RepeatedKey, Unsupported}
 use Rattle.crm_parse.specs.declared.pair.Kv.{Kv}
@@ -14,7 +15,7 @@ use Rattle.crm_parse.specs.Keys.{Taken, is_monitor, when}
 use Rattle.crm_parse.specs.Pairs.{with_pair}
 use Rattle.crm_parse.specs.Reading.{Words, name_of}
 use Rattle.faults.specs.Reading.{◌>>=◌}
-use Rattle.crm_parse.specs.Texts.{after, cut_at, is}
+use Rattle.crm_parse.specs.Texts.{after, cut_at}
 use Rattle.crm_parse.specs.Values.{bool_of, time_of}
 
 -- the operation of a name

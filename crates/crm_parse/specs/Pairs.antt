@@ -1,6 +1,7 @@
 -- The pairs of a section (crmsh manual, attribute lists).
 use Rattle.std.specs.Prelude.{ℕ, ◌==◌, Bool, not, ◌&&◌, ◌||◌, if◌then◌else◌, List, [], ◌∷◌, ◌++◌, length, codes, Some, None, Result, Ok, Err}
 use Rattle.std.specs.List.{list_any}
+use Rattle.crm_lex.specs.Names.{is}
 use Rattle.crm_parse.specs.declared.fault.ParseCause.{ParseCause}
 use Rattle.crm_parse.specs.declared.fault.ParseCause.TheVariants.{MissingWord, RepeatedKey, Unsupported}
 use Rattle.crm_parse.specs.declared.pair.Kv.{Kv}
@@ -8,7 +9,7 @@ use Rattle.crm_parse.specs.declared.place.Place.{Place}
 use Rattle.crm_parse.specs.Keys.{accepts, is_clone_meta, is_promoted_max, stray}
 use Rattle.crm_parse.specs.Reading.{Words}
 use Rattle.faults.specs.Reading.{◌>>=◌}
-use Rattle.crm_parse.specs.Texts.{cut_at, is}
+use Rattle.crm_parse.specs.Texts.{cut_at}
 
 -- the key and the value of a word, before and after its first `=`; the key isn't empty
 abbrev pub pair_of : Place → List ℕ → Result (List ℕ × List ℕ) ParseCause

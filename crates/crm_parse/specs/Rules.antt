@@ -2,6 +2,7 @@
 -- A reader of a test also notes its words, after those that were noted before: it gives what it read, the words noted, and the words left.
 use Rattle.std.specs.Prelude.{ℕ, ◌==◌, zero, suc, ℤ, Bool, true, false, not, ◌||◌, if◌then◌else◌, List, [], ◌∷◌, ◌++◌, length, codes, is_some, Option, Some, None, Result, Ok, Err}
 use Rattle.std.specs.Option.{ok_or}
+use Rattle.crm_lex.specs.Names.{is}
 use Rattle.date_rules.specs.declared.rule.Compare.{Compare}
 use Rattle.date_rules.specs.declared.rule.Compare.TheVariants.{Lt, Gt, Lte, Gte, Eq, Ne}
 use Rattle.date_rules.specs.declared.rule.Kind.{Kind}
@@ -18,7 +19,7 @@ use Rattle.crm_parse.specs.declared.fault.ParseCause.TheVariants.{BadValue, Unsu
 use Rattle.crm_parse.specs.Keys.{Taken, when}
 use Rattle.crm_parse.specs.Reading.{Words, word_at}
 use Rattle.faults.specs.Reading.{◌>>=◌}
-use Rattle.crm_parse.specs.Texts.{after, cut_at, is, place_of}
+use Rattle.crm_parse.specs.Texts.{after, cut_at, place_of}
 
 -- the next word, which is noted
 unfoldable pub noted_at : Words → Words → Result (List ℕ × Words × Words) ParseCause

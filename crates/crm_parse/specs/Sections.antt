@@ -1,5 +1,6 @@
 -- The sections of a statement: a section word, and the words up to the next one (crmsh manual, node, primitive, group and clone).
 use Rattle.std.specs.Prelude.{ℕ, ◌==◌, Bool, true, false, ◌&&◌, if◌then◌else◌, List, [], ◌∷◌, ◌++◌, length, codes, is_some, Option, Some, None, Result, Ok, Err}
+use Rattle.crm_lex.specs.Names.{is}
 use Rattle.crm_parse.specs.declared.fault.ParseCause.{ParseCause}
 use Rattle.crm_parse.specs.declared.fault.ParseCause.TheVariants.{ExtraWord}
 use Rattle.crm_parse.specs.declared.owner.Owner.{Owner}
@@ -15,7 +16,6 @@ use Rattle.crm_parse.specs.Operations.{operation_of}
 use Rattle.crm_parse.specs.Pairs.{with_section}
 use Rattle.crm_parse.specs.Reading.{Words}
 use Rattle.faults.specs.Reading.{◌>>=◌}
-use Rattle.crm_parse.specs.Texts.{is}
 
 -- the section that a word begins
 abbrev pub section_word : List ℕ → Option SectionWord

@@ -1,6 +1,7 @@
 -- `property [SET-ID:] KV..`, and `rsc_defaults` and `op_defaults` alike (crmsh manual, property, rsc_defaults and op_defaults).
 use Rattle.std.specs.Prelude.{ℕ, ◌==◌, Bool, true, false, not, ◌&&◌, ◌||◌, if◌then◌else◌, List, [], ◌∷◌, ◌++◌, length, codes, Option, Some, None, Result, Ok, Err}
 use Rattle.std.specs.List.{list_any}
+use Rattle.crm_lex.specs.Names.{is}
 use Rattle.crm_parse.specs.declared.draft.Draft.TheVariants as draft
 use Rattle.crm_parse.specs.declared.draft.DraftStatement.{DraftStatement}
 use Rattle.crm_parse.specs.declared.fault.ParseCause.{ParseCause}
@@ -15,7 +16,7 @@ use Rattle.crm_parse.specs.declared.words.SettingsWord.TheVariants.{Property, Rs
 use Rattle.crm_parse.specs.Pairs.{kv_of, repeats}
 use Rattle.crm_parse.specs.Reading.{Words, given_at}
 use Rattle.faults.specs.Reading.{◌>>=◌}
-use Rattle.crm_parse.specs.Texts.{cut_at, is}
+use Rattle.crm_parse.specs.Texts.{cut_at}
 
 -- the place of the pairs
 abbrev pub settings_place : SettingsWord → Place

@@ -2,6 +2,7 @@
 use Rattle.std.specs.Prelude.{ℕ, ◌||◌, Bool, true, false, if◌then◌else◌, List, [], ◌∷◌, ◌++◌, map, codes, Option, Some, None, Result, Ok, Err}
 use Rattle.std.specs.List.{flat_map, list_any}
 use Rattle.std.specs.Option.{option_map_or}
+use Rattle.crm_lex.specs.Names.{is}
 use Rattle.crm_lex.specs.declared.line.Line.{Line}
 use Rattle.crm_parse.specs.declared.draft.Draft.{Draft}
 use Rattle.crm_parse.specs.declared.draft.Draft.TheVariants as draft
@@ -32,7 +33,6 @@ use Rattle.crm_parse.specs.Primitive.{primitive_at}
 use Rattle.crm_parse.specs.Reading.{Words}
 use Rattle.faults.specs.Reading.{◌>>=◌}
 use Rattle.crm_parse.specs.Settings.{settings_at}
-use Rattle.crm_parse.specs.Texts.{is}
 use Rattle.crm_parse.specs.Values.{bool_of}
 
 -- a statement that is kept and has no effect

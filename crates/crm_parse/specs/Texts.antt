@@ -1,12 +1,8 @@
 -- How a word looks.
-use Rattle.std.specs.Prelude.{ℕ, nat_eq, nat_lt, ◌==◌, ◌+◌, ◌-◌, Bool, if◌then◌else◌, List, length, take, drop, Option, Some, None}
-use Rattle.std.specs.Cmp.Lexicographic.{pointwise}
+use Rattle.std.specs.Prelude.{ℕ, nat_lt, ◌==◌, ◌+◌, ◌-◌, if◌then◌else◌, List, length, take, drop, Option, Some, None}
 use Rattle.std.specs.List.{position_or_len}
 use Rattle.std.specs.Option.{option_map}
-
--- two texts are the same, byte by byte
-abbrev pub is : List ℕ → List ℕ → Bool
-is word text = pointwise nat_eq word text
+use Rattle.crm_lex.specs.Names.{is}
 
 -- what stands after a text with which the word begins
 abbrev pub after : List ℕ → List ℕ → Option (List ℕ)

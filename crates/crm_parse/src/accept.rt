@@ -6,9 +6,9 @@ ghost use Rattle.score.specs.ScoreText.{read_score};
 ghost use Rattle.crm_parse.specs.Keys.{a_bool, a_count, a_policy, a_role, a_score, a_threshold, a_time, a_yes, but_not, not_false, not_true, only, runs_in, when};
 ghost use Rattle.crm_parse.specs.Values.{bool_of};
 
-use crate::reading::is;
 use crate::values::{bool_of, count_of, role_of, time_of};
 use crate::{ParseCause, RoleName};
+use crm_lex::is;
 use score::Score;
 
 /// Takes a value where the test passes, and else refuses it for the cause.

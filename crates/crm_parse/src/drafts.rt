@@ -5,9 +5,8 @@ ghost use Rattle.crm_parse.specs.Settings.{set_before};
 
 use crate::SettingsWord;
 use crate::draft::DraftStatement;
-use crate::reading::is;
 use crate::setting_keys::SettingKeys;
-use crm_lex::{Name, NoMemory};
+use crm_lex::{Name, NoMemory, is};
 use listed::Listed;
 use std::alloc::Global;
 use std::marker::Model;

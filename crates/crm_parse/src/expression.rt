@@ -7,8 +7,8 @@ ghost use Rattle.crm_parse.specs.Rules.{attribute_at, comparable, compare_of, co
 use crate::ParseCause;
 use crate::accept::when;
 use crate::fault::Stop;
-use crate::reading::{after, cut_at, is, place_of, word_at};
-use crm_lex::Name;
+use crate::reading::{after, cut_at, place_of, word_at};
+use crm_lex::{Name, is};
 use date_rules::{Compare, Kind, Test, Text, instant, whole_number};
 use listed::Listed;
 use std::alloc::Global;

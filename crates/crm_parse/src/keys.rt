@@ -9,8 +9,8 @@ use crate::accept::{
     only, runs_in, when,
 };
 use crate::place::{OpName, Place};
-use crate::reading::is;
 use crate::values::role_of;
+use crm_lex::is;
 
 fn leaf_meta(key: &[u8], value: &[u8]) -> Result<(), ParseCause>
     ensures { result ≡ leaf_meta key.now value.now }

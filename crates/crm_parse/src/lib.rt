@@ -55,7 +55,7 @@ pub use marks::{AuditMarks, SectionMarks, audit_sections, sections};
 pub use operations::{interval_of, recurs, value_of};
 pub use pair::{Kv, Operation};
 pub use parser::parse;
-pub use reading::{is, is_name};
+pub use reading::is_name;
 pub use rule_form::RuleForm;
 pub use statement::{Crm, Statement};
 pub use values::{RoleName, action_of, bool_of, count_of, kind_of, role_of, time_of};

@@ -15,10 +15,9 @@ use crate::location::location_at;
 use crate::node::node_at;
 use crate::order::order_at;
 use crate::primitive::primitive_at;
-use crate::reading::is;
 use crate::settings::settings_at;
 use crate::{Form, ParseCause, SettingsWord};
-use crm_lex::Name;
+use crm_lex::{Name, is};
 use listed::Listed;
 use std::alloc::Global;
 

@@ -6,10 +6,10 @@ ghost use Rattle.crm_parse.specs.Location.{begins_rule, discovery_at, discovery_
 ghost use Rattle.faults.specs.Reading.{GivesInLine, Reads};
 
 use crate::fault::Stop;
-use crate::reading::{end_at, is, name_at, prefixed_at, resource_of, score_of, word_at};
+use crate::reading::{end_at, name_at, prefixed_at, resource_of, score_of, word_at};
 use crate::rule::{rules_at, some_role};
 use crate::{Form, ParseCause, RoleWord};
-use crm_lex::Name;
+use crm_lex::{Name, is};
 use score::Score;
 use std::alloc::Global;
 

@@ -3,10 +3,10 @@
 ghost use Rattle.std.specs.Prelude.{◌≡◌, ◌&&◌, ◌==◌, length, filter, find, false, codes, unwrap_or};
 ghost use Rattle.std.specs.List.{list_any};
 ghost use Rattle.std.specs.Option.{option_and_then, option_copied, option_map_or};
+ghost use Rattle.crm_lex.specs.Names.{is};
 ghost use Rattle.crm_parse.specs.Keys.{is_monitor};
 ghost use Rattle.crm_parse.specs.Operations.{has_op, has_room, interval_in, interval_of, is_off, is_single, new_name, op_name, op_pairs, operation_of, recurs, says_no, value_of, with_op_pair, with_op_pairs};
 ghost use Rattle.faults.specs.Reading.{GivesInLine, Reads};
-ghost use Rattle.crm_parse.specs.Texts.{is};
 ghost use Rattle.crm_parse.specs.Values.{time_of};
 
 use crate::accept::when;
@@ -14,10 +14,10 @@ use crate::fault::Stop;
 use crate::keyed_pairs::KeyedPairs;
 use crate::pairs::add_pair;
 use crate::place::{OpName, Place};
-use crate::reading::{after, cut_at, is, name_of};
+use crate::reading::{after, cut_at, name_of};
 use crate::values::{bool_of, time_of};
 use crate::{Kv, Operation, ParseCause};
-use crm_lex::Name;
+use crm_lex::{Name, is};
 use listed::Listed;
 use std::alloc::Global;
 

@@ -8,9 +8,9 @@ use crate::fault::Stop;
 use crate::keyed_pairs::KeyedPairs;
 use crate::keys::{accepts, stray};
 use crate::place::Place;
-use crate::reading::{cut_at, is};
+use crate::reading::cut_at;
 use crate::{Kv, ParseCause};
-use crm_lex::Name;
+use crm_lex::{Name, is};
 use std::alloc::Global;
 
 fn pair_of(place: Place, word: &[u8]) -> Result<(&[u8], &[u8]), ParseCause>

@@ -2,7 +2,7 @@
 
 ghost use Rattle.std.specs.Prelude.{◌≡◌, ◌++◌, ◌∷◌, [], IfOk};
 ghost use Rattle.std.specs.List.{list_any};
-ghost use Rattle.crm_parse.specs.Texts.{is};
+ghost use Rattle.crm_lex.specs.Names.{is};
 
 use crm_lex::{Name, NoMemory};
 use listed::Listed;

@@ -6,7 +6,7 @@ ghost use Rattle.std.specs.Option.{option_copied};
 ghost use Rattle.crm_lex.specs.Names.{is_name, is_name_byte};
 ghost use Rattle.crm_parse.specs.Reading.{begins_set, colon_at, description_at, end_at, given_at, name_at, name_of, prefixed_at, resource_of, rule_role_of, score_of, some_name, supported, word_at};
 ghost use Rattle.faults.specs.Reading.{GivesInLine, Reads};
-ghost use Rattle.crm_parse.specs.Texts.{after, before, cut_at, is, place_of};
+ghost use Rattle.crm_parse.specs.Texts.{after, before, cut_at, place_of};
 
 use crate::fault::Stop;
 use crate::values::role_of;
@@ -17,13 +17,6 @@ use std::alloc::Global;
 
 /// The most bytes of a name.
 const LONGEST_NAME: usize = 256;
-
-/// Whether the word is this text, byte by byte.
-pub fn is(word: &[u8], text: &[u8]) -> bool
-    ensures { result ≡ is word.now text.now }
-{
-    word == text
-}
 
 /// What stands after a text with which the word begins.
 pub fn after<'a>(text: &[u8], word: &'a [u8]) -> Option<&'a [u8]>

@@ -11,9 +11,8 @@ use crate::operations::operation_of;
 use crate::owner::{Owner, SectionWord};
 use crate::pairs::add_section;
 use crate::place::Place;
-use crate::reading::is;
 use crate::{Operation, ParseCause};
-use crm_lex::Name;
+use crm_lex::{Name, is};
 use listed::Listed;
 use std::alloc::Global;
 

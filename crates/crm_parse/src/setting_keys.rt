@@ -2,11 +2,11 @@
 
 ghost use Rattle.std.specs.Prelude.{◌≡◌, ◌||◌, ℕ, List, false, OnOk};
 ghost use Rattle.std.specs.List.{list_any};
+ghost use Rattle.crm_lex.specs.Names.{is};
 ghost use Rattle.crm_parse.specs.declared.words.SettingsWord.{SettingsWord as Kind};
 ghost use Rattle.crm_parse.specs.GivenKeys.{gives, AddsSettings};
 ghost use Rattle.name_sets.specs.NameSets.{has};
 ghost use Rattle.crm_parse.specs.Settings.{is_same_settings, sets};
-ghost use Rattle.crm_parse.specs.Texts.{is};
 
 use crate::draft::{Draft, DraftStatement};
 use crate::{Form, Kv, SettingsWord};

@@ -1,15 +1,11 @@
 -- The nodes and leaves of a cluster by their names. In a valid cluster no two nodes have one name, and no two leaves, so the first of a name is
 -- the one of this name.
-use Rattle.std.specs.Prelude.{ℕ, nat_eq, nat_lt, Bool, if◌then◌else◌, List, length, Option, Some, None}
-use Rattle.std.specs.Cmp.Lexicographic.{pointwise}
+use Rattle.std.specs.Prelude.{ℕ, nat_lt, Bool, if◌then◌else◌, List, length, Option, Some, None}
 use Rattle.std.specs.List.{position_or_len}
+use Rattle.crm_lex.specs.Names.{is}
 use Rattle.cluster_types.specs.declared.cluster.Cluster.{Cluster}
 use Rattle.cluster_types.specs.declared.leaf.Leaf.{Leaf}
 use Rattle.cluster_types.specs.declared.node.Node.{Node}
-
--- two texts are the same, byte by byte
-abbrev pub is : List ℕ → List ℕ → Bool
-is word text = pointwise nat_eq word text
 
 -- the place of the first that passes
 abbrev pub place_of : {X : Type 0} → (X → Bool) → List X → Option ℕ

@@ -1,11 +1,12 @@
 -- How the words of a line are read, by their places: what a word stands for, or the cause at the first word that is faulty (rule of this project).
 use Rattle.std.specs.Prelude.{ℕ, Bool, true, false, if◌then◌else◌, List, codes, slice_get, Option, Some, None, Result, Ok, Err}
 use Rattle.std.specs.Option.{ok_or}
+use Rattle.crm_lex.specs.Names.{is}
 use Rattle.cluster_types.specs.declared.cluster.Cluster.{Cluster}
 use Rattle.faults.specs.Reading.{◌>>=◌}
 use Rattle.line_words.specs.declared.cause.WordCause.{WordCause}
 use Rattle.line_words.specs.declared.cause.WordCause.TheVariants.{MissingWord, ExtraWord, BadValue, UnknownName}
-use Rattle.line_words.specs.Names.{is, leaf_of, node_of}
+use Rattle.line_words.specs.Names.{leaf_of, node_of}
 use Rattle.line_words.specs.Numbers.{code_of, number_of, seconds_of}
 
 abbrev pub Words : Type 0

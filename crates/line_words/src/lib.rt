@@ -18,4 +18,4 @@ pub use by_place::Words;
 pub use cause::WordCause;
 pub use names::{leaf_of, node_of};
 pub use numbers::{code_of, interval_of, number_of, seconds_of};
-pub use places::{code_at, end_at, is, leaf_at, node_at, number_at, seconds_at, word_at, yes_at};
+pub use places::{code_at, end_at, leaf_at, node_at, number_at, seconds_at, word_at, yes_at};

@@ -1,30 +1,25 @@
 //! The nodes and leaves of a cluster by their names.
 
 ghost use Rattle.std.specs.Prelude.{◌≡◌, ◌<◌, length, IfSome};
+ghost use Rattle.crm_lex.specs.Names.{is};
 ghost use Rattle.cluster_types.specs.Valid.{KeepsLimits};
-ghost use Rattle.line_words.specs.Names.{is, leaf_of, node_of};
+ghost use Rattle.line_words.specs.Names.{leaf_of, node_of};
 
 use cluster_types::{Cluster, LeafId, NodeId};
-use crm_lex::Name;
-
-fn is(name: &Name, word: &[u8]) -> bool
-    ensures { result ≡ is name.now word.now }
-{
-    name.bytes() == word
-}
+use crm_lex::is;
 
 fn place_of_node(cluster: &Cluster, word: &[u8]) -> Option<usize>
     ensures value { result ≡ node_of cluster.now word.now }
     ensures within { IfSome result (λ place. place < length cluster.now.nodes) }
 {
-    cluster.nodes.iter().position(|node| is(&node.name, word))
+    cluster.nodes.iter().position(|node| is(node.name.bytes(), word))
 }
 
 fn place_of_leaf(cluster: &Cluster, word: &[u8]) -> Option<usize>
     ensures value { result ≡ leaf_of cluster.now word.now }
     ensures within { IfSome result (λ place. place < length cluster.now.leaves) }
 {
-    cluster.leaves.iter().position(|leaf| is(&leaf.name, word))
+    cluster.leaves.iter().position(|leaf| is(leaf.name.bytes(), word))
 }
 
 /// The number of the node with this name. None when the cluster has no such node. The time grows with the number of nodes.

@@ -1,22 +1,16 @@
 //! What stands at a place of a line, counted from 0. `MissingWord` comes when the line ends before it, but not of `end_at`.
 
 ghost use Rattle.std.specs.Prelude.{◌≡◌, ◌<◌, ◌^◌, length, IfOk};
+ghost use Rattle.crm_lex.specs.Names.{is};
 ghost use Rattle.cluster_types.specs.Valid.{KeepsLimits};
 ghost use Rattle.faults.specs.Reading.{Reads};
-ghost use Rattle.line_words.specs.Names.{is};
 ghost use Rattle.line_words.specs.Places.{code_at, end_at, leaf_at, node_at, number_at, seconds_at, word_at, yes_at, yes_or_no};
 
 use crate::names::{leaf_of, node_of};
 use crate::numbers::{code_of, number_of, seconds_of};
 use crate::{WordCause, Words};
 use cluster_types::{Cluster, LeafId, NodeId};
-
-/// Whether the word is this text, byte by byte.
-pub fn is(word: &[u8], text: &[u8]) -> bool
-    ensures { result ≡ is word.now text.now }
-{
-    word == text
-}
+use crm_lex::is;
 
 /// The word at this place.
 pub fn word_at<W: Words>(place: usize, words: &W) -> Result<&[u8], WordCause>

@@ -3,7 +3,7 @@ use Rattle.std.proofs.Common.{◌≡◌, ◌+◌, ◌<◌, ◌^◌, true, Result
 use Rattle.cluster_types.specs.declared.journal.Answer.{Answer}
 use Rattle.faults.specs.declared.fault.Fault.{Fault}
 use Rattle.faults.specs.declared.fault.Fault.TheVariants.{At, NoMemory}
-use Rattle.op_history.specs.Results.{seconds_in}
+use Rattle.cluster_types.specs.Answering.{seconds_in}
 use Rattle.op_history.specs.declared.fault.ResultCause.{ResultCause}
 use Rattle.live_lines.specs.Saying.{Fits, answer_says, is_last, refused_for}
 use Rattle.live_lines.specs.declared.line_stop.LineCause.{LineCause}

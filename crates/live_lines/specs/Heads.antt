@@ -1,6 +1,7 @@
 -- The head of an input: its logical lines up to the one that begins the results, or all where none does (rule of this project).
 use Rattle.std.specs.Prelude.{◌≡◌, ℕ, ◌+◌, ◌-◌, ◌^◌, ◌≤◌, Bool, true, false, if◌then◌else◌, Option, Some, None, Result, Ok, Err, List, [], ◌∷◌, ◌++◌, length, codes, option_map, IfSome}
 use Rattle.std.specs.List.{concat}
+use Rattle.crm_lex.specs.Names.{is}
 use Rattle.cluster_io.specs.NextLine.{holds_line, line_answer, IsUndecided}
 use Rattle.cluster_io.specs.Readings.{Reading}
 use Rattle.cluster_io.specs.declared.line_step.LineStep.{LineStep}
@@ -11,7 +12,6 @@ use Rattle.crm_lex.specs.declared.fault.LexCause.{LexCause}
 use Rattle.crm_lex.specs.declared.fault.LexCause.TheVariants.{LineTooLong}
 use Rattle.faults.specs.declared.fault.Fault.{Fault}
 use Rattle.faults.specs.declared.fault.Fault.TheVariants.{At, NoMemory}
-use Rattle.line_words.specs.Names.{is}
 use Rattle.live_lines.specs.Followed.{bytes_of, count_lines}
 use Rattle.live_lines.specs.declared.head.HeadStop.{HeadStop}
 use Rattle.live_lines.specs.declared.head.HeadStop.TheVariants as stop

@@ -11,7 +11,8 @@ use Rattle.crm_lex.specs.declared.fault.LexCause.{LexCause}
 use Rattle.crm_lex.specs.declared.fault.LexCause.TheVariants.{LineTooLong}
 use Rattle.faults.specs.declared.fault.Fault.{Fault}
 use Rattle.faults.specs.declared.fault.Fault.TheVariants.{At, NoMemory}
-use Rattle.op_history.specs.Results.{result_of, seconds_in}
+use Rattle.cluster_types.specs.Answering.{seconds_in}
+use Rattle.op_history.specs.Results.{result_of}
 use Rattle.op_history.specs.declared.fault.ResultCause.{ResultCause}
 use Rattle.live_lines.specs.declared.line_stop.LineCause.{LineCause}
 use Rattle.live_lines.specs.declared.line_stop.LineCause.TheVariants as cause

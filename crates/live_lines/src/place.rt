@@ -1,11 +1,9 @@
 //! The place of a result line among the others.
 
 ghost use Rattle.std.specs.Prelude.{◌≡◌, ◌+◌, ◌<◌, ◌≤◌, ◌^◌};
-ghost use Rattle.op_history.specs.Results.{seconds_in};
 ghost use Rattle.live_lines.specs.Saying.{Fits, place_behind};
 
 use crate::said::Said;
-use cluster_types::Answer;
 
 /// The place of a result line.
 #[derive(Clone, Copy, Debug, PartialEq, Eq)]
@@ -18,16 +16,6 @@ pub(crate) struct Place {
     pub(crate) line: u64,
 }
 
-/// The seconds that an answer lets go by.
-fn seconds_in(answer: Answer) -> u64
-    ensures { result ≡ seconds_in answer }
-{
-    match answer {
-        Answer::Wait { seconds } => seconds,
-        _ => 0,
-    }
-}
-
 impl Place {
     /// The place behind a line that says this and has so many physical lines.
     pub(crate) fn behind(self, said: Said, lines: usize) -> Place
@@ -38,7 +26,7 @@ impl Place {
         let line = self.line + lines as u64;
         match said {
             Said::Answer(answer) => Place {
-                moment: self.moment + seconds_in(answer),
+                moment: self.moment + answer.seconds(),
                 before: self.before + 1,
                 line,
             },

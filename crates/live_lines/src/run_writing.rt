@@ -14,7 +14,7 @@ ghost use Rattle.live_lines.specs.Writing.{Puts};
 ghost use Rattle.trace_text.specs.RunLines.{HasName, HasShortNames, line_of};
 
 use cluster_io::{Sink, WriteFault, write_text};
-use cluster_types::{Cluster, LeafId, NoReason, NodeId, Pin, Placed, Table, Target};
+use cluster_types::{Cluster, LeafId, NoReason, NodeId, Pin, Placed, Table, Target, pin_of};
 use trace_text::{RunLineRef, write_line};
 
 /// Writes a line, by one `write_text`.
@@ -54,15 +54,6 @@ fn put_pin<W: Sink>(
     match pin {
         Some(pin) => put(cluster, sink, &RunLineRef::Pinned(leaf, pin)),
         None => Ok(()),
-    }
-}
-
-fn pin_of(pins: &[Option<Pin>], leaf: LeafId) -> Option<Pin>
-    ensures { result ≡ unwrap_or (slice_get pins.now leaf) None }
-{
-    match pins.get(leaf as usize) {
-        Some(pin) => *pin,
-        None => None,
     }
 }
 

@@ -56,10 +56,7 @@ fn empty_row(alloc: Global, nodes: u32) -> Result<Row, NoMemory>
     requires { nodes ≤ 256 }
     ensures { IfOk result (IsRow nodes (λ n. [])) }
 {
-    match Row::zeros(alloc, nodes) {
-        Ok(row) => Ok(row),
-        Err(_) => Err(NoMemory),
-    }
+    Row::zeros(alloc, nodes)
 }
 
 /// The row of what the colocations that count give the decision on each node.

@@ -1,6 +1,7 @@
 -- The first journal that a status says is in order and has nothing in flight.
 use Rattle.std.proofs.Common.{◌≡◌, ℕ, nat_lt, ◌==◌, Bool, true, false, if◌then◌else◌, List, [], ◌∷◌, length, codes, Result, Ok, Err, IfOk, refl, sym, subst}
 use Rattle.std.specs.List.{list_all}
+use Rattle.crm_lex.specs.Names.{is}
 use Rattle.lemmas.proofs.Results.{by_result}
 use Rattle.crm_lex.specs.declared.line.Line.{Line}
 use Rattle.cluster_types.specs.declared.cluster.Cluster.{Cluster}
@@ -16,7 +17,6 @@ use Rattle.cluster_types.specs.Fields.{monitors}
 use Rattle.cluster_types.specs.Answering.{role_of_interval}
 use Rattle.cluster_types.specs.Journals.{Orderly, in_flight, is_reported}
 use Rattle.faults.specs.Reading.{◌>>=◌, faulting, on_line}
-use Rattle.line_words.specs.Names.{is}
 use Rattle.line_words.specs.Places.{Words, end_at, leaf_at, node_at, seconds_at, word_at, yes_at}
 use Rattle.line_words.proofs.Bounds.{node_known, seconds_small}
 use Rattle.line_words.proofs.Steps.{any_step, either_way, step}

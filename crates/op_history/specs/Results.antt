@@ -1,9 +1,11 @@
 -- The result lines: what each of them answers (rule of this project).
 use Rattle.std.specs.Prelude.{ℕ, ◌+◌, ◌^◌, nat_lt, if◌then◌else◌, List, [], ◌∷◌, ◌++◌, length, sum_by, codes, Result, Ok, Err}
+use Rattle.crm_lex.specs.Names.{is}
 use Rattle.crm_lex.specs.declared.line.Line.{Line}
 use Rattle.cluster_types.specs.declared.cluster.Cluster.{Cluster}
 use Rattle.cluster_types.specs.declared.journal.Answer.{Answer}
 use Rattle.cluster_types.specs.declared.journal.Answer.TheVariants as answer
+use Rattle.cluster_types.specs.Answering.{seconds_in}
 use Rattle.op_history.specs.declared.answers.ResultWord.{ResultWord}
 use Rattle.op_history.specs.declared.answers.ResultWord.TheVariants.{End, Timeout, Lost, Up, Quorum, Wait, Report}
 use Rattle.faults.specs.declared.fault.Fault.{Fault}
@@ -11,7 +13,6 @@ use Rattle.faults.specs.declared.fault.Fault.TheVariants.{At}
 use Rattle.faults.specs.Reading.{◌>>=◌, faulting, on_line}
 use Rattle.line_words.specs.declared.cause.WordCause.{WordCause}
 use Rattle.line_words.specs.declared.cause.WordCause.TheVariants.{BadValue, UnknownStatement}
-use Rattle.line_words.specs.Names.{is}
 use Rattle.line_words.specs.Places.{Words, code_at, end_at, leaf_at, node_at, number_at, seconds_at, word_at, yes_at}
 use Rattle.op_history.specs.declared.fault.ResultCause.{ResultCause}
 use Rattle.op_history.specs.declared.fault.ResultCause.TheVariants.{TooManyResults}
@@ -112,11 +113,6 @@ most_results = 10000
 abbrev pub result_of : Cluster → ℕ → ℕ → ℕ → Words → Result Answer (Fault ResultCause)
 result_of c moment before line words =
     if nat_lt before most_results then faulting result_cause (on_line line (answer_of c moment words)) else Err (At line TooManyResults)
-
--- the seconds that an answer lets go by
-abbrev pub seconds_in : Answer → ℕ
-seconds_in (answer.Wait seconds) = seconds
-seconds_in _ = 0
 
 -- the moment after some results, which began at a moment
 abbrev pub moment_after : ℕ → List ResultLine → ℕ

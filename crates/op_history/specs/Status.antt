@@ -1,6 +1,7 @@
 -- The lines of a status: what each of them tells (Pacemaker Explained, operation history; the lines are a rule of this project).
 use Rattle.std.specs.Prelude.{ℕ, ◌==◌, Bool, true, if◌then◌else◌, List, codes, Option, Some, None, option_map, Result, Ok, Err, ℤ}
 use Rattle.std.specs.Option.{ok_or}
+use Rattle.crm_lex.specs.Names.{is}
 use Rattle.score.specs.ScoreText.{read_score}
 use Rattle.cluster_types.specs.declared.cluster.Cluster.{Cluster}
 use Rattle.cluster_types.specs.declared.journal.Action.{Action}
@@ -17,7 +18,6 @@ use Rattle.digits.specs.Digits.{number_up_to}
 use Rattle.faults.specs.Reading.{◌>>=◌}
 use Rattle.line_words.specs.declared.cause.WordCause.{WordCause}
 use Rattle.line_words.specs.declared.cause.WordCause.TheVariants.{BadValue, UnknownStatement}
-use Rattle.line_words.specs.Names.{is}
 use Rattle.line_words.specs.Numbers.{code_of, interval_of}
 use Rattle.line_words.specs.Places.{Words, end_at, leaf_at, node_at, seconds_at, word_at, yes_at}
 use Rattle.op_history.specs.declared.status_lines.StatusWord.{StatusWord}

@@ -1,12 +1,14 @@
 //! What one result line answers.
 
 ghost use Rattle.std.specs.Prelude.{◌≡◌, ◌+◌, ◌<◌, ◌^◌, IfOk};
+ghost use Rattle.cluster_types.specs.Answering.{seconds_in};
 ghost use Rattle.cluster_types.specs.Valid.{KeepsLimits};
-ghost use Rattle.op_history.specs.Results.{answer_as, answer_of, end_line, in_time, lost_line, quorum_line, report_line, result_word, seconds_in, timeout_line, up_line, wait_line};
+ghost use Rattle.op_history.specs.Results.{answer_as, answer_of, end_line, in_time, lost_line, quorum_line, report_line, result_word, timeout_line, up_line, wait_line};
 
 use cluster_types::{Answer, Cluster};
+use crm_lex::is;
 use line_words::{
-    WordCause, Words, code_at, end_at, is, leaf_at, node_at, number_at, seconds_at, word_at, yes_at,
+    WordCause, Words, code_at, end_at, leaf_at, node_at, number_at, seconds_at, word_at, yes_at,
 };
 
 /// The forms of result lines.

@@ -2,11 +2,12 @@
 
 ghost use Rattle.std.specs.Prelude.{◌≡◌, ◌≢◌, ◌<◌, ◌^◌, ◌+◌, List, ℕ, length, IfErr, IfOk};
 ghost use Rattle.crm_lex.specs.Reading.{kept};
+ghost use Rattle.cluster_types.specs.Answering.{seconds_in};
 ghost use Rattle.cluster_types.specs.Journals as journals;
 ghost use Rattle.cluster_types.specs.Valid.{KeepsLimits};
 ghost use Rattle.faults.specs.declared.fault.Fault.TheVariants as found;
 ghost use Rattle.faults.specs.Reading.{Gives};
-ghost use Rattle.op_history.specs.Results.{most_results, result_of, results_of, seconds_in};
+ghost use Rattle.op_history.specs.Results.{most_results, result_of, results_of};
 
 use crate::answers::answer_of;
 use crate::{ResultCause, ResultFault};
@@ -24,15 +25,6 @@ pub struct ResultLine {
     /// The physical line, counted from 1, where the logical line begins.
     pub line: u32,
     pub answer: Answer,
-}
-
-fn seconds_in(answer: Answer) -> u64
-    ensures { result ≡ seconds_in answer }
-{
-    match answer {
-        Answer::Wait { seconds } => seconds,
-        _ => 0,
-    }
 }
 
 /// What a line answers, at a moment and after so many result lines.
@@ -112,7 +104,7 @@ pub fn read_results(
             line: line.line,
             answer,
         })?;
-        moment += seconds_in(answer);
+        moment += answer.seconds();
     }
     Ok(results)
 }

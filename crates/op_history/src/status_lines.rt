@@ -10,10 +10,10 @@ ghost use Rattle.op_history.specs.Status.{action_as, cleanup_line, fitting, inte
 
 use crate::told::{NodeWord, Told};
 use cluster_types::{Action, Cluster, Event, LeafId, NodeId, Op, Outcome, Promotion, Role};
+use crm_lex::is;
 use digits::number_up_to;
 use line_words::{
-    WordCause, Words, code_of, end_at, interval_of, is, leaf_at, node_at, seconds_at, word_at,
-    yes_at,
+    WordCause, Words, code_of, end_at, interval_of, leaf_at, node_at, seconds_at, word_at, yes_at,
 };
 use score::Score;
 

@@ -13,12 +13,11 @@ use Rattle.cluster_types.specs.declared.placement.Target.{Target}
 use Rattle.cluster_types.specs.declared.run.RunLine.{RunLine}
 use Rattle.cluster_types.specs.declared.run.RunLine.TheVariants as line
 use Rattle.crm_lex.specs.declared.line.Line.{Line}
-use Rattle.crm_lex.specs.Names.{is_name}
+use Rattle.crm_lex.specs.Names.{is, is_name}
 use Rattle.faults.specs.declared.fault.Fault.{Fault}
 use Rattle.faults.specs.Reading.{◌>>=◌, on_line}
 use Rattle.line_words.specs.declared.cause.WordCause.{WordCause}
 use Rattle.line_words.specs.declared.cause.WordCause.TheVariants.{BadValue}
-use Rattle.line_words.specs.Names.{is}
 use Rattle.line_words.specs.Places.{Words, end_at, leaf_at, node_at, number_at, word_at}
 use Rattle.run_lines.specs.declared.text.RunTextLine.{RunTextLine}
 use Rattle.run_lines.specs.declared.words.ActionWord.{ActionWord}

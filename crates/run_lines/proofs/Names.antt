@@ -13,8 +13,8 @@ use Rattle.cluster_types.specs.declared.node.Node.{Node}
 use Rattle.cluster_types.specs.Fields.{leaf_name}
 use Rattle.cluster_types.specs.Texts.{node_name}
 use Rattle.cluster_types.specs.Valid.{IsValid}
-use Rattle.crm_lex.specs.Names.{is_name}
-use Rattle.line_words.specs.Names.{is, leaf_of, node_of, place_of}
+use Rattle.crm_lex.specs.Names.{is, is_name}
+use Rattle.line_words.specs.Names.{leaf_of, node_of, place_of}
 
 itself : (word : List ℕ) → is word word ≡ true
 itself [] = refl

@@ -8,11 +8,10 @@ use Rattle.cluster_types.specs.declared.placement.Pin.{Pin}
 use Rattle.cluster_types.specs.declared.placement.Pin.TheVariants.{Unmanaged, Blocked}
 use Rattle.cluster_types.specs.declared.placement.Target.{Target}
 use Rattle.cluster_types.specs.declared.placement.Target.TheVariants as target
-use Rattle.crm_lex.specs.Names.{is_name}
+use Rattle.crm_lex.specs.Names.{is, is_name}
 use Rattle.faults.specs.Reading.{◌>>=◌}
 use Rattle.line_words.specs.declared.cause.WordCause.{WordCause}
 use Rattle.line_words.specs.declared.cause.WordCause.TheVariants.{BadValue}
-use Rattle.line_words.specs.Names.{is}
 use Rattle.line_words.specs.Places.{Words, word_at}
 use Rattle.run_lines.specs.declared.words.ActionWord.{ActionWord}
 use Rattle.run_lines.specs.declared.words.ActionWord.TheVariants as action

@@ -1,6 +1,7 @@
 -- How the lines of a run are read, by their words, and at which word they are faulty (rule of this project).
 use Rattle.std.specs.Prelude.{ℕ, if◌then◌else◌, List, [], ◌∷◌, ◌++◌, codes, Result, Ok}
 use Rattle.std.specs.Option.{ok_or}
+use Rattle.crm_lex.specs.Names.{is}
 use Rattle.cluster_types.specs.declared.cluster.Cluster.{Cluster}
 use Rattle.cluster_types.specs.declared.journal.Action.{Action}
 use Rattle.cluster_types.specs.declared.journal.Action.TheVariants.{Fence, Probe, Cell, MigrateTo, MigrateFrom}
@@ -15,7 +16,6 @@ use Rattle.faults.specs.declared.fault.Fault.{Fault}
 use Rattle.faults.specs.Reading.{◌>>=◌, on_line}
 use Rattle.line_words.specs.declared.cause.WordCause.{WordCause}
 use Rattle.line_words.specs.declared.cause.WordCause.TheVariants.{BadValue}
-use Rattle.line_words.specs.Names.{is}
 use Rattle.line_words.specs.Places.{Words, end_at, leaf_at, node_at, number_at, word_at}
 use Rattle.op_history.specs.Results.{answer_of}
 use Rattle.run_lines.specs.declared.text.RunTextLine.{RunTextLine}

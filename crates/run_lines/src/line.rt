@@ -9,7 +9,8 @@ ghost use Rattle.run_lines.specs.Said.{said_of};
 use crate::actions::action_as;
 use crate::words::{LineWord, action_word_at, id_at, line_word, pin_at, reason_of, target_at};
 use cluster_types::{Cluster, LeafId, RunLine};
-use line_words::{WordCause, Words, end_at, is, leaf_at, node_at, number_at, word_at};
+use crm_lex::is;
+use line_words::{WordCause, Words, end_at, leaf_at, node_at, number_at, word_at};
 use op_history::answer_of;
 
 /// What a line says, without memory: the id of a rule is lent.

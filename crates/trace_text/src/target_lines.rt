@@ -8,7 +8,7 @@ ghost use Rattle.cluster_types.specs.Texts as texts;
 ghost use Rattle.cluster_types.specs.Valid.{KeepsLimits};
 
 use crate::names::push_leaf_on;
-use cluster_types::{Cluster, LeafId, NoReason, NodeId, Pin, Table, Target};
+use cluster_types::{Cluster, LeafId, NoReason, NodeId, Pin, Table, Target, pin_of};
 use faults::NoMemory;
 
 fn push_pinned(
@@ -42,15 +42,6 @@ fn push_pin(
     match pin {
         Some(pin) => push_pinned(text, cluster, leaf, pin),
         None => Ok(()),
-    }
-}
-
-fn pin_of(pins: &[Option<Pin>], leaf: LeafId) -> Option<Pin>
-    ensures { result ≡ unwrap_or (slice_get pins.now leaf) None }
-{
-    match pins.get(leaf as usize) {
-        Some(pin) => *pin,
-        None => None,
     }
 }
 

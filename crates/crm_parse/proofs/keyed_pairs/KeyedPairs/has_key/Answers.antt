@@ -1,6 +1,6 @@
 use Rattle.std.proofs.Common.{◌≡◌, ◌∙◌, true, false}
 use Rattle.std.specs.List.{list_any}
-use Rattle.crm_parse.specs.Texts.{is}
+use Rattle.crm_lex.specs.Names.{is}
 use Rattle.crm_parse.proofs.KeySets.{found_key, other_key}
 use Rattle.crm_parse.proofs.keyed_pairs.KeyedPairs.has_key.Goals as goal
 
