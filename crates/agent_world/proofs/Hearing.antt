@@ -7,16 +7,10 @@ use Rattle.cluster_types.specs.declared.journal.Event.{Event}
 use Rattle.cluster_types.specs.Cells.{is_reset, is_same_cell}
 use Rattle.cluster_types.specs.CellStates.{last_outcome}
 use Rattle.cluster_types.specs.Failures.{is_outcome}
-use Rattle.cluster_types.proofs.TableCells.{ordered, same_place, get-at}
+use Rattle.cluster_types.proofs.TableCells.{ordered, same_place, get-at, same_cell}
 use Rattle.state_unpack.specs.declared.facts.Facts.{Facts}
 use Rattle.state_unpack.proofs.MoreFacts.{facts-after}
 use Rattle.agent_world.specs.Firsts.{Hears, IsSaidOf}
-
-same_cell : (r n leaf node : ℕ) → (r == leaf && n == node) ≡ is_same_cell r n leaf node
-same_cell r n leaf node = rw (turned r leaf, turned n node) refl
-  where
-    turned : (a b : ℕ) → (a == b) ≡ (b == a)
-    turned a b = grind arith
 
 module _ (c : Cluster) where
   -- the place of a cell that is there

@@ -1,9 +1,10 @@
 -- Sets with the same names find the same faults.
-use Rattle.std.proofs.Common.{◌≡◌, ◌||◌, ◌<◌, ◌+◌, ℕ, nat_eq, Bool, true, false, List, [], ◌∷◌, ◌++◌, length, take, drop, slice_index_or, Option, None, refl, sym, ap, ◌∙◌}
+use Rattle.std.proofs.Common.{◌≡◌, ◌||◌, ◌<◌, ◌+◌, ℕ, nat_eq, List, [], ◌∷◌, ◌++◌, length, take, drop, slice_index_or, Option, None, refl, sym, ap, ◌∙◌}
 use Rattle.std.specs.Cmp.Lexicographic.{pointwise}
 use Rattle.std.specs.List.{list_any}
 use Rattle.std.proofs.lemmas.List.{append-nil, append_assoc, drop_more, take_more}
 use Rattle.std.proofs.lemmas.List.Folds.{list_any-append}
+use Rattle.std.proofs.Math.Bool.{or-false}
 use Rattle.name_sets.specs.NameSets.{IsWith, has}
 use Rattle.crm_parse.specs.declared.form.Form.{Form}
 use Rattle.crm_parse.specs.declared.statement.Statement.{Statement}
@@ -16,13 +17,9 @@ use Rattle.clone_expand.specs.Settings.{nodes_in}
 pub has-more : (one more : List (List ℕ)) (name : List ℕ) → has (one ++ more) name ≡ (has one name || has more name)
 has-more one more name = list_any-append (λ (each : List ℕ). pointwise nat_eq each name) one more
 
-or-false : (a : Bool) → a ≡ (a || false)
-or-false true = refl
-or-false false = refl
-
 pub with_one : (old : List (List ℕ)) (name : List ℕ) (new : List (List ℕ)) → IsWith old name new → HaveTheSame new (old ++ name ∷ [])
 with_one old name new h x =
-    h x ∙ (ap (λ b. has old x || b) (or-false (pointwise nat_eq name x)) ∙ sym (has-more old (name ∷ []) x))
+    h x ∙ (ap (λ b. has old x || b) (sym (or-false (pointwise nat_eq name x))) ∙ sym (has-more old (name ∷ []) x))
 
 pub with_none : (old : List (List ℕ)) → HaveTheSame old (old ++ [])
 with_none old x = ap (λ (names : List (List ℕ)). has names x) (sym (append-nil old))

@@ -4,7 +4,7 @@ use Rattle.std.proofs.lemmas.List.{drop_at, take_at}
 use Rattle.std.proofs.lemmas.Str.{IsCharBoundary-after_ascii, IsCharBoundary-before_ascii, IsUtf8-append, IsUtf8-drop, IsUtf8-from_ascii, IsUtf8-take, IsUtf8-nil}
 use Rattle.std.specs.List.{list_any, list_all, AllByRecursion}
 use Rattle.std.specs.Str.{IsUtf8, IsAscii}
-use Rattle.std.proofs.lemmas.Bool.{and_parts, or_parts}
+use Rattle.std.proofs.lemmas.Bool.{and_parts, or_parts, not-true}
 use Rattle.crm_lex.specs.LogicalLines.{is_control}
 use Rattle.crm_lex.specs.Names.{is_name, is_name_byte}
 
@@ -79,11 +79,7 @@ abbrev pub is_clean_byte : ℕ → Bool
 is_clean_byte b = nat_lt b 128 && not (is_control b)
 
 clean_byte : (b : ℕ) → is_clean_byte b ≡ true → (b < 128) × (is_control b ≡ false)
-clean_byte b h = let k = and_parts (nat_lt b 128) (not (is_control b)) h in (grind arith, denied (is_control b) k.1)
-  where
-    denied : (t : Bool) → not t ≡ true → t ≡ false
-    denied true h = cc
-    denied false h = refl
+clean_byte b h = let k = and_parts (nat_lt b 128) (not (is_control b)) h in (grind arith, not-true (is_control b) k.1)
 
 ascii_bytes : (xs : List ℕ) → list_all is_clean_byte xs ≡ true → IsAscii xs
 ascii_bytes [] h i = omega arith

@@ -1,5 +1,5 @@
 -- Links lead from the decisions that are needed, and a decision that no link holds needs none that isn't made.
-use Rattle.std.proofs.Common.{◌≡◌, ℕ, ◌*◌, ◌<◌, ◌==◌, ◌&&◌, ◌||◌, not, Bool, true, false, if◌then◌else◌, List, [], ◌∷◌, length, slice_index_or, Contains, Any, eqb-true, refl, sym, ap, subst, ◌∙◌, inl, inr}
+use Rattle.std.proofs.Common.{◌≡◌, ◌*◌, ◌<◌, ◌==◌, ◌&&◌, ◌||◌, not, Bool, true, false, if◌then◌else◌, List, [], ◌∷◌, length, slice_index_or, Contains, Any, eqb-true, refl, sym, ap, subst, ◌∙◌, inl, inr}
 use Rattle.std.specs.List.{flat_map, list_all, list_any}
 use Rattle.std.proofs.lemmas.Bool.{and_from, eq-eqb, false_from_ne_true, false≢true, or_right}
 use Rattle.std.proofs.lemmas.List.Elements.{Contains-append_cases, Contains-append_left, Contains-append_right}
@@ -18,6 +18,8 @@ use Rattle.cluster_types.specs.declared.rules.Colocation.{Colocation}
 use Rattle.cluster_types.specs.Decisions.{decision_of, is_place, is_same_decision, joins, leaf_of, needs}
 use Rattle.cluster_types.specs.Graphs.{EndWithin}
 use Rattle.cluster_types.specs.Valid.{IsValid}
+use Rattle.plan_laws.proofs.Ready.{needs_place}
+use Rattle.plan_laws.proofs.MadeInPlace.{among}
 use Rattle.decision_order.specs.Flags.{AreFlags, slot_of}
 use Rattle.decision_order.specs.Links.{link, links_in, promote_links, rule_links}
 use Rattle.decision_order.specs.Needing.{is_among}
@@ -28,10 +30,7 @@ use Rattle.decision_order.proofs.SameDecisions.{role-within, same-turned}
 
 -- what is decided stands in the list
 pub in-among : (ds : List Decision) (d : Decision) → is_among ds d ≡ true → Contains ds d
-in-among ds d h = at (Any-from_list_any (is_same_decision d) ds h)
-  where
-    at : Any (λ x. is_same_decision d x ≡ true) ds → Contains ds d
-    at (k, x, lt, is, same) = let e : d ≡ x = same_decision d x same in rw e (k, lt, is)
+in-among ds d h = among ds d h
 
 -- a need by a colocation
 pub needs_rule : (c : Cluster) (d : Decision) (col : Colocation) → Contains c.colocations col → is_same_decision (decision_of col.primary col.primary_role) d ≡ true
@@ -40,9 +39,6 @@ needs_rule c d col there same =
     let f = decision_of col.dependent col.dependent_role in
     or_right (not (is_place f) && is_same_decision d (Place (leaf_of f))) _
     (passes_by (joins f d) c.colocations col there (and_from (is_same_decision f f) _ (is_itself f) (same-turned d (decision_of col.primary col.primary_role) ∙ same)))
-
-pub needs_place : (c : Cluster) (r : ℕ) → needs c (Promote r) (Place r) ≡ true
-needs_place c r = rw (is_itself (Place r)) refl
 
 module _ (c : Cluster) (valid : IsValid c) (ds : List Decision) (low : (d : Decision) → Contains ds d → leaf_of d < length c.leaves) where
   abbrev links : List Edge

@@ -1,7 +1,7 @@
 -- Which places of a queue are ready, with one position more taken.
 use Rattle.std.proofs.Common.{arith, ◌≡◌, ◌≢◌, ℕ, ◌+◌, ◌<◌, ◌==◌, ◌&&◌, ◌||◌, not, Bool, true, false, Option, Some, None, List, length, count_by, slice_index_or, slice_set, Any, eqb-true, refl, sym, ap, subst, ◌∙◌, inl, inr}
 use Rattle.std.specs.List.{list_any}
-use Rattle.std.proofs.lemmas.Bool.{and_from, cases_eq, eq-eqb, false_from_ne_true, false≢true, or_right}
+use Rattle.std.proofs.lemmas.Bool.{and_from, cases_eq, eq-eqb, false_from_ne_true, false≢true, or_right, or_left, not-true}
 use Rattle.std.proofs.lemmas.List.{get_or-set_same, get_or-set_other}
 use Rattle.std.proofs.lemmas.List.Elements.{Contains-get_or}
 use Rattle.std.proofs.lemmas.List.Folds.{Any-from_list_any}
@@ -19,14 +19,6 @@ place-is places x p h = go (slice_index_or places x None) refl
     go (Some q) e =
         let same : (q == p) ≡ true = rw e at h in
         e ∙ ap Some (eqb-true q p same)
-
-or-first : (a b : Bool) → a ≡ true → a || b ≡ true
-or-first true b h = refl
-or-first false b h = cc
-
-not-true : (b : Bool) → not b ≡ true → b ≡ false
-not-true false h = refl
-not-true true h = cc
 
 -- a position of a row that is free has its place
 module _ (order : List ℕ) (places : List (Option ℕ)) (are : ArePlaces order places) (made : List Bool) (counts : List ℕ) where
@@ -125,7 +117,7 @@ module _ (order : List ℕ) (places : List (Option ℕ)) (are : ArePlaces order 
             let open_was : slice_index_or made x false ≡ false = sym (get_or-set_other made taken x true false apart) ∙ out in
             let was : slice_index_or ready p false ≡ true = readied p lt ∙ and_from (is_at places x p) (is_free made counts x) at
             (and_from (not (slice_index_or made x false)) (slice_index_or counts x 0 == 0) (ap not open_was) (eq-eqb (slice_index_or counts x 0) 0 zero_was)) in
-            or-first (slice_index_or (slice_set ready first false) p false) _ (get_or-set_other ready first p false false other ∙ was)
+            or_left (slice_index_or (slice_set ready first false) p false) _ (get_or-set_other ready first p false false other ∙ was)
           where
             absent : Any (λ y. (x == y) ≡ true) row → ⊥
             absent (i, y, lt_row, is_there, same) =

@@ -7,19 +7,13 @@ use Rattle.std.proofs.lemmas.List.{length-map}
 use Rattle.std.proofs.lemmas.List.Sorted.{Contains-permutation, IsPermutation-sym}
 use Rattle.lemmas.proofs.Members.{in_map, of_map}
 use Rattle.plan_laws.proofs.MadeBefore.{less_somewhere}
-use Rattle.plan_laws.proofs.OneOrder.{less_one_way}
+use Rattle.plan_laws.proofs.OneOrder.{less_one_way, one_way, tie_one_way}
 use Rattle.cluster_types.specs.declared.placement.Decision.{Decision}
 use Rattle.cluster_types.specs.Decisions.{Key, is_less, is_place, leaf_of}
 use Rattle.decision_order.specs.declared.ranked.Ranked.{Ranked}
 use Rattle.decision_order.specs.Turns.{AreSorted, ranked_by, ranks_before}
 
 -- by keys first: l and its fellow say which is less, t whose leaf comes first
-
-one-way : (l m t u : Bool) → (l ≡ true → m ≡ true → ⊥) → (t ≡ true → u ≡ true → ⊥) → l || not m && t ≡ true → m || not l && u ≡ true → ⊥
-one-way true true t u f g h k = f refl refl
-one-way true false t u f g h k = let e : false ≡ true = k in cc
-one-way false true t u f g h k = let e : false ≡ true = h in cc
-one-way false false t u f g h k = g h k
 
 -- of three keys the first isn't above the second, and that not above the third
 chained : (yx xy zy yz zx xz t u v : Bool) → (zx ≡ true → zy || yx ≡ true) → (xy ≡ true → xz || zy ≡ true) → (yz ≡ true → yx || xz ≡ true)
@@ -31,12 +25,6 @@ chained false xy false yz false true t u v f g k tie a b = refl
 chained false true false yz false false t u v f g k tie a b = let e : false ≡ true = g refl in cc
 chained false false false true false false t u v f g k tie a b = let e : false ≡ true = k refl in cc
 chained false false false false false false t u v f g k tie a b = tie a b
-
-tie-one-way : (x y : ℕ) (p q : Bool) → nat_lt x y || x == y && p && not q ≡ true → nat_lt y x || y == x && q && not p ≡ true → ⊥
-tie-one-way x y true true h k = let e : false ≡ true = grind arith in cc
-tie-one-way x y true false h k = let e : false ≡ true = grind arith in cc
-tie-one-way x y false true h k = let e : false ≡ true = grind arith in cc
-tie-one-way x y false false h k = let e : false ≡ true = grind arith in cc
 
 tie-chained : (x y z : ℕ) (p q r : Bool) → nat_lt x y || x == y && p && not q ≡ false → nat_lt y z || y == z && q && not r ≡ false
     → nat_lt x z || x == z && p && not r ≡ false
@@ -55,8 +43,8 @@ tie x y = nat_lt (leaf_of x.decision) (leaf_of y.decision) || leaf_of x.decision
 pub ranks-order : IsStrictWeakOrder ranks_before
 ranks-order = record {
   one_way = λ x y h. false_from_ne_true (ranks_before y x) (λ k.
-      one-way (is_less y.key x.key) (is_less x.key y.key) (tie x y) (tie y x) (less_one_way y.key x.key)
-      (tie-one-way (leaf_of x.decision) (leaf_of y.decision) (is_place x.decision) (is_place y.decision)) h k);
+      one_way (is_less y.key x.key) (is_less x.key y.key) (tie x y) (tie y x) (less_one_way y.key x.key)
+      (tie_one_way (leaf_of x.decision) (leaf_of y.decision) (is_place x.decision) (is_place y.decision)) h k);
   chain = λ x y z h k.
       chained (is_less y.key x.key) (is_less x.key y.key) (is_less z.key y.key) (is_less y.key z.key) (is_less z.key x.key) (is_less x.key z.key) (tie x y) (tie y z) (tie x z)
       (less_somewhere z.key x.key y.key) (less_somewhere x.key y.key z.key) (less_somewhere y.key z.key x.key)

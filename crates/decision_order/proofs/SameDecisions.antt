@@ -1,5 +1,6 @@
 -- Whether two decisions are one.
-use Rattle.std.proofs.Common.{◌≡◌, ℕ, ◌<◌, ◌==◌, length, refl, arith}
+use Rattle.std.proofs.Common.{◌≡◌, ℕ, ◌<◌, length, refl}
+use Rattle.lemmas.proofs.Booleans.{equal_turned}
 use Rattle.cluster_types.specs.declared.cluster.Cluster.{Cluster}
 use Rattle.cluster_types.specs.declared.leaf.Role.{Role}
 use Rattle.cluster_types.specs.declared.leaf.Role.TheVariants as role
@@ -8,12 +9,9 @@ use Rattle.cluster_types.specs.declared.placement.Decision.TheVariants.{Place, P
 use Rattle.cluster_types.specs.Decisions.{decision_of, is_same_decision, leaf_of}
 use Rattle.cluster_types.specs.Valid.{MayHaveRole}
 
-number-turned : (a b : ℕ) → (a == b) ≡ (b == a)
-number-turned a b = grind arith
-
 pub same-turned : (d e : Decision) → is_same_decision d e ≡ is_same_decision e d
-same-turned (Place r) (Place s) = number-turned r s
-same-turned (Promote r) (Promote s) = number-turned r s
+same-turned (Place r) (Place s) = equal_turned r s
+same-turned (Promote r) (Promote s) = equal_turned r s
 same-turned (Place r) (Promote s) = refl
 same-turned (Promote r) (Place s) = refl
 

@@ -3,7 +3,7 @@ use Rattle.std.proofs.Common.{arith, ◌≡◌, ◌<◌, ◌+◌, ◌==◌, ◌|
 use Rattle.std.specs.Prelude.{AllPairs, Contains}
 use Rattle.std.specs.List.{list_any, range_with_len}
 use Rattle.std.specs.Option.{option_map_or}
-use Rattle.std.proofs.lemmas.Bool.{ne_eqb, not-true}
+use Rattle.std.proofs.lemmas.Bool.{ne_eqb, not-true, or_parts}
 use Rattle.std.proofs.lemmas.List.{length-map, get_or-map}
 use Rattle.std.proofs.lemmas.List.Kept.{AllPairs-filter}
 use Rattle.std.proofs.lemmas.List.FromFn.{get_or-range_with_len, length-range_with_len}
@@ -42,10 +42,6 @@ named_next false ps k p h = on (is_number_of k p) where
   on true = refl
   on false = h
 
-rest_none : (a b : Bool) → a || b ≡ false → b ≡ false
-rest_none true b h = cc
-rest_none false b h = h
-
 named : (k : ℕ) (es : List Event) → list_any (begins_number k) es ≡ true → list_any (ends_number k) es ≡ false → list_any (is_number_of k) (in_flight es) ≡ true
 named k [] h n = cc
 named k (Begin j a ∷ es) h n = on (j == k) refl h (named k es) where
@@ -62,7 +58,7 @@ named k (Lost m ∷ es) h n = named k es h n
 named k (Quorum now ∷ es) h n = named k es h n
 named k (Wait s ∷ es) h n = named k es h n
 named k (Cleanup r m ∷ es) h n = named k es h n
-named k (Ended j b o m ∷ es) h n = named k es h (rest_none (j == k) _ n)
+named k (Ended j b o m ∷ es) h n = named k es h (or_parts (j == k) _ n).1
 
 each_member : {X : Type 0} (P : X → Type 0) (xs : List X) (x : X) → Each P xs → Contains xs x → P x
 each_member P _ x none h = absurd (in_none x h)

@@ -1,5 +1,6 @@
 -- How steps are put together.
 use Rattle.std.proofs.Common.{arith, ◌≡◌, ◌<◌, ◌≤◌, ℕ, Bool, true, Option, Some, None, List, [], ◌∷◌, ◌++◌, length, refl, sym, ap, ◌∙◌, subst}
+use Rattle.std.proofs.lemmas.List.{nil_from_length}
 use Rattle.cluster_io.specs.Streams.{Rose}
 use Rattle.cluster_types.specs.declared.journal.Action.{Action}
 use Rattle.cluster_types.specs.declared.journal.Answer.{Answer}
@@ -167,17 +168,13 @@ not_stopped (how.Unexpected given) d e = absurd d
 not_stopped how.SourceFault d e = absurd d
 not_stopped how.Stopped d e = absurd d
 
-none_long : {X : Type 0} (xs : List X) → length xs ≡ 0 → xs ≡ []
-none_long [] h = refl
-none_long (x ∷ xs) h = let f : ⊥ = omega arith in absurd f
-
 -- where none may begin, the transition has ended when nothing is in flight; else it waits
 module _ (r : Running) (settled : is_settled (going r) r.since ≡ true) (shown : List (ℕ × Action)) (is : shown ≡ flying (going r) r.since) where
   as_many : length shown ≡ length (flight (going r) r.since)
   as_many = ap length is ∙ many_flying r
 
   pub has_ended_now : length shown ≡ 0 → HasEnded (going r) r.since
-  has_ended_now none = record { settled = settled; idle = none_long _ (sym as_many ∙ none) }
+  has_ended_now none = record { settled = settled; idle = nil_from_length _ (sym as_many ∙ none) }
 
   pub waits_now : (length shown ≡ 0 → ⊥) → IsWaiting (going r) r.since
   waits_now some = record { settled = settled; busy = let m = as_many in grind arith }

@@ -3,7 +3,6 @@ use Rattle.std.proofs.Common.{arith, ◌≡◌, ◌<◌, ◌++◌, ℕ, suc, zer
 use Rattle.std.specs.List.{flat_map}
 use Rattle.cluster_types.specs.declared.cluster.Cluster.{Cluster}
 use Rattle.cluster_types.specs.declared.journal.Action.{Action}
-use Rattle.cluster_types.specs.declared.journal.Action.TheVariants.{Fence, Probe, Cell, MigrateTo, MigrateFrom}
 use Rattle.cluster_types.specs.declared.journal.Answer.{Answer}
 use Rattle.cluster_types.specs.declared.journal.Answer.TheVariants as answer
 use Rattle.cluster_types.specs.declared.journal.Event.{Event}
@@ -15,6 +14,7 @@ use Rattle.cluster_types.specs.Answering.{applies_after, end_of}
 use Rattle.cluster_types.specs.Journals.{is_on}
 use Rattle.cluster_types.specs.Steps.{EndsSilently, ended, events_of, flying, outside, silent_code}
 use Rattle.cluster_types.specs.Texts.{event_lines}
+use Rattle.cluster_types.proofs.GoneLines.{gone_line}
 use Rattle.run_safety.proofs.InFlight.{number_within}
 use Rattle.graph_exec.specs.Running.{Running, going}
 use Rattle.graph_exec.proofs.Fewer.{ended_is, up_of}
@@ -26,19 +26,6 @@ end_line (suc k) a code m low = refl
 timeout_line : (k : ℕ) (a : Action) (m : ℕ) → 0 < k → flat_map event_lines (Ended k a TimedOut m ∷ []) ≡ line.Taken (answer.Timeout k) ∷ []
 timeout_line zero a m low = absurd (let f : ⊥ = omega arith in f)
 timeout_line (suc k) a m low = refl
-
--- what is gone has no line
-gone_line : (k : ℕ) (a : Action) (m : ℕ) → event_lines (Ended k a Gone m) ≡ []
-gone_line (suc k) a m = refl
-gone_line zero (Fence n) m = refl
-gone_line zero (Probe r n) m = refl
-gone_line zero (Cell op.Start r n i w) m = refl
-gone_line zero (Cell op.Stop r n i w) m = refl
-gone_line zero (Cell op.Promote r n i w) m = refl
-gone_line zero (Cell op.Demote r n i w) m = refl
-gone_line zero (Cell op.Monitor r n i w) m = refl
-gone_line zero (MigrateTo r n m') m = refl
-gone_line zero (MigrateFrom r n m') m = refl
 
 lost_line : (c : Cluster) (es : List Event) (flight : List (ℕ × Action)) (n : ℕ) (ps : List (ℕ × Action))
     → flat_map event_lines (map (end_of c es flight Gone) ps ++ Lost n ∷ []) ≡ line.Taken (answer.Lost n) ∷ []

@@ -2,29 +2,17 @@
 use Rattle.std.proofs.Common.{arith, ◌≡◌, ◌<◌, ◌≤◌, ◌+◌, ◌-◌, ◌==◌, ◌&&◌, ◌||◌, not, ℕ, Bool, true, false, List, [], ◌∷◌, ◌++◌, length, slice_set, refl, sym, ap, ◌∙◌, ◌≢◌, ◌⊎◌, inl, inr}
 use Rattle.std.proofs.lemmas.Bool.{cases_eq, eq-eqb, ne_eqb}
 use Rattle.std.proofs.lemmas.List.{get_or-set_same, get_or-set_other}
-use Rattle.std.proofs.Math.Bool.{or-false}
-use Rattle.lemmas.proofs.Booleans.{sooner, either}
+use Rattle.std.proofs.Math.Bool.{or-false, or-true}
+use Rattle.lemmas.proofs.Booleans.{either}
 use Rattle.lemmas.proofs.Searches.{any-more}
-use Rattle.cluster_types.specs.declared.cluster.Cluster.{Cluster}
 use Rattle.cluster_types.specs.declared.journal.Event.{Event}
-use Rattle.cluster_types.specs.declared.journal.Event.TheVariants.{Up, Down, Lost, Quorum, Wait, Cleanup, Begin, Ended}
 use Rattle.cluster_types.specs.Journals.{ends_number}
-use Rattle.cluster_types.specs.Steps.{begins_number, succeeds_number, is_success, has_begun, has_ended, has_succeeded}
+use Rattle.cluster_types.specs.Steps.{begins_number, succeeds_number, has_begun, has_ended, has_succeeded}
 use Rattle.waiting.specs.Ready.{is_set}
+use Rattle.run_safety.proofs.Preceded.{success_ends}
 use Rattle.graph_exec.specs.Flights.{FlightOf}
 use Rattle.graph_exec.specs.Logs.{LogOf, logged}
 use Rattle.graph_exec.specs.Running.{IsKept, Follows, going, running, to_come}
-
--- what succeeds, ends
-success_ends : (c : Cluster) (j : ℕ) (e : Event) → succeeds_number c j e ≡ true → ends_number j e ≡ true
-success_ends c j (Ended k a o moment) h = sooner (k == j) (is_success c a o) h
-success_ends c j (Up n) h = cc
-success_ends c j (Down n) h = cc
-success_ends c j (Lost n) h = cc
-success_ends c j (Quorum now) h = cc
-success_ends c j (Wait seconds) h = cc
-success_ends c j (Cleanup r n) h = cc
-success_ends c j (Begin k a) h = cc
 
 -- what is in flight after: what was or begins, and doesn't end
 flies_on : (begun ended begins ends : Bool) → (ended ≡ true → begun ≡ true) → (begins ≡ true → begun ≡ false)
@@ -105,10 +93,7 @@ module _ (log : LogOf) (f after : FlightOf) (e : Event) (h : Follows log f) (a :
 pub set_one : (flags : List Bool) (k j : ℕ) → 0 < k → k ≤ length flags → 0 < j → is_set (slice_set flags (k - 1) true) j ≡ (is_set flags j || (k == j))
 set_one flags k j low high some = on (cases_eq k j) where
   on : (k ≡ j) ⊎ (k ≢ j) → is_set (slice_set flags (k - 1) true) j ≡ (is_set flags j || (k == j))
-  on (inl e) = rw (← e) (get_or-set_same flags (k - 1) true false (omega arith) ∙ sym (rw (eq-eqb k k refl) (last (is_set flags k)))) where
-    last : (b : Bool) → (b || true) ≡ true
-    last true = refl
-    last false = refl
+  on (inl e) = rw (← e) (get_or-set_same flags (k - 1) true false (omega arith) ∙ sym (rw (eq-eqb k k refl) (or-true (is_set flags k))))
   on (inr d) = get_or-set_other flags (k - 1) (j - 1) true false (λ e. d (omega arith)) ∙ sym (rw (ne_eqb k j d) (or-false (is_set flags j)))
 
 pub unset_one : (flags : List Bool) (k j : ℕ) → 0 < k → k ≤ length flags → 0 < j

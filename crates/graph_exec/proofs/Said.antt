@@ -1,5 +1,5 @@
 -- Steps each end of which was said.
-use Rattle.std.proofs.Common.{◌≡◌, Bool, true, false, Option, Some, None, List, [], ◌∷◌, ◌++◌, append_assoc, ap, refl, sym, subst, ◌∙◌}
+use Rattle.std.proofs.Common.{◌≡◌, Bool, false, Option, Some, None, List, [], ◌∷◌, ◌++◌, append_assoc, ap, refl, sym, subst, ◌∙◌}
 use Rattle.std.specs.Prelude.{option_map}
 use Rattle.cluster_types.specs.declared.journal.Answer.{Answer}
 use Rattle.cluster_types.specs.declared.journal.Event.{Event}
@@ -80,8 +80,3 @@ said_taken whole old new rest left given said t = record {
   went = went_step false old new _ (Some (given ∷ [])) (Some []) t.goes_on (takes (Some (given ∷ [])) (Some []) given (told given []) t.takes);
   taken = taken_one whole rest left given (Some given) refl said;
 }
-
--- what is not so later wasn't so before
-pub not_yet : (before after : Bool) → (before ≡ true → after ≡ true) → after ≡ false → before ≡ false
-not_yet true after h e = let f = h refl in cc
-not_yet false after h e = refl

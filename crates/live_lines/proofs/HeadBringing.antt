@@ -95,12 +95,9 @@ line_can old new before after a can = record {
       let fit = numbers_fit old new before after a can.numbered in
       let in_room = a.leaves.in_room in
       let numbered = can.numbered in
-      let few = few_of new.raw in
+      let few = few_lines new.raw in
       omega (arith, next, room, fit, in_room, numbered, few);
 }
-  where
-    few_of : (raw : List ℕ) → length (physical_lines raw) ≤ length raw
-    few_of raw = few_lines raw
 
 -- nothing is left
 pub end_brings : (text : List ℕ) (old new : Reading) (before after : Option (List ℕ)) → Answered End old new before after

@@ -3,6 +3,7 @@ use Rattle.std.proofs.Common.{◌≡◌, ℕ, ◌+◌, ◌<◌, ◌==◌, ◌||�
 use Rattle.std.specs.List.{concat, AllByRecursion}
 use Rattle.std.proofs.lemmas.Bool.{cond-true, cond-false, or_parts}
 use Rattle.cluster_io.specs.NextLine.{first_of, first_line, has_feed, holds_line, is_whole}
+use Rattle.cluster_io.proofs.PhysicalLines.{first_of-onto_group}
 use Rattle.crm_lex.specs.RawLines.{goes_on, joined, onto_first, onto_group, physical_lines}
 
 -- a line without a line feed, if there is one
@@ -121,10 +122,6 @@ begins (b ∷ back) rest none some =
       long = let l = more.long in omega (arith, l);
     }
 
-first_onto : (line : List ℕ) (groups : List (List (List ℕ))) → first_of (onto_group line groups) ≡ line ∷ first_of groups
-first_onto line [] = refl
-first_onto line (group ∷ groups) = refl
-
 -- lines that are whole and go on, and then a line that goes past the open one
 goes_past : (continues : Bool) (front : List (List ℕ)) (back line : List ℕ) (lines : List (List ℕ)) → AllByRecursion (λ l. has_feed l ≡ true) front
     → is_whole continues (front ++ open_line back) ≡ false → length back < length line
@@ -134,7 +131,7 @@ goes_past continues [] back line lines feeds unended long = let past = by (goes_
     by : (t : Bool) → goes_on continues line ≡ t → length back < length (concat (first_of (joined continues (line ∷ lines))))
     by true e =
         let is : first_of (joined continues (line ∷ lines)) ≡ line ∷ first_of (joined true lines)
-        = ap first_of (cond-true (goes_on continues line) (onto_group line (joined true lines)) ((line ∷ []) ∷ joined false lines) e) ∙ first_onto line (joined true lines) in
+        = ap first_of (cond-true (goes_on continues line) (onto_group line (joined true lines)) ((line ∷ []) ∷ joined false lines) e) ∙ first_of-onto_group line (joined true lines) in
         let size = ap (λ (t : List (List ℕ)). length (concat t)) is in
         let both = length-append line (concat (first_of (joined true lines))) in
         omega (arith, size, both, long)
@@ -155,7 +152,7 @@ goes_past continues (l ∷ front) back line lines feeds unended long =
         let rest = first_of (joined true (front ++ line ∷ lines)) in
         let is : first_of (joined continues (l ∷ (front ++ line ∷ lines))) ≡ l ∷ rest
         = ap first_of (cond-true (goes_on continues l) (onto_group l (joined true (front ++ line ∷ lines))) ((l ∷ []) ∷ joined false (front ++ line ∷ lines)) e)
-        ∙ first_onto l (joined true (front ++ line ∷ lines)) in
+        ∙ first_of-onto_group l (joined true (front ++ line ∷ lines)) in
         let size = ap (λ (t : List (List ℕ)). length (concat t)) is in
         let both = length-append l (concat rest) in
         let other = length-append l (concat front) in

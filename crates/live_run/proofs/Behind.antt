@@ -94,9 +94,6 @@ pub line_of_last : (line : ℕ) (xs : List ResultLine) (r : ResultLine) → last
 line_of_last line [] r = refl
 line_of_last line (x ∷ xs) r = line_of_last x.line xs r
 
-pub some_same : {X : Type 0} (x y : X) → Some x ≡ Some y → x ≡ y
-some_same x y e = cc
-
 pub answers_size : (xs : List ResultLine) → length (map answer_in xs) ≡ length xs
 answers_size [] = refl
 answers_size (x ∷ xs) = let n = answers_size xs in omega (arith, n)

@@ -11,7 +11,6 @@ use Rattle.cluster_types.specs.declared.run.RunLine.{RunLine}
 use Rattle.cluster_types.specs.declared.run.RunLine.TheVariants as line
 use Rattle.cluster_types.specs.Runs.{Standing, due, amid, idle, RunsOn, plans, goes, completes, aborts, answers, Runs, IsAsking, IsCutRun, IsRunSoFar, IsWholeRun}
 use Rattle.cluster_types.specs.Sources.{Says}
-use Rattle.cluster_types.specs.Steps.{Transition, StepsOn, begins, takes, is_silent, IsWaiting}
 use Rattle.cluster_types.specs.Texts.{run_line}
 use Rattle.live_lines.specs.Coming.{Coming}
 use Rattle.live_lines.specs.Courses.{answers_of}
@@ -26,10 +25,9 @@ use Rattle.op_history.specs.declared.results.ResultLine.{ResultLine}
 use Rattle.run_laws.specs.Followed.{IsFront}
 use Rattle.run_laws.proofs.Beginnings.{begins_cut, begins_whole}
 use Rattle.run_laws.proofs.OneEnd.{before_stuck, cut_one, whole_one, whole_or_cut}
-use Rattle.run_laws.proofs.OneStep.{ended_waits, unsettled}
+use Rattle.run_laws.proofs.OneStep.{ended_waits}
 use Rattle.run_laws.proofs.Planned.{plans_one}
-use Rattle.run_laws.proofs.Said.{says_just, says_something, some_or_none}
-use Rattle.run_laws.proofs.SoFar.{so_far_one, so_far_or_cut}
+use Rattle.run_laws.proofs.SoFar.{so_far_one, so_far_or_cut, step_asks, nothing_said}
 
 abbrev answer_in : ResultLine → Answer
 answer_in r = r.answer
@@ -59,14 +57,6 @@ map_size [] = refl
 map_size (x ∷ xs) = let n = map_size xs in omega (arith, n)
 
 -- while the answers to come are known to be not all, a run that asks for one more goes no step
-nothing_said : {R : Type 0} (left : Option (List Answer)) (given : Answer) → Says false (Some []) (Some given) left → R
-nothing_said left given said = some_or_none given (says_just false (Some []) left (Some given) said).0
-
-step_asks : (t : Transition) (since events : List Event) (rest left : Option (List Answer)) → rest ≡ Some [] → IsWaiting t since → StepsOn t false since rest events left → ⊥
-step_asks t since _ rest _ e waiting (begins _ k a begin) = unsettled t since k a begin waiting.settled
-step_asks t since _ rest left e waiting (takes _ _ given said taken) = nothing_said left given (subst (λ z. Says false z (Some given) left) e said)
-step_asks t since _ rest left e waiting (is_silent _ _ k a said ends) = says_something (Some []) left tt (subst (λ z. Says false z None left) e said)
-
 module _ (c : Cluster) (promotions : List Promotion) where
   asks_stuck : (at : Standing) (rest : Option (List Answer)) → rest ≡ Some [] → IsAsking c promotions false at → (lines : List RunLine) (next : Standing) (left : Option (List Answer))
       → RunsOn c promotions false at rest lines next left → ⊥

@@ -22,6 +22,7 @@ use Rattle.cluster_types.specs.Rights.{rights_of}
 use Rattle.cluster_types.specs.Tables.{Targets, load_of}
 use Rattle.cluster_types.specs.Unpacked.{states_of}
 use Rattle.plan_laws.proofs.Picked.{picked_are_first}
+use Rattle.plan_laws.proofs.FewChosen.{by_load_one_way, tot_one_way}
 use Rattle.score_table.specs.Scores.{scores_of}
 use Rattle.score_table.proofs.OwnOfStates.{from-zero}
 use Rattle.score_table.proofs.TableOfStates.{total-is}
@@ -36,14 +37,6 @@ goes : (a b t u : ℤ) (i j l k n m : ℕ) → a ≡ t → b ≡ u → i ≡ l �
 goes a b t u i j l k n m e f g h (inl more) = grind (arith, ints)
 goes a b t u i j l k n m e f g h (inr (same, inl less)) = grind (arith, ints)
 goes a b t u i j l k n m e f g h (inr (same, inr (alike, first))) = grind (arith, ints)
-
-by_load_one_way : (l n k m : ℕ) → nat_lt l k || l == k && nat_lt n m ≡ true → nat_lt k l || k == l && nat_lt m n ≡ true → ⊥
-by_load_one_way l n k m h g = let e : false ≡ true = grind arith in cc
-
-one_way : (t u : ℤ) (a b : Bool) → (a ≡ true → b ≡ true → ⊥) → int_lt u t || int_eq t u && a ≡ true → int_lt t u || int_eq u t && b ≡ true → ⊥
-one_way t u true true f h g = f refl refl
-one_way t u true false f h g = let e : false ≡ true = grind (arith, ints) in cc
-one_way t u false b f h g = let e : false ≡ true = grind (arith, ints) in cc
 
 ordered : (u m q p s t : Bool) → (((u && m && q) && (p && s)) && t) ≡ (u && m && t && p && s && q)
 ordered false m q p s t = refl
@@ -102,7 +95,7 @@ module _ (c : Cluster) (es : List Event) (ps : List Promotion) (table : Targets)
 
     not-both : (n m : ℕ) → is_chosen_before c es ps table d n m ≡ true → is_chosen_before c es ps table d m n ≡ true → ⊥
     not-both n m h g =
-        one_way (total_on c es ps table d n) (total_on c es ps table d m) (by_load n m) (by_load m n)
+        tot_one_way (total_on c es ps table d n) (total_on c es ps table d m) (by_load n m) (by_load m n)
         (by_load_one_way (load_of c table n) n (load_of c table m) m) h g
 
     long : length on_each ≡ length c.nodes

@@ -1,8 +1,7 @@
 -- The loads of nodes after one cell was set.
-use Rattle.std.proofs.Common.{◌≡◌, ℕ, suc, ◌+◌, ◌*◌, ◌<◌, ◌≤◌, ◌==◌, Bool, true, false, not, ◌&&◌, if◌then◌else◌, List, length, map, set, refl, sym, ap, ◌∙◌, arith}
+use Rattle.std.proofs.Common.{◌≡◌, ℕ, ◌+◌, ◌<◌, ◌≤◌, ◌==◌, Bool, true, false, not, ◌&&◌, if◌then◌else◌, List, length, map, set, refl, sym, ap, ◌∙◌, arith}
 use Rattle.std.specs.Prelude.{slice_index, slice_set}
 use Rattle.std.specs.List.{range_with_len}
-use Rattle.std.proofs.Math.Nat.{mul-le-mul_right}
 use Rattle.std.proofs.lemmas.List.FromFn.{get_or-map-range_with_len, length-map-range_with_len, length-range_with_len}
 use Rattle.std.proofs.lemmas.List.Sums.{count_by-le-length}
 use Rattle.lemmas.proofs.Ranges.{map-same, map-set-range}
@@ -13,13 +12,6 @@ use Rattle.cluster_types.specs.Tables.{is_somewhere, load_of, targets_of, with_c
 use Rattle.cluster_types.proofs.Loads.{load_grows, loads_stay, other_loads_stay}
 use Rattle.plan_laws.proofs.TablesWithin.{whole}
 use Rattle.node_choice.specs.Loads.{IsLoaded}
-
--- a cell of the cluster has a place in its list
-pub cell-within : (leaves nodes r n : ℕ) → r < leaves → n < nodes → r * nodes + n < leaves * nodes
-cell-within leaves nodes r n low within =
-    let up : suc r * nodes ≤ leaves * nodes = mul-le-mul_right nodes low in
-    let one : suc r * nodes ≡ r * nodes + nodes = omega arith in
-    omega (arith, up, one, within)
 
 module _ (c : Cluster) (old : Table) (loads : List ℕ) (is : IsLoaded c old loads) where
   pub loads-fit : length loads ≡ length c.nodes

@@ -4,6 +4,7 @@ use Rattle.std.proofs.Math.Bool.{or-true}
 use Rattle.std.proofs.lemmas.Bool.{cases_eq, false_from_ne_true, false≢true}
 use Rattle.std.specs.List.{range_with_len}
 use Rattle.lemmas.proofs.Counts.{count-is}
+use Rattle.lemmas.proofs.Booleans.{number_itself}
 use Rattle.cluster_types.proofs.Loads.{one_more_counted}
 use Rattle.lane_rows.specs.Choice.{GoesBefore, IsGreatest}
 use Rattle.lane_rows.specs.NodeSet.{has}
@@ -16,9 +17,6 @@ pub record Picked (totals : List ℤ) (loads : List ℕ) (among : NodeSet) (turn
   pub apart : (n : ℕ) → has chosen n ≡ true → has left n ≡ false
   pub first : (n m : ℕ) → has chosen n ≡ true → has left m ≡ true → GoesBefore totals loads n m
   pub size : size_of (length totals) chosen ≡ turn
-
-is-same : (n : ℕ) → (n == n) ≡ true
-is-same n = grind arith
 
 is-other : (n m : ℕ) → n ≢ m → (n == m) ≡ false
 is-other n m e = grind (arith, e)
@@ -37,13 +35,13 @@ module _ (totals : List ℤ) (loads : List ℕ) (among : NodeSet) (turn : ℕ) (
   module _ (node : ℕ) (new-chosen new-left : NodeSet) (best : IsGreatest totals loads left node) (within : node < length totals)
       (put : (n : ℕ) → has new-chosen n ≡ (n == node || has chosen n)) (out : (n : ℕ) → has new-left n ≡ (not (n == node) && has left n)) where
     new-here : has new-chosen node ≡ true
-    new-here = put node ∙ ap (λ b. b || has chosen node) (is-same node)
+    new-here = put node ∙ ap (λ b. b || has chosen node) (number_itself node)
 
     new-other : (n : ℕ) → n ≢ node → has new-chosen n ≡ has chosen n
     new-other n e = put n ∙ ap (λ b. b || has chosen n) (is-other n node e)
 
     out-here : has new-left node ≡ false
-    out-here = out node ∙ ap (λ b. not b && has left node) (is-same node)
+    out-here = out node ∙ ap (λ b. not b && has left node) (number_itself node)
 
     out-other : (n : ℕ) → n ≢ node → has new-left n ≡ has left n
     out-other n e = out n ∙ ap (λ b. not b && has left n) (is-other n node e)

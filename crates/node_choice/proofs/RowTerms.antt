@@ -1,7 +1,5 @@
 -- Rows of the scores of the colocations that count, with one colocation and one node more.
-use Rattle.std.proofs.Common.{◌≡◌, ℕ, ◌+◌, ◌<◌, ◌≤◌, ◌==◌, ℤ, Bool, true, false, not, ◌&&◌, nat_lt, if◌then◌else◌, List, [], ◌∷◌, ◌++◌, length, map, filter, take, get_or, refl, sym, ap, ◌∙◌, append-nil, arith}
-use Rattle.std.proofs.lemmas.List.{map-append}
-use Rattle.std.proofs.lemmas.List.Elements.{filter_more}
+use Rattle.std.proofs.Common.{◌≡◌, ℕ, ◌+◌, ◌<◌, ◌≤◌, ◌==◌, ℤ, Bool, true, false, not, ◌&&◌, nat_lt, if◌then◌else◌, List, [], ◌∷◌, ◌++◌, length, take, get_or, refl, sym, ap, ◌∙◌, append-nil, arith}
 use Rattle.lane_rows.specs.Row.{Tally}
 use Rattle.cluster_types.specs.declared.placement.Decision.{Decision}
 use Rattle.cluster_types.specs.declared.rules.Colocation.{Colocation}
@@ -11,7 +9,7 @@ use Rattle.colocation.specs.Tests.{counts}
 use Rattle.score_table.specs.Rows.{few, IsRow, more_where}
 use Rattle.score_table.proofs.EachNode.{each-more}
 use Rattle.score_table.proofs.FewTerms.{few-kept}
-use Rattle.score_table.proofs.Given.{taken}
+use Rattle.score_table.proofs.Given.{taken, kept-more}
 use Rattle.score_table.proofs.TermRows.{row-same}
 use Rattle.node_choice.specs.Counted.{counted}
 
@@ -35,16 +33,6 @@ not-counted table d col nodes terms row e is =
     (λ n low. sym (ap (λ b. terms n ++ (if b then col.score ∷ [] else []))
     (uncounted (not (is_mandatory col) && not (is_separation col)) (is_dependent d col) (holds_role table col.primary col.primary_role n) e)
     ∙ append-nil (terms n))) is
-
-map-one : {X : Type 0} (f : X → ℤ) (x : X) (b : Bool) → map f (if b then x ∷ [] else []) ≡ (if b then f x ∷ [] else [])
-map-one f x true = refl
-map-one f x false = refl
-
-kept-more : {X : Type 0} (f : X → ℤ) (p : X → Bool) (xs : List X) (i : ℕ) (x : X) → i < length xs → x ≡ get_or xs i x
-    → map f (filter p (take (i + 1) xs)) ≡ map f (filter p (take i xs)) ++ (if p x then f x ∷ [] else [])
-kept-more f p xs i x low is =
-    ap (map f) (filter_more p xs i x low) ∙ (map-append f (filter p (take i xs)) _
-    ∙ (ap (λ y. map f (filter p (take i xs)) ++ map f (if p y then y ∷ [] else [])) (sym is) ∙ ap (λ ys. map f (filter p (take i xs)) ++ ys) (map-one f x (p x))))
 
 -- one colocation more
 pub counted-more : (table : Targets) (d : Decision) (cols : List Colocation) (i : ℕ) (col : Colocation) → i < length cols → col ≡ get_or cols i col → (n : ℕ)

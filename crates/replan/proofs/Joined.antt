@@ -1,6 +1,7 @@
 -- What came of one part of a run, and then of the next, is what came of both.
 use Rattle.std.proofs.Common.{◌≡◌, ℕ, true, false, List, [], ◌++◌, append_assoc, sym, subst}
 use Rattle.std.specs.Prelude.{Option, Some, Result, Ok, Err}
+use Rattle.lemmas.proofs.Booleans.{fails_too}
 use Rattle.cluster_io.proofs.Pieces.{Adds-then}
 use Rattle.cluster_io.specs.Streams.{Adds}
 use Rattle.cluster_types.specs.declared.journal.Answer.{Answer}
@@ -8,7 +9,7 @@ use Rattle.cluster_types.specs.declared.journal.Journal.{Journal}
 use Rattle.cluster_types.specs.declared.run.RunLine.{RunLine}
 use Rattle.cluster_types.specs.Runs.{Standing, IsBetween, Runs, RunsOn, here}
 use Rattle.graph_exec.specs.Telling.{text_of}
-use Rattle.graph_exec.proofs.Said.{not_yet, taken_none, taken_then}
+use Rattle.graph_exec.proofs.Said.{taken_none, taken_then}
 use Rattle.graph_exec.proofs.Told.{adds_nothing, text-append}
 use Rattle.run_laws.proofs.SoFar.{runs_joined, runs_once}
 use Rattle.replan.specs.declared.stop.ReplayStop.{ReplayStop}
@@ -55,7 +56,7 @@ module _ (s : Setting) where
       runs = joined at c.rest two.lines two.runs;
       told = told_then one.lines two.lines a.text b.text c.text one.told two.told;
       said = λ steady open_still.
-          said_then from middle at one.lines two.lines a.rest b.rest c.rest (one.said steady (not_yet b.over c.over (stays steady) open_still)) (two.said steady open_still);
+          said_then from middle at one.lines two.lines a.rest b.rest c.rest (one.said steady (fails_too b.over c.over (stays steady) open_still)) (two.said steady open_still);
     }
 
     -- and so it is with how the run ends
@@ -84,7 +85,7 @@ module _ (s : Setting) where
       told = told_then one.lines w.lines a.text b.text c.text one.told w.told;
       asking = w.asking;
       said = λ steady. said_then from middle w.last one.lines w.lines a.rest b.rest c.rest (one.said steady (w.not_over steady)) (w.said steady);
-      not_over = λ steady. not_yet a.over b.over (stays steady) (w.not_over steady);
+      not_over = λ steady. fails_too a.over b.over (stays steady) (w.not_over steady);
       leaves = w.leaves;
     }
     ends_on (Err (stop.Stopped journal)) stays w = record {

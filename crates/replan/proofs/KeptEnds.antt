@@ -2,6 +2,7 @@
 use Rattle.std.proofs.Common.{arith, ◌≡◌, ◌<◌, ◌≤◌, ◌+◌, ℕ, Bool, true, false, List, [], ◌∷◌, ◌++◌, length, append-nil, refl, sym, ap, ◌∙◌, subst}
 use Rattle.std.specs.Prelude.{Option, Some, None}
 use Rattle.std.specs.List.{AllByRecursion, flat_map}
+use Rattle.lemmas.proofs.Booleans.{fails_too}
 use Rattle.cluster_types.specs.declared.cluster.Cluster.{Cluster}
 use Rattle.cluster_types.specs.declared.journal.Answer.{Answer}
 use Rattle.cluster_types.specs.declared.journal.Event.{Event}
@@ -21,7 +22,7 @@ use Rattle.graph_exec.specs.Logs.{JournalOf}
 use Rattle.graph_exec.specs.Resting.{TookResting}
 use Rattle.graph_exec.specs.Saying.{TakesAnswers}
 use Rattle.graph_exec.proofs.Carrying.{rose_since}
-use Rattle.graph_exec.proofs.Said.{not_yet, taken_one}
+use Rattle.graph_exec.proofs.Said.{taken_one}
 use Rattle.run_laws.specs.Kept.{AreWithin}
 use Rattle.run_laws.proofs.Kept.{between_passed}
 use Rattle.run_laws.proofs.Printed.{answer_line}
@@ -69,7 +70,7 @@ module _ (s : Setting) (es : List Event) (first : Option (List Answer)) where
               (runs_joined s.cluster s.promotions s.whole (due 1 es) (idle k j.events) later first rest left so_far (line.Taken given ∷ []) keeps.runs
               (runs_once s.cluster s.promotions s.whole (idle k j.events) later rest left (line.Taken given ∷ []) (answers k j.events rest left given said applies)));
           said = λ steady open_still. subst (λ (x : List RunLine). IsSaid s (due 1 es) later x first left) lines
-              (said_then s (due 1 es) (idle k j.events) later so_far (line.Taken given ∷ []) first rest left (keeps.said steady (not_yet over over_now (stays steady) open_still)) (record {
+              (said_then s (due 1 es) (idle k j.events) later so_far (line.Taken given ∷ []) first rest left (keeps.said steady (fails_too over over_now (stays steady) open_still)) (record {
                 answers = given ∷ [];
                 runs = λ ys. runs_once s.cluster s.promotions false (idle k j.events) later (Some (given ∷ ys)) (Some ys) (line.Taken given ∷ [])
                     (answers k j.events (Some (given ∷ ys)) (Some ys) given (told given ys) applies);

@@ -3,6 +3,7 @@ use Rattle.std.proofs.Common.{arith, ◌≡◌, ◌+◌, ℕ, Bool, true, false,
 use Rattle.std.specs.Prelude.{Option, Some, None}
 use Rattle.std.specs.List.{AllByRecursion, flat_map}
 use Rattle.std.proofs.lemmas.List.{length-append}
+use Rattle.lemmas.proofs.Booleans.{fails_too}
 use Rattle.cluster_types.specs.declared.cluster.Cluster.{Cluster}
 use Rattle.cluster_types.specs.declared.journal.Answer.{Answer}
 use Rattle.cluster_types.specs.declared.journal.Event.{Event}
@@ -27,7 +28,7 @@ use Rattle.graph_exec.specs.Logs.{JournalOf}
 use Rattle.graph_exec.specs.Running.{Running, Went, going}
 use Rattle.graph_exec.specs.Transitions.{IsAborted, IsComplete, IsCutBy, WentAsSaid, WentTo}
 use Rattle.graph_exec.proofs.Beginning.{found_so}
-use Rattle.graph_exec.proofs.Said.{not_yet, taken_none}
+use Rattle.graph_exec.proofs.Said.{taken_none}
 use Rattle.run_laws.proofs.Kept.{one_passed_more}
 use Rattle.run_laws.proofs.SoFar.{runs_joined, runs_once}
 use Rattle.replan.specs.declared.ending.RunEnd.{RunEnd}
@@ -69,7 +70,7 @@ module _ (s : Setting) (es : List Event) (first rest : Option (List Answer)) (ov
         runs = subst (λ (x : List RunLine). Runs s.cluster s.promotions s.whole (due 1 es) first x at left) lines
             (runs_joined s.cluster s.promotions s.whole (due 1 es) (due (1 + length passed) before) at first rest left so_far more keeps.runs runs);
         said = λ steady open_still. subst (λ (x : List RunLine). IsSaid s (due 1 es) at x first left) lines
-            (said_then s (due 1 es) (due (1 + length passed) before) at so_far more first rest left (keeps.said steady (not_yet over over_now (stays steady) open_still)) (said steady open_still));
+            (said_then s (due 1 es) (due (1 + length passed) before) at so_far more first rest left (keeps.said steady (fails_too over over_now (stays steady) open_still)) (said steady open_still));
         each = subst (λ (x : List Event). AllByRecursion (IsOfPlan s.cluster s.promotions x) (passed ++ p ∷ [])) (sym there)
             (all_last (IsOfPlan s.cluster s.promotions (before ++ since)) passed p (each_more s.cluster s.promotions before since passed keeps.each) is);
       }

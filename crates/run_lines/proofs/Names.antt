@@ -1,9 +1,8 @@
 -- Names of a cluster stand for their nodes and leaves.
 use Rattle.std.proofs.Common.{arith, ◌≡◌, ◌≢◌, ◌<◌, nat_lt, ℕ, zero, suc, true, false, Some, List, [], ◌∷◌, length, get_or, AllPairs, refl, sym, ap, ◌∙◌}
-use Rattle.std.specs.Prelude.{nat_eq, slice_get}
-use Rattle.std.specs.Cmp.Lexicographic.{pointwise}
+use Rattle.std.specs.Prelude.{slice_get}
 use Rattle.std.specs.List.{position_or_len}
-use Rattle.std.proofs.lemmas.Bool.{and_parts, false_from_ne_true}
+use Rattle.std.proofs.lemmas.Bool.{false_from_ne_true}
 use Rattle.std.proofs.lemmas.Bool.Decides.{nat_tests}
 use Rattle.std.proofs.lemmas.List.Sums.{position_or_len_is}
 use Rattle.std.proofs.lemmas.Option.{slice_get_within, get_or_from_slice_get}
@@ -14,21 +13,8 @@ use Rattle.cluster_types.specs.Fields.{leaf_name}
 use Rattle.cluster_types.specs.Texts.{node_name}
 use Rattle.cluster_types.specs.Valid.{IsValid}
 use Rattle.crm_lex.specs.Names.{is, is_name}
+use Rattle.crm_parse.proofs.Binds.{is-true, is-same}
 use Rattle.line_words.specs.Names.{leaf_of, node_of, place_of}
-
-itself : (word : List ℕ) → is word word ≡ true
-itself [] = refl
-itself (b ∷ bs) = let first : nat_eq b b ≡ true = grind (arith, nat_tests) in let rest = itself bs in rw (first, rest) refl
-
-same_text : (one other : List ℕ) → is one other ≡ true → one ≡ other
-same_text [] [] h = refl
-same_text [] (y ∷ ys) h = cc
-same_text (x ∷ xs) [] h = cc
-same_text (x ∷ xs) (y ∷ ys) h =
-    let parts = and_parts (nat_eq x y) (pointwise nat_eq xs ys) h in
-    let first : x ≡ y = (let e = parts.0 in grind (arith, nat_tests)) in
-    let rest = same_text xs ys parts.1 in
-    cc
 
 -- what stands at a place
 found_at : {X : Type 0} (xs : List X) (n : ℕ) → n < length xs → (x : X) × (slice_get xs n ≡ Some x)
@@ -43,8 +29,8 @@ module _ {X : Type 0} (name_of : X → List ℕ) (xs : List X) (apart : AllPairs
       let at : get_or xs n x ≡ x = get_or_from_slice_get xs n x x e in
       let other : (k : ℕ) → k < n → is (name_of (get_or xs k x)) (name_of x) ≡ false =
       λ k less. false_from_ne_true (is (name_of (get_or xs k x)) (name_of x))
-      (λ yes. apart k n x less within (same_text (name_of (get_or xs k x)) (name_of x) yes ∙ sym (ap name_of at))) in
-      let here : is (name_of (get_or xs n x)) (name_of x) ≡ true = rw at (itself (name_of x)) in
+      (λ yes. apart k n x less within (is-true (name_of (get_or xs k x)) (name_of x) yes ∙ sym (ap name_of at))) in
+      let here : is (name_of (get_or xs n x)) (name_of x) ≡ true = rw at (is-same (name_of x)) in
       let place : position_or_len (λ (y : X). is (name_of y) (name_of x)) xs ≡ n =
       position_or_len_is (λ (y : X). is (name_of y) (name_of x)) xs n x (omega (arith, within)) other (λ less. here) in
       let yes : nat_lt n (length xs) ≡ true = grind (arith, nat_tests) in

@@ -38,7 +38,7 @@ abbrev IsName : List ℕ → Type 0
 IsName w = is_name w ≡ true
 
 -- a byte that no name has
-no_byte : (b x : ℕ) → is_name_byte x ≡ false → is_name_byte b ≡ true → (b == x) ≡ false
+pub no_byte : (b x : ℕ) → is_name_byte x ≡ false → is_name_byte b ≡ true → (b == x) ≡ false
 no_byte b x never named =
     false_from_ne_true (b == x)
     (λ e. let same : b ≡ x = grind (arith, nat_tests) in let both : is_name_byte x ≡ true = subst (λ y. is_name_byte y ≡ true) same named in cc)

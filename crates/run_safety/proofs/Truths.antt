@@ -8,9 +8,6 @@ use Rattle.cluster_types.specs.Cells.{is_same_cell}
 pub refuse : {R : Type 0} (a : Bool) → a ≡ false → a ≡ true → R
 refuse a h g = absurd (both_ways a h g)
 
-pub itself : (n : ℕ) → (n == n) ≡ true
-itself n = number_itself n
-
 -- a cell is that of its leaf and node, and of no other
 pub own_cell : (r n : ℕ) → is_same_cell r n r n ≡ true
 own_cell r n = and_from (r == r) (n == n) (number_itself r) (number_itself n)

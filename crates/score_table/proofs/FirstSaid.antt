@@ -6,6 +6,7 @@ use Rattle.std.proofs.lemmas.Bool.{and_parts, false≢true}
 use Rattle.std.proofs.lemmas.List.{length-set, length-replicate, get_or-replicate, get_or-set_same, get_or-set_other}
 use Rattle.std.proofs.lemmas.List.Folds.{find-append}
 use Rattle.std.proofs.lemmas.Option.{slice_get-get_or, slice_get_within}
+use Rattle.lemmas.proofs.Booleans.{equal_turned}
 use Rattle.cluster_types.specs.declared.cluster.Cluster.{Cluster}
 use Rattle.cluster_types.specs.declared.journal.Promotion.{Promotion}
 use Rattle.cluster_types.proofs.TableCells.{ordered, same_place}
@@ -29,9 +30,6 @@ said-more before p r n =
     ap (option_map (λ (p : Promotion). p.score)) (find-append (λ (q : Promotion). q.leaf == r && q.node == n) before (p ∷ []))
     ∙ said-last (find (λ (q : Promotion). q.leaf == r && q.node == n) before) p (p.leaf == r && p.node == n)
 
-turned : (a b : ℕ) → (a == b) ≡ (b == a)
-turned a b = grind arith
-
 module _ (c : Cluster) (before : List Promotion) (p : Promotion) (said : List (Option ℤ)) (are : AreSaid c before said) where
   abbrev place_of : ℕ → ℕ → ℕ
   place_of r n = r * length c.nodes + n
@@ -52,7 +50,7 @@ module _ (c : Cluster) (before : List Promotion) (p : Promotion) (said : List (O
 
   one-place : (r n : ℕ) → n < length c.nodes → p.node < length c.nodes → (place_of r n == place_of p.leaf p.node) ≡ is_of r n
   one-place r n node low =
-      same_place (length c.nodes) r n p.leaf p.node node low (r == p.leaf) refl ∙ (let leaves = turned r p.leaf in let nodes = turned n p.node in rw (leaves, nodes) refl)
+      same_place (length c.nodes) r n p.leaf p.node node low (r == p.leaf) refl ∙ (let leaves = equal_turned r p.leaf in let nodes = equal_turned n p.node in rw (leaves, nodes) refl)
 
   -- the cell isn't there
   pub say-nowhere : length c.nodes ≤ p.node → AreSaid c (before ++ p ∷ []) said

@@ -35,12 +35,12 @@ zero-row nodes row is zeros = record {
   most = λ n low. let e = zeros n in omega (arith, ints, e);
 }
 
-map-one : {X : Type 0} (f : X → ℤ) (x : X) (b : Bool) → map f (if b then x ∷ [] else []) ≡ (if b then f x ∷ [] else [])
+pub map-one : {X : Type 0} (f : X → ℤ) (x : X) (b : Bool) → map f (if b then x ∷ [] else []) ≡ (if b then f x ∷ [] else [])
 map-one f x true = refl
 map-one f x false = refl
 
 -- one element more of those that pass
-kept-more : {X : Type 0} (f : X → ℤ) (p : X → Bool) (xs : List X) (i : ℕ) (x : X) → i < length xs → x ≡ get_or xs i x
+pub kept-more : {X : Type 0} (f : X → ℤ) (p : X → Bool) (xs : List X) (i : ℕ) (x : X) → i < length xs → x ≡ get_or xs i x
     → map f (filter p (take (i + 1) xs)) ≡ map f (filter p (take i xs)) ++ (if p x then f x ∷ [] else [])
 kept-more f p xs i x low is =
     ap (map f) (filter_more p xs i x low) ∙ (map-append f (filter p (take i xs)) _

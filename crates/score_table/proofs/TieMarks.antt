@@ -1,7 +1,7 @@
 -- Marks of the leaves that must be with a leaf, tie by tie.
 use Rattle.std.proofs.Common.{◌≡◌, ◌≢◌, ◌⊎◌, inl, inr, ℕ, zero, suc, ◌+◌, ◌-◌, ◌<◌, ◌≤◌, ◌==◌, Bool, true, false, not, cond, ◌&&◌, ◌||◌, List, [], ◌∷◌, length, filter, get_or, set, replicate, refl, sym, ap, subst, ◌∙◌, arith, Contains}
 use Rattle.std.specs.List.{list_any}
-use Rattle.std.proofs.lemmas.Bool.{cases_lt, and_from}
+use Rattle.std.proofs.lemmas.Bool.{cases_lt, and_from, not-true}
 use Rattle.std.proofs.lemmas.List.{length-replicate, length-set, get_or-replicate, get_or-set_other, get_or_default, ext_get_or}
 use Rattle.std.proofs.Math.ListN.{get_or-eq_default}
 use Rattle.std.proofs.lemmas.List.Sums.{count_by-le-length}
@@ -14,7 +14,7 @@ use Rattle.cluster_types.specs.declared.cluster.Cluster.{Cluster}
 use Rattle.cluster_types.specs.declared.rules.Colocation.{Colocation}
 use Rattle.cluster_types.specs.Terms.{is_tie, is_tied}
 use Rattle.cluster_types.specs.Valid.{IsValid}
-use Rattle.score_table.proofs.TieSides.{has-role}
+use Rattle.cluster_types.proofs.RuleLeaves.{role_leaf}
 use Rattle.score_table.specs.declared.ties.Tie.{Tie}
 use Rattle.score_table.specs.Ties.{AreTied, AreTies, is_marked, lacks_mark, unmarked, mark_if, leads, is_missed, tie_of, tied_within}
 
@@ -41,10 +41,6 @@ fewer-unmarked (m ∷ marks) (suc k) h =
     let b = count-cons not m marks in
     let rest = fewer-unmarked marks k h in
     omega (arith, a, b, rest)
-
-not-lacks : (b : Bool) → not b ≡ true → b ≡ false
-not-lacks true h = cc
-not-lacks false h = refl
 
 there : (marks : List Bool) (s : ℕ) → get_or marks s true ≡ false → s < length marks
 there marks s h = go (cases_lt s (length marks))
@@ -98,7 +94,7 @@ none-tied c r marks is = record {
 -- one tie is followed
 module _ (r : ℕ) (marks : List Bool) (tie : Tie) where
   unset : is_missed r marks tie ≡ true → get_or marks tie.dependent true ≡ false
-  unset h = not-lacks (get_or marks tie.dependent true) (sooner (lacks_mark marks tie.dependent) (leads r marks tie) h)
+  unset h = not-true (get_or marks tie.dependent true) (sooner (lacks_mark marks tie.dependent) (leads r marks tie) h)
 
   pub fewer-if : (missed : Bool) → is_missed r marks tie ≡ missed → unmarked (mark_if marks tie.dependent missed) + cond missed 1 0 ≡ unmarked marks
   fewer-if true h = fewer-unmarked marks tie.dependent (unset h)
@@ -150,7 +146,7 @@ module _ (c : Cluster) (valid : IsValid c) (ties : List Tie) (exact : AreTies c 
   follows : (col : Colocation) → Contains c.colocations col → is_tie c col ≡ true → leads r marks (tie_of col) ≡ true → is_marked marks col.dependent ≡ true
   follows col among is leading =
       let listed = (exact.exact (tie_of col)).1 (in_map tie_of (filter (is_tie c) c.colocations) col (in_filter (is_tie c) c.colocations col among is)) in
-      let low = has-role c col.dependent col.dependent_role (valid.colocations col among).dependent in
+      let low = role_leaf c col.dependent col.dependent_role (valid.colocations col among).dependent in
       get_or_default marks col.dependent false true (omega (arith, low, known.size))
       ∙ set-already (get_or marks col.dependent true) (leads r marks (tie_of col)) (none (tie_of col) listed) leading
 

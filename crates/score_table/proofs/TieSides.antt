@@ -5,17 +5,13 @@ use Rattle.std.proofs.lemmas.List.Sorted.{Contains-permutation, IsPermutation-sy
 use Rattle.lemmas.proofs.Members.{of_map, of_filter}
 use Rattle.loops.specs.Loops.{EndWithin}
 use Rattle.cluster_types.specs.declared.cluster.Cluster.{Cluster}
-use Rattle.cluster_types.specs.declared.leaf.Role.{Role}
 use Rattle.cluster_types.specs.declared.leaf.Role.TheVariants as role
 use Rattle.cluster_types.specs.Terms.{is_tie}
-use Rattle.cluster_types.specs.Valid.{IsValid, MayHaveRole}
+use Rattle.cluster_types.specs.Valid.{IsValid}
+use Rattle.cluster_types.proofs.RuleLeaves.{role_leaf}
 use Rattle.score_table.specs.declared.ties.Tie.{Tie}
 use Rattle.score_table.specs.TieOrder.{EndAtLeaves, edge_of}
 use Rattle.score_table.specs.Ties.{AreTies, tie_of, ties_of}
-
-pub has-role : (c : Cluster) (r : ℕ) (as_role : Role) → MayHaveRole c r as_role → r < length c.leaves
-has-role c r role.Started h = h
-has-role c r role.Promoted h = h.0
 
 pub end-at-leaves : (c : Cluster) → IsValid c → EndAtLeaves (length c.leaves) (ties_of c)
 end-at-leaves c valid tie among =
@@ -23,8 +19,8 @@ end-at-leaves c valid tie among =
     let col = of_colocation.source in
     let kept = of_filter (is_tie c) c.colocations col of_colocation.among in
     let known = valid.colocations col kept.among in (
-      subst (λ (t : Tie). t.dependent < length c.leaves) of_colocation.gives (has-role c col.dependent col.dependent_role known.dependent),
-      subst (λ (t : Tie). t.primary < length c.leaves) of_colocation.gives (has-role c col.primary col.primary_role known.primary),
+      subst (λ (t : Tie). t.dependent < length c.leaves) of_colocation.gives (role_leaf c col.dependent col.dependent_role known.dependent),
+      subst (λ (t : Tie). t.primary < length c.leaves) of_colocation.gives (role_leaf c col.primary col.primary_role known.primary),
     )
 
 pub edges-within : (leaves : ℕ) (ties : List Tie) → EndAtLeaves leaves ties → EndWithin leaves (map edge_of ties)

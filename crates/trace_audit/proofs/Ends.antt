@@ -1,8 +1,8 @@
 -- Each line of a run is one line of its text: the words that it has have no line end.
-use Rattle.std.proofs.Common.{arith, ◌≡◌, ◌<◌, ◌+◌, ◌*◌, ◌/◌, ◌%◌, ◌==◌, ◌&&◌, nat_lt, nat_le, not, ℕ, zero, suc, Bool, true, false, Option, Some, None, List, [], ◌∷◌, ◌++◌, length, map, codes, refl, sym, subst, ap, ◌∙◌}
+use Rattle.std.proofs.Common.{arith, ◌≡◌, ◌<◌, ◌+◌, ◌*◌, ◌/◌, ◌%◌, ◌==◌, ◌&&◌, nat_lt, nat_le, not, ℕ, zero, suc, Bool, true, false, Option, Some, None, List, [], ◌∷◌, ◌++◌, length, map, codes, refl, sym, ap, ◌∙◌}
 use Rattle.std.specs.Fmt.{decimal, digits, digits_onto}
 use Rattle.std.specs.List.{AllByRecursion, flat_map, list_all, slice_get}
-use Rattle.std.proofs.lemmas.Bool.{and_parts, false_from_ne_true}
+use Rattle.std.proofs.lemmas.Bool.{and_parts}
 use Rattle.std.proofs.lemmas.Bool.Decides.{nat_tests}
 use Rattle.std.proofs.lemmas.Option.{slice_get_within, get_or_from_slice_get}
 use Rattle.cluster_types.specs.declared.cluster.Cluster.{Cluster}
@@ -24,6 +24,7 @@ use Rattle.cluster_types.specs.Valid.{IsValid}
 use Rattle.crm_lex.specs.Names.{is_name, is_name_byte}
 use Rattle.line_words.specs.Places.{Words}
 use Rattle.run_lines.proofs.WordsOfLines.{action_words, answer_words, joined, line-joined, line_words}
+use Rattle.run_lines.proofs.TextAgain.{no_byte}
 use Rattle.run_lines.specs.Written.{IsNamed}
 use Rattle.trace_audit.specs.Written.{ended_in}
 use Rattle.trace_audit.proofs.Lines.{IsTextLine, ended-append}
@@ -33,12 +34,6 @@ Plain w = ended_in w ≡ 0
 
 plain-append : (v w : List ℕ) → Plain v → Plain w → Plain (v ++ w)
 plain-append v w p q = let both = ended-append v w in omega arith
-
--- a byte that no name has
-no_byte : (b x : ℕ) → is_name_byte x ≡ false → is_name_byte b ≡ true → (b == x) ≡ false
-no_byte b x never named =
-    false_from_ne_true (b == x)
-    (λ e. let same : b ≡ x = grind (arith, nat_tests) in let both : is_name_byte x ≡ true = subst (λ y. is_name_byte y ≡ true) same named in cc)
 
 plain_bytes : (bs : List ℕ) → list_all is_name_byte bs ≡ true → Plain bs
 plain_bytes [] h = refl

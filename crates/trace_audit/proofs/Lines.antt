@@ -6,6 +6,7 @@ use Rattle.std.proofs.lemmas.Bool.Decides.{nat_tests}
 use Rattle.std.proofs.lemmas.List.{length-take-le, take-append-le}
 use Rattle.std.proofs.lemmas.Option.{none-some}
 use Rattle.std.proofs.Math.Seq.{take-append-add}
+use Rattle.lemmas.proofs.Members.{slice_get_left}
 use Rattle.trace_audit.specs.Written.{ended_in, unended_in}
 
 -- a line of a text: bytes without a line end, and a line end
@@ -140,12 +141,6 @@ unended_end (b ∷ s) = by (ended_in (b ∷ s) == 0) refl (unended_low s) (unend
   by true e low is = rw e (let n : suc (length s) - suc (length s) ≡ 0 = omega arith in rw n refl)
   by false e low is = rw e (let n : suc (length s) - length (unended_in s) ≡ suc (length s - length (unended_in s)) = omega arith in rw n is)
 
--- what stands at a place of two lists, one behind the other
-get_left : (xs ys : List ℕ) (i : ℕ) → i < length xs → slice_get (xs ++ ys) i ≡ slice_get xs i
-get_left [] ys i lt = absurd (omega arith)
-get_left (x ∷ xs) ys zero lt = refl
-get_left (x ∷ xs) ys (suc i) lt = get_left xs ys i (omega arith)
-
 get_right : (xs ys : List ℕ) (i : ℕ) → slice_get (xs ++ ys) (length xs + i) ≡ slice_get ys i
 get_right [] ys i = let e : 0 + i ≡ i = omega arith in rw e refl
 get_right (x ∷ xs) ys i = let e : suc (length xs) + i ≡ suc (length xs + i) = omega arith in rw e (get_right xs ys i)
@@ -185,7 +180,7 @@ module _ (d : ℕ) (more : List ℕ) where
           let at_d : slice_get (take p (concat (x ∷ xs)) ++ d ∷ more) (length (take p (concat (x ∷ xs))) + 0) ≡ Some d = get_right (take p (concat (x ∷ xs))) (d ∷ more) 0 in
           let place : length (take p (concat (x ∷ xs))) + 0 ≡ p = omega arith in
           let here : slice_get (z ++ concat ys) p ≡ Some d = sym (ap (λ t. slice_get t p) e) ∙ sym (ap (slice_get (take p (concat (x ∷ xs)) ++ d ∷ more)) place) ∙ at_d in
-          get_left x (concat xs) p low ∙ ap (λ t. slice_get t p) first ∙ sym (get_left z (concat ys) p (subst (λ t. p < length t) first low)) ∙ here
+          slice_get_left x (concat xs) p low ∙ ap (λ t. slice_get t p) first ∙ sym (slice_get_left z (concat ys) p (subst (λ t. p < length t) first low)) ∙ here
 
   -- the first line is one of both
   past_first : (x y : List ℕ) (xs ys : List (List ℕ)) (p : ℕ) → IsTextLine x → x ≡ y

@@ -2,7 +2,7 @@
 use Rattle.std.proofs.Common.{arith, ◌≡◌, ◌<◌, ◌≤◌, ◌+◌, ◌-◌, ◌==◌, ◌&&◌, ◌||◌, not, nat_lt, ℕ, Bool, true, false, if◌then◌else◌, List, [], ◌∷◌, ◌++◌, length, take, count_by, slice_index_or, slice_set, refl, sym, ap, ◌∙◌, ◌≢◌, ◌⊎◌, inl, inr, Contains, Any}
 use Rattle.std.specs.List.{IsDistinct}
 use Rattle.std.proofs.lemmas.Bool.{cases_eq, cases_lt, or_cases, eqb-true, eqb-false, eq-eqb, ne_eqb}
-use Rattle.std.proofs.lemmas.List.{get_or-set_same, get_or-set_other, get_or_past, length-set, take-append-le, take_more, length_push}
+use Rattle.std.proofs.lemmas.List.{get_or-set_same, get_or-set_other, get_or_past, length-set, take-append-le, length_push}
 use Rattle.std.proofs.lemmas.List.Folds.{Any-from_list_any}
 use Rattle.std.proofs.lemmas.Map.Keys.{IsDistinct-push}
 use Rattle.std.proofs.lemmas.Map.Steps.{length-le_from_distinct_below}
@@ -15,13 +15,10 @@ use Rattle.lemmas.proofs.Booleans.{sooner}
 use Rattle.lemmas.proofs.Counts.{count-is, count_some}
 use Rattle.loops.specs.Clearing.{has}
 use Rattle.loops.proofs.Members.{equal_laws, has_push, not_before}
+use Rattle.loops.proofs.Steps.{after_take}
 use Rattle.waiting.proofs.Beyond.{beyond, beyond_more}
 
 -- A position is taken: the edges from it are to be counted off.
-
-after_take : (cleared : List ℕ) (taken a : ℕ) → taken < length cleared
-    → has (take (taken + 1) cleared) a ≡ (has (take taken cleared) a || (a == slice_index_or cleared taken 0))
-after_take cleared taken a lt = rw (take_more cleared taken 0 lt) (has_push (take taken cleared) (slice_index_or cleared taken 0) a)
 
 module _ (g : GraphOf) (begun succeeded ready : List Bool) (taken : ℕ) (left cleared : List ℕ) (lt : taken < length cleared)
     (c : Clears g begun succeeded ready taken [] left cleared) where

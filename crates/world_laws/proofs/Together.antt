@@ -3,6 +3,7 @@ use Rattle.std.proofs.Common.{◌≡◌, ℕ, Bool, true, List, [], ◌∷◌, �
 use Rattle.std.specs.Prelude.{Option, Some}
 use Rattle.std.specs.List.{flat_map}
 use Rattle.std.proofs.lemmas.List.{append_cancel_left}
+use Rattle.lemmas.proofs.Booleans.{number_itself}
 use Rattle.cluster_types.specs.declared.cluster.Cluster.{Cluster}
 use Rattle.cluster_types.specs.declared.journal.Action.{Action}
 use Rattle.cluster_types.specs.declared.journal.Answer.{Answer}
@@ -20,7 +21,7 @@ use Rattle.cluster_types.specs.Steps.{Transition, Applies, Begins, StepsOn, begi
 use Rattle.cluster_types.specs.Tables.{targets_of}
 use Rattle.cluster_types.specs.Texts.{event_lines, target_lines}
 use Rattle.run_safety.proofs.InFlight.{among_flying}
-use Rattle.run_safety.proofs.Truths.{itself, refuse}
+use Rattle.run_safety.proofs.Truths.{refuse}
 use Rattle.run_laws.specs.Followed.{IsFront}
 use Rattle.run_laws.specs.OnePlan.{PlansAreOne}
 use Rattle.run_laws.proofs.OneStep.{ended_goes, unsettled}
@@ -45,7 +46,7 @@ module _ (t : Transition) (since : List Event) where
   is_step whole _ rest left (takes _ _ given said taken) = an_answer given taken.waiting (taken_first given taken.applies)
   is_step whole _ rest left (is_silent _ _ k a said over) =
       an_answer (answer.End k (silent_code a)) over.waiting
-      (answer_first t.cluster (journal t since) (flying t since) (answer.End k (silent_code a)) (among_flying t since k a (is_number_of k) (itself k) over.action over.in_flight))
+      (answer_first t.cluster (journal t since) (flying t since) (answer.End k (silent_code a)) (among_flying t since k a (is_number_of k) (number_itself k) over.action over.in_flight))
 
   step_is_first : (events : List Event) → IsStep t since events → AreFirst events
   step_is_first _ (a_begin k a begin) = λ more. refl

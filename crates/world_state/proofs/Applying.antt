@@ -1,5 +1,5 @@
 -- Ends of actions in flight apply, and where fewer others may run a leaf, fewer others run it.
-use Rattle.std.proofs.Common.{◌≡◌, ℕ, suc, zero, ◌<◌, ◌≤◌, ◌==◌, ◌&&◌, ◌||◌, not, nat_lt, Bool, true, false, if◌then◌else◌, Option, Some, None, IfSome, List, [], ◌∷◌, length, slice_get, refl, sym, ap, ◌∙◌, arith}
+use Rattle.std.proofs.Common.{◌≡◌, ℕ, suc, zero, ◌<◌, ◌≤◌, ◌==◌, ◌&&◌, not, nat_lt, Bool, true, false, if◌then◌else◌, Option, Some, None, IfSome, List, [], ◌∷◌, length, slice_get, refl, sym, ap, ◌∙◌, arith}
 use Rattle.std.specs.List.{list_any, range_with_len}
 use Rattle.std.proofs.lemmas.Bool.{and_parts}
 use Rattle.lemmas.proofs.Counts.{count_more}
@@ -12,6 +12,7 @@ use Rattle.world_state.specs.declared.real.Standing.TheVariants as standing
 use Rattle.world_state.specs.declared.turn.Turn.TheVariants as turn
 use Rattle.world_state.proofs.NextTurn.{joining, leaving}
 use Rattle.std.proofs.lemmas.Bool.Decides.{nat_tests}
+use Rattle.std.proofs.Math.Bool.{or-true}
 use Rattle.cluster_types.specs.declared.journal.Action.{Action}
 use Rattle.cluster_types.specs.declared.journal.Event.{Event}
 use Rattle.cluster_types.specs.Answering.{applies_after, is_joined, is_number_of, is_offline_state}
@@ -31,11 +32,7 @@ use Rattle.world_state.specs.Worlds.{World, found_at, is_cell, is_off, is_there,
 flies : (flight : List (ℕ × Action)) (place k : ℕ) (a : Action) → slice_get flight place ≡ Some (k, a) → list_any (is_number_of k) flight ≡ true
 flies [] place k a at = cc
 flies (p ∷ ps) zero k a at = let is : p ≡ (k, a) = cc in let same : (k == k) ≡ true = grind arith in rw is (rw same refl)
-flies (p ∷ ps) (suc place) k a at = rw (flies ps place k a at) (or_true (p.0 == k))
-  where
-    or_true : (b : Bool) → b || true ≡ true
-    or_true true = refl
-    or_true false = refl
+flies (p ∷ ps) (suc place) k a at = rw (flies ps place k a at) (or-true (p.0 == k))
 
 pub ends_apply : (c : Cluster) (es : List Event) (w : World) (flight : List (ℕ × Action)) (taken place k : ℕ) (f : Fate) (a : Action)
     → slice_get flight place ≡ Some (k, a) → applies_after c es flight taken (answer_of c w f k a) ≡ true

@@ -4,6 +4,7 @@ use Rattle.std.proofs.lemmas.Bool.{and_parts}
 use Rattle.std.proofs.lemmas.Bool.Decides.{nat_tests}
 use Rattle.std.proofs.lemmas.List.{length-set}
 use Rattle.std.proofs.lemmas.Option.{slice_get-get_or, slice_get_within}
+use Rattle.std.proofs.Math.Bool.{and-false}
 use Rattle.std.specs.Option.{option_map_or}
 use Rattle.cluster_types.specs.declared.cluster.Cluster.{Cluster}
 use Rattle.cluster_types.specs.declared.journal.Action.{Action}
@@ -12,19 +13,13 @@ use Rattle.cluster_types.specs.declared.leaf.Op.{Op}
 use Rattle.cluster_types.specs.declared.leaf.Op.TheVariants.{Start, Stop, Promote, Demote, Monitor}
 use Rattle.cluster_types.specs.Fields.{is_promotable}
 use Rattle.cluster_types.specs.Cells.{is_same_cell}
-use Rattle.cluster_types.proofs.TableCells.{ordered, same_place, get-at}
+use Rattle.cluster_types.proofs.TableCells.{ordered, same_place, get-at, same_cell}
 use Rattle.world_state.specs.declared.real.Real.{Real}
 use Rattle.world_state.specs.declared.real.Real.TheVariants as real
 use Rattle.world_state.specs.declared.real.Standing.{Standing}
 use Rattle.world_state.specs.Turns.{with_node}
 use Rattle.world_state.specs.Kept.{Holds, HoldsNodes, IsAlone}
 use Rattle.world_state.specs.Worlds.{Cells, after_op, begun, demoted, done, found_at, is_promoted, is_rising, is_there, risen, rising_from, undone, with_cell, without_node}
-
-same_cell : (r n leaf node : ℕ) → (r == leaf && n == node) ≡ is_same_cell r n leaf node
-same_cell r n leaf node = rw (turned r leaf, turned n node) refl
-  where
-    turned : (a b : ℕ) → (a == b) ≡ (b == a)
-    turned a b = grind arith
 
 module _ (c : Cluster) where
   -- the place of a cell that is there
@@ -81,11 +76,7 @@ one_more node leaf held r n = on (node == n) (leaf == r) (nat_lt r leaf) refl re
     on true true before t h b = let more : nat_lt r (leaf + 1) ≡ true = grind (arith, nat_tests) in rw (t, h, more) refl
     on true false true t h b = let more : nat_lt r (leaf + 1) ≡ true = grind (arith, nat_tests) in rw (t, h, b, more) refl
     on true false false t h b = let more : nat_lt r (leaf + 1) ≡ false = grind (arith, nat_tests) in rw (t, h, b, more) refl
-    on false here before t h b = let more = none (nat_lt r (leaf + 1)) in rw (t, none (leaf == r), none (nat_lt r leaf), more) refl
-      where
-        none : (b : Bool) → b && false ≡ false
-        none true = refl
-        none false = refl
+    on false here before t h b = let more = and-false (nat_lt r (leaf + 1)) in rw (t, and-false (leaf == r), and-false (nat_lt r leaf), more) refl
 
 pub all_done : (node leaf : ℕ) (held : Cells) (r n : ℕ) → r < leaf → so_far node leaf held r n ≡ without_node node held r n
 all_done node leaf held r n l = let here : nat_lt r leaf ≡ true = grind (arith, nat_tests) in rw here refl

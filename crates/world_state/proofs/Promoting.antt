@@ -1,6 +1,7 @@
 -- Where a cell is promoted after an action has ended, the end opens it for promoted, or it was promoted before and the end doesn't close it.
 use Rattle.std.proofs.Common.{◌≡◌, ℕ, ◌==◌, ◌&&◌, Bool, true, false, if◌then◌else◌, [], ◌∷◌, ◌⊎◌, inl, inr, refl, eqb-true}
 use Rattle.std.proofs.lemmas.Bool.{and_parts}
+use Rattle.std.proofs.Math.Bool.{and-false}
 use Rattle.cluster_types.specs.declared.cluster.Cluster.{Cluster}
 use Rattle.cluster_types.specs.declared.journal.Action.{Action}
 use Rattle.cluster_types.specs.declared.journal.Action.TheVariants.{Fence, Probe, Cell, MigrateTo, MigrateFrom}
@@ -17,7 +18,7 @@ use Rattle.cluster_types.specs.Outcomes.{is_among}
 use Rattle.world_state.specs.declared.real.Real.{Real}
 use Rattle.world_state.specs.declared.real.Real.TheVariants as real
 use Rattle.world_state.specs.Worlds.{Cells, after_op, demoted, done, found_at, given_up, is_cell, is_promoted, is_there, looked, rising_from, true_code, undone, with_cell, without_node}
-use Rattle.world_state.proofs.Quiet.{IsQuiet, failed, late, never, quiet_demotes}
+use Rattle.world_state.proofs.Quiet.{IsQuiet, failed, late, quiet_demotes}
 use Rattle.world_state.proofs.Running.{found_there}
 
 -- one that is promoted isn't found otherwise
@@ -97,12 +98,12 @@ module _ (c : Cluster) (cells : Cells) (r n k m : ℕ) (cell : is_cell c r n ≡
     on true t = inr (h, here t (rw (found_there c cells r n leaf node cell t) (shows_promoted (cells r n) h)))
 
   probe_stays : (leaf node : ℕ) → StaysPromoted (cells r n) (Ended k (Probe leaf node) (Code (looked (found_at c cells leaf node))) m)
-  probe_stays leaf node = look_stays leaf node (Ended k (Probe leaf node) (Code (looked (found_at c cells leaf node))) m) (λ t. rw t refl) (λ t q. rw (q.0, never (leaf == r && node == n)) refl)
+  probe_stays leaf node = look_stays leaf node (Ended k (Probe leaf node) (Code (looked (found_at c cells leaf node))) m) (λ t. rw t refl) (λ t q. rw (q.0, and-false (leaf == r && node == n)) refl)
 
   monitor_stays : (leaf node interval : ℕ) (role : Role)
       → StaysPromoted (cells r n) (Ended k (Cell Monitor leaf node interval role) (Code (looked (found_at c cells leaf node))) m)
   monitor_stays leaf node interval role =
-      look_stays leaf node (Ended k (Cell Monitor leaf node interval role) (Code (looked (found_at c cells leaf node))) m) (λ t. rw t refl) (λ t q. rw (q.1, never (leaf == r && node == n)) refl)
+      look_stays leaf node (Ended k (Cell Monitor leaf node interval role) (Code (looked (found_at c cells leaf node))) m) (λ t. rw t refl) (λ t q. rw (q.1, and-false (leaf == r && node == n)) refl)
 
   unchanged : (leaf node : ℕ) (change : Real → Real) (e : Event) → ((x : Real) → is_promoted (change x) ≡ is_promoted x) → StaysPromoted (cells r n) e
       → StaysPromoted (with_cell leaf node change cells r n) e

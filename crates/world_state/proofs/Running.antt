@@ -1,6 +1,7 @@
 -- Where a cell runs after an action has ended, the end opens it, or it ran before and the end doesn't close it.
 use Rattle.std.proofs.Common.{◌≡◌, ℕ, ◌==◌, ◌&&◌, Bool, true, false, if◌then◌else◌, [], ◌∷◌, ◌⊎◌, inl, inr, refl, eqb-true}
 use Rattle.std.proofs.lemmas.Bool.{and_parts}
+use Rattle.std.proofs.Math.Bool.{and-false}
 use Rattle.cluster_types.specs.declared.cluster.Cluster.{Cluster}
 use Rattle.cluster_types.specs.declared.journal.Action.{Action}
 use Rattle.cluster_types.specs.declared.journal.Action.TheVariants.{Fence, Probe, Cell, MigrateTo, MigrateFrom}
@@ -16,7 +17,7 @@ use Rattle.cluster_types.specs.Outcomes.{is_among}
 use Rattle.world_state.specs.declared.real.Real.{Real}
 use Rattle.world_state.specs.declared.real.Real.TheVariants as real
 use Rattle.world_state.specs.Worlds.{Cells, after_op, done, found_at, given_up, is_cell, is_there, looked, rising_from, true_code, undone, with_cell, without_node}
-use Rattle.world_state.proofs.Quiet.{IsQuiet, failed, late, never, quiet_closes}
+use Rattle.world_state.proofs.Quiet.{IsQuiet, failed, late, quiet_closes}
 
 -- what is found in a cell of the cluster is what is there
 pub found_there : (c : Cluster) (cells : Cells) (r n leaf node : ℕ) → is_cell c r n ≡ true → is_same_cell r n leaf node ≡ true → found_at c cells leaf node ≡ cells r n
@@ -97,12 +98,12 @@ module _ (c : Cluster) (cells : Cells) (r n k m : ℕ) (cell : is_cell c r n ≡
     on true t = inr (h, here t (rw (found_there c cells r n leaf node cell t) (shows_running (cells r n) h)))
 
   probe_stays : (leaf node : ℕ) → Stays (cells r n) (Ended k (Probe leaf node) (Code (looked (found_at c cells leaf node))) m)
-  probe_stays leaf node = look_stays leaf node (Ended k (Probe leaf node) (Code (looked (found_at c cells leaf node))) m) (λ t. rw t refl) (λ t q. rw (q.0, never (leaf == r && node == n)) refl)
+  probe_stays leaf node = look_stays leaf node (Ended k (Probe leaf node) (Code (looked (found_at c cells leaf node))) m) (λ t. rw t refl) (λ t q. rw (q.0, and-false (leaf == r && node == n)) refl)
 
   monitor_stays : (leaf node interval : ℕ) (role : Role)
       → Stays (cells r n) (Ended k (Cell Monitor leaf node interval role) (Code (looked (found_at c cells leaf node))) m)
   monitor_stays leaf node interval role =
-      look_stays leaf node (Ended k (Cell Monitor leaf node interval role) (Code (looked (found_at c cells leaf node))) m) (λ t. rw t refl) (λ t q. rw (q.1, never (leaf == r && node == n)) refl)
+      look_stays leaf node (Ended k (Cell Monitor leaf node interval role) (Code (looked (found_at c cells leaf node))) m) (λ t. rw t refl) (λ t q. rw (q.1, and-false (leaf == r && node == n)) refl)
 
   unchanged : (leaf node : ℕ) (e : Event) → Stays (cells r n) e → Stays (with_cell leaf node (λ x. x) cells r n) e
   unchanged leaf node e s = on (is_same_cell r n leaf node) where

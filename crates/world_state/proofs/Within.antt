@@ -5,7 +5,7 @@ use Rattle.std.specs.List.{filter_map, last_or}
 use Rattle.std.proofs.lemmas.Bool.{and_parts}
 use Rattle.std.proofs.lemmas.List.Elements.{filter_map-append}
 use Rattle.std.proofs.lemmas.Option.{get_or_from_slice_get, slice_get_within}
-use Rattle.lemmas.proofs.Lasts.{last-more}
+use Rattle.std.proofs.Math.Bool.{and-false, or-true}
 use Rattle.lemmas.proofs.Ordered.{first_earlier, rest_in_order}
 use Rattle.cluster_types.specs.declared.cluster.Cluster.{Cluster}
 use Rattle.cluster_types.specs.declared.journal.Action.{Action}
@@ -18,9 +18,10 @@ use Rattle.cluster_types.specs.Answering.{added_by, end_of, ends_of, is_number_o
 use Rattle.cluster_types.specs.Cells.{is_same_cell}
 use Rattle.cluster_types.specs.CellStates.{last_outcome}
 use Rattle.cluster_types.specs.Fields.{is_promotable}
-use Rattle.cluster_types.specs.Journals.{IsFlight, NodeSign, joined, was_fenced, was_lost, is_on, last_sign, moment_of, sign_of}
+use Rattle.cluster_types.specs.Journals.{IsFlight, joined, was_fenced, was_lost, is_on, last_sign, moment_of, sign_of}
 use Rattle.cluster_types.specs.May.{closes, closes_promoted, is_left_promoted, may, may_promoted, opens, opens_promoted}
 use Rattle.cluster_types.proofs.MayLaws.{may-last, may-promoted, promoted-last}
+use Rattle.cluster_types.proofs.LastSigns.{signed}
 use Rattle.world_state.specs.declared.real.Real.{Real}
 use Rattle.world_state.specs.declared.real.Real.TheVariants as real
 use Rattle.world_state.specs.declared.real.Standing.TheVariants as standing
@@ -30,7 +31,7 @@ use Rattle.world_state.specs.declared.turn.Turn.TheVariants as turn
 use Rattle.world_state.specs.Lives.{IsWithin, Lives, begins_here, starts, leaves, joins, ends}
 use Rattle.world_state.specs.Turns.{after_begin, after_end, after_joining, after_leaving, answer_of, is_fault, nodes_after, turn_of, turned}
 use Rattle.world_state.specs.Worlds.{World, begun, first_world, found_at, is_cell, is_promoted, is_there, risen, standing_by, true_code, with_cell, without_node}
-use Rattle.world_state.proofs.Quiet.{IsQuiet, failed, gone, late, never, or_true, quiet_closes, quiet_demotes}
+use Rattle.world_state.proofs.Quiet.{IsQuiet, failed, gone, late, quiet_closes, quiet_demotes}
 use Rattle.world_state.proofs.Running as running
 use Rattle.world_state.proofs.Running.{Stays}
 use Rattle.world_state.proofs.Promoting as promoting
@@ -41,11 +42,8 @@ use Rattle.world_state.proofs.NextTurn.{ending, joining, leaving}
 pub unsigned : (n : ℕ) (es : List Event) (e : Event) → sign_of n e ≡ None → last_sign n (es ++ e ∷ []) ≡ last_sign n es
 unsigned n es e s = ap (last_or None) (filter_map-append (sign_of n) es (e ∷ [])) ∙ (rw s (ap (last_or None) (append-nil (filter_map (sign_of n) es))))
 
-pub signed : (n : ℕ) (es : List Event) (e : Event) (sign : NodeSign) → sign_of n e ≡ Some sign → last_sign n (es ++ e ∷ []) ≡ Some sign
-signed n es e sign s = ap (last_or None) (filter_map-append (sign_of n) es (e ∷ [])) ∙ (rw s (last-more None (filter_map (sign_of n) es) sign))
-
 quiet_sign : (n k m : ℕ) (o : Outcome) → IsQuiet o → (a : Action) → sign_of n (Ended k a o m) ≡ None
-quiet_sign n k m o q (Fence node) = rw (q.no_success, never (node == n)) refl
+quiet_sign n k m o q (Fence node) = rw (q.no_success, and-false (node == n)) refl
 quiet_sign n k m o q (Probe leaf node) = refl
 quiet_sign n k m o q (Cell op leaf node interval role) = refl
 quiet_sign n k m o q (MigrateTo leaf source target) = refl
@@ -81,7 +79,7 @@ module _ (c : Cluster) where
     runs_on r n x y before stays h = on (stays h) where
       on : (opens c r n e ≡ true) ⊎ ((is_there x ≡ true) × (closes c r n e ≡ false)) → may c r n (es ++ e ∷ []) ≡ true
       on (inl o) = may-last c r n e es ∙ rw o refl
-      on (inr p) = may-last c r n e es ∙ rw (before p.0, p.1) (or_true (opens c r n e))
+      on (inr p) = may-last c r n e es ∙ rw (before p.0, p.1) (or-true (opens c r n e))
 
     stays_promoted : (r n : ℕ) (x y : Real) → (is_promoted x ≡ true → may_promoted c r n es ≡ true)
         → (is_promoted y ≡ true → ((is_promotable c r ≡ true) × (opens_promoted c r n e ≡ true)) ⊎ ((is_promoted x ≡ true) × (closes_promoted c r n e ≡ false)))
@@ -92,7 +90,7 @@ module _ (c : Cluster) where
       on (inl o) = rw (o.0, promoted-last c r n e es, o.1) refl
       on (inr p) =
           let parts = and_parts (is_promotable c r) (is_left_promoted c r n es) (before p.0) in
-          rw (parts.0, promoted-last c r n e es, parts.1, p.1) (or_true (opens_promoted c r n e))
+          rw (parts.0, promoted-last c r n e es, parts.1, p.1) (or-true (opens_promoted c r n e))
 
     -- one more event
     within_more : (w next : World) → IsWithin c es w → ((n : ℕ) → next.nodes n ≡ standing_by c (last_sign n (es ++ e ∷ [])))
@@ -257,7 +255,7 @@ module _ (c : Cluster) where
         runs : (r n : ℕ) (fencing t : Bool) → c.properties.fencing ≡ fencing → (node == n) ≡ t
             → is_there ((if fencing then w.cells else without_node node w.cells) r n) ≡ true
             → (opens c r n (Lost node) ≡ true) ⊎ ((is_there (w.cells r n) ≡ true) × (closes c r n (Lost node) ≡ false))
-        runs r n true t f e h = inr (h, rw (f, never (node == n)) refl)
+        runs r n true t f e h = inr (h, rw (f, and-false (node == n)) refl)
         runs r n false true f e h = let g = rw e at h in cc
         runs r n false false f e h = inr (rw e at h, rw e refl)
 
@@ -265,7 +263,7 @@ module _ (c : Cluster) where
             → is_promoted ((if fencing then w.cells else without_node node w.cells) r n) ≡ true
             → ((is_promotable c r ≡ true) × (opens_promoted c r n (Lost node) ≡ true))
             ⊎ ((is_promoted (w.cells r n) ≡ true) × (closes_promoted c r n (Lost node) ≡ false))
-        promoted r n true t f e h = inr (h, rw (f, never (node == n)) refl)
+        promoted r n true t f e h = inr (h, rw (f, and-false (node == n)) refl)
         promoted r n false true f e h = let g = rw e at h in cc
         promoted r n false false f e h = inr (rw e at h, rw e refl)
 

@@ -1,10 +1,11 @@
 use Rattle.std.proofs.Common.{arith, Some, ap, refl, sym, ◌∙◌}
+use Rattle.lemmas.proofs.Booleans.{fails_too}
 use Rattle.graph_exec.specs.declared.watcher.Heard.TheVariants as heard
 use Rattle.graph_exec.proofs.Carrying.{expected_done, gone_done, gone_further, has_ended_now, no_fault, not_stopped, rose_since, went_nowhere, went_on}
 use Rattle.graph_exec.proofs.Coming.{come_done, come_later, heard_done, heard_later}
 use Rattle.graph_exec.proofs.Fewer.{asks_most}
 use Rattle.graph_exec.proofs.Promised.{ends_well, promised}
-use Rattle.graph_exec.proofs.Said.{not_yet, said_nothing, said_on}
+use Rattle.graph_exec.proofs.Said.{said_nothing, said_on}
 use Rattle.graph_exec.proofs.Told.{hears_done, hears_on, told_nothing, told_on}
 use Rattle.graph_exec.proofs.transition.run_watched.Goals as goal
 
@@ -162,7 +163,7 @@ returns-in-Some-clause-said g c steady fault =
 
 pub returns-in-Some-clause-not_over : goal.returns-in-Some-clause-not_over
 returns-in-Some-clause-not_over g c steady fault =
-    not_yet _ _ (c.loop-executor.invariant.over steady) (sym c.begin_all.ensures.over ∙ c.in-Some.ensures.not_over (ap Some fault))
+    fails_too _ _ (c.loop-executor.invariant.over steady) (sym c.begin_all.ensures.over ∙ c.in-Some.ensures.not_over (ap Some fault))
 
 pub returns-in-Some-clause-said_to_end : goal.returns-in-Some-clause-said_to_end
 returns-in-Some-clause-said_to_end g c steady open_still end = absurd (c.in-Some.ensures.going end)
@@ -205,7 +206,7 @@ loop-executor-preserved g c =
       steady = asked.steady ∙ begun.steady ∙ so_far.steady;
       over = λ steady h. asked.over (begun.steady ∙ so_far.steady ∙ steady) (begun.over ∙ so_far.over steady h);
       said = λ steady open_still.
-          let was_open = not_yet _ _ (asked.over (begun.steady ∙ so_far.steady ∙ steady)) open_still in
+          let was_open = fails_too _ _ (asked.over (begun.steady ∙ so_far.steady ∙ steady)) open_still in
           said_on _ _ _ _ _ _ (so_far.said steady (sym begun.over ∙ was_open))
           (said_on _ _ _ _ _ _ begun.said (asked.said (begun.steady ∙ so_far.steady ∙ steady) open_still));
       agrees = λ h. asked.agrees (begun.agrees (so_far.agrees h));

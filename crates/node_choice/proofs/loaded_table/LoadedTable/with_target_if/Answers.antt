@@ -1,7 +1,8 @@
 use Rattle.std.proofs.Common.{◌≡◌, ◌<◌, ◌==◌, ◌&&◌, ◌*◌, ◌+◌, true, not, if◌then◌else◌, length, sym, ap, subst, ◌∙◌, arith}
 use Rattle.std.specs.Prelude.{slice_index, slice_set}
 use Rattle.cluster_types.specs.Tables.{is_somewhere, targets_of}
-use Rattle.node_choice.proofs.LoadsAfter.{cell-within, few-loads, loaded-after, loads-fit}
+use Rattle.cluster_types.proofs.TableCells.{cell_within}
+use Rattle.node_choice.proofs.LoadsAfter.{few-loads, loaded-after, loads-fit}
 use Rattle.node_choice.proofs.loaded_table.LoadedTable.with_target_if.Goals as goal
 
 pub count_if-requires-clause-node : goal.count_if-requires-clause-node
@@ -24,7 +25,7 @@ with_target-requires-clause-within c =
     let self = c.args.self in
     let cluster = c.args.cluster.now in
     let is = c.requires.loaded in
-    let low = cell-within (length cluster.leaves) (length cluster.nodes) c.args.leaf c.args.node c.requires.leaf c.requires.node in
+    let low = cell_within (length cluster.leaves) (length cluster.nodes) c.args.leaf c.args.node c.requires.leaf c.requires.node in
     subst (λ k. c.args.leaf * k + c.args.node < length self.table.targets) (sym is.nodes)
     (subst (λ k. c.args.leaf * length cluster.nodes + c.args.node < k) (sym is.cells) low)
 
