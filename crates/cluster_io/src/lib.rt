@@ -12,10 +12,11 @@ mod source;
 mod standard;
 mod window;
 
+pub use crm_lex::NoMemory;
 pub use held_lines::HeldLines;
 pub use line_reader::LineReader;
 pub use line_step::LineStep;
-pub use memory_sink::{MemorySink, NoMemory};
+pub use memory_sink::MemorySink;
 pub use memory_source::MemorySource;
 pub use sink::{Sink, WriteFault, WriteStep, write_text};
 pub use source::{ReadEnd, ReadStep, Source, read_all};

@@ -2,19 +2,9 @@ ghost use Rattle.std.specs.Prelude.{◌≡◌, ◌≢◌, ℕ, ◌+◌, ◌≤�
 ghost use Rattle.cluster_io.specs.Streams.{Writes, Rose, next_fault};
 ghost use Rattle.cluster_io.specs.Memory.{next_call};
 
-use crate::{Sink, WriteStep};
-use std::alloc::{AllocError, Global};
+use crate::{NoMemory, Sink, WriteStep};
+use std::alloc::Global;
 use std::marker::Model;
-
-/// Memory was refused.
-#[derive(Clone, Copy, Debug, PartialEq, Eq)]
-pub struct NoMemory;
-
-impl From<AllocError> for NoMemory {
-    fn from(_: AllocError) -> Self {
-        NoMemory
-    }
-}
 
 /// Holds what is written, up to the room that it was made with, and takes at most `step` bytes a
 /// call. A call that finds no room left fails, as do the calls whose numbers, counted from 1,

@@ -4,9 +4,9 @@ ghost use Rattle.std.specs.Prelude.{◌≡◌, IfOk};
 ghost use Rattle.sim_core.specs.Audit.{IsAuditOutput, clause_name, unlawful_text};
 
 use crate::input_word::InputWord;
-use crate::memory::NoMemory;
 use crate::status::Status;
 use crate::text_word::refusal_text;
+use faults::NoMemory;
 use input_reading::{InputFault, Trace, read_trace};
 use std::alloc::Global;
 use trace_audit::{Clause, Verdict, audit};

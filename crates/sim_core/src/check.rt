@@ -4,10 +4,10 @@ ghost use Rattle.std.specs.Prelude.{◌≡◌, ◌++◌, ◌≤◌, IfOk, OnOk};
 ghost use Rattle.cluster_types.specs.Valid.{KeepsLimits};
 ghost use Rattle.sim_core.specs.Check.{IsCheckText, check_text, counts_line, rules_in};
 
-use crate::memory::NoMemory;
 use crate::text_word::TextWord;
 use cluster_types::Cluster;
 use crm_print::print;
+use faults::NoMemory;
 use input_reading::Input;
 use std::alloc::Global;
 use trace_text::push_number;

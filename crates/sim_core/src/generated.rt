@@ -13,13 +13,13 @@ ghost use Rattle.sim_core.specs.Outputs.{IsOutput};
 ghost use Rattle.input_reading.specs.Reading.{most_bytes};
 ghost use Rattle.sim_core.specs.Table.{nothing};
 
-use crate::memory::NoMemory;
 use crate::status::Status;
 use crate::text_word::refusal_text;
 use case_gen::generate;
 use case_summary::summary_text;
 use cluster_io::{Sink, write_text};
 use cluster_types::{Answer, Cluster, Journal, Run};
+use faults::NoMemory;
 use graph_exec::Script;
 use input_reading::{Head, Input, InputFault, read_input};
 use op_history::ResultLine;

@@ -2,8 +2,8 @@
 
 ghost use Rattle.sim_core.specs.Graph.{IsGraphText};
 
-use crate::memory::NoMemory;
 use crate::text_word::TextWord;
+use faults::NoMemory;
 use input_reading::Input;
 use planner::plan;
 use std::alloc::Global;

@@ -7,9 +7,9 @@ ghost use Rattle.sim_core.specs.Answers.{IsEarly, IsOutcome, MayAnswer, SaysOf};
 ghost use Rattle.input_reading.specs.Reading.{most_bytes};
 ghost use Rattle.sim_core.specs.Table.{whole};
 
-use crate::memory::NoMemory;
 use crate::status::Status;
 use cluster_io::{ReadEnd, Sink, Source, read_all, write_text};
+use faults::NoMemory;
 use input_reading::MOST_BYTES;
 use std::alloc::Global;
 

@@ -15,7 +15,6 @@ mod input_word;
 mod laws;
 mod live;
 mod losses;
-mod memory;
 mod own_text;
 mod scores;
 mod status;

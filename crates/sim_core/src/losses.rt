@@ -2,8 +2,8 @@
 
 ghost use Rattle.sim_core.specs.Survive.{IsSurviveText};
 
-use crate::memory::NoMemory;
 use crate::text_word::TextWord;
+use faults::NoMemory;
 use input_reading::Input;
 use std::alloc::Global;
 use survive::survive;

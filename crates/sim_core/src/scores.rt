@@ -6,9 +6,9 @@ ghost use Rattle.cluster_types.specs.Plans.{IsPlaced};
 ghost use Rattle.cluster_types.specs.Valid.{IsValid};
 ghost use Rattle.sim_core.specs.Scores.{IsScoresText};
 
-use crate::memory::NoMemory;
 use crate::text_word::TextWord;
 use cluster_types::Placed;
+use faults::NoMemory;
 use input_reading::{Head, Input};
 use placement::place;
 use score_table::rows;

@@ -9,8 +9,8 @@ ghost use Rattle.input_reading.specs.Causes.{refusal_text};
 ghost use Rattle.sim_core.specs.Outputs.{IsOutput};
 
 use crate::input_word::InputWord;
-use crate::memory::NoMemory;
 use crate::status::Status;
+use faults::NoMemory;
 use input_reading::{Input, InputCause, InputFault, read_input};
 use std::alloc::Global;
 use trace_text::push_number;

@@ -8,9 +8,9 @@ ghost use Rattle.sim_core.specs.Outputs.{IsOutput};
 ghost use Rattle.sim_core.specs.World.{IsWorldOf};
 
 use crate::input_word::InputWord;
-use crate::memory::NoMemory;
 use crate::status::Status;
 use crate::text_word::refusal_text;
+use faults::NoMemory;
 use input_reading::{Head, Input, InputFault, read_input};
 use std::alloc::Global;
 use world_text::world_text;
