@@ -12,14 +12,20 @@ fn place_of_node(cluster: &Cluster, word: &[u8]) -> Option<usize>
     ensures value { result ≡ node_of cluster.now word.now }
     ensures within { IfSome result (λ place. place < length cluster.now.nodes) }
 {
-    cluster.nodes.iter().position(|node| is(node.name.bytes(), word))
+    cluster
+        .nodes
+        .iter()
+        .position(|node| is(node.name.bytes(), word))
 }
 
 fn place_of_leaf(cluster: &Cluster, word: &[u8]) -> Option<usize>
     ensures value { result ≡ leaf_of cluster.now word.now }
     ensures within { IfSome result (λ place. place < length cluster.now.leaves) }
 {
-    cluster.leaves.iter().position(|leaf| is(leaf.name.bytes(), word))
+    cluster
+        .leaves
+        .iter()
+        .position(|leaf| is(leaf.name.bytes(), word))
 }
 
 /// The number of the node with this name. None when the cluster has no such node. The time grows with the number of nodes.

@@ -21,7 +21,6 @@ use Rattle.planner.proofs.Sorting.{is_there, sorted, sorted_pairs, was_there}
 
 -- lists with the same actions say alike of each action where it stands
 module _ (c : Cluster) (xs ys : List Action) (there : (a : Action) → Contains xs a → Contains ys a) (back : (a : Action) → Contains ys a → Contains xs a) where
-
   pub earlier_alike : (a b : Action) → is_earlier c xs a b ≡ is_earlier c ys a b
   earlier_alike a b = ap (λ (p : Place). is_before p (place_of c xs b)) (same_place c xs ys there back a) ∙ ap (is_before (place_of c ys a)) (same_place c xs ys there back b)
 
