@@ -56,7 +56,8 @@ fn empty_row(alloc: Global, nodes: u32) -> Result<Row, NoMemory>
     requires { nodes ≤ 256 }
     ensures { IfOk result (IsRow nodes (λ n. [])) }
 {
-    Row::zeros(alloc, nodes)
+    let row = Row::zeros(alloc, nodes)?;
+    Ok(row)
 }
 
 /// The row of what the colocations that count give the decision on each node.

@@ -1,5 +1,5 @@
 use Rattle.score_table.proofs.Given.{zero-row}
 use Rattle.node_choice.proofs.preferring.empty_row.Goals as goal
 
-pub returns-in-Ok : goal.returns-in-Ok
-returns-in-Ok c = zero-row c.args.nodes c.in-Ok.row c.in-Ok.ensures.terms c.in-Ok.ensures.finite
+pub returns : goal.returns
+returns c = zero-row c.args.nodes c.in_ok-row.row c.in_ok-row.ensures.terms c.in_ok-row.ensures.finite
