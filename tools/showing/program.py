@@ -10,7 +10,12 @@ REFUSED, UNKNOWN_WORD = 5, 2
 
 
 class Refused(Exception):
-    """The program refuses a text; the message is its line."""
+    """The program refuses a text; the message is its line, which names a line of the text."""
+
+    @property
+    def line(self):
+        words = str(self).split()
+        return int(words[1]) if len(words) > 1 and words[1].isdigit() else 0
 
 
 def path():
