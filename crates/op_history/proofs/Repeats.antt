@@ -1,5 +1,5 @@
 -- One more line.
-use Rattle.std.proofs.Common.{◌≡◌, ℕ, true, cond, refl, ◌∙◌}
+use Rattle.std.proofs.Common.{◌≡◌, ℕ, true, cond, refl, ◌∙◌, sym}
 use Rattle.std.proofs.Math.Bool.{or-false}
 use Rattle.std.specs.HashSet.{contains}
 use Rattle.lemmas.proofs.Booleans.{cond-or}
