@@ -1,5 +1,5 @@
 -- Which logical lines of an input its head has taken, line by line.
-use Rattle.std.proofs.Common.{◌≡◌, ℕ, ◌+◌, Option, Some, None, Result, Ok, Err, List, [], ◌∷◌, ◌++◌, length, option_map, append_assoc, length-append, refl, ap, sym, ◌∙◌, arith}
+use Rattle.std.proofs.Common.{◌≡◌, ℕ, ◌+◌, Option, Some, None, Result, Ok, Err, List, [], ◌∷◌, ◌++◌, length, option_map, append_assoc, length-append, refl, ap, subst, sym, ◌∙◌, arith}
 use Rattle.std.proofs.lemmas.List.Sums.{sum_by-append}
 use Rattle.cluster_io.specs.Readings.{Answered, Reading}
 use Rattle.cluster_io.specs.declared.line_step.LineStep.{LineStep}
@@ -7,7 +7,7 @@ use Rattle.cluster_io.specs.declared.line_step.LineStep.TheVariants.{Line, Faile
 use Rattle.crm_lex.specs.RawLines.{physical_lines, raw_lines}
 use Rattle.crm_lex.specs.Reading.{reads_line}
 use Rattle.live_lines.specs.Followed.{bytes_of}
-use Rattle.live_lines.specs.Heads.{HasGoneOn, HasTaken, Head, StillAmid, head_of, read_says, taken}
+use Rattle.live_lines.specs.Heads.{HasGoneOn, HasTaken, Head, StillAmid, came_to, head_of, read_says, taken}
 use Rattle.live_lines.specs.declared.head.HeadStop.{HeadStop}
 use Rattle.live_lines.specs.declared.head.HeadStop.TheVariants as stop
 use Rattle.live_lines.specs.ReadLaws.{bytes_joined, lines_joined}
@@ -21,6 +21,7 @@ none_taken reading None = record { lines = []; text_is = refl; cut = refl; numbe
 none_taken reading (Some left) = record { lines = []; text_is = refl; cut = refl; number = omega arith; room = omega arith }
 
 pub none_gone : (reading : Reading) (left : Option (List ℕ)) → HasGoneOn reading reading [] left left
+unfolding none_taken
 none_gone reading None = record { taken = none_taken reading None; goes_on = tt }
 none_gone reading (Some left) = record { taken = none_taken reading (Some left); goes_on = λ more. refl }
 
@@ -71,21 +72,26 @@ module _ (first old new : Reading) (text : List ℕ) (given before after : Optio
 module _ (first old new : Reading) (text : List ℕ) (given : Option (List ℕ)) where
   -- behind one more the head goes on
   pub line_gone : (before after : Option (List ℕ)) → HasGoneOn first old text given before → (a : Answered Line old new before after)
-      → ((others : Head) → others ≡ read_says (reads_line old.next new.raw) (taken (text ++ new.raw) new.next new.room) others)
+      → (came : Option (Result (Unit {0}) HeadStop)) → came ≡ None
+      → ((others : Head) → came_to came (text ++ new.raw) new others ≡ read_says (reads_line old.next new.raw) (taken (text ++ new.raw) new.next new.room) others)
       → HasGoneOn first new (text ++ new.raw) given after
-  line_gone before None h a says = record { taken = line_taken first old new text given before None h.taken a; goes_on = tt }
-  line_gone None (Some left) h a says = let none = a.taken in absurd (let f : ⊥ = cc in f)
-  line_gone (Some bytes) (Some left) h a says = record {
+  unfolding line_taken
+  line_gone before None h a came none says = record { taken = line_taken first old new text given before None h.taken a; goes_on = tt }
+  line_gone None (Some left) h a came none says = let taken = a.taken in absurd (let f : ⊥ = cc in f)
+  line_gone (Some bytes) (Some left) h a came none says = record {
     taken = line_taken first old new text given (Some bytes) (Some left) h.taken a;
     goes_on = λ more.
         ap (head_of first.longest [] first.room first.next) (append_assoc h.taken.lines (physical_lines new.raw ∷ []) more)
         ∙ (h.goes_on (physical_lines new.raw ∷ more)
-        ∙ (line_then text old new (Some bytes) left a more ∙ sym (says (head_of new.longest (text ++ new.raw) new.room new.next more))));
+        ∙ (line_then text old new (Some bytes) left a more
+        ∙ (sym (says (head_of new.longest (text ++ new.raw) new.room new.next more))
+        ∙ ap (λ (k : Option (Result (Unit {0}) HeadStop)). came_to k (text ++ new.raw) new (head_of new.longest (text ++ new.raw) new.room new.next more)) none)));
   }
 
   -- where the source fails, no more was taken
   pub still_gone : (before after : Option (List ℕ)) → HasGoneOn first old text given before → (a : Answered Failed old new before after)
       → HasGoneOn first new text given after
+  unfolding still_taken
   still_gone before None h a = record { taken = still_taken first old new text given before None h.taken Failed a (λ e. cc); goes_on = tt }
   still_gone None (Some left) h a = let none = a.taken in absurd (let f : ⊥ = cc in f)
   still_gone (Some bytes) (Some left) h a = record {
@@ -101,3 +107,7 @@ amid_line (Some (Err stop.ReadFault)) P other goes = absurd (other refl)
 amid_line (Some (Err (stop.Refused line why))) P other goes = tt
 amid_line (Some (Err stop.TooLarge)) P other goes = tt
 amid_line (Some (Err stop.NoMemory)) P other goes = tt
+
+-- what holds where the source failed
+pub where_failed : (came : Option (Result (Unit {0}) HeadStop)) (P : Type 0) → came ≡ Some (Err stop.ReadFault) → StillAmid came P → P
+where_failed came P fault h = subst (λ (k : Option (Result (Unit {0}) HeadStop)). StillAmid k P) fault h

@@ -1,9 +1,36 @@
-use Rattle.std.proofs.Common.{◌≡◌, Option, List, ℕ, Result, Some, Err, false, ap, subst, sym, ◌∙◌}
+use Rattle.std.proofs.Common.{rules, ◌≡◌, Option, List, ℕ, Result, Some, Err, false, ap, sym, ◌∙◌}
 use Rattle.cluster_io.specs.LineReaders.{reading_of, source_of}
-use Rattle.live_lines.specs.Heads.{StillAmid, lacks_memory}
+use Rattle.live_lines.specs.Heads.{lacks_memory}
 use Rattle.live_lines.specs.declared.head.HeadStop.{HeadStop}
 use Rattle.live_lines.specs.declared.head.HeadStop.TheVariants as stop
+use Rattle.live_lines.proofs.HeadLines.{none_gone, where_failed}
 use Rattle.live_lines.proofs.head.read_head.Goals as goal
+
+pub loop-end-init : goal.loop-end-init
+loop-end-init g c = record {
+  told = search rules;
+  keeps = search rules;
+  gone_on = rw (c.new.ensures.items) (none_gone _ _);
+  can = search rules;
+  within = search rules;
+  next = search rules;
+  count = search rules;
+  no_failure = search rules;
+  same_source = search rules;
+}
+
+pub loop-end-preserved : goal.loop-end-preserved
+loop-end-preserved g c = record {
+  told = search rules;
+  keeps = search rules;
+  gone_on = c.in_default.ensures.gone_on _ _ c.loop-end.invariant.gone_on;
+  can = search rules;
+  within = search rules;
+  next = search rules;
+  count = search rules;
+  no_failure = search rules;
+  same_source = search rules;
+}
 
 pub returns-in-Err-clause-amid : goal.returns-in-Err-clause-amid
 returns-in-Err-clause-amid g c why =
@@ -16,7 +43,7 @@ returns-in-Err-clause-amid g c why =
     record {
       text = text;
       keeps = so_far.keeps ∙ now.keeps memory;
-      gone_on = subst (λ (came : Option (Result (Unit {0}) HeadStop)). StillAmid came _) fault now.gone_on _ _ so_far.gone_on;
+      gone_on = where_failed _ _ fault now.gone_on _ _ so_far.gone_on;
       none_whole = now.amid fault;
       undecided = now.undecided fault;
       same_size = now.same_size fault ∙ (so_far.can.longest ∙ sym c.requires.can.longest);

@@ -1,6 +1,5 @@
-use Rattle.std.proofs.Common.{◌≡◌, Option, Result, false, ap, sym, ◌∙◌, arith}
-use Rattle.live_lines.specs.Heads.{came_to, lacks_memory}
-use Rattle.live_lines.specs.declared.head.HeadStop.{HeadStop}
+use Rattle.std.proofs.Common.{◌≡◌, false, ap, arith}
+use Rattle.live_lines.specs.Heads.{lacks_memory}
 use Rattle.live_lines.proofs.HeadBringing.{line_brings, line_can, line_keeps, line_within, long_number, too_large_brings, too_long_brings, while_well}
 use Rattle.live_lines.proofs.Bringing.{fewer_left, number_is, numbers_fit, room_is}
 use Rattle.live_lines.proofs.HeadLines.{amid_line, line_gone, still_gone}
@@ -58,9 +57,8 @@ returns-in-Line-clause-gone_on g c =
     let a = c.in-Line.ensures.answered c.requires.can.going in
     amid_line c.take_line.result _ c.take_line.ensures.fault (λ none first given h.
     let memory : lacks_memory c.take_line.result ≡ false = ap lacks_memory none in
-    rw (c.take_line.ensures.text memory) (line_gone first _ _ c.args.head.now.text.items given _ _ h a (λ others.
-    ap (λ (k : Option (Result (Unit {0}) HeadStop)). came_to k _ _ others) (sym none)
-    ∙ rw (← number_is _ _ _ _ a) (c.take_line.ensures.says memory _ _ others))))
+    rw (c.take_line.ensures.text memory) (line_gone first _ _ c.args.head.now.text.items given _ _ h a c.take_line.result none
+    (λ others. rw (← number_is _ _ _ _ a) (c.take_line.ensures.says memory _ _ others))))
 
 pub returns-in-Failed-clause-gone_on : goal.returns-in-Failed-clause-gone_on
 returns-in-Failed-clause-gone_on g c first given h = still_gone first _ _ _ given _ _ h (c.in-Failed.ensures.answered c.requires.can.going)
