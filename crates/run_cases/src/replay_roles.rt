@@ -384,9 +384,9 @@ complete 2
 
 /// Inputs, and their runs.
 pub const ROWS: [Row; 12] = [
-    inputs::GROUP_MOVES,
+    GROUP_MOVES,
     CYCLED,
-    inputs::PROMOTION_MOVES,
+    PROMOTION_MOVES,
     PROMOTED_FROM_NOTHING,
     PROMOTED_STOPPED,
     PROMOTED_CYCLED,
