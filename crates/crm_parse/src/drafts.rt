@@ -56,8 +56,10 @@ impl Drafts {
             mut statements,
             mut keys,
         } = self;
-        keys.add(alloc, &statement)?;
         statements.push(statement)?;
+        if let Some(last) = statements.as_slice().last() {
+            keys.add(alloc, last)?;
+        }
         Ok(Drafts { statements, keys })
     }
 

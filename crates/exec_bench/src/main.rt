@@ -10,7 +10,7 @@ ghost use Rattle.cluster_types.specs.Valid.{IsValid};
 
 use crate::report::{asks_for_time, report_of, time_line};
 use cluster_io::{ReadEnd, StdSource, read_all};
-use cluster_types::{Cluster, Journal};
+use cluster_types::{Cluster, Graph, Journal, NoMemory};
 use graph_exec::{End, Executor, Script, run_transition};
 use input_reading::read_input;
 use planner::plan;
@@ -23,13 +23,17 @@ use std::time::Instant;
 /// The largest text, in bytes.
 const LIMIT: usize = 16_777_216;
 
+fn out_of_memory() -> io::Error {
+    io::Error::from(ErrorKind::OutOfMemory)
+}
+
 fn text(rt: &HostRuntime) -> io::Result<Vec<u8>>
     ensures { IfOk result (λ bytes. length bytes.items ≤ 16777216) }
 {
     let mut source = StdSource::new(rt.stdin());
     match read_all(rt.alloc(), &mut source, LIMIT) {
         Ok(bytes) => Ok(bytes),
-        Err(ReadEnd::NoMemory) => Err(io::Error::from(ErrorKind::OutOfMemory)),
+        Err(ReadEnd::NoMemory) => Err(out_of_memory()),
         Err(ReadEnd::TooLarge) => Err(io::Error::from(ErrorKind::FileTooLarge)),
         Err(ReadEnd::Fault) => Err(io::Error::from(ErrorKind::Other)),
     }
@@ -58,21 +62,41 @@ struct Carried {
     nanos: u128,
 }
 
-fn carry_out(rt: &HostRuntime, cluster: &Cluster, journal: Journal) -> io::Result<Carried>
+/// What is due for a journal.
+fn graph_of(alloc: Global, cluster: &Cluster, journal: &Journal) -> Result<Graph, NoMemory>
+    requires valid { IsValid cluster.now }
+    requires moment { moment_of journal.now.events < 2 ^ 40 }
+{
+    let plan = plan(alloc, cluster, journal)?;
+    Ok(plan.graph)
+}
+
+/// How a transition ends where every action ends as is expected of it.
+fn end_of(alloc: Global, executor: Executor<'_>) -> End {
+    let mut executor = executor;
+    run_transition(&mut executor, &mut Script::new(Vec::new(alloc)))
+}
+
+/// How the transition of a graph ends.
+fn end_by(alloc: Global, cluster: &Cluster, journal: Journal, graph: Graph) -> Result<End, NoMemory>
     requires valid { IsValid cluster.now }
     requires moment { moment_of journal.events < 2 ^ 40 }
 {
     valid_clusters_have_few_monitors();
-    let out_of_memory = |_| io::Error::from(ErrorKind::OutOfMemory);
-    let graph = plan(rt.alloc(), cluster, &journal)
-        .map_err(out_of_memory)?
-        .graph;
+    match Executor::new(alloc, cluster, journal, graph) {
+        Ok(executor) => Ok(end_of(alloc, executor)),
+        Err(_) => Err(NoMemory),
+    }
+}
+
+fn carry_out(rt: &HostRuntime, cluster: &Cluster, journal: Journal) -> io::Result<Carried>
+    requires valid { IsValid cluster.now }
+    requires moment { moment_of journal.events < 2 ^ 40 }
+{
+    let graph = graph_of(rt.alloc(), cluster, &journal).map_err(|_| out_of_memory())?;
     let actions = graph.count();
     let began = Instant::now(rt)?;
-    let Ok(mut executor) = Executor::new(rt.alloc(), cluster, journal, graph) else {
-        return Err(io::Error::from(ErrorKind::OutOfMemory));
-    };
-    let end = run_transition(&mut executor, &mut Script::new(Vec::new(rt.alloc())));
+    let end = end_by(rt.alloc(), cluster, journal, graph).map_err(|_| out_of_memory())?;
     let nanos = began.elapsed(rt)?.as_nanos();
     Ok(Carried {
         actions,

@@ -23,15 +23,11 @@ use Rattle.graph_exec.proofs.Told.{adds_nothing}
 use Rattle.replan.specs.declared.planning.Planned.{Planned}
 use Rattle.replan.specs.declared.stop.ReplayStop.{ReplayStop}
 use Rattle.replan.specs.Replays.{Setting, Sight, WritesNamesOf, setting, sight}
-use Rattle.replan.specs.Turns.{Came, CameTo, EndsAs, EndsStopped, HasPlan, IsReady, known_of, left_of}
+use Rattle.replan.specs.Turns.{Came, CameTo, EndsAs, EndsStopped, HasPlan, IsReady, fresh_on, known_of, left_of}
 use Rattle.replan.proofs.Joined.{came_on, ends_on}
 use Rattle.replan.proofs.Named.{reasons_named}
 use Rattle.replan.proofs.Rests.{accords_first, accords_last, stays_there}
 use Rattle.replan.proofs.Steps.{came_planned, lines_of_plan, plan_text, planned_step}
-
--- nothing of the graph has begun
-abbrev fresh_on : JournalOf → GraphOf → Running
-fresh_on j g = record { cluster = j.cluster; graph = g; planned_at = j.events; since = []; promotions = j.promotions }
 
 pub is_ready : (j : JournalOf) (p : Planned) (g : GraphOf) → IsValid j.cluster → IsAtRest j.events → p.executor ≡ fresh_on j g
     → CarriesOut j.cluster j.events j.promotions p.placed g → IsReady j p

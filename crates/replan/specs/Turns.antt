@@ -9,6 +9,7 @@ use Rattle.cluster_types.specs.declared.journal.Promotion.{Promotion}
 use Rattle.cluster_types.specs.declared.placement.Placed.{Placed}
 use Rattle.cluster_types.specs.declared.run.RunLine.{RunLine}
 use Rattle.cluster_types.specs.Runs.{Standing, due, idle, Runs, RunsOn, IsAsking, IsBetween, IsCut, IsOver, journal_at}
+use Rattle.cluster_types.specs.Graphs.{GraphOf}
 use Rattle.cluster_types.specs.Plans.{CarriesOut}
 use Rattle.cluster_types.specs.Unpacked.{states_of}
 use Rattle.graph_exec.specs.Logs.{JournalOf}
@@ -113,6 +114,10 @@ module _ (s : Setting) (from : Standing) (old new : Sight) where
   EndsAs (Err (stop.Stopped journal)) = EndsStopped journal
   EndsAs (Err (stop.Most journal)) = ⊥
   EndsAs (Err stop.NoMemory) = EndsBetween
+
+-- nothing of the graph has begun
+abbrev pub fresh_on : JournalOf → GraphOf → Running
+fresh_on j g = record { cluster = j.cluster; graph = g; planned_at = j.events; since = []; promotions = j.promotions }
 
 -- the transition that is planned for a journal, of which nothing has begun
 pub record IsReady (journal : JournalOf) (p : Planned) : Type 0 where

@@ -2,9 +2,10 @@
 
 ghost use Rattle.std.specs.Prelude.{◌≡◌, IfOk, IfSome};
 ghost use Rattle.cluster_types.specs.Safety.{IsAtRest};
+ghost use Rattle.cluster_types.specs.Unpacked.{states_of};
 ghost use Rattle.cluster_types.specs.Valid.{IsValid};
 ghost use Rattle.planner.specs.Planned.{AreTold};
-ghost use Rattle.replan.specs.Turns.{IsReady, Serves, ServesAgain};
+ghost use Rattle.replan.specs.Turns.{IsReady, Serves, ServesAgain, fresh_on};
 
 use crate::same_states::are_same;
 use cluster_types::{Cluster, Graph, NoMemory, Placed, States};
@@ -28,6 +29,21 @@ pub(crate) struct Planned<'c> {
     pub executor: Executor<'c>,
 }
 
+/// A new plan for these states, which some journal tells.
+fn made_for(alloc: Global, cluster: &Cluster, states: States) -> Result<KeptPlan, NoMemory>
+    requires valid { IsValid cluster.now }
+    requires told { AreTold cluster.now states }
+    ensures states { IfOk result (λ plan. plan.states ≡ states) }
+    ensures serves { IfOk result (Serves cluster.now) }
+{
+    let plan = plan_of(alloc, cluster, states)?;
+    Ok(KeptPlan {
+        states: plan.states,
+        placed: plan.placed,
+        graph: plan.graph,
+    })
+}
+
 /// The plan for these states, which some journal tells: the last one, where it was made for the same.
 fn plan_for(
     alloc: Global,
@@ -46,12 +62,36 @@ fn plan_for(
             return Ok(plan);
         }
     }
-    let plan = plan_of(alloc, cluster, states)?;
-    Ok(KeptPlan {
-        states: plan.states,
-        placed: plan.placed,
-        graph: plan.graph,
-    })
+    made_for(alloc, cluster, states)
+}
+
+/// The plan for what a journal tells.
+fn plan_by(
+    alloc: Global,
+    journal: &KnownJournal<'_>,
+    last: Option<KeptPlan>,
+) -> Result<KeptPlan, NoMemory>
+    requires valid { IsValid journal.now.cluster }
+    requires last { IfSome last (Serves journal.now.cluster) }
+    ensures states { IfOk result (λ plan. plan.states ≡ states_of journal.now.cluster journal.now.events journal.now.promotions) }
+    ensures serves { IfOk result (Serves journal.now.cluster) }
+{
+    let states = journal.states(alloc)?;
+    plan_for(alloc, journal.cluster(), states, last)
+}
+
+/// The transition of a graph for a journal, of which nothing has begun.
+fn begun_on<'c>(
+    alloc: Global,
+    journal: KnownJournal<'c>,
+    graph: Graph,
+) -> Result<Executor<'c>, NoMemory>
+    ensures { IfOk result (λ executor. executor ≡ fresh_on journal.entry graph) }
+{
+    match Executor::on(alloc, journal, graph) {
+        Ok(executor) => Ok(executor),
+        Err(_) => Err(NoMemory),
+    }
 }
 
 /// The transition that is planned for the journal. Where it tells the same states as that of the last plan, that plan serves
@@ -67,14 +107,11 @@ pub(crate) fn plan_next<'c>(
     ensures ready { IfOk result (λ planned. IsReady journal.entry planned) }
     ensures serves { IfOk result (ServesAgain journal.entry.cluster) }
 {
-    let states = journal.states(alloc)?;
-    let plan = plan_for(alloc, journal.cluster(), states, last)?;
-    match Executor::on(alloc, journal, plan.graph) {
-        Ok(executor) => Ok(Planned {
-            states: plan.states,
-            placed: plan.placed,
-            executor,
-        }),
-        Err(_) => Err(NoMemory),
-    }
+    let plan = plan_by(alloc, &journal, last)?;
+    let executor = begun_on(alloc, journal, plan.graph)?;
+    Ok(Planned {
+        states: plan.states,
+        placed: plan.placed,
+        executor,
+    })
 }

@@ -21,7 +21,11 @@ pub data IsRunOf (c : Cluster) (journal : Journal) (answers : List Answer) (run 
       → IsCutRun c journal.promotions true journal.events (Some answers) (run_lines c run) run.journal.events given behind → IsRunOf c journal answers run
 
 -- the text is the summary of the run of the case of this number
-pub record IsSummaryText (number : ℕ) (whole : Input) (text : List ℕ) : Type 0 where
+pub record IsSummaryOf (number : ℕ) (c : Cluster) (journal : Journal) (answers : List Answer) (text : List ℕ) : Type 0 where
   pub run : Run
-  pub is : IsRunOf whole.head.cluster whole.head.journal (answers_of whole.results) run
-  pub printed : text ≡ summary_text whole.head.cluster number run
+  pub is : IsRunOf c journal answers run
+  pub printed : text ≡ summary_text c number run
+
+-- the text is the summary of the run of what the input says
+abbrev pub IsSummaryText : ℕ → Input → List ℕ → Type 0
+IsSummaryText number whole text = IsSummaryOf number whole.head.cluster whole.head.journal (answers_of whole.results) text

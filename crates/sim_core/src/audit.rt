@@ -1,7 +1,12 @@
 //! The word `audit`: whether a written run is that of its own answers.
 
-ghost use Rattle.std.specs.Prelude.{◌≡◌, IfOk};
+ghost use Rattle.std.specs.Prelude.{◌≡◌, ◌<◌, ◌^◌, IfOk};
+ghost use Rattle.cluster_types.specs.Journals.{moment_of};
+ghost use Rattle.cluster_types.specs.Safety.{IsAtRest};
+ghost use Rattle.cluster_types.specs.Valid.{IsValid};
+ghost use Rattle.run_lines.specs.Written.{AreNamed};
 ghost use Rattle.sim_core.specs.Audit.{IsAuditOutput, clause_name, unlawful_text};
+ghost use Rattle.trace_audit.specs.Lawful.{Judges};
 
 use crate::input_word::InputWord;
 use crate::status::Status;
@@ -37,6 +42,18 @@ fn unlawful_text(alloc: Global, line: u32, clause: Clause) -> Result<Vec<u8>, No
     Ok(text)
 }
 
+/// What is found of a trace that was read.
+fn verdict_of(alloc: Global, trace: Trace) -> Result<Verdict, NoMemory>
+    requires valid { IsValid trace.head.cluster }
+    requires at_rest { IsAtRest trace.head.journal.events }
+    requires moment { moment_of trace.head.journal.events < 2 ^ 40 }
+    requires named { AreNamed trace.run.lines }
+    ensures { IfOk result (Judges trace.head.cluster trace.head.journal trace.run.lines trace.after) }
+{
+    let Trace { head, run, after } = trace;
+    audit(alloc, &head.cluster, &head.journal, &run, after)
+}
+
 /// The word `audit`.
 #[derive(Drop)]
 pub(crate) struct AuditWord;
@@ -45,18 +62,17 @@ impl InputWord for AuditWord {
     ghost gets = { λ _. IsAuditOutput };
 
     fn answer(&self, alloc: Global, input: Vec<u8>) -> Result<(Status, Vec<u8>), NoMemory> {
-        let Trace { head, run, after } = match read_trace(alloc, input) {
-            Ok(trace) => trace,
+        match read_trace(alloc, input) {
+            Ok(trace) => match verdict_of(alloc, trace)? {
+                Verdict::Yes => Ok((Status::Done, Vec::from_slice(alloc, b"lawful\n")?)),
+                Verdict::No { line, clause } => {
+                    Ok((Status::NotLawful, unlawful_text(alloc, line, clause)?))
+                }
+            },
             Err(InputFault::At { line, cause }) => {
-                return Ok((Status::Refused, refusal_text(alloc, line, cause)?));
+                Ok((Status::Refused, refusal_text(alloc, line, cause)?))
             }
-            Err(InputFault::NoMemory) => return Err(NoMemory),
-        };
-        match audit(alloc, &head.cluster, &head.journal, &run, after)? {
-            Verdict::Yes => Ok((Status::Done, Vec::from_slice(alloc, b"lawful\n")?)),
-            Verdict::No { line, clause } => {
-                Ok((Status::NotLawful, unlawful_text(alloc, line, clause)?))
-            }
+            Err(InputFault::NoMemory) => Err(NoMemory),
         }
     }
 }

@@ -8,7 +8,7 @@ ghost use Rattle.cluster_types.specs.Safety.{IsAtRest};
 ghost use Rattle.cluster_types.specs.Valid.{IsValid};
 ghost use Rattle.op_history.specs.Results.{most_results};
 ghost use Rattle.sim_core.specs.Answers.{IsOutcome, MayAnswer, SaysOf};
-ghost use Rattle.sim_core.specs.Generated.{IsRunOf, IsSummaryText, answers_of};
+ghost use Rattle.sim_core.specs.Generated.{IsRunOf, IsSummaryOf, IsSummaryText, answers_of};
 ghost use Rattle.sim_core.specs.Outputs.{IsOutput};
 ghost use Rattle.input_reading.specs.Reading.{most_bytes};
 ghost use Rattle.sim_core.specs.Table.{nothing};
@@ -60,6 +60,24 @@ fn run_of(
     }
 }
 
+/// The summary of the run from a journal on, as the case of this number.
+fn summary_by(
+    alloc: Global,
+    number: u32,
+    cluster: &Cluster,
+    journal: Journal,
+    results: &[ResultLine],
+) -> Result<Vec<u8>, NoMemory>
+    requires valid { IsValid cluster.now }
+    requires at_rest { IsAtRest journal.events }
+    requires moment { moment_of journal.events < 2 ^ 40 }
+    requires few { length results.now ≤ most_results }
+    ensures { IfOk result (λ text. IsSummaryOf number cluster.now journal (answers_of results.now) text.items) }
+{
+    let run = run_of(alloc, cluster, journal, results)?;
+    summary_text(alloc, cluster, number, &run)
+}
+
 /// The summary of the run of the case of this number, which says this.
 fn summary_of(alloc: Global, number: u32, whole: Input) -> Result<Vec<u8>, NoMemory>
     requires valid { IsValid whole.head.cluster }
@@ -74,8 +92,7 @@ fn summary_of(alloc: Global, number: u32, whole: Input) -> Result<Vec<u8>, NoMem
         cluster,
         journal,
     } = head;
-    let run = run_of(alloc, &cluster, journal, results.as_slice())?;
-    Ok(summary_text(alloc, &cluster, number, &run)?)
+    summary_by(alloc, number, &cluster, journal, results.as_slice())
 }
 
 /// The status and the text that the case of this number gets.

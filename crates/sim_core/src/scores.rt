@@ -25,8 +25,7 @@ fn placed(alloc: Global, head: &Head) -> Result<Placed, NoMemory>
     valid_clusters_have_few_monitors();
     let states = unpack(alloc, &head.cluster, &head.journal)?;
     let scores = rows(alloc, &head.cluster, &states)?;
-    let placed = place(alloc, &head.cluster, &states, &scores)?;
-    Ok(placed)
+    place(alloc, &head.cluster, &states, &scores)
 }
 
 /// The word `scores`.
@@ -38,6 +37,6 @@ impl TextWord for ScoresWord {
 
     fn text(&self, alloc: Global, input: &Input) -> Result<Vec<u8>, NoMemory> {
         let placed = placed(alloc, &input.head)?;
-        Ok(score_text(alloc, &input.head.cluster, &placed)?)
+        score_text(alloc, &input.head.cluster, &placed)
     }
 }

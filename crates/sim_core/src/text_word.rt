@@ -39,6 +39,15 @@ pub(crate) fn refusal_text(alloc: Global, line: u32, cause: InputCause) -> Resul
     Ok(text)
 }
 
+/// The text that a word says of an input that was read.
+fn text_of<T: TextWord>(word: &T, alloc: Global, whole: Input) -> Result<Vec<u8>, NoMemory>
+    requires valid { IsValid whole.head.cluster }
+    requires moment { moment_of whole.head.journal.events < 2 ^ 40 }
+    ensures { IfOk result (λ text. T.says word.now whole text.items) }
+{
+    word.text(alloc, &whole)
+}
+
 /// The word over inputs as they are: one that can't be read is refused.
 #[derive(Drop)]
 pub(crate) struct Reading<T>(pub T);
@@ -48,7 +57,7 @@ impl<T: TextWord> InputWord for Reading<T> {
 
     fn answer(&self, alloc: Global, input: Vec<u8>) -> Result<(Status, Vec<u8>), NoMemory> {
         match read_input(alloc, input) {
-            Ok(whole) => Ok((Status::Done, self.0.text(alloc, &whole)?)),
+            Ok(whole) => Ok((Status::Done, text_of(&self.0, alloc, whole)?)),
             Err(InputFault::At { line, cause }) => {
                 Ok((Status::Refused, refusal_text(alloc, line, cause)?))
             }

@@ -28,7 +28,7 @@ fn text_of(alloc: Global, number: u32, whole: Input) -> Result<Vec<u8>, NoMemory
         cluster,
         journal,
     } = head;
-    Ok(world_text(alloc, &cluster, journal, number)?)
+    world_text(alloc, &cluster, journal, number)
 }
 
 /// The word `world`, with the number of a simulated cluster.

@@ -16,6 +16,6 @@ returns c =
       actions = actions;
       is = carries.plan;
       printed =
-          c.in_ok-graph_text.ensures
+          c.in_ok-text_of.ensures
           ∙ texts_alike cl actions (is_before plan.graph) (λ j k. precedes_by_number cl actions (numbered actions j) (numbered actions k)) carries.pairs;
     }

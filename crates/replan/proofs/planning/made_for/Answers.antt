@@ -1,5 +1,5 @@
 use Rattle.replan.proofs.Served.{made_for, serves_made}
-use Rattle.replan.proofs.planning.plan_for.Goals as goal
+use Rattle.replan.proofs.planning.made_for.Goals as goal
 
 pub returns-clause-states : goal.returns-clause-states
 returns-clause-states c = made_for _ _ _ c.requires.told c.in_ok-plan.ensures
