@@ -27,7 +27,7 @@ fn first(rt: &impl Abort, alloc: Global, positions: u32, edges: &[Edge]) -> Opti
 }
 
 /// A number of positions, edges by their ends, and the place of the first edge that closes a loop.
-const ROWS: [(u32, &[(u32, u32)], Option<usize>); 12] = [
+const ROWS: &[(u32, &[(u32, u32)], Option<usize>)] = &[
     // Without a loop.
     (0, &[], None),
     (5, &[], None),
@@ -58,8 +58,8 @@ fn the_first_edge_that_closes_a_loop(rt: HostRuntime) {
     let alloc = rt.alloc();
     for (positions, pairs, want) in ROWS {
         let edges = edges(&rt, alloc, pairs);
-        let found = first(&rt, alloc, positions, edges.as_slice());
-        assert_eq!(rt; found, want, "{pairs:?}");
+        let found = first(&rt, alloc, *positions, edges.as_slice());
+        assert_eq!(rt; found, *want, "{pairs:?}");
     }
 }
 

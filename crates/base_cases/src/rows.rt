@@ -12,7 +12,7 @@ use score::Score;
 use std::alloc::Global;
 use std::process::Abort;
 
-const LENGTHS: [u32; 10] = [0, 1, 7, 8, 9, 63, 64, 65, 255, 256];
+const LENGTHS: &[u32] = &[0, 1, 7, 8, 9, 63, 64, 65, 255, 256];
 
 const MINUS: i32 = -1_000_000;
 
@@ -82,6 +82,7 @@ fn compare(rt: &impl Abort, row: &Row, nodes: u32)
 #[test]
 fn totals_of_the_table(rt: HostRuntime) {
     for nodes in LENGTHS {
+        let nodes = *nodes;
         assert!(&rt; nodes <= 256);
         if nodes == 0 {
             compare(&rt, &row_with(&rt, rt.alloc(), nodes, &[]), nodes);
@@ -101,6 +102,7 @@ fn totals_of_the_table(rt: HostRuntime) {
 #[test]
 fn sums_of_the_table(rt: HostRuntime) {
     for nodes in LENGTHS {
+        let nodes = *nodes;
         assert!(&rt; 0 < nodes + 1 && nodes <= 256);
         let last = nodes.saturating_sub(1);
         let ours = [(last, MINUS), (nodes / 2, MANY)];
@@ -133,6 +135,7 @@ fn most_of(bound: u32) -> NodeSet
 #[test]
 fn candidates_of_the_table(rt: HostRuntime) {
     for nodes in LENGTHS {
+        let nodes = *nodes;
         assert!(&rt; nodes <= 256);
         let count = nodes as usize;
         let mut scores = [Score { points: 7 }; 256];
@@ -170,6 +173,14 @@ fn set_of(rt: &impl Abort, bound: u32, nodes: &[u32]) -> NodeSet
     set
 }
 
+/// Loads of the four nodes, the nodes to choose from, and the one that is chosen.
+const GREATEST: &[([u32; 4], &[u32], Option<u32>)] = &[
+    ([0, 0, 1, 1], &[0, 1, 2, 3], Some(2)),
+    ([0, 0, 1, 1], &[0, 1], Some(0)),
+    ([0, 0, 2, 1], &[0, 1, 2, 3], Some(3)),
+    ([0, 0, 1, 1], &[], None),
+];
+
 #[test]
 fn the_greatest_of_four(rt: HostRuntime) {
     let scores = [
@@ -178,18 +189,17 @@ fn the_greatest_of_four(rt: HostRuntime) {
         Score { points: 7 },
         Score { points: 7 },
     ];
-    let loads = [0, 0, 1, 1];
-    let all = set_of(&rt, 4, &[0, 1, 2, 3]);
-    let two = set_of(&rt, 4, &[0, 1]);
-    let none = NodeSet::none();
-    assert_eq!(&rt; greatest(&scores, &loads, &all), Some(2));
-    assert_eq!(&rt; greatest_plain(&scores, &loads, &all), Some(2));
-    assert_eq!(&rt; greatest(&scores, &loads, &two), Some(0));
-    assert_eq!(&rt; greatest_plain(&scores, &loads, &two), Some(0));
-    assert_eq!(&rt; greatest(&scores, &[0, 0, 2, 1], &all), Some(3));
-    assert_eq!(&rt; greatest_plain(&scores, &[0, 0, 2, 1], &all), Some(3));
-    assert_eq!(&rt; greatest(&scores, &loads, &none), None);
-    assert_eq!(&rt; greatest_plain(&scores, &loads, &none), None);
+    for (loads, nodes, want) in GREATEST {
+        let among = set_of(&rt, 4, nodes);
+        assert!(&rt;
+            greatest(&scores, loads, &among) == *want,
+            "by lanes, {loads:?}"
+        );
+        assert!(&rt;
+            greatest_plain(&scores, loads, &among) == *want,
+            "plain, {loads:?}"
+        );
+    }
 }
 
 #[test]

@@ -11,22 +11,24 @@ fn text(rt: &impl Abort, alloc: Global, bytes: &[u8]) -> Text {
     Text::from(bytes.to_vec(alloc).expect(rt, "memory"))
 }
 
+/// The attributes of the node.
+const ATTRIBUTES: &[(&[u8], &[u8])] = &[
+    (b"rack", b"b"),
+    (b"rack", b"c"),
+    (b"level", b"10"),
+    (b"signed", b"+7"),
+    (b"low", b"-3"),
+    (b"note", b"abc"),
+    (b"empty", b""),
+    (b"big", b"9223372036854775807"),
+    (b"huge", b"9223372036854775808"),
+    (b"#uname", b"zz"),
+];
+
 /// The written attributes of the node.
 fn attributes(rt: &impl Abort, alloc: Global) -> Vec<Pair> {
-    let rows: [(&[u8], &[u8]); 10] = [
-        (b"rack", b"b"),
-        (b"rack", b"c"),
-        (b"level", b"10"),
-        (b"signed", b"+7"),
-        (b"low", b"-3"),
-        (b"note", b"abc"),
-        (b"empty", b""),
-        (b"big", b"9223372036854775807"),
-        (b"huge", b"9223372036854775808"),
-        (b"#uname", b"zz"),
-    ];
     let mut pairs = Vec::new(alloc);
-    for (name, value) in rows {
+    for (name, value) in ATTRIBUTES {
         pairs
             .push(Pair {
                 name: text(rt, alloc, name),
@@ -54,103 +56,118 @@ fn test_passes(rt: &impl Abort, alloc: Global, test: Test) -> bool {
     rule_holds(rt, alloc, true, tests, MOMENT)
 }
 
+/// An attribute, how and as what it is compared with a value, and whether the test passes.
+const COMPARISONS: &[(&[u8], Compare, Kind, &[u8], bool)] = &[
+    (b"rack", Compare::Eq, Kind::Auto, b"b", true),
+    (b"rack", Compare::Eq, Kind::Auto, b"c", false),
+    (b"rack", Compare::Ne, Kind::Word, b"c", true),
+    (b"level", Compare::Gt, Kind::Number, b"9", true),
+    (b"level", Compare::Gt, Kind::Word, b"9", false),
+    (b"level", Compare::Gt, Kind::Auto, b"9", true),
+    (b"level", Compare::Gt, Kind::Auto, b"9a", false),
+    (b"level", Compare::Lt, Kind::Auto, b"9a", true),
+    (b"level", Compare::Lte, Kind::Number, b"10", true),
+    (b"level", Compare::Gte, Kind::Number, b"11", false),
+    (b"signed", Compare::Eq, Kind::Number, b"7", true),
+    (b"signed", Compare::Eq, Kind::Word, b"7", false),
+    (b"low", Compare::Lt, Kind::Number, b"-2", true),
+    (b"low", Compare::Lt, Kind::Word, b"-2", false),
+    (b"note", Compare::Eq, Kind::Number, b"abc", false),
+    (b"note", Compare::Ne, Kind::Number, b"5", false),
+    (b"level", Compare::Ne, Kind::Number, b"x", false),
+    (b"note", Compare::Lt, Kind::Word, b"abd", true),
+    (b"note", Compare::Gt, Kind::Word, b"ab", true),
+    (b"missing", Compare::Ne, Kind::Word, b"x", false),
+    (b"missing", Compare::Eq, Kind::Word, b"", false),
+    (b"empty", Compare::Eq, Kind::Word, b"", true),
+    (b"empty", Compare::Lt, Kind::Number, b"1", false),
+    (
+        b"big",
+        Compare::Gte,
+        Kind::Number,
+        b"9223372036854775807",
+        true,
+    ),
+    (b"huge", Compare::Gt, Kind::Number, b"5", false),
+    (
+        b"huge",
+        Compare::Gt,
+        Kind::Auto,
+        b"9223372036854775807",
+        true,
+    ),
+    (b"#uname", Compare::Eq, Kind::Auto, b"n1", true),
+    (b"#uname", Compare::Eq, Kind::Auto, b"zz", false),
+];
+
 #[test]
 fn comparisons(rt: HostRuntime) {
     let alloc = rt.alloc();
-    let rows: [(&[u8], Compare, Kind, &[u8], bool); 28] = [
-        (b"rack", Compare::Eq, Kind::Auto, b"b", true),
-        (b"rack", Compare::Eq, Kind::Auto, b"c", false),
-        (b"rack", Compare::Ne, Kind::Word, b"c", true),
-        (b"level", Compare::Gt, Kind::Number, b"9", true),
-        (b"level", Compare::Gt, Kind::Word, b"9", false),
-        (b"level", Compare::Gt, Kind::Auto, b"9", true),
-        (b"level", Compare::Gt, Kind::Auto, b"9a", false),
-        (b"level", Compare::Lt, Kind::Auto, b"9a", true),
-        (b"level", Compare::Lte, Kind::Number, b"10", true),
-        (b"level", Compare::Gte, Kind::Number, b"11", false),
-        (b"signed", Compare::Eq, Kind::Number, b"7", true),
-        (b"signed", Compare::Eq, Kind::Word, b"7", false),
-        (b"low", Compare::Lt, Kind::Number, b"-2", true),
-        (b"low", Compare::Lt, Kind::Word, b"-2", false),
-        (b"note", Compare::Eq, Kind::Number, b"abc", false),
-        (b"note", Compare::Ne, Kind::Number, b"5", false),
-        (b"level", Compare::Ne, Kind::Number, b"x", false),
-        (b"note", Compare::Lt, Kind::Word, b"abd", true),
-        (b"note", Compare::Gt, Kind::Word, b"ab", true),
-        (b"missing", Compare::Ne, Kind::Word, b"x", false),
-        (b"missing", Compare::Eq, Kind::Word, b"", false),
-        (b"empty", Compare::Eq, Kind::Word, b"", true),
-        (b"empty", Compare::Lt, Kind::Number, b"1", false),
-        (
-            b"big",
-            Compare::Gte,
-            Kind::Number,
-            b"9223372036854775807",
-            true,
-        ),
-        (b"huge", Compare::Gt, Kind::Number, b"5", false),
-        (
-            b"huge",
-            Compare::Gt,
-            Kind::Auto,
-            b"9223372036854775807",
-            true,
-        ),
-        (b"#uname", Compare::Eq, Kind::Auto, b"n1", true),
-        (b"#uname", Compare::Eq, Kind::Auto, b"zz", false),
-    ];
-    for (name, compare, kind, value, expected) in rows {
+    for (name, compare, kind, value, expected) in COMPARISONS {
         let test = Test::Attribute {
             name: text(&rt, alloc, name),
-            compare,
-            kind,
+            compare: *compare,
+            kind: *kind,
             value: text(&rt, alloc, value),
         };
-        assert_eq!(rt; test_passes(&rt, alloc, test), expected);
+        assert_eq!(rt; test_passes(&rt, alloc, test), *expected);
     }
 }
+
+/// Names, and whether the node has such an attribute.
+const NAMES: &[(&[u8], bool)] = &[(b"rack", true), (b"missing", false), (b"#uname", true)];
 
 #[test]
 fn presence(rt: HostRuntime) {
     let alloc = rt.alloc();
-    let rows: [(&[u8], bool); 3] = [(b"rack", true), (b"missing", false), (b"#uname", true)];
-    for (name, expected) in rows {
+    for (name, expected) in NAMES {
         let defined = Test::Defined {
             name: text(&rt, alloc, name),
         };
-        assert_eq!(rt; test_passes(&rt, alloc, defined), expected);
+        assert_eq!(rt; test_passes(&rt, alloc, defined), *expected);
         let not_defined = Test::NotDefined {
             name: text(&rt, alloc, name),
         };
-        assert_eq!(rt; test_passes(&rt, alloc, not_defined), !expected);
+        assert_eq!(rt; test_passes(&rt, alloc, not_defined), !*expected);
     }
 }
+
+/// Bounds, and whether the moment of 1000 is before and after each.
+const BOUNDS: &[(i64, bool, bool)] = &[
+    (999, false, true),
+    (1000, false, false),
+    (1001, true, false),
+    (-5, false, true),
+];
+
+/// Starts and ends, and whether the moment of 1000 is within.
+const SPANS: &[(i64, i64, bool)] = &[
+    (1000, 1000, true),
+    (1001, 2000, false),
+    (-10, 999, false),
+    (-10, 5000, true),
+    (2000, 500, false),
+];
 
 #[test]
 fn moments(rt: HostRuntime) {
     let alloc = rt.alloc();
-    let rows: [(i64, bool, bool); 4] = [
-        (999, false, true),
-        (1000, false, false),
-        (1001, true, false),
-        (-5, false, true),
-    ];
-    for (at, before, after) in rows {
-        let is_before = test_passes(&rt, alloc, Test::Before { at });
-        let is_after = test_passes(&rt, alloc, Test::After { at });
-        assert_eq!(rt; is_before, before);
-        assert_eq!(rt; is_after, after);
+    for (at, before, after) in BOUNDS {
+        let is_before = test_passes(&rt, alloc, Test::Before { at: *at });
+        let is_after = test_passes(&rt, alloc, Test::After { at: *at });
+        assert!(rt; is_before == *before && is_after == *after, "{at}");
     }
-    let rows: [(i64, i64, bool); 5] = [
-        (1000, 1000, true),
-        (1001, 2000, false),
-        (-10, 999, false),
-        (-10, 5000, true),
-        (2000, 500, false),
-    ];
-    for (start, end, expected) in rows {
-        let is_within = test_passes(&rt, alloc, Test::Within { start, end });
-        assert_eq!(rt; is_within, expected);
+}
+
+#[test]
+fn spans(rt: HostRuntime) {
+    let alloc = rt.alloc();
+    for (start, end, expected) in SPANS {
+        let within = Test::Within {
+            start: *start,
+            end: *end,
+        };
+        assert_eq!(rt; test_passes(&rt, alloc, within), *expected);
     }
 }
 

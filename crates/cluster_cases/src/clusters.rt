@@ -32,20 +32,49 @@ fn all_nodes(rt: &impl Abort, alloc: Global, cluster: &Cluster) -> String {
     told
 }
 
+/// A part of a cluster that is told.
+#[derive(Clone, Copy)]
+enum Part {
+    Nodes,
+    Options,
+    Locations,
+    Colocations,
+    Orders,
+}
+
+fn told(rt: &impl Abort, alloc: Global, part: Part, cluster: &Cluster) -> String {
+    match part {
+        Part::Nodes => all_nodes(rt, alloc, cluster),
+        Part::Options => options(rt, alloc, cluster),
+        Part::Locations => all_locations(rt, alloc, cluster),
+        Part::Colocations => all_colocations(rt, alloc, cluster),
+        Part::Orders => all_orders(rt, alloc, cluster),
+    }
+}
+
+/// A configuration in a line, and what is told of it.
+type Row = (&'static str, &'static str);
+
+/// Compares what is told of a part of the clusters.
+fn compare(rt: &impl Abort, alloc: Global, part: Part, rows: &[Row]) {
+    for (text, want) in rows {
+        let cluster = cluster(rt, alloc, text);
+        let told = told(rt, alloc, part, &cluster);
+        assert_eq!(rt; told.as_str(), *want, "{text}");
+    }
+}
+
+const NODES: &[Row] = &[
+    ("primitive a Dummy", ""),
+    (
+        "node n1|node 2: n2 attributes standby=off rack=7 room=x utilization cpu=4|node n3 attributes standby=ON",
+        "n1 false;n2 false standby=off rack=7 room=x;n3 true standby=ON;",
+    ),
+];
+
 #[test]
 fn nodes_of_clusters(rt: HostRuntime) {
-    let table = [
-        ("primitive a Dummy", ""),
-        (
-            "node n1|node 2: n2 attributes standby=off rack=7 room=x utilization cpu=4|node n3 attributes standby=ON",
-            "n1 false;n2 false standby=off rack=7 room=x;n3 true standby=ON;",
-        ),
-    ];
-    for (text, want) in table {
-        let cluster = cluster(&rt, rt.alloc(), text);
-        let told = all_nodes(&rt, rt.alloc(), &cluster);
-        assert_eq!(rt; told.as_str(), want, "{text}");
-    }
+    compare(&rt, rt.alloc(), Part::Nodes, NODES);
 }
 
 fn options(rt: &impl Abort, alloc: Global, cluster: &Cluster) -> String {
@@ -58,28 +87,25 @@ fn options(rt: &impl Abort, alloc: Global, cluster: &Cluster) -> String {
     ).expect(rt, "memory")
 }
 
+const OPTIONS: &[Row] = &[
+    ("node n1", "true true true Stop true false 0"),
+    (
+        "property symmetric-cluster=no no-quorum-policy=freeze|property x: batch-limit=12 stop-all-resources=1",
+        "false true true Freeze true true 12",
+    ),
+    (
+        "property no-quorum-policy=ignore stonith-enabled=off startup-fencing=n start-failure-is-fatal=false",
+        "true false false Ignore false false 0",
+    ),
+    (
+        "rsc_defaults symmetric-cluster=false|property other=1 no-quorum-policy=stop",
+        "true true true Stop true false 0",
+    ),
+];
+
 #[test]
 fn options_of_clusters(rt: HostRuntime) {
-    let table = [
-        ("node n1", "true true true Stop true false 0"),
-        (
-            "property symmetric-cluster=no no-quorum-policy=freeze|property x: batch-limit=12 stop-all-resources=1",
-            "false true true Freeze true true 12",
-        ),
-        (
-            "property no-quorum-policy=ignore stonith-enabled=off startup-fencing=n start-failure-is-fatal=false",
-            "true false false Ignore false false 0",
-        ),
-        (
-            "rsc_defaults symmetric-cluster=false|property other=1 no-quorum-policy=stop",
-            "true true true Stop true false 0",
-        ),
-    ];
-    for (text, want) in table {
-        let cluster = cluster(&rt, rt.alloc(), text);
-        let told = options(&rt, rt.alloc(), &cluster);
-        assert_eq!(rt; told.as_str(), want, "{text}");
-    }
+    compare(&rt, rt.alloc(), Part::Options, OPTIONS);
 }
 
 fn shown_role(role: Role) -> &'static str {
@@ -114,31 +140,28 @@ fn all_locations(rt: &impl Abort, alloc: Global, cluster: &Cluster) -> String {
     told
 }
 
+const LOCATIONS: &[Row] = &[
+    (
+        "location l g -inf: n2|node n1|node n2|primitive x Dummy|primitive a Dummy|primitive b Dummy|group g b a",
+        "l 2s -1000000 1;+",
+    ),
+    (
+        "node n1|primitive a Dummy|ms m a|location l m role=Master 5: n1|location k a 7: n1",
+        "l 0p 5 0;k 0s 7 0;+",
+    ),
+    (
+        "primitive a Dummy|ms m a|location l m role=Promoted rule 5: defined x and rack lt 4 rule $role=Started -inf: not_defined x",
+        "+l 0p 5 true 2;l 0s -1000000 true 1;",
+    ),
+    (
+        "primitive a Dummy|location l a role=Promoted rule $role=Started 5: defined x or defined y",
+        "+l 0s 5 false 2;",
+    ),
+];
+
 #[test]
 fn locations_of_clusters(rt: HostRuntime) {
-    let table = [
-        (
-            "location l g -inf: n2|node n1|node n2|primitive x Dummy|primitive a Dummy|primitive b Dummy|group g b a",
-            "l 2s -1000000 1;+",
-        ),
-        (
-            "node n1|primitive a Dummy|ms m a|location l m role=Master 5: n1|location k a 7: n1",
-            "l 0p 5 0;k 0s 7 0;+",
-        ),
-        (
-            "primitive a Dummy|ms m a|location l m role=Promoted rule 5: defined x and rack lt 4 rule $role=Started -inf: not_defined x",
-            "+l 0p 5 true 2;l 0s -1000000 true 1;",
-        ),
-        (
-            "primitive a Dummy|location l a role=Promoted rule $role=Started 5: defined x or defined y",
-            "+l 0s 5 false 2;",
-        ),
-    ];
-    for (text, want) in table {
-        let cluster = cluster(&rt, rt.alloc(), text);
-        let told = all_locations(&rt, rt.alloc(), &cluster);
-        assert_eq!(rt; told.as_str(), want, "{text}");
-    }
+    compare(&rt, rt.alloc(), Part::Locations, LOCATIONS);
 }
 
 fn tell_colocation(told: &mut String, rule: &Colocation) -> Result<(), AllocError> {
@@ -160,23 +183,20 @@ fn all_colocations(rt: &impl Abort, alloc: Global, cluster: &Cluster) -> String 
     told
 }
 
+const COLOCATIONS: &[Row] = &[
+    (
+        "primitive a Dummy|primitive b Dummy|primitive c Dummy|group g c a b|primitive x Dummy|primitive y Dummy|colocation k 5: g x|colocation l -inf: y g",
+        "g 0s 2s 1000000;g 1s 0s 1000000;k 2s 3s 5;l 4s 1s -1000000;",
+    ),
+    (
+        "primitive a Dummy|ms m a|primitive v Dummy|colocation c inf: v m:Master",
+        "c 1s 0p 1000000;",
+    ),
+];
+
 #[test]
 fn colocations_of_clusters(rt: HostRuntime) {
-    let table = [
-        (
-            "primitive a Dummy|primitive b Dummy|primitive c Dummy|group g c a b|primitive x Dummy|primitive y Dummy|colocation k 5: g x|colocation l -inf: y g",
-            "g 0s 2s 1000000;g 1s 0s 1000000;k 2s 3s 5;l 4s 1s -1000000;",
-        ),
-        (
-            "primitive a Dummy|ms m a|primitive v Dummy|colocation c inf: v m:Master",
-            "c 1s 0p 1000000;",
-        ),
-    ];
-    for (text, want) in table {
-        let cluster = cluster(&rt, rt.alloc(), text);
-        let told = all_colocations(&rt, rt.alloc(), &cluster);
-        assert_eq!(rt; told.as_str(), want, "{text}");
-    }
+    compare(&rt, rt.alloc(), Part::Colocations, COLOCATIONS);
 }
 
 fn tell_order(told: &mut String, rule: &Order) -> Result<(), AllocError> {
@@ -199,39 +219,36 @@ fn all_orders(rt: &impl Abort, alloc: Global, cluster: &Cluster) -> String {
     told
 }
 
+const ORDERS: &[Row] = &[
+    (
+        "primitive a Dummy|primitive b Dummy|primitive c Dummy|order o 0: a b c symmetrical=no",
+        "o Optional Start 0 Start 1 ;o Optional Start 1 Start 2 ;",
+    ),
+    (
+        "primitive a Dummy|primitive b Dummy|primitive x Dummy|primitive y Dummy|group g a b|order o g x|order p y g",
+        "g Mandatory Start 0 Start 1 s;o Mandatory Start 1 Start 2 s;p Mandatory Start 3 Start 0 s;",
+    ),
+    (
+        "primitive a Dummy|primitive b Dummy|primitive x Dummy|group g a b|order o g:stop x:stop|order p Serialize: x:stop g:stop",
+        "g Mandatory Start 0 Start 1 s;o Mandatory Stop 0 Stop 2 s;p Serialize Stop 2 Stop 1 ;",
+    ),
+    (
+        "primitive a Dummy|primitive b Dummy|group g a b|clone c g|primitive p Dummy|primitive q Dummy|clone cp p|clone cq q meta interleave=true|primitive r Dummy|clone cr r|order o cp cq|order i cq cr|order k a q|order l p b",
+        "g Mandatory Start 0 Start 1 sl;o Mandatory Start 2 Start 3 sl;i Mandatory Start 3 Start 4 s;k Mandatory Start 0 Start 3 sl;l Mandatory Start 2 Start 1 s;",
+    ),
+    (
+        "primitive a Dummy|primitive b Dummy|group g a b|clone c g|order o Optional: a b:start",
+        "g Mandatory Start 0 Start 1 sl;o Optional Start 0 Start 1 sl;",
+    ),
+    (
+        "primitive d Dummy|primitive v Dummy|ms m d|order o m:promote v:start",
+        "o Mandatory Promote 0 Start 1 s;",
+    ),
+];
+
 #[test]
 fn orders_of_clusters(rt: HostRuntime) {
-    let table = [
-        (
-            "primitive a Dummy|primitive b Dummy|primitive c Dummy|order o 0: a b c symmetrical=no",
-            "o Optional Start 0 Start 1 ;o Optional Start 1 Start 2 ;",
-        ),
-        (
-            "primitive a Dummy|primitive b Dummy|primitive x Dummy|primitive y Dummy|group g a b|order o g x|order p y g",
-            "g Mandatory Start 0 Start 1 s;o Mandatory Start 1 Start 2 s;p Mandatory Start 3 Start 0 s;",
-        ),
-        (
-            "primitive a Dummy|primitive b Dummy|primitive x Dummy|group g a b|order o g:stop x:stop|order p Serialize: x:stop g:stop",
-            "g Mandatory Start 0 Start 1 s;o Mandatory Stop 0 Stop 2 s;p Serialize Stop 2 Stop 1 ;",
-        ),
-        (
-            "primitive a Dummy|primitive b Dummy|group g a b|clone c g|primitive p Dummy|primitive q Dummy|clone cp p|clone cq q meta interleave=true|primitive r Dummy|clone cr r|order o cp cq|order i cq cr|order k a q|order l p b",
-            "g Mandatory Start 0 Start 1 sl;o Mandatory Start 2 Start 3 sl;i Mandatory Start 3 Start 4 s;k Mandatory Start 0 Start 3 sl;l Mandatory Start 2 Start 1 s;",
-        ),
-        (
-            "primitive a Dummy|primitive b Dummy|group g a b|clone c g|order o Optional: a b:start",
-            "g Mandatory Start 0 Start 1 sl;o Optional Start 0 Start 1 sl;",
-        ),
-        (
-            "primitive d Dummy|primitive v Dummy|ms m d|order o m:promote v:start",
-            "o Mandatory Promote 0 Start 1 s;",
-        ),
-    ];
-    for (text, want) in table {
-        let cluster = cluster(&rt, rt.alloc(), text);
-        let told = all_orders(&rt, rt.alloc(), &cluster);
-        assert_eq!(rt; told.as_str(), want, "{text}");
-    }
+    compare(&rt, rt.alloc(), Part::Orders, ORDERS);
 }
 
 /// The line and the cause of the fault, where there is one.
@@ -245,65 +262,67 @@ fn fault(rt: &impl Abort, alloc: Global, text: &str) -> Option<(u32, ModelCause)
     }
 }
 
+/// A configuration in a line, and the line and cause of its fault.
+const FAULTS: &[(&str, Option<(u32, ModelCause)>)] = &[
+    (
+        "node n1|primitive vip IPaddr2|location l vip 5: n9",
+        Some((3, ModelCause::UnknownName)),
+    ),
+    (
+        "location l b rule 5: defined x|primitive a Dummy",
+        Some((1, ModelCause::UnknownName)),
+    ),
+    (
+        "primitive a Dummy|order o a:promote b",
+        Some((2, ModelCause::UnknownName)),
+    ),
+    (
+        "node n|primitive a Dummy|location l a role=Promoted 5: n",
+        Some((3, ModelCause::NotPromotable)),
+    ),
+    (
+        "primitive a Dummy|primitive b Dummy|ms m a|colocation c 5: b:Master m",
+        Some((4, ModelCause::NotPromotable)),
+    ),
+    (
+        "primitive a Dummy|primitive b Dummy|order o a b:promote a:stop",
+        Some((3, ModelCause::NotPromotable)),
+    ),
+    (
+        "primitive a Dummy|primitive b Dummy|order o a:stop b:start a:stop",
+        Some((3, ModelCause::UnsupportedOrder)),
+    ),
+    (
+        "node n1|primitive a Dummy|primitive b Dummy|order o a b|order p b a",
+        Some((5, ModelCause::OrderLoop)),
+    ),
+    (
+        "primitive a Dummy|primitive b Dummy|colocation c inf: a b|colocation d 5: b a",
+        Some((4, ModelCause::ColocationLoop)),
+    ),
+    (
+        "primitive a Dummy|primitive b Dummy|colocation c inf: a b|order o b a|group g a b",
+        Some((5, ModelCause::ColocationLoop)),
+    ),
+    (
+        "primitive a Dummy|primitive b Dummy|order o b a|group g a b|colocation c inf: a b",
+        Some((4, ModelCause::OrderLoop)),
+    ),
+    (
+        "primitive a Dummy|order o a a|location l x 5: n",
+        Some((2, ModelCause::OrderLoop)),
+    ),
+    (
+        "primitive a Dummy|location l x 5: n|order o a a",
+        Some((2, ModelCause::UnknownName)),
+    ),
+    ("primitive a Dummy|order o Serialize: a a", None),
+];
+
 #[test]
 fn faults_by_statement(rt: HostRuntime) {
-    let table = [
-        (
-            "node n1|primitive vip IPaddr2|location l vip 5: n9",
-            Some((3, ModelCause::UnknownName)),
-        ),
-        (
-            "location l b rule 5: defined x|primitive a Dummy",
-            Some((1, ModelCause::UnknownName)),
-        ),
-        (
-            "primitive a Dummy|order o a:promote b",
-            Some((2, ModelCause::UnknownName)),
-        ),
-        (
-            "node n|primitive a Dummy|location l a role=Promoted 5: n",
-            Some((3, ModelCause::NotPromotable)),
-        ),
-        (
-            "primitive a Dummy|primitive b Dummy|ms m a|colocation c 5: b:Master m",
-            Some((4, ModelCause::NotPromotable)),
-        ),
-        (
-            "primitive a Dummy|primitive b Dummy|order o a b:promote a:stop",
-            Some((3, ModelCause::NotPromotable)),
-        ),
-        (
-            "primitive a Dummy|primitive b Dummy|order o a:stop b:start a:stop",
-            Some((3, ModelCause::UnsupportedOrder)),
-        ),
-        (
-            "node n1|primitive a Dummy|primitive b Dummy|order o a b|order p b a",
-            Some((5, ModelCause::OrderLoop)),
-        ),
-        (
-            "primitive a Dummy|primitive b Dummy|colocation c inf: a b|colocation d 5: b a",
-            Some((4, ModelCause::ColocationLoop)),
-        ),
-        (
-            "primitive a Dummy|primitive b Dummy|colocation c inf: a b|order o b a|group g a b",
-            Some((5, ModelCause::ColocationLoop)),
-        ),
-        (
-            "primitive a Dummy|primitive b Dummy|order o b a|group g a b|colocation c inf: a b",
-            Some((4, ModelCause::OrderLoop)),
-        ),
-        (
-            "primitive a Dummy|order o a a|location l x 5: n",
-            Some((2, ModelCause::OrderLoop)),
-        ),
-        (
-            "primitive a Dummy|location l x 5: n|order o a a",
-            Some((2, ModelCause::UnknownName)),
-        ),
-        ("primitive a Dummy|order o Serialize: a a", None),
-    ];
-    for (text, want) in table {
-        assert_eq!(rt; fault(&rt, rt.alloc(), text), want, "{text}");
+    for (text, want) in FAULTS {
+        assert_eq!(rt; fault(&rt, rt.alloc(), text), *want, "{text}");
     }
 }
 
@@ -329,21 +348,20 @@ fn nodes_in_lines(rt: &impl Abort, alloc: Global, count: u32) -> String {
 #[test]
 fn limits_of_nodes(rt: HostRuntime) {
     let alloc = rt.alloc();
-    for (count, want) in [(256, None), (257, Some((257, ModelCause::TooManyNodes)))] {
-        let text = nodes_in_lines(&rt, alloc, count);
-        assert_eq!(rt; fault(&rt, alloc, text.as_str()), want);
-    }
+    let most = nodes_in_lines(&rt, alloc, 256);
+    assert!(rt; fault(&rt, alloc, most.as_str()).is_none());
+    let more = nodes_in_lines(&rt, alloc, 257);
+    let found = fault(&rt, alloc, more.as_str());
+    assert!(rt; found == Some((257, ModelCause::TooManyNodes)));
 }
 
 #[test]
 fn limits_of_rules(rt: HostRuntime) {
     let alloc = rt.alloc();
     let start = "node n|primitive a Dummy|primitive b Dummy|group g a b";
-    for (count, want) in [
-        (1_998, None),
-        (1_999, Some((2_003, ModelCause::TooManyRules))),
-    ] {
-        let text = with_lines(&rt, alloc, start, "location l", count);
-        assert_eq!(rt; fault(&rt, alloc, text.as_str()), want);
-    }
+    let most = with_lines(&rt, alloc, start, "location l", 1_998);
+    assert!(rt; fault(&rt, alloc, most.as_str()).is_none());
+    let more = with_lines(&rt, alloc, start, "location l", 1_999);
+    let found = fault(&rt, alloc, more.as_str());
+    assert!(rt; found == Some((2_003, ModelCause::TooManyRules)));
 }

@@ -39,7 +39,7 @@ fn lines(rt: &impl Abort, alloc: Global, text: &str) -> Vec<Line> {
 /// A status, and its first journal after the joins, or its fault.
 type Row = (&'static str, &'static str);
 
-const JOURNALS: [Row; 14] = [
+const JOURNALS: &[Row] = &[
     (
         "",
         "Up { node: 0 } Up { node: 1 } Lost { node: 0 } Lost { node: 1 } Quorum { yes: false } Wait { seconds: 0 } ",
@@ -101,7 +101,7 @@ const JOURNALS: [Row; 14] = [
     ),
 ];
 
-const STATUS_FAULTS: [Row; 47] = [
+const STATUS_FAULTS: &[Row] = &[
     ("stonith n1", "1 UnknownStatement"),
     ("Now 1", "1 UnknownStatement"),
     ("end 1 0", "1 UnknownStatement"),
@@ -184,12 +184,14 @@ fn status(rt: &impl Abort, alloc: Global, cluster: &Cluster, text: &str) -> Stri
     out
 }
 
+const STATUSES: &[&[Row]] = &[JOURNALS, STATUS_FAULTS];
+
 #[test]
 fn statuses_are_read(rt: HostRuntime) {
     let alloc = rt.alloc();
     let cluster = cluster(&rt, alloc, CONFIGURATION);
-    for rows in [JOURNALS.as_slice(), STATUS_FAULTS.as_slice()] {
-        for (text, expected) in rows {
+    for rows in STATUSES {
+        for (text, expected) in *rows {
             let read = status(&rt, alloc, &cluster, text);
             assert_eq!(rt; read.as_str(), *expected, "{text:?}");
         }
@@ -420,22 +422,25 @@ fn results_are_read_line_by_line(rt: HostRuntime) {
     }
 }
 
+/// Exit codes and their classes.
+const CLASSES: &[(u8, Recovery)] = &[
+    (0, Recovery::Soft),
+    (1, Recovery::Soft),
+    (2, Recovery::Hard),
+    (3, Recovery::Hard),
+    (4, Recovery::Hard),
+    (5, Recovery::Hard),
+    (6, Recovery::Fatal),
+    (7, Recovery::Soft),
+    (9, Recovery::Soft),
+    (191, Recovery::Soft),
+    (255, Recovery::Soft),
+];
+
 #[test]
 fn codes_have_their_class(rt: HostRuntime) {
-    for (code, class) in [
-        (0, Recovery::Soft),
-        (1, Recovery::Soft),
-        (2, Recovery::Hard),
-        (3, Recovery::Hard),
-        (4, Recovery::Hard),
-        (5, Recovery::Hard),
-        (6, Recovery::Fatal),
-        (7, Recovery::Soft),
-        (9, Recovery::Soft),
-        (191, Recovery::Soft),
-        (255, Recovery::Soft),
-    ] {
-        assert_eq!(rt; class_of(code), class, "{code}");
+    for (code, class) in CLASSES {
+        assert!(rt; class_of(*code) == *class, "{code}");
     }
 }
 

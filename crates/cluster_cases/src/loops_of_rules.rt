@@ -68,7 +68,7 @@ const S: Role = Role::Started;
 const P: Role = Role::Promoted;
 
 /// Colocations, and which of them closes a loop.
-const COLOCATED: [(&[Pair], Option<usize>); 5] = [
+const COLOCATED: &[(&[Pair], Option<usize>)] = &[
     (&[], None),
     (&[(0, S, 1, S), (1, S, 0, S)], Some(1)),
     (&[(0, S, 1, S), (0, S, 2, P), (1, S, 1, S)], Some(2)),
@@ -79,7 +79,7 @@ const COLOCATED: [(&[Pair], Option<usize>); 5] = [
 #[test]
 fn colocations_that_need_each_other(rt: HostRuntime) {
     for (pairs, want) in COLOCATED {
-        assert_eq!(rt; colocated(&rt, rt.alloc(), pairs), want, "{pairs:?}");
+        assert_eq!(rt; colocated(&rt, rt.alloc(), pairs), *want, "{pairs:?}");
     }
 }
 
@@ -139,7 +139,7 @@ const NOT_THERE: [Steps; 2] = [
 ];
 
 /// The kind of the orders, whether they are symmetrical, their steps, and which of them closes a loop.
-const ORDERED: [(OrderKind, bool, &[Steps], Option<usize>); 9] = [
+const ORDERED: &[(OrderKind, bool, &[Steps], Option<usize>)] = &[
     (OrderKind::Mandatory, true, &[], None),
     (OrderKind::Mandatory, true, &STARTS, Some(1)),
     (OrderKind::Optional, false, &STARTS, Some(1)),
@@ -154,7 +154,7 @@ const ORDERED: [(OrderKind, bool, &[Steps], Option<usize>); 9] = [
 #[test]
 fn orders_that_come_before_each_other(rt: HostRuntime) {
     for (kind, symmetrical, steps, want) in ORDERED {
-        let found = ordered(&rt, rt.alloc(), kind, symmetrical, steps);
-        assert_eq!(rt; found, want, "{steps:?}");
+        let found = ordered(&rt, rt.alloc(), *kind, *symmetrical, steps);
+        assert_eq!(rt; found, *want, "{steps:?}");
     }
 }

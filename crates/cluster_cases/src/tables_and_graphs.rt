@@ -44,22 +44,25 @@ fn joined(alloc: Global) -> Result<Graph, AllocError> {
     Ok(Graph::new(actions, edges))
 }
 
+/// Two numbers, and whether the first comes before the second.
+const BEFORE: &[(u32, u32, bool)] = &[
+    (1, 3, true),
+    (2, 3, true),
+    (3, 4, true),
+    (1, 2, false),
+    (1, 4, false),
+    (3, 1, false),
+    (4, 4, false),
+];
+
 #[test]
 fn an_action_comes_before_others_through_gates_alone(rt: HostRuntime) {
     let graph = joined(rt.alloc()).expect(&rt, "memory");
     assert_eq!(rt; graph.count(), 4);
     assert_eq!(rt; graph.edges().positions, 6);
     assert_eq!(rt; graph.action(2), Action::Probe { leaf: 0, node: 1 });
-    for (x, y, before) in [
-        (1, 3, true),
-        (2, 3, true),
-        (3, 4, true),
-        (1, 2, false),
-        (1, 4, false),
-        (3, 1, false),
-        (4, 4, false),
-    ] {
-        assert_eq!(rt; graph.is_before(x, y), before);
+    for (x, y, before) in BEFORE {
+        assert_eq!(rt; graph.is_before(*x, *y), *before, "{x} {y}");
     }
 }
 

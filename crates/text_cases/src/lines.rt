@@ -9,7 +9,7 @@ use std::process::Abort;
 /// A text, and what is read of it: each line as its number and its words in brackets, or the line and cause of a fault.
 type Row = (&'static [u8], &'static str);
 
-const PHYSICAL_LINES: [Row; 12] = [
+const PHYSICAL_LINES: &[Row] = &[
     (b"", ""),
     (b"\n", ""),
     (b"a", "1[a]"),
@@ -24,7 +24,7 @@ const PHYSICAL_LINES: [Row; 12] = [
     (b"\r", "1 ControlByte"),
 ];
 
-const UTF8: [Row; 25] = [
+const UTF8: &[Row] = &[
     (
         b"\xc3\xa9\xe2\x82\xac\xf0\x9f\x98\x80",
         "1[\u{e9}\u{20ac}\u{1f600}]",
@@ -55,7 +55,7 @@ const UTF8: [Row; 25] = [
     (b"a\n\nb \xe2\x82 c\nd\xff", "3 NotUtf8"),
 ];
 
-const COMMENTS: [Row; 10] = [
+const COMMENTS: &[Row] = &[
     (b"# a b\nc", "2[c]"),
     (b"#", ""),
     (b" \t # a\nb", "2[b]"),
@@ -68,7 +68,7 @@ const COMMENTS: [Row; 10] = [
     (b"#\x01", "1 ControlByte"),
 ];
 
-const JOINTS: [Row; 22] = [
+const JOINTS: &[Row] = &[
     (b"a\\\nb", "1[a][b]"),
     (b"a\\\r\nb\r\n", "1[a][b]"),
     (b"a \\\n b\nc", "1[a][b]3[c]"),
@@ -93,7 +93,7 @@ const JOINTS: [Row; 22] = [
     (b"a\\\r\r\nb", "1 ControlByte"),
 ];
 
-const WORDS: [Row; 35] = [
+const WORDS: &[Row] = &[
     (b" a  b\tc ", "1[a][b][c]"),
     (b"\"a b\"", "1[a b]"),
     (b"'a b'", "1[a b]"),
@@ -131,7 +131,7 @@ const WORDS: [Row; 35] = [
     (b"a=\"\" 'b'c\"d\"", "1[a=][bcd]"),
 ];
 
-const OPEN_QUOTES: [Row; 12] = [
+const OPEN_QUOTES: &[Row] = &[
     (b"\"", "1 OpenQuote"),
     (b"'", "1 OpenQuote"),
     (b"a \"b", "1 OpenQuote"),
@@ -147,7 +147,7 @@ const OPEN_QUOTES: [Row; 12] = [
 ];
 
 /// Texts with several faults.
-const FIRST_FAULTS: [Row; 11] = [
+const FIRST_FAULTS: &[Row] = &[
     (b"\"\x01", "1 ControlByte"),
     (b"\"\x01\xff", "1 NotUtf8"),
     (b"\x01\n\xff", "1 ControlByte"),
@@ -228,19 +228,21 @@ fn read_one(rt: &impl Abort, line: u32, raw: &[u8], into: &mut WordBuf, alloc: G
     out
 }
 
+const TABLES: &[&[Row]] = &[
+    PHYSICAL_LINES,
+    UTF8,
+    COMMENTS,
+    JOINTS,
+    WORDS,
+    OPEN_QUOTES,
+    FIRST_FAULTS,
+];
+
 #[test]
 fn texts_are_read(rt: HostRuntime) {
     let alloc = rt.alloc();
-    for rows in [
-        PHYSICAL_LINES.as_slice(),
-        UTF8.as_slice(),
-        COMMENTS.as_slice(),
-        JOINTS.as_slice(),
-        WORDS.as_slice(),
-        OPEN_QUOTES.as_slice(),
-        FIRST_FAULTS.as_slice(),
-    ] {
-        for (text, expected) in rows {
+    for rows in TABLES {
+        for (text, expected) in *rows {
             assert_eq!(rt; read(&rt, alloc, text).as_str(), *expected, "{text:?}");
         }
     }
@@ -256,32 +258,34 @@ fn control_bytes_are_refused(rt: HostRuntime) {
     }
 }
 
+/// The number of a line, the line, and what is read of it.
+const ONE_BY_ONE: &[(u32, &[u8], &str)] = &[
+    (7, b"", "(0)"),
+    (7, b"a 'b c'\\\r\nd\n", "(3)[a][b c][d]"),
+    (1, b"1 2 3 4 5 6 7 8", "(8)[1][2][3][4][5][6][7][8]"),
+    (
+        1,
+        b"1 2 3 4 5 6 7 8 \"\" 10\n",
+        "(10)[1][2][3][4][5][6][7][8]",
+    ),
+    (7, b"'' \"\"\n", "(2)[][]"),
+    (7, b"# a\\\n", "(0)"),
+    (7, b" \t\r\n", "(0)"),
+    (7, b"a\\", "(1)[a]"),
+    (7, b"a\\\n\"b\\\nc\\\n", "7 OpenQuote(0)"),
+    (7, b"a\\\nb\\\n\x01", "9 ControlByte(0)"),
+    (4_294_967_294, b"a\\\n\xff", "4294967295 NotUtf8(0)"),
+    (4_294_967_295, b"a\n", "(1)[a]"),
+];
+
 #[test]
 fn lines_are_read_one_by_one(rt: HostRuntime) {
     let alloc = rt.alloc();
     let mut into = WordBuf::new(alloc).expect(&rt, "memory");
     assert_eq!(rt; into.count(), 0);
-    let table: [(u32, &[u8], &str); 12] = [
-        (7, b"", "(0)"),
-        (7, b"a 'b c'\\\r\nd\n", "(3)[a][b c][d]"),
-        (1, b"1 2 3 4 5 6 7 8", "(8)[1][2][3][4][5][6][7][8]"),
-        (
-            1,
-            b"1 2 3 4 5 6 7 8 \"\" 10\n",
-            "(10)[1][2][3][4][5][6][7][8]",
-        ),
-        (7, b"'' \"\"\n", "(2)[][]"),
-        (7, b"# a\\\n", "(0)"),
-        (7, b" \t\r\n", "(0)"),
-        (7, b"a\\", "(1)[a]"),
-        (7, b"a\\\n\"b\\\nc\\\n", "7 OpenQuote(0)"),
-        (7, b"a\\\nb\\\n\x01", "9 ControlByte(0)"),
-        (4_294_967_294, b"a\\\n\xff", "4294967295 NotUtf8(0)"),
-        (4_294_967_295, b"a\n", "(1)[a]"),
-    ];
-    for (line, raw, expected) in table {
-        let read = read_one(&rt, line, raw, &mut into, alloc);
-        assert_eq!(rt; read.as_str(), expected, "{raw:?}");
+    for (line, raw, expected) in ONE_BY_ONE {
+        let read = read_one(&rt, *line, raw, &mut into, alloc);
+        assert_eq!(rt; read.as_str(), *expected, "{raw:?}");
     }
 }
 
@@ -311,7 +315,7 @@ fn is_too_long(rt: &impl Abort, alloc: Global, text: &[u8]) -> bool {
     )
 }
 
-const LONG_LINES: [(usize, &[u8], usize, bool); 12] = [
+const LONG_LINES: &[(usize, &[u8], usize, bool)] = &[
     (1_048_576, b"", 0, false),
     (1_048_577, b"", 0, true),
     (1_048_576, b"\r\n", 3, false),
@@ -330,9 +334,9 @@ const LONG_LINES: [(usize, &[u8], usize, bool); 12] = [
 fn long_lines_are_refused(rt: HostRuntime) {
     let alloc = rt.alloc();
     for (before, middle, after, expected) in LONG_LINES {
-        let text = long_line(&rt, alloc, before, middle, after);
+        let text = long_line(&rt, alloc, *before, middle, *after);
         let refused = is_too_long(&rt, alloc, text.as_slice());
-        assert_eq!(rt; refused, expected, "{before} {middle:?} {after}");
+        assert_eq!(rt; refused, *expected, "{before} {middle:?} {after}");
     }
 }
 

@@ -35,7 +35,7 @@ fn trace_at(rt: &impl Abort, alloc: Global, text: &str) -> Places {
     }
 }
 
-const WITH_RESULTS: [(&str, Places); 12] = [
+const WITH_RESULTS: &[(&str, Places)] = &[
     ("", Ok((0, 0, 0))),
     ("node n1", Ok((1, 1, 1))),
     ("node n1\n%status\nnow 1\n%results\nend 1 0", Ok((1, 3, 5))),
@@ -53,11 +53,11 @@ const WITH_RESULTS: [(&str, Places); 12] = [
 #[test]
 fn sections_with_results(rt: HostRuntime) {
     for (text, want) in WITH_RESULTS {
-        assert!(rt; results_at(&rt, rt.alloc(), text) == want, "{text}");
+        assert!(rt; results_at(&rt, rt.alloc(), text) == *want, "{text}");
     }
 }
 
-const WITH_TRACE: [(&str, Places); 4] = [
+const WITH_TRACE: &[(&str, Places)] = &[
     ("node n1\n%status\n%trace\ntransition 1", Ok((1, 2, 4))),
     ("node n1\n%trace", Ok((1, 1, 2))),
     ("node n1\n%results", Err(2)),
@@ -67,6 +67,6 @@ const WITH_TRACE: [(&str, Places); 4] = [
 #[test]
 fn sections_with_a_trace(rt: HostRuntime) {
     for (text, want) in WITH_TRACE {
-        assert!(rt; trace_at(&rt, rt.alloc(), text) == want, "{text}");
+        assert!(rt; trace_at(&rt, rt.alloc(), text) == *want, "{text}");
     }
 }

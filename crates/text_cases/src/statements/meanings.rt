@@ -4,7 +4,7 @@ use crate::reading::crm;
 type Row = (&'static str, &'static str);
 
 /// Texts that say the same.
-const ALIKE: [Row; 7] = [
+const ALIKE: &[Row] = &[
     ("primitive p Dummy", "primitive p ocf:heartbeat:Dummy"),
     (
         "primitive p a:b meta x=1 op monitor interval=5 params y=2 meta z=3",
@@ -27,7 +27,7 @@ const ALIKE: [Row; 7] = [
 ];
 
 /// Texts of locations whose rules mean different things, though they differ in few words.
-const DIFFERENT: [Row; 4] = [
+const DIFFERENT: &[Row] = &[
     (
         "location l a rule 5: x eq 1 and y eq 2",
         "location l a rule 5: x eq 1 or y eq 2",
