@@ -1,7 +1,7 @@
 //! What follows from each role that is taken away, leaf by leaf along the dependencies.
 
 ghost use Rattle.std.specs.Prelude.{◌≡◌, ◌≤◌, ◌+◌, List, IfOk, OnOk, length, Contains};
-ghost use Rattle.std.specs.List.Sorted.{IsPermutation};
+ghost use Rattle.std.specs.List.Sorted.{IsNonDecreasingBy, IsPermutation};
 ghost use Rattle.cluster_types.specs.Tables.{targets_of};
 ghost use Rattle.held_cells.specs.declared.dependencies.Dependency.{Dependency as DependencyOf};
 ghost use Rattle.held_cells.specs.Taking as spec;
@@ -14,7 +14,8 @@ use std::alloc::{AllocError, Global};
 
 /// Puts dependencies into the order of their primaries, so that those of one primary stand side by side.
 pub fn sort_by_primary(rules: &mut Vec<Dependency>) -> Result<(), AllocError>
-    ensures { OnOk result (IsPermutation rules.old.items rules.new.items) }
+    ensures same { OnOk result (IsPermutation rules.old.items rules.new.items) }
+    ensures sorted { OnOk result (IsNonDecreasingBy (λ rule. rule.primary) rules.new.items) }
 {
     rules.sort_by_key(|rule| rule.primary)?;
     Ok(())
