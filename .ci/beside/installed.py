@@ -3,7 +3,7 @@ import os
 import shutil
 import subprocess
 
-from .expecting import PROGRAM, TOP, expect, tool
+from .expecting import ENVIRONMENT, PROGRAM, TOP, expect, tool
 
 PLACES = ["bin/cekpayo", "bin/cekpayo-collect", "bin/cekpayo-dot", "bin/cekpayo-json", "bin/cekpayo-summary",
           "bin/cekpayo-what-if", "lib/cekpayo/sim_cli", "lib/cekpayo/docs/USAGE.md", "share/man/man1/cekpayo.1",
@@ -29,19 +29,24 @@ def files_below(folder):
 
 def try_install(folder):
     prefix = os.path.join(folder, "a prefix")
-    os.mkdir(prefix)
+    os.makedirs(os.path.join(prefix, "bin"))
     with open(os.path.join(prefix, "own"), "w", encoding="utf-8"):
         pass
     for _ in range(2):
         status, _, said = tool("install", prefix)
         expect("install", status == 0 and set(PLACES) <= set(files_below(prefix)), said)
+    before = files_below(prefix)
+    status, _, said = tool("install", prefix, environment=dict(ENVIRONMENT, CEKPAYO_PROGRAM="/nonexistent"))
+    expect("install of no program", status == 1 and files_below(prefix) == before, said)
+    status, _, said = run('lib/cekpayo/tools/install "$PWD"', prefix)
+    expect("install onto itself", status == 0 and files_below(prefix) == before, said)
     answer = run("printf 'node n1\\nprimitive vip IPaddr2\\n' | bin/cekpayo check -q && bin/cekpayo explain badtime >&2", prefix)
     expect("an installed program", answer[:2] == (0, ACCEPTED) and "BadTime" in answer[2], str(answer))
     cib = os.path.join(TOP, ".ci", "cibs", "two-nodes.xml")
     answer = run(f"bin/cekpayo-collect -q {cib} | bin/cekpayo scores | bin/cekpayo-summary | tail -n 1", prefix)
     expect("installed tools", answer == (0, "  * Place      fence            ( web2 )\n", ""), str(answer))
     status, _, said = run('lib/cekpayo/tools/install --uninstall "$PWD"', prefix)
-    expect("uninstall", (status, files_below(prefix), os.listdir(prefix)) == (0, ["own"], ["own"]), said)
+    expect("uninstall", (status, files_below(prefix), sorted(os.listdir(prefix))) == (0, ["own"], ["bin", "own"]), said)
     expect("uninstall of nothing", tool("install", "--uninstall", prefix)[0] == 1)
     expect("install of no prefix", tool("install")[0] == 2 and tool("install", "--help")[0] == 2)
 
@@ -67,6 +72,9 @@ def try_hook(folder):
     commit = "git add . && git -c user.name=a -c user.email=a@example.com commit -qm x"
     answer = run(f"git init -q && cp '{hook}' .git/hooks && echo node n1 > 'a b.crm' && echo x > c.txt && {commit}", own, environment)
     expect("a commit that is accepted", answer[0] == 0, str(answer))
+    near = {name: os.path.relpath(environment[name], own) for name in ("CEKPAYO", "CEKPAYO_PROGRAM")}
+    answer = run(f"echo node n1 > ./-x.crm && ln -s nowhere.crm link.crm && {commit}", own, dict(environment, **near))
+    expect("a commit with names of other kinds", answer[0] == 0, str(answer))
     answer = run(f"echo nod n1 > 'a b.crm' && {commit}", own, environment)
     expect("a commit that is refused", answer[0] != 0 and "a b.crm:1:1: UnknownStatement" in answer[2], str(answer))
     answer = run(f"git rm -qf 'a b.crm' && echo y > c.txt && {commit}", own, environment)

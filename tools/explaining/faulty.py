@@ -4,15 +4,16 @@ import re
 
 from .texts import CONFIGURATION, RESULTS, STATUS, Word, content
 
+IN_COMMENTS = ("NotUtf8", "ControlByte")
 RESOURCES = ("primitive", "group", "clone", "ms", "master")
 GIVES_ROLE = re.compile(r"(?i):(promoted|master|promote|demote)$|^\$?role=(promoted|master)$")
 WITHOUT_WORD = ("LineTooLong", "TooManyNodes", "TooManyLeaves", "TooManyRules", "TooManyResults", "ColocationLoop", "OrderLoop")
 
 
 def faulty_word(program, text, statement, refusal):
-    """The faulty word, or nothing where the statement as a whole is at fault."""
+    """The faulty word, or nothing where the statement as a whole is at fault. Of a line without a statement a byte may be."""
     cause = refusal[1]
-    if cause in WITHOUT_WORD:
+    if cause in WITHOUT_WORD or statement is None and cause not in IN_COMMENTS:
         return None
     find = {
         "NotUtf8": faulty_byte,
@@ -137,7 +138,7 @@ def repeated_subject(_program, _text, statement, _refusal):
 def earlier(text, statement, word, cause):
     """The earlier statement that a second one repeats, or nothing."""
     for other in text.statements:
-        if other.first >= statement.first:
+        if statement is None or other.first >= statement.first:
             return None
         if cause == "DuplicateName" and same_space(other, statement) and other.id and other.id.text == word.text:
             return other

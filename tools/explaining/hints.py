@@ -8,6 +8,7 @@ from .texts import CONFIGURATION, RESULTS, STATUS
 
 SECTIONS = ("params", "meta", "utilization", "operations", "op", "attributes")
 SCORE = re.compile(r"(?i)[-+]?(\d+|inf|infinity)$")
+WITH_SECTIONS = ("node", "primitive", "group", "clone", "ms", "master")
 WITH_SCORE = ("location", "colocation", "collocation", "order")
 
 
@@ -22,7 +23,7 @@ def hints(text, statement, word, cause):
     """Sentences about the faulty word, the most telling first."""
     if word is None or not word.text:
         return []
-    found = [of(text, statement, word, cause) for of in (instead, missing_colon, of_clone, near_name, values, exit_code)]
+    found = [of(text, statement, word, cause) for of in (instead, missing_colon, of_clone, near_name, missing_section, values, exit_code)]
     return [hint for hint in found if hint]
 
 
@@ -86,13 +87,26 @@ def candidates(text, statement, word, cause):
     return []
 
 
+def missing_section(_text, statement, word, cause):
+    """A pair that stands where no section has begun yet."""
+    if cause not in ("BadValue", "ExtraWord") or not is_before_sections(statement, word):
+        return None
+    usual = "attributes" if statement.kind == "node" else "meta" if word.key in known("meta") else "params"
+    return f"A section word is missing before it: `{usual} {word.text}`."
+
+
+def is_before_sections(statement, word):
+    before = [own.text for own in statement.words[:statement.words.index(word)]]
+    return bool(statement.section == CONFIGURATION and statement.kind in WITH_SECTIONS and word.key and not set(before) & set(SECTIONS))
+
+
 def values(_text, statement, word, cause):
     """The values that a key takes here, and the near one."""
-    if cause not in ("BadValue", "Unsupported") or not word.key or statement.kind == "op_defaults":
+    if cause not in ("BadValue", "Unsupported") or not word.key or statement.kind == "op_defaults" or is_before_sections(statement, word):
         return None
     key, scope = word.key.lstrip("$"), operation_of(statement, word) or statement.kind
     taken = known(f"={scope}.{key}") or known(f"={key}")
-    if not taken:
+    if not taken or word.value.lower() in [value.lower() for value in taken]:
         return None
     found = near(word.value, taken)
     meant = f" Is `{found}` meant?" if found else ""

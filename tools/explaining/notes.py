@@ -1,12 +1,11 @@
 """Notes on an accepted text: settings that Pacemaker acts on and this program keeps without effect, and near misses of known words."""
 import re
 
-from .hints import SECTIONS, near
+from .hints import SECTIONS, WITH_SECTIONS, near
 from .tables import agents, known, rows
 from .texts import CONFIGURATION
 
 SETTINGS = {"property": "property", "rsc_defaults": "meta", "op_defaults": "op"}
-WITH_SECTIONS = ("node", "primitive", "group", "clone", "ms", "master")
 
 
 def notes(text):

@@ -26,9 +26,7 @@ class Finding:
     def look(self, program, refusal):
         """Finds the faulty word, and what else belongs to the refusal."""
         program.restart_clock()
-        if self.statement is None:
-            return
-        if self.cause in RULES:
+        if self.statement and self.cause in RULES:
             self.loop = rules_of_loop(program, self.text, self.statement, refusal)
         self.word = faulty_word(program, self.text, self.statement, refusal)
         if self.word:
@@ -71,9 +69,9 @@ def every_finding(program, text, refusal):
         finding = Finding(program, text, refusal)
         if finding.cause != "UnknownName" or not finding.word or finding.word.name not in gone:
             found.append(finding)
-        if finding.statement is None or finding.cause in ENDS_LIST:
+        if finding.cause in ENDS_LIST or not (finding.statement or finding.word):
             break
-        if finding.statement.id:
+        if finding.statement and finding.statement.id:
             gone.add(finding.statement.id.text)
         text = Text(without_refused(finding))
         program.restart_clock()
@@ -82,8 +80,10 @@ def every_finding(program, text, refusal):
 
 
 def without_refused(finding):
-    """The text without a refused pair of settings, the refused statement, or a section whose line is refused."""
+    """The text without a refused line of no statement, a refused pair of settings, the refused statement, or a section whose line is refused."""
     text, statement, word = finding.text, finding.statement, finding.word
+    if statement is None:
+        return b"\n".join(text.lines[:finding.line] + [b""] + text.lines[finding.line + 1:])
     if word and word.key and statement.kind in SETTINGS and word.first == word.last \
             and sum(1 for other in statement.words if other.key) > 1:
         return text.with_word(word, " " * (word.end - word.start))

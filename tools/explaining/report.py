@@ -6,7 +6,13 @@ WIDTH = 100
 
 
 def say(*lines):
-    print(*lines, sep="\n", file=sys.stderr)
+    """Says the lines on standard error. Where it is closed or takes nothing more, nothing is said from there on."""
+    if sys.stderr is None:
+        return
+    try:
+        print(*lines, sep="\n", file=sys.stderr, flush=True)
+    except OSError:
+        sys.stderr = None
 
 
 def paragraph(text, indent=""):
