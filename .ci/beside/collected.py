@@ -38,6 +38,9 @@ quorum yes
 """
 SMALL = ("<cib><configuration><nodes><node id='1' uname='n'/></nodes><resources><primitive id='a' class='ocf' provider='p' type='D'/>"
          "</resources><constraints>{}</constraints></configuration></cib>")
+AGENT = "class='ocf' provider='p' type='D'"
+SEVERAL = (f"<cib><configuration><nodes><node id='1' uname='n'/></nodes><resources><primitive id='a' {AGENT}/><group id='g'><primitive id='b' "
+           f"{AGENT}/></group><master id='k'><primitive id='c' {AGENT}/></master></resources><constraints>{{}}</constraints></configuration></cib>")
 EMPTY = b"<cib have-quorum='1'><configuration/><status/></cib>"
 
 # What stays, to be refused, since it has an effect: statements, and words that stand in the text.
@@ -49,6 +52,19 @@ REFUSED = {
     "<rsc_location id='l' rsc='a'><rule id='r' score='1'><date_expression id='d' operation='date_spec'><date_spec id='s' hours='8-18'/>"
     "</date_expression></rule></rsc_location>": "\trule 1: date spec hours=8-18",
 }
+
+# Constraints of several resources, and the lines that they become; all are accepted.
+CONSTRAINTS = [
+    ("<rsc_location id='l' node='n' score='9'><resource_set id='s' score='-INFINITY'><resource_ref id='a'/><resource_ref id='g'/>"
+     "</resource_set></rsc_location>", ["location l-1 a -INFINITY: n", "location l-2 g -INFINITY: n"]),
+    ("<rsc_location id='l' node='n' score='9' role='Started'><resource_set id='s' role='Promoted'><resource_ref id='k'/></resource_set>"
+     "<resource_set id='t' score='3'><resource_ref id='a'/></resource_set></rsc_location>",
+     ["location l-1 k role=Promoted 9: n", "location l-2 a role=Started 3: n"]),
+    ("<rsc_location id='l' rsc-pattern='.' node='n' score='1'/>", ["location l-1 a 1: n", "location l-2 g 1: n", "location l-3 k 1: n"]),
+    ("<rsc_location id='l' rsc-pattern='!^[ak]$' node='n' score='1'/>", ["location l g 1: n"]),
+    ("<rsc_location id='l' rsc-pattern='!!|[ag]' node='n' score='1'/>", ["location l k 1: n"]),
+    ("<rsc_location id='l' rsc-pattern='[' node='n' score='1'/>", []),
+]
 
 # The state of a node with fencing and without, by what the CIB has of it.
 STATES = [
@@ -148,6 +164,14 @@ def try_refused():
         expect(f"what is refused: {line}", own(output.encode())[0] == 5)
 
 
+def try_constraints():
+    for xml, lines in CONSTRAINTS:
+        status, output, said = tool("collect", data=SEVERAL.format(xml).encode())
+        found = [line for line in output.splitlines() if line.startswith(("location ", "colocation ", "order "))]
+        expect(f"constraints: {xml}", status == 0 and found == lines, output + said)
+        expect(f"check of constraints: {xml}", own(output.encode())[0] == 0)
+
+
 def try_inputs():
     packed = tool("collect", "-q", "--now", "7", data=bz2.compress(EMPTY))
     expect("a packed CIB", packed == (0, "%status\nnow 7\nquorum yes\n", ""), str(packed))
@@ -165,6 +189,7 @@ def try_collect(folder):
     try_text(folder)
     try_health(folder)
     try_refused()
+    try_constraints()
     try_states()
     try_histories()
     try_inputs()

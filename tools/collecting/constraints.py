@@ -4,8 +4,6 @@ import re
 from .cib import points
 from .rules import rule_words
 
-RESOURCES = ("primitive", "group", "clone", "master")
-
 
 def constraints(cib):
     """All constraints, each a list of words."""
@@ -21,26 +19,36 @@ def constraints(cib):
 
 
 def locations(cib, element):
-    for resource in located(cib, element):
-        words = ["location", element.get("id"), resource]
-        words += [f"role={element.get('role')}"] if element.get("role") else []
+    for resource, role, score in located(cib, element):
+        words = ["location", element.get("id"), resource] + ([f"role={role}"] if role else [])
         if element.get("resource-discovery", "always") != "always":
             words.append(f"resource-discovery={element.get('resource-discovery')}")
         rules = [word for rule in map(cib.meant, element.findall("rule")) for word in rule_words(rule)]
         lifetime = ["lifetime"] if element.find("lifetime") is not None else []
-        yield words + lifetime + (rules or [element.get("score", "INFINITY") + ":", element.get("node", "")])
+        yield words + lifetime + (rules or [f"{score}:", element.get("node", "")])
 
 
 def located(cib, element):
-    """The resources that a location is of."""
-    sets = element.findall("resource_set")
+    """The resources that a location is of, each with its role and score; those of a set override the location's."""
+    role, score = element.get("role"), element.get("score", "INFINITY")
+    sets = [cib.meant(one) for one in element.findall("resource_set")]
     if sets:
-        return [name for one in sets for name in members(cib, one)]
+        return [(name, one.get("role", role), one.get("score", score)) for one in sets for name in members(cib, one)]
     pattern = element.get("rsc-pattern")
-    if pattern is not None:
-        ids = [one.get("id") for one in cib.root.findall("configuration/resources//*") if one.tag in RESOURCES]
-        return [name for name in ids if bool(re.search(pattern.lstrip("!"), name)) != pattern.startswith("!")]
-    return tagged(cib, element.get("rsc", ""))
+    names = tagged(cib, element.get("rsc", "")) if pattern is None else matching(cib, pattern)
+    return [(name, role, score) for name in names]
+
+
+def matching(cib, pattern):
+    """The resources of which a pattern holds, or doesn't hold if it begins with `!`; those that stand in others aren't asked."""
+    inverted = pattern.startswith("!")
+    try:
+        tried = re.compile(pattern[1:] if inverted else pattern)
+    except re.error as error:
+        cib.notes.add(f"left out: the pattern {pattern}; {error}")
+        return []
+    ids = [one.get("id") for one in cib.root.findall("configuration/resources/*") if one.tag != "template"]
+    return [name for name in ids if bool(tried.search(name)) != inverted]
 
 
 def tagged(cib, name):
@@ -54,7 +62,7 @@ def tagged(cib, name):
 
 
 def members(cib, one):
-    return [name for reference in cib.meant(one).findall("resource_ref") for name in tagged(cib, reference.get("id"))]
+    return [name for reference in one.findall("resource_ref") for name in tagged(cib, reference.get("id"))]
 
 
 def with_role(name, role):
