@@ -39,8 +39,9 @@ quorum yes
 SMALL = ("<cib><configuration><nodes><node id='1' uname='n'/></nodes><resources><primitive id='a' class='ocf' provider='p' type='D'/>"
          "</resources><constraints>{}</constraints></configuration></cib>")
 AGENT = "class='ocf' provider='p' type='D'"
-SEVERAL = (f"<cib><configuration><nodes><node id='1' uname='n'/></nodes><resources><primitive id='a' {AGENT}/><group id='g'><primitive id='b' "
-           f"{AGENT}/></group><master id='k'><primitive id='c' {AGENT}/></master></resources><constraints>{{}}</constraints></configuration></cib>")
+SEVERAL = (f"<cib><configuration><nodes><node id='1' uname='n'/></nodes><resources><template id='t' {AGENT}/><primitive id='a' template='t'/>"
+           f"<group id='g'><primitive id='b' {AGENT}/></group><master id='k'><primitive id='c' {AGENT}/></master></resources><constraints>{{}}"
+           "</constraints><tags><tag id='named'><obj_ref id='t'/></tag></tags></configuration></cib>")
 EMPTY = b"<cib have-quorum='1'><configuration/><status/></cib>"
 
 # What stays, to be refused, since it has an effect: statements, and words that stand in the text.
@@ -58,13 +59,27 @@ CONSTRAINTS = [
     ("<rsc_location id='l' node='n' score='9'><resource_set id='s' score='-INFINITY'><resource_ref id='a'/><resource_ref id='g'/>"
      "</resource_set></rsc_location>", ["location l-1 a -INFINITY: n", "location l-2 g -INFINITY: n"]),
     ("<rsc_location id='l' node='n' score='9' role='Started'><resource_set id='s' role='Promoted'><resource_ref id='k'/></resource_set>"
-     "<resource_set id='t' score='3'><resource_ref id='a'/></resource_set></rsc_location>",
+     "<resource_set id='u' score='3'><resource_ref id='a'/></resource_set></rsc_location>",
      ["location l-1 k role=Promoted 9: n", "location l-2 a role=Started 3: n"]),
     ("<rsc_location id='l' rsc-pattern='.' node='n' score='1'/>", ["location l-1 a 1: n", "location l-2 g 1: n", "location l-3 k 1: n"]),
     ("<rsc_location id='l' rsc-pattern='!^[ak]$' node='n' score='1'/>", ["location l g 1: n"]),
     ("<rsc_location id='l' rsc-pattern='!!|[ag]' node='n' score='1'/>", ["location l k 1: n"]),
     ("<rsc_location id='l' rsc-pattern='[' node='n' score='1'/>", []),
+    ("<rsc_location id='l' rsc='t' node='n' score='1'/>", ["location l a 1: n"]),
+    ("<rsc_colocation id='l' score='2'><resource_set id='s'><resource_ref id='g'/><resource_ref id='t'/></resource_set></rsc_colocation>",
+     ["colocation l 2: a g"]),
 ]
+
+# Operations of a template and of its primitive, and those that the primitive has.
+TEMPLATES = [
+    (["name='monitor' interval='10s'", "name='start' interval='0'"], ["name='monitor' interval='30s' role='Slave'"],
+     ["start interval=0", "monitor interval=30s role=Slave"]),
+    (["name='monitor' interval='10s' role='Unpromoted'", "name='monitor' interval='11s' role='Master'"],
+     ["name='monitor' interval='20s' role='Promoted'", "name='monitor' interval='21s' role='Promoted'"],
+     ["monitor interval=10s role=Unpromoted", "monitor interval=20s role=Promoted", "monitor interval=21s role=Promoted"]),
+]
+TEMPLATE = (f"<cib><configuration><resources><template id='t' {AGENT}><operations>{{}}</operations></template><primitive id='a' template='t'>"
+            "<operations>{}</operations></primitive></resources></configuration></cib>")
 
 # The state of a node with fencing and without, by what the CIB has of it.
 STATES = [
@@ -168,8 +183,16 @@ def try_constraints():
     for xml, lines in CONSTRAINTS:
         status, output, said = tool("collect", data=SEVERAL.format(xml).encode())
         found = [line for line in output.splitlines() if line.startswith(("location ", "colocation ", "order "))]
-        expect(f"constraints: {xml}", status == 0 and found == lines, output + said)
+        expect(f"constraints: {xml}", status == 0 and found == lines and "primitive a ocf:p:D" in output.splitlines(), output + said)
         expect(f"check of constraints: {xml}", own(output.encode())[0] == 0)
+
+
+def try_templates():
+    for *sources, lines in TEMPLATES:
+        boxes = ("".join(f"<op id='{at}-{len(source)}' {one}/>" for at, one in enumerate(source)) for source in sources)
+        output = tool("collect", "-q", data=TEMPLATE.format(*boxes).encode())[1]
+        found = [line.strip("\\ \t")[len("op "):] for line in output.splitlines() if line.startswith("\top ")]
+        expect(f"operations with a template: {lines}", found == lines, output)
 
 
 def try_inputs():
@@ -190,6 +213,7 @@ def try_collect(folder):
     try_health(folder)
     try_refused()
     try_constraints()
+    try_templates()
     try_states()
     try_histories()
     try_inputs()

@@ -2,6 +2,8 @@
 import bz2
 import xml.etree.ElementTree as ElementTree
 
+# Their `id` is that of the element that they name.
+NAMING = ("resource_ref", "obj_ref", "role", "lrm_resource")
 TRUE = ("true", "on", "yes", "y", "1")
 
 
@@ -27,7 +29,7 @@ class Cib:
         if self.root is None or self.root.find("configuration") is None:
             raise ValueError("there is no element `cib` with a `configuration`")
         self.notes = notes
-        self.by_id = {element.get("id"): element for element in self.root.iter() if element.get("id")}
+        self.by_id = {element.get("id"): element for element in self.root.iter() if element.get("id") and element.tag not in NAMING}
 
     def all(self, path):
         return [self.meant(element) for element in self.root.findall("configuration/" + path)]

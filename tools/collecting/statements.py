@@ -86,11 +86,27 @@ def primitive(cib, element):
     kind = sources[-1]
     agent = ":".join(filter(None, (kind.get("class"), kind.get("provider"), kind.get("type"))))
     words = ["primitive", element.get("id"), agent] + own_sections(cib, sources)
-    operations = {}
+    return words + [word for one in operations(cib, sources) for word in operation(cib, one)]
+
+
+def operations(cib, sources):
+    """The operations of a primitive: those of its template go first, but for those of which it has one of the same name and role."""
+    found, own = {}, {watched(one) for one in operations_of(cib, sources[0])}
     for source in reversed(sources):
-        for one in [one for box in source.findall("operations") for one in map(cib.meant, cib.meant(box).findall("op"))]:
-            operations[one.get("name"), one.get("interval", "0"), one.get("role")] = one
-    return words + [word for one in operations.values() for word in operation(cib, one)]
+        for one in operations_of(cib, source):
+            if source is sources[0] or watched(one) not in own:
+                found[one.get("name"), one.get("interval", "0"), one.get("role")] = one
+    return found.values()
+
+
+def operations_of(cib, source):
+    return [one for box in source.findall("operations") for one in map(cib.meant, cib.meant(box).findall("op"))]
+
+
+def watched(operation):
+    """The name of an operation and the role that it is of, in one word of each meaning."""
+    role = (operation.get("role") or "started").lower()
+    return operation.get("name"), {"slave": "started", "unpromoted": "started", "master": "promoted"}.get(role, role)
 
 
 def own_sections(cib, sources):
