@@ -94,9 +94,21 @@ STATES = [
     ("in_ccm='true' crmd='online' join='banned' expected='member'", "unclean", "offline"),
     ("crmd='online' join='down'", "unclean", "offline"),
 ]
+# The same of nodes with the attribute `terminate`, whose value goes first.
+TERMINATED = [
+    ("true", "in_ccm='true' crmd='online' join='member' expected='member'", "unclean", "online"),
+    ("1772360000", "in_ccm='true' crmd='online' join='member' expected='down'", "unclean", "online"),
+    ("yes", "in_ccm='true' crmd='online' join='pending' expected='member'", "unclean", "offline"),
+    ("true", "in_ccm='false' crmd='offline' join='down' expected='member'", "offline", "offline"),
+    ("true", "in_ccm='false' crmd='offline' join='member' expected='down'", "unclean", "offline"),
+    ("0", "in_ccm='true' crmd='online' join='member' expected='member'", "online", "online"),
+    ("false", "in_ccm='false' crmd='offline' join='down' expected='member'", "unclean", "offline"),
+]
+ATTRIBUTE = ("<transient_attributes id='1'><instance_attributes id='i'><nvpair id='v' name='terminate' value='{}'/></instance_attributes>"
+             "</transient_attributes>")
 STATE = ("<cib><configuration><crm_config><cluster_property_set id='o'><nvpair id='f' name='stonith-enabled' value='{}'/>"
          "</cluster_property_set></crm_config><nodes><node id='1' uname='n'/></nodes><resources/></configuration>"
-         "<status><node_state uname='n' {}/></status></cib>")
+         "<status><node_state uname='n' {}>{}</node_state></status></cib>")
 
 # Operations of a resource on a node, and the lines that they become.
 HISTORIES = [
@@ -127,10 +139,11 @@ HISTORY = ("<cib><configuration><nodes><node id='1' uname='n'/></nodes><resource
 
 
 def try_states():
-    for attributes, fenced, unfenced in STATES:
+    for terminate, attributes, fenced, unfenced in [("", *row) for row in STATES] + TERMINATED:
+        inner = ATTRIBUTE.format(terminate) if terminate else ""
         for value, state in (("true", fenced), ("false", unfenced)):
-            lines = tool("collect", "-q", "--now", "7", data=STATE.format(value, attributes).encode())[1].splitlines()
-            expect(f"the state of {attributes} with fencing {value}", f"node n {state}" in lines, "\n".join(lines))
+            lines = tool("collect", "-q", "--now", "7", data=STATE.format(value, attributes, inner).encode())[1].splitlines()
+            expect(f"the state of {attributes} {terminate} with fencing {value}", f"node n {state}" in lines, "\n".join(lines))
 
 
 def try_histories():

@@ -64,6 +64,14 @@ class Cib:
             found.update(self.pairs(one, "instance_attributes"))
         return found
 
+    def attributes(self, name, state):
+        """The attributes of the node of this name; those that last until it leaves override the permanent ones."""
+        found = self.transient(state)
+        for element in self.all("nodes/node"):
+            if element.get("uname") == name:
+                found = {**self.pairs(element, "instance_attributes"), **found}
+        return found
+
     def rules(self, element, tag):
         """The sets of an element that hold only where a rule does."""
         return [one for one in self.sets(element, tag) if one.find("rule") is not None]

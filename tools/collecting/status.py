@@ -69,19 +69,29 @@ def state_of(cib, name, state, fencing):
     join, expected = state.get("join"), state.get("expected", "down")
     if fencing and cib.transient(state).get("shutdown", "0") != "0":
         return "online" if peer else "offline"
-    found = state_with_fencing(state, member, peer, join, expected) if fencing else state_without(member, peer, join, expected)
+    doomed = fencing and is_doomed(cib.attributes(name, state).get("terminate", ""))
+    found = state_with_fencing(state, member, peer, join, expected, doomed) if fencing else state_without(member, peer, join, expected)
+    if doomed and found == "unclean":
+        cib.notes.add(f"node {name} is to be fenced, as its attribute terminate asks: written as unclean")
     if found == "joining":
         cib.notes.add(f"node {name} is joining: written as offline, since nothing runs there yet")
     return "offline" if found == "joining" else found
 
 
-def state_with_fencing(state, member, peer, join, expected):
-    """A node that was never seen, was turned away or has left without a word is unclean."""
+def is_doomed(text):
+    """Whether the attribute `terminate` asks for fencing: it is true, or the moment at which that was asked."""
+    return is_true(text) or text[:1] in tuple("123456789")
+
+
+def state_with_fencing(state, member, peer, join, expected, doomed):
+    """A node that was never seen, was turned away, has left without a word or is doomed is unclean, unless it was just shot."""
     if state.get("in_ccm") is None or join == "banned":
         return "unclean"
-    if expected == "down":
+    if expected == "down" and not doomed:
         return "joining" if member or peer else "offline"
-    if not member or not peer:
+    if doomed and join == "down" and not member and not peer:
+        return "offline"
+    if doomed or not member or not peer:
         return "unclean"
     return {"member": "online", "pending": "joining", "down": "joining"}.get(join, "unclean")
 
@@ -94,12 +104,8 @@ def state_without(member, peer, join, expected):
 
 def promotions(cib, facts, name, state):
     """The scores by which agents ask to be promoted; those that last until the node leaves go first."""
-    found = cib.transient(state)
-    for element in cib.all("nodes/node"):
-        if element.get("uname") == name:
-            found = {**cib.pairs(element, "instance_attributes"), **found}
     told = set()
-    for key, score in found.items():
+    for key, score in cib.attributes(name, state).items():
         match = PROMOTION.match(key)
         if match and match[1] not in told:
             told.add(match[1])
