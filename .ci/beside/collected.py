@@ -54,6 +54,30 @@ REFUSED = {
     "</date_expression></rule></rsc_location>": "\trule 1: date spec hours=8-18",
 }
 
+# Sets with a rule, each within a node and within a primitive, and the word in front of the rule; all are refused.
+RULE = "<rule id='r' score='5'><expression id='e' attribute='x' operation='eq' value='y'/></rule><nvpair id='p' name='priority' value='4'/>"
+RULED = [
+    (f"<instance_attributes id='i'>{RULE}</instance_attributes>", "", "attributes"),
+    (f"<utilization id='i'>{RULE}</utilization>", "", "utilization"),
+    ("", f"<meta_attributes id='i'>{RULE}</meta_attributes>", "meta"),
+    ("", f"<operations><op id='o' name='monitor' interval='9s'><meta_attributes id='i'>{RULE}</meta_attributes></op></operations>", "op_meta"),
+]
+WITH_SETS = ("<cib><configuration><nodes><node id='1' uname='n'>{}</node></nodes><resources>"
+             f"<primitive id='a' {AGENT}>{{}}</primitive></resources></configuration></cib>")
+
+# The name of the cluster and the site of a node, and the attributes that a rule finds of the node.
+SITES = [
+    ("<nvpair id='p' name='cluster-name' value='c'/>", "", ['\tattributes "#cluster-name=c" "#site-name=c"']),
+    ("<nvpair id='p' name='cluster-name' value='c'/>", "<nvpair id='q' name='site-name' value='s'/>",
+     ['\tattributes site-name=s "#cluster-name=c" "#site-name=s"']),
+    ("", "<nvpair id='q' name='site-name' value='s'/>", ['\tattributes site-name=s "#site-name=s"']),
+    ("", "", []),
+]
+SITE = ("<cib><configuration><crm_config><cluster_property_set id='o'>{}</cluster_property_set></crm_config><nodes><node id='1' uname='n'>"
+        f"<instance_attributes id='i'>{{}}</instance_attributes></node></nodes><resources><primitive id='a' {AGENT}/></resources><constraints>"
+        "<rsc_location id='l' rsc='a'><rule id='r' score='1'><expression id='e' attribute='#cluster-name' operation='eq' value='c'/>"
+        "<expression id='f' attribute='#site-name' operation='eq' value='s'/></rule></rsc_location></constraints></configuration></cib>")
+
 # Constraints of several resources, and the lines that they become; all are accepted.
 CONSTRAINTS = [
     ("<rsc_location id='l' node='n' score='9'><resource_set id='s' score='-INFINITY'><resource_ref id='a'/><resource_ref id='g'/>"
@@ -192,6 +216,17 @@ def try_refused():
         expect(f"what is refused: {line}", own(output.encode())[0] == 5)
 
 
+def try_rules():
+    for node, primitive, word in RULED:
+        output = tool("collect", "-q", data=WITH_SETS.format(node, primitive).encode())[1]
+        expect(f"a rule of {word}", f"\t{word} \\\n\trule 5: x eq y priority=4\n" in output, output)
+        expect(f"a rule of {word} is refused", own(output.encode())[1].endswith(b" Unsupported\n"), output)
+    for cluster, site, lines in SITES:
+        output = tool("collect", "-q", data=SITE.format(cluster, site).encode())[1]
+        found = [line for line in output.splitlines() if line.startswith("\tattributes")]
+        expect(f"the site of {cluster} {site}", found == lines and own(output.encode())[0] == 0, output)
+
+
 def try_constraints():
     for xml, lines in CONSTRAINTS:
         status, output, said = tool("collect", data=SEVERAL.format(xml).encode())
@@ -225,6 +260,7 @@ def try_collect(folder):
     try_text(folder)
     try_health(folder)
     try_refused()
+    try_rules()
     try_constraints()
     try_templates()
     try_states()

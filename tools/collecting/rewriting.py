@@ -94,10 +94,10 @@ def is_parameters(part, name, notes):
 
 
 def meta_of_operations(parts, name, notes):
-    """What `op_meta` says of an operation is said by the operation."""
+    """What `op_meta` says of an operation is said by the operation; alone it stands before a rule, and stays."""
     kept = []
     for part in parts:
-        if part[0] == "op_meta" and kept and kept[-1][0] == "op":
+        if part[0] == "op_meta" and len(part) > 1 and kept and kept[-1][0] == "op":
             keys = {word.partition("=")[0] for word in kept[-1]}
             kept[-1] = kept[-1] + [word for word in part[1:] if word.partition("=")[0] not in keys]
             notes.add(f"{name}: written in its operation: {' '.join(part)}")
@@ -107,8 +107,8 @@ def meta_of_operations(parts, name, notes):
 
 
 def section(part, words, configuration, notes):
-    """A section without the meta attributes that say nothing, and with those that stand for others behind it."""
-    if part[0] != "meta":
+    """A section without the meta attributes that say nothing, and with those that stand for others behind it; `meta` alone stays."""
+    if part[0] != "meta" or len(part) == 1:
         return part
     kept, others = [], []
     for word in part:

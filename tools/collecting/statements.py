@@ -30,7 +30,16 @@ def settings(cib):
             if pairs:
                 yield [word] + [f"{name}={value}" for name, value in pairs.items()]
             for one in cib.rules(element, sets):
-                yield [word] + rule_words(one.find("rule")) + [f"{name}={value}" for name, value in cib.own_pairs(one).items()]
+                yield under_rule(cib, one, word)
+
+
+def under_rule(cib, one, word):
+    """A set that holds only where a rule does; what has an effect is written so, to be refused where the program has no such rule."""
+    return [word] + rule_words(cib.meant(one.find("rule"))) + [f"{name}={value}" for name, value in cib.own_pairs(one).items()]
+
+
+def all_under_rules(cib, element, tag, word):
+    return [part for one in cib.rules(element, tag) for part in under_rule(cib, one, word)]
 
 
 def is_member(cib, element):
@@ -53,13 +62,18 @@ def node(cib, element):
     shown = {key: value for key, value in attributes.items() if not OWN_ATTRIBUTE.match(key)}
     shown.update(tested_of(cib, element))
     number = [element.get("id") + ":"] if (element.get("id") or "").isdigit() else []
-    return ["node"] + number + [name] + section("attributes", shown) + section("utilization", cib.pairs(element, "utilization"))
+    words = section("attributes", shown) + all_under_rules(cib, element, "instance_attributes", "attributes")
+    words += section("utilization", cib.pairs(element, "utilization")) + all_under_rules(cib, element, "utilization", "utilization")
+    return ["node"] + number + [name] + words
 
 
 def tested_of(cib, element):
     """What rules may test of a node beside its attributes, where one does; the program knows its name alone."""
     tested = {one.get("attribute") for one in cib.root.iter("expression")}
-    known = {"#id": element.get("id"), "#kind": "cluster", "#is_dc": str(element.get("id") == cib.root.get("dc-uuid")).lower()}
+    properties = cib.root.find("configuration/crm_config")
+    cluster = cib.pairs(properties, "cluster_property_set").get("cluster-name") if properties is not None else None
+    known = {"#id": element.get("id"), "#kind": "cluster", "#is_dc": str(element.get("id") == cib.root.get("dc-uuid")).lower(),
+             "#cluster-name": cluster, "#site-name": cib.pairs(element, "instance_attributes").get("site-name", cluster)}
     return {key: value for key, value in known.items() if key in tested and value}
 
 
@@ -132,13 +146,11 @@ def masked(cib, word, key, value):
 
 def rules_of(cib, source, tag, word):
     """Sets with a rule: meta attributes are written, to be refused, since they have an effect; parameters have none."""
-    words = []
-    for one in cib.rules(source, tag):
-        if word == "meta":
-            words += [word] + rule_words(one.find("rule"))
-        else:
-            cib.notes.add(f"{source.get('id')}: left out: {word} with a rule; they have no effect here")
-    return words
+    if word == "meta":
+        return all_under_rules(cib, source, tag, word)
+    if cib.rules(source, tag):
+        cib.notes.add(f"{source.get('id')}: left out: {word} with a rule; they have no effect here")
+    return []
 
 
 def operation(cib, element):
@@ -146,6 +158,7 @@ def operation(cib, element):
     pairs = {key: value for key, value in element.attrib.items() if key not in ("id", "name", "description")}
     for key, value in cib.pairs(element, "meta_attributes").items():
         pairs.setdefault(key, value)
-    if cib.pairs(element, "instance_attributes"):
+    if cib.pairs(element, "instance_attributes") or cib.rules(element, "instance_attributes"):
         cib.notes.add(f"left out: parameters of operations, as of {element.get('id')}; they have no effect here")
-    return ["op", element.get("name", "")] + [f"{key}={value}" for key, value in pairs.items()]
+    words = ["op", element.get("name", "")] + [f"{key}={value}" for key, value in pairs.items()]
+    return words + all_under_rules(cib, element, "meta_attributes", "op_meta")
