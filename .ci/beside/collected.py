@@ -1,6 +1,7 @@
 """Tries `tools/collect`: six CIBs become the texts that are kept beside them, and `check` accepts these."""
 import bz2
 import os
+import subprocess
 
 from .expecting import TOP, expect, kept, own, tool
 
@@ -147,6 +148,9 @@ HISTORIES = [
      "operation='monitor' call-id='9' rc-code='0' op-status='1' interval='9' last-rc-change='9'", ["start 0 1 8", "stop 0 timeout 9"]),
     ("operation='notify' call-id='1' rc-code='0' interval='0'", "operation='promote' call-id='2' rc-code='0' interval='0'",
      "operation='monitor' call-id='-1' rc-code='193' op-status='-1' interval='9'", []),
+    # Without a call id an operation is the first; what is no number is 0.
+    ("operation='monitor' call-id='1' rc-code='7' interval='0' last-rc-change='6'",
+     "operation='start' call-id='' rc-code='&#178;' interval='0' last-rc-change='-5'", ["start 0 0 0", "monitor 0 7 6"]),
     # Migrations: an arrival, a departure, a failure.
     ("operation='migrate_from' call-id='1' rc-code='0' interval='0' last-rc-change='5'",
      "operation='migrate_to' call-id='2' rc-code='0' interval='0'",
@@ -199,6 +203,16 @@ def try_text(folder):
     expect("check of what --config gives", own(output.encode())[0] == 0)
 
 
+def try_begun(folder):
+    """Statements that have only their word stay, to be refused."""
+    path = os.path.join(folder, "begun.crm")
+    for word in ("node", "primitive", "group", "clone", "location", "order", "property"):
+        with open(path, "w", encoding="utf-8") as file:
+            file.write(word + "\n")
+        status, output, said = tool("collect", "-q", "--now", "7", "--config", path, data=EMPTY)
+        expect(f"{word} alone", (status, output, said) == (0, word + "\n%status\nnow 7\nquorum yes\n", ""), output + said)
+
+
 def try_health(folder):
     """A strategy of health stays where a node has an attribute of health."""
     path = os.path.join(folder, "health.crm")
@@ -249,15 +263,22 @@ def try_inputs():
     broken = "<rsc_location id='l&#10;x' rsc='a&#10;%results' node='gone&#10;lost n' score='1'/>"
     status, output, _ = tool("collect", data=SMALL.format(broken).encode())
     expect("names over several lines", status == 0 and not {"x", "%results", "lost n"} & set(output.splitlines()), output)
-    for data in (b"", b"node n1\n", b"<crm_mon/>"):
+    nameless = SMALL.replace("id='a'", "").format("").encode()
+    for data in (b"", b"node n1\n", b"<crm_mon/>", b"<?xml version='1.0' encoding='none'?><cib/>", nameless):
         status, output, said = tool("collect", data=data)
-        expect("no CIB", (status, output) == (1, "") and said.startswith("collect: standard input: "), said)
+        expect("no CIB", (status, output, said.count("\n")) == (1, "", 1) and said.startswith("collect: standard input: "), said)
     expect("no file", tool("collect", "/nonexistent")[0] == 1)
+    for command, place in (('"$0" <&-', "standard input"), ('"$0" "$1" >&-', "the output"), ('"$0" "$1" > /dev/full', "the output")):
+        done = subprocess.run(["bash", "-c", command, os.path.join(TOP, "tools", "collect"), os.path.join(CIBS, "lost-node.xml")],
+                              stdout=subprocess.PIPE, stderr=subprocess.PIPE)
+        said = done.stderr.decode("utf-8")
+        expect(command, (done.returncode, said.count("\n")) == (1, 1) and said.startswith(f"collect: {place}: "), said)
 
 
 def try_collect(folder):
     try_kept()
     try_text(folder)
+    try_begun(folder)
     try_health(folder)
     try_refused()
     try_rules()

@@ -11,6 +11,13 @@ def is_true(text):
     return text is not None and text.lower() in TRUE
 
 
+def parsed(data):
+    try:
+        return ElementTree.fromstring(data)
+    except LookupError as error:
+        raise ValueError(str(error)) from error
+
+
 class Notes:
     """What was left out or written in another way, each with its reason, in the order in which it was met."""
 
@@ -24,7 +31,7 @@ class Notes:
 
 class Cib:
     def __init__(self, data, notes):
-        root = ElementTree.fromstring(bz2.decompress(data) if data.startswith(b"BZh") else data)
+        root = parsed(bz2.decompress(data) if data.startswith(b"BZh") else data)
         self.root = root if root.tag == "cib" else root.find(".//cib")
         if self.root is None or self.root.find("configuration") is None:
             raise ValueError("there is no element `cib` with a `configuration`")

@@ -47,7 +47,7 @@ def matching(cib, pattern):
     except re.error as error:
         cib.notes.add(f"left out: the pattern {pattern}; {error}")
         return []
-    ids = [one.get("id") for one in cib.root.findall("configuration/resources/*") if one.tag != "template"]
+    ids = [one.get("id", "") for one in cib.root.findall("configuration/resources/*") if one.tag != "template"]
     return [name for name in ids if bool(tried.search(name)) != inverted]
 
 

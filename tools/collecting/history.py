@@ -43,15 +43,19 @@ def operations(cib, facts, node, state):
         yield operation.line(node)
 
 
-def number(text):
-    return int(text) if text and text.isdigit() else 0
+def number(text, least=0):
+    """A number from the least on, which stands for what is none."""
+    try:
+        return max(least, int(text or least))
+    except ValueError:
+        return least
 
 
 def told(cib, facts, node, leaf, element):
     """An operation of the history as the program is told of it, or nothing."""
     task, what = element.get("operation", ""), f"{element.get('operation')} of {leaf} on {node}"
     status, code = element.get("op-status", "0"), number(element.get("rc-code"))
-    call, moment = int(element.get("call-id", "-1")), number(element.get("last-rc-change") or element.get("last-run"))
+    call, moment = number(element.get("call-id"), -1), number(element.get("last-rc-change") or element.get("last-run"))
     if status == PENDING:
         return in_flight(cib, leaf, task, what, moment)
     if status == CANCELLED:

@@ -22,6 +22,8 @@ class Configuration:
 
 def rewrite(words, configuration, notes):
     """The statement in the form that the program takes, or nothing where it says nothing."""
+    if len(words) == 1:
+        return words
     if words[0] in ("primitive", "group") + CLONES:
         return resource(words, configuration, notes)
     if words[0] == "node":

@@ -15,7 +15,7 @@ class Facts:
     def __init__(self, statements):
         kinds = {}
         for words in statements:
-            kinds.setdefault(words[0], []).append(words)
+            kinds.setdefault(words[0] if len(words) > 1 else "", []).append(words)
         self.nodes = [name_of_node(words) for words in kinds.get("node", [])]
         self.primitives = [words[1] for words in kinds.get("primitive", [])]
         clones = kinds.get("clone", []) + kinds.get("ms", []) + kinds.get("master", [])
