@@ -31,6 +31,8 @@ DRAWN = """digraph "actions" {
 FIELDS = {
     "node 1: n1 attributes \"a b\"=\"x \\\"y\\\" \\\\z\"":
         {"kind": "statement", "statement": "node", "words": ["1:", "n1", "attributes", "a b=x \"y\" \\z"]},
+    "fencing_topology": {"kind": "statement", "statement": "fencing_topology", "words": []},
+    "acl_group": {"kind": "statement", "statement": "acl_group", "words": []},
     "# nodes 2 leaves 4 rules 5": {"kind": "counts", "nodes": 2, "leaves": 4, "rules": 5},
     "place vip": {"kind": "place", "resource": "vip"},
     "promote disk": {"kind": "promote", "resource": "disk"},
@@ -48,7 +50,7 @@ FIELDS = {
     "refused 3 BadScore": {"kind": "refused", "line": 3, "cause": "BadScore"},
     "unlawful 3 begin": {"kind": "unlawful", "line": 3, "clause": "begin"},
 }
-NO_LINES = ["frobnicate", "place", "place a b", "score vip n1 many", "action 1 start vip", "action 1 start vip n1 2", "end 1"]
+NO_LINES = ["frobnicate", "node", "property", "place", "place a b", "score vip n1 many", "action 1 start vip", "action 1 start vip n1 2", "end 1"]
 
 # Lines of the program, and the summary of them.
 SUMMARIES = {

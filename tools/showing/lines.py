@@ -19,6 +19,7 @@ ACTIONS = {
 }
 STATEMENTS = ("node", "primitive", "group", "clone", "ms", "location", "colocation", "order", "property", "rsc_defaults", "op_defaults",
               "fencing_topology", "alert", "user", "role", "acl_target", "acl_group")
+ALONE = STATEMENTS[STATEMENTS.index("fencing_topology"):]  # they are kept as they are, also when nothing follows
 NUMBERS = ("number", "code", "line", "seconds", "interval", "count")
 COUNTS = re.compile(r"# nodes (\d+) leaves (\d+) rules (\d+)$")
 WORD = re.compile(r'(?:"(?:[^"\\]|\\.)*"|[^ "])+')
@@ -35,7 +36,7 @@ def read(line):
         return dict(zip(("kind", "nodes", "leaves", "rules"), ("counts", *map(int, counts.groups()))))
     words = WORD.findall(line)
     kind = words[0] if words else ""
-    if kind in STATEMENTS and len(words) > 1:
+    if kind in ALONE or kind in STATEMENTS and len(words) > 1:
         return {"kind": "statement", "statement": kind, "words": [unquoted(word) for word in words[1:]]}
     if kind not in FIELDS:
         raise NotALine(line)
