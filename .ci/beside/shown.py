@@ -70,6 +70,17 @@ SUMMARIES = {
     "end 1 0\nbegin 2 start vip n2\nend 2 0\ncomplete 2\n":
         "Transition 1 (aborted):\n  * Stop       vip              ( n1 )\n  * Place      vip              ( n2 )\n"
         "Transition 2:\n  * Fence      n1\n  * Start      vip              ( n2 )\n",
+    # Runs that end before a transition is complete: what no action leads to yet isn't there. One ends after it.
+    "transition 1\ntarget vip n1 started\nbegin 1 probe vip n1\nbegin 2 probe vip n2\nunexpected 10\n":
+        "Transition 1 (not complete):\n  * Place      vip              ( n1 )\n"
+        "  * Probe      2 times          does a resource run there?\nThe run ends here: the result in line 10 doesn't apply.\n",
+    "transition 1\ntarget vip n1 started\nbegin 1 probe vip n1\nrefused 11 UnknownStatement\n":
+        "Transition 1 (not complete):\n  * Place      vip              ( n1 )\n  * Probe      1 times          does a resource run there?\n"
+        "The run ends here: the result in line 11 is refused (UnknownStatement).\n",
+    "transition 1\ntarget vip n1 started\nbegin 1 fence n2\n":
+        "Transition 1 (not complete):\n  * Fence      n2\n  * Place      vip              ( n1 )\n",
+    "transition 1\ntarget vip n1 started\ncomplete 1\nunexpected 13\n":
+        "Transition 1:\n  * Stay       vip              ( n1 )\nThe run ends here: the result in line 13 doesn't apply.\n",
     # The graph alone.
     "action 1 fence n2\naction 2 start vip n1 after 1\n": "Summary:\n  * Fence      n2\n  * Start      vip              ( n1 )\n",
     "transition 1\ncomplete 1\n": "Transition 1:\n  * nothing to do\n",

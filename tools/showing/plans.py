@@ -5,8 +5,13 @@ class Plan:
     """One plan: of an input, of a transition of a run, or after a loss. `acts` says whether its actions are told."""
 
     def __init__(self, title="", acts=False):
-        self.title, self.acts, self.end = title, acts, ""
+        self.title, self.acts, self.end, self.cut = title, acts, "", None
         self.targets, self.without, self.pinned, self.actions, self.order = {}, {}, {}, [], []
+
+    @property
+    def done(self):
+        """Whether all its actions are told: of a transition, whether it is complete."""
+        return self.acts and (self.end == "complete" or not (self.title or self.end or self.cut))
 
     def resource(self, name):
         if name not in self.targets:
@@ -30,6 +35,8 @@ class Plan:
             self.actions.append(line)
         elif kind in ("complete", "aborted"):
             self.end = kind
+        elif kind in ("unexpected", "refused"):
+            self.cut = line
 
 
 def plans(lines):

@@ -10,6 +10,10 @@ REASONS = {
     "Held": "held back by {}: what it needs has no place",
 }
 PINNED = {"unmanaged": "it isn't managed", "blocked": "an operation failed whose on-fail is block"}
+CUTS = {
+    "unexpected": "The run ends here: the result in line {line} doesn't apply.",
+    "refused": "The run ends here: the result in line {line} is refused ({cause}).",
+}
 
 
 def summary(plan):
@@ -35,6 +39,11 @@ def by_resource(plan):
 
 def entry(what, name, why=""):
     return f"  * {what:<10} " + (f"{name:<16} {why}" if why else name)
+
+
+def named(line):
+    """The name in an entry."""
+    return line[len(entry("", "")):].split()[0]
 
 
 def at(name, where):
@@ -76,7 +85,7 @@ def stays(plan, name):
     """What is said of a target that no action leads to: it may be there already, or it is only known where it is to be."""
     if name in plan.pinned:
         return "Leave"
-    return "Stay" if plan.acts and plan.end != "aborted" else "Place"
+    return "Stay" if plan.done else "Place"
 
 
 def each_node(name, own, starts, stops, why):
@@ -104,7 +113,9 @@ def role_on(role):
 
 
 def shown(plan):
-    """The title of a plan and its summary."""
-    head = plan.title + (f" ({plan.end})" if plan.end == "aborted" else "") if plan.title else "Summary"
-    lines = list(summary(plan))
-    return [head + ":"] + (lines or ["  * nothing to do"])
+    """The title of a plan, its summary, and why the run ends before its time, where it does."""
+    head = plan.title or "Summary"
+    if plan.acts and not plan.done:
+        head += f" ({plan.end or 'not complete'})"
+    lines = list(summary(plan)) or ["  * nothing to do"]
+    return [head + ":", *lines] + ([CUTS[plan.cut["kind"]].format(**plan.cut)] if plan.cut else [])
