@@ -5,7 +5,7 @@ import shutil
 import subprocess
 import textwrap
 
-from .expecting import expect, kept, own, tool
+from .expecting import ENVIRONMENT, TOP, expect, kept, own, tool
 
 GRAPH = """action 1 fence web1
 action 2 start vip web2 after 1
@@ -91,6 +91,15 @@ SUMMARIES = {
     "begin 3 stop vm n1\nend 3 0\ncomplete 1\n": "Transition 1:\n  * Migrate    vm               ( n1 -> n2 )\n",
 }
 
+# Commands with standard streams that are closed: the status, the output, and what is said.
+CLOSED = {
+    "tools/json <&-": (1, "", "json: standard input is closed\n"),
+    "tools/dot <&-": (1, "", "dot: standard input is closed\n"),
+    "tools/summary examples/nothing <&-": (1, "", "summary: [Errno 2] No such file or directory: 'examples/nothing'\n"),
+    "tools/json <(echo place vip) <&-": (0, '{"kind": "place", "resource": "vip"}\n', ""),
+    "echo end 1 7 | tools/json >&-": (1, "", "json: standard output is closed\n"),
+}
+
 # What is said of the kept CIB two-nodes when the site may no longer be on web1, without `graph` and with it.
 PLACED = """What is done now (-), and with {0} (+):
 -   * Place      site-address     ( web1 )
@@ -133,6 +142,13 @@ def try_summary():
         expect(f"summary of {lines[:30]}", tool("summary", data=lines.encode()) == (0, said, ""), tool("summary", data=lines.encode())[1])
 
 
+def try_closed():
+    for command, expected in CLOSED.items():
+        done = subprocess.run(["bash", "-o", "pipefail", "-c", command], cwd=TOP, env=ENVIRONMENT, stdout=subprocess.PIPE, stderr=subprocess.PIPE)
+        found = done.returncode, done.stdout.decode(), done.stderr.decode()
+        expect(command, found == expected, str(found))
+
+
 def try_what_if(folder):
     old, path = kept("cibs", "two-nodes.crm"), os.path.join(folder, "new.crm")
     new = old.partition("%status")[0].replace("site-prefers-web1 site 50:", "site-not-on-web1 site -inf:")
@@ -156,4 +172,5 @@ def try_shown(folder):
     try_dot()
     try_json()
     try_summary()
+    try_closed()
     try_what_if(folder)

@@ -1,13 +1,21 @@
 """How a filter runs: it reads files or standard input, and says on standard error what it can't read."""
+import io
 import signal
 import sys
 
 from .lines import NotALine
 
 
+def opened(stream, name):
+    """A standard stream, unless it was closed before the script began."""
+    if stream is None:
+        raise OSError(f"standard {name} is closed")
+    return stream
+
+
 def lines_of(files):
     if not files:
-        yield from sys.stdin
+        yield from io.TextIOWrapper(opened(sys.stdin, "input").buffer, encoding="utf-8")
         return
     for name in files:
         with open(name, encoding="utf-8") as file:
@@ -17,9 +25,9 @@ def lines_of(files):
 def filtered(name, work):
     """Gives the lines to the work; the status is 1 where one isn't a line of the program, or a file can't be read."""
     signal.signal(signal.SIGPIPE, signal.SIG_DFL)
-    for stream in (sys.stdin, sys.stdout):
-        stream.reconfigure(encoding="utf-8")
     try:
+        output = opened(sys.stdout, "output")
+        sys.stdout = io.TextIOWrapper(output.buffer, encoding="utf-8", line_buffering=output.line_buffering)
         work(line.rstrip("\n") for line in lines_of([word for word in sys.argv[1:] if word != "--all"]) if line.strip())
         return 0
     except NotALine as error:
