@@ -1,11 +1,13 @@
 """Tries the filters over the program's lines, `tools/dot`, `tools/json` and `tools/summary`, and `tools/what-if`."""
 import json
 import os
+import resource
 import shutil
 import subprocess
 import textwrap
 
-from .expecting import ENVIRONMENT, TOP, expect, kept, own, tool
+from .expecting import ENVIRONMENT, TOP, WRAPPER, expect, kept, own, tool
+from .installed import plain
 
 GRAPH = """action 1 fence web1
 action 2 start vip web2 after 1
@@ -75,7 +77,8 @@ SUMMARIES = {
         "Transition 1 (not complete):\n  * Place      vip              ( n1 )\n"
         "  * Probe      2 times          does a resource run there?\nThe run ends here: the result in line 10 doesn't apply.\n",
     "transition 1\ntarget vip n1 started\nbegin 1 probe vip n1\nrefused 11 UnknownStatement\n":
-        "Transition 1 (not complete):\n  * Place      vip              ( n1 )\n  * Probe      1 times          does a resource run there?\n"
+        "Transition 1 (not complete):\n  * Place      vip              ( n1 )\n"
+        "  * Probe      1 times          does a resource run there?\n"
         "The run ends here: the result in line 11 is refused (UnknownStatement).\n",
     "transition 1\ntarget vip n1 started\nbegin 1 fence n2\n":
         "Transition 1 (not complete):\n  * Fence      n2\n  * Place      vip              ( n1 )\n",
@@ -96,6 +99,7 @@ CLOSED = {
     "tools/json <&-": (1, "", "json: standard input is closed\n"),
     "tools/dot <&-": (1, "", "dot: standard input is closed\n"),
     "tools/summary examples/nothing <&-": (1, "", "summary: [Errno 2] No such file or directory: 'examples/nothing'\n"),
+    "tools/what-if examples/first-run.crm <&-": (1, "", "what-if: standard input is closed\n"),
     "tools/json <(echo place vip) <&-": (0, '{"kind": "place", "resource": "vip"}\n', ""),
     "echo end 1 7 | tools/json >&-": (1, "", "json: standard output is closed\n"),
 }
@@ -118,6 +122,38 @@ PLANNED = """What is done now (-), and with {0} (+):
 LOST = """After the loss of web2, with {0}: site-address would no longer have a place (no node could be chosen)
 After the loss of web2, with {0}: site-server would no longer have a place (no node could be chosen)
 """
+
+# A cluster in which a runs on n1 and can't run on n2, and what changed configurations do there.
+HEAD = "node n1\nnode n2\nprimitive a Dummy\nlocation l a -inf: n2\n"
+STATE = "%status\nnow 10\nquorum yes\nnode n1 online\nnode n2 online\nop n1 a start 0 0 5\nop n2 a monitor 0 7 4\n"
+STAYS = "-   * Stay       a                ( n1 )\n+   * "
+SAME = "Of what has a place with {0}, the loss of a single node would bring down the same as now.\n"
+NO_STATUS = "what-if: n1 isn't in {0}: its status is left out\n"
+SAYS_MORE = "; `cekpayo check` says more\n"
+PROMOTED = HEAD.replace("primitive", "ms m a\nprimitive") + STATE + "\n# The agent's.\npromotion n1 a 5\n"
+
+# What is tried, NEW.crm, INPUT, the status, the output behind its first line, and what is said.
+CHANGES = [
+    ("what is stopped has no place after a loss", HEAD.replace("Dummy", "Dummy meta target-role=Stopped"), HEAD + STATE,
+     0, STAYS + "Stop       a                ( n1 ) its target-role\n" + SAME, ""),
+    ("a node that is gone isn't lost", "node n2\nprimitive a Dummy\n", HEAD + STATE,
+     0, STAYS + "Start      a                ( n2 )\n"
+     "After the loss of n2, with {0}: a would no longer have a place (no node could be chosen)\n", NO_STATUS),
+    ("what isn't managed is lost with its node", HEAD.replace("Dummy", "Dummy meta is-managed=false"), HEAD + STATE,
+     0, STAYS + "Leave      a                ( n1 ) it isn't managed\n" + SAME, ""),
+    ("what survives more", HEAD.replace("-inf: n2", "5: n1"), HEAD + STATE,
+     0, "    * Stay       a                ( n1 )\nAfter the loss of n1, with {0}: a would have a place, which it hasn't now\n", ""),
+    ("a misspelt %status", HEAD, HEAD + STATE.replace("%status", "%statu"),
+     5, "", "what-if: standard input: refused 5 UnknownStatement" + SAYS_MORE),
+    ("a line of an input with comments", HEAD, HEAD + STATE + "\n# A comment.\nop n3 a start 0 0 5\n",
+     5, "", "what-if: standard input: refused 14 UnknownName" + SAYS_MORE),
+    ("two that are refused", "nod n1\n", "nod n2\n",
+     5, "", "what-if: standard input: refused 1 UnknownStatement" + SAYS_MORE + "what-if: {0}: refused 1 UnknownStatement" + SAYS_MORE),
+    ("a section that NEW.crm can't have", HEAD + "%more\n", HEAD + STATE,
+     5, "", "what-if: {0}: refused 5 UnknownStatement" + SAYS_MORE),
+    ("a status that doesn't fit", "# A comment.\n" + HEAD, PROMOTED,
+     5, "", "what-if: standard input: refused 15 BadValue: its status doesn't fit {0}\n"),
+]
 
 
 def try_dot():
@@ -144,7 +180,7 @@ def try_summary():
 
 def try_closed():
     for command, expected in CLOSED.items():
-        done = subprocess.run(["bash", "-o", "pipefail", "-c", command], cwd=TOP, env=ENVIRONMENT, stdout=subprocess.PIPE, stderr=subprocess.PIPE)
+        done = subprocess.run(["bash", "-c", command], cwd=TOP, env=ENVIRONMENT, stdout=subprocess.PIPE, stderr=subprocess.PIPE)
         found = done.returncode, done.stdout.decode(), done.stderr.decode()
         expect(command, found == expected, str(found))
 
@@ -168,9 +204,53 @@ def try_what_if(folder):
     expect("what-if without a file", tool("what-if")[0] == 2)
 
 
+def try_changes(folder):
+    path = os.path.join(folder, "changed.crm")
+    for name, new, old, status, output, said in CHANGES:
+        with open(path, "w", encoding="utf-8") as file:
+            file.write(new)
+        head = "What is done now (-), and with {0} (+):\n" if output else ""
+        found = tool("what-if", path, data=old.encode())
+        expect("what-if: " + name, found == (status, (head + output).format(path), said.format(path)), found[1] + found[2])
+
+
+def try_many(folder):
+    """What moves many resources is told without much work of the processor, each line next to the other of its resource."""
+    path, names = os.path.join(folder, "many.crm"), [f"r{number}" for number in range(200)]
+    places = {node: "node n1\nnode n2\n" + "".join(f"primitive {one} Dummy\nlocation l-{one} {one} 5: {node}\n" for one in names)
+              for node in ("n1", "n2")}
+    state = STATE.partition("op")[0] + "".join(f"op n1 {one} start 0 0 5\nop n2 {one} monitor 0 7 4\n" for one in names)
+    with open(path, "w", encoding="utf-8") as file:
+        file.write(places["n2"])
+    before = resource.getrusage(resource.RUSAGE_CHILDREN).ru_utime
+    output = tool("what-if", path, data=(places["n1"] + state).encode())[1]
+    expect("what-if of many that move: time", resource.getrusage(resource.RUSAGE_CHILDREN).ru_utime - before < 5)
+    lines = [f"-   * Stay       {one:<16} ( n1 )\n+   * Move       {one:<16} ( n1 -> n2 )\n" for one in names]
+    expect("what-if of many that move", "".join(lines) in output, output)
+
+
+def try_without_program(folder):
+    """The status and the words are those of the script `cekpayo`, here in a copy where nothing is built or can be."""
+    top = os.path.join(folder, "unbuilt")
+    shutil.copytree(os.path.join(TOP, "tools"), os.path.join(top, "tools"))
+    shutil.copy(WRAPPER, top)
+    places = [(TOP, dict(ENVIRONMENT, CEKPAYO_PROGRAM="/nonexistent"), "cekpayo: CEKPAYO_PROGRAM names /nonexistent, ")]
+    if not shutil.which("rt", path=plain()["PATH"]):
+        places.append((top, plain(), "cekpayo: the program is not built, "))
+    for place, environment, said in places:
+        words = [os.path.join(place, "tools", "what-if"), "/dev/null"]
+        done = subprocess.run(words, input=b"", env=environment, stdout=subprocess.PIPE, stderr=subprocess.PIPE)
+        found = done.stderr.decode()
+        as_said = found.startswith(said) and found.count("\n") == 1
+        expect("what-if without a program", (done.returncode, done.stdout) == (127, b"") and as_said, found)
+
+
 def try_shown(folder):
     try_dot()
     try_json()
     try_summary()
     try_closed()
     try_what_if(folder)
+    try_changes(folder)
+    try_many(folder)
+    try_without_program(folder)
