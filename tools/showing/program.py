@@ -26,7 +26,7 @@ class Refused(Exception):
 def path():
     """The program: the one that CEKPAYO_PROGRAM names, an installed one, or that of the repository, which is built when it must be."""
     named = os.environ.get("CEKPAYO_PROGRAM") or INSTALLED
-    if os.access(named, os.X_OK):
+    if os.path.isfile(named) and os.access(named, os.X_OK):
         return named
     status = subprocess.run([os.path.join(TOP, "cekpayo"), "--build"]).returncode
     if status != 0:
