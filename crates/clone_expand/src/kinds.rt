@@ -8,7 +8,7 @@ use crm_parse::{Form, Statement};
 use std::alloc::Global;
 
 /// What a resource is.
-#[derive(Clone, Copy, Debug, PartialEq, Eq)]
+#[derive(Clone, Copy)]
 pub(crate) enum Kind {
     Primitive,
     Group,

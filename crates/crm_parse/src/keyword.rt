@@ -3,7 +3,7 @@
 use crate::SettingsWord;
 
 /// A statement, by its first word.
-#[derive(Clone, Copy, Debug, PartialEq, Eq)]
+#[derive(Clone, Copy)]
 pub(crate) enum Keyword {
     Node,
     Primitive,

@@ -1,7 +1,7 @@
 //! The statements with sections.
 
 /// A statement with sections.
-#[derive(Clone, Copy, Debug, PartialEq, Eq)]
+#[derive(Clone, Copy)]
 pub(crate) enum Owner {
     Node,
     Primitive,
@@ -12,7 +12,7 @@ pub(crate) enum Owner {
 }
 
 /// A section.
-#[derive(Clone, Copy, Debug, PartialEq, Eq)]
+#[derive(Clone, Copy)]
 pub(crate) enum SectionWord {
     Attributes,
     Params,

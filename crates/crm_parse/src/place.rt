@@ -1,7 +1,7 @@
 //! Where a pair stands.
 
 /// An operation, as far as its name has effect.
-#[derive(Clone, Copy, Debug, PartialEq, Eq)]
+#[derive(Clone, Copy)]
 pub(crate) enum OpName {
     Start,
     Stop,
@@ -12,7 +12,7 @@ pub(crate) enum OpName {
 }
 
 /// The place of a pair, which says which keys have effect there.
-#[derive(Clone, Copy, Debug, PartialEq, Eq)]
+#[derive(Clone, Copy)]
 pub(crate) enum Place {
     /// A section without keys of effect.
     Plain,

@@ -12,7 +12,7 @@ use crm_lex::Line;
 use crm_parse::{AuditMarks, SectionMarks, audit_sections, sections};
 
 /// The last section that a text may have.
-#[derive(Clone, Copy, Debug, PartialEq, Eq)]
+#[derive(Clone, Copy)]
 pub(crate) enum LastSection {
     Results,
     Trace,

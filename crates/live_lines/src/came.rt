@@ -2,7 +2,7 @@ use crate::line_stop::LineStop;
 use op_history::ResultLine;
 
 /// What came of reading on.
-#[derive(Clone, Copy, Debug, PartialEq, Eq)]
+#[derive(Clone, Copy)]
 pub(crate) enum Came {
     Answer(ResultLine),
     /// No line is left.

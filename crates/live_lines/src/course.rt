@@ -1,7 +1,7 @@
 use crate::line_stop::LineStop;
 
 /// Whether a source of answers goes on.
-#[derive(Clone, Copy, Debug, PartialEq, Eq)]
+#[derive(Clone, Copy)]
 pub(crate) enum Course {
     Reading,
     /// The input has ended.

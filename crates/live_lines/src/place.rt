@@ -6,7 +6,7 @@ ghost use Rattle.live_lines.specs.Saying.{Fits, place_behind};
 use crate::said::Said;
 
 /// The place of a result line.
-#[derive(Clone, Copy, Debug, PartialEq, Eq)]
+#[derive(Clone, Copy)]
 pub(crate) struct Place {
     /// The moment, in seconds.
     pub(crate) moment: u64,

@@ -2,7 +2,7 @@ use crate::line_stop::LineStop;
 use cluster_types::Answer;
 
 /// What a logical line says.
-#[derive(Clone, Copy, Debug, PartialEq, Eq)]
+#[derive(Clone, Copy)]
 pub(crate) enum Said {
     /// It has no words.
     Nothing,

@@ -12,7 +12,7 @@ use line_words::{
 };
 
 /// The forms of result lines.
-#[derive(Clone, Copy, Debug, PartialEq, Eq)]
+#[derive(Clone, Copy)]
 pub(crate) enum ResultWord {
     End,
     Timeout,

@@ -18,7 +18,7 @@ use line_words::{
 use score::Score;
 
 /// The forms of the lines of a status.
-#[derive(Clone, Copy, Debug, PartialEq, Eq)]
+#[derive(Clone, Copy)]
 pub(crate) enum StatusWord {
     Now,
     Quorum,

@@ -3,7 +3,7 @@
 use cluster_types::{Event, NodeId, Promotion};
 
 /// What a status says of a node.
-#[derive(Clone, Copy, Debug, PartialEq, Eq)]
+#[derive(Clone, Copy)]
 pub(crate) enum NodeWord {
     Online,
     Offline,
@@ -11,7 +11,7 @@ pub(crate) enum NodeWord {
 }
 
 /// What one line of a status tells.
-#[derive(Clone, Copy, Debug, PartialEq, Eq)]
+#[derive(Clone, Copy)]
 pub(crate) enum Told {
     /// The moment, in seconds.
     Now(u64),

@@ -10,7 +10,7 @@ use crm_parse::is_name;
 use line_words::{WordCause, Words, word_at};
 
 /// The forms of the lines of a run.
-#[derive(Clone, Copy, Debug, PartialEq, Eq)]
+#[derive(Clone, Copy)]
 pub(crate) enum LineWord {
     Transition,
     Pinned,
@@ -25,7 +25,7 @@ pub(crate) enum LineWord {
 }
 
 /// The forms of actions.
-#[derive(Clone, Copy, Debug, PartialEq, Eq)]
+#[derive(Clone, Copy)]
 pub(crate) enum ActionWord {
     Fence,
     Probe,

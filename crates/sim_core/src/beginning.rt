@@ -24,7 +24,7 @@ pub(crate) struct Beginning {
 }
 
 /// Why there is none.
-#[derive(Clone, Copy, Debug, PartialEq, Eq)]
+#[derive(Clone, Copy)]
 pub(crate) enum HeadEnd {
     /// A line of the head is refused.
     Refused { line: u32, cause: InputCause },

@@ -1,5 +1,5 @@
 /// How a run ended that was written into memory.
-#[derive(Clone, Copy, Debug, PartialEq, Eq)]
+#[derive(Clone, Copy)]
 pub(crate) enum Ended {
     /// With all done, and all answers taken.
     Whole,
