@@ -1,5 +1,5 @@
 -- A bound on how many parts follow is never reached, since each part has a word.
-use Rattle.std.proofs.Common.{◌≡◌, ℕ, ◌≤◌, ◌<◌, zero, suc, Bool, List, [], ◌∷◌, length, Some, Result, Ok, Err, refl, arith}
+use Rattle.std.proofs.Common.{◌≡◌, ℕ, ◌≤◌, ◌<◌, zero, suc, Bool, List, [], ◌∷◌, length, Some, Err, refl, arith}
 use Rattle.crm_parse.specs.declared.expression.Expression.{Expression}
 use Rattle.crm_parse.specs.declared.fault.ParseCause.{ParseCause}
 use Rattle.faults.specs.declared.stop.Stop.{Stop}
@@ -36,7 +36,3 @@ tests-cause (suc most) before all words cause e h r = rw (e, r) refl
 pub tests-fault : (stop : Stop ParseCause) (most : ℕ) (before : Expression) (all : Bool) (words : Words) → joiner_at words ≡ Some all → length words ≤ most
     → IsCause stop (with_joined before all words) → IsCause stop (with_tests most (joiner_at words) before words)
 tests-fault stop most before all words e h f = cause_of_whole stop _ _ (λ cause r. tests-cause most before all words cause e h r) f
-
--- what two equal answers give is equal
-pub ok_value : {X : Type 0} (one other : X) → (the : Result X ParseCause) → the ≡ Ok one → the ≡ Ok other → one ≡ other
-ok_value one other the a b = cc

@@ -10,6 +10,7 @@ use crate::reading::{
 };
 use crate::values::role_of;
 use crate::{Form, ParseCause, RoleName, RoleWord, Side};
+use carry::{done, with};
 use crm_lex::Name;
 use std::alloc::Global;
 
@@ -105,12 +106,12 @@ pub fn colocation_at(alloc: Global, words: &[Name]) -> Result<Form, Stop>
     ensures { GivesInLine (λ form. form) result (colocation_at words.now) }
 {
     let (id, rest) = name_at(alloc, words)?;
-    let (word, rest) = word_at(rest)?;
-    no_attribute(word.bytes())?;
-    let score = score_of(word.bytes())?;
-    let (dependent, rest) = side_at(alloc, rest)?;
-    let (primary, rest) = side_at(alloc, rest)?;
-    no_third(rest)?;
+    let (id, (word, rest)) = with(id, word_at(rest))?;
+    let id = done(id, no_attribute(word.bytes()))?;
+    let (id, score) = with(id, score_of(word.bytes()))?;
+    let (id, (dependent, rest)) = with(id, side_at(alloc, rest))?;
+    let ((id, dependent), (primary, rest)) = with((id, dependent), side_at(alloc, rest))?;
+    let (id, dependent, primary) = done((id, dependent, primary), no_third(rest))?;
     Ok(Form::Colocation {
         id,
         score,

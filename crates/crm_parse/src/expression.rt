@@ -8,6 +8,7 @@ use crate::ParseCause;
 use crate::accept::when;
 use crate::fault::Stop;
 use crate::reading::{after, cut_at, place_of, word_at};
+use carry::with;
 use crm_lex::{Name, is};
 use date_rules::{Compare, Kind, Test, Text, instant, whole_number};
 use listed::Listed;
@@ -24,7 +25,7 @@ pub(crate) struct Expression {
 }
 
 /// How a moment is tested.
-#[derive(Clone, Copy, Debug, PartialEq, Eq)]
+#[derive(Clone, Copy)]
 pub(crate) enum DateTest {
     Lt,
     Gt,
@@ -431,7 +432,8 @@ pub fn expression_at(alloc: Global, words: &[Name]) -> Result<(Expression, &[Nam
         tests: Listed::new(alloc),
         words: Listed::new(alloc),
     };
-    let rest = add_test(alloc, &mut expression, words)?;
-    let rest = add_tests(alloc, &mut expression, rest)?;
-    Ok((expression, rest))
+    let rest = add_test(alloc, &mut expression, words);
+    let (mut expression, rest) = with(expression, rest)?;
+    let rest = add_tests(alloc, &mut expression, rest);
+    with(expression, rest)
 }

@@ -9,6 +9,7 @@ use crate::fault::Stop;
 use crate::owner::Owner;
 use crate::reading::{after, description_at, name_at, name_of};
 use crate::section::{is_section, sections_at};
+use carry::with;
 use crm_lex::Name;
 use listed::Listed;
 use std::alloc::Global;
@@ -42,15 +43,17 @@ pub fn group_at(alloc: Global, words: &[Name]) -> Result<Form, Stop>
     ensures { GivesInLine (λ form. form) result (group_at words.now) }
 {
     let (id, rest) = name_at(alloc, words)?;
-    let (members, rest) = members_at(alloc, rest)?;
-    let (description, rest) = description_at(alloc, rest)?;
-    let sections = sections_at(alloc, Owner::Group, rest)?;
+    let (id, (members, rest)) = with(id, members_at(alloc, rest))?;
+    let ((id, members), (description, rest)) = with((id, members), description_at(alloc, rest))?;
+    let sections = sections_at(alloc, Owner::Group, rest);
+    let ((id, members, description), sections) = with((id, members, description), sections)?;
+    let (params, meta) = sections.into_pairs();
     Ok(Form::Group {
         id,
         members,
         description,
-        params: sections.params.into_list(),
-        meta: sections.meta.into_list(),
+        params,
+        meta,
     })
 }
 
@@ -66,15 +69,17 @@ pub fn clone_at(alloc: Global, ms: bool, words: &[Name]) -> Result<Form, Stop>
     ensures { GivesInLine (λ form. form) result (clone_at ms words.now) }
 {
     let (id, rest) = name_at(alloc, words)?;
-    let (child, rest) = name_at(alloc, rest)?;
-    let (description, rest) = description_at(alloc, rest)?;
-    let sections = sections_at(alloc, clone_owner(ms), rest)?;
+    let (id, (child, rest)) = with(id, name_at(alloc, rest))?;
+    let ((id, child), (description, rest)) = with((id, child), description_at(alloc, rest))?;
+    let sections = sections_at(alloc, clone_owner(ms), rest);
+    let ((id, child, description), sections) = with((id, child, description), sections)?;
+    let (params, meta) = sections.into_pairs();
     Ok(Form::Cloned {
         id,
         child,
         ms,
         description,
-        params: sections.params.into_list(),
-        meta: sections.meta.into_list(),
+        params,
+        meta,
     })
 }

@@ -1,7 +1,9 @@
 //! The statement of one line.
 
-ghost use Rattle.std.specs.Prelude.{◌≡◌, Ok};
+ghost use Rattle.std.specs.Prelude.{◌≡◌, Result, Ok};
 ghost use Rattle.faults.specs.Reading.{GivesInLine};
+ghost use Rattle.crm_parse.specs.declared.fault.ParseCause.{ParseCause as Cause};
+ghost use Rattle.crm_parse.specs.declared.form.Form.{Form as Said};
 ghost use Rattle.crm_parse.specs.declared.form.Form.TheVariants as form;
 ghost use Rattle.crm_parse.specs.Statements.{draft_after, draft_of, is_kept, is_unsupported, keyword_of, order, whole};
 
@@ -102,6 +104,13 @@ fn order(alloc: Global, words: &[Name]) -> Result<Draft, Stop>
     Ok(Draft::Order(order_at(alloc, words)?))
 }
 
+/// A statement that its own line tells whole.
+fn whole(form: Result<Form, Stop>) -> Result<Draft, Stop>
+    ensures { (read : Result Said Cause) → GivesInLine (λ form. form) form read → GivesInLine (λ draft. draft) result (whole read) }
+{
+    Ok(Draft::Whole(form?))
+}
+
 fn draft_after(
     alloc: Global,
     keyword: Keyword,
@@ -112,15 +121,15 @@ fn draft_after(
     ensures { GivesInLine (λ draft. draft) result (draft_after keyword before.now line.now words.now) }
 {
     match keyword {
-        Keyword::Node => Ok(Draft::Whole(node_at(alloc, words)?)),
-        Keyword::Primitive => Ok(Draft::Whole(primitive_at(alloc, words)?)),
-        Keyword::Group => Ok(Draft::Whole(group_at(alloc, words)?)),
-        Keyword::Clone => Ok(Draft::Whole(clone_at(alloc, false, words)?)),
-        Keyword::Ms => Ok(Draft::Whole(clone_at(alloc, true, words)?)),
-        Keyword::Location => Ok(Draft::Whole(location_at(alloc, words)?)),
-        Keyword::Colocation => Ok(Draft::Whole(colocation_at(alloc, words)?)),
+        Keyword::Node => whole(node_at(alloc, words)),
+        Keyword::Primitive => whole(primitive_at(alloc, words)),
+        Keyword::Group => whole(group_at(alloc, words)),
+        Keyword::Clone => whole(clone_at(alloc, false, words)),
+        Keyword::Ms => whole(clone_at(alloc, true, words)),
+        Keyword::Location => whole(location_at(alloc, words)),
+        Keyword::Colocation => whole(colocation_at(alloc, words)),
         Keyword::Order => order(alloc, words),
-        Keyword::Settings(what) => Ok(Draft::Whole(settings_at(alloc, what, before, words)?)),
+        Keyword::Settings(what) => whole(settings_at(alloc, what, before, words)),
         Keyword::Kept => kept(alloc, line),
     }
 }

@@ -9,6 +9,7 @@ use crate::fault::Stop;
 use crate::reading::{end_at, name_at, prefixed_at, resource_of, score_of, word_at};
 use crate::rule::{rules_at, some_role};
 use crate::{Form, ParseCause, RoleWord};
+use carry::{done, with};
 use crm_lex::{Name, is};
 use score::Score;
 use std::alloc::Global;
@@ -61,7 +62,7 @@ fn place_at(alloc: Global, words: &[Name]) -> Result<(Score, Name), Stop>
     let (word, rest) = word_at(words)?;
     let score = score_of(word.bytes())?;
     let (node, rest) = name_at(alloc, rest)?;
-    end_at(rest)?;
+    let node = done(node, end_at(rest))?;
     Ok((score, node))
 }
 
@@ -85,7 +86,7 @@ fn plain_at(
 ) -> Result<Form, Stop>
     ensures { GivesInLine (λ form. form) result (plain_at id resource role discovery words.now) }
 {
-    let (score, node) = place_at(alloc, words)?;
+    let ((id, resource), (score, node)) = with((id, resource), place_at(alloc, words))?;
     Ok(Form::Location {
         id,
         resource,
@@ -107,7 +108,7 @@ fn ruled_at(
 ) -> Result<Form, Stop>
     ensures { GivesInLine (λ form. form) result (ruled_at id resource role discovery words.now) }
 {
-    let rules = rules_at(alloc, words)?;
+    let ((id, resource), rules) = with((id, resource), rules_at(alloc, words))?;
     Ok(Form::RuledLocation {
         id,
         resource,
@@ -123,9 +124,9 @@ pub fn location_at(alloc: Global, words: &[Name]) -> Result<Form, Stop>
     ensures { GivesInLine (λ form. form) result (location_at words.now) }
 {
     let (id, rest) = name_at(alloc, words)?;
-    let (resource, rest) = resource_at(alloc, rest)?;
-    let (role, rest) = role_at(rest)?;
-    let (discovery, rest) = discovery_at(rest)?;
+    let (id, (resource, rest)) = with(id, resource_at(alloc, rest))?;
+    let ((id, resource), (role, rest)) = with((id, resource), role_at(rest))?;
+    let ((id, resource), (discovery, rest)) = with((id, resource), discovery_at(rest))?;
     if begins_rule(rest) {
         ruled_at(alloc, id, resource, role, discovery, rest)
     } else {

@@ -9,6 +9,7 @@ use crate::fault::Stop;
 use crate::owner::Owner;
 use crate::reading::{given_at, name_at};
 use crate::section::sections_at;
+use carry::with;
 use crm_lex::Name;
 use std::alloc::Global;
 
@@ -18,8 +19,9 @@ pub fn node_at(alloc: Global, words: &[Name]) -> Result<Form, Stop>
     ensures { GivesInLine (λ form. form) result (node_at words.now) }
 {
     let (id, rest) = given_at(alloc, words)?;
-    let (name, rest) = name_at(alloc, rest)?;
-    let sections = sections_at(alloc, Owner::Node, rest)?;
+    let (id, (name, rest)) = with(id, name_at(alloc, rest))?;
+    let sections = sections_at(alloc, Owner::Node, rest);
+    let ((id, name), sections) = with((id, name), sections)?;
     Ok(Form::Node {
         id,
         name,

@@ -10,6 +10,7 @@ use crate::fault::Stop;
 use crate::reading::{after, colon_at, cut_at, end_at, name_at, prefixed_at, resource_of, word_at};
 use crate::values::{action_of, bool_of, kind_of};
 use crate::{ActionWord, KindWord, ParseCause};
+use carry::{done, with};
 use crm_lex::Name;
 use listed::Listed;
 use score::Score;
@@ -142,10 +143,12 @@ fn steps_at(alloc: Global, words: &[Name]) -> Result<(Listed<StepDraft>, &[Name]
     ensures { GivesInLine (λ read. (read.0, read.1.now)) result (steps_at words.now) }
 {
     let mut steps = Listed::new(alloc);
-    let rest = add_step(alloc, &mut steps, words)?;
-    let rest = add_step(alloc, &mut steps, rest)?;
-    let rest = add_steps(alloc, &mut steps, rest)?;
-    Ok((steps, rest))
+    let rest = add_step(alloc, &mut steps, words);
+    let (mut steps, rest) = with(steps, rest)?;
+    let rest = add_step(alloc, &mut steps, rest);
+    let (mut steps, rest) = with(steps, rest)?;
+    let rest = add_steps(alloc, &mut steps, rest);
+    with(steps, rest)
 }
 
 fn symmetrical_as(kind: KindWord, yes: bool) -> Result<bool, ParseCause>
@@ -176,11 +179,11 @@ pub fn order_at(alloc: Global, words: &[Name]) -> Result<OrderDraft, Stop>
     ensures { GivesInLine (λ order. order) result (order_at words.now) }
 {
     let (id, rest) = name_at(alloc, words)?;
-    let (kind, rest) = kind_at(rest)?;
-    let (steps, rest) = steps_at(alloc, rest)?;
+    let (id, (kind, rest)) = with(id, kind_at(rest))?;
+    let (id, (steps, rest)) = with(id, steps_at(alloc, rest))?;
     let (symmetrical, rest) = prefixed_at(b"symmetrical=", rest);
-    let symmetrical = symmetrical_in(kind, symmetrical)?;
-    end_at(rest)?;
+    let ((id, steps), symmetrical) = with((id, steps), symmetrical_in(kind, symmetrical))?;
+    let (id, steps) = done((id, steps), end_at(rest))?;
     Ok(OrderDraft {
         id,
         kind,

@@ -11,6 +11,7 @@ use crate::owner::Owner;
 use crate::reading::{description_at, name_at, word_at};
 use crate::section::{Sections, sections_at};
 use crate::{Form, ParseCause};
+use carry::with;
 use crm_lex::Name;
 use std::alloc::Global;
 
@@ -87,9 +88,10 @@ pub fn primitive_at(alloc: Global, words: &[Name]) -> Result<Form, Stop>
     ensures { GivesInLine (λ form. form) result (primitive_at words.now) }
 {
     let (id, rest) = name_at(alloc, words)?;
-    let (word, rest) = word_at(rest)?;
-    let agent = agent_of(alloc, word.bytes())?;
-    let (description, rest) = description_at(alloc, rest)?;
-    let sections = sections_at(alloc, Owner::Primitive, rest)?;
+    let (id, (word, rest)) = with(id, word_at(rest))?;
+    let (id, agent) = with(id, agent_of(alloc, word.bytes()))?;
+    let ((id, agent), (description, rest)) = with((id, agent), description_at(alloc, rest))?;
+    let sections = sections_at(alloc, Owner::Primitive, rest);
+    let ((id, agent, description), sections) = with((id, agent, description), sections)?;
     Ok(primitive(id, agent, description, sections))
 }

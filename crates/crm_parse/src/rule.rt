@@ -10,6 +10,7 @@ use crate::expression::expression_at;
 use crate::fault::Stop;
 use crate::reading::{after, prefixed_at, rule_role_of, score_of, some_name, word_at};
 use crate::{ParseCause, RoleWord, RuleForm};
+use carry::with;
 use crm_lex::{Name, is};
 use date_rules::Rule;
 use listed::Listed;
@@ -80,10 +81,10 @@ fn rule_at(alloc: Global, words: &[Name]) -> Result<(RuleForm, &[Name]), Stop>
     ensures shorter { IfOk result (λ read. length read.1.now ≤ length words.now) }
 {
     let (id, rest) = rule_id_at(alloc, words)?;
-    let (role, rest) = rule_role_at(rest)?;
-    let (word, rest) = word_at(rest)?;
-    let score = rule_score_of(word.bytes())?;
-    let (expression, rest) = expression_at(alloc, rest)?;
+    let (id, (role, rest)) = with(id, rule_role_at(rest))?;
+    let (id, (word, rest)) = with(id, word_at(rest))?;
+    let (id, score) = with(id, rule_score_of(word.bytes()))?;
+    let (id, (expression, rest)) = with(id, expression_at(alloc, rest))?;
     let rule = RuleForm {
         id,
         role,

@@ -11,7 +11,8 @@ use crate::operations::operation_of;
 use crate::owner::{Owner, SectionWord};
 use crate::pairs::add_section;
 use crate::place::Place;
-use crate::{Operation, ParseCause};
+use crate::{Kv, Operation, ParseCause};
+use carry::done;
 use crm_lex::{Name, is};
 use listed::Listed;
 use std::alloc::Global;
@@ -25,6 +26,15 @@ pub struct Sections {
     pub utilization: KeyedPairs,
     pub operations: KeyedPairs,
     pub ops: Listed<Operation>,
+}
+
+impl Sections {
+    /// The parameters and the meta attributes.
+    pub fn into_pairs(self) -> (Listed<Kv>, Listed<Kv>)
+        ensures { result ≡ (self.params, self.meta) }
+    {
+        (self.params.into_list(), self.meta.into_list())
+    }
 }
 
 fn section_word(word: &[u8]) -> Option<SectionWord>
@@ -238,6 +248,6 @@ pub fn sections_at(alloc: Global, owner: Owner, words: &[Name]) -> Result<Sectio
     ensures { GivesInLine (λ sections. sections) result (sections_at owner words.now) }
 {
     let mut sections = no_sections(alloc);
-    add_sections(alloc, owner, &mut sections, words)?;
-    Ok(sections)
+    let added = add_sections(alloc, owner, &mut sections, words);
+    done(sections, added)
 }

@@ -16,12 +16,45 @@ ghost use Rattle.decision_order.specs.Turns.{AreInOrder};
 
 use crate::decision_set::DecisionSet;
 use crate::effective::effective_keys;
-use crate::keys::all_keys;
+use crate::keys::{Key, all_keys};
 use crate::ordering::in_order;
-use crate::ranked::{all_ranked, sort_ranked};
+use crate::ranked::all_sorted;
+use carry::with;
 use cluster_types::{Cluster, Decision, NoMemory, Pin, States};
 use score_table::ScoreTable;
 use std::alloc::{AllocError, Global};
+
+/// The effective key of each decision of the set.
+fn keys_of(
+    alloc: Global,
+    set: &DecisionSet,
+    states: &States,
+    scores: &ScoreTable,
+) -> Result<Vec<Key>, AllocError>
+    requires { IsValid set.now.cluster.now }
+    ensures { IfOk result (λ keys. keys.items
+        ≡ map (effective_in set.now.cluster.now set.now.list.items (key_by set.now.cluster.now states.now scores.now)) set.now.list.items) }
+{
+    let keys = all_keys(alloc, set, states, scores)?;
+    effective_keys(alloc, set, &keys)
+}
+
+/// The decisions of the set, in the order in which they are made.
+fn order_of(
+    alloc: Global,
+    set: &DecisionSet,
+    states: &States,
+    scores: &ScoreTable,
+) -> Result<Vec<Decision>, AllocError>
+    requires { IsValid set.now.cluster.now }
+    ensures { IfOk result (λ order. AreInOrder set.now.cluster.now set.now.list.items
+        (effective_in set.now.cluster.now set.now.list.items (key_by set.now.cluster.now states.now scores.now)) order.items) }
+{
+    let keys = keys_of(alloc, set, states, scores)?;
+    let sorted = all_sorted(alloc, set, &keys);
+    let (_keys, sorted) = with(keys, sorted)?;
+    in_order(alloc, set, &sorted)
+}
 
 /// All decisions by what is read of the cluster: they are compared by their effective keys.
 fn order_by(
@@ -36,12 +69,7 @@ fn order_by(
         (effective_in cluster.now (decisions_in cluster.now pins.now) (key_by cluster.now states.now scores.now)) order.items) }
 {
     let set = DecisionSet::new(alloc, cluster, pins)?;
-    let keys = all_keys(alloc, &set, states, scores)?;
-    let effective = effective_keys(alloc, &set, &keys)?;
-    let mut ranked = all_ranked(alloc, &set, &effective)?;
-    sort_ranked(&mut ranked)?;
-    let order = in_order(alloc, &set, &ranked)?;
-    Ok(order)
+    order_of(alloc, &set, states, scores)
 }
 
 /// All that is decided of the leaves that aren't left as they are, in the order in which it is decided. Next is always

@@ -5,7 +5,9 @@ ghost use Rattle.std.specs.List.{list_any};
 ghost use Rattle.cluster_types.specs.declared.edges.Edge.{Edge as EdgeOf};
 ghost use Rattle.cluster_types.specs.Graphs.{EndWithin};
 ghost use Rattle.decision_order.specs.Queueing as spec;
+ghost use Rattle.waiting.specs.Rows.{AreRows, edges_at};
 
+use carry::with;
 use cluster_types::Edge;
 use number_set::NumberSet;
 use std::alloc::{AllocError, Global};
@@ -109,6 +111,30 @@ fn places_of(alloc: Global, positions: u32, order: &[u32]) -> Result<Vec<Option<
     Ok(places)
 }
 
+/// Where the edges from each position lead, and how many lead to it.
+fn held_by(alloc: Global, positions: u32, edges: &[Edge]) -> Result<(Rows, Vec<usize>), AllocError>
+    requires { EndWithin positions edges.now }
+    ensures rows { IfOk result (λ held. AreRows positions edges.now edges.now held.0.ends.items held.0.targets.items) }
+    ensures size { IfOk result (λ held. length held.1.items ≡ positions) }
+    ensures counted { IfOk result (λ held. (x : ℕ) → x < positions → slice_index_or held.1.items x 0 ≡ edges_at Side.After edges.now x) }
+{
+    let rows = Rows::new(alloc, positions, edges)?;
+    with(rows, count_ends(alloc, positions, edges, Side::After))
+}
+
+/// Which positions were taken, and which places are ready: none.
+fn none_taken(
+    alloc: Global,
+    positions: u32,
+    places: u32,
+) -> Result<(Vec<bool>, NumberSet), AllocError>
+    ensures made { IfOk result (λ none. none.0.items ≡ replicate positions false) }
+    ensures ready { IfOk result (λ none. none.1 ≡ replicate places false) }
+{
+    let made = vec![in alloc; false; positions as usize]?;
+    with(made, NumberSet::new(alloc, places))
+}
+
 impl Queue {
     /// No position was taken yet.
     pub(crate) fn new(
@@ -125,11 +151,15 @@ impl Queue {
         ensures made { IfOk result (λ queue. queue.made.items ≡ replicate positions false) }
         ensures all { IfOk result (λ queue. (x : ℕ) → Contains order.items x → (p : ℕ) × (spec.is_at queue.places.items x p ≡ true)) }
     {
-        let rows = Rows::new(alloc, positions, edges)?;
-        let places = places_of(alloc, positions, &order)?;
-        let counts = count_ends(alloc, positions, edges, Side::After)?;
-        let made = vec![in alloc; false; positions as usize]?;
-        let mut ready = NumberSet::new(alloc, order.len() as u32)?;
+        let places = places_of(alloc, positions, &order);
+        let (order, places) = with(order, places)?;
+        let held = held_by(alloc, positions, edges);
+        let ((order, places), (rows, counts)) = with((order, places), held)?;
+        let none = none_taken(alloc, positions, order.len() as u32);
+        let ((order, places, rows, counts), (made, mut ready)) = with(
+            (order, places, rows, counts),
+            none,
+        )?;
         admit(&mut ready, &places, &made, &counts, &order);
         Ok(Queue {
             rows,

@@ -12,6 +12,7 @@ use crate::decision_set::DecisionSet;
 use crate::flags::slot_of;
 use crate::keys::Key;
 use crate::turns::goes_before;
+use carry::done;
 use cluster_types::Decision;
 use std::alloc::{AllocError, Global};
 use std::cmp::Ordering;
@@ -24,11 +25,7 @@ pub(crate) struct Ranked {
 }
 
 /// Each decision of the set with its effective key.
-pub(crate) fn all_ranked(
-    alloc: Global,
-    set: &DecisionSet,
-    keys: &[Key],
-) -> Result<Vec<Ranked>, AllocError>
+fn all_ranked(alloc: Global, set: &DecisionSet, keys: &[Key]) -> Result<Vec<Ranked>, AllocError>
     requires { length keys.now ≡ length set.now.list.items }
     ensures { IfOk result (λ ranked. (key : DecisionOf → decisions.Key) → keys.now ≡ map key set.now.list.items
         → ranked.items ≡ ranked_by key set.now.list.items) }
@@ -56,11 +53,26 @@ fn compare(one: &Ranked, other: &Ranked) -> Ordering
 }
 
 /// Puts each behind those that go before it.
-pub(crate) fn sort_ranked(ranked: &mut Vec<Ranked>) -> Result<(), AllocError>
+fn sort_ranked(ranked: &mut Vec<Ranked>) -> Result<(), AllocError>
     ensures { OnOk result ((key : DecisionOf → decisions.Key) (ds : List DecisionOf) → ranked.old.items ≡ ranked_by key ds → AreSorted key ds ranked.new.items) }
 {
     ranked.sort_by(|one, other| compare(one, other))?;
     Ok(())
+}
+
+/// Each decision of the set with its effective key, behind those that go before it.
+pub(crate) fn all_sorted(
+    alloc: Global,
+    set: &DecisionSet,
+    keys: &[Key],
+) -> Result<Vec<Ranked>, AllocError>
+    requires { length keys.now ≡ length set.now.list.items }
+    ensures { IfOk result (λ ranked. (key : DecisionOf → decisions.Key) → keys.now ≡ map key set.now.list.items
+        → AreSorted key set.now.list.items ranked.items) }
+{
+    let mut ranked = all_ranked(alloc, set, keys)?;
+    let sorting = sort_ranked(&mut ranked);
+    done(ranked, sorting)
 }
 
 /// The slot of each decision.

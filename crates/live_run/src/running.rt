@@ -94,12 +94,27 @@ fn run_to_end<S: Source, W: Sink>(
     ensures same_sink { IsSameSink (loan_of writer.old) (loan_of writer.new) }
 {
     match replay_watched(alloc, cluster, journal, outcomes, writer, MOST_TRANSITIONS) {
-        Ok(_) => LiveEnd::Done,
-        Err(ReplayStop::Unexpected(_, _)) => end_of_cut(outcomes, writer),
-        Err(ReplayStop::SourceFault(_)) => end_of_lines(outcomes, writer),
-        Err(ReplayStop::Stopped(_)) => LiveEnd::WriteFault,
+        Ok(journal) => {
+            drop(journal);
+            LiveEnd::Done
+        }
+        Err(ReplayStop::Unexpected(journal, _)) => {
+            drop(journal);
+            end_of_cut(outcomes, writer)
+        }
+        Err(ReplayStop::SourceFault(journal)) => {
+            drop(journal);
+            end_of_lines(outcomes, writer)
+        }
+        Err(ReplayStop::Stopped(journal)) => {
+            drop(journal);
+            LiveEnd::WriteFault
+        }
         // Each transition but the last takes a result line: so many are never made.
-        Err(ReplayStop::Most(_)) => LiveEnd::NoMemory,
+        Err(ReplayStop::Most(journal)) => {
+            drop(journal);
+            LiveEnd::NoMemory
+        }
         Err(ReplayStop::NoMemory) => LiveEnd::NoMemory,
     }
 }

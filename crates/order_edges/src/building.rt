@@ -1,6 +1,6 @@
 //! The edges of one join after another, each with gates of its own.
 
-ghost use Rattle.std.specs.Prelude.{◌≡◌, ◌+◌, ◌*◌, ◌++◌, ◌<◌, ◌≤◌, All, IfOk, OnOk, length};
+ghost use Rattle.std.specs.Prelude.{◌≡◌, ◌+◌, ◌*◌, ◌++◌, ◌<◌, ◌≤◌, [], All, IfOk, OnOk, length};
 ghost use Rattle.std.specs.List.{range_with_len};
 ghost use Rattle.order_edges.specs.Gates.{join_edges, key_at};
 ghost use Rattle.order_edges.specs.Joins.{first_joins, join as spec_join};
@@ -11,6 +11,7 @@ ghost use Rattle.order_edges.specs.Rooms.{Builds};
 use crate::gates::add_join;
 use crate::known::Known;
 use crate::sides::{Join, Side};
+use carry::done;
 use cluster_types::{Cluster, Edge};
 use std::alloc::{AllocError, Global};
 
@@ -120,6 +121,36 @@ fn join(from: Side, to: Side) -> Join
     Join { from, to }
 }
 
+impl Building {
+    /// Adds the edges of all joins that hang on no rule over all positions, where none was built yet.
+    fn add_first(&mut self, known: &Known, places: &[u32]) -> Result<(), AllocError>
+        requires within { All (λ place. place < length known.now.actions.now) places.now }
+        requires all { places.now ≡ range_with_len 0 (length known.now.actions.now) }
+        requires none { self.old.list.items ≡ [] }
+        requires gate { self.old.base ≡ length known.now.actions.now }
+        ensures builds { OnOk result (Builds known.now.cluster.now known.now.actions.now (places_of known.now.actions.now) self.new.list.items self.new.base first_joins) }
+        ensures gates { OnOk result (self.new.base ≤ length known.now.actions.now + 1027001) }
+    {
+        let probes = join(Side::Probes, Side::Gives);
+        self.add(known, probes, places)?;
+        let stops = join(Side::StopsAlone, Side::StartsAlone);
+        self.add(known, stops, places)?;
+        let fences = join(Side::Fences, Side::GivesAnything);
+        self.add(known, fences, places)?;
+        let before_stops = join(Side::BeforeStops, Side::Stops);
+        self.add(known, before_stops, places)?;
+        let before_promotes = join(Side::Starts, Side::Promotes);
+        self.add(known, before_promotes, places)?;
+        let before_monitors = join(Side::BeforeMonitors, Side::Monitors);
+        self.add(known, before_monitors, places)?;
+        let takes = join(Side::Takes, Side::PromotesOf);
+        self.add(known, takes, places)?;
+        let sends = join(Side::Sends, Side::TakesIn);
+        self.add(known, sends, places)?;
+        Ok(())
+    }
+}
+
 /// The edges of all joins that hang on no rule, in time linear in the actions.
 pub(crate) fn first_edges(alloc: Global, known: &Known) -> Result<Building, AllocError>
     ensures builds { IfOk result (λ building. Builds known.now.cluster.now known.now.actions.now (places_of known.now.actions.now) building.list.items
@@ -127,27 +158,11 @@ pub(crate) fn first_edges(alloc: Global, known: &Known) -> Result<Building, Allo
     ensures gates { IfOk result (λ building. building.base ≤ length known.now.actions.now + 1027001) }
 {
     let count = known.actions.len() as u32;
-    let all = all_places(alloc, count)?;
-    let places = all.as_slice();
+    let places = all_places(alloc, count)?;
     let mut building = Building {
         list: Vec::new(alloc),
         base: count,
     };
-    let probes = join(Side::Probes, Side::Gives);
-    building.add(known, probes, places)?;
-    let stops = join(Side::StopsAlone, Side::StartsAlone);
-    building.add(known, stops, places)?;
-    let fences = join(Side::Fences, Side::GivesAnything);
-    building.add(known, fences, places)?;
-    let before_stops = join(Side::BeforeStops, Side::Stops);
-    building.add(known, before_stops, places)?;
-    let before_promotes = join(Side::Starts, Side::Promotes);
-    building.add(known, before_promotes, places)?;
-    let before_monitors = join(Side::BeforeMonitors, Side::Monitors);
-    building.add(known, before_monitors, places)?;
-    let takes = join(Side::Takes, Side::PromotesOf);
-    building.add(known, takes, places)?;
-    let sends = join(Side::Sends, Side::TakesIn);
-    building.add(known, sends, places)?;
-    Ok(building)
+    let added = building.add_first(known, &places);
+    done(building, added)
 }

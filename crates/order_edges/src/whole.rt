@@ -15,6 +15,7 @@ use crate::flags::migrating_flags;
 use crate::index::leaf_index;
 use crate::known::Known;
 use crate::rules::{add_colocations, add_orders, add_serials};
+use carry::with;
 use cluster_types::{Action, Cluster, Edges, NoMemory};
 use listed::Listed;
 use std::alloc::{AllocError, Global};
@@ -33,7 +34,7 @@ fn all_joins(alloc: Global, known: &Known) -> Result<Building, AllocError>
 }
 
 /// The edges of all joins, and of all orders of the kind Serialize.
-fn all_edges(alloc: Global, known: &Known) -> Result<Edges, AllocError>
+fn all_edges(alloc: Global, known: &Known) -> Result<Edges, NoMemory>
     ensures { IfOk result (AreEdges known.now.cluster.now known.now.actions.now (is_earlier known.now.cluster.now known.now.actions.now)) }
 {
     let mut building = all_joins(alloc, known)?;
@@ -60,12 +61,12 @@ pub fn edges(alloc: Global, cluster: &Cluster, actions: &[Action]) -> Result<Edg
 {
     let leaves = cluster.leaves.len() as u32;
     let migrating = migrating_flags(alloc, leaves, actions)?;
-    let index = leaf_index(alloc, leaves, actions)?;
+    let (migrating, index) = with(migrating, leaf_index(alloc, leaves, actions))?;
     let known = Known {
         cluster,
         actions,
         migrating: migrating.as_slice(),
         index: index.as_slice(),
     };
-    Ok(all_edges(alloc, &known)?)
+    all_edges(alloc, &known)
 }

@@ -3,4 +3,4 @@
 
 mod placing;
 
-pub use placing::place;
+pub use placing::{place, placement_of};

@@ -7,11 +7,11 @@ ghost use Rattle.cluster_types.specs.Valid.{IsValid};
 ghost use Rattle.planner.specs.Planned.{AreTold, IsPlanned};
 
 use action_build::actions;
+use carry::with;
 use cluster_types::{Cluster, Journal, NoMemory, Plan, States};
 use graph_number::number;
-use placement::place;
+use placement::placement_of;
 use quorum_fence::rights;
-use score_table::rows;
 use state_unpack::{unpack, valid_clusters_have_few_monitors};
 use std::alloc::Global;
 
@@ -23,11 +23,13 @@ pub fn plan_of(alloc: Global, cluster: &Cluster, states: States) -> Result<Plan,
     ensures { IfOk result (λ plan. (events : List EventOf) (promotions : List PromotionOf)
         → states ≡ states_of cluster.now events promotions → IsPlanned cluster.now events promotions plan) }
 {
-    let scores = rows(alloc, cluster, &states)?;
-    let placed = place(alloc, cluster, &states, &scores)?;
+    let placed = placement_of(alloc, cluster, &states);
+    let (states, placed) = with(states, placed)?;
     let rights = rights(cluster, &states);
-    let actions = actions(alloc, cluster, &states, rights, &placed)?;
-    let graph = number(alloc, cluster, actions)?;
+    let actions = actions(alloc, cluster, &states, rights, &placed);
+    let ((states, placed), actions) = with((states, placed), actions)?;
+    let graph = number(alloc, cluster, actions);
+    let ((states, placed), graph) = with((states, placed), graph)?;
     Ok(Plan {
         states,
         rights,
@@ -46,6 +48,5 @@ pub fn plan(alloc: Global, cluster: &Cluster, journal: &Journal) -> Result<Plan,
 {
     valid_clusters_have_few_monitors();
     let states = unpack(alloc, cluster, journal)?;
-    let plan = plan_of(alloc, cluster, states)?;
-    Ok(plan)
+    plan_of(alloc, cluster, states)
 }

@@ -8,6 +8,7 @@ use Rattle.cluster_types.specs.declared.journal.Journal.{Journal}
 use Rattle.cluster_types.specs.declared.journal.Promotion.{Promotion}
 use Rattle.cluster_types.specs.declared.placement.Placed.{Placed}
 use Rattle.cluster_types.specs.declared.run.RunLine.{RunLine}
+use Rattle.cluster_types.specs.declared.states.States.{States}
 use Rattle.cluster_types.specs.Runs.{Standing, due, idle, Runs, RunsOn, IsAsking, IsBetween, IsCut, IsOver, journal_at}
 use Rattle.cluster_types.specs.Graphs.{GraphOf}
 use Rattle.cluster_types.specs.Plans.{CarriesOut}
@@ -137,8 +138,8 @@ Serves c plan =
     (es : List Event) (promotions : List Promotion) → plan.states ≡ states_of c es promotions → CarriesOut c es promotions plan.placed plan.graph
 
 -- a plan that is being carried out serves again
-abbrev pub ServesAgain : Cluster → Planned → Type 0
-ServesAgain c p = Serves c (record { states = p.states; placed = p.placed; graph = p.executor.graph })
+abbrev pub ServesAgain : Cluster → States → Planned → Type 0
+ServesAgain c states p = Serves c (record { states = states; placed = p.placed; graph = p.executor.graph })
 
 -- its graph carries out a plan
 pub record HasPlan (r : Running) : Type 0 where

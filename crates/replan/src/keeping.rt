@@ -1,6 +1,6 @@
 //! A transition of a run that is kept, and what comes right after it.
 
-ghost use Rattle.std.specs.Prelude.{◌≡◌, ◌≤◌, ◌+◌, ℕ, true, None, Option, List, length, IfOk, IfErr, IfSome, OnOk};
+ghost use Rattle.std.specs.Prelude.{◌≡◌, ◌≤◌, ◌+◌, ℕ, true, None, Option, List, [], ◌∷◌, ◌++◌, length, IfOk, IfErr, IfSome, OnOk, OnErr};
 ghost use Rattle.cluster_types.specs.declared.journal.Answer.{Answer as AnswerOf};
 ghost use Rattle.cluster_types.specs.declared.journal.Event.{Event as EventOf};
 ghost use Rattle.cluster_types.specs.Safety.{IsAtRest};
@@ -10,8 +10,8 @@ ghost use Rattle.replan.specs.Replays.{AgreesWith, IsExpected, OfJournal, settin
 
 use crate::ending::RunEnd;
 use crate::idling::ask_idle;
-use crate::planning::plan_next;
-use cluster_types::{Passed, PassedEnd, Placed};
+use crate::planning::plan_anew;
+use cluster_types::{NoMemory, Passed, PassedEnd, Placed};
 use graph_exec::{End, KnownJournal, Outcomes, run_transition};
 use listed::Listed;
 use std::alloc::Global;
@@ -51,6 +51,31 @@ fn passed_of(placed: Placed, begins_at: usize, ends_at: usize, end: PassedEnd) -
         ends_at: ends_at as u32,
         end,
     })
+}
+
+/// Keeps a transition behind those before it. It fails where memory runs out, or where the positions don't fit 32 bits.
+fn keep_behind(
+    passed: &mut Listed<Passed>,
+    placed: Placed,
+    begins_at: usize,
+    ends_at: usize,
+    end: PassedEnd,
+) -> Result<(), NoMemory>
+    requires { begins_at ≤ ends_at }
+    ensures ok { OnOk result (passed.new ≡ passed.old ++ record {
+      pins = placed.pins;
+      table = placed.table;
+      none = placed.none;
+      begins_at = begins_at;
+      ends_at = ends_at;
+      end = end;
+    } ∷ []) }
+    ensures err { OnErr result (passed.new ≡ passed.old) }
+{
+    let Some(kept) = passed_of(placed, begins_at, ends_at, end) else {
+        return Err(NoMemory);
+    };
+    Ok(passed.push(kept)?)
 }
 
 /// Makes the next transition of a run, and keeps it behind those before it: plans it, carries it out, and, where it is
@@ -94,16 +119,14 @@ pub(crate) fn keep_transition<'c, S: Outcomes>(
     ensures source_came { IfErr result (EndsCome (S.said outcomes.old outcomes.new)) }
 {
     let begins_at = journal.count();
-    let Ok(planned) = plan_next(alloc, journal, None) else {
+    let Ok(planned) = plan_anew(alloc, journal) else {
         return Err(RunEnd::NoMemory);
     };
     let mut executor = planned.executor;
     let end = run_transition(&mut executor, outcomes);
     let later = executor.into_known();
-    let Some(kept) = passed_of(planned.placed, begins_at, later.count(), passed_end(end)) else {
-        return Err(RunEnd::NoMemory);
-    };
-    let Ok(()) = passed.push(kept) else {
+    let ends_at = later.count();
+    let Ok(()) = keep_behind(passed, planned.placed, begins_at, ends_at, passed_end(end)) else {
         return Err(RunEnd::NoMemory);
     };
     match end {

@@ -21,10 +21,9 @@ pub(crate) struct KeptPlan {
     pub graph: Graph,
 }
 
-/// A transition of which nothing has begun, and where everything goes by its plan; and the states that the plan was made for.
+/// A transition of which nothing has begun, and where everything goes by its plan.
 #[derive(Drop)]
 pub(crate) struct Planned<'c> {
-    pub states: States,
     pub placed: Placed,
     pub executor: Executor<'c>,
 }
@@ -90,28 +89,44 @@ fn begun_on<'c>(
 {
     match Executor::on(alloc, journal, graph) {
         Ok(executor) => Ok(executor),
-        Err(_) => Err(NoMemory),
+        Err(back) => {
+            drop(back);
+            Err(NoMemory)
+        }
     }
 }
 
-/// The transition that is planned for the journal. Where it tells the same states as that of the last plan, that plan serves
-/// again. All memory of it is taken here.
+/// The transition that is planned for the journal, and the states that its plan was made for. Where the journal tells the same
+/// states as that of the last plan, that plan serves again. All memory of it is taken here.
 pub(crate) fn plan_next<'c>(
     alloc: Global,
     journal: KnownJournal<'c>,
     last: Option<KeptPlan>,
-) -> Result<Planned<'c>, NoMemory>
+) -> Result<(States, Planned<'c>), NoMemory>
     requires valid { IsValid journal.cluster }
     requires at_rest { IsAtRest journal.events }
     requires last { IfSome last (Serves journal.cluster) }
-    ensures ready { IfOk result (λ planned. IsReady journal.entry planned) }
-    ensures serves { IfOk result (ServesAgain journal.entry.cluster) }
+    ensures ready { IfOk result (λ next. IsReady journal.entry next.1) }
+    ensures serves { IfOk result (λ next. ServesAgain journal.entry.cluster next.0 next.1) }
 {
     let plan = plan_by(alloc, &journal, last)?;
     let executor = begun_on(alloc, journal, plan.graph)?;
-    Ok(Planned {
-        states: plan.states,
+    let planned = Planned {
         placed: plan.placed,
         executor,
-    })
+    };
+    Ok((plan.states, planned))
+}
+
+/// The transition that is planned for the journal by a plan of its own. All memory of it is taken here.
+pub(crate) fn plan_anew<'c>(
+    alloc: Global,
+    journal: KnownJournal<'c>,
+) -> Result<Planned<'c>, NoMemory>
+    requires valid { IsValid journal.cluster }
+    requires at_rest { IsAtRest journal.events }
+    ensures ready { IfOk result (IsReady journal.entry) }
+{
+    let (_states, planned) = plan_next(alloc, journal, None)?;
+    Ok(planned)
 }

@@ -1,17 +1,19 @@
 //! One transition of a run, from its plan to where the next is due.
 
-ghost use Rattle.std.specs.Prelude.{◌≡◌, ◌≤◌, ◌+◌, true, IfOk, IfErr, IfSome, OnOk};
+ghost use Rattle.std.specs.Prelude.{◌≡◌, ◌≤◌, ◌+◌, true, Err, IfOk, IfErr, IfSome, OnOk};
 ghost use Rattle.cluster_types.specs.Runs.{due};
 ghost use Rattle.cluster_types.specs.Safety.{IsAtRest};
 ghost use Rattle.cluster_types.specs.Valid.{IsValid};
+ghost use Rattle.replan.specs.declared.stop.ReplayStop.TheVariants.{Stopped};
 ghost use Rattle.replan.specs.Replays.{AgreesWith, HasCause, HasCome, HasHeard, IsExpected, OfJournal, WritesNamesOf, setting, sight};
-ghost use Rattle.replan.specs.Turns.{CameTo, EndsAs, Serves};
+ghost use Rattle.replan.specs.Turns.{CameTo, EndsAs, Serves, left_of};
 
 use crate::carrying::carry_out;
 use crate::idling::take_idle;
 use crate::planning::{KeptPlan, plan_next};
 use crate::stop::{Ended, ReplayStop};
-use graph_exec::{Heard, KnownJournal, Outcomes, Watcher};
+use carry::with;
+use graph_exec::{Executor, Heard, KnownJournal, Outcomes, Watcher};
 use std::alloc::Global;
 
 /// The journal for which the next transition is due, and the last plan.
@@ -19,6 +21,13 @@ use std::alloc::Global;
 pub(crate) struct Turn<'c> {
     pub journal: KnownJournal<'c>,
     pub plan: KeptPlan,
+}
+
+/// The end of a run that the watcher stops at a plan. What would be kept of the plan is let go.
+fn stopped<P: Drop>(executor: Executor<'_>, _plan: P) -> Ended
+    ensures { result ≡ Err (Stopped (left_of executor.entry)) }
+{
+    Err(ReplayStop::Stopped(executor.into_journal()))
 }
 
 /// Makes the transition of this number in the run: plans it, carries it out, and, where it is complete, takes the answer
@@ -67,19 +76,20 @@ pub(crate) fn make_transition<'c, S: Outcomes, V: Watcher>(
     ensures watcher_follows { OnOk result (V.follows watcher.old watcher.new) }
     ensures watcher_came { IfErr result (HasHeard (V.follows watcher.old watcher.new) (V.stopped watcher.old watcher.new)) }
 {
-    let Ok(planned) = plan_next(alloc, journal, last) else {
+    let Ok((states, planned)) = plan_next(alloc, journal, last) else {
         return Err(Err(ReplayStop::NoMemory));
     };
     if let Heard::Stop = watcher.planned(number, &planned.placed) {
-        return Err(Err(ReplayStop::Stopped(planned.executor.into_journal())));
+        return Err(stopped(planned.executor, (states, planned.placed)));
     }
-    let closed = match carry_out(planned.executor, outcomes, watcher, number) {
-        Ok(closed) => closed,
+    let carried = carry_out(planned.executor, outcomes, watcher, number);
+    let ((states, placed), closed) = match with((states, planned.placed), carried) {
+        Ok(both) => both,
         Err(ended) => return Err(ended),
     };
     let plan = KeptPlan {
-        states: planned.states,
-        placed: planned.placed,
+        states,
+        placed,
         graph: closed.graph,
     };
     if !closed.complete {
@@ -88,8 +98,10 @@ pub(crate) fn make_transition<'c, S: Outcomes, V: Watcher>(
             plan,
         });
     }
-    match take_idle(alloc, closed.journal, outcomes, watcher, number) {
-        Ok(journal) => Ok(Turn { journal, plan }),
-        Err(ended) => Err(ended),
-    }
+    let taken = take_idle(alloc, closed.journal, outcomes, watcher, number);
+    let (plan, journal) = match with(plan, taken) {
+        Ok(both) => both,
+        Err(ended) => return Err(ended),
+    };
+    Ok(Turn { journal, plan })
 }

@@ -50,8 +50,8 @@ fn verdict_of(alloc: Global, trace: Trace) -> Result<Verdict, NoMemory>
     requires named { AreNamed trace.run.lines }
     ensures { IfOk result (Judges trace.head.cluster trace.head.journal trace.run.lines trace.after) }
 {
-    let Trace { head, run, after } = trace;
-    audit(alloc, &head.cluster, &head.journal, &run, after)
+    let head = &trace.head;
+    audit(alloc, &head.cluster, &head.journal, &trace.run, trace.after)
 }
 
 /// The word `audit`.

@@ -1,15 +1,17 @@
 ghost use Rattle.std.specs.Prelude.{◌≡◌, ◌<◌, ◌^◌, ◌++◌, ◌∷◌, [], IfOk, length};
 ghost use Rattle.cluster_types.specs.Journals as journals;
 ghost use Rattle.cluster_types.specs.NodeStates.{is_online_state};
+ghost use Rattle.cluster_types.specs.declared.journal.Event.TheVariants.{Lost};
+ghost use Rattle.cluster_types.specs.Unpacked.{states_of};
 ghost use Rattle.cluster_types.specs.Valid.{IsValid};
 ghost use Rattle.state_unpack.specs.Known.{Knows};
 ghost use Rattle.survive.specs.Losses.{IsLoss, IsReport};
 
 use crate::report::{Loss, Report};
-use cluster_types::{Cluster, Event, Journal, NoMemory, NodeId, NodeState};
+use carry::with;
+use cluster_types::{Cluster, Event, Journal, NoMemory, NodeId, NodeState, States};
 use listed::Listed;
-use placement::place;
-use score_table::rows;
+use placement::placement_of;
 use state_unpack::{Known, valid_clusters_have_few_monitors};
 use std::alloc::Global;
 
@@ -29,6 +31,22 @@ fn known<'c>(alloc: Global, cluster: &'c Cluster, journal: &Journal) -> Result<K
     Known::new(alloc, cluster, journal.events.as_slice())
 }
 
+/// What the journal tells of the cluster once the node is lost.
+fn states_without(
+    alloc: Global,
+    cluster: &Cluster,
+    journal: &Journal,
+    node: NodeId,
+) -> Result<States, NoMemory>
+    requires valid { IsValid cluster.now }
+    requires moment { journals.moment_of journal.now.events < 2 ^ 64 }
+    ensures { IfOk result (λ states. states ≡ states_of cluster.now (journal.now.events ++ Lost node ∷ []) journal.now.promotions) }
+{
+    let mut known = known(alloc, cluster, journal)?;
+    known.tell(Event::Lost { node });
+    known.states(alloc, journal.promotions.as_slice())
+}
+
 /// Where everything goes once the node is lost.
 fn loss_of(
     alloc: Global,
@@ -41,11 +59,9 @@ fn loss_of(
     ensures node { IfOk result (λ loss. loss.node ≡ node) }
     ensures loss { IfOk result (λ loss. IsLoss cluster.now journal.now.events journal.now.promotions loss) }
 {
-    let mut known = known(alloc, cluster, journal)?;
-    known.tell(Event::Lost { node });
-    let states = known.states(alloc, journal.promotions.as_slice())?;
-    let scores = rows(alloc, cluster, &states)?;
-    let placed = place(alloc, cluster, &states, &scores)?;
+    let states = states_without(alloc, cluster, journal, node)?;
+    let placed = placement_of(alloc, cluster, &states);
+    let (_states, placed) = with(states, placed)?;
     Ok(Loss {
         node,
         pins: placed.pins,

@@ -52,9 +52,18 @@ pub(crate) fn write_run(
     let mut script = Script::new(answers);
     let mut writer = LineWriter::new(cluster, sink);
     match replay_watched(alloc, cluster, journal, &mut script, &mut writer, most) {
-        Ok(_) => Ok(Ended::Whole),
-        Err(ReplayStop::Unexpected(_, _)) => Ok(Ended::Cut),
-        Err(ReplayStop::Stopped(_)) => Ok(Ended::Stopped),
+        Ok(journal) => {
+            drop(journal);
+            Ok(Ended::Whole)
+        }
+        Err(ReplayStop::Unexpected(journal, _)) => {
+            drop(journal);
+            Ok(Ended::Cut)
+        }
+        Err(ReplayStop::Stopped(journal)) => {
+            drop(journal);
+            Ok(Ended::Stopped)
+        }
         Err(ReplayStop::NoMemory) => Err(NoMemory),
         Err(ReplayStop::SourceFault(_) | ReplayStop::Most(_)) => unreachable!(),
     }

@@ -1,13 +1,17 @@
 //! The text of the run of a simulated cluster.
 
-ghost use Rattle.std.specs.Prelude.{◌≡◌, ◌<◌, ◌^◌, IfOk};
+ghost use Rattle.std.specs.Prelude.{◌≡◌, ◌<◌, ◌^◌, ◌+◌, ℕ, IfOk, length};
+ghost use Rattle.cluster_types.specs.declared.journal.Journal.{Journal as JournalOf};
 ghost use Rattle.cluster_types.specs.Journals.{moment_of};
 ghost use Rattle.cluster_types.specs.Safety.{IsAtRest};
-ghost use Rattle.cluster_types.specs.Valid.{IsValid};
+ghost use Rattle.cluster_types.specs.Valid.{IsValid, KeepsLimits};
+ghost use Rattle.trace_text.specs.RunLines.{HasShortNames};
+ghost use Rattle.world_state.specs.Kept.{Shows};
+ghost use Rattle.world_state.specs.Worlds.{World as WorldAt};
 ghost use Rattle.world_text.specs.WorldTexts as spec;
-ghost use Rattle.world_text.specs.WorldTexts.{IsWorldText};
+ghost use Rattle.world_text.specs.WorldTexts.{IsLived, IsWorldText};
 
-use crate::living::live;
+use crate::living::{Lived, live};
 use crate::real_lines::push_real_lines;
 use agent_world::World;
 use cluster_types::{Cluster, Journal};
@@ -25,6 +29,26 @@ fn ending(over: bool) -> &'static [u8]
     } else {
         b"ended more\n"
     }
+}
+
+/// The text of a run that a simulated cluster has lived, and of what really runs in it then.
+fn text_of(
+    alloc: Global,
+    cluster: &Cluster,
+    lived: &Lived,
+    world: &World<'_>,
+) -> Result<Vec<u8>, NoMemory>
+    requires names { HasShortNames cluster.now }
+    requires limits { KeepsLimits cluster.now }
+    requires numbers { length lived.now.run.passed + 1 < 2 ^ 32 }
+    requires same { world.now.reality.cluster ≡ cluster.now }
+    ensures { (journal : JournalOf) (number : ℕ) (w : WorldAt) → IsLived cluster.now journal number lived.now.run lived.now.over w
+        → Shows world.now.reality w → IfOk result (λ text. IsWorldText cluster.now journal number text.items) }
+{
+    let mut text = run_text(alloc, cluster, &lived.run)?;
+    push_real_lines(&mut text, cluster, world)?;
+    text.extend_from_slice(ending(lived.over))?;
+    Ok(text)
 }
 
 /// The text of the run of the simulated cluster of a number, from a journal on: the lines of the run, then a line for each
@@ -48,8 +72,5 @@ pub fn world_text(
     valid_clusters_have_short_names();
     let mut world = World::new(alloc, cluster, &journal, number)?;
     let lived = live(alloc, cluster, journal, &mut world)?;
-    let mut text = run_text(alloc, cluster, &lived.run)?;
-    push_real_lines(&mut text, cluster, &world)?;
-    text.extend_from_slice(ending(lived.over))?;
-    Ok(text)
+    text_of(alloc, cluster, &lived, &world)
 }

@@ -1,4 +1,4 @@
-use Rattle.std.proofs.Common.{arith, rules, ◌≡◌, ◌<◌, All, IfSome, length, subst, sym}
+use Rattle.std.proofs.Common.{arith, rules, ◌≡◌, ◌<◌, All, IfSome, ap, length, subst, sym, ◌∙◌}
 use Rattle.order_edges.specs.Flags.{send_if}
 use Rattle.order_edges.specs.Index.{leaf_if}
 use Rattle.step_ranks.specs.Ranks.{AreMigrating}
@@ -37,4 +37,5 @@ pub invariant_of-known-clause-short : goal.invariant_of-known-clause-short
 invariant_of-known-clause-short c = few_actions c.args.actions.now c.args.cluster.now c.requires.few
 
 pub invariant_of-known-clause-flagged : goal.invariant_of-known-clause-flagged
-invariant_of-known-clause-flagged c = subst (AreMigrating c.args.actions.now) (sym c.as_slice.ensures.value) c.in_ok-migrating.ensures
+invariant_of-known-clause-flagged c =
+    subst (AreMigrating c.args.actions.now) (sym (c.as_slice.ensures.value ∙ ap (λ v. v.items) c.in_ok-migrating-2.ensures.0)) c.in_ok-migrating.ensures

@@ -1,40 +1,46 @@
-use Rattle.std.proofs.Common.{◌≡◌, [], length, map, ap, subst, ◌∙◌}
+use Rattle.std.proofs.Common.{rules, ◌≡◌, length, map, ap, subst, sym, ◌∙◌}
 use Rattle.std.specs.List.{range_with_len}
-use Rattle.cluster_types.specs.Choice.{after_decisions}
-use Rattle.cluster_types.specs.Decisions.{Decides}
+use Rattle.std.proofs.lemmas.Result.{IfOk-at_ok}
+use Rattle.cluster_types.specs.declared.placement.Table.{Table}
 use Rattle.cluster_types.specs.Held.{AreTargets}
-use Rattle.cluster_types.specs.Pins.{pin_of, pinned_targets}
-use Rattle.cluster_types.specs.Plans.{with_totals}
+use Rattle.cluster_types.specs.Pins.{pin_of}
 use Rattle.cluster_types.specs.Reasons.{HasReason}
 use Rattle.cluster_types.specs.Tables.{Targets, targets_of}
+use Rattle.placement.specs.Chosen.{AreChosen}
 use Rattle.placement.proofs.placing.place.Goals as goal
 
 pub returns : goal.returns
-returns c = λ events promotions told table.
+returns c = λ events promotions told totals.
     let cl = c.args.cluster.now in
     let are = map (pin_of cl events) (range_with_len 0 (length cl.leaves)) in
+    let two = c.in_ok-pins-2 in
+    let three = c.in_ok-pins-3 in
+    let last = c.in_ok-pins-4 in
     let pins : c.in_ok-pins.pins ≡ are = c.in_ok-pins.ensures events promotions told in
-    let before : targets_of c.in_ok-pinned.pinned ≡ pinned_targets cl events = c.in_ok-pinned.ensures.targets events promotions told (c.as_slice.ensures ∙ pins) in
-    let made = c.in_ok-order.order.items in
-    let order : Decides cl events promotions [] made = c.in_ok-order.ensures.order events promotions told table (c.as_slice-2.ensures ∙ pins) in
-    let given : c.deref.result.now ≡ made = c.deref.ensures.value in
-    let chosen : targets_of c.in_ok-choices.choices.table ≡ after_decisions cl events promotions (pinned_targets cl events) made
-    = c.in_ok-choices.ensures.targets events promotions told table
-    ∙ (ap (λ t. after_decisions cl events promotions t c.deref.result.now) before ∙ ap (after_decisions cl events promotions (pinned_targets cl events)) given) in
-    let decided : c.in_ok-choices.choices.decided ≡ with_totals cl events promotions (pinned_targets cl events) made
-    = c.in_ok-choices.ensures.decided events promotions told table
-    ∙ (ap (λ t. with_totals cl events promotions t c.deref.result.now) before ∙ ap (with_totals cl events promotions (pinned_targets cl events)) given) in
-    let targets : AreTargets cl events (targets_of c.in_ok-choices.choices.table) (targets_of c.in_ok-table.table)
-    = c.in_ok-table.ensures.targets events (c.as_slice-3.ensures ∙ pins) in
+    let pins_2 : two.pins ≡ are = two.ensures.0 ∙ pins in
+    let pins_3 : three.pins ≡ are = (let same : three.pins ≡ two.pins = search rules in same ∙ pins_2) in
+    let pins_4 : last.pins ≡ are = (let same : last.pins ≡ three.pins = search rules in same ∙ pins_3) in
+    let choices : last.choices ≡ two.choices = search rules in
+    let choices_3 : three.choices ≡ two.choices = search rules in
+    let table : last.table ≡ three.table = search rules in
+    let chosen : AreChosen cl events promotions two.choices
+    = IfOk-at_ok _ two.ensures.1 c.choices-choices.ensures.chosen events promotions told totals (c.as_slice.ensures ∙ pins) in
+    let targets : AreTargets cl events (targets_of two.choices.table) (targets_of three.table)
+    = IfOk-at_ok _ three.ensures.1 c.targets-table.ensures.targets events (c.as_slice-2.ensures ∙ pins_2) in
+    let nodes = IfOk-at_ok _ three.ensures.1 c.targets-table.ensures.nodes ∙ IfOk-at_ok _ two.ensures.1 c.choices-choices.ensures.nodes in
+    let cells = IfOk-at_ok _ three.ensures.1 c.targets-table.ensures.size ∙ IfOk-at_ok _ two.ensures.1 c.choices-choices.ensures.cells in
+    let shown = IfOk-at_ok _ last.ensures.1 c.reasons-none.ensures.reasons events promotions told (c.as_slice-3.ensures ∙ pins_3)
+    (subst (λ k. AreTargets cl events (targets_of k.table) (targets_of three.table)) (sym choices_3) targets) in
     record {
-      decisions = made;
-      in_order = order;
-      pins = pins;
-      decided = decided;
-      nodes = c.in_ok-table.ensures.nodes ∙ c.in_ok-choices.ensures.nodes;
-      cells = c.in_ok-table.ensures.size ∙ c.in_ok-choices.ensures.cells;
-      targets = subst (λ (t : Targets). AreTargets cl events t (targets_of c.in_ok-table.table)) chosen targets;
-      leaves = c.in_ok-none.ensures.leaves;
-      reasons = λ r reason is. subst (λ (t : Targets). HasReason cl events t (targets_of c.in_ok-table.table) r reason) chosen
-          (c.in_ok-none.ensures.reasons events promotions told (c.as_slice-4.ensures ∙ pins) targets r reason is);
+      decisions = chosen.decisions;
+      in_order = chosen.in_order;
+      pins = pins_4;
+      decided = ap (λ k. k.decided) choices ∙ chosen.decided;
+      nodes = ap (λ (t : Table). t.nodes) table ∙ nodes;
+      cells = ap (λ (t : Table). length t.targets) table ∙ cells;
+      targets = subst (λ (t : Targets). AreTargets cl events t (targets_of last.table)) chosen.targets
+          (subst (λ (t : Table). AreTargets cl events (targets_of two.choices.table) (targets_of t)) (sym table) targets);
+      leaves = IfOk-at_ok _ last.ensures.1 c.reasons-none.ensures.leaves;
+      reasons = λ r reason is. subst (λ (t : Targets). HasReason cl events t (targets_of last.table) r reason) (ap (λ k. targets_of k.table) choices_3 ∙ chosen.targets)
+          (subst (λ (t : Table). HasReason cl events (targets_of three.choices.table) (targets_of t) r reason) (sym table) (shown r reason is));
     }

@@ -7,7 +7,7 @@ use Rattle.replan.proofs.planning.plan_next.Goals as goal
 pub returns-clause-ready : goal.returns-clause-ready
 returns-clause-ready c =
     let out = c.in_ok-plan.ensures.serves c.args.journal.events c.args.journal.promotions c.in_ok-plan.ensures.states in
-    is_ready c.args.journal (record { states = c.in_ok-plan.plan.states; placed = c.in_ok-plan.plan.placed; executor = c.in_ok-executor.executor }) c.in_ok-plan.plan.graph
+    is_ready c.args.journal (record { placed = c.in_ok-plan.plan.placed; executor = c.in_ok-executor.executor }) c.in_ok-plan.plan.graph
     c.requires.valid c.requires.at_rest c.in_ok-executor.ensures out
 
 pub returns-clause-serves : goal.returns-clause-serves

@@ -6,7 +6,7 @@ use Rattle.decision_order.specs.Links.{links_in}
 use Rattle.decision_order.specs.Needing.{is_among}
 use Rattle.decision_order.specs.Queueing.{IsQueue, is_at}
 use Rattle.decision_order.specs.Turns.{AreSorted, WereMade, slots_of}
-use Rattle.decision_order.proofs.ordering.in_order.Given as goal
+use Rattle.decision_order.proofs.ordering.taken.Given as goal
 
 abbrev pub invariant-loop-place : goal.invariant-loop-place
 invariant-loop-place l = record {

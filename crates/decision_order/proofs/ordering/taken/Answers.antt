@@ -1,75 +1,29 @@
 use Rattle.std.proofs.Common.{rules, arith, ◌≡◌, ◌<◌, ◌*◌, ◌++◌, ◌∷◌, [], ◌&&◌, ◌||◌, ℕ, List, MatchOption, Option, true, false, not, count_by, get_or, length, slice_index_or, slice_set, Contains, refl, sym, ap, subst, ◌∙◌}
-use Rattle.std.proofs.lemmas.List.{length-map}
-use Rattle.lemmas.proofs.Members.{of_map}
 use Rattle.cluster_types.specs.declared.placement.Decision.{Decision}
 use Rattle.cluster_types.specs.Decisions.{is_same_decision, leaf_of}
-use Rattle.cluster_types.specs.Graphs.{EndWithin}
 use Rattle.decision_order.specs.declared.ranked.Ranked.{Ranked}
 use Rattle.decision_order.specs.Flags.{AreFlags, slot_of}
 use Rattle.decision_order.specs.Links.{links_in}
 use Rattle.decision_order.specs.Needing.{is_among}
-use Rattle.decision_order.specs.Queueing.{IsFirstPlace, IsNextPlace, IsQueue, is_at}
-use Rattle.decision_order.specs.Turns.{WereMade, none_made, one_more, slots_of}
+use Rattle.decision_order.specs.Queueing.{IsFirstPlace, IsNextPlace, is_at}
+use Rattle.decision_order.specs.Turns.{WereMade, none_made, one_more}
 use Rattle.decision_order.proofs.FlagLaws.{none-raised, raised, slot-within}
-use Rattle.decision_order.proofs.LinkedNeeds.{links-within}
 use Rattle.decision_order.proofs.OrderSteps.{next-first, next-leaf, next-within, no_rank, none-ready-left, slot-at}
 use Rattle.decision_order.proofs.ReadyFlags.{among-more, fewer-left}
-use Rattle.decision_order.proofs.ordering.in_order.Goals as goal
-
-pub slots_of-requires : goal.slots_of-requires
-slots_of-requires c = λ x among.
-    let set = c.args.set.now in
-    let s = c.requires.sorted.1 in
-    let low = set.within x.decision (s.known x among).0 in
-    let few = set.limits.leaves in
-    omega (arith, low, few)
-
-pub new-requires-clause-few : goal.new-requires-clause-few
-new-requires-clause-few c =
-    let few = c.args.set.now.few in
-    let size = c.requires.sorted.1.size in
-    let slots : c.in_ok-slots.slots.items ≡ slots_of c.args.sorted.now = search rules in
-    let long : length c.in_ok-slots.slots.items ≡ length c.args.sorted.now = ap length slots ∙ length-map c.args.sorted.now (λ (x : Ranked). slot_of x.decision) in
-    omega (arith, few, size, long)
-
-pub new-requires-clause-ends : goal.new-requires-clause-ends
-new-requires-clause-ends c =
-    let set = c.args.set.now in
-    let cluster = set.cluster.now in
-    let links : c.in_ok-links.links.items ≡ links_in cluster set.list.items = search rules in
-    let count : length cluster.leaves * 2 ≡ 2 * c.len.result = omega arith in
-    subst (λ k. EndWithin k c.deref.result.now) count
-    (subst (λ es. EndWithin (length cluster.leaves * 2) es) (sym (c.deref.ensures.value ∙ links)) (links-within cluster c.requires.valid set.list.items set.within))
-
-pub new-requires-clause-within : goal.new-requires-clause-within
-new-requires-clause-within c = λ x among.
-    let set = c.args.set.now in
-    let leaves = length set.cluster.now.leaves in
-    let slots : c.in_ok-slots.slots.items ≡ slots_of c.args.sorted.now = search rules in
-    let m = of_map (λ (y : Ranked). slot_of y.decision) c.args.sorted.now x (subst (λ (xs : List ℕ). Contains xs x) slots among) in
-    let low = slot-within leaves m.source.decision (set.within m.source.decision (c.requires.sorted.1.known m.source m.among).0) in
-    let is = m.gives in
-    let count : leaves * 2 ≡ 2 * c.len.result = omega arith in
-    omega (arith, low, is, count)
+use Rattle.decision_order.proofs.ordering.taken.Goals as goal
 
 pub loop-place-init : goal.loop-place-init
 loop-place-init c =
     let set = c.args.set.now in
-    let cluster = set.cluster.now in
-    let leaves = length cluster.leaves in
-    let ds = set.list.items in
-    let links : c.in_ok-links.links.items ≡ links_in cluster ds = search rules in
-    let slots : c.in_ok-slots.slots.items ≡ slots_of c.args.sorted.now = search rules in
-    let count : 2 * c.len.result ≡ leaves * 2 = omega arith in
-    let order : c.in_ok-queue.queue.order.items ≡ c.in_ok-slots.slots.items = c.in_ok-queue.ensures.order in
+    let leaves = length set.cluster.now.leaves in
+    let none : c.in_ok-order.order.items ≡ [] = search rules in
     record {
-      queue = subst (λ k. IsQueue (links_in cluster ds) k c.in_ok-queue.queue) count
-          (subst (λ es. IsQueue es (2 * c.len.result) c.in_ok-queue.queue) (c.deref.ensures.value ∙ links) c.in_ok-queue.ensures.queue);
-      order = order ∙ slots;
-      placed = λ x among. c.in_ok-queue.ensures.all x (subst (λ (xs : List ℕ). Contains xs x) order among);
-      flags = subst (λ xs. AreFlags leaves (is_among xs) c.in_ok-queue.queue.made.items) (sym c.new-order.ensures.items)
-          (subst (AreFlags leaves (λ d. false)) (sym c.in_ok-queue.ensures.made) (none-raised leaves (2 * c.len.result) count));
-      made = λ key is. subst (WereMade cluster ds key) (sym c.new-order.ensures.items) none_made;
+      queue = c.requires.queue;
+      order = c.requires.order;
+      placed = c.requires.placed;
+      flags = subst (λ xs. AreFlags leaves (is_among xs) c.args.queue.now.made.items) (sym none)
+          (subst (AreFlags leaves (λ d. false)) (sym c.requires.made) (none-raised leaves (leaves * 2) refl));
+      made = λ key is. subst (WereMade set.cluster.now set.list.items key) (sym none) none_made;
     }
 
 pub take-requires : goal.take-requires
