@@ -11,6 +11,7 @@ pub mod Found
 pub mod KnownNeeds
 pub mod Conditions
 pub mod StepTests
+pub mod KeptSteps
 pub mod StepsGot
 pub mod Harmless
 pub mod SentFrom

@@ -8,11 +8,11 @@ ghost use Rattle.cluster_types.specs.Needed.{Needed};
 ghost use Rattle.cluster_types.specs.Numbers.{AreNeeded};
 ghost use Rattle.cluster_types.specs.Pins.{pin_of};
 ghost use Rattle.cluster_types.specs.Rights.{rights_of};
-ghost use Rattle.cluster_types.specs.Tables.{targets_of};
+ghost use Rattle.cluster_types.specs.Tables.{Targets, targets_of};
 ghost use Rattle.cluster_types.specs.Unpacked.{states_of};
 ghost use Rattle.cluster_types.specs.Valid.{IsValid, KeepsLimits};
 ghost use Rattle.action_build.specs.Actions as actions;
-ghost use Rattle.action_build.specs.Works.{IsWork};
+ghost use Rattle.action_build.specs.Works.{IsWork, flag_of, marks_of, needs_of};
 
 use crate::finding::cycled_cells;
 use crate::flags::{free, touched};
@@ -85,6 +85,50 @@ fn cell_work(
     Ok(CellWork { needs, marks })
 }
 
+/// The fences and the actions of all leaves, where those with a flag may migrate.
+fn list_of(
+    alloc: Global,
+    cluster: &Cluster,
+    may_fence: bool,
+    states: &[NodeState],
+    work: &CellWork,
+    free: &[bool],
+) -> Result<Vec<Action>, NoMemory>
+    requires { KeepsLimits cluster.now }
+    ensures { IfOk result (λ list. list.items ≡ actions.all_fences cluster.now may_fence states.now
+        ++ actions.leaves_actions cluster.now (needs_of work.now) (marks_of work.now) (flag_of free.now)) }
+{
+    let mut list = Vec::new(alloc);
+    push_fences(&mut list, cluster, may_fence, states)?;
+    push_leaves(&mut list, cluster, work, free)?;
+    Ok(list)
+}
+
+/// All that has to be done, where this is what each cell needs.
+fn actions_of(
+    alloc: Global,
+    cluster: &Cluster,
+    states: &States,
+    rights: Rights,
+    work: &CellWork,
+) -> Result<Vec<Action>, NoMemory>
+    requires { IsValid cluster.now }
+    ensures { IfOk result (λ list. (events : List EventOf) (promotions : List PromotionOf) (targets : Targets)
+        → states.now ≡ states_of cluster.now events promotions → rights ≡ rights_of cluster.now events
+        → IsWork cluster.now events targets work.now → AreNeeded (Needed cluster.now events targets) list.items) }
+{
+    let touched = touched(alloc, cluster, work)?;
+    let free = free(alloc, cluster, touched.as_slice())?;
+    list_of(
+        alloc,
+        cluster,
+        rights.may_fence,
+        states.nodes.as_slice(),
+        work,
+        free.as_slice(),
+    )
+}
+
 /// All that has to be done: the fences, and leaf by leaf and node by node the probes, steps, monitors and migrations that bring the
 /// cluster to its targets (Pacemaker Administration, "Probes" and recovery; Pacemaker Explained, "Migrating Resources"). Each action is
 /// there once, in no order that is told.
@@ -107,15 +151,5 @@ pub fn actions(
         → AreNeeded (Needed cluster.now events (targets_of placed.now.table)) list.items) }
 {
     let work = cell_work(alloc, cluster, states, rights, placed)?;
-    let touched = touched(alloc, cluster, &work)?;
-    let free = free(alloc, cluster, touched.as_slice())?;
-    let mut list = Vec::new(alloc);
-    push_fences(
-        &mut list,
-        cluster,
-        rights.may_fence,
-        states.nodes.as_slice(),
-    )?;
-    push_leaves(&mut list, cluster, &work, free.as_slice())?;
-    Ok(list)
+    actions_of(alloc, cluster, states, rights, &work)
 }

@@ -58,24 +58,22 @@ fn need_by(
     }
 }
 
-/// What the cells of a leaf need, node by node.
-#[tactic(auto, using(lemmas::proofs::Grown::value_more))]
-fn row(
-    alloc: Global,
+/// Adds what the cells of a leaf need, node by node.
+fn push_row(
+    list: &mut Vec<CellNeed>,
     cells: &[Cell],
     placed: &Placed,
     may_start: bool,
     nodes: u32,
     leaf: LeafId,
-) -> Result<Vec<CellNeed>, AllocError>
-    ensures { IfOk result (λ row. row.items
-        ≡ map (knowing.need_by cells.now placed.now.pins placed.now.table may_start nodes leaf) (range_with_len 0 nodes)) }
+) -> Result<(), AllocError>
+    ensures { OnOk result (list.new.items ≡ list.old.items
+        ++ map (knowing.need_by cells.now placed.now.pins placed.now.table may_start nodes leaf) (range_with_len 0 nodes)) }
 {
-    let mut row = Vec::new(alloc);
     for node in 0..nodes {
-        row.push(need_by(cells, placed, may_start, nodes, leaf, node))?;
+        list.push(need_by(cells, placed, may_start, nodes, leaf, node))?;
     }
-    Ok(row)
+    Ok(())
 }
 
 /// What each cell needs, leaf by leaf and node by node: the states are those that some journal tells of the cluster, and the pins and the
@@ -97,15 +95,14 @@ pub fn cell_needs(
     let nodes = cluster.nodes.len() as u32;
     let mut needs = Vec::new(alloc);
     for leaf in 0..cluster.leaves.len() as u32 {
-        let row = row(
-            alloc,
+        push_row(
+            &mut needs,
             states.cells.as_slice(),
             placed,
             may_start,
             nodes,
             leaf,
         )?;
-        needs.extend_from_slice(row.as_slice())?;
     }
     Ok(needs)
 }

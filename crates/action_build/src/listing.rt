@@ -50,8 +50,26 @@ fn step_action(leaf: LeafId, node: NodeId, op: Op) -> Action
     }
 }
 
+/// Adds this step of the cell, unless it is its start and the leaf is sent there.
+fn push_step(
+    list: &mut Vec<Action>,
+    step: Op,
+    is_sent_there: bool,
+    leaf: LeafId,
+    node: NodeId,
+) -> Result<(), AllocError>
+    ensures { OnOk result (list.new.items ≡ list.old.items
+        ++ (if actions.stays_needed is_sent_there step then actions.step_action leaf node step ∷ [] else [])) }
+{
+    if is_sent_there && step == Op::Start {
+        return Ok(());
+    }
+    list.push(step_action(leaf, node, step))?;
+    Ok(())
+}
+
 /// Adds these steps of the cell, but for its start if the leaf is sent there.
-#[tactic(auto, using(lemmas::proofs::Grown::kept_more, lemmas::proofs::Grown::passed_over))]
+#[tactic(auto, using(crate::proofs::KeptSteps::one_more))]
 fn push_steps(
     list: &mut Vec<Action>,
     steps: &[Op],
@@ -63,10 +81,7 @@ fn push_steps(
         ≡ list.old.items ++ map (actions.step_action leaf node) (filter (actions.stays_needed is_sent_there) steps.now)) }
 {
     for step in steps {
-        if is_sent_there && *step == Op::Start {
-            continue;
-        }
-        list.push(step_action(leaf, node, *step))?;
+        push_step(list, *step, is_sent_there, leaf, node)?;
     }
     Ok(())
 }

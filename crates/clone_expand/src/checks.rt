@@ -1,10 +1,10 @@
 //! Which statement is at fault.
 
-ghost use Rattle.std.specs.Prelude.{◌≡◌, is_none, not, true, false, None, IfOk};
+ghost use Rattle.std.specs.Prelude.{◌≡◌, ◌++◌, is_none, not, true, false, None, IfOk};
 ghost use Rattle.std.specs.List.{list_any};
 ghost use Rattle.std.specs.Option.{option_map_or};
 ghost use Rattle.clone_expand.specs.Faults.{cause_of, fault_of, first_fault, has_twice, has_unknown, is_empty_group};
-ghost use Rattle.clone_expand.specs.Faults.{is_group, may_hold, nests, nothing_seen, promotes_group};
+ghost use Rattle.clone_expand.specs.Faults.{is_group, may_hold, nests, parts_in, promotes_group};
 ghost use Rattle.clone_expand.specs.Tables.{lookup};
 
 use crate::clones::is_promotable;
@@ -18,10 +18,16 @@ use crm_parse::{Form, Statement};
 use name_sets::NameSet;
 use std::alloc::Global;
 
+fn is_unknown(kinds: &NameTable<Kind>, part: &Name) -> bool
+    ensures { result ≡ is_none (lookup kinds.now part.now) }
+{
+    kinds.get(part).is_none()
+}
+
 fn has_unknown(kinds: &NameTable<Kind>, form: &Form) -> bool
     ensures { result ≡ has_unknown kinds.now form.now }
 {
-    parts_in(form).iter().any(|part| kinds.get(part).is_none())
+    parts_in(form).iter().any(|part| is_unknown(kinds, part))
 }
 
 fn may_hold(form: &Form, kind: Kind) -> bool
@@ -60,11 +66,15 @@ fn is_empty_group(form: &Form) -> bool
     }
 }
 
-/// Whether some of the parts is among the names, or among those before it.
-fn has_twice(alloc: Global, names: &NameSet, parts: &[Name]) -> Result<bool, NoMemory>
-    ensures { IfOk result (λ twice. twice ≡ has_twice names.now parts.now) }
+/// Whether some of the parts is among the names, among the names before them all, or among the parts before it.
+fn has_twice_after(
+    alloc: Global,
+    names: &NameSet,
+    before: &mut NameSet,
+    parts: &[Name],
+) -> Result<bool, NoMemory>
+    ensures { IfOk result (λ twice. twice ≡ has_twice (names.now ++ before.old) parts.now) }
 {
-    let mut before = NameSet::new(alloc);
     for part in parts {
         if names.has(part) || before.has(part) {
             return Ok(true);
@@ -72,6 +82,14 @@ fn has_twice(alloc: Global, names: &NameSet, parts: &[Name]) -> Result<bool, NoM
         before.add(alloc, part)?;
     }
     Ok(false)
+}
+
+/// Whether some of the parts is among the names, or among those before it.
+fn has_twice(alloc: Global, names: &NameSet, parts: &[Name]) -> Result<bool, NoMemory>
+    ensures { IfOk result (λ twice. twice ≡ has_twice names.now parts.now) }
+{
+    let mut before = NameSet::new(alloc);
+    has_twice_after(alloc, names, &mut before, parts)
 }
 
 fn is_group_part(kinds: &NameTable<Kind>, part: &Name) -> bool
@@ -97,8 +115,35 @@ fn promotes_group(kinds: &NameTable<Kind>, form: &Form) -> bool
     }
 }
 
-/// The cause of a statement that is at fault, after what was seen before it.
+/// The cause of a statement that is at fault, after what was seen before it, where a part is named twice or none is.
 #[tactic(auto, unfolding(crate::specs::Faults::cause_of))]
+fn cause_where(
+    kinds: &NameTable<Kind>,
+    seen: &Seen,
+    form: &Form,
+    twice: bool,
+) -> Option<ExpandCause>
+    requires { twice ≡ has_twice seen.now.parts (parts_in form.now) }
+    ensures { result ≡ cause_of kinds.now seen.now form.now }
+{
+    if seen.is_duplicate(form) {
+        Some(ExpandCause::DuplicateName)
+    } else if has_unknown(kinds, form) {
+        Some(ExpandCause::UnknownName)
+    } else if nests(kinds, form) {
+        Some(ExpandCause::NestedTwice)
+    } else if is_empty_group(form) {
+        Some(ExpandCause::EmptyGroup)
+    } else if twice {
+        Some(ExpandCause::MemberTwice)
+    } else if promotes_group(kinds, form) {
+        Some(ExpandCause::UnsupportedMeta)
+    } else {
+        None
+    }
+}
+
+/// The cause of a statement that is at fault, after what was seen before it.
 fn cause_of(
     alloc: Global,
     kinds: &NameTable<Kind>,
@@ -108,34 +153,20 @@ fn cause_of(
     ensures { IfOk result (λ cause. cause ≡ cause_of kinds.now seen.now form.now) }
 {
     let twice = has_twice(alloc, &seen.parts, parts_in(form))?;
-    let cause = if seen.is_duplicate(form) {
-        ExpandCause::DuplicateName
-    } else if has_unknown(kinds, form) {
-        ExpandCause::UnknownName
-    } else if nests(kinds, form) {
-        ExpandCause::NestedTwice
-    } else if is_empty_group(form) {
-        ExpandCause::EmptyGroup
-    } else if twice {
-        ExpandCause::MemberTwice
-    } else if promotes_group(kinds, form) {
-        ExpandCause::UnsupportedMeta
-    } else {
-        return Ok(None);
-    };
-    Ok(Some(cause))
+    Ok(cause_where(kinds, seen, form, twice))
 }
 
+/// The fault of the first statement that is at fault, after what was seen before them.
 fn first_fault(
     alloc: Global,
     kinds: &NameTable<Kind>,
+    seen: &mut Seen,
     statements: &[Statement],
 ) -> Result<Option<ExpandFault>, NoMemory>
-    ensures { IfOk result (λ fault. fault ≡ first_fault kinds.now nothing_seen statements.now) }
+    ensures { IfOk result (λ fault. fault ≡ first_fault kinds.now seen.old statements.now) }
 {
-    let mut seen = nothing_seen(alloc);
     for statement in statements {
-        if let Some(cause) = cause_of(alloc, kinds, &seen, &statement.form)? {
+        if let Some(cause) = cause_of(alloc, kinds, seen, &statement.form)? {
             return Ok(Some(ExpandFault::At {
                 line: statement.line,
                 cause,
@@ -152,5 +183,6 @@ pub fn fault_of(alloc: Global, statements: &[Statement]) -> Result<Option<Expand
     ensures { IfOk result (λ fault. fault ≡ fault_of statements.now) }
 {
     let kinds = kinds_of(alloc, statements)?;
-    first_fault(alloc, &kinds, statements)
+    let mut seen = nothing_seen(alloc);
+    first_fault(alloc, &kinds, &mut seen, statements)
 }

@@ -1,12 +1,15 @@
 //! The leaves of a configuration.
 
-ghost use Rattle.std.specs.Prelude.{◌≡◌, ◌++◌, is_some, unwrap_or, IfOk, OnOk};
+ghost use Rattle.std.specs.Prelude.{◌≡◌, ◌++◌, ◌&&◌, not, true, unwrap_or, IfOk, OnOk};
 ghost use Rattle.clone_expand.specs.Leaves.{leaf_in, leaf_of, leaves_in, leaves_of, plain_stickiness, target_role_of};
+ghost use Rattle.clone_expand.specs.Operations.{fail_of, monitors_of};
 
 use crate::clones::uncloned;
+use crate::meta::Meta;
 use crate::operations::{after_a_stop, fail_of, monitors_of};
 use crate::surroundings::{Surroundings, surroundings_of};
-use cluster_types::{Leaf, NoMemory, OnFail, TargetRole};
+use carry::with;
+use cluster_types::{Leaf, Monitor, NoMemory, OnFail, TargetRole};
 use crm_lex::Name;
 use crm_parse::{Form, Kv, Operation, RoleName, Statement};
 use listed::Listed;
@@ -32,23 +35,38 @@ fn plain_stickiness(cloned: bool) -> Score
     }
 }
 
+/// Whether a resource is managed, where nothing is in maintenance.
+fn is_managed(surroundings: &Surroundings, meta: &Meta) -> bool
+    ensures { result ≡ (unwrap_or meta.now.managed true && not surroundings.now.maintenance) }
+{
+    meta.managed.unwrap_or(true) && !surroundings.maintenance
+}
+
+/// What follows a failure of the operation of this name: this where it isn't given.
+fn fail_or(name: &[u8], ops: &[Operation], default: OnFail) -> OnFail
+    ensures { result ≡ unwrap_or (fail_of name.now ops.now) default }
+{
+    fail_of(name, ops).unwrap_or(default)
+}
+
+/// The leaf of a primitive, with its own name and its monitors.
 #[tactic(auto, unfolding(crate::specs::Leaves::leaf_of))]
-fn leaf_of(
-    alloc: Global,
+fn leaf_with(
     surroundings: &Surroundings,
-    id: &Name,
+    name: Name,
+    monitors: Listed<Monitor>,
     pairs: &[Kv],
     ops: &[Operation],
-) -> Result<Leaf, NoMemory>
-    ensures { IfOk result (λ leaf. leaf ≡ leaf_of surroundings.now id.now pairs.now ops.now) }
+) -> Leaf
+    requires { monitors ≡ monitors_of ops.now }
+    ensures { result ≡ leaf_of surroundings.now name pairs.now ops.now }
 {
-    let group = surroundings.around(id);
+    let group = surroundings.around(&name);
     let cloned = group.clone.is_some();
     let clone = group.clone.unwrap_or(uncloned());
     let meta = surroundings.meta_around(&group, &clone, pairs);
-    let stop_fail = after_a_stop(surroundings.fencing);
-    Ok(Leaf {
-        name: Name::from_bytes(alloc, id.bytes())?,
+    Leaf {
+        name,
         copies: clone.copies,
         promoted_copies: clone.promoted_copies,
         cloned,
@@ -60,14 +78,28 @@ fn leaf_of(
         threshold: meta.threshold.unwrap_or(Score::INFINITY),
         timeout_ms: meta.timeout_ms.unwrap_or(0),
         target_role: target_role_of(meta.target_role.unwrap_or(RoleName::Started)),
-        managed: meta.managed.unwrap_or(true) && !surroundings.maintenance,
+        managed: is_managed(surroundings, &meta),
         migrates: meta.migrates.unwrap_or(false),
-        start_fail: fail_of(b"start", ops).unwrap_or(OnFail::Restart),
-        stop_fail: fail_of(b"stop", ops).unwrap_or(stop_fail),
-        promote_fail: fail_of(b"promote", ops).unwrap_or(OnFail::Restart),
-        demote_fail: fail_of(b"demote", ops).unwrap_or(OnFail::Restart),
-        monitors: monitors_of(alloc, ops)?,
-    })
+        start_fail: fail_or(b"start", ops, OnFail::Restart),
+        stop_fail: fail_or(b"stop", ops, after_a_stop(surroundings.fencing)),
+        promote_fail: fail_or(b"promote", ops, OnFail::Restart),
+        demote_fail: fail_or(b"demote", ops, OnFail::Restart),
+        monitors,
+    }
+}
+
+fn leaf_of(
+    alloc: Global,
+    surroundings: &Surroundings,
+    id: &Name,
+    pairs: &[Kv],
+    ops: &[Operation],
+) -> Result<Leaf, NoMemory>
+    ensures { IfOk result (λ leaf. leaf ≡ leaf_of surroundings.now id.now pairs.now ops.now) }
+{
+    let name = Name::from_bytes(alloc, id.bytes())?;
+    let (name, monitors) = with(name, monitors_of(alloc, ops))?;
+    Ok(leaf_with(surroundings, name, monitors, pairs, ops))
 }
 
 fn add_leaf(

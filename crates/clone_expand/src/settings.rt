@@ -1,6 +1,6 @@
 //! What holds of the whole cluster.
 
-ghost use Rattle.std.specs.Prelude.{◌≡◌, if◌then◌else◌, length, None, unwrap_or, IfOk};
+ghost use Rattle.std.specs.Prelude.{◌≡◌, ◌+◌, if◌then◌else◌, length, None, unwrap_or, IfOk};
 ghost use Rattle.clone_expand.specs.Metas.{no_meta};
 ghost use Rattle.clone_expand.specs.Settings.{count_nodes, defaults_in, defaults_of, nodes_in};
 ghost use Rattle.clone_expand.specs.Settings.{option_from, option_of, properties_in};
@@ -71,15 +71,24 @@ fn is_node(form: &Form) -> bool
     matches!(form, Form::Node { .. })
 }
 
+/// How many nodes there are with one more statement.
+fn count_after(count: u32, form: &Form) -> Result<u32, NoMemory>
+    ensures { IfOk result (λ after. after ≡ count + length (nodes_in form.now)) }
+{
+    if is_node(form) {
+        count.checked_add(1).ok_or(NoMemory)
+    } else {
+        Ok(count)
+    }
+}
+
 /// How many nodes there are. More than a number can tell are more than memory can hold.
 pub fn count_nodes(statements: &[Statement]) -> Result<u32, NoMemory>
     ensures { IfOk result (λ count. count ≡ count_nodes statements.now) }
 {
     let mut count: u32 = 0;
     for statement in statements {
-        if is_node(&statement.form) {
-            count = count.checked_add(1).ok_or(NoMemory)?;
-        }
+        count = count_after(count, &statement.form)?;
     }
     Ok(count)
 }

@@ -6,6 +6,7 @@ use crate::groups::{InGroup, grouped_by};
 use crate::meta::{Meta, meta_of, no_meta, or_meta};
 use crate::name_table::NameTable;
 use crate::settings::{count_nodes, defaults_of, option_of};
+use carry::with;
 use cluster_types::NoMemory;
 use crm_lex::Name;
 use crm_parse::{Kv, Statement};
@@ -31,7 +32,8 @@ pub fn surroundings_of(alloc: Global, statements: &[Statement]) -> Result<Surrou
 {
     let nodes = count_nodes(statements)?;
     let cloned = cloned_by(alloc, nodes, statements)?;
-    let grouped = grouped_by(alloc, &cloned, statements)?;
+    let grouped = grouped_by(alloc, &cloned, statements);
+    let (cloned, grouped) = with(cloned, grouped)?;
     Ok(Surroundings {
         fencing: option_of(b"stonith-enabled", true, statements),
         maintenance: option_of(b"maintenance-mode", false, statements),

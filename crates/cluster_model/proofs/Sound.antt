@@ -1,9 +1,10 @@
 -- What holds of the rules of statements that aren't at fault.
 use Rattle.std.proofs.Common.{arith, ◌≡◌, ◌≢◌, ◌<◌, ◌+◌, ℕ, zero, suc, Bool, true, false, List, [], ◌∷◌, length, take, cond, refl, ap, sym, ◌∙◌, inl, inr, ◌⊎◌, Contains}
-use Rattle.std.specs.Prelude.{Option, Some, None, Ok, Err}
+use Rattle.std.specs.Prelude.{Option, Some, None, Result, Ok, Err}
 use Rattle.std.specs.Option.{option_or}
 use Rattle.std.proofs.lemmas.List.{length-map}
 use Rattle.std.proofs.Math.Seq.{take-length}
+use Rattle.carry.specs.Carry.{IsDone}
 use Rattle.cluster_types.specs.declared.leaf.Leaf.{Leaf}
 use Rattle.cluster_types.specs.declared.cluster.Cluster.{Cluster}
 use Rattle.cluster_types.specs.declared.leaf.Op.TheVariants.{Monitor}
@@ -34,7 +35,7 @@ use Rattle.cluster_model.specs.Orders.{first_point, kind_of_word, member_order, 
 use Rattle.cluster_model.specs.FirstFaults.{first_fault}
 use Rattle.cluster_model.specs.Resolution.{cause_after, cluster_of, loop_cause, own_cause, resolution_of}
 use Rattle.cluster_model.specs.Search.{sound_count}
-use Rattle.faults.specs.Reading.{UnlessMemory, unless}
+use Rattle.faults.specs.Reading.{Gives, UnlessMemory, unless}
 use Rattle.cluster_model.proofs.Passes.{check_all, fault_after, passes, unless_cause}
 use Rattle.cluster_model.proofs.Split.{none_all, split}
 use Rattle.cluster_model.proofs.Known.{first-there, last-there, later, pairs-none, sooner}
@@ -186,6 +187,19 @@ all-step d statements k e o h =
 pub second-none : (one other : Option (Fault ModelCause)) → option_or one other ≡ None → other ≡ None
 second-none None other h = h
 second-none (Some fault) other h = cc
+
+-- what is returned where a cluster is carried past a step that answers with the fault found, if there is one
+pub done-gives : (c : Cluster) (found : Option (Fault ModelCause)) (step : Result (Unit {0}) (Fault ModelCause)) (result resolution : Result Cluster (Fault ModelCause))
+    → Gives (λ passed. passed) step (unless found tt) → IsDone c step result → (found ≡ None → resolution ≡ Ok c)
+    → ((fault : Fault ModelCause) → found ≡ Some fault → resolution ≡ Err fault) → Gives (λ cluster. cluster) result resolution
+done-gives c found step (Err NoMemory) resolution g is ok err = tt
+done-gives c None (Ok passed) (Ok same) resolution g is ok err = ok refl ∙ ap Ok (sym is.0)
+done-gives c (Some fault) (Ok passed) (Ok same) resolution g is ok err = cc
+done-gives c found (Err fault) (Ok same) resolution g is ok err = let failed = is.1 in cc
+done-gives c found (Ok passed) (Err (At line cause)) resolution g is ok err = cc
+done-gives c found (Err NoMemory) (Err (At line cause)) resolution g is ok err = cc
+done-gives c None (Err (At other why)) (Err (At line cause)) resolution g is ok err = cc
+done-gives c (Some fault) (Err (At other why)) (Err (At line cause)) resolution g is ok err = err (At line cause) cc
 
 -- unless memory ran out, as it is
 pub is-answer : (fault : Fault ModelCause) (P : Type 0) → P → UnlessMemory fault P

@@ -1,11 +1,11 @@
 //! Lenders of a leaf.
 
-ghost use Rattle.std.specs.Prelude.{◌<◌, length, IfOk};
+ghost use Rattle.std.specs.Prelude.{◌≡◌, ◌<◌, length, IfOk};
 ghost use Rattle.cluster_types.specs.Valid.{IsValid};
 ghost use Rattle.score_table.specs.Lending as spec;
 ghost use Rattle.score_table.specs.OwnRows.{terms_by};
 ghost use Rattle.score_table.specs.Rows.{IsRow};
-ghost use Rattle.score_table.specs.Ties.{AreTies};
+ghost use Rattle.score_table.specs.Ties.{AreTies, tied_within};
 
 use crate::adding::{both, copy_of};
 use crate::fitting::leaves_a_node;
@@ -36,6 +36,23 @@ fn lend(
     if fits { Ok(row) } else { Ok(joined) }
 }
 
+/// The row of the own terms of the leaf and of the lenders that join it, tried in their order, where the leaves with a mark lend.
+fn joined_row(alloc: Global, own: &OwnRows, marks: &[bool], leaf: LeafId) -> Result<Row, NoMemory>
+    requires marks { marks.now ≡ tied_within own.now.cluster.now (length own.now.cluster.now.leaves) leaf }
+    requires leaf { leaf < length own.now.cluster.now.leaves }
+    ensures { IfOk result (λ row. IsRow (length own.now.cluster.now.nodes)
+        (terms_by own.now.cluster.now own.now.states.now (spec.all_joined own.now.cluster.now own.now.states.now leaf)) row) }
+{
+    let mut joined = copy_of(alloc, own.row(leaf), own.cluster.nodes.len() as u32)?;
+    for lender in 0..own.cluster.leaves.len() {
+        if !is_marked(marks, lender as u32) {
+            continue;
+        }
+        joined = lend(alloc, own, leaf, lender as u32, joined)?;
+    }
+    Ok(joined)
+}
+
 /// The row of the own terms of the leaf and of the lenders that join it, tried in their order (Pacemaker Explained, "Colocation"; which
 /// leaves lend is a rule of this project).
 pub(crate) fn lent_row(
@@ -51,12 +68,5 @@ pub(crate) fn lent_row(
         (terms_by own.now.cluster.now own.now.states.now (spec.all_joined own.now.cluster.now own.now.states.now leaf)) row) }
 {
     let marks = tied(alloc, own.cluster, ties, leaf)?;
-    let mut joined = copy_of(alloc, own.row(leaf), own.cluster.nodes.len() as u32)?;
-    for lender in 0..own.cluster.leaves.len() {
-        if !is_marked(&marks, lender as u32) {
-            continue;
-        }
-        joined = lend(alloc, own, leaf, lender as u32, joined)?;
-    }
-    Ok(joined)
+    joined_row(alloc, own, &marks, leaf)
 }

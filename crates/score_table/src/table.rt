@@ -1,17 +1,21 @@
 //! The totals of all decisions.
 
-ghost use Rattle.std.specs.Prelude.{◌≡◌, ℕ, List, length, IfOk};
+ghost use Rattle.std.specs.Prelude.{◌≡◌, ◌<◌, ◌++◌, ℕ, List, length, map, IfOk, OnOk};
+ghost use Rattle.std.specs.List.{range_with_len};
 ghost use Rattle.cluster_types.specs.declared.journal.Event.{Event};
 ghost use Rattle.cluster_types.specs.declared.journal.Promotion.{Promotion as PromotionOf};
 ghost use Rattle.cluster_types.specs.Unpacked.{states_of};
 ghost use Rattle.cluster_types.specs.Valid.{IsValid};
+ghost use Rattle.score_table.specs.Promotions.{AreSaid};
 ghost use Rattle.score_table.specs.Scores as spec;
+ghost use Rattle.score_table.specs.Ties.{AreTies};
 
 use crate::lending::lent_row;
 use crate::own_rows::OwnRows;
 use crate::promotions::{first_said, promote_row};
 use crate::row_totals::totals_of;
-use crate::ties::ties_of;
+use crate::ties::{Tie, ties_of};
+use carry::with;
 use cluster_types::{Cluster, Decision, LeafId, NoMemory, NodeId, States, cell_place};
 use listed::Listed;
 use score::Score;
@@ -52,6 +56,26 @@ impl ScoreTable {
     }
 }
 
+/// Adds the totals of placing a leaf that is there, node by node.
+fn push_places(
+    alloc: Global,
+    own: &OwnRows,
+    ties: &[Tie],
+    leaf: LeafId,
+    all: &mut Vec<Score>,
+) -> Result<(), NoMemory>
+    requires valid { IsValid own.now.cluster.now }
+    requires ties { AreTies own.now.cluster.now ties.now }
+    requires leaf { leaf < length own.now.cluster.now.leaves }
+    ensures { OnOk result (all.new.items ≡ all.old.items
+        ++ map (spec.place_by own.now.cluster.now own.now.states.now leaf) (range_with_len 0 (length own.now.cluster.now.nodes))) }
+{
+    let row = lent_row(alloc, own, ties, leaf)?;
+    let of_leaf = totals_of(alloc, &row, own.cluster.nodes.len() as u32)?;
+    all.extend_from_slice(&of_leaf)?;
+    Ok(())
+}
+
 /// The totals of placing each leaf, leaf by leaf and node by node.
 fn place_totals(alloc: Global, own: &OwnRows) -> Result<Vec<Score>, NoMemory>
     requires { IsValid own.now.cluster.now }
@@ -61,11 +85,39 @@ fn place_totals(alloc: Global, own: &OwnRows) -> Result<Vec<Score>, NoMemory>
     let ties = ties_of(alloc, cluster)?;
     let mut all = Vec::with_capacity(alloc, cluster.leaves.len() * cluster.nodes.len())?;
     for leaf in 0..cluster.leaves.len() {
-        let row = lent_row(alloc, own, &ties, leaf as u32)?;
-        let of_leaf = totals_of(alloc, &row, cluster.nodes.len() as u32)?;
-        all.extend_from_slice(&of_leaf)?;
+        push_places(alloc, own, &ties, leaf as u32, &mut all)?;
     }
     Ok(all)
+}
+
+/// The totals of placing each leaf, by what is read of the cluster and the states.
+fn places_by(alloc: Global, cluster: &Cluster, states: &States) -> Result<Vec<Score>, NoMemory>
+    requires { IsValid cluster.now }
+    ensures { IfOk result (λ all. all.items ≡ spec.cells_of cluster.now (spec.place_by cluster.now states.now)) }
+{
+    let own = OwnRows::new(alloc, cluster, states)?;
+    place_totals(alloc, &own)
+}
+
+/// Adds the totals of promoting a leaf that is there, node by node, where these scores are said.
+fn push_promotes(
+    alloc: Global,
+    cluster: &Cluster,
+    states: &States,
+    said: &[Option<Score>],
+    leaf: LeafId,
+    all: &mut Vec<Score>,
+) -> Result<(), NoMemory>
+    requires valid { IsValid cluster.now }
+    requires said { AreSaid cluster.now states.now.promotions said.now }
+    requires leaf { leaf < length cluster.now.leaves }
+    ensures { OnOk result (all.new.items ≡ all.old.items
+        ++ map (spec.promote_by cluster.now states.now leaf) (range_with_len 0 (length cluster.now.nodes))) }
+{
+    let row = promote_row(alloc, cluster, said, leaf, states.moment)?;
+    let of_leaf = totals_of(alloc, &row, cluster.nodes.len() as u32)?;
+    all.extend_from_slice(&of_leaf)?;
+    Ok(())
 }
 
 /// The totals of promoting each leaf, leaf by leaf and node by node.
@@ -76,9 +128,7 @@ fn promote_totals(alloc: Global, cluster: &Cluster, states: &States) -> Result<V
     let said = first_said(alloc, cluster, states.promotions.as_slice())?;
     let mut all = Vec::with_capacity(alloc, cluster.leaves.len() * cluster.nodes.len())?;
     for leaf in 0..cluster.leaves.len() {
-        let row = promote_row(alloc, cluster, &said, leaf as u32, states.moment)?;
-        let of_leaf = totals_of(alloc, &row, cluster.nodes.len() as u32)?;
-        all.extend_from_slice(&of_leaf)?;
+        push_promotes(alloc, cluster, states, &said, leaf as u32, &mut all)?;
     }
     Ok(all)
 }
@@ -88,9 +138,9 @@ fn table_by(alloc: Global, cluster: &Cluster, states: &States) -> Result<ScoreTa
     requires { IsValid cluster.now }
     ensures { IfOk result (λ table. table ≡ spec.table_by cluster.now states.now) }
 {
-    let own = OwnRows::new(alloc, cluster, states)?;
-    let places = place_totals(alloc, &own)?;
-    let promotes = promote_totals(alloc, cluster, states)?;
+    let places = places_by(alloc, cluster, states)?;
+    let promotes = promote_totals(alloc, cluster, states);
+    let (places, promotes) = with(places, promotes)?;
     Ok(ScoreTable {
         nodes: cluster.nodes.len() as u32,
         places: Listed::from(places),

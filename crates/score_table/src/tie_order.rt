@@ -1,8 +1,9 @@
 //! The order in which ties are followed.
 
-ghost use Rattle.std.specs.Prelude.{◌≡◌, ◌<◌, ◌≤◌, length, map, Contains, IfOk, OnOk, slice_index_or};
+ghost use Rattle.std.specs.Prelude.{◌≡◌, ◌<◌, ◌≤◌, ℕ, length, map, Contains, IfOk, OnOk, slice_index_or};
 ghost use Rattle.std.specs.List.Sorted.{IsNonDecreasingBy, IsPermutation};
-ghost use Rattle.loops.specs.Loops.{HasNoLoop};
+ghost use Rattle.loops.specs.Longest.{longest};
+ghost use Rattle.loops.specs.Loops.{EndWithin, HasNoLoop};
 ghost use Rattle.score_table.specs.declared.ties.Tie.{Tie as TieOf};
 ghost use Rattle.score_table.specs.TieOrder as spec;
 
@@ -25,6 +26,19 @@ fn edges_of(alloc: Global, ties: &[Tie]) -> Result<Vec<Edge>, AllocError>
     Ok(edges)
 }
 
+/// For each of so many positions, how many edges the longest way along these has. It is empty where they have a loop.
+fn heights_by(alloc: Global, positions: u32, edges: &[Edge]) -> Result<Vec<u32>, AllocError>
+    requires few { positions ≤ 1000 }
+    requires within { EndWithin positions edges.now }
+    ensures { IfOk result (λ heights. HasNoLoop positions edges.now
+        → (p : ℕ) → p < positions → slice_index_or heights.items p 0 ≡ longest positions edges.now p) }
+{
+    if !is_loop_free(alloc, positions, edges)? {
+        return Ok(Vec::new(alloc));
+    }
+    longest_ways(alloc, positions, edges)
+}
+
 /// For each leaf, how many ties the longest chain from it to another has. It is empty where a chain leads from a leaf back to it.
 fn heights_of(alloc: Global, leaves: u32, ties: &[Tie]) -> Result<Vec<u32>, AllocError>
     requires few { leaves ≤ 1000 }
@@ -32,10 +46,7 @@ fn heights_of(alloc: Global, leaves: u32, ties: &[Tie]) -> Result<Vec<u32>, Allo
     ensures { IfOk result (λ heights. spec.AreHeightsOf leaves ties.now heights.items) }
 {
     let edges = edges_of(alloc, ties)?;
-    if !is_loop_free(alloc, leaves, &edges)? {
-        return Ok(Vec::new(alloc));
-    }
-    longest_ways(alloc, leaves, &edges)
+    heights_by(alloc, leaves, &edges)
 }
 
 fn height_of(heights: &[u32], leaf: LeafId) -> u32
@@ -68,6 +79,5 @@ pub(crate) fn put_in_order(
     ensures ordered { OnOk result (HasNoLoop leaves (map spec.edge_of ties.old.items) → spec.AreInOrder ties.new.items) }
 {
     let heights = heights_of(alloc, leaves, ties)?;
-    sort_by_height(ties, &heights)?;
-    Ok(())
+    sort_by_height(ties, &heights)
 }

@@ -10,6 +10,7 @@ ghost use Rattle.score_table.specs.TieOrder.{AreInOrder, edge_of};
 ghost use Rattle.score_table.specs.Ties as spec;
 
 use crate::tie_order::put_in_order;
+use carry::done;
 use cluster_types::{Cluster, Colocation, LeafId, Role};
 use std::alloc::{AllocError, Global};
 
@@ -55,8 +56,8 @@ pub(crate) fn ties_of(alloc: Global, cluster: &Cluster) -> Result<Vec<Tie>, Allo
     ensures ordered { IfOk result (λ ties. HasNoLoop (length cluster.now.leaves) (map edge_of (spec.ties_of cluster.now)) → AreInOrder ties.items) }
 {
     let mut ties = listed_ties(alloc, cluster)?;
-    put_in_order(alloc, cluster.leaves.len() as u32, &mut ties)?;
-    Ok(ties)
+    let ordering = put_in_order(alloc, cluster.leaves.len() as u32, &mut ties);
+    done(ties, ordering)
 }
 
 pub(crate) fn is_marked(marks: &[bool], leaf: LeafId) -> bool

@@ -1,6 +1,8 @@
 //! What some events tell of a cell.
 
-ghost use Rattle.std.specs.Prelude.{◌≡◌};
+ghost use Rattle.std.specs.Prelude.{◌≡◌, ◌&&◌, ◌||◌, if◌then◌else◌, not};
+ghost use Rattle.cluster_types.specs.CellStates.{begins_sending_to};
+ghost use Rattle.cluster_types.specs.May.{closes, closes_promoted, opens, opens_promoted};
 ghost use Rattle.state_unpack.specs.Facts as spec;
 
 use crate::opening::{closes, opens};
@@ -69,6 +71,53 @@ fn running_after(
     after
 }
 
+/// Whether an outcome is in force after one more event, which is an outcome or isn't.
+fn seen_after(seen: bool, is_new: bool, is_outcome: bool) -> bool
+    ensures { result ≡ (not is_new && (seen || is_outcome)) }
+{
+    !is_new && (seen || is_outcome)
+}
+
+/// Whether a migration to the cell began after the last outcome, with one more event, which is an outcome or isn't.
+fn awaited_after(awaited: bool, leaf: LeafId, node: NodeId, event: Event, is_outcome: bool) -> bool
+    ensures { result ≡ (not is_outcome && (awaited || begins_sending_to leaf node event)) }
+{
+    !is_outcome && (awaited || begins_sending_to(leaf, node, event))
+}
+
+/// Whether the leaf may run there after one more event.
+fn may_after(cluster: &Cluster, leaf: LeafId, node: NodeId, event: Event, may: bool) -> bool
+    ensures { result ≡ (opens cluster.now leaf node event || may && not (closes cluster.now leaf node event)) }
+{
+    opens(cluster, leaf, node, event) || may && !closes(cluster, leaf, node, event)
+}
+
+/// Whether it may be promoted there after one more event, if it ever may.
+fn promoted_after(
+    cluster: &Cluster,
+    leaf: LeafId,
+    node: NodeId,
+    event: Event,
+    promoted: bool,
+) -> bool
+    ensures { result ≡ (opens_promoted cluster.now leaf node event || promoted && not (closes_promoted cluster.now leaf node event)) }
+{
+    opens_promoted(cluster, leaf, node, event)
+        || promoted && !closes_promoted(cluster, leaf, node, event)
+}
+
+/// Whether it is left open what runs there after one more event, which is an outcome or isn't.
+fn left_after(left: bool, is_new: bool, is_outcome: bool, event: Event) -> bool
+    ensures { result ≡ (not is_new && (if is_outcome then spec.leaves_open event else left)) }
+{
+    !is_new
+        && if is_outcome {
+            is_failure(event) || is_sent_away(event)
+        } else {
+            left
+        }
+}
+
 impl Facts {
     /// What no event tells.
     pub fn none() -> Facts
@@ -91,16 +140,13 @@ impl Facts {
     {
         let is_new = event.is_reset(leaf, node);
         let is_outcome = is_outcome(cluster, leaf, node, event);
-        let leaves_open = is_failure(event) || is_sent_away(event);
         Facts {
             tally: self.tally.after(cluster, leaf, node, event),
-            seen: !is_new && (self.seen || is_outcome),
-            left: !is_new && if is_outcome { leaves_open } else { self.left },
-            awaited: !is_outcome && (self.awaited || begins_sending_to(leaf, node, event)),
-            may: opens(cluster, leaf, node, event)
-                || self.may && !closes(cluster, leaf, node, event),
-            promoted: opens_promoted(cluster, leaf, node, event)
-                || self.promoted && !closes_promoted(cluster, leaf, node, event),
+            seen: seen_after(self.seen, is_new, is_outcome),
+            left: left_after(self.left, is_new, is_outcome, event),
+            awaited: awaited_after(self.awaited, leaf, node, event, is_outcome),
+            may: may_after(cluster, leaf, node, event, self.may),
+            promoted: promoted_after(cluster, leaf, node, event, self.promoted),
             running: running_after(cluster, leaf, node, self.running, event),
         }
     }

@@ -1,4 +1,4 @@
-use Rattle.std.proofs.Common.{arith, ◌∙◌, ◌++◌, [], ap, map}
+use Rattle.std.proofs.Common.{arith, [], ap, map}
 use Rattle.std.specs.List.{range_with_len}
 use Rattle.cluster_types.specs.declared.states.States.{States}
 use Rattle.action_build.specs.Knowing as knowing
@@ -8,11 +8,10 @@ use Rattle.action_build.proofs.knowing.cell_needs.Goals as goal
 
 pub loop-leaf-preserved : goal.loop-leaf-preserved
 loop-leaf-preserved c =
-    let row = c.as_slice-in-loop-leaf.ensures.value ∙ (rw c.as_slice.ensures at c.in_ok-row.ensures) in
     values_more
     (λ r. map (knowing.need_by c.args.states.now.cells c.args.placed.now.pins c.args.placed.now.table c.args.may_start c.len-nodes.result r)
     (range_with_len 0 c.len-nodes.result))
-    c.loop-leaf.leaf [] _ _ c.loop-leaf.invariant (c.in_ok-extend_from_slice.ensures.items ∙ ap (λ xs. c.loop-leaf.needs.items ++ xs) row)
+    c.loop-leaf.leaf [] _ _ c.loop-leaf.invariant (rw c.as_slice.ensures at c.in_ok-push_row.ensures)
 
 pub returns : goal.returns
 returns c = λ events promotions told pins allowed.

@@ -1,33 +1,18 @@
-use Rattle.std.proofs.Common.{rules, ◌≡◌, ◌++◌, ℕ, ℤ, List, ap, sym, subst, ◌∙◌, length, map}
-use Rattle.std.specs.List.{flat_map, range_with_len}
+use Rattle.std.proofs.Common.{rules, ◌++◌, ℕ, ℤ, List, ap, sym, subst, ◌∙◌, length, map}
+use Rattle.std.specs.List.{range_with_len}
 use Rattle.lemmas.proofs.Ranges.{flat_map-more}
-use Rattle.score_table.specs.Promotions.{AreSaid, wished_by}
-use Rattle.score_table.specs.Rows.{IsRow}
+use Rattle.score_table.specs.Promotions.{AreSaid}
 use Rattle.score_table.specs.Scores.{promote_by}
-use Rattle.score_table.proofs.TermRows.{row-length}
 use Rattle.score_table.proofs.table.promote_totals.Goals as goal
 
-pub totals_of-requires : goal.totals_of-requires
-totals_of-requires c =
-    let cluster = c.args.cluster.now in
-    let states = c.args.states.now in
-    let terms : ℕ → List ℤ = wished_by cluster states.moment states.promotions c.loop-leaf.leaf in
-    let made : IsRow (length cluster.nodes) terms c.in_ok-row.row = (let said : AreSaid cluster states.promotions c.in_ok-said.said.items = search rules in
-    c.in_ok-row.ensures states.promotions (subst (AreSaid cluster states.promotions) (sym c.deref.ensures.value) said)) in
-    row-length (length cluster.nodes) terms c.in_ok-row.row made ∙ sym c.len-in-loop-leaf.ensures
+pub push_promotes-requires-clause-said : goal.push_promotes-requires-clause-said
+push_promotes-requires-clause-said c =
+    let said : AreSaid c.args.cluster.now c.args.states.now.promotions c.in_ok-said.said.items = search rules in
+    subst (AreSaid c.args.cluster.now c.args.states.now.promotions) (sym c.deref.ensures.value) said
 
 pub loop-leaf-preserved : goal.loop-leaf-preserved
 loop-leaf-preserved c =
     let l = c.loop-leaf in
     let cluster = c.args.cluster.now in
-    let states = c.args.states.now in
-    let terms : ℕ → List ℤ = wished_by cluster states.moment states.promotions c.loop-leaf.leaf in
-    let made : IsRow (length cluster.nodes) terms c.in_ok-row.row = (let said : AreSaid cluster states.promotions c.in_ok-said.said.items = search rules in
-    c.in_ok-row.ensures states.promotions (subst (AreSaid cluster states.promotions) (sym c.deref.ensures.value) said)) in
-    let of_leaf = c.in_ok-of_leaf.of_leaf.items in
-    let row : ℕ → List ℤ = λ r. map (promote_by cluster states r) (range_with_len 0 (length cluster.nodes)) in
-    let is : of_leaf ≡ row l.leaf =
-    c.in_ok-of_leaf.ensures.totals terms (subst (λ k. IsRow k terms c.in_ok-row.row) (sym c.len-in-loop-leaf.ensures) made)
-    ∙ ap (λ k. map (promote_by cluster states l.leaf) (range_with_len 0 k)) c.len-in-loop-leaf.ensures in
-    let more : c.extend_from_slice.new.self.items ≡ l.all.items ++ of_leaf = search rules in
-    more ∙ (ap (λ xs. xs ++ of_leaf) l.invariant ∙ (ap (λ xs. flat_map row (range_with_len 0 l.leaf) ++ xs) is ∙ sym (flat_map-more row l.leaf)))
+    let row : ℕ → List ℤ = λ r. map (promote_by cluster c.args.states.now r) (range_with_len 0 (length cluster.nodes)) in
+    c.in_ok-push_promotes.ensures ∙ (ap (λ xs. xs ++ row l.leaf) l.invariant ∙ sym (flat_map-more row l.leaf))

@@ -1,4 +1,6 @@
-use Rattle.std.proofs.Common.{rules, ◌≡◌, ℕ, List, length, map, sym, subst}
+use Rattle.std.proofs.Common.{rules, ◌≡◌, ℕ, List, Result, Ok, Err, IfOk, OnOk, length, map, sym, subst}
+use Rattle.std.proofs.lemmas.Result.{on_ok_weaker}
+use Rattle.carry.specs.Carry.{IsDone}
 use Rattle.loops.specs.Loops.{HasNoLoop}
 use Rattle.std.specs.List.Sorted.{IsPermutation}
 use Rattle.score_table.specs.declared.ties.Tie.{Tie}
@@ -7,8 +9,12 @@ use Rattle.score_table.specs.TieOrder.{AreInOrder, EndAtLeaves, edge_of}
 use Rattle.score_table.proofs.TieSides.{end-at-leaves, in-any-order}
 use Rattle.score_table.proofs.ties.ties_of.Goals as goal
 
-pub put_in_order-requires-clause-within : goal.put_in_order-requires-clause-within
-put_in_order-requires-clause-within c =
+when_done : {A E : Type 0} (P : A → Type 0) (value : A) (step : Result (Unit {0}) E) (made : Result A E) → OnOk step (P value) → IsDone value step made → IfOk made P
+when_done P value step (Ok same) holds is = subst P (sym is.0) (subst (λ s. OnOk s (P value)) is.1 holds)
+when_done P value step (Err error) holds is = tt
+
+pub put_in_order-ordering-requires-clause-within : goal.put_in_order-ordering-requires-clause-within
+put_in_order-ordering-requires-clause-within c =
     let listed : c.in_ok-ties.ties.items ≡ spec.ties_of c.args.cluster.now = search rules in
     subst (λ (n : ℕ). EndAtLeaves n c.in_ok-ties.ties.items) (sym c.len.ensures)
     (subst (EndAtLeaves (length c.args.cluster.now.leaves)) (sym listed) (end-at-leaves c.args.cluster.now c.requires))
@@ -16,12 +22,17 @@ put_in_order-requires-clause-within c =
 pub returns-clause-ties : goal.returns-clause-ties
 returns-clause-ties c =
     let listed : c.in_ok-ties.ties.items ≡ spec.ties_of c.args.cluster.now = search rules in
-    let same : IsPermutation c.in_ok-ties.ties.items c.put_in_order.new.ties.items = search rules in
-    in-any-order c.args.cluster.now c.put_in_order.new.ties.items (subst (λ (ts : List Tie). IsPermutation ts c.put_in_order.new.ties.items) listed same)
+    when_done (λ ts. spec.AreTies c.args.cluster.now ts.items) c.put_in_order-ordering.new.ties c.put_in_order-ordering.result c.done.result
+    (on_ok_weaker c.put_in_order-ordering.result
+    (λ same. in-any-order c.args.cluster.now c.put_in_order-ordering.new.ties.items
+    (subst (λ (ts : List Tie). IsPermutation ts c.put_in_order-ordering.new.ties.items) listed same)) c.put_in_order-ordering.ensures.same) c.done.ensures
 
 pub returns-clause-ordered : goal.returns-clause-ordered
-returns-clause-ordered c = λ free.
+returns-clause-ordered c =
     let listed : c.in_ok-ties.ties.items ≡ spec.ties_of c.args.cluster.now = search rules in
-    let ordered : HasNoLoop c.len.result (map edge_of c.in_ok-ties.ties.items) → AreInOrder c.put_in_order.new.ties.items = search rules in
-    ordered (subst (λ (n : ℕ). HasNoLoop n (map edge_of c.in_ok-ties.ties.items)) (sym c.len.ensures)
-    (subst (λ (ts : List Tie). HasNoLoop (length c.args.cluster.now.leaves) (map edge_of ts)) (sym listed) free))
+    when_done (λ ts. HasNoLoop (length c.args.cluster.now.leaves) (map edge_of (spec.ties_of c.args.cluster.now)) → AreInOrder ts.items)
+    c.put_in_order-ordering.new.ties c.put_in_order-ordering.result c.done.result
+    (on_ok_weaker c.put_in_order-ordering.result
+    (λ ordered free. ordered (subst (λ (n : ℕ). HasNoLoop n (map edge_of c.in_ok-ties.ties.items)) (sym c.len.ensures)
+    (subst (λ (ts : List Tie). HasNoLoop (length c.args.cluster.now.leaves) (map edge_of ts)) (sym listed) free))) c.put_in_order-ordering.ensures.ordered)
+    c.done.ensures

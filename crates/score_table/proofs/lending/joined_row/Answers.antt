@@ -2,13 +2,12 @@ use Rattle.std.proofs.Common.{rules, ◌≡◌, ◌∷◌, [], true, false, leng
 use Rattle.std.proofs.lemmas.List.FromFn.{get_or-map-range_with_len}
 use Rattle.cluster_types.specs.Terms.{is_tied}
 use Rattle.score_table.specs.Lending.{joined_below, with_lender_by}
-use Rattle.score_table.specs.Ties.{tied_within}
 use Rattle.score_table.specs.OwnRows.{terms_by, own_by}
 use Rattle.score_table.specs.Rows.{IsRow}
 use Rattle.score_table.proofs.Lenders.{lend-more, lend-skip}
 use Rattle.score_table.proofs.OwnTerms.{few-own, small-own}
 use Rattle.score_table.proofs.TermRows.{row-length, row-room, row-same}
-use Rattle.score_table.proofs.lending.lent_row.Goals as goal
+use Rattle.score_table.proofs.lending.joined_row.Goals as goal
 
 pub copy_of-requires-clause-row : goal.copy_of-requires-clause-row
 copy_of-requires-clause-row c = row-length (length c.args.own.now.cluster.now.nodes) _ c.row.result.now c.row.ensures ∙ sym c.len.ensures
@@ -36,10 +35,9 @@ loop-lender-preserved-then-not-is_marked c =
     let own = c.args.own.now in
     let cluster = own.cluster.now in
     let states = own.states.now in
-    let marks : c.in_ok-marks.marks.items ≡ tied_within cluster (length cluster.leaves) c.args.leaf = search rules in
-    let mark : get_or c.in_ok-marks.marks.items l.lender false ≡ false = search rules in
+    let mark : get_or c.args.marks.now l.lender false ≡ false = search rules in
     let is = get_or-map-range_with_len (λ s. is_tied cluster (length cluster.leaves) s c.args.leaf) 0 (length cluster.leaves) l.lender l.lender false (search rules) (omega arith) in
-    let free : is_tied cluster (length cluster.leaves) l.lender c.args.leaf ≡ false = sym is ∙ (sym (ap (λ m. get_or m l.lender false) marks) ∙ mark) in
+    let free : is_tied cluster (length cluster.leaves) l.lender c.args.leaf ≡ false = sym is ∙ (sym (ap (λ m. get_or m l.lender false) c.requires.marks) ∙ mark) in
     subst (λ js. IsRow (length cluster.nodes) (terms_by cluster states js) l.joined) (sym (lend-skip cluster states c.args.leaf l.lender free)) l.invariant
 
 pub loop-lender-preserved : goal.loop-lender-preserved
@@ -48,10 +46,9 @@ loop-lender-preserved c =
     let own = c.args.own.now in
     let cluster = own.cluster.now in
     let states = own.states.now in
-    let marks : c.in_ok-marks.marks.items ≡ tied_within cluster (length cluster.leaves) c.args.leaf = search rules in
-    let mark : get_or c.in_ok-marks.marks.items l.lender false ≡ true = search rules in
+    let mark : get_or c.args.marks.now l.lender false ≡ true = search rules in
     let is = get_or-map-range_with_len (λ s. is_tied cluster (length cluster.leaves) s c.args.leaf) 0 (length cluster.leaves) l.lender l.lender false (search rules) (omega arith) in
-    let tied : is_tied cluster (length cluster.leaves) l.lender c.args.leaf ≡ true = sym is ∙ (sym (ap (λ m. get_or m l.lender false) marks) ∙ mark) in
+    let tied : is_tied cluster (length cluster.leaves) l.lender c.args.leaf ≡ true = sym is ∙ (sym (ap (λ m. get_or m l.lender false) c.requires.marks) ∙ mark) in
     let js = with_lender_by cluster states (joined_below cluster states c.args.leaf l.lender) l.lender in
     let row : IsRow (length cluster.nodes) (terms_by cluster states js) c.in_ok-joined-2.joined = search rules in
     subst (λ js. IsRow (length cluster.nodes) (terms_by cluster states js) c.in_ok-joined-2.joined) (sym (lend-more cluster states c.args.leaf l.lender tied)) row

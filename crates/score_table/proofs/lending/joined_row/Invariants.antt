@@ -2,7 +2,7 @@ use Rattle.std.proofs.Common.{length}
 use Rattle.score_table.specs.Lending.{joined_below}
 use Rattle.score_table.specs.OwnRows.{terms_by}
 use Rattle.score_table.specs.Rows.{IsRow}
-use Rattle.score_table.proofs.lending.lent_row.Given as goal
+use Rattle.score_table.proofs.lending.joined_row.Given as goal
 
 abbrev pub invariant-loop-lender : goal.invariant-loop-lender
 invariant-loop-lender l =
