@@ -18,16 +18,16 @@ use Rattle.cluster_types.specs.Steps.{is_from_outside}
 use Rattle.graph_exec.specs.Flights.{FlightOf, paired, pairs}
 use Rattle.graph_exec.specs.Saying.{AgreesOn, AgreesSilent}
 use Rattle.number_set.specs.Sets.{members}
-use Rattle.world_state.specs.declared.turn.Fate.{Fate}
-use Rattle.world_state.specs.declared.turn.Turn.{Turn}
-use Rattle.world_state.specs.declared.turn.Turn.TheVariants as turn
-use Rattle.world_state.specs.Kept.{IsOfSame, RealityOf, Shows}
-use Rattle.world_state.specs.Lives.{IsWithin, Lives, begins_here, starts, leaves, joins, ends}
-use Rattle.world_state.specs.Turns.{after_begin, after_end, after_joining, after_leaving, answer_of, is_fault, turn_of, turned}
-use Rattle.world_state.specs.Worlds.{World, first_world, is_cell}
-use Rattle.world_state.proofs.Applying.{ends_apply, joins_apply, leaves_apply}
-use Rattle.world_state.proofs.Counting.{AreNumbers, none_ended, one_joined, one_left}
-use Rattle.world_state.proofs.Within.{always}
+use Rattle.agent_world.specs.declared.turn.Fate.{Fate}
+use Rattle.agent_world.specs.declared.turn.Turn.{Turn}
+use Rattle.agent_world.specs.declared.turn.Turn.TheVariants as turn
+use Rattle.agent_world.specs.Kept.{IsOfSame, RealityOf, Shows}
+use Rattle.agent_world.specs.Lives.{IsWithin, Lives, begins_here, starts, leaves, joins, ends}
+use Rattle.agent_world.specs.Turns.{after_begin, after_end, after_joining, after_leaving, answer_of, is_fault, turn_of, turned}
+use Rattle.agent_world.specs.RealWorlds.{World, first_world, is_cell}
+use Rattle.agent_world.proofs.Applying.{ends_apply, joins_apply, leaves_apply}
+use Rattle.agent_world.proofs.Counting.{AreNumbers, none_ended, one_joined, one_left}
+use Rattle.agent_world.proofs.Within.{always}
 use Rattle.agent_world.specs.Moments.{RunsWithin}
 use Rattle.agent_world.specs.Worlds.{Agrees, IsOfOne, WorldOf}
 

@@ -12,13 +12,13 @@ use Rattle.cluster_types.specs.Journals.{NodeSign, joined, went_down, was_lost, 
 use Rattle.cluster_types.specs.May.{may, may_promoted}
 use Rattle.cluster_types.specs.NodeStates.{state_by}
 use Rattle.cluster_types.proofs.TableCells.{same_place}
-use Rattle.world_state.specs.declared.real.Real.{Real}
-use Rattle.world_state.specs.declared.real.Real.TheVariants as real
-use Rattle.world_state.specs.declared.real.Standing.{Standing}
-use Rattle.world_state.specs.declared.real.Standing.TheVariants as standing
+use Rattle.agent_world.specs.declared.real.Real.{Real}
+use Rattle.agent_world.specs.declared.real.Real.TheVariants as real
+use Rattle.agent_world.specs.declared.real.Standing.{Standing}
+use Rattle.agent_world.specs.declared.real.Standing.TheVariants as standing
 use Rattle.draws.specs.Draws.{state_after}
-use Rattle.world_state.specs.Kept.{Holds, HoldsNodes, Shows, reality}
-use Rattle.world_state.specs.Worlds.{Cells, first_real, first_world, is_rising, standing_by}
+use Rattle.agent_world.specs.Kept.{Holds, HoldsNodes, Shows, reality}
+use Rattle.agent_world.specs.RealWorlds.{Cells, first_real, first_world, is_rising, standing_by}
 use Rattle.agent_world.specs.Firsts.{IsFilled}
 use Rattle.agent_world.proofs.Hearing.{place_within}
 

@@ -17,13 +17,13 @@ use Rattle.cluster_types.specs.Journals.{is_on, moment_of}
 use Rattle.cluster_types.specs.Runs.{Standing, due, RunsOn, plans, goes, completes, aborts, answers, Runs, journal_at}
 use Rattle.cluster_types.specs.Safety.{is_gone}
 use Rattle.cluster_types.specs.Steps.{StepsOn, begins, takes, is_silent, Transition, ended, events_of, flying, journal, resting, silent_code}
-use Rattle.run_laws.specs.Followed.{IsFront}
-use Rattle.run_laws.proofs.Along.{along, journals_grow}
-use Rattle.run_laws.proofs.OneRun.{regroup}
-use Rattle.world_state.specs.Lives.{Lives, begins_here, starts, leaves, joins, ends}
-use Rattle.world_state.specs.Turns.{after_begin, after_end, after_joining, after_leaving, answer_of, turned}
-use Rattle.world_state.specs.Worlds.{World, first_world}
-use Rattle.world_state.proofs.Within.{always}
+use Rattle.run_safety.specs.Followed.{IsFront}
+use Rattle.run_safety.proofs.Along.{along, journals_grow}
+use Rattle.run_safety.proofs.OneRun.{regroup}
+use Rattle.agent_world.specs.Lives.{Lives, begins_here, starts, leaves, joins, ends}
+use Rattle.agent_world.specs.Turns.{after_begin, after_end, after_joining, after_leaving, answer_of, turned}
+use Rattle.agent_world.specs.RealWorlds.{World, first_world}
+use Rattle.agent_world.proofs.Within.{always}
 use Rattle.agent_world.specs.Moments.{IsLivedWithin}
 
 -- the last of some events is the end of an action that is gone with its node

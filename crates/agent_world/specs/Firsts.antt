@@ -4,8 +4,8 @@ use Rattle.std.specs.Prelude.{◌≡◌, ℕ, ◌+◌, ◌*◌, ◌<◌, Bool, i
 use Rattle.cluster_types.specs.declared.cluster.Cluster.{Cluster}
 use Rattle.cluster_types.specs.declared.journal.Event.{Event}
 use Rattle.cluster_types.specs.CellStates.{last_outcome}
-use Rattle.world_state.specs.declared.real.Real.{Real}
-use Rattle.world_state.specs.Worlds.{Cells}
+use Rattle.agent_world.specs.declared.real.Real.{Real}
+use Rattle.agent_world.specs.RealWorlds.{Cells}
 
 -- the list says of each cell whether an outcome of it is in force
 pub record Hears (c : Cluster) (es : List Event) (heard : List Bool) : Type 0 where

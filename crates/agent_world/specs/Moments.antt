@@ -4,8 +4,8 @@ use Rattle.cluster_types.specs.declared.cluster.Cluster.{Cluster}
 use Rattle.cluster_types.specs.declared.journal.Event.{Event}
 use Rattle.cluster_types.specs.Journals.{last_sign}
 use Rattle.cluster_types.specs.May.{may, may_promoted}
-use Rattle.world_state.specs.Lives.{IsWithin, Lives}
-use Rattle.world_state.specs.Worlds.{World, is_cell, is_promoted, is_there, standing_by}
+use Rattle.agent_world.specs.Lives.{IsWithin, Lives}
+use Rattle.agent_world.specs.RealWorlds.{World, is_cell, is_promoted, is_there, standing_by}
 
 -- the simulated cluster of a number, from a first journal on, has come to this journal, and what really runs now may run by it
 pub record IsLivedWithin (c : Cluster) (number : ℕ) (first es : List Event) : Type 0 where

@@ -5,9 +5,9 @@ use Rattle.cluster_types.specs.declared.journal.Event.{Event}
 use Rattle.cluster_types.specs.declared.journal.Promotion.{Promotion}
 use Rattle.cluster_types.specs.declared.run.RunLine.{RunLine}
 use Rattle.cluster_types.specs.Runs.{Standing, Runs, due, journal_at}
-use Rattle.world_state.specs.Kept.{IsOfSame, RealityOf, Shows}
-use Rattle.world_state.specs.Lives.{Lives}
-use Rattle.world_state.specs.Worlds.{World}
+use Rattle.agent_world.specs.Kept.{IsOfSame, RealityOf, Shows}
+use Rattle.agent_world.specs.Lives.{Lives}
+use Rattle.agent_world.specs.RealWorlds.{World}
 
 -- what is kept of the simulated cluster, and how many events the journal had with which it began
 pub record WorldOf : Type 0 where

@@ -7,15 +7,15 @@ ghost use Rattle.cluster_types.specs.Journals.{last_sign, moment_of};
 ghost use Rattle.cluster_types.specs.Valid.{KeepsLimits};
 ghost use Rattle.state_unpack.specs.CellsKept.{has_few_monitors};
 ghost use Rattle.state_unpack.specs.Known.{Knows};
-ghost use Rattle.world_state.specs.Kept.{Holds, HoldsNodes, Shows};
-ghost use Rattle.world_state.specs.Worlds as worlds;
+ghost use Rattle.agent_world.specs.Kept.{Holds, HoldsNodes, Shows};
+ghost use Rattle.agent_world.specs.RealWorlds as worlds;
 ghost use Rattle.agent_world.specs.Firsts.{Hears, IsFilled};
 
 use crate::heard::heard_of;
+use crate::{Real, Reality, Standing};
 use cluster_types::{Cluster, Event, LeafId, NoMemory, NodeId, NodeState, cell_place};
 use state_unpack::Known;
 use std::alloc::{AllocError, Global};
-use world_state::{Real, Reality, Standing};
 
 /// How a node stands: a lost one that isn't off is unclean, and not because a failure wants it fenced, since it hasn't joined.
 fn standing_of(known: &Known<'_>, node: NodeId) -> Standing

@@ -9,9 +9,9 @@ ghost use Rattle.cluster_types.specs.Runs.{Standing, Runs, amid, due, journal_at
 ghost use Rattle.cluster_types.specs.Safety.{IsAtRest};
 ghost use Rattle.cluster_types.specs.Steps.{Transition};
 ghost use Rattle.cluster_types.specs.Valid.{IsValid};
-ghost use Rattle.world_state.specs.Kept.{Shows};
-ghost use Rattle.world_state.specs.Lives.{NoSecondCopyReally};
-ghost use Rattle.world_state.specs.Worlds.{World as WorldAt};
+ghost use Rattle.agent_world.specs.Kept.{Shows};
+ghost use Rattle.agent_world.specs.Lives.{NoSecondCopyReally};
+ghost use Rattle.agent_world.specs.RealWorlds.{World as WorldAt};
 ghost use Rattle.agent_world.specs.Moments.{IsLivedWithin, RunsWithin};
 ghost use Rattle.agent_world.specs.Worlds.{Agrees, IsWorldRun, WorldOf};
 

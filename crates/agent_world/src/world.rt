@@ -5,15 +5,15 @@ ghost use Rattle.cluster_types.specs.Journals.{moment_of};
 ghost use Rattle.cluster_types.specs.Valid.{KeepsLimits};
 ghost use Rattle.state_unpack.specs.CellsKept.{has_few_monitors};
 ghost use Rattle.agent_world.specs.Worlds.{Agrees};
-ghost use Rattle.world_state.specs.Kept.{Shows};
-ghost use Rattle.world_state.specs.Worlds.{World as WorldAt, found_at};
+ghost use Rattle.agent_world.specs.Kept.{Shows};
+ghost use Rattle.agent_world.specs.RealWorlds.{World as WorldAt, found_at};
 
 use crate::first::first_reality;
+use crate::{Real, Reality, Turn};
 use cluster_types::{Action, Cluster, Journal, LeafId, NoMemory, NodeId};
 use graph_exec::{InFlight, Next, Outcomes};
 use std::alloc::Global;
 use std::marker::Model;
-use world_state::{Real, Reality, Turn};
 
 /// A simulated cluster as a source of outcomes: what its nodes and agents do is drawn, by its number. It never fails, and
 /// each of its answers applies.

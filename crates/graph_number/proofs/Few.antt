@@ -28,7 +28,7 @@ use Rattle.order_edges.specs.Places.{is_of_leaf}
 use Rattle.order_edges.specs.Rooms.{IsWithin}
 use Rattle.order_edges.proofs.Counts.{both_counts}
 use Rattle.order_edges.proofs.NeededWithin.{needed_within}
-use Rattle.precedence_laws.proofs.CellSteps.{is_step}
+use Rattle.plan_laws.proofs.CellSteps.{is_step}
 use Rattle.graph_number.specs.Planned.{ArePlanned}
 use Rattle.graph_number.proofs.ActionKinds.{few_apart, kind, node_of, stands_at}
 use Rattle.graph_number.proofs.ToldApart.{told_apart}

@@ -29,8 +29,8 @@ use Rattle.cluster_types.specs.Tables.{Targets, is_somewhere, targets_of}
 use Rattle.cluster_types.specs.Valid.{IsValid}
 use Rattle.cluster_types.proofs.NeededLaws.{bounds_of_start, bounds_of_stop}
 use Rattle.plan_laws.proofs.LawfulTable.{lawful}
-use Rattle.precedence_laws.proofs.CellStates.{says_of}
-use Rattle.precedence_laws.proofs.CellSteps.{is_known, is_step}
+use Rattle.plan_laws.proofs.CellStates.{says_of}
+use Rattle.plan_laws.proofs.CellSteps.{is_known, is_step}
 
 -- a test that passes at most once among the first numbers
 abbrev elsewhere : (ℕ → Bool) → ℕ → ℕ → Bool

@@ -21,11 +21,11 @@ use Rattle.cluster_types.specs.Precedence.{is_migrating}
 use Rattle.cluster_types.specs.Tables.{Targets, targets_of}
 use Rattle.cluster_types.specs.Valid.{IsValid}
 use Rattle.order_edges.specs.Leaves.{leaf_of}
-use Rattle.precedence_laws.proofs.CellSteps.{is_step}
-use Rattle.precedence_laws.proofs.Links.{link_of_leaf}
-use Rattle.precedence_laws.proofs.LowerNumbers.{promotable_target}
-use Rattle.precedence_laws.proofs.NeededActions.{promotable_by_demote, target_by_promote}
-use Rattle.precedence_laws.proofs.Phases.{stop_place}
+use Rattle.plan_laws.proofs.CellSteps.{is_step}
+use Rattle.plan_laws.proofs.Links.{link_of_leaf}
+use Rattle.plan_laws.proofs.LowerNumbers.{promotable_target}
+use Rattle.plan_laws.proofs.NeededActions.{promotable_by_demote, target_by_promote}
+use Rattle.plan_laws.proofs.Phases.{stop_place}
 use Rattle.graph_number.proofs.ActionKinds.{index_by, kind, node_of}
 use Rattle.graph_number.proofs.ToldApart.{told_apart}
 

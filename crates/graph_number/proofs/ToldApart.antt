@@ -20,9 +20,9 @@ use Rattle.cluster_types.specs.Precedence.{is_migrating}
 use Rattle.cluster_types.specs.Tables.{Targets, targets_of}
 use Rattle.cluster_types.specs.Valid.{IsValid}
 use Rattle.order_edges.specs.Leaves.{leaf_of}
-use Rattle.precedence_laws.proofs.CellSteps.{is_step}
-use Rattle.precedence_laws.proofs.NeededActions.{migrating}
-use Rattle.precedence_laws.proofs.Phases.{sent_is_migrating}
+use Rattle.plan_laws.proofs.CellSteps.{is_step}
+use Rattle.plan_laws.proofs.NeededActions.{migrating}
+use Rattle.plan_laws.proofs.Phases.{sent_is_migrating}
 use Rattle.graph_number.proofs.ActionKinds.{few_apart, index_by, kind, node_of, stands_at}
 use Rattle.graph_number.proofs.OneTarget.{one_goal, one_source}
 

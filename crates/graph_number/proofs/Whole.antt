@@ -14,7 +14,7 @@ use Rattle.order_edges.specs.Precede.{AreEdges, graph_by}
 use Rattle.order_edges.specs.Rooms.{IsWithin}
 use Rattle.order_edges.proofs.NeededWithin.{needed_within}
 use Rattle.order_edges.proofs.Upward.{is_graph}
-use Rattle.precedence_laws.proofs.LowerNumbers.{promotable_target}
+use Rattle.plan_laws.proofs.LowerNumbers.{promotable_target}
 use Rattle.graph_number.specs.Planned.{ArePlanned}
 use Rattle.graph_number.proofs.Few.{few_edges}
 use Rattle.graph_number.proofs.Sorted.{numbered_by, planned_still}

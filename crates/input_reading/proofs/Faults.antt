@@ -36,9 +36,9 @@ use Rattle.cluster_types.specs.declared.cluster.Cluster.{Cluster}
 use Rattle.cluster_types.specs.declared.run.RunLine.{RunLine}
 use Rattle.cluster_types.specs.Journals.{moment_of}
 use Rattle.line_words.specs.declared.cause.WordCause.{WordCause}
-use Rattle.run_lines.specs.declared.text.RunTextLine.{RunTextLine}
-use Rattle.run_lines.specs.Reading as runs
-use Rattle.run_lines.specs.Reading.{line_of_words, lines_of, text_line}
+use Rattle.input_reading.specs.declared.text.RunTextLine.{RunTextLine}
+use Rattle.input_reading.specs.RunReading as runs
+use Rattle.input_reading.specs.RunReading.{line_of_words, lines_of, text_line}
 use Rattle.op_history.specs.declared.fault.ResultCause.TheVariants.{TooManyResults}
 use Rattle.op_history.specs.declared.fault.StatusCause.TheVariants.{Repeated}
 use Rattle.op_history.specs.Causes.{result_cause, status_cause}

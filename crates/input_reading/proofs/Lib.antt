@@ -6,3 +6,9 @@ pub mod FewResults
 pub mod ValidInput
 pub mod ValidHead
 pub mod ValidTrace
+pub mod Names
+pub mod Numbers
+pub mod WordsOfLines
+pub mod LinesAgain
+pub mod TextAgain
+pub mod NamedLines

@@ -10,9 +10,9 @@ use Rattle.op_history.proofs.StatusJournals.{journal_idle, journal_orderly}
 use Rattle.faults.specs.declared.fault.Fault.{Fault}
 use Rattle.faults.specs.Reading.{Gives}
 use Rattle.lemmas.proofs.Results.{by_result}
-use Rattle.run_lines.specs.Reading.{lines_of}
-use Rattle.run_lines.specs.Written.{AreNamed}
-use Rattle.run_lines.proofs.NamedLines.{read_named}
+use Rattle.input_reading.specs.RunReading.{lines_of}
+use Rattle.input_reading.specs.Written.{AreNamed}
+use Rattle.input_reading.proofs.NamedLines.{read_named}
 use Rattle.input_reading.specs.declared.cause.InputCause.{InputCause}
 use Rattle.input_reading.specs.declared.cause.InputCause.TheVariants as cause
 use Rattle.input_reading.specs.declared.reading.Configuration.{Configuration}

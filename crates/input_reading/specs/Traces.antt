@@ -5,7 +5,7 @@ use Rattle.faults.specs.declared.fault.Fault.{Fault}
 use Rattle.faults.specs.declared.fault.Fault.TheVariants.{At}
 use Rattle.faults.specs.Reading.{◌>>=◌, faulting}
 use Rattle.crm_lex.specs.declared.line.Line.{Line}
-use Rattle.run_lines.specs.Reading.{lines_of}
+use Rattle.input_reading.specs.RunReading.{lines_of}
 use Rattle.input_reading.specs.declared.cause.InputCause.{InputCause}
 use Rattle.input_reading.specs.declared.cause.InputCause.TheVariants as cause
 use Rattle.input_reading.specs.declared.reading.Head.{Head}

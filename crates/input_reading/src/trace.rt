@@ -8,16 +8,16 @@ ghost use Rattle.faults.specs.Reading.{Gives, faulting};
 ghost use Rattle.input_reading.specs.declared.cause.InputCause.TheVariants as cause;
 ghost use Rattle.input_reading.specs.Reading.{line_behind, most_bytes, with_cluster};
 ghost use Rattle.input_reading.specs.Traces.{trace_of, with_run};
-ghost use Rattle.run_lines.specs.Reading.{lines_of};
-ghost use Rattle.run_lines.specs.Written.{AreNamed};
+ghost use Rattle.input_reading.specs.RunReading.{lines_of};
+ghost use Rattle.input_reading.specs.Written.{AreNamed};
 
 use crate::cause::InputCause;
 use crate::fault::InputFault;
 use crate::reading::{Configuration, Head, cluster_in, configuration_of, head_of};
 use crate::sections::{LastSection, lines_after};
+use crate::{RunText, read_run};
 use cluster_types::Cluster;
 use crm_lex::Line;
-use run_lines::{RunText, read_run};
 use std::alloc::Global;
 
 /// What an input with a trace says: its head, and the lines of a written run.

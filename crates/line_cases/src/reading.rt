@@ -5,8 +5,8 @@ ghost use Rattle.cluster_types.specs.Valid.{KeepsLimits};
 use crate::plain::{CONFIGURATION, cluster_of};
 use cluster_types::{Action, Answer, Cluster, NoReason, Op, Pin, Role, RunLine, Target};
 use crm_lex::{Line, Name, logical_lines};
+use input_reading::{RunText, TraceFault, read_run};
 use line_words::WordCause;
-use run_lines::{RunText, TraceFault, read_run};
 use std::alloc::Global;
 use std::process::Abort;
 

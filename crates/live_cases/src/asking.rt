@@ -5,7 +5,7 @@ use cluster_io::{LineReader, MemorySource};
 use cluster_types::Answer;
 use crm_lex::LexCause;
 use graph_exec::Next;
-use live_lines::{LineCause, LineOutcomes, LineStop};
+use live_run::{LineCause, LineOutcomes, LineStop};
 use op_history::ResultCause;
 use std::test::Fail;
 
@@ -137,7 +137,7 @@ const ROWS: [Row; 8] = [
 ];
 
 #[test]
-#[tactic(auto, using(live_lines::proofs::Readers::fresh_reader))]
+#[tactic(auto, using(live_run::proofs::Readers::fresh_reader))]
 fn each_question_brings_the_next_answer(rt: HostRuntime) -> Result<(), Fail> {
     let alloc = rt.alloc();
     for row in &ROWS {

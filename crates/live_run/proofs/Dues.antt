@@ -12,22 +12,22 @@ use Rattle.cluster_types.specs.declared.run.RunLine.TheVariants as line
 use Rattle.cluster_types.specs.Runs.{Standing, due, amid, idle, RunsOn, plans, goes, completes, aborts, answers, Runs, IsAsking, IsCutRun, IsRunSoFar, IsWholeRun}
 use Rattle.cluster_types.specs.Sources.{Says}
 use Rattle.cluster_types.specs.Texts.{run_line}
-use Rattle.live_lines.specs.Coming.{Coming}
-use Rattle.live_lines.specs.Courses.{answers_of}
-use Rattle.live_lines.specs.Writing.{refusal_text}
-use Rattle.live_lines.specs.declared.line_stop.LineCause.{LineCause}
-use Rattle.live_lines.specs.declared.line_stop.LineStop.{LineStop}
-use Rattle.live_lines.specs.declared.line_stop.LineStop.TheVariants as why
+use Rattle.live_run.specs.Coming.{Coming}
+use Rattle.live_run.specs.Courses.{answers_of}
+use Rattle.live_run.specs.Writing.{refusal_text}
+use Rattle.live_run.specs.declared.line_stop.LineCause.{LineCause}
+use Rattle.live_run.specs.declared.line_stop.LineStop.{LineStop}
+use Rattle.live_run.specs.declared.line_stop.LineStop.TheVariants as why
 use Rattle.live_run.specs.Ends.{AsksForMore, Gets, IsCut, IsWhole, run_text}
 use Rattle.live_run.specs.declared.live_end.LiveEnd.{LiveEnd}
 use Rattle.live_run.specs.declared.live_end.LiveEnd.TheVariants as end
 use Rattle.op_history.specs.declared.results.ResultLine.{ResultLine}
-use Rattle.run_laws.specs.Followed.{IsFront}
-use Rattle.run_laws.proofs.Beginnings.{begins_cut, begins_whole}
-use Rattle.run_laws.proofs.OneEnd.{before_stuck, cut_one, whole_one, whole_or_cut}
-use Rattle.run_laws.proofs.OneStep.{ended_waits}
-use Rattle.run_laws.proofs.Planned.{plans_one}
-use Rattle.run_laws.proofs.SoFar.{so_far_one, so_far_or_cut, step_asks, nothing_said}
+use Rattle.run_safety.specs.Followed.{IsFront}
+use Rattle.run_safety.proofs.Beginnings.{begins_cut, begins_whole}
+use Rattle.run_safety.proofs.OneEnd.{before_stuck, cut_one, whole_one, whole_or_cut}
+use Rattle.run_safety.proofs.OneStep.{ended_waits}
+use Rattle.run_safety.proofs.PlansAreOne.{plans_one}
+use Rattle.run_safety.proofs.SoFar.{so_far_one, so_far_or_cut, step_asks, nothing_said}
 
 abbrev answer_in : ResultLine → Answer
 answer_in r = r.answer

@@ -20,17 +20,17 @@ use Rattle.cluster_types.specs.Sources.{told}
 use Rattle.cluster_types.specs.Steps.{begins}
 use Rattle.cluster_types.specs.Texts.{run_line}
 use Rattle.crm_lex.specs.RawLines.{raw_lines}
-use Rattle.live_lines.specs.Coming.{Coming, coming, no_more}
-use Rattle.live_lines.specs.Courses.{Standing, answers_of, in_course, rest_of, starting, stop_of, to_come, told_by, whole_of, why_stopped}
-use Rattle.live_lines.specs.Followed.{AreNear, EndsInOne, Follows, HasAnswered, HasBroken, HasFailed, HasStopped, RestsBehind, StandFirst, View, answers, by_line, by_source, bytes_of, last_line, results_first, said_by, stays}
-use Rattle.live_lines.specs.Saying.{is_last}
-use Rattle.live_lines.specs.Writing.{refusal_text}
+use Rattle.live_run.specs.Coming.{Coming, coming, no_more}
+use Rattle.live_run.specs.Courses.{Standing, answers_of, in_course, rest_of, starting, stop_of, to_come, told_by, whole_of, why_stopped}
+use Rattle.live_run.specs.Followed.{AreNear, EndsInOne, Follows, HasAnswered, HasBroken, HasFailed, HasStopped, RestsBehind, StandFirst, View, answers, by_line, by_source, bytes_of, last_line, results_first, said_by, stays}
+use Rattle.live_run.specs.Saying.{is_last}
+use Rattle.live_run.specs.Writing.{refusal_text}
 use Rattle.cluster_io.specs.declared.sink.WriteFault.{WriteFault}
-use Rattle.live_lines.proofs.Written.{prefix_first, prefix_then}
-use Rattle.live_lines.specs.declared.course.Course.{Course}
-use Rattle.live_lines.specs.declared.course.Course.TheVariants as course
-use Rattle.live_lines.specs.declared.line_stop.LineStop.{LineStop}
-use Rattle.live_lines.specs.declared.line_stop.LineStop.TheVariants as why
+use Rattle.live_run.proofs.Written.{prefix_first, prefix_then}
+use Rattle.live_run.specs.declared.course.Course.{Course}
+use Rattle.live_run.specs.declared.course.Course.TheVariants as course
+use Rattle.live_run.specs.declared.line_stop.LineStop.{LineStop}
+use Rattle.live_run.specs.declared.line_stop.LineStop.TheVariants as why
 use Rattle.live_run.specs.Ends.{AsksForMore, Gets, IsCut, IsDue, IsWhole, run_text}
 use Rattle.live_run.specs.Reached.{AskedFor, AskedForAll, EndsCut, EndsLines, IsBrokenOff, Reaches, of_cut, of_refusal, of_run, results_behind}
 use Rattle.live_run.specs.declared.live_end.LiveEnd.{LiveEnd}
@@ -40,12 +40,12 @@ use Rattle.live_run.proofs.Dues.{begins_due, one_end}
 use Rattle.op_history.specs.declared.results.ResultLine.{ResultLine}
 use Rattle.replan.specs.Replays.{IsBetweenTwo, IsStopped, setting, sight}
 use Rattle.replan.specs.Replays as replays
-use Rattle.run_laws.specs.Followed.{IsFront}
-use Rattle.run_laws.proofs.Between.{ends_between}
-use Rattle.run_laws.proofs.Counted.{never_most}
-use Rattle.live_lines.proofs.Few.{few_results}
-use Rattle.run_laws.proofs.Silent.{not_over}
-use Rattle.run_laws.proofs.SoFar.{runs_more}
+use Rattle.run_safety.specs.Followed.{IsFront}
+use Rattle.run_safety.proofs.Between.{ends_between}
+use Rattle.run_safety.proofs.Counted.{never_most}
+use Rattle.live_run.proofs.Few.{few_results}
+use Rattle.run_safety.proofs.Silent.{not_over}
+use Rattle.run_safety.proofs.SoFar.{runs_more}
 
 -- all of a text is a front of it
 whole_prefix : (text : List ℕ) (old new : Option (List ℕ)) → Adds old text new → AddsPrefix text old new

@@ -10,11 +10,11 @@ use Rattle.cluster_types.specs.declared.run.RunLine.{RunLine}
 use Rattle.cluster_types.specs.declared.run.RunLine.TheVariants as line
 use Rattle.cluster_types.specs.Runs.{IsCutRun, IsRunSoFar, IsWholeRun}
 use Rattle.cluster_types.specs.Texts.{run_line}
-use Rattle.live_lines.specs.Coming.{Coming}
-use Rattle.live_lines.specs.Courses.{answers_of}
-use Rattle.live_lines.specs.declared.line_stop.LineCause.{LineCause}
-use Rattle.live_lines.specs.declared.line_stop.LineStop.TheVariants as why
-use Rattle.live_lines.specs.Writing.{refusal_text}
+use Rattle.live_run.specs.Coming.{Coming}
+use Rattle.live_run.specs.Courses.{answers_of}
+use Rattle.live_run.specs.declared.line_stop.LineCause.{LineCause}
+use Rattle.live_run.specs.declared.line_stop.LineStop.TheVariants as why
+use Rattle.live_run.specs.Writing.{refusal_text}
 use Rattle.op_history.specs.declared.results.ResultLine.{ResultLine}
 use Rattle.live_run.specs.declared.live_end.LiveEnd.{LiveEnd}
 use Rattle.live_run.specs.declared.live_end.LiveEnd.TheVariants.{Done, Unexpected, Refused, TooLarge}

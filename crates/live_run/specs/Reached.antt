@@ -13,15 +13,15 @@ use Rattle.cluster_types.specs.Journals.{moment_of}
 use Rattle.cluster_types.specs.Runs.{Standing, due, Runs, IsBetween, IsRunSoFar, IsStoppedRun}
 use Rattle.cluster_types.specs.Texts.{run_line}
 use Rattle.crm_lex.specs.RawLines.{raw_lines}
-use Rattle.live_lines.specs.Coming.{Coming, Lines, coming_of}
-use Rattle.live_lines.specs.Courses.{answers_of, starting}
-use Rattle.live_lines.specs.Followed.{AreNear, EndsInOne, StandFirst, bytes_of, said_by}
-use Rattle.live_lines.specs.declared.line_stop.LineCause.{LineCause}
-use Rattle.live_lines.specs.declared.line_stop.LineStop.{LineStop}
-use Rattle.live_lines.specs.declared.line_stop.LineStop.TheVariants as why
+use Rattle.live_run.specs.Coming.{Coming, Lines, coming_of}
+use Rattle.live_run.specs.Courses.{answers_of, starting}
+use Rattle.live_run.specs.Followed.{AreNear, EndsInOne, StandFirst, bytes_of, said_by}
+use Rattle.live_run.specs.declared.line_stop.LineCause.{LineCause}
+use Rattle.live_run.specs.declared.line_stop.LineStop.{LineStop}
+use Rattle.live_run.specs.declared.line_stop.LineStop.TheVariants as why
 use Rattle.op_history.specs.declared.results.ResultLine.{ResultLine}
-use Rattle.run_laws.specs.Followed.{EndsBetween}
-use Rattle.live_lines.specs.Writing.{refusal_text}
+use Rattle.run_safety.specs.Followed.{EndsBetween}
+use Rattle.live_run.specs.Writing.{refusal_text}
 use Rattle.live_run.specs.Ends.{AsksForMore, Gets, IsCut, run_text}
 use Rattle.live_run.specs.declared.live_end.LiveEnd.{LiveEnd}
 use Rattle.live_run.specs.declared.live_end.LiveEnd.TheVariants as end

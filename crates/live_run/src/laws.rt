@@ -6,11 +6,11 @@ ghost use Rattle.cluster_types.specs.declared.journal.Answer.{Answer as AnswerOf
 ghost use Rattle.cluster_types.specs.declared.journal.Journal.{Journal as JournalOf};
 ghost use Rattle.cluster_types.specs.declared.run.RunLine.{RunLine as LineOf};
 ghost use Rattle.cluster_types.specs.Runs.{Standing, due, Runs};
-ghost use Rattle.live_lines.specs.Coming.{Coming};
-ghost use Rattle.live_lines.specs.Courses.{answers_of};
+ghost use Rattle.live_run.specs.Coming.{Coming};
+ghost use Rattle.live_run.specs.Courses.{answers_of};
 ghost use Rattle.live_run.specs.declared.live_end.LiveEnd.{LiveEnd as LiveEndOf};
 ghost use Rattle.live_run.specs.Ends.{Gets, run_text};
-ghost use Rattle.run_laws.specs.Followed.{IsFront};
+ghost use Rattle.run_safety.specs.Followed.{IsFront};
 
 /// A run gets one end and one text.
 pub fn ends_are_one()

@@ -7,18 +7,18 @@ ghost use Rattle.cluster_types.specs.Journals.{moment_of};
 ghost use Rattle.cluster_types.specs.Safety.{IsAtRest};
 ghost use Rattle.cluster_types.specs.Texts.{run_line};
 ghost use Rattle.cluster_types.specs.Valid.{IsValid};
-ghost use Rattle.live_lines.specs.Courses.{starting, stop_of};
-ghost use Rattle.live_lines.specs.LineSources.{loan_in, source_in, standing_of};
+ghost use Rattle.live_run.specs.Courses.{starting, stop_of};
+ghost use Rattle.live_run.specs.LineSources.{loan_in, source_in, standing_of};
 ghost use Rattle.live_run.specs.declared.live_end.LiveEnd.{LiveEnd as LiveEndOf};
 ghost use Rattle.live_run.specs.Ends.{IsDue};
-ghost use Rattle.live_lines.specs.LineWriters.{cluster_of, loan_of, sink_of};
-ghost use Rattle.live_lines.specs.Writing.{IsSameSink};
+ghost use Rattle.live_run.specs.LineWriters.{cluster_of, loan_of, sink_of};
+ghost use Rattle.live_run.specs.Writing.{IsSameSink};
 ghost use Rattle.live_run.specs.Reached.{EndsCut, EndsLines, Reaches, results_behind};
 
 use crate::live_end::LiveEnd;
+use crate::{LineOutcomes, LineStop, LineWriter};
 use cluster_io::{Sink, Source};
 use cluster_types::{Cluster, Journal};
-use live_lines::{LineOutcomes, LineStop, LineWriter};
 use replan::{ReplayStop, replay_watched};
 use std::alloc::Global;
 

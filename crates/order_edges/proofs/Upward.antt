@@ -16,7 +16,7 @@ use Rattle.cluster_types.specs.Numbers.{AreNumbered, is_earlier, place_of}
 use Rattle.cluster_types.specs.Tables.{Targets, holds_role}
 use Rattle.cluster_types.specs.Valid.{IsValid}
 use Rattle.cluster_types.proofs.NumberLaws.{not_both}
-use Rattle.precedence_laws.proofs.Upward.{pairs_upward}
+use Rattle.plan_laws.proofs.Upward.{pairs_upward}
 use Rattle.order_edges.specs.Precede.{AreEdges, graph_by}
 
 module _ (c : Cluster) (es : List Event) (targets : Targets) (actions : List Action) (edges : Edges) (valid : IsValid c)

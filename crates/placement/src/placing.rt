@@ -11,11 +11,9 @@ ghost use Rattle.cluster_types.specs.Valid.{IsValid};
 ghost use Rattle.placement.specs.Chosen.{AreChosen};
 ghost use Rattle.score_table.specs.Scores.{scores_of};
 
+use crate::{Choices, decide_all, decisions_in_order, pinned_table, pins, reasons, targets};
 use carry::with;
 use cluster_types::{Cluster, NoMemory, Pin, Placed, States};
-use decision_order::{decisions_in_order, pinned_table, pins};
-use held_cells::{reasons, targets};
-use node_choice::{Choices, decide_all};
 use score_table::{ScoreTable, rows};
 use std::alloc::Global;
 

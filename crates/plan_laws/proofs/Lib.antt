@@ -40,3 +40,16 @@ pub mod SomeReason
 pub mod SomePlacement
 pub mod Lenders
 pub mod FewTerms
+pub mod CellStates
+pub mod CellSteps
+pub mod NeededActions
+pub mod Words
+pub mod Roles
+pub mod Phases
+pub mod Links
+pub mod OrderWords
+pub mod OrderPairs
+pub mod Separations
+pub mod CellPairs
+pub mod Upward
+pub mod LowerNumbers

@@ -20,7 +20,7 @@ use Rattle.graph_exec.specs.Transitions.{IsAborted, IsComplete, IsCutBy, WentAsS
 use Rattle.graph_exec.specs.Watching.{IsCutOff, IsTold}
 use Rattle.graph_exec.proofs.Beginning.{found_so}
 use Rattle.graph_exec.proofs.Said.{taken_none}
-use Rattle.run_laws.proofs.SoFar.{runs_once}
+use Rattle.run_safety.proofs.SoFar.{runs_once}
 use Rattle.replan.specs.Replays.{Setting, setting, sight}
 use Rattle.replan.specs.Turns.{Came, CameTo, EndsBroken, EndsCut, EndsStopped, closed_at, known_of, left_of}
 use Rattle.replan.proofs.Joined.{came_on, came_step}

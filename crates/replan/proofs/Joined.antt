@@ -11,7 +11,7 @@ use Rattle.cluster_types.specs.Runs.{Standing, IsBetween, Runs, RunsOn, here}
 use Rattle.graph_exec.specs.Telling.{text_of}
 use Rattle.graph_exec.proofs.Said.{taken_none, taken_then}
 use Rattle.graph_exec.proofs.Told.{adds_nothing, text-append}
-use Rattle.run_laws.proofs.SoFar.{runs_joined, runs_once}
+use Rattle.run_safety.proofs.SoFar.{runs_joined, runs_once}
 use Rattle.replan.specs.declared.stop.ReplayStop.{ReplayStop}
 use Rattle.replan.specs.declared.stop.ReplayStop.TheVariants as stop
 use Rattle.replan.specs.Replays.{Setting, Sight}

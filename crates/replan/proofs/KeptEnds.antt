@@ -23,11 +23,11 @@ use Rattle.graph_exec.specs.Resting.{TookResting}
 use Rattle.graph_exec.specs.Saying.{TakesAnswers}
 use Rattle.graph_exec.proofs.Carrying.{rose_since}
 use Rattle.graph_exec.proofs.Said.{taken_one}
-use Rattle.run_laws.specs.Kept.{AreWithin}
-use Rattle.run_laws.proofs.Kept.{between_passed}
-use Rattle.run_laws.proofs.Printed.{answer_line}
-use Rattle.run_laws.proofs.Rests.{at_rest, in_order}
-use Rattle.run_laws.proofs.SoFar.{runs_joined, runs_once}
+use Rattle.run_safety.specs.Kept.{AreWithin}
+use Rattle.run_safety.proofs.Kept.{between_passed}
+use Rattle.run_safety.proofs.Printed.{answer_line}
+use Rattle.run_safety.proofs.Rests.{at_rest, in_order}
+use Rattle.run_safety.proofs.SoFar.{runs_joined, runs_once}
 use Rattle.replan.specs.declared.ending.RunEnd.{RunEnd}
 use Rattle.replan.specs.declared.ending.RunEnd.TheVariants as run
 use Rattle.replan.specs.Keeping.{EndsWithCause, IsUnanswered, Keeps, KeepsEnd, KeepsTo, kept_end, watched_end}

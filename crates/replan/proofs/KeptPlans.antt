@@ -13,9 +13,9 @@ use Rattle.cluster_types.specs.declared.run.PassedEnd.{PassedEnd}
 use Rattle.cluster_types.specs.Plans.{IsPlan, transition_of}
 use Rattle.cluster_types.specs.Steps.{Transition}
 use Rattle.cluster_types.specs.Texts.{between}
-use Rattle.run_laws.specs.Kept.{AreWithin}
-use Rattle.run_laws.proofs.Kept.{between_new, between_same}
-use Rattle.run_laws.proofs.KeptRuns.{fits_more, placed_fits}
+use Rattle.run_safety.specs.Kept.{AreWithin}
+use Rattle.run_safety.proofs.Kept.{between_new, between_same}
+use Rattle.run_safety.proofs.KeptRuns.{fits_more, placed_fits}
 use Rattle.replan.specs.Kept.{IsOfPlan, StandsSo}
 
 pub all_last : {X : Type 0} (P : X → Type 0) (xs : List X) (x : X) → AllByRecursion P xs → P x → AllByRecursion P (xs ++ x ∷ [])

@@ -29,8 +29,8 @@ use Rattle.graph_exec.specs.Running.{Running, Went, going}
 use Rattle.graph_exec.specs.Transitions.{IsAborted, IsComplete, IsCutBy, WentAsSaid, WentTo}
 use Rattle.graph_exec.proofs.Beginning.{found_so}
 use Rattle.graph_exec.proofs.Said.{taken_none}
-use Rattle.run_laws.proofs.Kept.{one_passed_more}
-use Rattle.run_laws.proofs.SoFar.{runs_joined, runs_once}
+use Rattle.run_safety.proofs.Kept.{one_passed_more}
+use Rattle.run_safety.proofs.SoFar.{runs_joined, runs_once}
 use Rattle.replan.specs.declared.ending.RunEnd.{RunEnd}
 use Rattle.replan.specs.declared.idling.Taken.{Taken}
 use Rattle.replan.specs.declared.planning.Planned.{Planned}

@@ -15,7 +15,7 @@ use Rattle.graph_exec.specs.Resting.{IsRefusedResting, TookResting}
 use Rattle.graph_exec.specs.Telling.{text_of}
 use Rattle.graph_exec.proofs.Said.{taken_one}
 use Rattle.graph_exec.proofs.Told.{adds_nothing}
-use Rattle.run_laws.proofs.SoFar.{runs_once}
+use Rattle.run_safety.proofs.SoFar.{runs_once}
 use Rattle.replan.specs.declared.ending.RunEnd.{RunEnd}
 use Rattle.replan.specs.declared.ending.RunEnd.TheVariants as run
 use Rattle.replan.specs.Keeping.{EndsWithCause, HasFailed, IsAnswered, IsRefused, IsSilent, IsUnanswered, watched_end}

@@ -22,8 +22,8 @@ use Rattle.graph_exec.specs.Telling.{plan_lines, text_of}
 use Rattle.graph_exec.specs.Transitions.{WentAsSaid}
 use Rattle.graph_exec.specs.Watching.{IsTold}
 use Rattle.graph_exec.proofs.Said.{goes_more, taken_none}
-use Rattle.run_laws.proofs.OneTransition.{goes_runs}
-use Rattle.run_laws.proofs.SoFar.{runs_once}
+use Rattle.run_safety.proofs.OneTransition.{goes_runs}
+use Rattle.run_safety.proofs.SoFar.{runs_once}
 use Rattle.replan.specs.Replays.{Setting, WritesNamesOf, sight}
 use Rattle.replan.specs.Turns.{Came, IsSaid}
 use Rattle.replan.proofs.Joined.{came_step}

@@ -14,8 +14,8 @@ use Rattle.graph_exec.specs.Logs.{JournalOf}
 use Rattle.graph_exec.specs.Saying.{TakesAnswers}
 use Rattle.graph_exec.proofs.Carrying.{rose_since}
 use Rattle.graph_exec.proofs.Told.{adds_nothing}
-use Rattle.run_laws.proofs.Rests.{at_rest, in_order}
-use Rattle.run_laws.proofs.SoFar.{runs_more}
+use Rattle.run_safety.proofs.Rests.{at_rest, in_order}
+use Rattle.run_safety.proofs.SoFar.{runs_more}
 use Rattle.replan.specs.declared.stop.ReplayStop.{ReplayStop}
 use Rattle.replan.specs.declared.stop.ReplayStop.TheVariants as stop
 use Rattle.replan.specs.Replays.{Setting, Sight, HasCause, IsBetweenTwo, IsKept, IsUpTo, OfJournal, ReplaysAs, setting}

@@ -12,7 +12,7 @@ use Rattle.cluster_types.specs.Safety.{MigratesAlone, MigrationsAlone}
 use Rattle.cluster_types.specs.Steps.{Transition, Begins, Goes, journal}
 use Rattle.cluster_types.specs.Tables.{Targets}
 use Rattle.cluster_types.specs.Valid.{IsValid}
-use Rattle.precedence_laws.proofs.NeededActions.{migrates_by_sent, migrates_by_taken}
+use Rattle.plan_laws.proofs.NeededActions.{migrates_by_sent, migrates_by_taken}
 use Rattle.run_safety.proofs.Begins.{each_begin}
 use Rattle.run_safety.proofs.Calm.{Calm}
 use Rattle.run_safety.proofs.Carried.{Carries, IsSound}

@@ -23,7 +23,7 @@ use Rattle.cluster_types.specs.Safety.{MeetsNot, NoForbiddenNeighbour, may_hold}
 use Rattle.cluster_types.specs.Steps.{Transition, Begins, Goes, journal}
 use Rattle.cluster_types.specs.Tables.{Targets, holds_role, is_promoted_target}
 use Rattle.cluster_types.specs.Valid.{IsValidColocation, MayHaveRole}
-use Rattle.precedence_laws.proofs.CellSteps.{is_known}
+use Rattle.plan_laws.proofs.CellSteps.{is_known}
 use Rattle.run_safety.proofs.Begins.{each_begin}
 use Rattle.run_safety.proofs.Calm.{Calm}
 use Rattle.run_safety.proofs.Carried.{Carries, IsSound}

@@ -22,7 +22,7 @@ use Rattle.cluster_types.specs.Rights.{may_act_by}
 use Rattle.cluster_types.specs.Steps.{Transition, action_at, has_succeeded, journal}
 use Rattle.cluster_types.specs.Tables.{Targets, is_promoted_target}
 use Rattle.cluster_types.proofs.MayLaws.{may-promoted}
-use Rattle.precedence_laws.proofs.CellStates.{says_of, blocked_pins}
+use Rattle.plan_laws.proofs.CellStates.{says_of, blocked_pins}
 use Rattle.run_safety.proofs.Calm.{Calm}
 use Rattle.run_safety.proofs.Carried.{HasNumber, Carries}
 use Rattle.run_safety.proofs.Deciding.{either_way}

@@ -21,8 +21,8 @@ use Rattle.cluster_types.specs.Pins.{is_pinned}
 use Rattle.cluster_types.specs.Rights.{may_act_by}
 use Rattle.cluster_types.specs.Steps.{Transition, action_at, has_succeeded, journal}
 use Rattle.cluster_types.specs.Tables.{Targets, is_somewhere}
-use Rattle.precedence_laws.proofs.CellStates.{says_of, blocked_pins}
-use Rattle.precedence_laws.proofs.CellSteps.{may_be_running, is_promoted_state}
+use Rattle.plan_laws.proofs.CellStates.{says_of, blocked_pins}
+use Rattle.plan_laws.proofs.CellSteps.{may_be_running, is_promoted_state}
 use Rattle.run_safety.proofs.Calm.{Calm}
 use Rattle.run_safety.proofs.Carried.{HasNumber, Carries}
 use Rattle.run_safety.proofs.Effects.{off_begun, off_done, off_waited, off_turned}

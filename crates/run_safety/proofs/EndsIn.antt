@@ -17,7 +17,7 @@ use Rattle.cluster_types.specs.Steps.{Transition, Goes, HasEnded, begins_number,
 use Rattle.cluster_types.specs.Tables.{Targets, is_promoted_target, is_somewhere}
 use Rattle.cluster_types.specs.Valid.{IsValid}
 use Rattle.cluster_types.proofs.SafetyLaws.{eager}
-use Rattle.precedence_laws.proofs.CellStates.{state_by}
+use Rattle.plan_laws.proofs.CellStates.{state_by}
 use Rattle.run_safety.proofs.Calm.{Calm, calm_until}
 use Rattle.run_safety.proofs.Carried.{Carries, IsSound}
 use Rattle.run_safety.proofs.Fenced.{counted, fenced_offline, succeeds_once}

@@ -15,7 +15,7 @@ use Rattle.cluster_types.specs.CellStates.{cell_state}
 use Rattle.cluster_types.specs.Needed.{FirstSet, fence, probe, step, monitor, Needed, kept, sent, taken_in, is_monitor_for}
 use Rattle.cluster_types.specs.Tables.{Targets, is_promoted_target, is_somewhere}
 use Rattle.cluster_types.proofs.TableCells.{promoted_somewhere}
-use Rattle.precedence_laws.proofs.CellSteps.{IsStep, is_step, is_known, is_promoted_state}
+use Rattle.plan_laws.proofs.CellSteps.{IsStep, is_step, is_known, is_promoted_state}
 use Rattle.run_safety.proofs.Touching.{gives_run, gives_promoted}
 use Rattle.run_safety.proofs.Truths.{one_cell}
 

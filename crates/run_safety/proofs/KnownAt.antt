@@ -21,7 +21,7 @@ use Rattle.cluster_types.specs.NodeStates.{is_online, is_to_blame, wants_fence}
 use Rattle.cluster_types.specs.Pins.{is_pinned, is_unprobed_state}
 use Rattle.cluster_types.specs.Steps.{Transition, journal}
 use Rattle.cluster_types.specs.Tables.{Targets}
-use Rattle.precedence_laws.proofs.CellStates.{says_of, blocked_pins}
+use Rattle.plan_laws.proofs.CellStates.{says_of, blocked_pins}
 use Rattle.run_safety.proofs.Calm.{Calm}
 use Rattle.run_safety.proofs.Carried.{HasNumber, Carries}
 use Rattle.run_safety.proofs.Needing.{Done, state, probe_needed}

@@ -20,8 +20,8 @@ use Rattle.cluster_types.specs.Needed.{Migrates, sent}
 use Rattle.cluster_types.specs.Steps.{Transition, journal}
 use Rattle.cluster_types.specs.Tables.{Targets, is_somewhere}
 use Rattle.cluster_types.specs.Valid.{IsValid}
-use Rattle.precedence_laws.proofs.CellStates.{says_of}
-use Rattle.precedence_laws.proofs.CellSteps.{is_promoted_state}
+use Rattle.plan_laws.proofs.CellStates.{says_of}
+use Rattle.plan_laws.proofs.CellSteps.{is_promoted_state}
 use Rattle.run_safety.proofs.Calm.{Calm}
 use Rattle.run_safety.proofs.Carried.{Carries, IsSound}
 use Rattle.run_safety.proofs.Copies.{cap_copies}

@@ -20,8 +20,8 @@ use Rattle.cluster_types.specs.Safety.{may_hold}
 use Rattle.cluster_types.specs.Steps.{Transition, journal, has_succeeded}
 use Rattle.cluster_types.specs.Tables.{Targets, holds_role, is_promoted_target, is_somewhere}
 use Rattle.cluster_types.proofs.MayLaws.{may-promoted}
-use Rattle.precedence_laws.proofs.CellStates.{says_of}
-use Rattle.precedence_laws.proofs.CellSteps.{is_promoted_state, promoted_state}
+use Rattle.plan_laws.proofs.CellStates.{says_of}
+use Rattle.plan_laws.proofs.CellSteps.{is_promoted_state, promoted_state}
 use Rattle.run_safety.proofs.Calm.{Calm}
 use Rattle.run_safety.proofs.Carried.{Carries, IsSound}
 use Rattle.run_safety.proofs.Demoted.{elsewhere_down, demoted_by, stays_down, not_left, not_promoted}

@@ -19,7 +19,7 @@ use Rattle.cluster_types.specs.Pins.{is_unprobed_state}
 use Rattle.cluster_types.specs.Rights.{may_fence}
 use Rattle.cluster_types.specs.Steps.{Transition}
 use Rattle.cluster_types.specs.Tables.{Targets}
-use Rattle.precedence_laws.proofs.CellSteps.{IsStep, is_step, is_known, may_be_running, is_promoted_state}
+use Rattle.plan_laws.proofs.CellSteps.{IsStep, is_step, is_known, may_be_running, is_promoted_state}
 use Rattle.run_safety.proofs.Carried.{Carries, IsSound}
 use Rattle.run_safety.proofs.Givers.{start_step, monitored_somewhere}
 use Rattle.run_safety.proofs.Standing.{KeepsToNodes}

@@ -15,7 +15,7 @@ use Rattle.cluster_types.specs.Pins.{is_pinned}
 use Rattle.cluster_types.specs.Precedence.{CellOf, cell_of, gives_any}
 use Rattle.cluster_types.specs.Tables.{Targets, is_somewhere}
 use Rattle.cluster_types.proofs.TableCells.{promoted_somewhere}
-use Rattle.precedence_laws.proofs.CellSteps.{IsStep, is_step, is_known}
+use Rattle.plan_laws.proofs.CellSteps.{IsStep, is_step, is_known}
 use Rattle.run_safety.proofs.Givers.{start_step}
 
 module _ (c : Cluster) (es : List Event) (targets : Targets) where

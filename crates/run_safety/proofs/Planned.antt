@@ -22,7 +22,7 @@ use Rattle.cluster_types.specs.Valid.{IsValid}
 use Rattle.cluster_types.proofs.NumberLaws.{one_number}
 use Rattle.plan_laws.proofs.LawfulTable.{lawful}
 use Rattle.plan_laws.proofs.NeededTargets.{gives}
-use Rattle.precedence_laws.proofs.LowerNumbers.{lower_number, promotable_target}
+use Rattle.plan_laws.proofs.LowerNumbers.{lower_number, promotable_target}
 use Rattle.run_safety.specs.OfPlans.{IsOfPlan}
 use Rattle.run_safety.proofs.Carried.{HasNumber, Carries, IsSound}
 use Rattle.run_safety.proofs.InFlight.{number_within}

@@ -22,8 +22,8 @@ use Rattle.cluster_types.specs.NodeStates.{is_online}
 use Rattle.cluster_types.specs.Pins.{is_pinned, is_unprobed_state}
 use Rattle.cluster_types.specs.Steps.{Transition, action_at, has_succeeded, journal}
 use Rattle.cluster_types.specs.Tables.{Targets, is_promoted_target}
-use Rattle.precedence_laws.proofs.CellStates.{says_of, blocked_pins}
-use Rattle.precedence_laws.proofs.CellSteps.{is_step}
+use Rattle.plan_laws.proofs.CellStates.{says_of, blocked_pins}
+use Rattle.plan_laws.proofs.CellSteps.{is_step}
 use Rattle.run_safety.proofs.Calm.{Calm}
 use Rattle.run_safety.proofs.Carried.{HasNumber, Carries, IsSound}
 use Rattle.run_safety.proofs.Deciding.{cycled_or_not, either_way}

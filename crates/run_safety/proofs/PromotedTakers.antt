@@ -13,7 +13,7 @@ use Rattle.cluster_types.specs.NodeStates.{is_online}
 use Rattle.cluster_types.specs.Pins.{is_unprobed_state}
 use Rattle.cluster_types.specs.Steps.{Transition, action_at}
 use Rattle.cluster_types.specs.Tables.{Targets}
-use Rattle.precedence_laws.proofs.CellSteps.{is_step}
+use Rattle.plan_laws.proofs.CellSteps.{is_step}
 use Rattle.run_safety.proofs.Carried.{Carries, IsSound}
 use Rattle.run_safety.proofs.Needing.{state, IsNeeded}
 use Rattle.run_safety.proofs.Nodes.{fence_offline}

@@ -19,8 +19,8 @@ use Rattle.cluster_types.specs.Pins.{is_pinned, is_unprobed_state}
 use Rattle.cluster_types.specs.Precedence.{is_same_op}
 use Rattle.cluster_types.specs.Steps.{Transition}
 use Rattle.cluster_types.specs.Tables.{Targets, is_somewhere}
-use Rattle.precedence_laws.proofs.CellStates.{says_of, blocked_pins}
-use Rattle.precedence_laws.proofs.CellSteps.{is_step, may_be_running}
+use Rattle.plan_laws.proofs.CellStates.{says_of, blocked_pins}
+use Rattle.plan_laws.proofs.CellSteps.{is_step, may_be_running}
 use Rattle.run_safety.proofs.Carried.{Carries, IsSound}
 use Rattle.run_safety.proofs.Deciding.{cycled_or_not}
 use Rattle.run_safety.proofs.Needing.{state, IsNeeded, uncycled_idle}

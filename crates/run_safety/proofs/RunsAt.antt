@@ -15,7 +15,7 @@ use Rattle.cluster_types.specs.NodeStates.{is_online}
 use Rattle.cluster_types.specs.Pins.{is_unprobed_state}
 use Rattle.cluster_types.specs.Steps.{Transition, action_at, has_begun, has_succeeded, journal}
 use Rattle.cluster_types.specs.Tables.{Targets, is_somewhere}
-use Rattle.precedence_laws.proofs.CellSteps.{is_step}
+use Rattle.plan_laws.proofs.CellSteps.{is_step}
 use Rattle.run_safety.proofs.Calm.{Calm}
 use Rattle.run_safety.proofs.Carried.{HasNumber, Carries, IsSound}
 use Rattle.run_safety.proofs.Effects.{on_begun, on_done, on_waited, on_turned}

@@ -17,7 +17,7 @@ use Rattle.cluster_types.specs.Steps.{Transition, Goes, HasEnded, flight, has_ab
 use Rattle.cluster_types.specs.Tables.{Targets, targets_of}
 use Rattle.cluster_types.proofs.SafetyLaws.{eager}
 use Rattle.cluster_types.proofs.StepLaws.{begins-its_own, predecessors-first}
-use Rattle.precedence_laws.proofs.NeededActions.{bounds_of_cell}
+use Rattle.plan_laws.proofs.NeededActions.{bounds_of_cell}
 use Rattle.run_safety.specs.OfPlans.{IsOfPlan}
 use Rattle.run_safety.proofs.Alone.{migrations_alone}
 use Rattle.run_safety.proofs.Apart.{no_forbidden_neighbour}

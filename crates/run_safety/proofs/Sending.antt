@@ -20,8 +20,8 @@ use Rattle.cluster_types.specs.Tables.{Targets}
 use Rattle.cluster_types.specs.Valid.{IsValid}
 use Rattle.cluster_types.proofs.NeededLaws.{bounds_of_stop}
 use Rattle.cluster_types.proofs.StepLaws.{not_begun}
-use Rattle.precedence_laws.proofs.CellStates.{says_of}
-use Rattle.precedence_laws.proofs.CellSteps.{IsStep, is_step, is_promoted_state}
+use Rattle.plan_laws.proofs.CellStates.{says_of}
+use Rattle.plan_laws.proofs.CellSteps.{IsStep, is_step, is_promoted_state}
 use Rattle.run_safety.proofs.Calm.{Calm}
 use Rattle.run_safety.proofs.Carried.{HasNumber, Carries, IsSound}
 use Rattle.run_safety.proofs.Effects.{off_begun, off_done, off_waited}

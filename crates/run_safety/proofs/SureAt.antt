@@ -21,7 +21,7 @@ use Rattle.cluster_types.specs.Pins.{is_pinned}
 use Rattle.cluster_types.specs.Steps.{Transition, action_at, has_succeeded, journal}
 use Rattle.cluster_types.specs.Tables.{Targets, is_somewhere}
 use Rattle.cluster_types.specs.Valid.{IsValid}
-use Rattle.precedence_laws.proofs.CellStates.{says_of}
+use Rattle.plan_laws.proofs.CellStates.{says_of}
 use Rattle.run_safety.proofs.Calm.{Calm}
 use Rattle.run_safety.proofs.Carried.{HasNumber, Carries, IsSound}
 use Rattle.run_safety.proofs.Leads.{Must, by_migration}

@@ -19,8 +19,8 @@ use Rattle.cluster_types.specs.Rights.{may_fence}
 use Rattle.cluster_types.specs.Steps.{Transition}
 use Rattle.cluster_types.specs.Tables.{Targets}
 use Rattle.cluster_types.proofs.MayLaws.{may-promoted}
-use Rattle.precedence_laws.proofs.CellStates.{says_of}
-use Rattle.precedence_laws.proofs.CellSteps.{may_be_running}
+use Rattle.plan_laws.proofs.CellStates.{says_of}
+use Rattle.plan_laws.proofs.CellSteps.{may_be_running}
 use Rattle.run_safety.proofs.Carried.{Carries}
 use Rattle.run_safety.proofs.Deciding.{find_one, find_none}
 use Rattle.run_safety.proofs.Needing.{state, IsNeeded}

@@ -13,7 +13,7 @@ ghost use Rattle.cluster_types.specs.Valid.{IsValid};
 ghost use Rattle.run_safety.specs.OfPlans.{IsOfPlan};
 
 /// The transition that the actions of a plan make is that of the plan, and so is the one that an executor runs by a graph which carries the plan out. So each
-/// law of this crate holds of both.
+/// law of safety holds of both.
 pub fn plans_are_carried_out()
     ensures actions { (c : ClusterOf) (events : List EventOf) (promotions : List PromotionOf) (placed : PlacedOf) (actions : List ActionOf)
         → IsValid c → IsAtRest events → IsPlan c events promotions placed actions → IsOfPlan promotions placed (transition_of c events actions) }

@@ -2,8 +2,7 @@
 
 use crate::texts::known_by;
 use cluster_types::{Decided, Target};
-use decision_order::{decisions_in_order, pinned_table, pins};
-use node_choice::decide_all;
+use placement::{decide_all, decisions_in_order, pinned_table, pins};
 use score_table::rows;
 
 const N: Target = Target::Nowhere;

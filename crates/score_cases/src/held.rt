@@ -4,8 +4,8 @@ ghost use Rattle.std.specs.Prelude.{◌≡◌, ◌*◌, length};
 
 use crate::texts::known_by;
 use cluster_types::{NoReason, Pin, Table, Target};
-use held_cells::{reasons, targets};
 use listed::Listed;
+use placement::{reasons, targets};
 use std::alloc::Global;
 use std::process::Abort;
 

@@ -1,4 +1,4 @@
-//! Tests of the crates that score and place: `score_table`, `decision_order`, `node_choice` and `held_cells`.
+//! Tests of the crates that score and place: `score_table` and `placement`.
 //!
 //! They stand in a crate of their own, since the tests of a crate are proved together with all of its code once more.
 #![tactic(auto)]

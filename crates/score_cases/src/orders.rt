@@ -2,7 +2,7 @@
 
 use crate::texts::known_by;
 use cluster_types::{Decision, Pin, Target};
-use decision_order::{decisions_in_order, pinned_table, pins};
+use placement::{decisions_in_order, pinned_table, pins};
 use score_table::rows;
 
 /// What a depends on is decided first, though its leaf is later.

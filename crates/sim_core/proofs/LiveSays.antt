@@ -8,9 +8,9 @@ use Rattle.cluster_types.specs.declared.cluster.Cluster.{Cluster}
 use Rattle.cluster_types.specs.declared.journal.Journal.{Journal}
 use Rattle.cluster_types.specs.Journals.{moment_of}
 use Rattle.crm_lex.specs.RawLines.{raw_lines}
-use Rattle.live_lines.specs.Coming.{Coming, coming}
-use Rattle.live_lines.specs.Heads as heads
-use Rattle.live_lines.specs.declared.place.Place.{Place}
+use Rattle.live_run.specs.Coming.{Coming, coming}
+use Rattle.live_run.specs.Heads as heads
+use Rattle.live_run.specs.declared.place.Place.{Place}
 use Rattle.live_run.specs.declared.live_end.LiveEnd.{LiveEnd}
 use Rattle.live_run.specs.declared.live_end.LiveEnd.TheVariants as end
 use Rattle.live_run.specs.Ends.{Gets}

@@ -8,8 +8,8 @@ use Rattle.cluster_types.specs.Valid.{IsValid}
 use Rattle.input_reading.specs.declared.trace.Trace.{Trace}
 use Rattle.input_reading.proofs.OneReading.{not_both_of_a_trace, one_trace}
 use Rattle.input_reading.proofs.ValidTrace.{cluster_valid, run_named}
-use Rattle.run_lines.specs.declared.text.RunTextLine.{RunTextLine}
-use Rattle.run_lines.specs.Written.{AreNamed, IsNamed}
+use Rattle.input_reading.specs.declared.text.RunTextLine.{RunTextLine}
+use Rattle.input_reading.specs.Written.{AreNamed, IsNamed}
 use Rattle.trace_audit.specs.declared.verdict.Clause.{Clause}
 use Rattle.trace_audit.specs.Lawful.{IsFaulty, IsLawful, said}
 use Rattle.sim_core.specs.declared.status.Status.{Status}

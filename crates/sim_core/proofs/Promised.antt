@@ -5,13 +5,13 @@ use Rattle.cluster_types.specs.declared.journal.Event.{Event}
 use Rattle.cluster_types.specs.declared.journal.Promotion.{Promotion}
 use Rattle.cluster_types.specs.Valid.{IsValid}
 use Rattle.input_reading.proofs.ValidHead.{cluster_valid, journal_at_rest}
-use Rattle.live_lines.specs.Courses.{answers_of}
+use Rattle.live_run.specs.Courses.{answers_of}
 use Rattle.live_run.specs.Ends.{IsWholeText}
 use Rattle.plan_laws.proofs.LawfulTable.{lawful}
 use Rattle.planner.proofs.OnePlan.{one_list, one_placed}
 use Rattle.planner.proofs.SomePlan.{actions, goals, is_plan}
-use Rattle.run_laws.proofs.OneEnd.{whole_one}
-use Rattle.run_laws.proofs.Planned.{plans_one}
+use Rattle.run_safety.proofs.OneEnd.{whole_one}
+use Rattle.run_safety.proofs.PlansAreOne.{plans_one}
 use Rattle.run_safety.proofs.SafeRuns.{safe_run}
 use Rattle.sim_core.specs.Headline.{HasOnePlan, IsTextOfOneSafeRun}
 use Rattle.sim_core.specs.Replay.{IsTextOfRun, coming_behind}

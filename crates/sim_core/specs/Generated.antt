@@ -1,6 +1,6 @@
 -- What is written by the word `gen`.
 use Rattle.std.specs.Prelude.{◌≡◌, ℕ, true, Option, Some, List, map}
-use Rattle.case_summary.specs.Summary.{summary_text}
+use Rattle.sim_core.specs.Summary.{summary_text}
 use Rattle.cluster_types.specs.declared.cluster.Cluster.{Cluster}
 use Rattle.cluster_types.specs.declared.journal.Answer.{Answer}
 use Rattle.cluster_types.specs.declared.journal.Journal.{Journal}

@@ -16,3 +16,4 @@ pub mod Words
 pub mod Table
 pub mod Answers
 pub mod Again
+pub mod Summary

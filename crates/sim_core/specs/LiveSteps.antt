@@ -2,9 +2,9 @@
 use Rattle.std.specs.Prelude.{◌≡◌, ℕ, ◌<◌, Option, Some, None, List, [], ◌++◌, length, IfSome}
 use Rattle.cluster_io.specs.Readings.{Reading}
 use Rattle.cluster_io.specs.Streams.{Adds, AddsPrefix}
-use Rattle.live_lines.specs.Heads as heads
-use Rattle.live_lines.specs.declared.head.HeadStop.{HeadStop}
-use Rattle.live_lines.specs.declared.head.HeadStop.TheVariants as found
+use Rattle.live_run.specs.Heads as heads
+use Rattle.live_run.specs.declared.head.HeadStop.{HeadStop}
+use Rattle.live_run.specs.declared.head.HeadStop.TheVariants as found
 use Rattle.live_run.specs.declared.live_end.LiveEnd.{LiveEnd}
 use Rattle.live_run.specs.declared.live_end.LiveEnd.TheVariants as end
 use Rattle.sim_core.specs.declared.beginning.HeadEnd.{HeadEnd}

@@ -4,7 +4,7 @@ ghost use Rattle.std.specs.Prelude.{◌≡◌, ◌<◌, ◌^◌, IfOk};
 ghost use Rattle.cluster_types.specs.Journals.{moment_of};
 ghost use Rattle.cluster_types.specs.Safety.{IsAtRest};
 ghost use Rattle.cluster_types.specs.Valid.{IsValid};
-ghost use Rattle.run_lines.specs.Written.{AreNamed};
+ghost use Rattle.input_reading.specs.Written.{AreNamed};
 ghost use Rattle.sim_core.specs.Audit.{IsAuditOutput, clause_name, unlawful_text};
 ghost use Rattle.trace_audit.specs.Lawful.{Judges};
 

@@ -14,9 +14,9 @@ ghost use Rattle.input_reading.specs.Reading.{most_bytes};
 ghost use Rattle.sim_core.specs.Table.{nothing};
 
 use crate::status::Status;
+use crate::summary::summary_text;
 use crate::text_word::refusal_text;
 use case_gen::generate;
-use case_summary::summary_text;
 use cluster_io::{Sink, write_text};
 use cluster_types::{Answer, Cluster, Journal, Run};
 use faults::NoMemory;
@@ -24,7 +24,7 @@ use graph_exec::Script;
 use input_reading::{Head, Input, InputFault, read_input};
 use op_history::ResultLine;
 use replan::{ReplayEnd, replay};
-use run_laws::enough_transitions_are_allowed;
+use run_safety::enough_transitions_are_allowed;
 use std::alloc::{AllocError, Global};
 
 /// What some result lines answer.

@@ -8,6 +8,7 @@
 mod audit;
 mod beginning;
 mod check;
+mod counts;
 mod generated;
 mod graph;
 mod help;
@@ -18,6 +19,7 @@ mod losses;
 mod own_text;
 mod scores;
 mod status;
+mod summary;
 mod text_word;
 mod top;
 mod words;

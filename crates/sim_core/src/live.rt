@@ -15,8 +15,7 @@ use cluster_io::{HeldLines, LineReader, Sink, Source, write_text};
 use cluster_types::moment_of;
 use crm_lex::WordBuf;
 use input_reading::{Head, InputCause, MOST_BYTES};
-use live_lines::LineOutcomes;
-use live_run::{LiveEnd, run_live};
+use live_run::{LineOutcomes, LiveEnd, run_live};
 use std::alloc::Global;
 
 /// The most bytes that a logical line may have, without its line ends: 1 MiB.

@@ -23,9 +23,9 @@ use Rattle.cluster_types.specs.Texts.{node_name, run_line}
 use Rattle.cluster_types.specs.Valid.{IsValid}
 use Rattle.crm_lex.specs.Names.{is_name, is_name_byte}
 use Rattle.line_words.specs.Places.{Words}
-use Rattle.run_lines.proofs.WordsOfLines.{action_words, answer_words, joined, line-joined, line_words}
-use Rattle.run_lines.proofs.TextAgain.{no_byte}
-use Rattle.run_lines.specs.Written.{IsNamed}
+use Rattle.input_reading.proofs.WordsOfLines.{action_words, answer_words, joined, line-joined, line_words}
+use Rattle.input_reading.proofs.TextAgain.{no_byte}
+use Rattle.input_reading.specs.Written.{IsNamed}
 use Rattle.trace_audit.specs.Written.{ended_in}
 use Rattle.trace_audit.proofs.Lines.{IsTextLine, ended-append}
 

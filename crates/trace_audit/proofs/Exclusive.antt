@@ -10,10 +10,10 @@ use Rattle.cluster_types.specs.declared.journal.Journal.{Journal}
 use Rattle.cluster_types.specs.declared.run.RunLine.{RunLine}
 use Rattle.cluster_types.specs.Texts.{run_line}
 use Rattle.cluster_types.specs.Valid.{IsValid}
-use Rattle.run_laws.proofs.Beginnings.{begins_whole}
-use Rattle.run_laws.proofs.OneEnd.{whole_one, whole_or_cut}
-use Rattle.run_laws.proofs.Planned.{plans_one}
-use Rattle.run_lines.specs.Written.{IsNamed}
+use Rattle.run_safety.proofs.Beginnings.{begins_whole}
+use Rattle.run_safety.proofs.OneEnd.{whole_one, whole_or_cut}
+use Rattle.run_safety.proofs.PlansAreOne.{plans_one}
+use Rattle.input_reading.specs.Written.{IsNamed}
 use Rattle.trace_audit.specs.declared.verdict.Clause.{Clause}
 use Rattle.trace_audit.specs.Lawful.{IsCut, IsFaulty, IsLawful, IsOther, IsUndue, IsWhole, answers_in, other, undue}
 use Rattle.trace_audit.proofs.Ends.{one_line_each}

@@ -28,7 +28,7 @@ use Rattle.cluster_types.specs.Valid.{IsValid}
 use Rattle.crm_lex.specs.Names.{is_name}
 use Rattle.graph_exec.specs.Telling.{ReasonsHaveNames}
 use Rattle.replan.proofs.Named.{reasons_named}
-use Rattle.run_lines.specs.Written.{IsNamed}
+use Rattle.input_reading.specs.Written.{IsNamed}
 
 abbrev Named : List RunLine → Type 0
 Named = AllByRecursion IsNamed

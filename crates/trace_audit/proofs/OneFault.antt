@@ -10,11 +10,11 @@ use Rattle.cluster_types.specs.declared.journal.Journal.{Journal}
 use Rattle.cluster_types.specs.declared.run.RunLine.{RunLine}
 use Rattle.cluster_types.specs.Runs.{due}
 use Rattle.cluster_types.specs.Texts.{run_line}
-use Rattle.run_laws.specs.Followed.{AreOnOneWay, IsFront, other_first, this_first}
-use Rattle.run_laws.proofs.Beginnings.{begins_cut, begins_whole}
-use Rattle.run_laws.proofs.OneEnd.{cut_one, whole_one, whole_or_cut}
-use Rattle.run_laws.proofs.OneRun.{one_way}
-use Rattle.run_laws.proofs.Planned.{plans_one}
+use Rattle.run_safety.specs.Followed.{AreOnOneWay, IsFront, other_first, this_first}
+use Rattle.run_safety.proofs.Beginnings.{begins_cut, begins_whole}
+use Rattle.run_safety.proofs.OneEnd.{cut_one, whole_one, whole_or_cut}
+use Rattle.run_safety.proofs.OneRun.{one_way}
+use Rattle.run_safety.proofs.PlansAreOne.{plans_one}
 use Rattle.trace_audit.specs.declared.verdict.Clause.{Clause}
 use Rattle.trace_audit.specs.Lawful.{IsCut, IsFaulty, IsOther, IsSoFar, IsUndue, IsWhole, answers_in, clause_of, other, undue}
 use Rattle.trace_audit.proofs.Exclusive.{in_front, made}

@@ -11,7 +11,7 @@ use Rattle.cluster_types.specs.declared.journal.Journal.{Journal}
 use Rattle.cluster_types.specs.declared.run.RunLine.{RunLine}
 use Rattle.cluster_types.specs.Texts.{run_line}
 use Rattle.replan.specs.Replays.{IsStopped, setting, sight}
-use Rattle.run_laws.proofs.SoFar.{runs_more}
+use Rattle.run_safety.proofs.SoFar.{runs_more}
 use Rattle.trace_audit.specs.Compared.{IsFront}
 
 -- a text, and what was added to it

@@ -8,7 +8,7 @@ use Rattle.cluster_types.specs.declared.journal.Journal.{Journal}
 use Rattle.cluster_types.specs.declared.run.RunLine.{RunLine}
 use Rattle.cluster_types.specs.Runs.{Standing, due, Runs, IsCutRun, IsWholeRun}
 use Rattle.cluster_types.specs.Texts.{run_line}
-use Rattle.run_lines.specs.declared.text.RunTextLine.{RunTextLine}
+use Rattle.input_reading.specs.declared.text.RunTextLine.{RunTextLine}
 use Rattle.trace_audit.specs.declared.ended.Ended.{Ended}
 use Rattle.trace_audit.specs.declared.ended.Ended.TheVariants as ended
 use Rattle.trace_audit.specs.declared.verdict.Clause.{Clause}

@@ -13,7 +13,7 @@ use Rattle.cluster_types.specs.declared.run.RunLine.TheVariants as line
 use Rattle.cluster_types.specs.Runs.{Standing, due, Runs, IsCutRun, IsWholeRun}
 use Rattle.cluster_types.specs.Texts.{run_line}
 use Rattle.crm_lex.specs.Names.{is_name}
-use Rattle.run_lines.specs.declared.text.RunTextLine.{RunTextLine}
+use Rattle.input_reading.specs.declared.text.RunTextLine.{RunTextLine}
 use Rattle.trace_audit.specs.declared.verdict.Clause.{Clause}
 use Rattle.trace_audit.specs.declared.verdict.Clause.TheVariants as clause
 use Rattle.trace_audit.specs.declared.verdict.Verdict.{Verdict}

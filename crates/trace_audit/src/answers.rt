@@ -5,7 +5,7 @@ ghost use Rattle.std.specs.List.{flat_map};
 ghost use Rattle.trace_audit.specs.Lawful.{answer_in};
 
 use cluster_types::{Answer, RunLine};
-use run_lines::RunTextLine;
+use input_reading::RunTextLine;
 use std::alloc::{AllocError, Global};
 
 /// Adds the answer of a line, if it has one.

@@ -4,7 +4,7 @@ ghost use Rattle.std.specs.Prelude.{◌≡◌, ◌<◌, ◌^◌, IfOk};
 ghost use Rattle.cluster_types.specs.Journals.{moment_of};
 ghost use Rattle.cluster_types.specs.Safety.{IsAtRest};
 ghost use Rattle.cluster_types.specs.Valid.{IsValid};
-ghost use Rattle.run_lines.specs.Written.{AreNamed};
+ghost use Rattle.input_reading.specs.Written.{AreNamed};
 ghost use Rattle.trace_audit.specs.Lawful.{Judges};
 
 use crate::answers::answers_in;
@@ -14,7 +14,7 @@ use crate::text::text_of;
 use crate::verdict::Verdict;
 use cluster_io::{MemorySink, NoMemory};
 use cluster_types::{Cluster, Journal};
-use run_lines::RunText;
+use input_reading::RunText;
 use std::alloc::Global;
 use trace_text::valid_clusters_have_short_names;
 

@@ -7,7 +7,7 @@ ghost use Rattle.trace_audit.specs.Lawful.{number_at};
 use crate::comparing::{alike, ended_in, kind_in, unended_in};
 use crate::ended::Ended;
 use crate::verdict::{Clause, Verdict};
-use run_lines::RunTextLine;
+use input_reading::RunTextLine;
 
 /// How many bytes of a line tell its kind.
 pub(crate) const TELLING: usize = 2;

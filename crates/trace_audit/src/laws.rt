@@ -6,7 +6,7 @@ ghost use Rattle.cluster_types.specs.declared.cluster.Cluster.{Cluster as Cluste
 ghost use Rattle.cluster_types.specs.declared.journal.Journal.{Journal as JournalOf};
 ghost use Rattle.cluster_types.specs.declared.run.RunLine.{RunLine as LineOf};
 ghost use Rattle.cluster_types.specs.Valid.{IsValid};
-ghost use Rattle.run_lines.specs.Written.{IsNamed};
+ghost use Rattle.input_reading.specs.Written.{IsNamed};
 ghost use Rattle.trace_audit.specs.declared.verdict.Clause.{Clause as ClauseOf};
 ghost use Rattle.trace_audit.specs.Lawful.{IsFaulty, IsLawful};
 

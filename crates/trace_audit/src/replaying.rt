@@ -11,9 +11,9 @@ use cluster_io::{MemorySink, NoMemory};
 use cluster_types::{Answer, Cluster, Journal};
 use graph_exec::Script;
 use listed::Listed;
-use live_lines::LineWriter;
+use live_run::LineWriter;
 use replan::{ReplayStop, replay_watched};
-use run_laws::enough_transitions_are_allowed;
+use run_safety::enough_transitions_are_allowed;
 use std::alloc::{AllocError, Global};
 
 /// The journal once more.

@@ -3,11 +3,11 @@
 ghost use Rattle.std.specs.Prelude.{◌≡◌, ◌++◌, OnOk, IfOk};
 ghost use Rattle.std.specs.List.{flat_map};
 ghost use Rattle.cluster_types.specs.Texts.{run_line};
-ghost use Rattle.run_lines.specs.Written.{AreNamed, IsNamed};
+ghost use Rattle.input_reading.specs.Written.{AreNamed, IsNamed};
 ghost use Rattle.trace_text.specs.RunLines.{HasShortNames, line_of};
 
 use cluster_types::{Cluster, RunLine};
-use run_lines::RunTextLine;
+use input_reading::RunTextLine;
 use std::alloc::{AllocError, Global};
 use trace_text::{RunLineRef, write_line};
 

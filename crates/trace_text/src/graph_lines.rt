@@ -9,9 +9,9 @@ ghost use Rattle.cluster_types.specs.Texts as texts;
 
 use crate::action_words::push_action;
 use crate::numbers::push_number;
+use crate::walk::Predecessors;
 use cluster_types::{Cluster, Graph};
 use faults::NoMemory;
-use predecessors::Predecessors;
 use std::alloc::Global;
 
 /// A space, and the number.

@@ -6,6 +6,11 @@ mod action_words;
 mod names;
 mod numbers;
 
+// Which actions of a graph come before one.
+mod arriving;
+mod found;
+mod walk;
+
 // The lines of each text.
 mod graph_lines;
 mod loss_lines;

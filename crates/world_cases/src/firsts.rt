@@ -1,10 +1,9 @@
 //! What really runs in a simulated cluster at first.
 
 use crate::starts::start_of;
-use agent_world::World;
+use agent_world::{Real, World};
 use std::alloc::AllocError;
 use std::test::Fail;
-use world_state::Real;
 
 /// The first runs, and is promoted on the first node. Of the second nothing was heard there, and it doesn't run on the
 /// other.

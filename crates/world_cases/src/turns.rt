@@ -3,11 +3,11 @@
 ghost use Rattle.cluster_types.specs.Valid.{KeepsLimits};
 
 use crate::starts::start_of;
+use agent_world::{Fate, Real, Reality, Standing, Turn};
 use cluster_types::{Action, Answer, Cluster};
 use std::alloc::Global;
 use std::process::Abort;
 use std::test::Fail;
-use world_state::{Fate, Real, Reality, Standing, Turn};
 
 const TWO_NODES: &str = "node n1\nnode n2\n";
 

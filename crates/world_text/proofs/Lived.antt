@@ -9,8 +9,8 @@ use Rattle.cluster_types.specs.declared.run.Run.{Run}
 use Rattle.cluster_types.specs.Runs.{Standing, due, amid, idle, Runs, IsOver, journal_at}
 use Rattle.cluster_types.specs.Texts.{run_lines}
 use Rattle.replan.specs.Kept.{IsKeptWhole, KeepsPlans}
-use Rattle.run_laws.proofs.Along.{journals_grow}
-use Rattle.world_state.specs.Lives.{Lives}
+use Rattle.run_safety.proofs.Along.{journals_grow}
+use Rattle.agent_world.specs.Lives.{Lives}
 use Rattle.agent_world.specs.Worlds.{Agrees, IsOfOne, WorldOf}
 use Rattle.agent_world.proofs.Moments.{grown}
 use Rattle.world_text.specs.WorldTexts.{HasLived, IsAtEnd, more_due, most_transitions, over}

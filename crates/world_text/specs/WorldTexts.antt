@@ -7,10 +7,10 @@ use Rattle.cluster_types.specs.declared.journal.Journal.{Journal}
 use Rattle.cluster_types.specs.declared.run.Run.{Run}
 use Rattle.cluster_types.specs.Runs.{Standing, due, idle}
 use Rattle.cluster_types.specs.Texts.{leaf_on, run_lines, run_text}
-use Rattle.world_state.specs.declared.real.Real.{Real}
-use Rattle.world_state.specs.declared.real.Real.TheVariants as real
-use Rattle.world_state.specs.Worlds.{Cells, World, found_at}
-use Rattle.world_state.specs.Kept.{Shows}
+use Rattle.agent_world.specs.declared.real.Real.{Real}
+use Rattle.agent_world.specs.declared.real.Real.TheVariants as real
+use Rattle.agent_world.specs.RealWorlds.{Cells, World, found_at}
+use Rattle.agent_world.specs.Kept.{Shows}
 use Rattle.agent_world.specs.Worlds.{IsWorldRun, WorldOf}
 use Rattle.world_text.specs.declared.living.Lived.{Lived}
 

@@ -4,7 +4,7 @@ ghost use Rattle.std.specs.Prelude.{List, ℕ};
 ghost use Rattle.cluster_types.specs.declared.cluster.Cluster.{Cluster as ClusterOf};
 ghost use Rattle.cluster_types.specs.declared.journal.Journal.{Journal as JournalOf};
 ghost use Rattle.cluster_types.specs.Runs.{journal_at};
-ghost use Rattle.world_state.specs.Lives.{IsWithin};
+ghost use Rattle.agent_world.specs.Lives.{IsWithin};
 ghost use Rattle.world_text.specs.WorldTexts.{IsWorldText};
 
 /// What really runs by the last lines may run by the journal that the run left, and what is promoted may be promoted.

@@ -4,14 +4,13 @@ ghost use Rattle.std.specs.Prelude.{◌≡◌, ◌++◌, codes, length, OnOk};
 ghost use Rattle.std.specs.List.{flat_map, range_with_len};
 ghost use Rattle.cluster_types.specs.Texts as texts;
 ghost use Rattle.cluster_types.specs.Valid.{KeepsLimits};
-ghost use Rattle.world_state.specs.Kept.{Shows};
-ghost use Rattle.world_state.specs.Worlds.{World as WorldAt};
+ghost use Rattle.agent_world.specs.Kept.{Shows};
+ghost use Rattle.agent_world.specs.RealWorlds.{World as WorldAt};
 ghost use Rattle.world_text.specs.WorldTexts as spec;
 
-use agent_world::World;
+use agent_world::{Real, World};
 use cluster_types::{Cluster, LeafId, NodeId};
 use faults::NoMemory;
-use world_state::Real;
 
 fn node_name(cluster: &Cluster, node: NodeId) -> &[u8]
     ensures { result.now ≡ texts.node_name cluster.now node }

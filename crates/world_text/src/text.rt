@@ -6,8 +6,8 @@ ghost use Rattle.cluster_types.specs.Journals.{moment_of};
 ghost use Rattle.cluster_types.specs.Safety.{IsAtRest};
 ghost use Rattle.cluster_types.specs.Valid.{IsValid, KeepsLimits};
 ghost use Rattle.trace_text.specs.RunLines.{HasShortNames};
-ghost use Rattle.world_state.specs.Kept.{Shows};
-ghost use Rattle.world_state.specs.Worlds.{World as WorldAt};
+ghost use Rattle.agent_world.specs.Kept.{Shows};
+ghost use Rattle.agent_world.specs.RealWorlds.{World as WorldAt};
 ghost use Rattle.world_text.specs.WorldTexts as spec;
 ghost use Rattle.world_text.specs.WorldTexts.{IsLived, IsWorldText};
 

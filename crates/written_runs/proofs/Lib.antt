@@ -4,3 +4,8 @@ pub mod FewActions
 pub mod TargetLines
 pub mod StepLines
 pub mod WrittenLines
+pub mod FirstEvents
+pub mod OneLife
+pub mod Together
+pub mod Transitions
+pub mod OneEnd

@@ -17,9 +17,9 @@ use Rattle.cluster_types.specs.Fields.{monitors}
 use Rattle.cluster_types.specs.Needed.{FirstSet, Migrates, Needed, fence, kept, monitor, probe, sent, step, taken_in}
 use Rattle.cluster_types.specs.Tables.{Targets}
 use Rattle.cluster_types.specs.Valid.{IsValid}
-use Rattle.precedence_laws.proofs.CellSteps.{is_step}
+use Rattle.plan_laws.proofs.CellSteps.{is_step}
 use Rattle.written_runs.specs.Fitting.{IntervalsFit}
-use Rattle.run_lines.specs.Written.{IsActionOf, IsCellOf, IsNumber}
+use Rattle.input_reading.specs.Written.{IsActionOf, IsCellOf, IsNumber}
 use Rattle.written_runs.proofs.Each.{read_in}
 
 abbrev AreApart : List MonitorOf → Type 0

@@ -22,8 +22,8 @@ use Rattle.cluster_types.specs.Outcomes.{is_bad, is_ignored}
 use Rattle.cluster_types.specs.Sources.{Says, told, used_up, untold}
 use Rattle.cluster_types.specs.Steps.{Transition, StepsOn, begins, takes, is_silent, Applies, action_at, flying, journal, numbered, outside, silent_code}
 use Rattle.cluster_types.specs.Texts.{event_lines}
-use Rattle.run_laws.proofs.Printed.{answer_line, end_line}
-use Rattle.run_lines.specs.Written.{IsActionOf, IsAnswerOf, IsLineOf, IsNumber}
+use Rattle.run_safety.proofs.Printed.{answer_line, end_line}
+use Rattle.input_reading.specs.Written.{IsActionOf, IsAnswerOf, IsLineOf, IsNumber}
 use Rattle.run_safety.proofs.Each.{Each, none, more}
 use Rattle.run_safety.proofs.InFlight.{among_flying, number_within}
 use Rattle.run_safety.proofs.Shapes.{Flies, all_fly}

@@ -23,7 +23,7 @@ use Rattle.cluster_types.specs.Reasons.{HasReason, IsFirstOf, IsHeldBy, IsHeldBy
 use Rattle.cluster_types.specs.Tables.{Targets, targets_of}
 use Rattle.cluster_types.specs.Texts.{goal_line, lacking_lines, leaf_lines, pin_lines, target_lines}
 use Rattle.cluster_types.specs.Valid.{IsValid}
-use Rattle.run_lines.specs.Written.{IsLineOf}
+use Rattle.input_reading.specs.Written.{IsLineOf}
 use Rattle.written_runs.proofs.Each.{all_in_range, all_joined}
 
 first_among : {X : Type 0} (P : X → Type 0) (xs : List X) (x : X) → IsFirstOf P xs x → Contains xs x

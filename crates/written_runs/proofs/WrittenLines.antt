@@ -13,9 +13,9 @@ use Rattle.cluster_types.specs.Steps.{Transition, resting}
 use Rattle.cluster_types.specs.Tables.{targets_of}
 use Rattle.cluster_types.specs.Texts.{event_lines, target_lines}
 use Rattle.cluster_types.specs.Valid.{IsValid}
-use Rattle.run_laws.specs.Followed.{number_at}
-use Rattle.run_laws.proofs.Counted.{few_transitions}
-use Rattle.run_lines.specs.Written.{IsActionOf, IsLineOf}
+use Rattle.run_safety.specs.Followed.{number_at}
+use Rattle.run_safety.proofs.Counted.{few_transitions}
+use Rattle.input_reading.specs.Written.{IsActionOf, IsLineOf}
 use Rattle.written_runs.specs.Fitting.{AnswersFit, Fits, IntervalsFit}
 use Rattle.written_runs.proofs.Each.{all_joined}
 use Rattle.written_runs.proofs.FewActions.{few_planned}

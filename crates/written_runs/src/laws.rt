@@ -10,8 +10,8 @@ ghost use Rattle.cluster_types.specs.declared.run.RunLine.{RunLine as LineOf};
 ghost use Rattle.cluster_types.specs.declared.run.RunLine.TheVariants as line;
 ghost use Rattle.cluster_types.specs.Runs.{Standing, due, Runs, IsCutRun, IsRunSoFar, IsStoppedRun, IsWholeRun};
 ghost use Rattle.cluster_types.specs.Valid.{IsValid};
-ghost use Rattle.run_laws.specs.Followed.{number_at};
-ghost use Rattle.run_lines.specs.Written.{IsLineOf, IsNumber, ReadsAgain};
+ghost use Rattle.run_safety.specs.Followed.{number_at};
+ghost use Rattle.input_reading.specs.Written.{IsLineOf, IsNumber, ReadsAgain};
 ghost use Rattle.written_runs.specs.Fitting.{AnswersFit, Fits, IntervalsFit};
 
 /// Each line that a run of a valid cluster prints is a line of the cluster: its leaves and nodes are the cluster's, the rule that holds a leaf back has a name,

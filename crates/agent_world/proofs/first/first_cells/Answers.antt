@@ -1,5 +1,5 @@
 use Rattle.std.proofs.Common.{◌≡◌, ◌*◌, length, ap, ◌∙◌, arith}
-use Rattle.world_state.specs.Worlds.{first_real}
+use Rattle.agent_world.specs.RealWorlds.{first_real}
 use Rattle.agent_world.proofs.Firsts.{holds-filled}
 use Rattle.agent_world.proofs.first.first_cells.Goals as goal
 

@@ -1,7 +1,7 @@
 use Rattle.std.proofs.Common.{◌≡◌, ◌*◌, List, length}
 use Rattle.cluster_types.specs.declared.journal.Event.{Event}
 use Rattle.state_unpack.specs.Known.{Knows}
-use Rattle.world_state.specs.Worlds.{first_real}
+use Rattle.agent_world.specs.RealWorlds.{first_real}
 use Rattle.agent_world.specs.Firsts.{Hears, IsFilled}
 use Rattle.agent_world.proofs.first.first_cells.Given as goal
 

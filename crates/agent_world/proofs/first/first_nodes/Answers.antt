@@ -1,7 +1,7 @@
 use Rattle.std.proofs.Common.{rules, ◌≡◌, ℕ, ◌+◌, ◌++◌, ◌∷◌, [], length, length-append, sym, ap, subst, arith}
 use Rattle.cluster_types.specs.Journals.{last_sign}
-use Rattle.world_state.specs.Kept.{HoldsNodes}
-use Rattle.world_state.specs.Worlds.{standing_by}
+use Rattle.agent_world.specs.Kept.{HoldsNodes}
+use Rattle.agent_world.specs.RealWorlds.{standing_by}
 use Rattle.agent_world.proofs.Firsts.{nodes-push}
 use Rattle.agent_world.proofs.first.first_nodes.Goals as goal
 

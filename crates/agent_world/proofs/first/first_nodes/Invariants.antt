@@ -2,8 +2,8 @@ use Rattle.std.proofs.Common.{◌≡◌, ℕ, List, length}
 use Rattle.cluster_types.specs.declared.journal.Event.{Event}
 use Rattle.cluster_types.specs.Journals.{last_sign}
 use Rattle.state_unpack.specs.Known.{Knows}
-use Rattle.world_state.specs.Kept.{HoldsNodes}
-use Rattle.world_state.specs.Worlds.{standing_by}
+use Rattle.agent_world.specs.Kept.{HoldsNodes}
+use Rattle.agent_world.specs.RealWorlds.{standing_by}
 use Rattle.agent_world.proofs.first.first_nodes.Given as goal
 
 abbrev pub invariant-loop-node : goal.invariant-loop-node

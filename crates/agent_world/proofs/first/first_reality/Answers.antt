@@ -1,8 +1,8 @@
 use Rattle.std.proofs.Common.{ℕ, length, sym, subst}
 use Rattle.cluster_types.specs.Journals.{last_sign}
 use Rattle.state_unpack.specs.Known.{Knows}
-use Rattle.world_state.specs.Kept.{Holds, HoldsNodes}
-use Rattle.world_state.specs.Worlds.{first_real, standing_by}
+use Rattle.agent_world.specs.Kept.{Holds, HoldsNodes}
+use Rattle.agent_world.specs.RealWorlds.{first_real, standing_by}
 use Rattle.agent_world.specs.Firsts.{Hears}
 use Rattle.agent_world.proofs.Firsts.{first_shows}
 use Rattle.agent_world.proofs.first.first_reality.Goals as goal

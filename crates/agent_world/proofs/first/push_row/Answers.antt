@@ -1,6 +1,6 @@
 use Rattle.std.proofs.Common.{rules, ◌≡◌, ◌<◌, ◌+◌, ◌*◌, ◌++◌, ◌∷◌, [], is_some, Some, length, length-append, slice_get, sym, ap, subst, arith}
 use Rattle.cluster_types.specs.CellStates.{last_outcome}
-use Rattle.world_state.specs.Worlds.{first_real}
+use Rattle.agent_world.specs.RealWorlds.{first_real}
 use Rattle.agent_world.specs.Firsts.{IsFilled}
 use Rattle.agent_world.proofs.Firsts.{filled-push}
 use Rattle.agent_world.proofs.first.push_row.Goals as goal

@@ -1,7 +1,7 @@
 use Rattle.std.proofs.Common.{true, None}
 use Rattle.cluster_types.specs.Runs.{amid}
 use Rattle.run_safety.proofs.SafeRuns.{safe_run}
-use Rattle.world_state.proofs.Applying.{none_second}
+use Rattle.agent_world.proofs.Applying.{none_second}
 use Rattle.agent_world.proofs.laws.no_start_really_makes_a_second_copy.Goals as goal
 
 pub returns : goal.returns

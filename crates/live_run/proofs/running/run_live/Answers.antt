@@ -1,5 +1,5 @@
 use Rattle.std.proofs.Common.{rules}
-use Rattle.live_lines.specs.LineSources.{source_in, standing_of}
+use Rattle.live_run.specs.LineSources.{source_in, standing_of}
 use Rattle.live_run.proofs.Reaching.{complete_by}
 use Rattle.live_run.proofs.running.run_live.Goals as goal
 

@@ -1,7 +1,7 @@
 use Rattle.std.proofs.Common.{ap, refl}
-use Rattle.live_lines.specs.Courses.{Standing, has_ended, is_reading}
-use Rattle.live_lines.specs.LineSources.{source_in, standing_of, view_of}
-use Rattle.live_lines.specs.LineWriters.{cluster_of, sink_of}
+use Rattle.live_run.specs.Courses.{Standing, has_ended, is_reading}
+use Rattle.live_run.specs.LineSources.{source_in, standing_of, view_of}
+use Rattle.live_run.specs.LineWriters.{cluster_of, sink_of}
 use Rattle.live_run.proofs.Reaching.{between_from, cut_off_from, done_from, failed_from, failed_kind, most_from, unexpected_from}
 use Rattle.live_run.proofs.running.run_to_end.Goals as goal
 

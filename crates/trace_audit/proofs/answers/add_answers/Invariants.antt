@@ -1,6 +1,6 @@
 use Rattle.std.proofs.Common.{◌≡◌, ◌++◌, take}
 use Rattle.std.specs.List.{flat_map}
-use Rattle.run_lines.specs.declared.text.RunTextLine.{RunTextLine}
+use Rattle.input_reading.specs.declared.text.RunTextLine.{RunTextLine}
 use Rattle.trace_audit.specs.Lawful.{answer_in}
 use Rattle.trace_audit.proofs.answers.add_answers.Given as goal
 

@@ -1,6 +1,6 @@
 use Rattle.std.proofs.Common.{◌≡◌, sym, subst}
-use Rattle.run_lines.specs.declared.text.RunTextLine.{RunTextLine}
-use Rattle.run_lines.specs.Written.{IsNamed}
+use Rattle.input_reading.specs.declared.text.RunTextLine.{RunTextLine}
+use Rattle.input_reading.specs.Written.{IsNamed}
 use Rattle.trace_audit.proofs.Named.{named_at}
 use Rattle.trace_audit.proofs.text.add_lines.Goals as goal
 

@@ -1,5 +1,5 @@
 use Rattle.cluster_types.specs.Runs.{journal_at}
-use Rattle.world_state.proofs.Within.{always}
+use Rattle.agent_world.proofs.Within.{always}
 use Rattle.world_text.proofs.laws.what_is_real_at_the_end_may_run.Goals as goal
 
 pub returns : goal.returns

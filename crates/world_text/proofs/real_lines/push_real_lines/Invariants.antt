@@ -1,7 +1,7 @@
 use Rattle.std.proofs.Common.{◌≡◌, ◌++◌}
 use Rattle.std.specs.List.{flat_map, range_with_len}
-use Rattle.world_state.specs.Kept.{Shows}
-use Rattle.world_state.specs.Worlds.{World}
+use Rattle.agent_world.specs.Kept.{Shows}
+use Rattle.agent_world.specs.RealWorlds.{World}
 use Rattle.world_text.specs.WorldTexts.{real_row}
 use Rattle.world_text.proofs.real_lines.push_real_lines.Given as goal
 

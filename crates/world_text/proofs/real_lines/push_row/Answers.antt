@@ -1,7 +1,7 @@
 use Rattle.std.proofs.Common.{◌≡◌, ℕ, ◌++◌, sym, ap, subst, ◌∙◌, append-nil, arith, length}
 use Rattle.std.specs.List.{flat_map, range_with_len}
 use Rattle.lemmas.proofs.Grown.{values_more}
-use Rattle.world_state.specs.Worlds.{found_at}
+use Rattle.agent_world.specs.RealWorlds.{found_at}
 use Rattle.world_text.specs.WorldTexts.{real_line}
 use Rattle.world_text.proofs.real_lines.push_row.Goals as goal
 

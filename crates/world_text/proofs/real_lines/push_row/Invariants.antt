@@ -1,7 +1,7 @@
 use Rattle.std.proofs.Common.{◌≡◌, ℕ, ◌++◌}
 use Rattle.std.specs.List.{flat_map, range_with_len}
-use Rattle.world_state.specs.Kept.{Shows}
-use Rattle.world_state.specs.Worlds.{World, found_at}
+use Rattle.agent_world.specs.Kept.{Shows}
+use Rattle.agent_world.specs.RealWorlds.{World, found_at}
 use Rattle.world_text.specs.WorldTexts.{real_line}
 use Rattle.world_text.proofs.real_lines.push_row.Given as goal
 

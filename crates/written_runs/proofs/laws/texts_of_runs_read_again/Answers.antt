@@ -1,8 +1,8 @@
 use Rattle.std.proofs.Common.{Some, [], ◌∷◌, ◌++◌}
 use Rattle.cluster_types.specs.declared.run.RunLine.TheVariants as line
-use Rattle.run_laws.proofs.SoFar.{stopped_runs}
-use Rattle.run_lines.specs.Written.{IsLineOf}
-use Rattle.run_lines.proofs.TextAgain.{text_again}
+use Rattle.run_safety.proofs.SoFar.{stopped_runs}
+use Rattle.input_reading.specs.Written.{IsLineOf}
+use Rattle.input_reading.proofs.TextAgain.{text_again}
 use Rattle.written_runs.proofs.Each.{all_joined}
 use Rattle.written_runs.proofs.WrittenLines.{run_written, told_written}
 use Rattle.written_runs.proofs.laws.texts_of_runs_read_again.Goals as goal

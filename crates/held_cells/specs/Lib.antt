@@ -1,3 +1,0 @@
-pub mod Dependencies
-pub mod Taking
-pub mod Reasoning

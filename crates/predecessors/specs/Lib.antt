@@ -1,4 +1,0 @@
-pub mod Arriving
-pub mod Found
-pub mod Backward
-pub mod Walk

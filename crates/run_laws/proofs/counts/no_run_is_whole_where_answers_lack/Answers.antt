@@ -1,5 +1,0 @@
-use Rattle.run_laws.proofs.Silent.{not_over}
-use Rattle.run_laws.proofs.counts.no_run_is_whole_where_answers_lack.Goals as goal
-
-pub returns : goal.returns
-returns c = λ cl ps es left rest lines told run. not_over cl ps es left rest lines told run

@@ -1,5 +1,0 @@
-use Rattle.run_laws.proofs.Silent.{step_heard}
-use Rattle.run_laws.proofs.counts.nothing_is_silent_where_answers_lack.Goals as goal
-
-pub returns : goal.returns
-returns c = λ t since events rest left told step. step_heard t since events rest left told step

@@ -1,5 +1,0 @@
-use Rattle.run_laws.proofs.Along.{journals_grow}
-use Rattle.run_laws.proofs.ends.journals_grow.Goals as goal
-
-pub returns : goal.returns
-returns c = λ cl ps whole at later rest left lines runs. journals_grow cl ps whole at later rest left lines runs

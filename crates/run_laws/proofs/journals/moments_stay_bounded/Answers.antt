@@ -1,5 +1,0 @@
-use Rattle.run_laws.proofs.Moments.{moments_bounded}
-use Rattle.run_laws.proofs.journals.moments_stay_bounded.Goals as goal
-
-pub returns : goal.returns
-returns c = λ cl ps whole at later rest left lines runs low. moments_bounded cl ps whole at later rest left lines runs low

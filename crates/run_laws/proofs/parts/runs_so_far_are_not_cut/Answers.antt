@@ -1,6 +1,0 @@
-use Rattle.run_laws.proofs.Planned.{plans_one}
-use Rattle.run_laws.proofs.SoFar.{so_far_or_cut}
-use Rattle.run_laws.proofs.parts.runs_so_far_are_not_cut.Goals as goal
-
-pub returns : goal.returns
-returns c = λ cl ps es left right rest behind given lines others told one two. so_far_or_cut cl ps (plans_one cl ps) es rest told left right lines others given behind one two

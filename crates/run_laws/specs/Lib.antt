@@ -1,3 +1,0 @@
-pub mod OnePlan
-pub mod Followed
-pub mod Kept

@@ -1,4 +1,0 @@
-pub mod LineWords
-pub mod Reading
-pub mod Said
-pub mod Written

@@ -1,0 +1,9 @@
+use Rattle.std.proofs.Common.{◌≡◌, length}
+use Rattle.number_set.specs.Sets.{members}
+use Rattle.trace_text.proofs.found.clear.Given as goal
+
+abbrev pub invariant-loop-number : goal.invariant-loop-number
+invariant-loop-number l = length l.set ≡ length l.fn.set
+
+abbrev pub decreases-loop-number : goal.decreases-loop-number
+decreases-loop-number l = length (members l.set)

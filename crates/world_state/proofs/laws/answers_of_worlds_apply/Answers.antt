@@ -1,5 +1,0 @@
-use Rattle.world_state.proofs.Applying.{ends_apply}
-use Rattle.world_state.proofs.laws.answers_of_worlds_apply.Goals as goal
-
-pub returns-clause-ends : goal.returns-clause-ends
-returns-clause-ends c = ends_apply

@@ -1,4 +1,0 @@
-pub mod Worlds
-pub mod Turns
-pub mod Lives
-pub mod Kept
