@@ -59,7 +59,7 @@ fn the_first_edge_that_closes_a_loop(rt: HostRuntime) {
     for (positions, pairs, want) in ROWS {
         let edges = edges(&rt, alloc, pairs);
         let found = first(&rt, alloc, *positions, edges.as_slice());
-        assert_eq!(rt; found, *want, "{pairs:?}");
+        assert!(rt; found == *want);
     }
 }
 
@@ -85,5 +85,5 @@ fn longest_ways_to_each_position(rt: HostRuntime) {
     let alloc = rt.alloc();
     let edges = edges(&rt, alloc, &[(0, 1), (1, 2), (0, 2), (3, 2)]);
     let found = ways(&rt, alloc, 4, edges.as_slice());
-    assert_eq!(rt; found.as_slice(), [0, 1, 2, 0].as_slice());
+    assert!(rt; found.as_slice() == [0, 1, 2, 0].as_slice());
 }

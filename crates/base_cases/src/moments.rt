@@ -43,7 +43,7 @@ const MOMENTS: &[(&[u8], i64)] = &[
 #[test]
 fn texts_that_say_a_moment(rt: HostRuntime) {
     for (text, seconds) in MOMENTS {
-        assert_eq!(rt; instant(text), Some(*seconds));
+        assert!(rt; instant(text) == Some(*seconds), "{seconds}");
     }
 }
 
@@ -93,6 +93,6 @@ const NO_MOMENTS: &[&[u8]] = &[
 #[test]
 fn texts_that_say_no_moment(rt: HostRuntime) {
     for text in NO_MOMENTS {
-        assert_eq!(rt; instant(text), None);
+        assert!(rt; instant(text).is_none());
     }
 }

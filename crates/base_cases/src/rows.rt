@@ -50,19 +50,29 @@ fn row_with(rt: &impl Abort, alloc: Global, nodes: u32, terms: &[(u32, i32)]) ->
     row
 }
 
-/// The points of a node's total: -INFINITY is at the last node, INFINITY at the first, and twice 600,000 at the one in the middle.
-fn expected(nodes: usize, node: usize) -> i32 {
+/// The score that a node of the table has: -INFINITY is at the last node, INFINITY at the first, and twice 600,000 at the one in the middle.
+fn expected(nodes: usize, node: usize) -> Score {
     if nodes.saturating_sub(1) == node {
-        MINUS
+        Score { points: MINUS }
     } else if node == 0 || node == nodes / 2 {
-        PLUS
+        Score { points: PLUS }
     } else {
-        0
+        Score { points: 0 }
     }
 }
 
-/// Compares the totals of a row, by both forms, with those of the table.
-fn compare(rt: &impl Abort, row: &Row, nodes: u32)
+/// Whether the scores are those of the table.
+fn are_expected(scores: &[Score]) -> bool {
+    for node in 0..scores.len() {
+        if scores[node] != expected(scores.len(), node) {
+            return false;
+        }
+    }
+    true
+}
+
+/// Whether the totals of a row are those of the table, by both forms.
+fn has_expected_totals(row: &Row, nodes: u32) -> bool
     requires nodes { nodes ≤ 256 }
     requires row { length row.now ≡ nodes }
 {
@@ -71,50 +81,60 @@ fn compare(rt: &impl Abort, row: &Row, nodes: u32)
     let mut plain = [Score { points: 7 }; 256];
     totals(row, &mut by_lanes[..count]);
     totals_plain(row, &mut plain[..count]);
-    for node in 0..count {
-        let want = expected(count, node);
-        let (by_lane, alone) = (by_lanes[node], plain[node]);
-        assert_eq!(rt; by_lane.points, want, "by lanes, node {node} of {nodes}");
-        assert_eq!(rt; alone.points, want, "plain, node {node} of {nodes}");
-    }
+    are_expected(&by_lanes[..count]) && are_expected(&plain[..count])
+}
+
+/// The row of the table with so many nodes.
+fn whole_row(rt: &impl Abort, alloc: Global, nodes: u32) -> Row
+    requires nodes { nodes ≤ 256 }
+    ensures nodes { length result ≡ nodes }
+{
+    let terms = [
+        (nodes.saturating_sub(1), MINUS),
+        (0, PLUS),
+        (nodes / 2, MANY),
+        (nodes / 2, MANY),
+    ];
+    row_with(rt, alloc, nodes, &terms[..4 * nodes.min(1) as usize])
 }
 
 #[test]
 fn totals_of_the_table(rt: HostRuntime) {
     for nodes in LENGTHS {
-        let nodes = *nodes;
-        assert!(&rt; nodes <= 256);
-        if nodes == 0 {
-            compare(&rt, &row_with(&rt, rt.alloc(), nodes, &[]), nodes);
-        } else {
-            let middle = nodes / 2;
-            let terms = [
-                (nodes - 1, MINUS),
-                (0, PLUS),
-                (middle, MANY),
-                (middle, MANY),
-            ];
-            compare(&rt, &row_with(&rt, rt.alloc(), nodes, &terms), nodes);
-        }
+        assert!(rt; *nodes <= 256);
+        let row = whole_row(&rt, rt.alloc(), *nodes);
+        assert!(rt; has_expected_totals(&row, *nodes), "{nodes} nodes");
     }
+}
+
+/// A row of so many nodes with one of the terms of the table, and one of those of the node in the middle.
+fn half_row(rt: &impl Abort, alloc: Global, nodes: u32, node: u32, points: i32) -> Row
+    requires nodes { nodes ≤ 256 }
+    ensures nodes { length result ≡ nodes }
+    ensures small { IsSmallRow 4 result }
+{
+    let terms = [(node, points), (nodes / 2, MANY)];
+    row_with(rt, alloc, nodes, &terms[..2 * nodes.min(1) as usize])
+}
+
+/// Whether the sums of two half rows are those of the table, by both forms.
+fn has_expected_sums(rt: &impl Abort, alloc: Global, nodes: u32) -> bool
+    requires { nodes ≤ 256 }
+{
+    let last = nodes.saturating_sub(1);
+    let other = half_row(rt, alloc, nodes, 0, PLUS);
+    let mut by_lanes = half_row(rt, alloc, nodes, last, MINUS);
+    add_row(&mut by_lanes, &other);
+    let mut plain = half_row(rt, alloc, nodes, last, MINUS);
+    add_row_plain(&mut plain, &other);
+    has_expected_totals(&by_lanes, nodes) && has_expected_totals(&plain, nodes)
 }
 
 #[test]
 fn sums_of_the_table(rt: HostRuntime) {
     for nodes in LENGTHS {
-        let nodes = *nodes;
-        assert!(&rt; 0 < nodes + 1 && nodes <= 256);
-        let last = nodes.saturating_sub(1);
-        let ours = [(last, MINUS), (nodes / 2, MANY)];
-        let theirs = [(0, PLUS), (nodes / 2, MANY)];
-        let put = if nodes == 0 { 0 } else { 2 };
-        let other = row_with(&rt, rt.alloc(), nodes, &theirs[..put]);
-        let mut by_lanes = row_with(&rt, rt.alloc(), nodes, &ours[..put]);
-        add_row(&mut by_lanes, &other);
-        compare(&rt, &by_lanes, nodes);
-        let mut plain = row_with(&rt, rt.alloc(), nodes, &ours[..put]);
-        add_row_plain(&mut plain, &other);
-        compare(&rt, &plain, nodes);
+        assert!(rt; *nodes <= 256);
+        assert!(rt; has_expected_sums(&rt, rt.alloc(), *nodes), "{nodes} nodes");
     }
 }
 
@@ -132,31 +152,46 @@ fn most_of(bound: u32) -> NodeSet
     set
 }
 
+/// The scores of the table, and 7 points behind them.
+fn expected_scores(nodes: usize) -> [Score; 256]
+    requires { nodes ≤ 256 }
+{
+    let mut scores = [Score { points: 7 }; 256];
+    for node in 0..nodes {
+        scores[node] = expected(nodes, node);
+    }
+    scores
+}
+
+/// Whether a set has the candidates of the table, and no other node.
+fn has_expected_candidates(set: &NodeSet, nodes: usize) -> bool {
+    for node in 0..256u32 {
+        let at = node as usize;
+        let want = at < nodes && node % 3 != 1 && expected(nodes, at).points >= 0;
+        if set.has(node) != want {
+            return false;
+        }
+    }
+    true
+}
+
+/// Whether the candidates are those of the table, by both forms.
+fn finds_candidates(nodes: u32) -> bool
+    requires { nodes ≤ 256 }
+{
+    let count = nodes as usize;
+    let scores = expected_scores(count);
+    let within = most_of(nodes);
+    let by_lanes = candidates(&scores[..count], &within);
+    let plain = candidates_plain(&scores[..count], &within);
+    has_expected_candidates(&by_lanes, count) && has_expected_candidates(&plain, count)
+}
+
 #[test]
 fn candidates_of_the_table(rt: HostRuntime) {
     for nodes in LENGTHS {
-        let nodes = *nodes;
-        assert!(&rt; nodes <= 256);
-        let count = nodes as usize;
-        let mut scores = [Score { points: 7 }; 256];
-        for node in 0..count {
-            let points = expected(count, node);
-            assert!(&rt; MINUS <= points && points <= PLUS);
-            scores[node] = Score { points };
-        }
-        let within = most_of(nodes);
-        let by_lanes = candidates(&scores[..count], &within);
-        let plain = candidates_plain(&scores[..count], &within);
-        for node in 0..256u32 {
-            let at = node as usize;
-            let want = at < count && node % 3 != 1 && expected(count, at) >= 0;
-            assert_eq!(&rt;
-                by_lanes.has(node),
-                want,
-                "by lanes, node {node} of {nodes}"
-            );
-            assert_eq!(&rt; plain.has(node), want, "plain, node {node} of {nodes}");
-        }
+        assert!(rt; *nodes <= 256);
+        assert!(rt; finds_candidates(*nodes), "{nodes} nodes");
     }
 }
 
@@ -174,32 +209,43 @@ fn set_of(rt: &impl Abort, bound: u32, nodes: &[u32]) -> NodeSet
 }
 
 /// Loads of the four nodes, the nodes to choose from, and the one that is chosen.
-const GREATEST: &[([u32; 4], &[u32], Option<u32>)] = &[
+type Choice = ([u32; 4], &'static [u32], Option<u32>);
+
+const GREATEST: &[Choice] = &[
     ([0, 0, 1, 1], &[0, 1, 2, 3], Some(2)),
     ([0, 0, 1, 1], &[0, 1], Some(0)),
     ([0, 0, 2, 1], &[0, 1, 2, 3], Some(3)),
     ([0, 0, 1, 1], &[], None),
 ];
 
-#[test]
-fn the_greatest_of_four(rt: HostRuntime) {
+/// Chooses among scores of 5, 5, 7 and 7, by both forms.
+fn choose(rt: &impl Abort, (loads, nodes, want): &Choice) {
     let scores = [
         Score { points: 5 },
         Score { points: 5 },
         Score { points: 7 },
         Score { points: 7 },
     ];
-    for (loads, nodes, want) in GREATEST {
-        let among = set_of(&rt, 4, nodes);
-        assert!(&rt;
-            greatest(&scores, loads, &among) == *want,
-            "by lanes, {loads:?}"
-        );
-        assert!(&rt;
-            greatest_plain(&scores, loads, &among) == *want,
-            "plain, {loads:?}"
-        );
+    let among = set_of(rt, 4, nodes);
+    assert!(rt; greatest(&scores, loads, &among) == *want);
+    assert!(rt; greatest_plain(&scores, loads, &among) == *want);
+}
+
+#[test]
+fn the_greatest_of_four(rt: HostRuntime) {
+    for choice in GREATEST {
+        choose(&rt, choice);
     }
+}
+
+/// Whether a set has the first node and the last, and no other.
+fn has_the_ends(set: &NodeSet) -> bool {
+    for node in 0..256u32 {
+        if set.has(node) != (node == 0 || node == 255) {
+            return false;
+        }
+    }
+    true
 }
 
 #[test]
@@ -207,7 +253,5 @@ fn a_node_is_taken_out(rt: HostRuntime) {
     let mut set = set_of(&rt, 256, &[0, 7, 255]);
     set.take_out(7);
     set.take_out(8);
-    for node in 0..256u32 {
-        assert_eq!(&rt; set.has(node), node == 0 || node == 255, "node {node}");
-    }
+    assert!(rt; has_the_ends(&set));
 }

@@ -57,7 +57,9 @@ fn test_passes(rt: &impl Abort, alloc: Global, test: Test) -> bool {
 }
 
 /// An attribute, how and as what it is compared with a value, and whether the test passes.
-const COMPARISONS: &[(&[u8], Compare, Kind, &[u8], bool)] = &[
+type Comparison = (&'static [u8], Compare, Kind, &'static [u8], bool);
+
+const COMPARISONS: &[Comparison] = &[
     (b"rack", Compare::Eq, Kind::Auto, b"b", true),
     (b"rack", Compare::Eq, Kind::Auto, b"c", false),
     (b"rack", Compare::Ne, Kind::Word, b"c", true),
@@ -100,35 +102,42 @@ const COMPARISONS: &[(&[u8], Compare, Kind, &[u8], bool)] = &[
     (b"#uname", Compare::Eq, Kind::Auto, b"zz", false),
 ];
 
+/// Whether the test of such a row passes.
+fn compares(rt: &impl Abort, alloc: Global, (name, compare, kind, value, _): &Comparison) -> bool {
+    let test = Test::Attribute {
+        name: text(rt, alloc, name),
+        compare: *compare,
+        kind: *kind,
+        value: text(rt, alloc, value),
+    };
+    test_passes(rt, alloc, test)
+}
+
 #[test]
 fn comparisons(rt: HostRuntime) {
-    let alloc = rt.alloc();
-    for (name, compare, kind, value, expected) in COMPARISONS {
-        let test = Test::Attribute {
-            name: text(&rt, alloc, name),
-            compare: *compare,
-            kind: *kind,
-            value: text(&rt, alloc, value),
-        };
-        assert_eq!(rt; test_passes(&rt, alloc, test), *expected);
+    for row in COMPARISONS {
+        assert!(rt; compares(&rt, rt.alloc(), row) == row.4);
     }
 }
 
 /// Names, and whether the node has such an attribute.
 const NAMES: &[(&[u8], bool)] = &[(b"rack", true), (b"missing", false), (b"#uname", true)];
 
+fn is_defined(rt: &impl Abort, alloc: Global, name: &[u8]) -> bool {
+    let name = text(rt, alloc, name);
+    test_passes(rt, alloc, Test::Defined { name })
+}
+
+fn is_not_defined(rt: &impl Abort, alloc: Global, name: &[u8]) -> bool {
+    let name = text(rt, alloc, name);
+    test_passes(rt, alloc, Test::NotDefined { name })
+}
+
 #[test]
 fn presence(rt: HostRuntime) {
-    let alloc = rt.alloc();
     for (name, expected) in NAMES {
-        let defined = Test::Defined {
-            name: text(&rt, alloc, name),
-        };
-        assert_eq!(rt; test_passes(&rt, alloc, defined), *expected);
-        let not_defined = Test::NotDefined {
-            name: text(&rt, alloc, name),
-        };
-        assert_eq!(rt; test_passes(&rt, alloc, not_defined), !*expected);
+        assert!(rt; is_defined(&rt, rt.alloc(), name) == *expected);
+        assert!(rt; is_not_defined(&rt, rt.alloc(), name) != *expected);
     }
 }
 
@@ -155,7 +164,7 @@ fn moments(rt: HostRuntime) {
     for (at, before, after) in BOUNDS {
         let is_before = test_passes(&rt, alloc, Test::Before { at: *at });
         let is_after = test_passes(&rt, alloc, Test::After { at: *at });
-        assert!(rt; is_before == *before && is_after == *after, "{at}");
+        assert!(rt; is_before == *before && is_after == *after);
     }
 }
 
@@ -167,8 +176,16 @@ fn spans(rt: HostRuntime) {
             start: *start,
             end: *end,
         };
-        assert_eq!(rt; test_passes(&rt, alloc, within), *expected);
+        assert!(rt; test_passes(&rt, alloc, within) == *expected);
     }
+}
+
+/// The test for a moment before this one, and that for one after it.
+fn before_and_after(rt: &impl Abort, alloc: Global, at: i64) -> Vec<Test> {
+    let mut tests = Vec::new(alloc);
+    tests.push(Test::Before { at }).expect(rt, "memory");
+    tests.push(Test::After { at }).expect(rt, "memory");
+    tests
 }
 
 #[test]
@@ -176,15 +193,17 @@ fn joined_tests(rt: HostRuntime) {
     let alloc = rt.alloc();
     assert!(rt; rule_holds(&rt, alloc, true, Vec::new(alloc), MOMENT));
     assert!(rt; !rule_holds(&rt, alloc, false, Vec::new(alloc), MOMENT));
-    for (all, expected) in [(true, false), (false, true)] {
-        let mut tests = Vec::new(alloc);
-        tests.push(Test::Before { at: 999 }).expect(&rt, "memory");
-        tests.push(Test::After { at: 999 }).expect(&rt, "memory");
-        assert_eq!(rt; rule_holds(&rt, alloc, all, tests, MOMENT), expected);
-    }
-    let mut tests = Vec::new(alloc);
+    let all = before_and_after(&rt, alloc, 999);
+    assert!(rt; !rule_holds(&rt, alloc, true, all, MOMENT));
+    let some = before_and_after(&rt, alloc, 999);
+    assert!(rt; rule_holds(&rt, alloc, false, some, MOMENT));
+}
+
+#[test]
+fn the_last_moment(rt: HostRuntime) {
+    let mut tests = Vec::new(rt.alloc());
     tests
         .push(Test::After { at: i64::MAX })
         .expect(&rt, "memory");
-    assert!(rt; rule_holds(&rt, alloc, false, tests, u64::MAX));
+    assert!(rt; rule_holds(&rt, rt.alloc(), false, tests, u64::MAX));
 }

@@ -184,33 +184,33 @@ fn status(rt: &impl Abort, alloc: Global, cluster: &Cluster, text: &str) -> Stri
     out
 }
 
-const STATUSES: &[&[Row]] = &[JOURNALS, STATUS_FAULTS];
-
-#[test]
-fn statuses_are_read(rt: HostRuntime) {
-    let alloc = rt.alloc();
-    let cluster = cluster(&rt, alloc, CONFIGURATION);
-    for rows in STATUSES {
-        for (text, expected) in *rows {
-            let read = status(&rt, alloc, &cluster, text);
-            assert_eq!(rt; read.as_str(), *expected, "{text:?}");
-        }
+fn assert_statuses(rt: &impl Abort, alloc: Global, cluster: &Cluster, rows: &[Row]) {
+    for (text, want) in rows {
+        let read = status(rt, alloc, cluster, text);
+        assert!(rt; read.as_str() == *want, "{text:?}");
     }
 }
 
 #[test]
+fn statuses_are_read(rt: HostRuntime) {
+    let cluster = cluster(&rt, rt.alloc(), CONFIGURATION);
+    assert_statuses(&rt, rt.alloc(), &cluster, JOURNALS);
+    assert_statuses(&rt, rt.alloc(), &cluster, STATUS_FAULTS);
+}
+
+const UNSAID_IS_DOWN: &[Row] = &[(
+    "node n1 online\n",
+    "Up { node: 0 } Up { node: 1 } Down { node: 1 } Quorum { yes: false } Wait { seconds: 0 } ",
+)];
+
+#[test]
 fn unsaid_nodes_are_down_without_startup_fencing(rt: HostRuntime) {
-    let alloc = rt.alloc();
-    let cluster = cluster(&rt, alloc, WITHOUT_STARTUP_FENCING);
-    let read = status(&rt, alloc, &cluster, "node n1 online\n");
-    assert_eq!(rt;
-        read.as_str(),
-        "Up { node: 0 } Up { node: 1 } Down { node: 1 } Quorum { yes: false } Wait { seconds: 0 } "
-    );
+    let cluster = cluster(&rt, rt.alloc(), WITHOUT_STARTUP_FENCING);
+    assert_statuses(&rt, rt.alloc(), &cluster, UNSAID_IS_DOWN);
 }
 
 /// Result lines that are taken at the moment 1000, and their answers or their fault.
-const RESULTS: [Row; 38] = [
+const RESULTS: &[Row] = &[
     ("", ""),
     ("end 1 7", "1 End { number: 1, code: 7 } "),
     (
@@ -304,14 +304,17 @@ fn results(rt: &impl Abort, alloc: Global, cluster: &Cluster, text: &str) -> Str
     out
 }
 
+fn assert_results(rt: &impl Abort, alloc: Global, cluster: &Cluster, rows: &[Row]) {
+    for (text, want) in rows {
+        let read = results(rt, alloc, cluster, text);
+        assert!(rt; read.as_str() == *want, "{text:?}");
+    }
+}
+
 #[test]
 fn results_are_read(rt: HostRuntime) {
-    let alloc = rt.alloc();
-    let cluster = cluster(&rt, alloc, CONFIGURATION);
-    for (text, expected) in RESULTS.as_slice() {
-        let read = results(&rt, alloc, &cluster, text);
-        assert_eq!(rt; read.as_str(), *expected, "{text:?}");
-    }
+    let cluster = cluster(&rt, rt.alloc(), CONFIGURATION);
+    assert_results(&rt, rt.alloc(), &cluster, RESULTS);
 }
 
 /// What is read of so many lines that let no time go by, and a last one.
@@ -330,20 +333,26 @@ fn results_of_waits(
     results(rt, alloc, cluster, text.as_str())
 }
 
+/// Reads as many results as may be, and one more.
+fn ask_for_many(rt: &impl Abort, alloc: Global, cluster: &Cluster) {
+    let faulty = results_of_waits(rt, alloc, cluster, 9_999, "wait x\n");
+    assert!(rt; faulty.as_str() == "10000 BadValue");
+    let most = results_of_waits(rt, alloc, cluster, 10_000, "");
+    assert!(rt; most.as_str().ends_with("10000 Wait { seconds: 0 } "));
+    let more = results_of_waits(rt, alloc, cluster, 10_000, "%results x\n");
+    assert!(rt; more.as_str() == "10001 TooManyResults");
+}
+
 #[test]
 fn ten_thousand_results_are_read(rt: HostRuntime) {
-    let alloc = rt.alloc();
-    let cluster = cluster(&rt, alloc, CONFIGURATION);
-    let read = results_of_waits(&rt, alloc, &cluster, 9_999, "wait x\n");
-    assert_eq!(rt; read.as_str(), "10000 BadValue");
-    let read = results_of_waits(&rt, alloc, &cluster, 10_000, "");
-    assert!(rt; read.as_str().ends_with("10000 Wait { seconds: 0 } "));
-    let read = results_of_waits(&rt, alloc, &cluster, 10_000, "%results x\n");
-    assert_eq!(rt; read.as_str(), "10001 TooManyResults");
+    let cluster = cluster(&rt, rt.alloc(), CONFIGURATION);
+    ask_for_many(&rt, rt.alloc(), &cluster);
 }
 
 /// A moment, how many results came before, the bytes of a line, and its answer or its fault.
-const LINES: [(u64, u32, &str, &str); 10] = [
+type OneLine = (u64, u32, &'static str, &'static str);
+
+const LINES: &[OneLine] = &[
     (0, 0, "end 1 7\n", "Ok(End { number: 1, code: 7 })"),
     (
         5,
@@ -400,7 +409,7 @@ fn one_result(
     rt: &impl Abort,
     cluster: &Cluster,
     words: &mut WordBuf,
-    row: &(u64, u32, &str, &str),
+    row: &OneLine,
 ) -> Result<Answer, ResultFault> {
     keeps_limits(rt, cluster);
     let (moment, before, text, _) = *row;
@@ -410,15 +419,25 @@ fn one_result(
     read_result(cluster, moment, before, 7, words)
 }
 
+/// Whether this is read of the line.
+fn is_read(
+    rt: &impl Abort,
+    alloc: Global,
+    cluster: &Cluster,
+    words: &mut WordBuf,
+    row: &OneLine,
+) -> bool {
+    let read = one_result(rt, cluster, words, row);
+    let shown = format!(in alloc; "{read:?}").expect(rt, "memory");
+    shown.as_str() == row.3
+}
+
 #[test]
 fn results_are_read_line_by_line(rt: HostRuntime) {
-    let alloc = rt.alloc();
-    let cluster = cluster(&rt, alloc, CONFIGURATION);
-    let mut words = WordBuf::new(alloc).expect(&rt, "memory");
-    for row in LINES.as_slice() {
-        let read = one_result(&rt, &cluster, &mut words, row);
-        let shown = format!(in alloc; "{read:?}").expect(&rt, "memory");
-        assert_eq!(rt; shown.as_str(), row.3, "{:?}", row.2);
+    let cluster = cluster(&rt, rt.alloc(), CONFIGURATION);
+    let mut words = WordBuf::new(rt.alloc()).expect(&rt, "memory");
+    for row in LINES {
+        assert!(rt; is_read(&rt, rt.alloc(), &cluster, &mut words, row));
     }
 }
 
@@ -446,14 +465,13 @@ fn codes_have_their_class(rt: HostRuntime) {
 
 #[test]
 fn faults_print_their_line(rt: HostRuntime) {
-    let alloc = rt.alloc();
     let fault = ResultFault::At {
         line: 7,
         cause: ResultCause::TooManyResults,
     };
-    let shown = format!(in alloc; "{fault}").expect(&rt, "memory");
-    assert_eq!(rt; shown.as_str(), "line 7: TooManyResults");
+    let shown = format!(in rt.alloc(); "{fault}").expect(&rt, "memory");
+    assert!(rt; shown.as_str() == "line 7: TooManyResults");
     let fault = StatusFault::NoMemory;
-    let shown = format!(in alloc; "{fault}").expect(&rt, "memory");
-    assert_eq!(rt; shown.as_str(), "out of memory");
+    let shown = format!(in rt.alloc(); "{fault}").expect(&rt, "memory");
+    assert!(rt; shown.as_str() == "out of memory");
 }

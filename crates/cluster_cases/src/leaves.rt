@@ -25,41 +25,38 @@ fn tell_copies(told: &mut String, leaf: &Leaf) -> Result<(), AllocError> {
     )
 }
 
-fn all_copies(rt: &impl Abort, alloc: Global, leaves: &Leaves) -> String {
-    let mut told = String::new(alloc);
-    for leaf in leaves.leaves.iter() {
-        tell_copies(&mut told, leaf).expect(rt, "memory");
-    }
-    told
-}
-
-/// What is told of leaves.
+/// What is told of a leaf.
 #[derive(Clone, Copy)]
 enum Part {
     Copies,
     Meta,
     Operations,
-    Spans,
 }
 
-fn told(rt: &impl Abort, alloc: Global, part: Part, leaves: &Leaves) -> String {
+fn tell(told: &mut String, part: Part, leaf: &Leaf) -> Result<(), AllocError> {
     match part {
-        Part::Copies => all_copies(rt, alloc, leaves),
-        Part::Meta => all_meta(rt, alloc, leaves),
-        Part::Operations => all_operations(rt, alloc, leaves),
-        Part::Spans => all_spans(rt, alloc, leaves),
+        Part::Copies => tell_copies(told, leaf),
+        Part::Meta => tell_meta(told, leaf),
+        Part::Operations => tell_operations(told, leaf),
     }
 }
 
 /// A configuration in a line, and what is told of its leaves.
 type Row = (&'static str, &'static str);
 
-/// Compares what is told of the leaves.
-fn compare(rt: &impl Abort, alloc: Global, part: Part, rows: &[Row]) {
+/// Whether this is told of the leaves.
+fn is_told(rt: &impl Abort, alloc: Global, part: Part, text: &str, want: &str) -> bool {
+    let leaves = leaves(rt, alloc, text);
+    let mut told = String::new(alloc);
+    for leaf in leaves.leaves.iter() {
+        tell(&mut told, part, leaf).expect(rt, "memory");
+    }
+    told.as_str() == want
+}
+
+fn assert_told(rt: &impl Abort, alloc: Global, part: Part, rows: &[Row]) {
     for (text, want) in rows {
-        let leaves = leaves(rt, alloc, text);
-        let told = told(rt, alloc, part, &leaves);
-        assert_eq!(rt; told.as_str(), *want, "{text}");
+        assert!(rt; is_told(rt, alloc, part, text, want), "{text}");
     }
 }
 
@@ -92,7 +89,7 @@ const COPIES: &[Row] = &[
 
 #[test]
 fn copies_of_leaves(rt: HostRuntime) {
-    compare(&rt, rt.alloc(), Part::Copies, COPIES);
+    assert_told(&rt, rt.alloc(), Part::Copies, COPIES);
 }
 
 /// Its priority, stickiness, threshold, failure timeout and target role, and which of managed and migrates it is.
@@ -108,14 +105,6 @@ fn tell_meta(told: &mut String, leaf: &Leaf) -> Result<(), AllocError> {
         told,
         "{name} {priority} {stickiness} {threshold} {timeout} {role:?} {managed}{migrates};"
     )
-}
-
-fn all_meta(rt: &impl Abort, alloc: Global, leaves: &Leaves) -> String {
-    let mut told = String::new(alloc);
-    for leaf in leaves.leaves.iter() {
-        tell_meta(&mut told, leaf).expect(rt, "memory");
-    }
-    told
 }
 
 const META: &[Row] = &[
@@ -145,7 +134,7 @@ const META: &[Row] = &[
 
 #[test]
 fn meta_attributes_of_leaves(rt: HostRuntime) {
-    compare(&rt, rt.alloc(), Part::Meta, META);
+    assert_told(&rt, rt.alloc(), Part::Meta, META);
 }
 
 /// What follows a failed start, stop, promote and demote, and the monitors with what follows their failure.
@@ -158,14 +147,6 @@ fn tell_operations(told: &mut String, leaf: &Leaf) -> Result<(), AllocError> {
         write!(told, " {interval} {role:?} {on_fail:?}")?;
     }
     write!(told, ";")
-}
-
-fn all_operations(rt: &impl Abort, alloc: Global, leaves: &Leaves) -> String {
-    let mut told = String::new(alloc);
-    for leaf in leaves.leaves.iter() {
-        tell_operations(&mut told, leaf).expect(rt, "memory");
-    }
-    told
 }
 
 const OPERATIONS: &[Row] = &[
@@ -186,16 +167,18 @@ const OPERATIONS: &[Row] = &[
 
 #[test]
 fn operations_of_leaves(rt: HostRuntime) {
-    compare(&rt, rt.alloc(), Part::Operations, OPERATIONS);
+    assert_told(&rt, rt.alloc(), Part::Operations, OPERATIONS);
 }
 
-fn all_spans(rt: &impl Abort, alloc: Global, leaves: &Leaves) -> String {
+/// Whether these spans are told.
+fn has_spans(rt: &impl Abort, alloc: Global, text: &str, want: &str) -> bool {
+    let leaves = leaves(rt, alloc, text);
     let mut told = String::new(alloc);
     for span in leaves.spans.iter() {
         let (name, first, last) = (shown(&span.name), span.first, span.last);
         write!(told, "{name} {first} {last};").expect(rt, "memory");
     }
-    told
+    told.as_str() == want
 }
 
 const SPANS: &[Row] = &[
@@ -208,7 +191,9 @@ const SPANS: &[Row] = &[
 
 #[test]
 fn spans_of_resources(rt: HostRuntime) {
-    compare(&rt, rt.alloc(), Part::Spans, SPANS);
+    for (text, want) in SPANS {
+        assert!(rt; has_spans(&rt, rt.alloc(), text, want), "{text}");
+    }
 }
 
 /// The line and the cause of the fault, where there is one.
@@ -282,6 +267,6 @@ const FAULTS: &[(&str, Option<(u32, ExpandCause)>)] = &[
 #[test]
 fn faults_by_statement(rt: HostRuntime) {
     for (text, want) in FAULTS {
-        assert_eq!(rt; fault(&rt, rt.alloc(), text), *want, "{text}");
+        assert!(rt; fault(&rt, rt.alloc(), text) == *want, "{text}");
     }
 }

@@ -79,7 +79,7 @@ const COLOCATED: &[(&[Pair], Option<usize>)] = &[
 #[test]
 fn colocations_that_need_each_other(rt: HostRuntime) {
     for (pairs, want) in COLOCATED {
-        assert_eq!(rt; colocated(&rt, rt.alloc(), pairs), *want, "{pairs:?}");
+        assert!(rt; colocated(&rt, rt.alloc(), pairs) == *want);
     }
 }
 
@@ -106,18 +106,19 @@ fn order(
     }
 }
 
-/// Which order closes a loop, of those of this kind between these steps.
+/// The kind of the orders, whether they are symmetrical, their steps, and which of them closes a loop.
+type Orders = (OrderKind, bool, &'static [Steps], Option<usize>);
+
+/// Which order closes a loop.
 fn ordered(
     rt: &impl Abort,
     alloc: Global,
-    kind: OrderKind,
-    symmetrical: bool,
-    pairs: &[Steps],
+    (kind, symmetrical, pairs, _): &Orders,
 ) -> Option<usize> {
     let mut orders = Listed::new(alloc);
-    for steps in pairs {
+    for steps in *pairs {
         orders
-            .push(order(rt, alloc, kind, symmetrical, steps))
+            .push(order(rt, alloc, *kind, *symmetrical, steps))
             .expect(rt, "memory");
     }
     let cluster = cluster_with(rt, alloc, Listed::new(alloc), orders);
@@ -138,8 +139,7 @@ const NOT_THERE: [Steps; 2] = [
     (Op::Start, 0, Op::Promote, 1),
 ];
 
-/// The kind of the orders, whether they are symmetrical, their steps, and which of them closes a loop.
-const ORDERED: &[(OrderKind, bool, &[Steps], Option<usize>)] = &[
+const ORDERED: &[Orders] = &[
     (OrderKind::Mandatory, true, &[], None),
     (OrderKind::Mandatory, true, &STARTS, Some(1)),
     (OrderKind::Optional, false, &STARTS, Some(1)),
@@ -153,8 +153,7 @@ const ORDERED: &[(OrderKind, bool, &[Steps], Option<usize>)] = &[
 
 #[test]
 fn orders_that_come_before_each_other(rt: HostRuntime) {
-    for (kind, symmetrical, steps, want) in ORDERED {
-        let found = ordered(&rt, rt.alloc(), *kind, *symmetrical, steps);
-        assert_eq!(rt; found, *want, "{steps:?}");
+    for row in ORDERED {
+        assert!(rt; ordered(&rt, rt.alloc(), row) == row.3);
     }
 }

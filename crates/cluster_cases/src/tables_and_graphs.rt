@@ -8,17 +8,22 @@ use cluster_types::{
 use listed::Listed;
 use std::alloc::{AllocError, Global};
 
+/// Whether the table has the two targets that it was given, and none beside them.
+fn has_targets(table: &Table) -> bool {
+    table.target(1, 2) == Target::Promoted
+        && table.target(0, 1) == Target::Started
+        && table.target(1, 1) == Target::Nowhere
+        && table.target(0, 2) == Target::Nowhere
+}
+
 #[test]
 fn a_table_keeps_each_target(rt: HostRuntime) {
     let table = Table::nowhere(rt.alloc(), 2, 3).expect(&rt, "memory");
-    assert_eq!(rt; table.targets.len(), 6);
+    assert!(rt; table.targets.len() == 6);
     let table = table
         .with_target(1, 2, Target::Promoted)
         .with_target(0, 1, Target::Started);
-    assert_eq!(rt; table.target(1, 2), Target::Promoted);
-    assert_eq!(rt; table.target(0, 1), Target::Started);
-    assert_eq!(rt; table.target(1, 1), Target::Nowhere);
-    assert_eq!(rt; table.target(0, 2), Target::Nowhere);
+    assert!(rt; has_targets(&table));
 }
 
 fn probe(node: u32) -> Action
@@ -58,31 +63,36 @@ const BEFORE: &[(u32, u32, bool)] = &[
 #[test]
 fn an_action_comes_before_others_through_gates_alone(rt: HostRuntime) {
     let graph = joined(rt.alloc()).expect(&rt, "memory");
-    assert_eq!(rt; graph.count(), 4);
-    assert_eq!(rt; graph.edges().positions, 6);
-    assert_eq!(rt; graph.action(2), Action::Probe { leaf: 0, node: 1 });
+    assert!(rt; graph.count() == 4);
+    assert!(rt; graph.edges().positions == 6);
+    assert!(rt; graph.action(2) == Action::Probe { leaf: 0, node: 1 });
     for (x, y, before) in BEFORE {
-        assert_eq!(rt; graph.is_before(*x, *y), *before, "{x} {y}");
+        assert!(rt; graph.is_before(*x, *y) == *before);
     }
 }
 
 #[test]
 fn the_numbers_before_one(rt: HostRuntime) {
     let graph = joined(rt.alloc()).expect(&rt, "memory");
-    assert_eq!(rt; graph.count(), 4);
+    assert!(rt; graph.count() == 4);
     let before_the_third = graph.befores(rt.alloc(), 3).expect(&rt, "memory");
-    assert_eq!(rt; before_the_third.as_slice(), [1, 2].as_slice());
+    assert!(rt; before_the_third.as_slice() == [1, 2].as_slice());
     let before_the_last = graph.befores(rt.alloc(), 4).expect(&rt, "memory");
-    assert_eq!(rt; before_the_last.as_slice(), [3].as_slice());
+    assert!(rt; before_the_last.as_slice() == [3].as_slice());
+}
+
+/// Whether the roles are those of a table in which one leaf is promoted.
+fn has_roles(table: &Table) -> bool {
+    table.holds_role(1, Role::Started, 2)
+        && table.holds_role(1, Role::Promoted, 2)
+        && !table.holds_role(0, Role::Started, 2)
+        && table.target(7, 9) == Target::Nowhere
 }
 
 #[test]
 fn a_leaf_holds_the_roles_of_its_target(rt: HostRuntime) {
     let table = Table::nowhere(rt.alloc(), 2, 3).expect(&rt, "memory");
-    assert_eq!(rt; table.targets.len(), 6);
+    assert!(rt; table.targets.len() == 6);
     let table = table.with_target(1, 2, Target::Promoted);
-    assert_eq!(rt; table.holds_role(1, Role::Started, 2), true);
-    assert_eq!(rt; table.holds_role(1, Role::Promoted, 2), true);
-    assert_eq!(rt; table.holds_role(0, Role::Started, 2), false);
-    assert_eq!(rt; table.target(7, 9), Target::Nowhere);
+    assert!(rt; has_roles(&table));
 }

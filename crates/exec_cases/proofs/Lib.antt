@@ -1,1 +1,2 @@
 pub mod RisingGraphs
+pub mod RisingGraph

@@ -50,12 +50,19 @@ fn nanos(rt: &HostRuntime, bytes: &[u8]) -> io::Result<u128>
     Ok(start.elapsed(rt)?.as_nanos())
 }
 
-fn main(rt: HostRuntime) -> io::Result<()> {
-    let bytes = text(&rt)?;
-    let line = if asks_for_time(&words(&rt)?) {
-        speed_line(rt.alloc(), bytes.len(), nanos(&rt, &bytes)?)?
+/// What is printed of a text.
+fn line(rt: &HostRuntime, bytes: &[u8]) -> io::Result<String>
+    requires { length bytes.now < 2 ^ 32 }
+{
+    let line = if asks_for_time(&words(rt)?) {
+        speed_line(rt.alloc(), bytes.len(), nanos(rt, bytes)?)?
     } else {
-        report_of(rt.alloc(), &bytes)?
+        report_of(rt.alloc(), bytes)?
     };
+    Ok(line)
+}
+
+fn main(rt: HostRuntime) -> io::Result<()> {
+    let line = line(&rt, &text(&rt)?)?;
     println!(rt; "{line}")
 }

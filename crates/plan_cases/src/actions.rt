@@ -1,16 +1,14 @@
 //! What has to be done, for given targets.
 
-ghost use Rattle.std.specs.Prelude.{◌≡◌, true};
-ghost use Rattle.cluster_types.specs.Valid.{IsValid, KeepsLimits};
-ghost use Rattle.state_unpack.specs.CellsKept.{has_few_monitors};
+ghost use Rattle.cluster_types.specs.Valid.{IsValid};
 
-use crate::plain::{Todo, action, input_of, text_of};
+use crate::cases::{Case, check_all};
+use crate::plain::{Known, known_by};
+use crate::todos::{Todo, action};
 use action_build::actions;
-use cluster_types::{Action, Op, Pin, Placed, Role, Table, Target, moment_of};
-use input_reading::Input;
+use cluster_types::{Action, Op, Pin, Placed, Role, Table, Target};
 use listed::Listed;
 use quorum_fence::rights;
-use state_unpack::unpack;
 use std::alloc::Global;
 use std::process::Abort;
 
@@ -29,18 +27,13 @@ fn placed(rt: &impl Abort, alloc: Global, leaves: usize, targets: &[Target]) -> 
     }
 }
 
-/// The actions that an input and these targets need.
-fn needed(rt: &impl Abort, alloc: Global, input: &Input, targets: &[Target]) -> Vec<Action>
-    requires valid { IsValid input.now.head.cluster }
-    requires limits { KeepsLimits input.now.head.cluster }
-    requires monitors { has_few_monitors input.now.head.cluster ≡ true }
+/// The actions that are needed for these targets.
+fn needed(rt: &impl Abort, alloc: Global, known: &Known, targets: &[Target]) -> Vec<Action>
+    requires { IsValid known.now.cluster }
 {
-    let cluster = &input.head.cluster;
-    let journal = &input.head.journal;
-    assert!(rt; moment_of(journal.events.as_slice()) < 18_446_744_073_709_551_616);
-    let states = unpack(alloc, cluster, journal).expect(rt, "memory");
+    let (cluster, states) = (&known.cluster, &known.states);
     let placed = placed(rt, alloc, cluster.leaves.len(), targets);
-    actions(alloc, cluster, &states, rights(cluster, &states), &placed).expect(rt, "memory")
+    actions(alloc, cluster, states, rights(cluster, states), &placed).expect(rt, "memory")
 }
 
 const OFF: Target = Target::Nowhere;
@@ -85,80 +78,87 @@ const B_RUNS_THERE: &str = "op n2 b start 0 0 900\nop n1 b monitor 0 7 900\n";
 const A_PROMOTED: &str =
     "op n1 a start 0 0 900\nop n1 a promote 0 0 900\nop n2 a start 0 0 900\nop n2 a monitor 11000 0 900\n";
 
-/// The parts of an input, the targets of its cells, and the actions that are needed, in whatever order.
-type Row = (&'static [&'static str], &'static [Target], &'static [Todo]);
+/// An input, and what it needs.
+struct Row {
+    /// The parts of the input.
+    parts: &'static [&'static str],
+    /// The targets of its cells.
+    targets: &'static [Target],
+    /// The actions that are needed, in whatever order.
+    todos: &'static [Todo],
+}
 
-const ROWS: [Row; 13] = [
+const ROWS: &[Row] = &[
     // Nothing is known: probes come too.
-    (
-        &[HEAD, A, STATUS, SECOND],
-        &[ON, OFF],
-        &[
+    Row {
+        parts: &[HEAD, A, STATUS, SECOND],
+        targets: &[ON, OFF],
+        todos: &[
             Todo::Probe(0, 0),
             Todo::Probe(0, 1),
             Todo::Step(Op::Start, 0, 0),
             Todo::Watch(0, 0, 10_000, Role::Started),
             Todo::Watch(0, 0, 20_000, Role::Started),
         ],
-    ),
+    },
     // The second node isn't there.
-    (
-        &[HEAD, B, STATUS],
-        &[ON, OFF],
-        &[
+    Row {
+        parts: &[HEAD, B, STATUS],
+        targets: &[ON, OFF],
+        todos: &[
             Todo::Fence(1),
             Todo::Probe(0, 0),
             Todo::Step(Op::Start, 0, 0),
         ],
-    ),
+    },
     // What runs stays, and the monitor that isn't running is needed.
-    (
-        &[HEAD, A, STATUS, SECOND, A_RUNS],
-        &[ON, OFF],
-        &[Todo::Watch(0, 0, 10_000, Role::Started)],
-    ),
-    (
-        &[HEAD, A, STATUS, SECOND, A_RUNS],
-        &[OFF, ON],
-        &[
+    Row {
+        parts: &[HEAD, A, STATUS, SECOND, A_RUNS],
+        targets: &[ON, OFF],
+        todos: &[Todo::Watch(0, 0, 10_000, Role::Started)],
+    },
+    Row {
+        parts: &[HEAD, A, STATUS, SECOND, A_RUNS],
+        targets: &[OFF, ON],
+        todos: &[
             Todo::Step(Op::Stop, 0, 0),
             Todo::Step(Op::Start, 0, 1),
             Todo::Watch(0, 1, 10_000, Role::Started),
             Todo::Watch(0, 1, 20_000, Role::Started),
         ],
-    ),
-    (
-        &[HEAD, MOVED, STATUS, SECOND, A_RUNS],
-        &[OFF, ON],
-        &[
+    },
+    Row {
+        parts: &[HEAD, MOVED, STATUS, SECOND, A_RUNS],
+        targets: &[OFF, ON],
+        todos: &[
             Todo::Step(Op::Stop, 0, 0),
             Todo::Send(0, 0, 1),
             Todo::TakeIn(0, 0, 1),
             Todo::Watch(0, 1, 10_000, Role::Started),
             Todo::Watch(0, 1, 20_000, Role::Started),
         ],
-    ),
+    },
     // It runs twice, so it is cycled.
-    (
-        &[
+    Row {
+        parts: &[
             HEAD,
             B,
             STATUS,
             SECOND,
             "op n1 b start 0 0 900\nop n2 b start 0 0 900\n",
         ],
-        &[ON, OFF],
-        &[
+        targets: &[ON, OFF],
+        todos: &[
             Todo::Step(Op::Stop, 0, 0),
             Todo::Step(Op::Start, 0, 0),
             Todo::Step(Op::Stop, 0, 1),
         ],
-    ),
+    },
     // What depends on a failed resource is cycled.
-    (
-        &[HEAD, A, B, ORDER, STATUS, SECOND, A_FAILED, B_RUNS],
-        &[ON, OFF, ON, OFF],
-        &[
+    Row {
+        parts: &[HEAD, A, B, ORDER, STATUS, SECOND, A_FAILED, B_RUNS],
+        targets: &[ON, OFF, ON, OFF],
+        todos: &[
             Todo::Step(Op::Stop, 0, 0),
             Todo::Step(Op::Start, 0, 0),
             Todo::Watch(0, 0, 10_000, Role::Started),
@@ -166,22 +166,22 @@ const ROWS: [Row; 13] = [
             Todo::Step(Op::Stop, 1, 0),
             Todo::Step(Op::Start, 1, 0),
         ],
-    ),
-    (
-        &[HEAD, A, B, STATUS, SECOND, A_FAILED, B_RUNS],
-        &[ON, OFF, ON, OFF],
-        &[
+    },
+    Row {
+        parts: &[HEAD, A, B, STATUS, SECOND, A_FAILED, B_RUNS],
+        targets: &[ON, OFF, ON, OFF],
+        todos: &[
             Todo::Step(Op::Stop, 0, 0),
             Todo::Step(Op::Start, 0, 0),
             Todo::Watch(0, 0, 10_000, Role::Started),
             Todo::Watch(0, 0, 20_000, Role::Started),
         ],
-    ),
+    },
     // The first of an order migrates, and its then is cycled.
-    (
-        &[HEAD, MOVED, B, ORDER, STATUS, SECOND, A_RUNS, B_RUNS],
-        &[OFF, ON, ON, OFF],
-        &[
+    Row {
+        parts: &[HEAD, MOVED, B, ORDER, STATUS, SECOND, A_RUNS, B_RUNS],
+        targets: &[OFF, ON, ON, OFF],
+        todos: &[
             Todo::Step(Op::Stop, 0, 0),
             Todo::Send(0, 0, 1),
             Todo::TakeIn(0, 0, 1),
@@ -190,12 +190,12 @@ const ROWS: [Row; 13] = [
             Todo::Step(Op::Stop, 1, 0),
             Todo::Step(Op::Start, 1, 0),
         ],
-    ),
+    },
     // The other side of a separation moves, or there is none.
-    (
-        &[HEAD, MOVED, B, APART, STATUS, SECOND, A_RUNS, B_RUNS_THERE],
-        &[OFF, ON, ON, OFF],
-        &[
+    Row {
+        parts: &[HEAD, MOVED, B, APART, STATUS, SECOND, A_RUNS, B_RUNS_THERE],
+        targets: &[OFF, ON, ON, OFF],
+        todos: &[
             Todo::Step(Op::Stop, 0, 0),
             Todo::Step(Op::Start, 0, 1),
             Todo::Watch(0, 1, 10_000, Role::Started),
@@ -203,11 +203,11 @@ const ROWS: [Row; 13] = [
             Todo::Step(Op::Stop, 1, 1),
             Todo::Step(Op::Start, 1, 0),
         ],
-    ),
-    (
-        &[HEAD, MOVED, B, STATUS, SECOND, A_RUNS, B_RUNS_THERE],
-        &[OFF, ON, ON, OFF],
-        &[
+    },
+    Row {
+        parts: &[HEAD, MOVED, B, STATUS, SECOND, A_RUNS, B_RUNS_THERE],
+        targets: &[OFF, ON, ON, OFF],
+        todos: &[
             Todo::Step(Op::Stop, 0, 0),
             Todo::Send(0, 0, 1),
             Todo::TakeIn(0, 0, 1),
@@ -216,36 +216,42 @@ const ROWS: [Row; 13] = [
             Todo::Step(Op::Stop, 1, 1),
             Todo::Step(Op::Start, 1, 0),
         ],
-    ),
+    },
     // The promotion moves.
-    (
-        &[HEAD, PROMOTABLE, STATUS, SECOND, A_PROMOTED],
-        &[ON, UP],
-        &[
+    Row {
+        parts: &[HEAD, PROMOTABLE, STATUS, SECOND, A_PROMOTED],
+        targets: &[ON, UP],
+        todos: &[
             Todo::Step(Op::Demote, 0, 0),
             Todo::Watch(0, 0, 11_000, Role::Started),
             Todo::Step(Op::Promote, 0, 1),
             Todo::Watch(0, 1, 10_000, Role::Promoted),
         ],
-    ),
-    (
-        &[HEAD, PROMOTABLE, STATUS, SECOND, A_PROMOTED],
-        &[OFF, ON],
-        &[Todo::Step(Op::Demote, 0, 0), Todo::Step(Op::Stop, 0, 0)],
-    ),
+    },
+    Row {
+        parts: &[HEAD, PROMOTABLE, STATUS, SECOND, A_PROMOTED],
+        targets: &[OFF, ON],
+        todos: &[Todo::Step(Op::Demote, 0, 0), Todo::Step(Op::Stop, 0, 0)],
+    },
 ];
+
+/// Whether the actions are these, in whatever order.
+fn are(actions: &[Action], todos: &[Todo]) -> bool {
+    actions.len() == todos.len() && todos.iter().all(|todo| actions.contains(&action(*todo)))
+}
+
+impl Case for Row {
+    fn known(&self, rt: &impl Abort, alloc: Global) -> Known {
+        known_by(rt, alloc, self.parts)
+    }
+
+    fn holds(&self, rt: &impl Abort, alloc: Global, known: &Known) -> bool {
+        let found = needed(rt, alloc, known, self.targets);
+        are(found.as_slice(), self.todos)
+    }
+}
 
 #[test]
 fn what_is_needed_is_listed_once(rt: HostRuntime) {
-    let alloc = rt.alloc();
-    for row in &ROWS {
-        let (parts, targets, expected) = *row;
-        let text = text_of(&rt, alloc, parts);
-        let input = input_of(&rt, alloc, text.as_slice());
-        let found = needed(&rt, alloc, &input, targets);
-        assert!(rt; found.len() == expected.len());
-        for todo in expected {
-            assert!(rt; found.contains(&action(*todo)));
-        }
-    }
+    check_all(&rt, rt.alloc(), ROWS);
 }

@@ -1,48 +1,58 @@
 //! Which numbers the actions of a plan have, and which of them come before which.
 
-ghost use Rattle.std.specs.Prelude.{◌≡◌, ◌^◌, ◌<◌, true};
-ghost use Rattle.cluster_types.specs.Journals.{moment_of};
-ghost use Rattle.cluster_types.specs.Valid.{IsValid, KeepsLimits};
-ghost use Rattle.state_unpack.specs.CellsKept.{has_few_monitors};
+ghost use Rattle.std.specs.Prelude.{◌≡◌, ◌<◌, ◌≤◌, length};
+ghost use Rattle.cluster_types.specs.Unpacked.{states_of};
+ghost use Rattle.cluster_types.specs.Valid.{IsValid};
 
-use crate::plain::{Todo, action, input_of, text_of};
+use crate::cases::{Case, check_all};
+use crate::plain::{Known, known_by};
+use crate::todos::{Todo, action};
 use action_build::actions;
-use cluster_types::{Cluster, Graph, Journal, NoMemory, Op, Role, moment_of};
+use cluster_types::{Graph, Op, Role};
 use graph_number::number;
 use placement::place;
 use quorum_fence::rights;
 use score_table::rows;
-use state_unpack::unpack;
 use std::alloc::Global;
 use std::process::Abort;
 
-/// The graph of the plan for a journal.
-fn graph(alloc: Global, cluster: &Cluster, journal: &Journal) -> Result<Graph, NoMemory>
-    requires valid { IsValid cluster.now }
-    requires limits { KeepsLimits cluster.now }
-    requires monitors { has_few_monitors cluster.now ≡ true }
-    requires moment { moment_of journal.now.events < 2 ^ 40 }
+/// The graph of the plan.
+fn graph(rt: &impl Abort, alloc: Global, known: &Known) -> Graph
+    requires valid { IsValid known.now.cluster }
+    requires told { known.now.states ≡ states_of known.now.cluster known.now.journal.events known.now.journal.promotions }
 {
-    let states = unpack(alloc, cluster, journal)?;
-    let scores = rows(alloc, cluster, &states)?;
-    let placed = place(alloc, cluster, &states, &scores)?;
-    let rights = rights(cluster, &states);
-    let actions = actions(alloc, cluster, &states, rights, &placed)?;
-    number(alloc, cluster, actions)
+    let (cluster, states) = (&known.cluster, &known.states);
+    let scores = rows(alloc, cluster, states).expect(rt, "memory");
+    let placed = place(alloc, cluster, states, &scores).expect(rt, "memory");
+    let rights = rights(cluster, states);
+    let actions = actions(alloc, cluster, states, rights, &placed).expect(rt, "memory");
+    number(alloc, cluster, actions).expect(rt, "memory")
 }
 
 /// An action, and the numbers of those that come before it.
 type Line = (Todo, &'static [u32]);
 
+/// Whether the action of this number is this one, with these before it.
+fn is_line(rt: &impl Abort, alloc: Global, graph: &Graph, number: u32, line: &Line) -> bool
+    requires from_one { 0 < number }
+    requires to_count { number ≤ length graph.now.actions }
+{
+    let (todo, numbers) = *line;
+    let befores = graph.befores(alloc, number).expect(rt, "memory");
+    graph.action(number) == action(todo) && befores.as_slice() == numbers
+}
+
 /// Whether the graph has these actions in the order of their numbers, each with these before it.
-fn agrees(rt: &impl Abort, alloc: Global, graph: &Graph, lines: &[Line]) {
-    assert!(rt; graph.count() as usize == lines.len());
-    for place in 0..graph.count() {
-        let (todo, numbers) = *lines.get(place as usize).expect(rt, "a line");
-        assert!(rt; graph.action(place + 1) == action(todo));
-        let befores = graph.befores(alloc, place + 1).expect(rt, "memory");
-        assert!(rt; befores.as_slice() == numbers);
+fn has_lines(rt: &impl Abort, alloc: Global, graph: &Graph, lines: &[Line]) -> bool {
+    if graph.count() as usize != lines.len() {
+        return false;
     }
+    for place in 0..graph.count() {
+        if !is_line(rt, alloc, graph, place + 1, &lines[place as usize]) {
+            return false;
+        }
+    }
+    true
 }
 
 const TWO: &str = "node n1\nnode n2\n";
@@ -80,13 +90,17 @@ const ELSEWHERE: &str =
     op n1 b start 0 0 900\nop n2 b monitor 0 7 900\nop n3 b monitor 0 7 900\n\
     op n2 c start 0 0 900\nop n1 c monitor 0 7 900\nop n3 c monitor 0 7 900\n";
 
-/// The parts of an input, and the lines of its graph.
-type Row = (&'static [&'static str], &'static [Line]);
+/// An input, and its graph.
+struct Row {
+    /// The parts of the input.
+    parts: &'static [&'static str],
+    lines: &'static [Line],
+}
 
-const ROWS: [Row; 9] = [
+const ROWS: &[Row] = &[
     // A group moves, since its second member has failed.
-    (
-        &[
+    Row {
+        parts: &[
             TWO,
             A,
             "primitive b Dummy op monitor interval=10s meta migration-threshold=1\nprimitive c Dummy\ngroup g a b c\n",
@@ -94,7 +108,7 @@ const ROWS: [Row; 9] = [
             "op n1 a start 0 0 900\nop n2 a monitor 0 7 900\nop n1 b start 0 0 900\nop n2 b monitor 0 7 900\n",
             "op n1 c start 0 0 900\nop n2 c monitor 0 7 900\nop n1 b monitor 10000 1 990\n",
         ],
-        &[
+        lines: &[
             (Todo::Step(Op::Stop, 2, 0), &[]),
             (Todo::Step(Op::Stop, 1, 0), &[1]),
             (Todo::Step(Op::Stop, 0, 0), &[2]),
@@ -103,10 +117,10 @@ const ROWS: [Row; 9] = [
             (Todo::Step(Op::Start, 2, 1), &[1, 5]),
             (Todo::Watch(1, 1, 10_000, Role::Started), &[5]),
         ],
-    ),
+    },
     // Two that must be apart change places.
-    (
-        &[
+    Row {
+        parts: &[
             TWO,
             A,
             B,
@@ -114,57 +128,57 @@ const ROWS: [Row; 9] = [
             STATUS,
             "op n1 a start 0 0 900\nop n2 b start 0 0 900\nop n2 a monitor 0 7 900\nop n1 b monitor 0 7 900\n",
         ],
-        &[
+        lines: &[
             (Todo::Step(Op::Stop, 0, 0), &[]),
             (Todo::Step(Op::Stop, 1, 1), &[]),
             (Todo::Step(Op::Start, 0, 1), &[1, 2]),
             (Todo::Step(Op::Start, 1, 0), &[1, 2]),
         ],
-    ),
+    },
     // The promotion moves, and what depends on it.
-    (
-        &[TWO, PROMOTABLE, STATUS, PROMOTED],
-        &[
+    Row {
+        parts: &[TWO, PROMOTABLE, STATUS, PROMOTED],
+        lines: &[
             (Todo::Step(Op::Stop, 1, 0), &[]),
             (Todo::Step(Op::Demote, 0, 0), &[1]),
             (Todo::Step(Op::Promote, 0, 1), &[2]),
             (Todo::Step(Op::Start, 1, 1), &[1, 3]),
         ],
-    ),
+    },
     // A clone starts behind another, node by node or as a whole.
-    (
-        &[
+    Row {
+        parts: &[
             TWO,
             CLONES,
             "clone cq q meta interleave=true\norder o cp cq\n",
             STATUS,
             NO_CLONES,
         ],
-        &[
+        lines: &[
             (Todo::Step(Op::Start, 0, 0), &[]),
             (Todo::Step(Op::Start, 0, 1), &[]),
             (Todo::Step(Op::Start, 1, 0), &[1]),
             (Todo::Step(Op::Start, 1, 1), &[2]),
         ],
-    ),
-    (
-        &[
+    },
+    Row {
+        parts: &[
             TWO,
             CLONES,
             "clone cq q\norder o cp cq\n",
             STATUS,
             NO_CLONES,
         ],
-        &[
+        lines: &[
             (Todo::Step(Op::Start, 0, 0), &[]),
             (Todo::Step(Op::Start, 0, 1), &[]),
             (Todo::Step(Op::Start, 1, 0), &[1, 2]),
             (Todo::Step(Op::Start, 1, 1), &[1, 2]),
         ],
-    ),
+    },
     // Never at once, so in the order of their numbers.
-    (
-        &[
+    Row {
+        parts: &[
             TWO,
             A,
             B,
@@ -172,14 +186,14 @@ const ROWS: [Row; 9] = [
             STATUS,
             "op n1 a monitor 0 7 900\nop n1 b monitor 0 7 900\nop n2 a monitor 0 7 900\nop n2 b monitor 0 7 900\n",
         ],
-        &[
+        lines: &[
             (Todo::Step(Op::Start, 0, 0), &[]),
             (Todo::Step(Op::Start, 1, 1), &[1]),
         ],
-    ),
-    (
-        &[ONE_BY_ONE, STATUS, ELSEWHERE],
-        &[
+    },
+    Row {
+        parts: &[ONE_BY_ONE, STATUS, ELSEWHERE],
+        lines: &[
             (Todo::Step(Op::Stop, 0, 0), &[]),
             (Todo::Step(Op::Stop, 1, 0), &[]),
             (Todo::Step(Op::Stop, 2, 1), &[1, 2]),
@@ -187,46 +201,48 @@ const ROWS: [Row; 9] = [
             (Todo::Step(Op::Start, 1, 2), &[2, 3]),
             (Todo::Step(Op::Start, 2, 0), &[1, 2, 3, 4, 5]),
         ],
-    ),
+    },
     // A rule of a date has ended.
-    (
-        &[
+    Row {
+        parts: &[
             TWO,
             VIP,
             "%status\nnow 1001\nquorum yes\nnode n1 online\nnode n2 online\n",
             "op n1 vip start 0 0 900\nop n2 vip monitor 0 7 900\n",
         ],
-        &[
+        lines: &[
             (Todo::Step(Op::Stop, 0, 0), &[]),
             (Todo::Step(Op::Start, 0, 1), &[1]),
         ],
-    ),
+    },
     // Moved live.
-    (
-        &[
+    Row {
+        parts: &[
             TWO,
             "primitive vm VirtualDomain meta allow-migrate=true\nlocation l vm 50: n2\n",
             STATUS,
             "op n1 vm start 0 0 900\nop n2 vm monitor 0 7 900\n",
         ],
-        &[
+        lines: &[
             (Todo::Send(0, 0, 1), &[]),
             (Todo::TakeIn(0, 0, 1), &[1]),
             (Todo::Step(Op::Stop, 0, 0), &[2]),
         ],
-    ),
+    },
 ];
+
+impl Case for Row {
+    fn known(&self, rt: &impl Abort, alloc: Global) -> Known {
+        known_by(rt, alloc, self.parts)
+    }
+
+    fn holds(&self, rt: &impl Abort, alloc: Global, known: &Known) -> bool {
+        let graph = graph(rt, alloc, known);
+        has_lines(rt, alloc, &graph, self.lines)
+    }
+}
 
 #[test]
 fn each_action_has_its_number_and_those_before_it(rt: HostRuntime) {
-    let alloc = rt.alloc();
-    for row in &ROWS {
-        let (parts, lines) = *row;
-        let text = text_of(&rt, alloc, parts);
-        let input = input_of(&rt, alloc, text.as_slice());
-        let journal = &input.head.journal;
-        assert!(rt; moment_of(journal.events.as_slice()) < 1_099_511_627_776);
-        let graph = graph(alloc, &input.head.cluster, journal).expect(&rt, "memory");
-        agrees(&rt, alloc, &graph, lines);
-    }
+    check_all(&rt, rt.alloc(), ROWS);
 }

@@ -1,83 +1,86 @@
-//! Small inputs that a text says.
+//! Small clusters and journals that texts say.
 
 ghost use Rattle.std.specs.Prelude.{◌≡◌, true};
+ghost use Rattle.cluster_types.specs.Unpacked.{states_of};
 ghost use Rattle.cluster_types.specs.Valid.{IsValid, KeepsLimits};
 ghost use Rattle.state_unpack.specs.CellsKept.{has_few_monitors};
 
-use cluster_types::{Action, Cluster, LeafId, NodeId, Op, Role};
-use input_reading::{Input, read_input};
-use state_unpack::valid_clusters_have_few_monitors;
+use cluster_types::{Cluster, Journal, States, moment_of};
+use input_reading::read_input;
+use state_unpack::{unpack, valid_clusters_have_few_monitors};
 use std::alloc::Global;
 use std::process::Abort;
 
-/// What an input says.
-pub fn input_of(rt: &impl Abort, alloc: Global, text: &[u8]) -> Input
-    ensures valid { IsValid result.head.cluster }
-    ensures limits { KeepsLimits result.head.cluster }
-    ensures monitors { has_few_monitors result.head.cluster ≡ true }
-{
-    valid_clusters_have_few_monitors();
-    assert!(rt; text.len() <= 16_777_216);
-    let text = text.to_vec(alloc).expect(rt, "memory");
-    read_input(alloc, text).expect(rt, "the input is read")
-}
-
-/// The cluster of a configuration.
-pub fn cluster_of(rt: &impl Abort, alloc: Global, text: &str) -> Cluster
-    ensures { IsValid result }
-{
-    input_of(rt, alloc, text.as_bytes()).head.cluster
-}
-
-/// An action of which leaf on which node: a probe, a step, a monitor of this interval, and the two halves of a migration from the first node to the
-/// second. A fence is of no leaf.
-#[derive(Clone, Copy)]
-pub enum Todo {
-    Fence(NodeId),
-    Probe(LeafId, NodeId),
-    Step(Op, LeafId, NodeId),
-    Watch(LeafId, NodeId, u32, Role),
-    Send(LeafId, NodeId, NodeId),
-    TakeIn(LeafId, NodeId, NodeId),
-}
-
-/// The action.
-pub fn action(todo: Todo) -> Action {
-    match todo {
-        Todo::Fence(node) => Action::Fence { node },
-        Todo::Probe(leaf, node) => Action::Probe { leaf, node },
-        Todo::Step(op, leaf, node) => Action::Cell {
-            op,
-            leaf,
-            node,
-            interval_ms: 0,
-            role: Role::Started,
-        },
-        Todo::Watch(leaf, node, interval_ms, role) => Action::Cell {
-            op: Op::Monitor,
-            leaf,
-            node,
-            interval_ms,
-            role,
-        },
-        Todo::Send(leaf, source, target) => Action::MigrateTo {
-            leaf,
-            source,
-            target,
-        },
-        Todo::TakeIn(leaf, source, target) => Action::MigrateFrom {
-            leaf,
-            source,
-            target,
-        },
-    }
-}
-
-/// Some parts of a text, one behind the other.
-pub fn text_of(rt: &impl Abort, alloc: Global, parts: &[&str]) -> Vec<u8> {
+/// These parts of a text, one behind the other.
+fn text_of(rt: &impl Abort, alloc: Global, parts: &[&str]) -> Vec<u8> {
     let mut text = Vec::new(alloc);
     for part in parts {
         text.extend_from_slice(part.as_bytes()).expect(rt, "memory");
     }
     text
+}
+
+/// What an input gives: the cluster, and the first journal.
+#[derive(Drop)]
+struct Given {
+    cluster: Cluster,
+    journal: Journal,
+}
+
+/// What an input of these parts gives.
+fn input_of(rt: &impl Abort, alloc: Global, parts: &[&str]) -> Given
+    ensures valid { IsValid result.cluster }
+    ensures limits { KeepsLimits result.cluster }
+    ensures monitors { has_few_monitors result.cluster ≡ true }
+{
+    valid_clusters_have_few_monitors();
+    let text = text_of(rt, alloc, parts);
+    assert!(rt; text.len() <= 16_777_216);
+    let head = read_input(alloc, text).expect(rt, "the input is read").head;
+    Given {
+        cluster: head.cluster,
+        journal: head.journal,
+    }
+}
+
+/// The cluster of a configuration.
+pub fn cluster_of(rt: &impl Abort, alloc: Global, text: &str) -> Cluster
+    ensures valid { IsValid result }
+    ensures limits { KeepsLimits result }
+    ensures monitors { has_few_monitors result ≡ true }
+{
+    input_of(rt, alloc, &[text]).cluster
+}
+
+/// A cluster, a journal, and what this tells of it.
+#[derive(Drop)]
+pub struct Known {
+    pub cluster: Cluster,
+    pub journal: Journal,
+    pub states: States,
+}
+
+/// What a journal tells of a cluster, and both.
+pub fn known_of(rt: &impl Abort, alloc: Global, cluster: Cluster, journal: Journal) -> Known
+    requires valid { IsValid cluster }
+    ensures valid { IsValid result.cluster }
+    ensures told { result.states ≡ states_of result.cluster result.journal.events result.journal.promotions }
+{
+    valid_clusters_have_few_monitors();
+    assert!(rt; moment_of(journal.events.as_slice()) < 18_446_744_073_709_551_616);
+    let states = unpack(alloc, &cluster, &journal).expect(rt, "memory");
+    Known {
+        cluster,
+        journal,
+        states,
+    }
+}
+
+/// What an input of these parts says.
+pub fn known_by(rt: &impl Abort, alloc: Global, parts: &[&str]) -> Known
+    ensures valid { IsValid result.cluster }
+    ensures told { result.states ≡ states_of result.cluster result.journal.events result.journal.promotions }
+{
+    let given = input_of(rt, alloc, parts);
+    known_of(rt, alloc, given.cluster, given.journal)
 }

@@ -1,7 +1,8 @@
 //! How high steps stand above those that must come before them, and in which order actions are numbered.
 
 use crate::plain::cluster_of;
-use cluster_types::{Action, LeafId, NodeId, Op, Role};
+use crate::todos::{Todo, action};
+use cluster_types::{LeafId, Op, Role};
 use std::alloc::Global;
 use std::process::Abort;
 use step_ranks::{StepRanks, ranks};
@@ -23,7 +24,7 @@ const C: LeafId = 2;
 const NONE: LeafId = 3;
 
 /// The ranks of the demote, the stop, the start and the promote of each leaf.
-const RANKS: [(LeafId, [u32; 4]); 4] = [
+const RANKS: &[(LeafId, [u32; 4])] = &[
     (A, [0, 3, 0, 0]),
     (B, [0, 2, 1, 0]),
     (C, [0, 1, 0, 2]),
@@ -35,78 +36,51 @@ fn ranks_of(rt: &impl Abort, alloc: Global) -> StepRanks {
     ranks(alloc, &cluster).expect(rt, "memory")
 }
 
+/// Whether the leaf has these ranks, and its monitors have none.
+fn has_ranks(ranks: &StepRanks, leaf: LeafId, expected: [u32; 4]) -> bool {
+    let found = [
+        ranks.rank(Op::Demote, leaf),
+        ranks.rank(Op::Stop, leaf),
+        ranks.rank(Op::Start, leaf),
+        ranks.rank(Op::Promote, leaf),
+    ];
+    found == expected && ranks.rank(Op::Monitor, leaf) == 0
+}
+
 #[test]
 fn a_rank_is_the_longest_chain(rt: HostRuntime) {
     let ranks = ranks_of(&rt, rt.alloc());
-    for row in &RANKS {
+    for row in RANKS {
         let (leaf, expected) = *row;
-        let found = [
-            ranks.rank(Op::Demote, leaf),
-            ranks.rank(Op::Stop, leaf),
-            ranks.rank(Op::Start, leaf),
-            ranks.rank(Op::Promote, leaf),
-        ];
-        assert!(rt; found == expected);
-        assert!(rt; ranks.rank(Op::Monitor, leaf) == 0);
-    }
-}
-
-fn step(op: Op, leaf: LeafId, node: NodeId) -> Action {
-    Action::Cell {
-        op,
-        leaf,
-        node,
-        interval_ms: 0,
-        role: Role::Started,
-    }
-}
-
-fn monitor(leaf: LeafId, node: NodeId, interval_ms: u32) -> Action {
-    Action::Cell {
-        op: Op::Monitor,
-        leaf,
-        node,
-        interval_ms,
-        role: Role::Started,
+        assert!(rt; has_ranks(&ranks, leaf, expected));
     }
 }
 
 /// In the order of their numbers, where `a` migrates.
-fn actions() -> [Action; 15] {
-    [
-        Action::Fence { node: 1 },
-        Action::Probe { leaf: B, node: 0 },
-        step(Op::Demote, C, 1),
-        step(Op::Stop, C, 0),
-        step(Op::Stop, B, 0),
-        Action::MigrateTo {
-            leaf: A,
-            source: 0,
-            target: 1,
-        },
-        Action::MigrateFrom {
-            leaf: A,
-            source: 0,
-            target: 1,
-        },
-        step(Op::Stop, A, 0),
-        step(Op::Start, A, 1),
-        step(Op::Start, C, 0),
-        step(Op::Start, B, 0),
-        step(Op::Promote, C, 1),
-        monitor(A, 1, 10_000),
-        monitor(B, 0, 5_000),
-        monitor(B, 0, 10_000),
-    ]
-}
+const TODOS: [Todo; 15] = [
+    Todo::Fence(1),
+    Todo::Probe(B, 0),
+    Todo::Step(Op::Demote, C, 1),
+    Todo::Step(Op::Stop, C, 0),
+    Todo::Step(Op::Stop, B, 0),
+    Todo::Send(A, 0, 1),
+    Todo::TakeIn(A, 0, 1),
+    Todo::Step(Op::Stop, A, 0),
+    Todo::Step(Op::Start, A, 1),
+    Todo::Step(Op::Start, C, 0),
+    Todo::Step(Op::Start, B, 0),
+    Todo::Step(Op::Promote, C, 1),
+    Todo::Watch(A, 1, 10_000, Role::Started),
+    Todo::Watch(B, 0, 5_000, Role::Started),
+    Todo::Watch(B, 0, 10_000, Role::Started),
+];
 
 #[test]
 fn actions_are_numbered_by_phase_and_rank(rt: HostRuntime) {
     let ranks = ranks_of(&rt, rt.alloc());
-    let actions = actions();
     for i in 0..15 {
         for j in 0..15 {
-            let is_before = ranks.before(&[true], &actions[i], &actions[j]);
+            let is_before = ranks.before(&[true], &action(TODOS[i]), &action(TODOS[j]));
             assert!(rt; is_before == (i < j));
         }
     }

@@ -1,12 +1,11 @@
 //! What the word `audit` writes.
 
-use crate::outcome::{EASY, outcome};
+use crate::outcome::{easy, outcome_of};
 use crate::table::{Row, assert_each, assert_whole_or_refused};
 use crate::{inputs, replay_losses, replay_roles, replay_starts};
 use sim_core::Status;
-use std::alloc::{AllocError, Global};
+use std::alloc::Global;
 use std::process::Abort;
-use std::test::Fail;
 
 /// Comments, blank lines and leading zeros make no difference.
 const WRITTEN_FREELY: Row = (
@@ -332,45 +331,47 @@ const REFUSED: [Row; 5] = [
 ];
 
 #[test]
-fn runs_that_are_not_lawful(rt: HostRuntime) -> Result<(), Fail> {
-    assert_each(&rt, rt.alloc(), "audit", Status::NotLawful, &UNLAWFUL)
+fn runs_that_are_not_lawful(rt: HostRuntime) {
+    assert_each(&rt, rt.alloc(), "audit", Status::NotLawful, &UNLAWFUL);
 }
 
 #[test]
-fn traces_that_are_refused(rt: HostRuntime) -> Result<(), Fail> {
-    assert_each(&rt, rt.alloc(), "audit", Status::Refused, &REFUSED)
+fn traces_that_are_refused(rt: HostRuntime) {
+    assert_each(&rt, rt.alloc(), "audit", Status::Refused, &REFUSED);
 }
 
 /// The head of an input of `replay`, and behind it the run that is written of it.
-fn traced(alloc: Global, row: Row) -> Result<String, AllocError> {
+fn traced(rt: &impl Abort, alloc: Global, row: &Row) -> String {
     let (input, run) = row;
     let head = match input.split_once("%results\n") {
         Some((head, _)) => head,
         None => input,
     };
-    format!(in alloc; "{head}%trace\n{run}")
+    format!(in alloc; "{head}%trace\n{run}").expect(rt, "memory")
 }
 
-fn assert_lawful(rt: &impl Abort, alloc: Global, runs: &[Row]) -> Result<(), Fail> {
-    for row in runs {
-        let input = traced(alloc, *row)?;
-        let (status, text) = outcome(alloc, &["audit"], input.as_bytes(), EASY, EASY)?;
-        assert!(rt; text.as_slice() == b"lawful\n".as_slice(), "{input}");
-        assert!(rt; status == Status::Done, "{input}");
+fn assert_lawful(rt: &impl Abort, alloc: Global, row: &Row) {
+    let input = traced(rt, alloc, row);
+    let made = outcome_of(rt, alloc, &easy(&["audit"], input.as_bytes()));
+    assert!(rt; made.is(Status::Done, b"lawful\n"), "{input}");
+}
+
+fn assert_each_lawful(rt: &impl Abort, alloc: Global, rows: &[Row]) {
+    for row in rows {
+        assert_lawful(rt, alloc, row);
     }
-    Ok(())
 }
 
 #[test]
-fn what_replay_writes_is_lawful(rt: HostRuntime) -> Result<(), Fail> {
+fn what_replay_writes_is_lawful(rt: HostRuntime) {
     let alloc = rt.alloc();
-    assert_lawful(&rt, alloc, &replay_starts::ROWS)?;
-    assert_lawful(&rt, alloc, &replay_losses::ROWS)?;
-    assert_lawful(&rt, alloc, &replay_roles::ROWS)
+    assert_each_lawful(&rt, alloc, replay_starts::rows());
+    assert_each_lawful(&rt, alloc, replay_losses::rows());
+    assert_each_lawful(&rt, alloc, replay_roles::rows());
 }
 
 // With each allocation refused in turn, by `rt try --test --fail-alloc N`, this passes too, but for those that the test itself makes.
 #[test]
-fn memory_suffices_or_is_refused_to_audit(rt: HostRuntime) -> Result<(), Fail> {
-    assert_whole_or_refused(&rt, rt.alloc(), "audit", WRITTEN_FREELY)
+fn memory_suffices_or_is_refused_to_audit(rt: HostRuntime) {
+    assert_whole_or_refused(&rt, rt.alloc(), "audit", WRITTEN_FREELY);
 }

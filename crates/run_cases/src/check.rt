@@ -1,31 +1,11 @@
 //! What the word `check` writes: of inputs that are read, of each cause for which one is refused, and of which step decides.
 
-use crate::outcome::{EASY, Pace, SLOW, outcome};
-use crate::table::{Row, assert_whole_or_refused};
+use crate::long_inputs::{LongRow, assert_each_long};
+use crate::outcome::{Call, Pace, SLOW, assert_outcome, easy, outcome_of};
+use crate::table::{Row, assert_each, assert_whole_or_refused, assert_written};
 use sim_core::Status;
-use std::alloc::{AllocError, Global};
+use std::alloc::Global;
 use std::process::Abort;
-use std::test::Fail;
-
-fn assert_checked(
-    rt: &impl Abort,
-    alloc: Global,
-    input: &[u8],
-    status: Status,
-    text: &str,
-) -> Result<(), Fail> {
-    let (ended, written) = outcome(alloc, &["check"], input, EASY, EASY)?;
-    assert!(rt; written.as_slice() == text.as_bytes(), "{text}");
-    assert!(rt; ended == status, "{text}");
-    Ok(())
-}
-
-fn assert_each(rt: &impl Abort, alloc: Global, status: Status, table: &[Row]) -> Result<(), Fail> {
-    for (input, text) in table {
-        assert_checked(rt, alloc, input.as_bytes(), status, text)?;
-    }
-    Ok(())
-}
 
 const READ: [Row; 7] = [
     ("", "# nodes 0 leaves 0 rules 0\n"),
@@ -54,8 +34,8 @@ const READ: [Row; 7] = [
 ];
 
 #[test]
-fn inputs_that_are_read(rt: HostRuntime) -> Result<(), Fail> {
-    assert_each(&rt, rt.alloc(), Status::Done, &READ)
+fn inputs_that_are_read(rt: HostRuntime) {
+    assert_each(&rt, rt.alloc(), "check", Status::Done, &READ);
 }
 
 /// What `crm configure show` writes of a cluster.
@@ -89,22 +69,21 @@ rsc_defaults rsc-options: resource-stickiness=1
 )];
 
 #[test]
-fn a_cluster_as_it_is_shown(rt: HostRuntime) -> Result<(), Fail> {
-    assert_each(&rt, rt.alloc(), Status::Done, &CONFIGURE_SHOW)
+fn a_cluster_as_it_is_shown(rt: HostRuntime) {
+    assert_each(&rt, rt.alloc(), "check", Status::Done, &CONFIGURE_SHOW);
 }
 
-const NO_WORDS: [(&[u8], &str); 3] = [
+const NO_WORDS: &[(&[u8], &str)] = &[
     (b"node n1\n# \xff\n", "refused 2 NotUtf8\n"),
     (b"node n1\n\tnode \x07\n", "refused 2 ControlByte\n"),
     (b"node \\\n'n1\nnode n2\n", "refused 1 OpenQuote\n"),
 ];
 
 #[test]
-fn lines_without_words(rt: HostRuntime) -> Result<(), Fail> {
+fn lines_without_words(rt: HostRuntime) {
     for (input, text) in NO_WORDS {
-        assert_checked(&rt, rt.alloc(), input, Status::Refused, text)?;
+        assert_written(&rt, rt.alloc(), "check", input, Status::Refused, text);
     }
-    Ok(())
 }
 
 const STATEMENTS: [Row; 11] = [
@@ -131,8 +110,8 @@ const STATEMENTS: [Row; 11] = [
 ];
 
 #[test]
-fn lines_that_are_no_statements(rt: HostRuntime) -> Result<(), Fail> {
-    assert_each(&rt, rt.alloc(), Status::Refused, &STATEMENTS)
+fn lines_that_are_no_statements(rt: HostRuntime) {
+    assert_each(&rt, rt.alloc(), "check", Status::Refused, &STATEMENTS);
 }
 
 const LEAVES: [Row; 6] = [
@@ -154,8 +133,8 @@ const LEAVES: [Row; 6] = [
 ];
 
 #[test]
-fn groups_and_clones_without_leaves(rt: HostRuntime) -> Result<(), Fail> {
-    assert_each(&rt, rt.alloc(), Status::Refused, &LEAVES)
+fn groups_and_clones_without_leaves(rt: HostRuntime) {
+    assert_each(&rt, rt.alloc(), "check", Status::Refused, &LEAVES);
 }
 
 const CLUSTERS: [Row; 5] = [
@@ -179,8 +158,8 @@ const CLUSTERS: [Row; 5] = [
 ];
 
 #[test]
-fn configurations_without_a_cluster(rt: HostRuntime) -> Result<(), Fail> {
-    assert_each(&rt, rt.alloc(), Status::Refused, &CLUSTERS)
+fn configurations_without_a_cluster(rt: HostRuntime) {
+    assert_each(&rt, rt.alloc(), "check", Status::Refused, &CLUSTERS);
 }
 
 const STATUS_LINES: [Row; 6] = [
@@ -193,8 +172,8 @@ const STATUS_LINES: [Row; 6] = [
 ];
 
 #[test]
-fn lines_that_tell_no_status(rt: HostRuntime) -> Result<(), Fail> {
-    assert_each(&rt, rt.alloc(), Status::Refused, &STATUS_LINES)
+fn lines_that_tell_no_status(rt: HostRuntime) {
+    assert_each(&rt, rt.alloc(), "check", Status::Refused, &STATUS_LINES);
 }
 
 const RESULT_LINES: [Row; 6] = [
@@ -210,8 +189,8 @@ const RESULT_LINES: [Row; 6] = [
 ];
 
 #[test]
-fn result_lines_without_an_answer(rt: HostRuntime) -> Result<(), Fail> {
-    assert_each(&rt, rt.alloc(), Status::Refused, &RESULT_LINES)
+fn result_lines_without_an_answer(rt: HostRuntime) {
+    assert_each(&rt, rt.alloc(), "check", Status::Refused, &RESULT_LINES);
 }
 
 /// Two faults, of which the one that stands later in the text is found by an earlier step.
@@ -227,97 +206,135 @@ const TWO_FAULTS: [Row; 5] = [
 ];
 
 #[test]
-fn the_first_step_decides(rt: HostRuntime) -> Result<(), Fail> {
-    assert_each(&rt, rt.alloc(), Status::Refused, &TWO_FAULTS)
+fn the_first_step_decides(rt: HostRuntime) {
+    assert_each(&rt, rt.alloc(), "check", Status::Refused, &TWO_FAULTS);
 }
 
-/// Some lines, one of them repeated.
-fn repeated(alloc: Global, first: &str, line: &str, count: u32) -> Result<String, AllocError> {
-    let mut text = String::from_str(alloc, first)?;
-    for _ in 0..count {
-        text.push_str(line)?;
-    }
-    Ok(text)
-}
+const NOTHING: &str = "# nodes 0 leaves 0 rules 0\n";
+
+/// The most results, and one more; and a rule too many.
+const RULES_AND_RESULTS: &[LongRow] = &[
+    LongRow {
+        first: "%results\n",
+        repeated: "wait 0\n",
+        count: 10_000,
+        status: Status::Done,
+        text: NOTHING,
+    },
+    LongRow {
+        first: "%results\n",
+        repeated: "wait 0\n",
+        count: 10_001,
+        status: Status::Refused,
+        text: "refused 10002 TooManyResults\n",
+    },
+    LongRow {
+        first: "primitive a Dummy\norder o Serialize:",
+        repeated: " a",
+        count: 2_002,
+        status: Status::Refused,
+        text: "refused 2 TooManyRules\n",
+    },
+];
 
 #[test]
-fn the_most_rules_and_results_and_one_more(rt: HostRuntime) -> Result<(), Fail> {
-    let alloc = rt.alloc();
-    let waits = repeated(alloc, "%results\n", "wait 0\n", 10_000)?;
-    let counts = "# nodes 0 leaves 0 rules 0\n";
-    assert_checked(&rt, alloc, waits.as_bytes(), Status::Done, counts)?;
-    let waits = repeated(alloc, "%results\n", "wait 0\n", 10_001)?;
-    let fault = "refused 10002 TooManyResults\n";
-    assert_checked(&rt, alloc, waits.as_bytes(), Status::Refused, fault)?;
-    let order = repeated(alloc, "primitive a Dummy\norder o Serialize:", " a", 2_002)?;
-    let fault = "refused 2 TooManyRules\n";
-    assert_checked(&rt, alloc, order.as_bytes(), Status::Refused, fault)
+fn the_most_rules_and_results_and_one_more(rt: HostRuntime) {
+    assert_each_long(&rt, rt.alloc(), "check", RULES_AND_RESULTS);
 }
 
 /// As many nodes, or as many primitives.
-fn numbered(alloc: Global, word: &str, after: &str, count: u32) -> Result<String, Fail> {
+fn numbered(rt: &impl Abort, alloc: Global, word: &str, after: &str, count: u32) -> String {
     let mut text = String::new(alloc);
     for n in 1..=count {
-        writeln!(text, "{word} x{n}{after}")?;
+        writeln!(text, "{word} x{n}{after}").expect(rt, "memory");
     }
-    Ok(text)
+    text
 }
 
 #[test]
-fn too_many_nodes_and_leaves(rt: HostRuntime) -> Result<(), Fail> {
+fn too_many_nodes_and_leaves(rt: HostRuntime) {
     let alloc = rt.alloc();
-    let nodes = numbered(alloc, "node", "", 257)?;
+    let nodes = numbered(&rt, alloc, "node", "", 257);
     let fault = "refused 257 TooManyNodes\n";
-    assert_checked(&rt, alloc, nodes.as_bytes(), Status::Refused, fault)?;
-    let leaves = numbered(alloc, "primitive", " Dummy", 1_001)?;
+    assert_written(
+        &rt,
+        alloc,
+        "check",
+        nodes.as_bytes(),
+        Status::Refused,
+        fault,
+    );
+    let leaves = numbered(&rt, alloc, "primitive", " Dummy", 1_001);
     let fault = "refused 1001 TooManyLeaves\n";
-    assert_checked(&rt, alloc, leaves.as_bytes(), Status::Refused, fault)
+    assert_written(
+        &rt,
+        alloc,
+        "check",
+        leaves.as_bytes(),
+        Status::Refused,
+        fault,
+    );
 }
 
-/// A comment of so many letters behind its `#`.
-fn comment(alloc: Global, letters: usize) -> Result<Vec<u8>, AllocError> {
-    let mut text = Vec::from_slice(alloc, b"#")?;
-    text.resize(letters.saturating_add(1), b'a')?;
-    Ok(text)
+/// Comments of so many letters behind their `#`.
+const LINES: &[LongRow] = &[
+    LongRow {
+        first: "#",
+        repeated: "a",
+        count: 1_048_575,
+        status: Status::Done,
+        text: NOTHING,
+    },
+    LongRow {
+        first: "#",
+        repeated: "a",
+        count: 1_048_576,
+        status: Status::Refused,
+        text: "refused 1 LineTooLong\n",
+    },
+];
+
+#[test]
+fn the_longest_line_and_one_byte_more(rt: HostRuntime) {
+    assert_each_long(&rt, rt.alloc(), "check", LINES);
 }
 
 #[test]
-fn the_longest_line_and_one_byte_more(rt: HostRuntime) -> Result<(), Fail> {
-    let alloc = rt.alloc();
-    let line = comment(alloc, 1_048_575)?;
-    let counts = "# nodes 0 leaves 0 rules 0\n";
-    assert_checked(&rt, alloc, &line, Status::Done, counts)?;
-    let line = comment(alloc, 1_048_576)?;
-    let fault = "refused 1 LineTooLong\n";
-    assert_checked(&rt, alloc, &line, Status::Refused, fault)
-}
-
-#[test]
-fn a_source_that_fails(rt: HostRuntime) -> Result<(), Fail> {
+fn a_source_that_fails(rt: HostRuntime) {
     let reads = Pace {
         step: 5,
         fails: &[2],
     };
-    let (status, text) = outcome(rt.alloc(), &["check"], b"node n1\n", reads, EASY)?;
-    assert_eq!(rt; status, Status::ReadFault);
-    assert_eq!(rt; text.len(), 0);
-    Ok(())
+    let call = Call {
+        reads,
+        ..easy(&["check"], b"node n1\n")
+    };
+    assert_outcome(&rt, rt.alloc(), &call, Status::ReadFault, "");
+}
+
+/// The write of this number fails, behind what was written before.
+fn assert_write_fails(rt: &impl Abort, alloc: Global, number: u32, before: &[u8]) {
+    let fails = [number];
+    let writes = Pace {
+        step: 1,
+        fails: &fails,
+    };
+    let call = Call {
+        words: &["check"],
+        input: b"node n1\n",
+        reads: SLOW,
+        writes,
+    };
+    let made = outcome_of(rt, alloc, &call);
+    assert!(rt; made.is(Status::WriteFault, before), "write {number}");
 }
 
 #[test]
-fn a_sink_that_fails_at_each_write_in_turn(rt: HostRuntime) -> Result<(), Fail> {
+fn a_sink_that_fails_at_each_write_in_turn(rt: HostRuntime) {
     let whole = b"node n1\n# nodes 1 leaves 0 rules 0\n";
     for place in 0..whole.len() {
-        let fails = [place as u32 + 1];
-        let writes = Pace {
-            step: 1,
-            fails: &fails,
-        };
-        let (status, text) = outcome(rt.alloc(), &["check"], b"node n1\n", SLOW, writes)?;
-        assert_eq!(rt; status, Status::WriteFault);
-        assert_eq!(rt; text.as_slice(), &whole[..place]);
+        assert_write_fails(&rt, rt.alloc(), place as u32 + 1, &whole[..place]);
     }
-    Ok(())
 }
 
 /// An input with each section.
@@ -328,6 +345,6 @@ const SMALL: Row = (
 
 // With each allocation refused in turn, by `rt try --test --fail-alloc N`, this passes too, but for those that the test itself makes.
 #[test]
-fn memory_suffices_or_is_refused_to_check(rt: HostRuntime) -> Result<(), Fail> {
-    assert_whole_or_refused(&rt, rt.alloc(), "check", SMALL)
+fn memory_suffices_or_is_refused_to_check(rt: HostRuntime) {
+    assert_whole_or_refused(&rt, rt.alloc(), "check", SMALL);
 }

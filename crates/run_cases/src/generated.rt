@@ -1,33 +1,34 @@
 //! Cases are read as any other input, and what the word `gen` writes of them.
 
-use crate::outcome::{EASY, Pace, outcome};
+use crate::outcome::{Call, EASY, Pace, assert_outcome, easy};
 use case_gen::generate;
-use input_reading::{InputFault, read_input};
+use input_reading::{Input, read_input};
 use sim_core::Status;
 use std::alloc::Global;
 use std::process::Abort;
-use std::test::Fail;
+
+/// It has as many nodes, resources, rules and results as each case.
+fn is_case(input: &Input) -> bool {
+    let cluster = &input.head.cluster;
+    cluster.nodes.len() == 60
+        && cluster.leaves.len() == 400
+        && cluster.locations.len() == 300
+        && cluster.colocations.len() == 80 + 150
+        && cluster.orders.len() == 80 + 100
+        && input.results.len() == 1
+}
+
+fn assert_read(rt: &impl Abort, alloc: Global, number: u32) {
+    let text = generate(alloc, number).expect(rt, "memory");
+    assert!(rt; text.len() < 100_000);
+    let input = read_input(alloc, text).expect(rt, "the case is read");
+    assert!(rt; is_case(&input));
+}
 
 #[test]
-fn cases_are_read(rt: HostRuntime) -> Result<(), Fail> {
-    let alloc = rt.alloc();
-    for number in [7, 8] {
-        let text = generate(alloc, number)?;
-        assert!(rt; text.len() < 100_000);
-        let input = match read_input(alloc, text) {
-            Ok(input) => input,
-            Err(InputFault::At { line, .. }) => return Err(Fail::new(line)),
-            Err(InputFault::NoMemory) => return Err(Fail::from("no memory")),
-        };
-        let cluster = &input.head.cluster;
-        assert_eq!(rt; cluster.nodes.len(), 60);
-        assert_eq!(rt; cluster.leaves.len(), 400);
-        assert_eq!(rt; cluster.locations.len(), 300);
-        assert_eq!(rt; cluster.colocations.len(), 80 + 150);
-        assert_eq!(rt; cluster.orders.len(), 80 + 100);
-        assert_eq!(rt; input.results.len(), 1);
-    }
-    Ok(())
+fn cases_are_read(rt: HostRuntime) {
+    assert_read(&rt, rt.alloc(), 7);
+    assert_read(&rt, rt.alloc(), 8);
 }
 
 fn assert_generated(
@@ -37,11 +38,13 @@ fn assert_generated(
     writes: Pace<'_>,
     status: Status,
     text: &str,
-) -> Result<(), Fail> {
-    let (ended, written) = outcome(alloc, &["gen", number], b"", EASY, writes)?;
-    assert!(rt; written.as_slice() == text.as_bytes(), "{number}");
-    assert!(rt; ended == status, "{number}");
-    Ok(())
+) {
+    let words = ["gen", number];
+    let call = Call {
+        writes,
+        ..easy(&words, b"")
+    };
+    assert_outcome(rt, alloc, &call, status, text);
 }
 
 /// What is written of the case of a number, and of another.
@@ -68,20 +71,20 @@ targets 400
 ";
 
 #[test]
-fn the_summary_of_a_case(rt: HostRuntime) -> Result<(), Fail> {
-    assert_generated(&rt, rt.alloc(), "7", EASY, Status::Done, SEVENTH)
+fn the_summary_of_a_case(rt: HostRuntime) {
+    assert_generated(&rt, rt.alloc(), "7", EASY, Status::Done, SEVENTH);
 }
 
 #[test]
-fn the_summary_of_another_case(rt: HostRuntime) -> Result<(), Fail> {
-    assert_generated(&rt, rt.alloc(), "8", EASY, Status::Done, EIGHTH)
+fn the_summary_of_another_case(rt: HostRuntime) {
+    assert_generated(&rt, rt.alloc(), "8", EASY, Status::Done, EIGHTH);
 }
 
 #[test]
-fn a_summary_that_is_cut_short(rt: HostRuntime) -> Result<(), Fail> {
+fn a_summary_that_is_cut_short(rt: HostRuntime) {
     let writes = Pace {
         step: 3,
         fails: &[2],
     };
-    assert_generated(&rt, rt.alloc(), "7", writes, Status::WriteFault, "gen")
+    assert_generated(&rt, rt.alloc(), "7", writes, Status::WriteFault, "gen");
 }

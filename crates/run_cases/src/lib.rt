@@ -6,6 +6,8 @@
 #[cfg(test)]
 mod audits;
 #[cfg(test)]
+mod case_texts;
+#[cfg(test)]
 mod check;
 #[cfg(test)]
 mod generated;
@@ -13,6 +15,8 @@ mod generated;
 mod graph;
 #[cfg(test)]
 mod inputs;
+#[cfg(test)]
+mod long_inputs;
 #[cfg(test)]
 mod losses;
 #[cfg(test)]

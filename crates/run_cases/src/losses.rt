@@ -2,7 +2,6 @@
 
 use crate::table::{Row, assert_each, assert_whole_or_refused};
 use sim_core::Status;
-use std::test::Fail;
 
 /// The other node takes what runs on the one.
 const MOVES: Row = (
@@ -82,12 +81,12 @@ target vip n1 started
 const ROWS: [Row; 4] = [MOVES, NOWHERE_TO_GO, NONE_ONLINE, PROMOTED];
 
 #[test]
-fn losses_of_inputs(rt: HostRuntime) -> Result<(), Fail> {
-    assert_each(&rt, rt.alloc(), "survive", Status::Done, &ROWS)
+fn losses_of_inputs(rt: HostRuntime) {
+    assert_each(&rt, rt.alloc(), "survive", Status::Done, &ROWS);
 }
 
 // With each allocation refused in turn, by `rt try --test --fail-alloc N`, this passes too, but for those that the test itself makes.
 #[test]
-fn memory_suffices_or_is_refused_to_survive(rt: HostRuntime) -> Result<(), Fail> {
-    assert_whole_or_refused(&rt, rt.alloc(), "survive", MOVES)
+fn memory_suffices_or_is_refused_to_survive(rt: HostRuntime) {
+    assert_whole_or_refused(&rt, rt.alloc(), "survive", MOVES);
 }

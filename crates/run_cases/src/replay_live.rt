@@ -1,11 +1,11 @@
 //! The word `replay` over sources and sinks that fail or don't, and over long inputs: what is written while the input is read.
 
-use crate::outcome::{EASY, Pace, SLOW, outcome};
-use crate::table::assert_whole_or_between;
+use crate::long_inputs::{LongRow, assert_each_long, repeated};
+use crate::outcome::{Call, EASY, Pace, SLOW, assert_outcome, outcome_of};
+use crate::table::{assert_whole_or_between, assert_written};
 use sim_core::Status;
-use std::alloc::{AllocError, Global};
+use std::alloc::Global;
 use std::process::Abort;
-use std::test::Fail;
 
 /// Two nodes that are online, and a resource of which nothing is known.
 const HEAD: &str = "\
@@ -70,200 +70,179 @@ end 2 0
 complete 2
 ";
 
-fn assert_replayed(
-    rt: &impl Abort,
-    alloc: Global,
-    input: &str,
-    paces: (Pace<'_>, Pace<'_>),
-    status: Status,
-    text: &str,
-) -> Result<(), Fail> {
-    let (ended, written) = outcome(alloc, &["replay"], input.as_bytes(), paces.0, paces.1)?;
-    assert!(rt; written.as_slice() == text.as_bytes(), "{text}");
-    assert!(rt; ended == status, "{text}");
-    Ok(())
-}
-
 /// A source or a sink that moves at most so many bytes in one call, and fails in this one.
 fn failing(step: usize, fails: &[u32]) -> Pace<'_> {
     Pace { step, fails }
 }
 
-#[test]
-fn slow_sources_and_sinks(rt: HostRuntime) -> Result<(), Fail> {
-    for paces in [(SLOW, EASY), (EASY, SLOW)] {
-        assert_replayed(&rt, rt.alloc(), HEAD, paces, Status::Done, RUN)?;
-        assert_replayed(&rt, rt.alloc(), LOSS, paces, Status::Done, LOSS_RUN)?;
+/// A call over this source and this sink.
+fn replay<'a>(input: &'a str, reads: Pace<'a>, writes: Pace<'a>) -> Call<'a> {
+    Call {
+        words: WORDS,
+        input: input.as_bytes(),
+        reads,
+        writes,
     }
-    Ok(())
+}
+
+const WORDS: &[&str] = &["replay"];
+
+fn assert_replayed(
+    rt: &impl Abort,
+    alloc: Global,
+    paces: (Pace<'_>, Pace<'_>),
+    input: &str,
+    status: Status,
+    text: &str,
+) {
+    let call = replay(input, paces.0, paces.1);
+    assert_outcome(rt, alloc, &call, status, text);
+}
+
+#[test]
+fn slow_sources_and_sinks(rt: HostRuntime) {
+    let alloc = rt.alloc();
+    assert_replayed(&rt, alloc, (SLOW, EASY), HEAD, Status::Done, RUN);
+    assert_replayed(&rt, alloc, (SLOW, EASY), LOSS, Status::Done, LOSS_RUN);
+    assert_replayed(&rt, alloc, (EASY, SLOW), HEAD, Status::Done, RUN);
+    assert_replayed(&rt, alloc, (EASY, SLOW), LOSS, Status::Done, LOSS_RUN);
 }
 
 /// The source fails in the midst of a result line.
 #[test]
-fn a_source_that_fails_behind_the_head(rt: HostRuntime) -> Result<(), Fail> {
+fn a_source_that_fails_behind_the_head(rt: HostRuntime) {
     let alloc = rt.alloc();
-    let input = format!(in alloc; "{HEAD}%results\nend 1 7\nend 2")?;
-    let text = format!(in alloc; "{PROBES}end 1 7\n")?;
+    let input = format!(in alloc; "{HEAD}%results\nend 1 7\nend 2").expect(&rt, "memory");
+    let text = format!(in alloc; "{PROBES}end 1 7\n").expect(&rt, "memory");
     let paces = (failing(4096, &[2]), EASY);
-    assert_replayed(
-        &rt,
-        alloc,
-        input.as_str(),
-        paces,
-        Status::ReadFault,
-        text.as_str(),
-    )
+    assert_replayed(&rt, alloc, paces, &input, Status::ReadFault, &text);
 }
 
 /// The first write that fails ends the call, and each line is one write.
 #[test]
-fn a_sink_that_fails_at_the_fourth_line(rt: HostRuntime) -> Result<(), Fail> {
+fn a_sink_that_fails_at_the_fourth_line(rt: HostRuntime) {
     let text = "transition 1\ntarget vip n1 started\nbegin 1 probe vip n1\n";
     let paces = (EASY, failing(2000, &[4]));
-    assert_replayed(&rt, rt.alloc(), HEAD, paces, Status::WriteFault, text)
+    assert_replayed(&rt, rt.alloc(), paces, HEAD, Status::WriteFault, text);
+}
+
+/// The read of this number fails, and a beginning of the run is written.
+fn assert_read_fails(rt: &impl Abort, alloc: Global, number: u32) {
+    let fails = [number];
+    let made = outcome_of(rt, alloc, &replay(LOSS, failing(16, &fails), EASY));
+    assert!(rt;
+        made.is_part(Status::ReadFault, LOSS_RUN.as_bytes()),
+        "read {number}"
+    );
 }
 
 #[test]
-fn a_source_that_fails_at_each_read_in_turn(rt: HostRuntime) -> Result<(), Fail> {
+fn a_source_that_fails_at_each_read_in_turn(rt: HostRuntime) {
     let reads = LOSS.len().div_ceil(16) as u32 + 1;
-    for place in 1..=reads {
-        let fails = [place];
-        let reads = failing(16, &fails);
-        let (status, text) = outcome(rt.alloc(), &["replay"], LOSS.as_bytes(), reads, EASY)?;
-        assert_eq!(rt; status, Status::ReadFault, "at {place}");
-        assert!(rt; LOSS_RUN.as_bytes().starts_with(&text), "at {place}");
+    for number in 1..=reads {
+        assert_read_fails(&rt, rt.alloc(), number);
     }
     let fails = [reads + 1];
     let paces = (failing(16, &fails), EASY);
-    assert_replayed(&rt, rt.alloc(), LOSS, paces, Status::Done, LOSS_RUN)
+    assert_replayed(&rt, rt.alloc(), paces, LOSS, Status::Done, LOSS_RUN);
+}
+
+/// The write of this number fails, behind what was written before.
+fn assert_write_fails(rt: &impl Abort, alloc: Global, number: u32, before: &str) {
+    let fails = [number];
+    let paces = (EASY, failing(2000, &fails));
+    assert_replayed(rt, alloc, paces, LOSS, Status::WriteFault, before);
 }
 
 #[test]
-fn a_sink_that_fails_at_each_write_in_turn(rt: HostRuntime) -> Result<(), Fail> {
+fn a_sink_that_fails_at_each_write_in_turn(rt: HostRuntime) {
     let alloc = rt.alloc();
     let mut so_far = String::new(alloc);
-    let mut place = 0u32;
+    let mut number = 0u32;
     for line in LOSS_RUN.lines() {
-        place = place.saturating_add(1);
-        let fails = [place];
-        let paces = (EASY, failing(2000, &fails));
-        assert_replayed(&rt, alloc, LOSS, paces, Status::WriteFault, so_far.as_str())?;
-        writeln!(so_far, "{line}")?;
+        number = number.saturating_add(1);
+        assert_write_fails(&rt, alloc, number, &so_far);
+        writeln!(so_far, "{line}").expect(&rt, "memory");
     }
-    assert_replayed(
-        &rt,
-        alloc,
-        LOSS,
-        (EASY, EASY),
-        Status::Done,
-        so_far.as_str(),
-    )
+    assert_replayed(&rt, alloc, (EASY, EASY), LOSS, Status::Done, &so_far);
 }
 
-/// An input with so many waits of no seconds, and the run of them where nothing is to be done.
-fn waits(alloc: Global, head: &str, count: u32) -> Result<(String, String), AllocError> {
-    let mut input = format!(in alloc; "{head}%results\n")?;
+/// The run of an input with so many waits of no seconds, where nothing is to be done.
+fn idle_run(rt: &impl Abort, alloc: Global, waits: u32) -> String {
     let mut run = String::new(alloc);
-    for number in 1..=count {
-        input.push_str("wait 0\n")?;
-        write!(run, "transition {number}\ncomplete {number}\nwait 0\n")?;
+    for number in 1..=waits {
+        write!(run, "transition {number}\ncomplete {number}\nwait 0\n").expect(rt, "memory");
     }
-    let last = u64::from(count) + 1;
-    write!(run, "transition {last}\ncomplete {last}\n")?;
-    Ok((input, run))
+    let last = u64::from(waits) + 1;
+    write!(run, "transition {last}\ncomplete {last}\n").expect(rt, "memory");
+    run
 }
 
 #[test]
-fn the_most_result_lines_and_one_more(rt: HostRuntime) -> Result<(), Fail> {
+fn the_most_result_lines_and_one_more(rt: HostRuntime) {
     let alloc = rt.alloc();
-    let (mut input, mut run) = waits(alloc, "", 10_000)?;
-    assert_replayed(
-        &rt,
-        alloc,
-        input.as_str(),
-        (EASY, EASY),
-        Status::Done,
-        run.as_str(),
-    )?;
-    input.push_str("wait 0\n")?;
-    run.push_str("refused 10002 TooManyResults\n")?;
-    assert_replayed(
-        &rt,
-        alloc,
-        input.as_str(),
-        (EASY, EASY),
-        Status::Refused,
-        run.as_str(),
-    )
+    let mut input = repeated(&rt, alloc, "%results\n", "wait 0\n", 10_000);
+    let mut run = idle_run(&rt, alloc, 10_000);
+    assert_replayed(&rt, alloc, (EASY, EASY), &input, Status::Done, &run);
+    input.push_str("wait 0\n").expect(&rt, "memory");
+    run.push_str("refused 10002 TooManyResults\n")
+        .expect(&rt, "memory");
+    assert_replayed(&rt, alloc, (EASY, EASY), &input, Status::Refused, &run);
 }
 
 /// In one transition at most 256 answers come from outside.
 #[test]
-fn the_most_answers_and_one_more(rt: HostRuntime) -> Result<(), Fail> {
+fn the_most_answers_and_one_more(rt: HostRuntime) {
     let alloc = rt.alloc();
-    let (input, _) = waits(alloc, HEAD, 257)?;
-    let mut text = String::from_str(alloc, PROBES)?;
-    for _ in 0..256 {
-        text.push_str("wait 0\n")?;
-    }
-    text.push_str("unexpected 266\n")?;
-    let paces = (EASY, EASY);
-    assert_replayed(
+    let head = format!(in alloc; "{HEAD}%results\n").expect(&rt, "memory");
+    let input = repeated(&rt, alloc, &head, "wait 0\n", 257);
+    let mut text = repeated(&rt, alloc, PROBES, "wait 0\n", 256);
+    text.push_str("unexpected 266\n").expect(&rt, "memory");
+    assert_written(
         &rt,
         alloc,
-        input.as_str(),
-        paces,
+        "replay",
+        input.as_bytes(),
         Status::Unexpected,
-        text.as_str(),
-    )
+        &text,
+    );
 }
 
-/// These lines, and so many line feeds.
-fn padded(alloc: Global, lines: &str, feeds: usize) -> Result<String, AllocError> {
-    let mut input = String::from_str(alloc, lines)?;
-    for _ in 0..feeds {
-        input.push_str("\n")?;
-    }
-    Ok(input)
-}
+/// The run of an input that says nothing.
+const NOTHING: &str = "transition 1\ncomplete 1\n";
 
-/// In the head nothing is written where a line goes past the limit, and behind it the run so far.
+/// 16,777,216 bytes, and one more: in the head nothing is written then, and behind it the run so far.
+const BYTES: &[LongRow] = &[
+    LongRow {
+        first: "",
+        repeated: "\n",
+        count: 16_777_216,
+        status: Status::Done,
+        text: NOTHING,
+    },
+    LongRow {
+        first: "",
+        repeated: "\n",
+        count: 16_777_217,
+        status: Status::TooLarge,
+        text: "",
+    },
+    LongRow {
+        first: "%results\n",
+        repeated: "\n",
+        count: 16_777_208,
+        status: Status::TooLarge,
+        text: NOTHING,
+    },
+];
+
 #[test]
-fn the_most_bytes_and_one_more(rt: HostRuntime) -> Result<(), Fail> {
-    let alloc = rt.alloc();
-    let most = 16_777_216;
-    let nothing = "transition 1\ncomplete 1\n";
-    let mut input = padded(alloc, "", most)?;
-    assert_replayed(
-        &rt,
-        alloc,
-        input.as_str(),
-        (EASY, EASY),
-        Status::Done,
-        nothing,
-    )?;
-    input.push_str("\n")?;
-    assert_replayed(
-        &rt,
-        alloc,
-        input.as_str(),
-        (EASY, EASY),
-        Status::TooLarge,
-        "",
-    )?;
-    let input = padded(alloc, "%results\n", most - 8)?;
-    assert_replayed(
-        &rt,
-        alloc,
-        input.as_str(),
-        (EASY, EASY),
-        Status::TooLarge,
-        nothing,
-    )
+fn the_most_bytes_and_one_more(rt: HostRuntime) {
+    assert_each_long(&rt, rt.alloc(), "replay", BYTES);
 }
 
 // With each allocation refused in turn, by `rt try --test --fail-alloc N`, this passes too, but for those that the test itself makes.
 #[test]
-fn memory_suffices_or_is_refused_to_replay(rt: HostRuntime) -> Result<(), Fail> {
-    assert_whole_or_between(&rt, rt.alloc(), (LOSS, LOSS_RUN), "lost n2")
+fn memory_suffices_or_is_refused_to_replay(rt: HostRuntime) {
+    assert_whole_or_between(&rt, rt.alloc(), (LOSS, LOSS_RUN), "lost n2");
 }

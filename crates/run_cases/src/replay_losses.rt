@@ -2,7 +2,6 @@
 
 use crate::table::{Row, assert_each};
 use sim_core::Status;
-use std::test::Fail;
 
 /// A node of which nothing is known is fenced.
 const UNKNOWN_NODE: Row = (
@@ -324,21 +323,23 @@ complete 2
 );
 
 /// Inputs, and their runs.
-pub const ROWS: [Row; 11] = [
-    UNKNOWN_NODE,
-    LOST_NODE,
-    FAILED_FENCE,
-    WITHOUT_FENCING,
-    FAILED_STOP,
-    BLOCKED,
-    LOST_AFTER_A_FAILED_STOP,
-    FROZEN,
-    QUORUM_LOST,
-    QUORUM_AGAIN,
-    NODE_RETURNS,
-];
+pub fn rows() -> &'static [Row] {
+    &[
+        UNKNOWN_NODE,
+        LOST_NODE,
+        FAILED_FENCE,
+        WITHOUT_FENCING,
+        FAILED_STOP,
+        BLOCKED,
+        LOST_AFTER_A_FAILED_STOP,
+        FROZEN,
+        QUORUM_LOST,
+        QUORUM_AGAIN,
+        NODE_RETURNS,
+    ]
+}
 
 #[test]
-fn runs_with_nodes_that_are_lost(rt: HostRuntime) -> Result<(), Fail> {
-    assert_each(&rt, rt.alloc(), "replay", Status::Done, &ROWS)
+fn runs_with_nodes_that_are_lost(rt: HostRuntime) {
+    assert_each(&rt, rt.alloc(), "replay", Status::Done, rows());
 }

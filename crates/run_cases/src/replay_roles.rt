@@ -3,7 +3,6 @@
 use crate::inputs;
 use crate::table::{Row, assert_each, assert_whole_or_between};
 use sim_core::Status;
-use std::test::Fail;
 
 /// A member failed, and its group moves.
 const GROUP_MOVES: Row = (
@@ -383,28 +382,30 @@ complete 2
 );
 
 /// Inputs, and their runs.
-pub const ROWS: [Row; 12] = [
-    GROUP_MOVES,
-    CYCLED,
-    PROMOTION_MOVES,
-    PROMOTED_FROM_NOTHING,
-    PROMOTED_STOPPED,
-    PROMOTED_CYCLED,
-    STARTED_CYCLED,
-    FAILED_PROMOTED,
-    DEGRADED,
-    MIGRATED,
-    FAILED_MIGRATION,
-    MIGRATION_TO_A_LOST_NODE,
-];
+pub fn rows() -> &'static [Row] {
+    &[
+        GROUP_MOVES,
+        CYCLED,
+        PROMOTION_MOVES,
+        PROMOTED_FROM_NOTHING,
+        PROMOTED_STOPPED,
+        PROMOTED_CYCLED,
+        STARTED_CYCLED,
+        FAILED_PROMOTED,
+        DEGRADED,
+        MIGRATED,
+        FAILED_MIGRATION,
+        MIGRATION_TO_A_LOST_NODE,
+    ]
+}
 
 #[test]
-fn runs_of_groups_and_promotions(rt: HostRuntime) -> Result<(), Fail> {
-    assert_each(&rt, rt.alloc(), "replay", Status::Done, &ROWS)
+fn runs_of_groups_and_promotions(rt: HostRuntime) {
+    assert_each(&rt, rt.alloc(), "replay", Status::Done, rows());
 }
 
 // With each allocation refused in turn, by `rt try --test --fail-alloc N`, this passes too, but for those that the test itself makes.
 #[test]
-fn memory_suffices_or_is_refused_to_promote(rt: HostRuntime) -> Result<(), Fail> {
-    assert_whole_or_between(&rt, rt.alloc(), PROMOTION_MOVES, "")
+fn memory_suffices_or_is_refused_to_promote(rt: HostRuntime) {
+    assert_whole_or_between(&rt, rt.alloc(), PROMOTION_MOVES, "");
 }

@@ -3,7 +3,6 @@
 use crate::inputs;
 use crate::table::{Row, assert_each};
 use sim_core::Status;
-use std::test::Fail;
 
 /// There is nothing to do.
 const NOTHING: Row = (
@@ -352,24 +351,26 @@ complete 1
 );
 
 /// Inputs, and their runs.
-pub const ROWS: [Row; 14] = [
-    NOTHING,
-    A_NODE_ALONE,
-    STARTED,
-    WITHOUT_QUORUM,
-    TWO_STARTED,
-    OTHER_ORDER,
-    FOUND_RUNNING,
-    FAILED_START,
-    TIMED_OUT_PROBE,
-    FAILURE_FORGOTTEN,
-    RULE_OF_A_DATE,
-    ONE_AT_A_TIME,
-    TWO_AT_A_TIME,
-    TWO_COPIES,
-];
+pub fn rows() -> &'static [Row] {
+    &[
+        NOTHING,
+        A_NODE_ALONE,
+        STARTED,
+        WITHOUT_QUORUM,
+        TWO_STARTED,
+        OTHER_ORDER,
+        FOUND_RUNNING,
+        FAILED_START,
+        TIMED_OUT_PROBE,
+        FAILURE_FORGOTTEN,
+        RULE_OF_A_DATE,
+        ONE_AT_A_TIME,
+        TWO_AT_A_TIME,
+        TWO_COPIES,
+    ]
+}
 
 #[test]
-fn runs_that_start_resources(rt: HostRuntime) -> Result<(), Fail> {
-    assert_each(&rt, rt.alloc(), "replay", Status::Done, &ROWS)
+fn runs_that_start_resources(rt: HostRuntime) {
+    assert_each(&rt, rt.alloc(), "replay", Status::Done, rows());
 }

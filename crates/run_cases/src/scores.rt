@@ -3,7 +3,6 @@
 use crate::inputs;
 use crate::table::{Row, assert_each};
 use sim_core::Status;
-use std::test::Fail;
 
 /// The scores of a leaf on a node are added.
 const SUM: Row = (
@@ -309,6 +308,6 @@ const ROWS: [Row; 12] = [
 ];
 
 #[test]
-fn scores_of_inputs(rt: HostRuntime) -> Result<(), Fail> {
-    assert_each(&rt, rt.alloc(), "scores", Status::Done, &ROWS)
+fn scores_of_inputs(rt: HostRuntime) {
+    assert_each(&rt, rt.alloc(), "scores", Status::Done, &ROWS);
 }

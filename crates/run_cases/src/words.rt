@@ -1,77 +1,91 @@
 //! The words of the command line.
 
-use crate::outcome::{EASY, Pace, outcome};
+use crate::outcome::{Call, Pace, assert_outcome, easy, outcome_of};
+use crate::table::assert_written;
 use sim_core::{HELP, Status, VERSION};
 use std::alloc::Global;
-use std::test::Fail;
+use std::process::Abort;
 
 const INPUT: &[u8] = b"node n1\n";
 
-#[test]
-fn words_that_read_nothing(rt: HostRuntime) -> Result<(), Fail> {
-    for (word, expected) in [("--help", HELP), ("--version", VERSION)] {
-        let fails = Pace {
-            step: 1,
-            fails: &[1],
-        };
-        let (status, text) = outcome(rt.alloc(), &[word], INPUT, fails, EASY)?;
-        assert_eq!(rt; status, Status::Done);
-        assert_eq!(rt; text.as_slice(), expected.as_bytes());
-    }
-    Ok(())
+/// The words that read a whole input, or its head first.
+const READING: &[&str] = &["check", "scores", "graph", "survive", "audit", "replay"];
+
+/// The word writes this text, over a source whose first call fails.
+fn assert_reads_nothing(rt: &impl Abort, alloc: Global, word: &str, text: &str) {
+    let reads = Pace {
+        step: 1,
+        fails: &[1],
+    };
+    let words = [word];
+    let call = Call {
+        reads,
+        ..easy(&words, INPUT)
+    };
+    assert_outcome(rt, alloc, &call, Status::Done, text);
 }
 
 #[test]
-fn inputs_that_are_refused(rt: HostRuntime) -> Result<(), Fail> {
-    for word in ["check", "scores", "graph", "survive", "audit", "replay"] {
-        let (status, text) = outcome(rt.alloc(), &[word], b"node n1\nnode n1\n", EASY, EASY)?;
-        assert_eq!(rt; status, Status::Refused);
-        assert_eq!(rt; text.as_slice(), b"refused 2 DuplicateName\n".as_slice());
-    }
-    Ok(())
-}
-
-fn are_no_form(alloc: Global, words: &[&str]) -> Result<bool, Fail> {
-    let (status, text) = outcome(alloc, words, INPUT, EASY, EASY)?;
-    Ok(status == Status::Usage && text.is_empty())
+fn words_that_read_nothing(rt: HostRuntime) {
+    assert_reads_nothing(&rt, rt.alloc(), "--help", HELP);
+    assert_reads_nothing(&rt, rt.alloc(), "--version", VERSION);
 }
 
 #[test]
-fn words_that_are_no_form(rt: HostRuntime) -> Result<(), Fail> {
-    let alloc = rt.alloc();
-    let lists: [&[&str]; 14] = [
-        &[],
-        &["Replay"],
-        &["replay", "x"],
-        &["check", "replay"],
-        &["audit", "audit"],
-        &["--help", "--version"],
-        &["gen"],
-        &["gen", ""],
-        &["gen", "07"],
-        &["gen", "+7"],
-        &["gen", "4294967296"],
-        &["gen", "7", "8"],
-        &["world"],
-        &["world", "07"],
-    ];
-    for words in lists {
-        assert!(rt; are_no_form(alloc, words)?, "{words:?}");
+fn inputs_that_are_refused(rt: HostRuntime) {
+    let input = b"node n1\nnode n1\n";
+    let text = "refused 2 DuplicateName\n";
+    for word in READING {
+        assert_written(&rt, rt.alloc(), word, input, Status::Refused, text);
     }
-    Ok(())
+}
+
+const NO_FORMS: &[&[&str]] = &[
+    &[],
+    &["Replay"],
+    &["replay", "x"],
+    &["check", "replay"],
+    &["audit", "audit"],
+    &["--help", "--version"],
+    &["gen"],
+    &["gen", ""],
+    &["gen", "07"],
+    &["gen", "+7"],
+    &["gen", "4294967296"],
+    &["gen", "7", "8"],
+    &["world"],
+    &["world", "07"],
+];
+
+fn assert_no_form(rt: &impl Abort, alloc: Global, row: usize, words: &[&str]) {
+    let made = outcome_of(rt, alloc, &easy(words, INPUT));
+    assert!(rt; made.is(Status::Usage, b""), "row {row}");
+}
+
+#[test]
+fn words_that_are_no_form(rt: HostRuntime) {
+    for (row, words) in NO_FORMS.iter().enumerate() {
+        assert_no_form(&rt, rt.alloc(), row, words);
+    }
+}
+
+fn assert_read_fails(rt: &impl Abort, alloc: Global, word: &str) {
+    let reads = Pace {
+        step: 5,
+        fails: &[2],
+    };
+    let words = [word];
+    let call = Call {
+        reads,
+        ..easy(&words, INPUT)
+    };
+    assert_outcome(rt, alloc, &call, Status::ReadFault, "");
 }
 
 /// In the head nothing is written where the source fails.
 #[test]
-fn sources_that_fail(rt: HostRuntime) -> Result<(), Fail> {
-    for word in ["check", "scores", "graph", "survive", "audit", "replay"] {
-        let reads = Pace {
-            step: 5,
-            fails: &[2],
-        };
-        let (status, text) = outcome(rt.alloc(), &[word], INPUT, reads, EASY)?;
-        assert_eq!(rt; status, Status::ReadFault);
-        assert_eq!(rt; text.len(), 0);
+fn sources_that_fail(rt: HostRuntime) {
+    for word in READING {
+        assert_read_fails(&rt, rt.alloc(), word);
     }
-    Ok(())
 }

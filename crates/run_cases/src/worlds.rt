@@ -1,11 +1,10 @@
 //! What the word `world` writes.
 
 use crate::inputs;
-use crate::outcome::{EASY, Pace, outcome};
+use crate::outcome::{Call, EASY, Pace, assert_outcome, easy};
 use sim_core::Status;
 use std::alloc::Global;
 use std::process::Abort;
-use std::test::Fail;
 
 /// The number of a simulated cluster, an input, and the text that is written.
 type WorldRow = (&'static str, &'static str, &'static str);
@@ -120,45 +119,49 @@ ended complete
 "#,
 );
 
+const ROWS: &[WorldRow] = &[TIMES_OUT, LEAVES, EMPTY, PROMOTED, RISES];
+
 /// The input gets this status and this text in the simulated cluster of the number.
 fn assert_lived(
     rt: &impl Abort,
     alloc: Global,
-    row: WorldRow,
+    row: &WorldRow,
     writes: Pace<'_>,
     status: Status,
     text: &str,
-) -> Result<(), Fail> {
-    let (number, input, _) = row;
-    let (ended, written) = outcome(alloc, &["world", number], input.as_bytes(), EASY, writes)?;
-    assert!(rt; written.as_slice() == text.as_bytes(), "{number}");
-    assert!(rt; ended == status, "{number}");
-    Ok(())
+) {
+    let words = ["world", row.0];
+    let call = Call {
+        writes,
+        ..easy(&words, row.1.as_bytes())
+    };
+    assert_outcome(rt, alloc, &call, status, text);
 }
 
 #[test]
-fn simulated_clusters_live(rt: HostRuntime) -> Result<(), Fail> {
-    for row in [TIMES_OUT, LEAVES, EMPTY, PROMOTED, RISES] {
-        assert_lived(&rt, rt.alloc(), row, EASY, Status::Done, row.2)?;
+fn simulated_clusters_live(rt: HostRuntime) {
+    for row in ROWS {
+        assert_lived(&rt, rt.alloc(), row, EASY, Status::Done, row.2);
     }
-    Ok(())
+}
+
+/// A result line has no value of an exit code.
+const REFUSED: WorldRow = (
+    "7",
+    "node n1\n%results\nend 1 256\n",
+    "refused 3 BadValue\n",
+);
+
+#[test]
+fn a_refused_input_has_no_world(rt: HostRuntime) {
+    assert_lived(&rt, rt.alloc(), &REFUSED, EASY, Status::Refused, REFUSED.2);
 }
 
 #[test]
-fn a_refused_input_has_no_world(rt: HostRuntime) -> Result<(), Fail> {
-    let row = (
-        "7",
-        "node n1\n%results\nend 1 256\n",
-        "refused 3 BadValue\n",
-    );
-    assert_lived(&rt, rt.alloc(), row, EASY, Status::Refused, row.2)
-}
-
-#[test]
-fn a_text_that_is_cut_short(rt: HostRuntime) -> Result<(), Fail> {
+fn a_text_that_is_cut_short(rt: HostRuntime) {
     let writes = Pace {
         step: 3,
         fails: &[2],
     };
-    assert_lived(&rt, rt.alloc(), EMPTY, writes, Status::WriteFault, "tra")
+    assert_lived(&rt, rt.alloc(), &EMPTY, writes, Status::WriteFault, "tra");
 }

@@ -1,9 +1,0 @@
-//! Tests of the crates that carry a transition out: `number_set` and `waiting`.
-//!
-//! They stand in a crate of their own, since the tests of a crate are proved together with all of its code once more.
-#![tactic(auto)]
-
-#[cfg(test)]
-mod numbers;
-#[cfg(test)]
-mod orders;

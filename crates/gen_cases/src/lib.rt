@@ -1,7 +1,0 @@
-//! Tests of generated cases.
-//!
-//! They stand in a crate of their own, since the tests of a crate are proved together with all of its code once more.
-#![tactic(auto)]
-
-#[cfg(test)]
-mod texts;
