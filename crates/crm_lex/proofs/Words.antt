@@ -1,13 +1,13 @@
 -- The words of a text, byte by byte.
-use Rattle.std.proofs.Common.{◌≡◌, ℕ, ◌+◌, ◌-◌, ◌<◌, ◌≤◌, ◌==◌, Bool, true, false, Option, List, [], ◌∷◌, ◌++◌, length, map, filter, get_or, drop, slice_range, refl, sym, ap, ◌∙◌, append_assoc, append-nil, arith}
-use Rattle.std.proofs.lemmas.List.{at_drop_more, take_more, get_or-drop, length-drop}
+use Rattle.std.proofs.Common.{◌≡◌, ℕ, ◌+◌, ◌-◌, ◌<◌, ◌≤◌, ◌==◌, ◌||◌, Bool, true, false, Option, List, [], ◌∷◌, ◌++◌, length, map, filter, get_or, drop, slice_range, inl, inr, refl, sym, ap, ◌∙◌, append_assoc, append-nil, arith}
+use Rattle.std.proofs.lemmas.List.{at_drop_more, take_more, get_or-drop, length-drop, drop_all}
 use Rattle.std.specs.List.{slice_split, onto_first}
-use Rattle.std.proofs.lemmas.Bool.{or_parts}
+use Rattle.std.proofs.lemmas.Bool.{or_parts, cases_lt, true≢false, false≢true, true_from_ne_false}
 use Rattle.crm_lex.specs.RawLines.{is_blank}
-use Rattle.crm_lex.specs.Words.{first_byte, is_quote, piece_at, place_after, pieces, is_gap, has_pieces, letters, words_of}
+use Rattle.crm_lex.specs.Words.{first_byte, is_quote, escapes, mark_if, piece_at, place_after, pieces, is_gap, has_pieces, letters, words_of}
 use Rattle.crm_lex.specs.Parts.{first_letters, later_words, word_on, words_behind, ends_plain, ends_word, PlainBetween}
 use Rattle.crm_lex.specs.declared.quoting.Place.{Place}
-use Rattle.crm_lex.specs.declared.quoting.Place.TheVariants.{Outside}
+use Rattle.crm_lex.specs.declared.quoting.Place.TheVariants.{Outside, Double, Escaped, Single}
 use Rattle.crm_lex.specs.declared.quoting.Piece.{Piece}
 use Rattle.crm_lex.specs.declared.quoting.Piece.TheVariants.{Gap, Mark, Letter}
 
@@ -101,12 +101,63 @@ word_ends : (text : List ℕ) → ends_word (first_byte text) ≡ true → (word
 word_ends [] e = (refl, refl)
 word_ends (b ∷ bs) e = rw e (refl, refl)
 
+-- a text from a place on, where it begins with no blank
+words_from : (text : List ℕ) (from : ℕ) → from < length text → is_blank (get_or text from 0) ≡ false → words_of (drop from text) ≡ word_on Outside (drop from text) ∷ words_behind Outside (drop from text)
+words_from text from within begins =
+    let place : from + 0 ≡ from = omega arith in
+    let first : is_blank (get_or (drop from text) 0 0) ≡ false = ap is_blank (get_or-drop from text 0 0) ∙ (rw place begins) in
+    words_begin (drop from text) (omega (arith, length-drop from text)) first
+
 -- a word of bytes that stand for themselves, and the words behind it
 pub plain_first : (text : List ℕ) (from to : ℕ) → from < length text → is_blank (get_or text from 0) ≡ false → ends_word (first_byte (drop to text)) ≡ true → PlainBetween text from to
     → words_of (drop from text) ≡ slice_range text from to ∷ words_of (drop to text)
 plain_first text from to within begins ends plain =
-    let place : from + 0 ≡ from = omega arith in
-    let first : is_blank (get_or (drop from text) 0 0) ≡ false = ap is_blank (get_or-drop from text 0 0) ∙ (rw place begins) in
     let here = word_ends (drop to text) ends in
     let word : word_on Outside (drop from text) ≡ slice_range text from to = plain.letters ∙ (rw here.0 (append-nil (slice_range text from to))) in
-    words_begin (drop from text) (omega (arith, length-drop from text)) first ∙ rw (word, plain.behind, here.1) refl
+    words_from text from within begins ∙ rw (word, plain.behind, here.1) refl
+
+mark_no_gap : (mark : Bool) (b : ℕ) → is_gap (mark_if mark b) ≡ false
+mark_no_gap true b = refl
+mark_no_gap false b = refl
+
+-- a gap is a blank outside quotes
+gap_outside : (place : Place) (b : ℕ) (next : Option ℕ) → is_gap (piece_at place b next) ≡ true → (place ≡ Outside) × (is_blank b ≡ true)
+gap_outside Outside b next g = (refl, true_from_ne_false (is_blank b) (λ e. true≢false (sym g ∙ rw e (mark_no_gap (is_quote b) b))))
+gap_outside Double b next g = absurd (true≢false (sym g ∙ mark_no_gap (b == 34 || escapes b next) b))
+gap_outside Escaped b next g = absurd (false≢true g)
+gap_outside Single b next g = absurd (true≢false (sym g ∙ mark_no_gap (b == 39) b))
+
+before_blank : (text : List ℕ) (from at : ℕ) → from ≤ at → is_blank (get_or text from 0) ≡ false → is_blank (get_or text at 0) ≡ true → from < at
+before_blank text from at low begins blank = elim (cases_lt from at) [
+  | inl less ↦ less
+  | inr more ↦ let same : at ≡ from = omega arith in absurd (true≢false (sym blank ∙ rw same begins))
+]
+
+-- the word that begins at the one place is over at the other, and this is the place there
+pub record Over (place : Place) (text : List ℕ) (from at : ℕ) : Type 0 where
+  pub low : from < at
+  pub letters : word_on place (drop at text) ≡ []
+  pub words : words_of (drop from text) ≡ word_on Outside (drop from text) ∷ words_of (drop at text)
+
+pub over_at_gap : (place : Place) (piece : Piece) (next : Option ℕ) (text : List ℕ) (from at : ℕ) → from ≤ at → at < length text → is_blank (get_or text from 0) ≡ false
+    → piece ≡ piece_at place (get_or text at 0) next → true ≡ is_gap piece → words_behind Outside (drop from text) ≡ words_behind place (drop at text) → Over place text from at
+over_at_gap place piece next text from at low within begins p g behind =
+    let gap = gap_outside place (get_or text at 0) next (ap is_gap (sym p) ∙ sym g) in
+    let here = word_ends (drop at text) (at_drop_more (λ (xs : List ℕ). ends_word (first_byte xs)) text at 0 within ∙ gap.1) in
+    let others : words_behind place (drop at text) ≡ words_of (drop at text) = rw gap.0 here.1 in
+    record {
+      low = before_blank text from at low begins gap.1;
+      letters = rw gap.0 here.0;
+      words = words_from text from (omega arith) begins ∙ ap (λ ws. word_on Outside (drop from text) ∷ ws) (behind ∙ others);
+    }
+
+pub over_at_end : (place : Place) (text : List ℕ) (from at : ℕ) → from < length text → at ≡ length text → is_blank (get_or text from 0) ≡ false
+    → words_behind Outside (drop from text) ≡ words_behind place (drop at text) → Over place text from at
+over_at_end place text from at within all begins behind =
+    let none : drop at text ≡ [] = drop_all at text (omega arith) in
+    let others : words_behind place (drop at text) ≡ words_of (drop at text) = rw none refl in
+    record {
+      low = omega arith;
+      letters = rw none refl;
+      words = words_from text from within begins ∙ ap (λ ws. word_on Outside (drop from text) ∷ ws) (behind ∙ others);
+    }

@@ -13,28 +13,70 @@ use crate::{LexFault, Line, Name, NoMemory};
 use listed::Listed;
 use std::alloc::{AllocError, Global};
 
-/// The word that begins at this place, and where it ends. `word` has room for it.
-fn next_word(
+/// Adds a name with these bytes.
+fn add_name(alloc: Global, bytes: &[u8], found: &mut Vec<Name>) -> Result<(), NoMemory>
+    ensures { OnOk result (found.new.items ≡ found.old.items ++ bytes.now ∷ []) }
+{
+    let name = Name::from_bytes(alloc, bytes)?;
+    found.push(name)?;
+    Ok(())
+}
+
+/// Adds the word that begins at this place, and says where it ends. `word` has room for it.
+fn add_word(
     alloc: Global,
     text: &[u8],
     from: usize,
     word: &mut Vec<u8>,
-) -> Result<(Name, usize), NoMemory>
+    found: &mut Vec<Name>,
+) -> Result<usize, NoMemory>
     requires from_in { from < length text.now }
     requires begins { is_blank (slice_index text.now from) ≡ false }
     requires room { length text.now ≤ vec_capacity word.old }
-    ensures words { IfOk result (λ read. words_of (drop from text.now) ≡ read.0 ∷ words_of (drop read.1 text.now)) }
-    ensures low { IfOk result (λ read. from < read.1) }
-    ensures high { IfOk result (λ read. read.1 ≤ length text.now) }
+    ensures words { IfOk result (λ behind. found.new.items ++ words_of (drop behind text.now)
+        ≡ found.old.items ++ words_of (drop from text.now)) }
+    ensures low { IfOk result (λ behind. from < behind) }
+    ensures high { IfOk result (λ behind. behind ≤ length text.now) }
     ensures capacity { vec_capacity word.new ≡ vec_capacity word.old }
 {
     let end = plain_end(text, from);
     if ends_word(text, end) {
-        return Ok((Name::from_bytes(alloc, &text[from..end])?, end));
+        add_name(alloc, &text[from..end], found)?;
+        return Ok(end);
     }
     word.clear();
     let behind = read_word(text, from, word);
-    Ok((Name::from_bytes(alloc, word.as_slice())?, behind))
+    add_name(alloc, word.as_slice(), found)?;
+    Ok(behind)
+}
+
+/// Puts the words of a text into `found`, in place of what it has. `word` has room for one word.
+fn find_words(
+    alloc: Global,
+    text: &[u8],
+    word: &mut Vec<u8>,
+    found: &mut Vec<Name>,
+) -> Result<(), NoMemory>
+    requires { length text.now ≤ vec_capacity word.old }
+    ensures words { OnOk result (found.new.items ≡ words_of text.now) }
+    ensures capacity { vec_capacity word.new ≡ vec_capacity word.old }
+{
+    found.clear();
+    let mut at = word_start(text, 0);
+    while at < text.len() {
+        let behind = add_word(alloc, text, at, word, found)?;
+        at = word_start(text, behind);
+    }
+    Ok(())
+}
+
+/// The names, in a list without room for more.
+fn list_of(alloc: Global, names: &mut Vec<Name>) -> Result<Listed<Name>, NoMemory>
+    ensures { IfOk result (λ list. list ≡ names.old.items) }
+{
+    let mut list = Vec::with_capacity(alloc, names.len())?;
+    list.append(names)?;
+    Ok(Listed::from(list))
 }
 
 /// The words of a text, in a list without room for more. `word` has room for one word; `found` is cleared.
@@ -49,16 +91,8 @@ fn read_words(
     ensures memory { IfErr result (λ fault. fault ≡ no.NoMemory) }
     ensures capacity { vec_capacity word.new ≡ vec_capacity word.old }
 {
-    found.clear();
-    let mut at = word_start(text, 0);
-    while at < text.len() {
-        let (name, behind) = next_word(alloc, text, at, word)?;
-        found.push(name)?;
-        at = word_start(text, behind);
-    }
-    let mut words = Vec::with_capacity(alloc, found.len())?;
-    words.append(found)?;
-    Ok(Listed::from(words))
+    find_words(alloc, text, word, found)?;
+    Ok(list_of(alloc, found)?)
 }
 
 /// What is read of a plain line, whose content is its text where it is no comment.
@@ -121,6 +155,33 @@ fn add_row(lines: &mut Vec<Line>, line: u32, words: Listed<Name>) -> Result<(), 
     Ok(())
 }
 
+/// The logical lines of a text with their words, or its first fault. `text` has room for the text of a line, and `word`
+/// for one word.
+fn read_lines(
+    alloc: Global,
+    bytes: &[u8],
+    text: &mut Vec<u8>,
+    word: &mut Vec<u8>,
+    found: &mut Vec<Name>,
+) -> Result<Vec<Line>, LexFault>
+    requires few { length bytes.now < 2 ^ 32 }
+    requires text_room { 1048576 ≤ vec_capacity text.old }
+    requires word_room { 1048576 ≤ vec_capacity word.old }
+    ensures { Gives (λ lines. lines.items) result (reads bytes.now) }
+{
+    let mut lines = Vec::new(alloc);
+    let mut rest = bytes;
+    let mut number = 1u64;
+    while !rest.is_empty() {
+        let (raw, after) = first_logical_line(rest);
+        let words = read_line(alloc, number as u32, raw, text, word, found)?;
+        add_row(&mut lines, number as u32, words)?;
+        number += line_count(raw) as u64;
+        rest = after;
+    }
+    Ok(lines)
+}
+
 /// The logical lines of a text with their words, or its first fault. A line without words, as a comment, is left out.
 /// (crmsh manual, continuation lines, comments and quoting; the faults and the limit are a rule of this project.)
 pub fn logical_lines(alloc: Global, bytes: &[u8]) -> Result<Vec<Line>, LexFault>
@@ -130,15 +191,5 @@ pub fn logical_lines(alloc: Global, bytes: &[u8]) -> Result<Vec<Line>, LexFault>
     let mut text = Vec::with_capacity(alloc, LONGEST_LINE)?;
     let mut word = Vec::with_capacity(alloc, LONGEST_LINE)?;
     let mut found = Vec::new(alloc);
-    let mut lines = Vec::new(alloc);
-    let mut rest = bytes;
-    let mut number = 1u64;
-    while !rest.is_empty() {
-        let (raw, after) = first_logical_line(rest);
-        let words = read_line(alloc, number as u32, raw, &mut text, &mut word, &mut found)?;
-        add_row(&mut lines, number as u32, words)?;
-        number += line_count(raw) as u64;
-        rest = after;
-    }
-    Ok(lines)
+    read_lines(alloc, bytes, &mut text, &mut word, &mut found)
 }

@@ -21,7 +21,7 @@ const HARD: &[u8] = &[ERR_ARGS, ERR_UNIMPLEMENTED, ERR_PERM, ERR_INSTALLED];
 const FATAL: &[u8] = &[ERR_CONFIGURED];
 
 /// What some failures of a cell come to, in their order.
-#[derive(Clone, Copy, Debug, PartialEq, Eq)]
+#[derive(Clone, Copy)]
 pub struct Tally {
     /// How many they are, cut at 1,000,000.
     pub count: u32,

@@ -28,7 +28,7 @@ pub fn cut(sum: i64) -> Score
     let least = i64::from(Score::MINUS_INFINITY.points);
     let most = i64::from(Score::INFINITY.points);
     Score {
-        points: sum.min(most).max(least) as i32,
+        points: sum.clamp(least, most) as i32,
     }
 }
 

@@ -3,9 +3,10 @@ ghost use Rattle.cluster_types.specs.Graphs.{IsGraph};
 ghost use Rattle.waiting.specs.Clearing.{Clears, cleared_then, less_one, ready_then};
 ghost use Rattle.waiting.specs.Rows.{AreRows};
 
-use crate::roots::{free_actions, free_gates};
+use crate::roots::first_free;
 use crate::rows::Rows;
 use crate::side::{Side, count_ends};
+use carry::with;
 use cluster_types::Graph;
 use number_set::NumberSet;
 use std::alloc::{AllocError, Global};
@@ -25,6 +26,23 @@ pub struct Queue {
     pub ready: NumberSet,
 }
 
+/// A flag for each action, none of which is set.
+fn none_set(alloc: Global, actions: u32) -> Result<Vec<bool>, AllocError>
+    ensures { IfOk result (λ flags. flags.items ≡ replicate actions false) }
+{
+    let flags = vec![in alloc; false; actions as usize]?;
+    Ok(flags)
+}
+
+/// Which actions have begun, and which have succeeded: none.
+fn none_yet(alloc: Global, actions: u32) -> Result<(Vec<bool>, Vec<bool>), AllocError>
+    ensures begun { IfOk result (λ none. none.0.items ≡ replicate actions false) }
+    ensures succeeded { IfOk result (λ none. none.1.items ≡ replicate actions false) }
+{
+    let begun = none_set(alloc, actions)?;
+    with(begun, none_set(alloc, actions))
+}
+
 impl Queue {
     /// Nothing has begun, and nothing is counted off.
     pub fn new(alloc: Global, graph: &Graph) -> Result<Queue, AllocError>
@@ -36,10 +54,10 @@ impl Queue {
         let edges = graph.edges();
         let actions = graph.count();
         let left = count_ends(alloc, edges.positions, edges.list.as_slice(), Side::After)?;
-        let cleared = free_gates(alloc, edges.positions, actions, &left)?;
-        let ready = free_actions(alloc, actions, &left)?;
-        let begun = vec![in alloc; false; actions as usize]?;
-        let succeeded = vec![in alloc; false; actions as usize]?;
+        let free = first_free(alloc, edges.positions, actions, &left);
+        let (left, (cleared, ready)) = with(left, free)?;
+        let none = none_yet(alloc, actions);
+        let ((left, cleared, ready), (begun, succeeded)) = with((left, cleared, ready), none)?;
         Ok(Queue {
             left,
             cleared,

@@ -1,7 +1,7 @@
 use Rattle.std.proofs.Common.{◌≡◌, ◌-◌, ◌<◌, ◌≤◌, ◌++◌, false, length, drop, slice_index, vec_capacity}
 use Rattle.crm_lex.specs.RawLines.{is_blank}
 use Rattle.crm_lex.specs.Words.{words_of}
-use Rattle.crm_lex.proofs.reading.read_words.Given as goal
+use Rattle.crm_lex.proofs.reading.find_words.Given as goal
 
 abbrev pub invariant-loop-at : goal.invariant-loop-at
 invariant-loop-at l = record {

@@ -1,7 +1,7 @@
 use Rattle.std.proofs.Common.{◌≡◌, ◌+◌, ◌≤◌, ◌++◌, length, vec_capacity}
 use Rattle.crm_lex.specs.RawLines.{raw_lines}
 use Rattle.crm_lex.specs.Reading.{faults_from, first_fault, rows_from}
-use Rattle.crm_lex.proofs.reading.logical_lines.Given as goal
+use Rattle.crm_lex.proofs.reading.read_lines.Given as goal
 
 abbrev pub invariant-loop-rest : goal.invariant-loop-rest
 invariant-loop-rest l = record {

@@ -2,10 +2,10 @@ use Rattle.std.proofs.Common.{◌≡◌, ◌+◌, length, map}
 use Rattle.std.specs.List.{range_with_len}
 use Rattle.rule_loops.specs.Edges.{step_edges}
 use Rattle.rule_loops.specs.FirstLoops.{with_orders}
-use Rattle.rule_loops.proofs.orders.edges_of_links.Given as goal
+use Rattle.rule_loops.proofs.orders.StepEdges.add_orders.Given as goal
 
 abbrev pub invariant-loop-order : goal.invariant-loop-order
 invariant-loop-order l = record {
-  edges : l.edges.items ≡ step_edges (with_orders l.cluster l.order-index);
-  ends : l.ends.items ≡ map (λ k. length (step_edges (with_orders l.cluster (k + 1)))) (range_with_len 0 l.order-index);
+  edges : l.self.edges.items ≡ step_edges (with_orders l.cluster l.order-index);
+  ends : l.self.ends.items ≡ map (λ k. length (step_edges (with_orders l.cluster (k + 1)))) (range_with_len 0 l.order-index);
 }

@@ -5,7 +5,7 @@ use Rattle.crm_lex.specs.Words.{words_of}
 use Rattle.crm_lex.specs.LogicalLines.{line_text}
 use Rattle.crm_lex.specs.Reading.{row}
 use Rattle.crm_lex.proofs.Answered.{fault_later, rows_later, gives_line_fault, line_words}
-use Rattle.crm_lex.proofs.reading.logical_lines.Goals as goal
+use Rattle.crm_lex.proofs.reading.read_lines.Goals as goal
 
 pub loop-rest-preserved : goal.loop-rest-preserved
 loop-rest-preserved c =
@@ -27,5 +27,5 @@ pub returns-in_err-words : goal.returns-in_err-words
 returns-in_err-words c =
     let l = c.loop-rest in
     let raw = c.first_logical_line.result.0.now in
-    let fault : c.from_residual-in_err-words.result ≡ Err c.in_err-words.field-0.0 = search rules in
+    let fault : c.from_residual.result ≡ Err c.in_err-words.field-0.0 = search rules in
     rw fault (gives_line_fault Global c.args.bytes.now raw l.number _ _ c.first_logical_line.ensures.lines l.invariant.fault c.in_err-words.field-0.0 c.in_err-words.ensures.words)
