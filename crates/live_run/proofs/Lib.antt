@@ -14,3 +14,13 @@ pub mod Readers
 pub mod Written
 pub mod HeadBringing
 pub mod HeadLines
+pub mod Lines
+pub mod Ends
+pub mod FirstBytes
+pub mod Named
+pub mod AuditDues
+pub mod NamedRuns
+pub mod Verdicts
+pub mod Exclusive
+pub mod OneFault
+pub mod Stopped

@@ -12,3 +12,6 @@ pub mod LineCauses
 pub mod Writing
 pub mod LineWriters
 pub mod Heads
+pub mod Lawful
+pub mod Written
+pub mod Compared

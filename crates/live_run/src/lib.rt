@@ -1,5 +1,6 @@
 //! A run over result lines as they come, each line written as it happens, to where its text ends (Pacemaker Administration,
-//! "Transitions"; when a run ends is a rule of this project).
+//! "Transitions"; when a run ends is a rule of this project); and an auditor of written runs: whether their lines are those
+//! of the run of their own answers (rule of this project).
 #![tactic(auto)]
 
 // The head of an input.
@@ -36,6 +37,29 @@ mod running;
 // What follows from the definitions.
 mod laws;
 
+// What an audit says.
+mod verdict;
+
+// The lines of a written run: their answers, and their text.
+mod answers;
+mod text;
+
+// The run of these answers, written into memory.
+mod ended;
+mod replaying;
+
+// The two texts, compared.
+mod comparing;
+mod judging;
+
+// The auditor.
+mod auditing;
+
+// What follows from the definition of an audit.
+mod audit_laws;
+
+pub use audit_laws::{faulty_lines_are_one, faulty_runs_are_not_lawful};
+pub use auditing::audit;
 pub use head::{HeadStop, HeadText, read_head};
 pub use laws::{ends_are_one, runs_begin_what_is_due};
 pub use line_outcomes::LineOutcomes;
@@ -43,3 +67,4 @@ pub use line_stop::{LineCause, LineStop};
 pub use line_writer::LineWriter;
 pub use live_end::LiveEnd;
 pub use running::run_live;
+pub use verdict::{Clause, Verdict};

@@ -93,6 +93,7 @@ fn run_to_end<S: Source, W: Sink>(
     ensures same_source { loan_in outcomes.new ≡ loan_in outcomes.old }
     ensures same_sink { IsSameSink (loan_of writer.old) (loan_of writer.new) }
 {
+    // Each arm drops its journal by name: left to the arm's end, that takes the checker twice as long.
     match replay_watched(alloc, cluster, journal, outcomes, writer, MOST_TRANSITIONS) {
         Ok(journal) => {
             drop(journal);

@@ -10,8 +10,8 @@ use Rattle.input_reading.proofs.OneReading.{not_both_of_a_trace, one_trace}
 use Rattle.input_reading.proofs.ValidTrace.{cluster_valid, run_named}
 use Rattle.input_reading.specs.declared.text.RunTextLine.{RunTextLine}
 use Rattle.input_reading.specs.Written.{AreNamed, IsNamed}
-use Rattle.trace_audit.specs.declared.verdict.Clause.{Clause}
-use Rattle.trace_audit.specs.Lawful.{IsFaulty, IsLawful, said}
+use Rattle.live_run.specs.declared.verdict.Clause.{Clause}
+use Rattle.live_run.specs.Lawful.{IsFaulty, IsLawful, said}
 use Rattle.sim_core.specs.declared.status.Status.{Status}
 use Rattle.sim_core.specs.declared.status.Status.TheVariants.{Done, NotLawful, Refused}
 use Rattle.sim_core.specs.Audit.{IsAuditOutput, IsLawfulTrace, IsTraceRefusal, IsUnlawfulTrace}

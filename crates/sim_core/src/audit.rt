@@ -6,15 +6,15 @@ ghost use Rattle.cluster_types.specs.Safety.{IsAtRest};
 ghost use Rattle.cluster_types.specs.Valid.{IsValid};
 ghost use Rattle.input_reading.specs.Written.{AreNamed};
 ghost use Rattle.sim_core.specs.Audit.{IsAuditOutput, clause_name, unlawful_text};
-ghost use Rattle.trace_audit.specs.Lawful.{Judges};
+ghost use Rattle.live_run.specs.Lawful.{Judges};
 
 use crate::input_word::InputWord;
 use crate::status::Status;
 use crate::text_word::refusal_text;
 use faults::NoMemory;
 use input_reading::{InputFault, Trace, read_trace};
+use live_run::{Clause, Verdict, audit};
 use std::alloc::Global;
-use trace_audit::{Clause, Verdict, audit};
 use trace_text::push_number;
 
 /// What is due, as it stands in a line `unlawful LINE CLAUSE`.

@@ -21,9 +21,8 @@ use crate::text_word::Reading;
 use crate::words::{Command, command_of};
 use crate::world::WorldWord;
 use cluster_io::{Sink, Source};
-use live_run::ends_are_one;
+use live_run::{ends_are_one, faulty_runs_are_not_lawful};
 use std::alloc::Global;
-use trace_audit::faulty_runs_are_not_lawful;
 
 /// Carries out a word. The clauses are those of `run` for the words that ask for it.
 fn carry_out<S: Source, W: Sink>(alloc: Global, word: Command, src: &mut S, out: &mut W) -> Status

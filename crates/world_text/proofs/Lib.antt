@@ -1,1 +1,12 @@
 pub mod Lived
+pub mod Each
+pub mod PlannedActions
+pub mod FewActions
+pub mod TargetLines
+pub mod StepLines
+pub mod WrittenLines
+pub mod FirstEvents
+pub mod OneLife
+pub mod Together
+pub mod Transitions
+pub mod OneEnd

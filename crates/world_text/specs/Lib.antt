@@ -1,1 +1,3 @@
 pub mod WorldTexts
+pub mod Fitting
+pub mod LivesOn

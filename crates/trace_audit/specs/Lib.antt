@@ -1,3 +1,0 @@
-pub mod Lawful
-pub mod Written
-pub mod Compared
