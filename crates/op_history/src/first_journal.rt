@@ -8,6 +8,7 @@ ghost use Rattle.cluster_types.specs.declared.journal.Event.TheVariants as event
 ghost use Rattle.op_history.specs.FirstJournal.{events_of, first_said, history_of, journal_of, leavings, now_of, promotion_in, quorum_of, word_as, word_in};
 
 use crate::told::{NodeWord, Told};
+use carry::done;
 use cluster_types::{Cluster, Event, Journal, NodeId, Promotion};
 use faults::NoMemory;
 use listed::Listed;
@@ -142,16 +143,25 @@ fn add_last(events: &mut Listed<Event>, yes: bool, seconds: u64) -> Result<(), N
     add(events, Event::Wait { seconds })
 }
 
+/// Adds all events of the first journal.
+fn add_events(events: &mut Listed<Event>, cluster: &Cluster, told: &[Told]) -> Result<(), NoMemory>
+    requires limits { KeepsLimits cluster.now }
+    requires none { events.old ≡ [] }
+    ensures { OnOk result (events.new ≡ events_of cluster.now told.now) }
+{
+    add_joins(events, cluster.nodes.len() as u32)?;
+    add_history(events, told)?;
+    add_leavings(events, cluster, told)?;
+    add_last(events, quorum_of(told), now_of(told))
+}
+
 fn events_of(alloc: Global, cluster: &Cluster, told: &[Told]) -> Result<Listed<Event>, NoMemory>
     requires { KeepsLimits cluster.now }
     ensures { IfOk result (λ events. events ≡ events_of cluster.now told.now) }
 {
     let mut events = Listed::new(alloc);
-    add_joins(&mut events, cluster.nodes.len() as u32)?;
-    add_history(&mut events, told)?;
-    add_leavings(&mut events, cluster, told)?;
-    add_last(&mut events, quorum_of(told), now_of(told))?;
-    Ok(events)
+    let added = add_events(&mut events, cluster, told);
+    done(events, added)
 }
 
 fn promotions_of(alloc: Global, told: &[Told]) -> Result<Listed<Promotion>, NoMemory>
