@@ -1,17 +1,12 @@
 -- One cell more that is marked.
-use Rattle.std.proofs.Common.{arith, ◌≡◌, ◌<◌, ◌+◌, ◌*◌, ◌==◌, ◌&&◌, ◌||◌, nat_lt, ℕ, Bool, true, false, if◌then◌else◌, List, cond, count_by, length, slice_index_or, slice_set, refl, sym, ◌∙◌, ap, inl, inr}
+use Rattle.std.proofs.Common.{arith, ◌≡◌, ◌<◌, ◌+◌, ◌*◌, ◌==◌, ◌&&◌, ◌||◌, nat_lt, ℕ, Bool, true, false, List, cond, count_by, length, slice_index_or, slice_set, refl, sym, ◌∙◌, ap, inl, inr}
 use Rattle.std.specs.List.{range_with_len}
 use Rattle.std.proofs.lemmas.Bool.{cases_lt, le-ltb, lt-ltb, ne_eqb}
 use Rattle.std.proofs.lemmas.List.{map-id}
 use Rattle.std.proofs.lemmas.List.FromFn.{sum_by-map-range_with_len_more}
+use Rattle.lemmas.proofs.Booleans.{cond-or}
 use Rattle.cluster_types.proofs.TableCells.{get-at, same_place}
 use Rattle.action_build.specs.Levels.{marks_in}
-
-chosen : (b old : Bool) → (if b then true else old) ≡ (old || b)
-chosen true true = refl
-chosen true false = refl
-chosen false true = refl
-chosen false false = refl
 
 none_of : (a : Bool) → (false || a && false) ≡ false
 none_of true = refl
@@ -24,7 +19,7 @@ marked_more nodes cells leaf node on_node within r n = elim (cases_lt n nodes) [
       let t : nat_lt n nodes ≡ true = lt-ltb n nodes lt in
       rw t (get-at cells (r * nodes + n) (leaf * nodes + node) true false within (r == leaf && n == node)
       (same_place nodes r n leaf node lt on_node (r == leaf) refl)
-      ∙ chosen (r == leaf && n == node) (slice_index_or cells (r * nodes + n) false))
+      ∙ cond-or (r == leaf && n == node) (slice_index_or cells (r * nodes + n) false))
   | inr le ↦
       let t : nat_lt n nodes ≡ false = le-ltb n nodes le in
       let e : (n == node) ≡ false = ne_eqb n node (λ s. let f : ⊥ = omega arith in f) in

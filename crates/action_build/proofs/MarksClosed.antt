@@ -10,10 +10,11 @@ use Rattle.cluster_types.specs.declared.journal.Event.{Event}
 use Rattle.cluster_types.specs.declared.leaf.Role.{Role}
 use Rattle.cluster_types.specs.declared.rules.Order.{Order}
 use Rattle.cluster_types.specs.Needed.{IsClosed, OrderMayCycle, can_cycle, has_disturbing, steps_at}
+use Rattle.cluster_types.specs.Precedence.{role_by}
 use Rattle.cluster_types.specs.Tables.{Targets, is_in_scope}
-use Rattle.cluster_types.proofs.OpLaws.{up_of}
-use Rattle.action_build.specs.Cycling.{Marks, NoneComesBack, first_marks, is_cycling, is_disturbed, may_be_marked, role_given, with_order, with_orders}
-use Rattle.action_build.proofs.OrderWords.{cycling_of, role_of}
+use Rattle.cluster_types.proofs.OpLaws.{gives_one, up_of}
+use Rattle.action_build.specs.Cycling.{Marks, NoneComesBack, first_marks, is_cycling, is_disturbed, may_be_marked, with_order, with_orders}
+use Rattle.action_build.proofs.OrderWords.{cycling_of}
 
 module _ (c : Cluster) (es : List Event) (targets : Targets) where
   -- what is marked stays so
@@ -87,7 +88,7 @@ module _ (c : Cluster) (es : List Event) (targets : Targets) where
     reached : (o : Order) (n m : ℕ) (first later : Role) → OrderMayCycle c es targets o n m first later
         → is_disturbed c es targets last_marks o m ≡ true → last_marks o.then_leaf n ≡ true
     reached o n m first later may h =
-        let role : later ≡ role_given o.then_op = role_of o.then_op later may.then_gives in
+        let role : later ≡ role_by o.then_op = gives_one o.then_op later may.then_gives in
         let there = all o may.present
         (cycling_of o may.mandatory may.both_ways (up_of o.first_op first may.first_gives) (up_of o.then_op later may.then_gives)) in
         all_marked os (first_marks c es targets) apart o n there (record {

@@ -4,6 +4,7 @@ use Rattle.std.specs.List.{flat_map, range_with_len}
 use Rattle.std.proofs.lemmas.List.Elements.{Contains-append_cases}
 use Rattle.std.proofs.lemmas.List.Kept.{AllPairs-filter}
 use Rattle.lemmas.proofs.Members.{at_head, head_or_rest, in_none, in_rest, of_filter, of_flat, of_map}
+use Rattle.lemmas.proofs.Ordered.{first_earlier, rest_in_order}
 use Rattle.cluster_types.specs.declared.cluster.Cluster.{Cluster}
 use Rattle.cluster_types.specs.declared.journal.Action.{Action}
 use Rattle.cluster_types.specs.declared.journal.Action.TheVariants.{Fence, Probe, Cell, MigrateTo, MigrateFrom}
@@ -23,7 +24,7 @@ use Rattle.action_build.specs.Cycling.{Marks}
 use Rattle.action_build.specs.Levels.{steps_by}
 use Rattle.action_build.specs.declared.steps.CellNeed.{CellNeed}
 use Rattle.action_build.proofs.Conditions.{of_if, of_one}
-use Rattle.action_build.proofs.PairsApart.{first_of, no_pairs, pair_more, pairs_if, pairs_joined, pairs_mapped, pairs_of_range, pairs_unless, rest_of}
+use Rattle.action_build.proofs.PairsApart.{no_pairs, pair_more, pairs_if, pairs_joined, pairs_mapped, pairs_of_range, pairs_unless}
 
 abbrev Differ : Action → Action → Type 0
 Differ x y = x ≢ y
@@ -161,10 +162,10 @@ module _ (R : MonitorOf → MonitorOf → Type 0) (t : Target) (any : Bool) wher
   wanted_apart left (x ∷ ms) h =
       pairs_joined R (if is_wanted t any left x then x ∷ [] else []) (wanted t any (left / 2) ms)
       (pairs_if R (is_wanted t any left x) (x ∷ []) (pair_more R x [] (λ y k. absurd (in_none y k)) (no_pairs R)))
-      (wanted_apart (left / 2) ms (rest_of R x ms h))
+      (wanted_apart (left / 2) ms (rest_in_order R x ms h))
       (λ a b k l. (
       let own : x ≡ a = of_one x a (of_if (is_wanted t any left x) (x ∷ []) a k).among in
-      rw own at (first_of R x ms h b (of_wanted (left / 2) ms b l))))
+      rw own at (first_earlier R x ms b h (of_wanted (left / 2) ms b l))))
 
 -- what an action is of
 record IsOf (a : Action) (sort leaf node : ℕ) : Type 0 where

@@ -13,13 +13,13 @@ use Rattle.rule_loops.specs.FirstLoops.{OrdersSteps}
 use Rattle.lemmas.proofs.Members.{in_range}
 use Rattle.cluster_types.specs.declared.cluster.Cluster.{Cluster}
 use Rattle.cluster_types.specs.declared.journal.Event.{Event}
-use Rattle.cluster_types.specs.declared.leaf.Op.{Op}
-use Rattle.cluster_types.specs.declared.leaf.Op.TheVariants.{Start, Stop, Promote, Demote, Monitor}
 use Rattle.cluster_types.specs.declared.rules.Order.{Order}
 use Rattle.cluster_types.specs.Needed.{can_cycle, has_disturbing}
-use Rattle.cluster_types.specs.Tables.{Targets, holds_role, is_in_scope}
+use Rattle.cluster_types.specs.Precedence.{role_by}
+use Rattle.cluster_types.specs.Tables.{Targets, holds_role, is_in_scope, target_holds}
+use Rattle.cluster_types.proofs.TableCells.{by_target}
 use Rattle.action_build.specs.ByNeeds as by_needs
-use Rattle.action_build.specs.Cycling.{Marks, is_disturbed, is_marked_by, role_given, with_order}
+use Rattle.action_build.specs.Cycling.{Marks, is_disturbed, is_marked_by, with_order}
 use Rattle.action_build.specs.Levels.{AreNeeds, marks_in, steps_by}
 use Rattle.action_build.specs.declared.steps.CellNeed.{CellNeed}
 
@@ -44,13 +44,6 @@ any_one p nodes n lt = on (p n) refl where
       ∙ sym h
   on false h =
       none (list_any (λ m. n == m && p m) (range_with_len 0 nodes)) refl h ∙ sym h
-
-role_alike : (targets : Targets) (word : Op) (r n : ℕ) → by_needs.is_target_of (targets r n) word ≡ holds_role targets r (role_given word) n
-role_alike targets Start r n = refl
-role_alike targets Stop r n = refl
-role_alike targets Promote r n = refl
-role_alike targets Demote r n = refl
-role_alike targets Monitor r n = refl
 
 module _ (c : Cluster) (es : List Event) (targets : Targets) (needs : List CellNeed) (are : AreNeeds c es targets needs)
     (marks : Marks) (o : Order) (ordered : OrdersSteps c o) where
@@ -77,12 +70,12 @@ module _ (c : Cluster) (es : List Event) (targets : Targets) (needs : List CellN
       → by_needs.is_marked_on (length c.nodes) needs o flags (list_any (λ b. b) flags) n ≡ is_marked_by c es targets marks o n
   marked_alike n lt =
       let within : nat_lt n (length c.nodes) ≡ true = lt-ltb n (length c.nodes) lt in
-      ap (λ (need : CellNeed). need.can_cycle && by_needs.is_target_of need.target o.then_op
+      ap (λ (need : CellNeed). need.can_cycle && target_holds need.target (role_by o.then_op)
       && (if o.local then slice_index_or flags n false else list_any (λ b. b) flags)) (are o.then_leaf n ordered.later lt)
       ∙ ap (λ b. can_cycle c es targets o.then_leaf n && b
-      && (if o.local then slice_index_or flags n false else list_any (λ b. b) flags)) (role_alike targets o.then_op o.then_leaf n)
-      ∙ ap (λ b. can_cycle c es targets o.then_leaf n && holds_role targets o.then_leaf (role_given o.then_op) n && b) (scoped n o.local lt)
-      ∙ ap (λ b. b && can_cycle c es targets o.then_leaf n && holds_role targets o.then_leaf (role_given o.then_op) n
+      && (if o.local then slice_index_or flags n false else list_any (λ b. b) flags)) (by_target targets o.then_leaf n (role_by o.then_op))
+      ∙ ap (λ b. can_cycle c es targets o.then_leaf n && holds_role targets o.then_leaf (role_by o.then_op) n && b) (scoped n o.local lt)
+      ∙ ap (λ b. b && can_cycle c es targets o.then_leaf n && holds_role targets o.then_leaf (role_by o.then_op) n
       && list_any (λ m. is_in_scope o n m && is_disturbed c es targets marks o m) (range_with_len 0 (length c.nodes))) (sym within)
 
   flag_alike : (n : ℕ)
@@ -96,7 +89,7 @@ module _ (c : Cluster) (es : List Event) (targets : Targets) (needs : List CellN
         let size = length-map-range_with_len (by_needs.is_marked_on (length c.nodes) needs o flags (list_any (λ b. b) flags)) 0 (length c.nodes) in
         let out : nat_lt n (length c.nodes) ≡ false = le-ltb n (length c.nodes) le in
         get_or_past (map (by_needs.is_marked_on (length c.nodes) needs o flags (list_any (λ b. b) flags)) (range_with_len 0 (length c.nodes))) n false (omega arith)
-        ∙ ap (λ b. b && can_cycle c es targets o.then_leaf n && holds_role targets o.then_leaf (role_given o.then_op) n
+        ∙ ap (λ b. b && can_cycle c es targets o.then_leaf n && holds_role targets o.then_leaf (role_by o.then_op) n
         && list_any (λ m. is_in_scope o n m && is_disturbed c es targets marks o m) (range_with_len 0 (length c.nodes))) (sym out)
   ]
 

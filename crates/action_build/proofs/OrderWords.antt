@@ -2,31 +2,11 @@
 use Rattle.std.proofs.Common.{◌≡◌, ◌&&◌, true, refl}
 use Rattle.std.proofs.lemmas.Bool.{and_from}
 use Rattle.lemmas.proofs.Booleans.{sooner, later}
-use Rattle.cluster_types.specs.declared.leaf.Op.{Op}
-use Rattle.cluster_types.specs.declared.leaf.Op.TheVariants.{Start, Stop, Promote, Demote, Monitor}
-use Rattle.cluster_types.specs.declared.leaf.Role.{Role}
 use Rattle.cluster_types.specs.declared.rules.Order.{Order}
-use Rattle.cluster_types.specs.declared.rules.OrderKind.{OrderKind}
-use Rattle.cluster_types.specs.declared.rules.OrderKind.TheVariants.{Mandatory, Optional, Serialize}
-use Rattle.cluster_types.specs.Held.{Gives, started, promoted}
-use Rattle.cluster_types.specs.Precedence.{is_up}
-use Rattle.action_build.specs.Cycling.{is_cycling, is_mandatory_kind, role_given}
-
-pub gives_of : (o : Op) → is_up o ≡ true → Gives o (role_given o)
-gives_of Start h = started
-gives_of Stop h = cc
-gives_of Promote h = promoted
-gives_of Demote h = cc
-gives_of Monitor h = cc
-
-pub role_of : (o : Op) (role : Role) → Gives o role → role ≡ role_given o
-role_of _ _ started = refl
-role_of _ _ promoted = refl
-
-pub kind_of : (k : OrderKind) → is_mandatory_kind k ≡ true → k ≡ Mandatory
-kind_of Mandatory h = refl
-kind_of Optional h = cc
-kind_of Serialize h = cc
+use Rattle.cluster_types.specs.declared.rules.OrderKind.TheVariants.{Mandatory}
+use Rattle.cluster_types.specs.Precedence.{is_mandatory_order, is_up}
+use Rattle.cluster_types.proofs.OpLaws.{of_kind}
+use Rattle.action_build.specs.Cycling.{is_cycling}
 
 -- what is known of an order that may have cells cycled
 pub record Cycles (o : Order) : Type 0 where
@@ -37,19 +17,19 @@ pub record Cycles (o : Order) : Type 0 where
 
 pub cycles_of : (o : Order) → is_cycling o ≡ true → Cycles o
 cycles_of o h =
-    let three : is_mandatory_kind o.kind && o.symmetrical && is_up o.first_op ≡ true
-    = sooner (is_mandatory_kind o.kind && o.symmetrical && is_up o.first_op) (is_up o.then_op) h in
-    let two : is_mandatory_kind o.kind && o.symmetrical ≡ true
-    = sooner (is_mandatory_kind o.kind && o.symmetrical) (is_up o.first_op) three in
+    let three : is_mandatory_order o.kind && o.symmetrical && is_up o.first_op ≡ true
+    = sooner (is_mandatory_order o.kind && o.symmetrical && is_up o.first_op) (is_up o.then_op) h in
+    let two : is_mandatory_order o.kind && o.symmetrical ≡ true
+    = sooner (is_mandatory_order o.kind && o.symmetrical) (is_up o.first_op) three in
     record {
-      mandatory = kind_of o.kind (sooner (is_mandatory_kind o.kind) o.symmetrical two);
-      both_ways = later (is_mandatory_kind o.kind) o.symmetrical two;
-      first_up = later (is_mandatory_kind o.kind && o.symmetrical) (is_up o.first_op) three;
-      then_up = later (is_mandatory_kind o.kind && o.symmetrical && is_up o.first_op) (is_up o.then_op) h;
+      mandatory = of_kind o.kind (sooner (is_mandatory_order o.kind) o.symmetrical two);
+      both_ways = later (is_mandatory_order o.kind) o.symmetrical two;
+      first_up = later (is_mandatory_order o.kind && o.symmetrical) (is_up o.first_op) three;
+      then_up = later (is_mandatory_order o.kind && o.symmetrical && is_up o.first_op) (is_up o.then_op) h;
     }
 
 pub cycling_of : (o : Order) → o.kind ≡ Mandatory → o.symmetrical ≡ true → is_up o.first_op ≡ true → is_up o.then_op ≡ true → is_cycling o ≡ true
 cycling_of o k s f t =
-    and_from (is_mandatory_kind o.kind && o.symmetrical && is_up o.first_op) (is_up o.then_op)
-    (and_from (is_mandatory_kind o.kind && o.symmetrical) (is_up o.first_op)
-    (and_from (is_mandatory_kind o.kind) o.symmetrical (rw k refl) s) f) t
+    and_from (is_mandatory_order o.kind && o.symmetrical && is_up o.first_op) (is_up o.then_op)
+    (and_from (is_mandatory_order o.kind && o.symmetrical) (is_up o.first_op)
+    (and_from (is_mandatory_order o.kind) o.symmetrical (rw k refl) s) f) t

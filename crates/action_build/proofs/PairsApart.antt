@@ -4,17 +4,12 @@ use Rattle.std.specs.List.{flat_map, range_with_len}
 use Rattle.std.proofs.lemmas.List.Elements.{Contains-append_cases}
 use Rattle.std.proofs.lemmas.List.Kept.{AllPairs-cons}
 use Rattle.lemmas.proofs.Members.{at_head, head_or_rest, in_none, in_rest, of_flat, of_map}
+use Rattle.lemmas.proofs.Ordered.{first_earlier, rest_in_order}
 use Rattle.lemmas.proofs.Searches.{all_where}
 
 module _ {X : Type 0} (R : X → X → Type 0) where
   pub no_pairs : AllPairs R []
   no_pairs i j d lt l = absurd (let f : ⊥ = omega arith in f)
-
-  pub rest_of : (x : X) (xs : List X) → AllPairs R (x ∷ xs) → AllPairs R xs
-  rest_of x xs h i j d lt l = h (suc i) (suc j) d (omega arith) (omega arith)
-
-  pub first_of : (x : X) (xs : List X) → AllPairs R (x ∷ xs) → (y : X) → Contains xs y → R x y
-  first_of x xs h y (k, lt, at) = rw at at (h 0 (suc k) y (omega arith) (omega arith))
 
   pub pair_more : (x : X) (xs : List X) → ((y : X) → Contains xs y → R x y) → AllPairs R xs → AllPairs R (x ∷ xs)
   pair_more x xs f rest = AllPairs-cons R x xs (all_where (R x) xs f) rest
@@ -24,10 +19,10 @@ module _ {X : Type 0} (R : X → X → Type 0) where
   pairs_joined (x ∷ xs) ys h k f =
       pair_more x (xs ++ ys)
       (λ y c. elim (Contains-append_cases xs ys y c) [
-        | inl own ↦ first_of x xs h y own
+        | inl own ↦ first_earlier R x xs y h own
         | inr other ↦ f x y (at_head x xs x refl) other
       ])
-      (pairs_joined xs ys (rest_of x xs h) k (λ a b m n. f a b (in_rest x xs a m) n))
+      (pairs_joined xs ys (rest_in_order R x xs h) k (λ a b m n. f a b (in_rest x xs a m) n))
 
   pub pairs_if : (b : Bool) (xs : List X) → AllPairs R xs → AllPairs R (if b then xs else [])
   pairs_if true xs h = h
@@ -42,8 +37,8 @@ module _ {X Y : Type 0} (R : X → X → Type 0) (S : Y → Y → Type 0) (f : X
   pairs_mapped [] h = no_pairs S
   pairs_mapped (x ∷ xs) h =
       pair_more S (f x) (map f xs)
-      (λ y c. (let m = of_map f xs y c in rw m.gives at (carries x m.source (first_of R x xs h m.source m.among))))
-      (pairs_mapped xs (rest_of R x xs h))
+      (λ y c. (let m = of_map f xs y c in rw m.gives at (carries x m.source (first_earlier R x xs m.source h m.among))))
+      (pairs_mapped xs (rest_in_order R x xs h))
 
 -- what numbers give, by a key that tells which number gave it
 module _ {X : Type 0} (f : ℕ → List X) (key : X → ℕ) (tells : (k : ℕ) (x : X) → Contains (f k) x → key x ≡ k)

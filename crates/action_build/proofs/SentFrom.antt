@@ -3,7 +3,8 @@ use Rattle.std.proofs.Common.{arith, ◌≡◌, ◌≢◌, ◌<◌, ◌==◌, �
 use Rattle.std.specs.Prelude.{find}
 use Rattle.std.specs.List.{list_all, range_with_len}
 use Rattle.std.proofs.lemmas.Bool.{and_from, both_ways, eq-eqb, ne_eqb, not-true, not_from_false}
-use Rattle.lemmas.proofs.Booleans.{later, sooner}
+use Rattle.std.proofs.Math.Bool.{or_comm}
+use Rattle.lemmas.proofs.Booleans.{first_passes, later, sooner}
 use Rattle.lemmas.proofs.Members.{in_range, of_range}
 use Rattle.lemmas.proofs.Searches.{each_passes, all_pass}
 use Rattle.cluster_types.specs.declared.cluster.Cluster.{Cluster}
@@ -51,10 +52,6 @@ either_passes : (a b : Bool) → (a ≡ false → b ≡ true) → (a || b) ≡ t
 either_passes true b f = refl
 either_passes false b f = f refl
 
-other_passes : (a b : Bool) → (a || b) ≡ true → a ≡ false → b ≡ true
-other_passes true b h e = cc
-other_passes false b h e = h
-
 module _ (c : Cluster) (es : List Event) (targets : Targets) where
   pub runs_may : (r n : ℕ) → cell_state c r n es ≡ cell.On → may c r n es ≡ true
   runs_may r n h =
@@ -83,7 +80,8 @@ module _ (c : Cluster) (es : List Event) (targets : Targets) where
     alone_of n h k lk d =
         let p = each_passes (λ k. n == k || not (need r k).may) (range_with_len 0 (length c.nodes)) k h
         (in_range 0 (length c.nodes) k (omega arith) (omega arith)) in
-        sym (may_known k lk) ∙ not-true (need r k).may (other_passes (n == k) (not (need r k).may) p (ne_eqb n k (λ s. d (sym s))))
+        sym (may_known k lk) ∙ not-true (need r k).may
+        (first_passes (not (need r k).may) (n == k) (or_comm (not (need r k).may) (n == k) ∙ p) (ne_eqb n k (λ s. d (sym s))))
 
     is_alone_where : (n : ℕ) → ((k : ℕ) → k < length c.nodes → k ≢ n → may c r k es ≡ false) → is_alone c need r n ≡ true
     is_alone_where n f = all_pass (λ k. n == k || not (need r k).may) (range_with_len 0 (length c.nodes)) (λ k h. (

@@ -8,6 +8,7 @@ ghost use Rattle.action_build.specs.Works.{flag_of, marks_of, needs_of};
 
 use crate::work::CellWork;
 use cluster_types::{Cluster, Colocation, LeafId, Op, Order, OrderKind};
+use listed::flag_at;
 use std::alloc::{AllocError, Global};
 
 /// Whether the leaf gets a step on any node.
@@ -33,16 +34,6 @@ pub fn touched(alloc: Global, cluster: &Cluster, work: &CellWork) -> Result<Vec<
     Ok(flags)
 }
 
-/// The flag of the leaf, and false where it has none.
-pub fn flag(flags: &[bool], leaf: LeafId) -> bool
-    ensures { result ≡ flag_of flags.now leaf }
-{
-    match flags.get(leaf as usize) {
-        Some(flag) => *flag,
-        None => false,
-    }
-}
-
 /// Takes the flag of the leaf away, where this holds.
 fn clear_if(flags: &mut Vec<bool>, leaf: LeafId, clears: bool)
     ensures size { length flags.new.items ≡ length flags.old.items }
@@ -58,14 +49,14 @@ fn keeps_first(touched: &[bool], order: &Order) -> bool
     ensures { result ≡ actions.keeps_first (flag_of touched.now) order.now }
 {
     (order.kind == OrderKind::Serialize || order.first_op != Op::Start)
-        && flag(touched, order.then_leaf)
+        && flag_at(touched, order.then_leaf)
 }
 
 /// Whether it keeps its then from migrating: the first, which is another leaf, gets a step.
 fn keeps_then(touched: &[bool], order: &Order) -> bool
     ensures { result ≡ actions.keeps_then (flag_of touched.now) order.now }
 {
-    order.first != order.then_leaf && flag(touched, order.first)
+    order.first != order.then_leaf && flag_at(touched, order.first)
 }
 
 /// Takes the flags away of the leaves that the order keeps from migrating.
@@ -89,12 +80,12 @@ fn clear_by_colocation(flags: &mut Vec<bool>, touched: &[bool], colocation: &Col
     clear_if(
         flags,
         colocation.dependent,
-        apart && flag(touched, colocation.primary),
+        apart && flag_at(touched, colocation.primary),
     );
     clear_if(
         flags,
         colocation.primary,
-        apart && flag(touched, colocation.dependent),
+        apart && flag_at(touched, colocation.dependent),
     );
 }
 

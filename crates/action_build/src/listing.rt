@@ -7,10 +7,10 @@ ghost use Rattle.cluster_types.specs.Valid.{KeepsLimits};
 ghost use Rattle.action_build.specs.Actions as actions;
 ghost use Rattle.action_build.specs.Works.{flag_of, marks_of, needs_of};
 
-use crate::flags::flag;
 use crate::sources::source_of;
 use crate::work::CellWork;
 use cluster_types::{Action, CellState, Cluster, LeafId, Monitor, NodeId, Op, Role, Target};
+use listed::flag_at;
 use std::alloc::AllocError;
 
 /// Adds a probe of the cell, if its state isn't known.
@@ -292,7 +292,7 @@ pub fn push_leaves(
         ++ actions.leaves_actions cluster.now (needs_of work.now) (marks_of work.now) (flag_of free.now)) }
 {
     for leaf in 0..cluster.leaves.len() as u32 {
-        push_leaf(list, cluster, work, leaf, flag(free, leaf))?;
+        push_leaf(list, cluster, work, leaf, flag_at(free, leaf))?;
     }
     Ok(())
 }

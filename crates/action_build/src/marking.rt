@@ -4,16 +4,17 @@ ghost use Rattle.std.specs.Prelude.{◌≡◌, ◌≤◌, ◌<◌, ◌+◌, ◌*
 ghost use Rattle.std.specs.List.{list_any, range_with_len};
 ghost use Rattle.cluster_types.specs.declared.cluster.Cluster.{Cluster as ClusterOf};
 ghost use Rattle.cluster_types.specs.declared.journal.Event.{Event as EventOf};
-ghost use Rattle.cluster_types.specs.Tables.{Targets};
+ghost use Rattle.cluster_types.specs.Precedence.{role_by};
+ghost use Rattle.cluster_types.specs.Tables.{Targets, target_holds};
 ghost use Rattle.rule_loops.specs.FirstLoops.{OrdersSteps};
 ghost use Rattle.action_build.specs.Cycling as cycling;
 ghost use Rattle.action_build.specs.ByNeeds as by_needs;
 ghost use Rattle.action_build.specs.Levels.{AreNeeds, marks_in, need_in};
 
-use crate::flags::flag;
 use crate::marks::CellMarks;
 use crate::steps::CellNeed;
-use cluster_types::{LeafId, NodeId, Op, Order, OrderKind, Target, cell_place};
+use cluster_types::{LeafId, NodeId, Op, Order, Target, cell_place};
+use listed::flag_at;
 use std::alloc::{AllocError, Global};
 
 /// What the list says of the cell, leaf by leaf and node by node.
@@ -31,7 +32,7 @@ pub fn need_of(needs: &[CellNeed], nodes: u32, leaf: LeafId, node: NodeId) -> Ce
 pub fn is_cycling(order: &Order) -> bool
     ensures { result ≡ cycling.is_cycling order.now }
 {
-    order.kind == OrderKind::Mandatory
+    order.is_mandatory()
         && order.symmetrical
         && order.first_op.is_up()
         && order.then_op.is_up()
@@ -39,12 +40,9 @@ pub fn is_cycling(order: &Order) -> bool
 
 /// Whether the target is one of the role that the word gives.
 fn is_target_of(target: Target, word: Op) -> bool
-    ensures { result ≡ by_needs.is_target_of target word }
+    ensures { result ≡ target_holds target (role_by word) }
 {
-    match word {
-        Op::Promote => target == Target::Promoted,
-        _ => target != Target::Nowhere,
-    }
+    target.holds(word.role_given())
 }
 
 /// Whether the first of the order is disturbed on the node, by the steps that it needs itself or by those that it gets as a marked cell.
@@ -90,7 +88,7 @@ fn is_marked_on(
     need.can_cycle
         && is_target_of(need.target, order.then_op)
         && (if order.local {
-            flag(flags, node)
+            flag_at(flags, node)
         } else {
             somewhere
         })

@@ -1,5 +1,6 @@
 -- Of which cells a journal has heard, with one event more.
 use Rattle.std.proofs.Common.{◌≡◌, ℕ, ◌+◌, ◌*◌, ◌<◌, ◌≤◌, ◌==◌, Bool, true, false, not, ◌&&◌, ◌||◌, if◌then◌else◌, is_some, Some, List, [], ◌∷◌, ◌++◌, length, get_or, set, slice_get, replicate, refl, sym, ap, ◌∙◌, arith}
+use Rattle.std.proofs.Math.Bool.{and-false, or-false}
 use Rattle.std.proofs.lemmas.List.{length-set, length-replicate, get_or-replicate}
 use Rattle.std.proofs.lemmas.Option.{slice_get-get_or}
 use Rattle.cluster_types.specs.declared.cluster.Cluster.{Cluster}
@@ -16,10 +17,6 @@ module _ (c : Cluster) where
   -- the place of a cell that is there
   pub place_within : (count r n : ℕ) → count ≡ length c.leaves * length c.nodes → r < length c.leaves → n < length c.nodes → r * length c.nodes + n < count
   place_within count r n full l m = let low = ordered (length c.nodes) r n (length c.leaves) 0 m l in omega (arith, low, full)
-
-  never : (b : Bool) → b && false ≡ false
-  never true = refl
-  never false = refl
 
   -- it was said of no cell
   pub said-none : (touched : ℕ → ℕ → Bool) (x : Bool) (heard : List Bool) → ((r n : ℕ) → r < length c.leaves → n < length c.nodes → touched r n ≡ false)
@@ -56,7 +53,7 @@ module _ (c : Cluster) where
 
     pub said-no_node : length c.nodes ≤ node → IsSaidOf c (λ r n. is_same_cell r n leaf node) x heard heard
     said-no_node past =
-        said-none (λ r n. is_same_cell r n leaf node) x heard (λ r n l m. let other : (node == n) ≡ false = grind arith in rw other (never (leaf == r)))
+        said-none (λ r n. is_same_cell r n leaf node) x heard (λ r n l m. let other : (node == n) ≡ false = grind arith in rw other (and-false (leaf == r)))
 
   -- of some, and then of others
   pub said-more : (first later all : ℕ → ℕ → Bool) (x : Bool) (old mid new : List Bool) → IsSaidOf c first x old mid → IsSaidOf c later x mid new
@@ -95,12 +92,8 @@ module _ (c : Cluster) where
   pub hears-still : (es : List Event) (e : Event) (heard : List Bool) → ((r n : ℕ) → is_reset r n e ≡ false) → ((r n : ℕ) → is_outcome c r n e ≡ false)
       → Hears c es heard → Hears c (es ++ e ∷ []) heard
   hears-still es e heard no_reset no_outcome h =
-      hears-said es e (λ r n. false) false heard heard (said-none (λ r n. false) false heard (λ r n l m. refl)) (λ r n was. rw (no_reset r n, no_outcome r n) (or_false was))
+      hears-said es e (λ r n. false) false heard heard (said-none (λ r n. false) false heard (λ r n l m. refl)) (λ r n was. rw (no_reset r n, no_outcome r n) (sym (or-false was)))
       h
-    where
-      or_false : (b : Bool) → b ≡ (b || false)
-      or_false true = refl
-      or_false false = refl
 
   -- before the first event nothing was heard
   pub hears-nothing : (heard : List Bool) → heard ≡ replicate (length c.leaves * length c.nodes) false → Hears c [] heard

@@ -2,6 +2,7 @@
 use Rattle.std.proofs.Common.{◌≡◌, ◌≤◌, ◌<◌, ◌⊎◌, inl, inr, ℕ, Bool, true, false, Option, Some, None, List, [], ◌∷◌, ◌++◌, length, length-append, map, filter, find, refl, sym, ap, subst, ◌∙◌, append-nil, arith}
 use Rattle.std.specs.List.{list_all}
 use Rattle.std.specs.Option.{option_map_or}
+use Rattle.std.proofs.lemmas.List.{nil_from_length}
 use Rattle.cluster_types.specs.declared.cluster.Cluster.{Cluster}
 use Rattle.cluster_types.specs.declared.journal.Action.{Action}
 use Rattle.cluster_types.specs.declared.journal.Answer.{Answer}
@@ -52,13 +53,9 @@ parted (e ∷ es) batch (x ∷ xs) more is =
     on (within rest f) head = within rest (let g : e ∷ es ≡ x ∷ (xs ++ rest) = cc in g)
     on (past f some g h) head = past f some (let i : x ∷ xs ≡ e ∷ (es ++ f ∷ some) = cc in i) h
 
-none_more : {X : Type 0} (xs : List X) → length xs ≡ 0 → xs ≡ []
-none_more [] e = refl
-none_more (x ∷ xs) e = absurd (let f : ⊥ = omega arith in f)
-
 -- of a list of which all but the last are gone, what ends otherwise is the whole
 no_part : (gone tail xs more : List Event) → list_all is_gone gone ≡ true → length tail ≤ 1 → gone ++ tail ≡ xs ++ more → 0 < length xs → ends_gone xs ≡ false → more ≡ []
-no_part [] tail xs more all few is some last = none_more more (let l : length tail ≡ length (xs ++ more) = ap length is in let m = length-append xs more in omega arith)
+no_part [] tail xs more all few is some last = nil_from_length more (let l : length tail ≡ length (xs ++ more) = ap length is in let m = length-append xs more in omega arith)
 no_part (g ∷ gone) tail [] more all few is some last = absurd (let f : ⊥ = omega arith in f)
 no_part (g ∷ gone) tail (x ∷ []) more all few is some last = let head : g ≡ x = cc in both (is_gone g) refl all (ap is_gone head ∙ last)
   where
@@ -152,7 +149,7 @@ module _ (c : Cluster) (number : ℕ) (first : List Event) where
       let m = length-append xs more in
       let n : length xs ≡ length (first ++ front.more) = ap length front.joined in
       let o = length-append first front.more in
-      let none : more ≡ [] = none_more more (omega arith) in
+      let none : more ≡ [] = nil_from_length more (omega arith) in
       found xs (first_world c first) (subst (λ l. Lives c number first l (first_world c first)) (is ∙ (ap (λ m. xs ++ m) none ∙ append-nil xs)) begins_here)
   lived _ _ (starts es w k a life) xs more is front moment =
       back es (Begin k a ∷ []) xs more (after_begin c w a) (grown es w life) (one_batch (Begin k a ∷ []) (omega arith)) moment is (starts es w k a life)

@@ -67,10 +67,10 @@ found_first : (flight : List (ℕ × Action)) (place k : ℕ) (a : Action) → A
 found_first [] place k a up at = cc
 found_first (p ∷ ps) zero k a up at = let is : p ≡ (k, a) = cc in let same : (k == k) ≡ true = grind arith in rw is (rw same refl)
 found_first (p ∷ ps) (suc place) k a up at =
-    let earlier : p.0 < k = first_earlier (λ (x y : ℕ × Action). x.0 < y.0) (λ x y less more. omega (arith, less, more)) p ps (k, a) up
+    let earlier : p.0 < k = first_earlier (λ (x y : ℕ × Action). x.0 < y.0) p ps (k, a) up
     (place, slice_get_within ps place (k, a) at, get_or_from_slice_get ps place (k, a) (k, a) at) in
     let other : (p.0 == k) ≡ false = grind arith in
-    rw other (found_first ps place k a (rest_in_order (λ (x y : ℕ × Action). x.0 < y.0) (λ x y less more. omega (arith, less, more)) p ps up) at)
+    rw other (found_first ps place k a (rest_in_order (λ (x y : ℕ × Action). x.0 < y.0) p ps up) at)
 
 module _ (c : Cluster) where
   module _ (es : List Event) (e : Event) where

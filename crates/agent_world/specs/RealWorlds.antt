@@ -42,12 +42,6 @@ abbrev pub is_rising : Real → Bool
 is_rising real.Rising = true
 is_rising _ = false
 
--- it runs
-abbrev pub is_running : Real → Bool
-is_running real.Started = true
-is_running real.Promoted = true
-is_running _ = false
-
 abbrev pub is_up : Standing → Bool
 is_up standing.Up = true
 is_up _ = false

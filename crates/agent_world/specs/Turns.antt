@@ -5,6 +5,7 @@ use Rattle.cluster_types.specs.declared.journal.Action.{Action}
 use Rattle.cluster_types.specs.declared.journal.Action.TheVariants.{Fence, Probe, Cell, MigrateTo, MigrateFrom}
 use Rattle.cluster_types.specs.declared.journal.Answer.{Answer}
 use Rattle.cluster_types.specs.declared.journal.Answer.TheVariants as answer
+use Rattle.cluster_types.specs.ExitCodes.{err_generic}
 use Rattle.agent_world.specs.declared.real.Standing.{Standing}
 use Rattle.agent_world.specs.declared.real.Standing.TheVariants as standing
 use Rattle.agent_world.specs.declared.turn.Fate.{Fate}
@@ -17,10 +18,6 @@ use Rattle.agent_world.specs.RealWorlds.{Cells, World, begun, done, given_up, is
 -- how many faults a simulated cluster is given at most
 abbrev pub most_faults : ℕ
 most_faults = 16
-
--- the exit code of an agent that says that it failed (OCF Resource Agent API 1.1, exit status codes)
-abbrev pub err_generic : ℕ
-err_generic = 1
 
 -- what becomes of an action by a number from 0 to 19
 abbrev pub fate_by : ℕ → Fate

@@ -15,10 +15,8 @@ use crate::real::{Real, Standing};
 use crate::reality::Reality;
 use crate::rising::give_up;
 use crate::turn::Fate;
+use cluster_types::exit_codes::ERR_GENERIC;
 use cluster_types::{Action, Answer, Cluster, NodeId};
-
-/// The exit code of an agent that says that it failed (OCF Resource Agent API, exit status codes).
-const ERR_GENERIC: u8 = 1;
 
 /// A node has left: what runs there runs on where nodes are fenced, and has stopped where they aren't.
 fn leave_cells(cluster: &Cluster, node: NodeId, cells: &mut Vec<Real>)
@@ -34,7 +32,7 @@ fn leave_cells(cluster: &Cluster, node: NodeId, cells: &mut Vec<Real>)
 }
 
 impl Reality<'_> {
-    /// A node leaves without a word. It is said so.
+    /// A node leaves without a word. It is said so. It asks that fewer than 16 faults were given.
     pub fn leave(&mut self, node: NodeId) -> Answer
         requires { self.old.given < 16 }
         ensures shows { (w : World) → Shows self.old w → Shows self.new (after_leaving self.old.cluster w node) }
@@ -47,7 +45,7 @@ impl Reality<'_> {
         Answer::Lost { node }
     }
 
-    /// A node joins. It is said so.
+    /// A node joins. It is said so. It asks that fewer than 16 faults were given.
     pub fn join(&mut self, node: NodeId) -> Answer
         requires { self.old.given < 16 }
         ensures shows { (w : World) → Shows self.old w → Shows self.new (after_joining self.old.cluster w node) }
@@ -115,7 +113,8 @@ impl Reality<'_> {
         Answer::Timeout { number }
     }
 
-    /// The action of this number ends. What is said of it.
+    /// The action of this number ends. What is said of it. It asks that nothing comes up, and, of a fault, that fewer than
+    /// 16 were given.
     pub fn end(&mut self, number: u32, action: Action, fate: Fate) -> Answer
         requires few { is_fault fate ≡ true → self.old.given < 16 }
         requires calm { self.old.rising ≡ None }

@@ -21,7 +21,7 @@ pub fn what_runs_may_run()
     ensures { (c : ClusterOf) (number : ℕ) (first es : List EventOf) (w : WorldOf) → Lives c number first es w → IsWithin c es w }
 {}
 
-/// Each answer applies, where fewer answers from outside were taken than faults were given.
+/// Each answer applies, where no more answers from outside were taken than faults were given.
 pub fn answers_of_worlds_apply()
     ensures leaves { (c : ClusterOf) (number : ℕ) (es : List EventOf) (w : WorldOf) (flight : List (ℕ × ActionOf)) (taken node : ℕ) → IsWithin c es w
         → taken ≤ w.given → turn_of c number w (length flight) ≡ turn.Leaves node → applies_after c es flight taken (answer.Lost node) ≡ true }

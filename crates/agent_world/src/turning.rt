@@ -70,7 +70,7 @@ impl Reality<'_> {
         node_turn(self.nodes.as_slice(), die, node)
     }
 
-    /// What comes next, with so many actions in flight. What comes up has come up then.
+    /// What comes next, with so many actions in flight. What comes up has come up then. It asks for one at least.
     pub fn turn(&mut self, count: u32) -> Turn
         requires { 0 < count }
         ensures turn { (w : World) → Shows self.old w → result ≡ turn_of self.old.cluster self.old.number w count }

@@ -1,7 +1,8 @@
 -- Where no statement is at fault, no two leaves have one name.
-use Rattle.std.proofs.Common.{◌≡◌, ◌≢◌, ℕ, nat_eq, Bool, true, false, ◌||◌, if◌then◌else◌, List, [], ◌∷◌, ◌++◌, Option, None, Some, All, AllPairs, refl, sym, subst, ◌∙◌, true≢false, arith}
+use Rattle.std.proofs.Common.{◌≡◌, ◌≢◌, ℕ, nat_eq, Bool, true, false, if◌then◌else◌, List, [], ◌∷◌, ◌++◌, Option, None, Some, All, AllPairs, refl, sym, subst, ◌∙◌, true≢false, arith}
 use Rattle.std.specs.List.{list_any}
 use Rattle.std.specs.Cmp.Lexicographic.{nat_list_eq_equiv, pointwise}
+use Rattle.std.proofs.lemmas.Bool.{or_parts}
 use Rattle.std.proofs.lemmas.List.{append-nil}
 use Rattle.std.proofs.lemmas.List.Elements.{All-cons}
 use Rattle.std.proofs.lemmas.List.Kept.{AllPairs-cons}
@@ -12,33 +13,26 @@ use Rattle.cluster_types.specs.declared.leaf.Leaf.{Leaf}
 use Rattle.clone_expand.specs.declared.fault.ExpandCause.{ExpandCause}
 use Rattle.clone_expand.specs.declared.fault.ExpandCause.TheVariants.{DuplicateName}
 use Rattle.faults.specs.declared.fault.Fault.{Fault}
+use Rattle.faults.specs.Reading.{fault_at}
 use Rattle.clone_expand.specs.declared.kinds.Kind.{Kind}
 use Rattle.clone_expand.specs.declared.seen.Seen.{Seen}
 use Rattle.clone_expand.specs.declared.surroundings.Surroundings.{Surroundings}
-use Rattle.clone_expand.specs.Faults.{cause_of, fault_at, fault_of, first_fault, ids_in, kinds_of, nothing_seen, seen_after}
+use Rattle.clone_expand.specs.Faults.{cause_of, fault_of, first_fault, ids_in, kinds_of, nothing_seen, seen_after}
 use Rattle.clone_expand.specs.Laws.{NamesDiffer}
 use Rattle.clone_expand.specs.Leaves.{leaf_in, leaf_of, leaves_in, leaves_of, surroundings_of}
 use Rattle.clone_expand.specs.Settings.{nodes_in}
 use Rattle.name_sets.specs.NameSets.{has}
 use Rattle.clone_expand.proofs.SameNames.{has-more}
 
-pub or_left : (b c : Bool) → (b || c) ≡ false → b ≡ false
-or_left true c h = absurd (true≢false h)
-or_left false c h = refl
-
-pub or_right : (b c : Bool) → (b || c) ≡ false → c ≡ false
-or_right true c h = absurd (true≢false h)
-or_right false c h = h
-
 is_itself : (name : List ℕ) → pointwise nat_eq name name ≡ true
 is_itself name = nat_list_eq_equiv.refl name
 
 pub kept : (names : List (List ℕ)) (name x : List ℕ) → has (names ++ name ∷ []) x ≡ false → has names x ≡ false
-kept names name x h = or_left (has names x) (has (name ∷ []) x) (sym (has-more names (name ∷ []) x) ∙ h)
+kept names name x h = (or_parts (has names x) (has (name ∷ []) x) (sym (has-more names (name ∷ []) x) ∙ h)).0
 
 pub other : (names : List (List ℕ)) (name x : List ℕ) → has (names ++ name ∷ []) x ≡ false → name ≢ x
 other names name x h e =
-    let apart = or_left (pointwise nat_eq name x) false (or_right (has names x) (has (name ∷ []) x) (sym (has-more names (name ∷ []) x) ∙ h)) in
+    let apart = (or_parts (pointwise nat_eq name x) false (or_parts (has names x) (has (name ∷ []) x) (sym (has-more names (name ∷ []) x) ∙ h)).1).0 in
     true≢false (sym (is_itself x) ∙ subst (λ y. pointwise nat_eq y x ≡ false) e apart)
 
 record Fresh (ids : List (List ℕ)) (leaves : List Leaf) : Type 0 where
@@ -56,7 +50,7 @@ module _ (s : Surroundings) where
       → Fresh (ids ++ ids_in f) leaves → Fresh ids (leaf_in s f ++ leaves)
   unfolding leaf_of
   step ids (form.Primitive id agent description params meta utilization operations ops) leaves n h = record {
-    new = All-cons (λ (leaf : Leaf). has ids leaf.name ≡ false) _ _ (or_left (has ids id) false n) (λ k d l. kept ids id _ (h.new k d l));
+    new = All-cons (λ (leaf : Leaf). has ids leaf.name ≡ false) _ _ (or_parts (has ids id) false n).0 (λ k d l. kept ids id _ (h.new k d l));
     apart = AllPairs-cons (λ (one other : Leaf). one.name ≢ other.name) _ _ (λ k d l. other ids id _ (h.new k d l)) h.apart;
   }
   step ids (form.Node id name attributes utilization) leaves n h = no_more ids leaves h
@@ -76,7 +70,7 @@ not_first false rest h = refl
 
 new_id : (kinds : List (List ℕ × Kind)) (seen : Seen) (f : Form) → cause_of kinds seen f ≡ None → list_any (has seen.ids) (ids_in f) ≡ false
 unfolding cause_of
-new_id kinds seen f h = or_right (list_any (has seen.nodes) (nodes_in f)) _ (not_first _ _ h)
+new_id kinds seen f h = (or_parts (list_any (has seen.nodes) (nodes_in f)) (list_any (has seen.ids) (ids_in f)) (not_first _ _ h)).1
 
 module _ (s : Surroundings) (kinds : List (List ℕ × Kind)) where
   fresh_by : (seen : Seen) (st : Statement) (leaves : List Leaf) (cause : Option ExpandCause) (later : Option (Fault ExpandCause))

@@ -1,6 +1,7 @@
 -- Where no statement is at fault, no two nodes have one name.
 use Rattle.std.proofs.Common.{◌≡◌, ◌≢◌, ℕ, false, List, [], ◌∷◌, ◌++◌, Option, None, Some, All, AllPairs, refl, subst, arith}
 use Rattle.std.specs.List.{flat_map, list_any}
+use Rattle.std.proofs.lemmas.Bool.{or_parts}
 use Rattle.std.proofs.lemmas.List.{append-nil}
 use Rattle.std.proofs.lemmas.List.Elements.{All-cons}
 use Rattle.std.proofs.lemmas.List.Kept.{AllPairs-cons}
@@ -9,12 +10,13 @@ use Rattle.crm_parse.specs.declared.form.Form.TheVariants as form
 use Rattle.crm_parse.specs.declared.statement.Statement.{Statement}
 use Rattle.clone_expand.specs.declared.fault.ExpandCause.{ExpandCause}
 use Rattle.faults.specs.declared.fault.Fault.{Fault}
+use Rattle.faults.specs.Reading.{fault_at}
 use Rattle.clone_expand.specs.declared.kinds.Kind.{Kind}
 use Rattle.clone_expand.specs.declared.seen.Seen.{Seen}
-use Rattle.clone_expand.specs.Faults.{cause_of, fault_at, fault_of, first_fault, ids_in, kinds_of, nothing_seen, seen_after}
+use Rattle.clone_expand.specs.Faults.{cause_of, fault_of, first_fault, ids_in, kinds_of, nothing_seen, seen_after}
 use Rattle.clone_expand.specs.Settings.{nodes_in}
 use Rattle.name_sets.specs.NameSets.{has}
-use Rattle.clone_expand.proofs.NameLaws.{kept, not_first, or_left, other}
+use Rattle.clone_expand.proofs.NameLaws.{kept, not_first, other}
 
 -- names that are none of those before and differ from each other
 record Fresh (before names : List (List ℕ)) : Type 0 where
@@ -27,7 +29,7 @@ no_more before names h = subst (λ (all : List (List ℕ)). Fresh all names) (ap
 step : (before : List (List ℕ)) (f : Form) (names : List (List ℕ)) → list_any (has before) (nodes_in f) ≡ false
     → Fresh (before ++ nodes_in f) names → Fresh before (nodes_in f ++ names)
 step before (form.Node id name attributes utilization) names n h = record {
-  new = All-cons (λ (x : List ℕ). has before x ≡ false) _ _ (or_left (has before name) false n) (λ k d l. kept before name _ (h.new k d l));
+  new = All-cons (λ (x : List ℕ). has before x ≡ false) _ _ (or_parts (has before name) false n).0 (λ k d l. kept before name _ (h.new k d l));
   apart = AllPairs-cons (λ (one other : List ℕ). one ≢ other) _ _ (λ k d l. other before name _ (h.new k d l)) h.apart;
 }
 step before (form.Primitive id agent description params meta utilization operations ops) names n h = no_more before names h
@@ -43,7 +45,7 @@ step before (form.Kept words) names n h = no_more before names h
 -- a statement that isn't at fault has a new node
 new_node : (kinds : List (List ℕ × Kind)) (seen : Seen) (f : Form) → cause_of kinds seen f ≡ None → list_any (has seen.nodes) (nodes_in f) ≡ false
 unfolding cause_of
-new_node kinds seen f h = or_left (list_any (has seen.nodes) (nodes_in f)) (list_any (has seen.ids) (ids_in f)) (not_first _ _ h)
+new_node kinds seen f h = (or_parts (list_any (has seen.nodes) (nodes_in f)) (list_any (has seen.ids) (ids_in f)) (not_first _ _ h)).0
 
 module _ (kinds : List (List ℕ × Kind)) where
   fresh_by : (seen : Seen) (st : Statement) (names : List (List ℕ)) (cause : Option ExpandCause) (later : Option (Fault ExpandCause))

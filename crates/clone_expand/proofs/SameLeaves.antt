@@ -16,7 +16,7 @@ use Rattle.clone_expand.specs.declared.meta.Meta.{Meta}
 use Rattle.clone_expand.specs.declared.seen.Seen.{Seen}
 use Rattle.clone_expand.specs.Clones.{cloned_by, cloned_in}
 use Rattle.clone_expand.specs.Expansion.{expansion_of, leaves_with_spans}
-use Rattle.clone_expand.specs.Faults.{cause_of, fault_at, fault_of, first_fault, kind_in, kinds_of, nothing_seen, seen_after}
+use Rattle.clone_expand.specs.Faults.{cause_of, fault_of, first_fault, kind_in, kinds_of, nothing_seen, seen_after}
 use Rattle.clone_expand.specs.Groups.{grouped_by, grouped_in}
 use Rattle.clone_expand.specs.Leaves.{leaf_in, leaves_of, surroundings_of}
 use Rattle.clone_expand.specs.Metas.{meta_of, no_meta, or_meta, read_as}
@@ -25,6 +25,7 @@ use Rattle.clone_expand.specs.Spans.{ends_by, ends_in, numbers_of, span_in, span
 use Rattle.clone_expand.specs.Tables.{table_of}
 use Rattle.cluster_types.specs.declared.leaf.Leaf.{Leaf}
 use Rattle.faults.specs.declared.fault.Fault.{Fault}
+use Rattle.faults.specs.Reading.{fault_at}
 use Rattle.faults.proofs.Steps.{unless-ok}
 use Rattle.crm_parse.proofs.SameForms.{IsLineless, alike, cleared, each-lineless, forms, unless-none}
 

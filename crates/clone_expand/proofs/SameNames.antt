@@ -11,7 +11,8 @@ use Rattle.crm_parse.specs.declared.statement.Statement.{Statement}
 use Rattle.clone_expand.specs.declared.fault.ExpandCause.{ExpandCause}
 use Rattle.clone_expand.specs.declared.kinds.Kind.{Kind}
 use Rattle.clone_expand.specs.declared.seen.Seen.{Seen}
-use Rattle.clone_expand.specs.Faults.{AreAlike, HaveTheSame, cause_of, fault_at, first_fault, has_twice, ids_in, parts_in, seen_after}
+use Rattle.faults.specs.Reading.{fault_at}
+use Rattle.clone_expand.specs.Faults.{AreAlike, HaveTheSame, cause_of, first_fault, has_twice, ids_in, parts_in, seen_after}
 use Rattle.clone_expand.specs.Settings.{nodes_in}
 
 pub has-more : (one more : List (List ℕ)) (name : List ℕ) → has (one ++ more) name ≡ (has one name || has more name)

@@ -3,7 +3,7 @@ use Rattle.std.specs.Prelude.{◌≡◌, ℕ, Bool, true, false, not, ◌&&◌, 
 use Rattle.std.specs.List.{flat_map, list_any}
 use Rattle.std.specs.Option.{option_map_or}
 use Rattle.faults.specs.declared.fault.Fault.{Fault}
-use Rattle.faults.specs.declared.fault.Fault.TheVariants.{At}
+use Rattle.faults.specs.Reading.{fault_at}
 use Rattle.name_sets.specs.NameSets.{has}
 use Rattle.crm_parse.specs.declared.form.Form.{Form}
 use Rattle.crm_parse.specs.declared.form.Form.TheVariants as form
@@ -119,11 +119,6 @@ cause_of kinds seen form =
     else if has_twice seen.parts (parts_in form) then Some MemberTwice
     else if promotes_group kinds form then Some UnsupportedMeta
     else None
-
--- the fault of a line, if it has a cause, and else a later one
-abbrev pub fault_at : ℕ → Option ExpandCause → Option (Fault ExpandCause) → Option (Fault ExpandCause)
-fault_at line (Some cause) later = Some (At line cause)
-fault_at line None later = later
 
 -- the fault of the first statement that is at fault
 abbrev pub first_fault : List (List ℕ × Kind) → Seen → List Statement → Option (Fault ExpandCause)

@@ -1,4 +1,4 @@
-ghost use Rattle.std.specs.Prelude.{◌≡◌, [], is_some, OnOk};
+ghost use Rattle.std.specs.Prelude.{◌≡◌, [], is_some, OnErr, OnOk};
 ghost use Rattle.clone_expand.specs.Tables.{lookup, with_row};
 
 use cluster_types::NoMemory;
@@ -39,9 +39,10 @@ impl<V: Copy> NameTable<V> {
         self.rows.get(name).copied()
     }
 
-    /// Adds what a name stands for. A name that was added before keeps what it stands for.
+    /// Adds what a name stands for. A name that was added before keeps what it stands for. When memory runs out the table stays as it was.
     pub fn add(&mut self, alloc: Global, name: &Name, value: V) -> Result<(), NoMemory>
-        ensures { OnOk result (self.new ≡ with_row self.old (name.now, value)) }
+        ensures ok { OnOk result (self.new ≡ with_row self.old (name.now, value)) }
+        ensures err { OnErr result (self.new ≡ self.old) }
     {
         if self.get(name).is_some() {
             return Ok(());

@@ -38,7 +38,7 @@ impl Model for MemorySink {
 }
 
 impl MemorySink {
-    /// An empty sink, with memory for `room` bytes.
+    /// An empty sink, with memory for `room` bytes. It asks for a step of 1 at least.
     pub fn new(
         alloc: Global,
         room: usize,

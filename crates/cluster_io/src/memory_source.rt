@@ -35,7 +35,7 @@ impl Model for MemorySource {
 }
 
 impl MemorySource {
-    /// A source of these bytes.
+    /// A source of these bytes. It asks for a step of 1 at least.
     pub fn new(bytes: Vec<u8>, step: usize, fails: Vec<u32>) -> MemorySource
         requires { 0 < step }
         ensures left { ⟦<MemorySource as Source>⟧.left result ≡ Some bytes.items }

@@ -6,6 +6,7 @@ use Rattle.std.proofs.lemmas.Grind.{flat_map-append}
 use Rattle.std.proofs.lemmas.List.Sums.{sum_by-append}
 use Rattle.std.proofs.lemmas.List.{append_assoc, length-append}
 use Rattle.faults.specs.declared.fault.Fault.{Fault}
+use Rattle.faults.specs.Reading.{fault_at}
 use Rattle.crm_parse.specs.declared.statement.Statement.{Statement}
 use Rattle.cluster_types.specs.declared.cluster.Cluster.{Cluster}
 use Rattle.cluster_types.specs.declared.leaf.Leaf.{Leaf}
@@ -16,7 +17,7 @@ use Rattle.cluster_model.specs.declared.fault.ModelCause.{ModelCause}
 use Rattle.cluster_model.specs.declared.fault.ModelCause.TheVariants.{ColocationLoop, OrderLoop}
 use Rattle.cluster_model.specs.Colocations.{colocations_in, colocations_of}
 use Rattle.cluster_model.specs.Counting.{colocation_count, order_count}
-use Rattle.cluster_model.specs.FirstFaults.{fault_at, first_fault}
+use Rattle.cluster_model.specs.FirstFaults.{first_fault}
 use Rattle.cluster_model.specs.Orders.{orders_in, orders_of}
 use Rattle.cluster_model.specs.Resolution.{cause_of_loops, cluster_of, loop_cause}
 use Rattle.cluster_model.specs.Search.{closed_by, closing_cause, colocations_in_all, orders_in_all}

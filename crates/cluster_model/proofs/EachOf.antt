@@ -1,8 +1,8 @@
 -- What holds of each element of lists that are made of others.
-use Rattle.std.proofs.Common.{arith, ◌≡◌, ◌<◌, ℕ, zero, suc, List, [], ◌∷◌, ◌++◌, length, map, slice_index_or, refl, subst, inl, inr, ◌⊎◌, AllPairs, Contains}
+use Rattle.std.proofs.Common.{arith, ◌≡◌, ◌<◌, ℕ, zero, suc, List, [], ◌∷◌, length, map, slice_index_or, refl, subst, inl, inr, ◌⊎◌, AllPairs, Contains}
 use Rattle.std.specs.List.{AllByRecursion, flat_map}
 use Rattle.std.proofs.lemmas.List.{length-map}
-use Rattle.lemmas.proofs.Members.{head_or_rest, in_none}
+use Rattle.lemmas.proofs.Members.{all_append, head_or_rest, in_none}
 
 module _ {X : Type 0} (P : X → Type 0) where
   -- what holds of each holds of one that stands in the list
@@ -12,10 +12,6 @@ module _ {X : Type 0} (P : X → Type 0) where
     on : (y ≡ x) ⊎ Contains xs x → (Contains xs x → P x) → P x
     on (inl e) next = subst P e h.0
     on (inr r) next = next r
-
-  pub all_append : (xs ys : List X) → AllByRecursion P xs → AllByRecursion P ys → AllByRecursion P (xs ++ ys)
-  all_append [] ys h k = k
-  all_append (x ∷ xs) ys h k = (h.0, all_append xs ys h.1 k)
 
 module _ {X Y : Type 0} (P : Y → Type 0) where
   pub all_map : (f : X → Y) (xs : List X) → ((x : X) → P (f x)) → AllByRecursion P (map f xs)

@@ -1,23 +1,15 @@
 -- The leaves of names that are there, and of rules that name them.
-use Rattle.std.proofs.Common.{◌≡◌, ◌<◌, ℕ, nat_lt, ◌&&◌, ◌||◌, Bool, true, false, List, [], ◌∷◌, length, is_none, cond, refl, inl, inr, ◌⊎◌, Contains}
+use Rattle.std.proofs.Common.{◌≡◌, ◌<◌, ℕ, nat_lt, ◌&&◌, Bool, true, false, List, [], ◌∷◌, length, is_none, cond, refl, inl, inr, ◌⊎◌, Contains}
 use Rattle.std.specs.Prelude.{Option, Some, None}
 use Rattle.std.specs.List.{list_any}
 use Rattle.std.specs.Option.{option_and_then, option_map_or}
-use Rattle.std.proofs.lemmas.Bool.{ltb-true}
+use Rattle.std.proofs.lemmas.Bool.{ltb-true, or_parts}
 use Rattle.lemmas.proofs.Members.{head_or_rest, in_none}
 use Rattle.cluster_model.specs.declared.directory.Directory.{Directory}
 use Rattle.cluster_model.specs.declared.directory.Ends.{Ends}
 use Rattle.cluster_model.specs.Chains.{pairs_after, successive}
 use Rattle.cluster_model.specs.Directories.{first_named, if_there, is_unknown, last_named}
 use Rattle.clone_expand.specs.Tables.{lookup}
-
-pub sooner : (a b : Bool) → a || b ≡ false → a ≡ false
-sooner true b h = cc
-sooner false b h = refl
-
-pub later : (a b : Bool) → a || b ≡ false → b ≡ false
-later true b h = cc
-later false b h = h
 
 -- both ends of what is there are leaves
 record AreLeaves (d : Directory) (found : Option Ends) : Type 0 where
@@ -49,9 +41,9 @@ module _ {X : Type 0} (p : X → Bool) where
   after-none : (x : X) (xs : List X) → p x ≡ false → list_any p xs ≡ false → (pair : X × X) → Contains (pairs_after x xs) pair → Neither pair
   after-none x [] e h pair k = absurd (in_none pair k)
   after-none x (y ∷ ys) e h pair k =
-      on (head_or_rest (x, y) (pairs_after y ys) pair k) (after-none y ys (sooner (p y) (list_any p ys) h) (later (p y) (list_any p ys) h) pair) where
+      on (head_or_rest (x, y) (pairs_after y ys) pair k) (after-none y ys (or_parts (p y) (list_any p ys) h).0 (or_parts (p y) (list_any p ys) h).1 pair) where
         here : Neither (x, y)
-        here = record { before = e; after = sooner (p y) (list_any p ys) h }
+        here = record { before = e; after = (or_parts (p y) (list_any p ys) h).0 }
 
         on : ((x, y) ≡ pair) ⊎ Contains (pairs_after y ys) pair → (Contains (pairs_after y ys) pair → Neither pair) → Neither pair
         on (inl same) next = rw same at here
@@ -60,4 +52,4 @@ module _ {X : Type 0} (p : X → Bool) where
   -- where no element passes the test, none of a successive pair does
   pub pairs-none : (xs : List X) → list_any p xs ≡ false → (pair : X × X) → Contains (successive xs) pair → Neither pair
   pairs-none [] h pair k = absurd (in_none pair k)
-  pairs-none (x ∷ xs) h pair k = after-none x xs (sooner (p x) (list_any p xs) h) (later (p x) (list_any p xs) h) pair k
+  pairs-none (x ∷ xs) h pair k = after-none x xs (or_parts (p x) (list_any p xs) h).0 (or_parts (p x) (list_any p xs) h).1 pair k

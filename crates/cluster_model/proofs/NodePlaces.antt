@@ -8,6 +8,7 @@ use Rattle.std.specs.Ordering.{match_ordering, nat_cmp}
 use Rattle.std.specs.declared.cmp.Ordering.{Ordering}
 use Rattle.std.specs.declared.cmp.Ordering.TheVariants.{Less, Equal, Greater}
 use Rattle.std.specs.Option.{option_map_or}
+use Rattle.std.proofs.lemmas.Bool.{or_parts}
 use Rattle.std.proofs.lemmas.List.{length-map}
 use Rattle.crm_lex.specs.Names.{is}
 use Rattle.cluster_types.specs.declared.node.Node.{Node}
@@ -23,7 +24,6 @@ use Rattle.cluster_model.specs.declared.directory.Directory.{Directory}
 use Rattle.cluster_model.specs.Directories.{directory_of, first_named, is_unknown, is_unknown_node, node_named, nodes_of, numbered_from}
 use Rattle.cluster_model.specs.Locations.{location_in, role_written}
 use Rattle.cluster_model.specs.Nodes.{node_in, nodes_by}
-use Rattle.cluster_model.proofs.Known.{later}
 use Rattle.cluster_model.proofs.Sound.{IsSound}
 
 -- each name of a table stands for a number below this one
@@ -119,7 +119,7 @@ location-node leaves statements (form.Location id resource written discovery sco
   on : (one ≡ l) ⊎ Contains [] l → l.node < length (nodes_by statements)
   on (inl same) =
       location-same (length (nodes_by statements)) one l same
-      (node-below leaves statements node (later (is_unknown d resource) (is_unknown_node d node) s.known))
+      (node-below leaves statements node (or_parts (is_unknown d resource) (is_unknown_node d node) s.known).1)
   on (inr r) = absurd (in_none l r)
 location-node leaves statements (form.RuledLocation id resource written discovery rules) s l k = absurd (in_none l k)
 location-node leaves statements (form.Colocation id score dependent primary) s l k = absurd (in_none l k)

@@ -1,6 +1,7 @@
 -- One pass over the statements finds the first with a cause, and how many stand before it.
 use Rattle.std.proofs.Common.{◌≡◌, ℕ, ◌+◌, List, [], ◌∷◌, ◌++◌, Option, Some, None, refl, sym, ap, ◌∙◌, arith}
 use Rattle.faults.specs.declared.fault.Fault.TheVariants.{At}
+use Rattle.faults.specs.Reading.{fault_at}
 use Rattle.crm_parse.specs.declared.statement.Statement.{Statement}
 use Rattle.cluster_model.specs.declared.checks.Checked.{Checked}
 use Rattle.cluster_model.specs.declared.counts.Counts.{Counts}
@@ -8,7 +9,7 @@ use Rattle.cluster_model.specs.declared.directory.Directory.{Directory}
 use Rattle.cluster_model.specs.declared.fault.ModelCause.{ModelCause}
 use Rattle.cluster_model.specs.Checks.{cause_of}
 use Rattle.cluster_model.specs.Counting.{all_counted, counted_with, counts_of, nothing_counted}
-use Rattle.cluster_model.specs.FirstFaults.{fault_at, first_fault}
+use Rattle.cluster_model.specs.FirstFaults.{first_fault}
 use Rattle.cluster_model.specs.Resolution.{own_cause}
 use Rattle.cluster_model.specs.Search.{count_on, sound_count}
 

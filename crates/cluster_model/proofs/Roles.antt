@@ -4,7 +4,7 @@ use Rattle.std.specs.Prelude.{Option, Some, None}
 use Rattle.std.specs.List.{list_any}
 use Rattle.std.specs.Option.{option_map, option_map_or, option_or}
 use Rattle.std.proofs.lemmas.Option.{slice_get-map}
-use Rattle.std.proofs.lemmas.Bool.{not-false}
+use Rattle.std.proofs.lemmas.Bool.{not-false, or_parts}
 use Rattle.cluster_types.specs.declared.cluster.Cluster.{Cluster}
 use Rattle.cluster_types.specs.declared.leaf.Leaf.{Leaf}
 use Rattle.cluster_types.specs.declared.leaf.Role.{Role}
@@ -33,15 +33,15 @@ use Rattle.cluster_model.specs.Colocations.{colocation_of, colocations_in, depen
 use Rattle.cluster_model.specs.Directories.{directory_of, first_named, groups_of, is_unknown, is_unknown_node, last_named, may_promote, node_named, traits_of}
 use Rattle.cluster_model.specs.Locations.{location_in, role_of_word, role_written, rule_location_of, rule_locations_in}
 use Rattle.cluster_model.specs.Orders.{first_point, is_down, kind_of_word, member_order, op_of, orders_in, step_order, then_point}
-use Rattle.cluster_model.proofs.Known.{first-there, last-there, later, pairs-none, sooner}
+use Rattle.cluster_model.proofs.Known.{first-there, last-there, pairs-none}
 use Rattle.cluster_model.proofs.Sound.{IsSound, first-point-there, then-point-there}
 
 -- no element passes the test
 none-of : {X : Type 0} (p : X → Bool) (xs : List X) (x : X) → list_any p xs ≡ false → Contains xs x → p x ≡ false
 none-of p [] x h k = absurd (in_none x k)
-none-of p (y ∷ ys) x h k = on (head_or_rest y ys x k) (none-of p ys x (later (p y) (list_any p ys) h)) where
+none-of p (y ∷ ys) x h k = on (head_or_rest y ys x k) (none-of p ys x (or_parts (p y) (list_any p ys) h).1) where
   on : (y ≡ x) ⊎ Contains ys x → (Contains ys x → p x ≡ false) → p x ≡ false
-  on (inl e) next = sym (ap p e) ∙ sooner (p y) (list_any p ys) h
+  on (inl e) next = sym (ap p e) ∙ (or_parts (p y) (list_any p ys) h).0
   on (inr r) next = next r
 
 -- the directory says of the leaves what the cluster says
@@ -114,11 +114,11 @@ module _ (d : Directory) (c : Cluster) (agrees : Agrees d c) where
         on (inl same) =
             roles-same (colocation_of id score one other) col same (record {
               dependent = role-may one.leaf one.role
-                  (first-there d dependent.resource (sooner (is_unknown d dependent.resource) (is_unknown d primary.resource) s.known))
-                  (sooner (side_lacks d one) (side_lacks d other) s.promotable);
+                  (first-there d dependent.resource (or_parts (is_unknown d dependent.resource) (is_unknown d primary.resource) s.known).0)
+                  (or_parts (side_lacks d one) (side_lacks d other) s.promotable).0;
               primary = role-may other.leaf other.role
-                  (last-there d primary.resource (later (is_unknown d dependent.resource) (is_unknown d primary.resource) s.known))
-                  (later (side_lacks d one) (side_lacks d other) s.promotable);
+                  (last-there d primary.resource (or_parts (is_unknown d dependent.resource) (is_unknown d primary.resource) s.known).1)
+                  (or_parts (side_lacks d one) (side_lacks d other) s.promotable).1;
             })
         on (inr r) = absurd (in_none col r)
   colocation-roles (form.Order id kind steps symmetrical) s col k = absurd (in_none col k)
@@ -170,9 +170,9 @@ module _ (d : Directory) (c : Cluster) (agrees : Agrees d c) where
       let turned = none-of turns_down (successive steps) m.source s.supported m.among in
       words-same (step_order d id (kind_of_word kind) symmetrical m.source) o m.gives (record {
         first = word-may one.leaf m.source.0.action (first-point-there d m.source.0.resource m.source.0.action t.before)
-            (sooner (lacks_action d one) (lacks_action d other) able);
+            (or_parts (lacks_action d one) (lacks_action d other) able).0;
         later = word-may other.leaf m.source.1.action (then-point-there d m.source.1.resource m.source.1.action t.after)
-            (later (lacks_action d one) (lacks_action d other) able);
+            (or_parts (lacks_action d one) (lacks_action d other) able).1;
         upward = goes-up m.source.0.action m.source.1.action turned;
       })
   order-words (form.Settings what set pairs) s o k = absurd (in_none o k)
@@ -193,7 +193,7 @@ module _ (d : Directory) (c : Cluster) (agrees : Agrees d c) where
     on : (one ≡ l) ⊎ Contains [] l → MayHaveRole c l.leaf l.role
     on (inl same) =
         location-same one l same
-        (role-may one.leaf one.role (first-there d resource (sooner (is_unknown d resource) (is_unknown_node d node) s.known)) s.promotable)
+        (role-may one.leaf one.role (first-there d resource (or_parts (is_unknown d resource) (is_unknown_node d node) s.known).0) s.promotable)
     on (inr r) = absurd (in_none l r)
   location-role (form.RuledLocation id resource written discovery rules) s l k = absurd (in_none l k)
   location-role (form.Colocation id score dependent primary) s l k = absurd (in_none l k)

@@ -16,14 +16,14 @@ use Rattle.cluster_model.specs.Checks.{cause_of}
 use Rattle.cluster_model.specs.Colocations.{colocations_in}
 use Rattle.cluster_model.specs.Counting.{all_counted, counted_with, counts_of, nothing_counted}
 use Rattle.cluster_model.specs.Directories.{directory_of, members_in, numbered_from, with_members}
-use Rattle.cluster_model.specs.FirstFaults.{fault_at, first_fault}
+use Rattle.cluster_model.specs.FirstFaults.{first_fault}
 use Rattle.cluster_model.specs.Locations.{location_in, rule_locations_in}
 use Rattle.cluster_model.specs.Nodes.{node_in}
 use Rattle.cluster_model.specs.Options.{properties_of, setting_of}
 use Rattle.cluster_model.specs.Orders.{orders_in}
 use Rattle.cluster_model.specs.Resolution.{cause_after, cause_of_loops, cluster_of, resolution_of}
 use Rattle.faults.specs.declared.fault.Fault.{Fault}
-use Rattle.faults.specs.Reading.{unless}
+use Rattle.faults.specs.Reading.{fault_at, unless}
 use Rattle.faults.proofs.Steps.{unless-ok}
 use Rattle.crm_parse.proofs.SameForms.{IsLineless, alike, clear, cleared, each-lineless, forms, unless-none}
 

@@ -2,6 +2,7 @@
 use Rattle.std.proofs.Common.{arith, ◌≡◌, ◌≢◌, ◌<◌, ◌+◌, ℕ, zero, suc, Bool, true, false, List, [], ◌∷◌, length, take, cond, refl, ap, sym, ◌∙◌, inl, inr, ◌⊎◌, Contains}
 use Rattle.std.specs.Prelude.{Option, Some, None, Result, Ok, Err}
 use Rattle.std.specs.Option.{option_or}
+use Rattle.std.proofs.lemmas.Bool.{or_parts}
 use Rattle.std.proofs.lemmas.List.{length-map}
 use Rattle.std.proofs.Math.Seq.{take-length}
 use Rattle.carry.specs.Carry.{IsDone}
@@ -38,7 +39,7 @@ use Rattle.cluster_model.specs.Search.{sound_count}
 use Rattle.faults.specs.Reading.{Gives, UnlessMemory, unless}
 use Rattle.cluster_model.proofs.Passes.{check_all, fault_after, passes, unless_cause}
 use Rattle.cluster_model.proofs.Split.{none_all, split}
-use Rattle.cluster_model.proofs.Known.{first-there, last-there, later, pairs-none, sooner}
+use Rattle.cluster_model.proofs.Known.{first-there, last-there, pairs-none}
 
 -- a statement without these faults
 pub record IsSound (d : Directory) (form : Form) : Type 0 where
@@ -99,8 +100,8 @@ colocations-join d (form.Colocation id score dependent primary) h col k =
           (primary_at d primary.resource (role_of_word primary.role)) ≡ col) ⊎ Contains [] col → Joins d col
       on (inl same) =
           joins-same d _ col same (record {
-            dependent = first-there d dependent.resource (sooner (is_unknown d dependent.resource) (is_unknown d primary.resource) h);
-            primary = last-there d primary.resource (later (is_unknown d dependent.resource) (is_unknown d primary.resource) h);
+            dependent = first-there d dependent.resource (or_parts (is_unknown d dependent.resource) (is_unknown d primary.resource) h).0;
+            primary = last-there d primary.resource (or_parts (is_unknown d dependent.resource) (is_unknown d primary.resource) h).1;
           })
       on (inr r) = absurd (in_none col r)
 colocations-join d (form.Order id kind steps symmetrical) h col k = absurd (in_none col k)

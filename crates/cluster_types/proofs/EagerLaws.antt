@@ -4,9 +4,10 @@ use Rattle.std.specs.Prelude.{Option, Some, None, count_by, cond, map, find}
 use Rattle.std.specs.List.{list_all, list_any}
 use Rattle.std.specs.Option.{option_map_or}
 use Rattle.std.proofs.lemmas.List.Folds.{list_any-append}
-use Rattle.std.proofs.Math.Bool.{and-false, or-true}
-use Rattle.lemmas.proofs.Booleans.{sooner, later, one_of}
+use Rattle.std.proofs.Math.Bool.{and-false}
+use Rattle.lemmas.proofs.Booleans.{sooner, later, one_of, first_passes}
 use Rattle.lemmas.proofs.Counts.{count-append, count-none}
+use Rattle.lemmas.proofs.Searches.{any-more, any_last}
 use Rattle.cluster_types.specs.declared.journal.Action.{Action}
 use Rattle.cluster_types.specs.declared.journal.Answer.{Answer}
 use Rattle.cluster_types.specs.declared.journal.Answer.TheVariants as answer
@@ -179,19 +180,10 @@ loss-aborts : (c : Cluster) (e : Event) → is_lost e ≡ true → aborts c e �
 loss-aborts c (Lost n) h = refl
 loss-aborts c _ h = cc
 
-last-aborts : (c : Cluster) (xs : List Event) (e : Event) → aborts c e ≡ true → list_any (aborts c) (xs ++ e ∷ []) ≡ true
-last-aborts c [] e h = rw h refl
-last-aborts c (x ∷ xs) e h = rw (last-aborts c xs e h) (or-true (aborts c x))
-
 gone-aborts : (c : Cluster) (gone : List Event) (e : Event) → is_gone e ≡ false → (list_any is_gone gone ≡ true → is_lost e ≡ true)
     → list_any is_gone (gone ++ e ∷ []) ≡ true → list_any (aborts c) (gone ++ e ∷ []) ≡ true
 gone-aborts c gone e h lost g =
-    last-aborts c gone e (loss-aborts c e (lost (first_of (list_any is_gone gone) (is_gone e) h (rw (list_any-append is_gone gone (e ∷ [])) at g))))
-  where
-    first_of : (a b : Bool) → b ≡ false → a || (b || false) ≡ true → a ≡ true
-    first_of true b h g = refl
-    first_of false true h g = cc
-    first_of false false h g = g
+    any_last (aborts c) gone e (loss-aborts c e (lost (first_passes (list_any is_gone gone) (is_gone e) (sym (any-more is_gone gone e) ∙ g) h)))
 
 regroup : (xs ys zs : List Event) → xs ++ ys ++ zs ≡ xs ++ (ys ++ zs)
 regroup [] ys zs = refl

@@ -9,6 +9,16 @@ pub data IsOwn (actions from x : ℕ) : Type 0 where
   action : x < actions → IsOwn actions from x
   gate : from ≤ x → IsOwn actions from x
 
+-- one that is no action is a gate of its own
+pub own_gate : (actions from x : ℕ) → IsOwn actions from x → actions ≤ x → from ≤ x
+own_gate actions from x (action h) l = absurd (omega arith)
+own_gate actions from x (gate h) l = h
+
+-- with more edges all still leads that led
+pub more_edges : (actions : ℕ) (some all : List Edge) → ((e : Edge) → Contains some e → Contains all e) → (x y : ℕ) → Leads actions some x y → Leads actions all x y
+more_edges actions some all f _ _ (direct e c) = direct e (f e c)
+more_edges actions some all f _ _ (through e y c g rest) = through e y (f e c) g (more_edges actions some all f e.after y rest)
+
 -- actions below `actions`, gates of the older edges below `from`, and those of the later ones from there on
 module _ (actions from : ℕ) (old more : List Edge) (enough : actions ≤ from)
     (olds : (e : Edge) → Contains old e → (e.before < from) × (e.after < from))
@@ -29,10 +39,6 @@ module _ (actions from : ℕ) (old more : List Edge) (enough : actions ≤ from)
         | inr h ↦ not_between e.before (Leads actions old e.before y) (news e h).0 l u
       ]
 
-  own_gate : (x : ℕ) → IsOwn actions from x → actions ≤ x → from ≤ x
-  own_gate x (action h) l = absurd (omega arith)
-  own_gate x (gate h) l = h
-
   from_new_gate : (x y : ℕ) → Leads actions (old ++ more) x y → from ≤ x → Leads actions more x y
   from_new_gate _ _ (direct e c) l =
       elim (Contains-append_cases old more e c) [
@@ -42,7 +48,7 @@ module _ (actions from : ℕ) (old more : List Edge) (enough : actions ≤ from)
   from_new_gate _ _ (through e y c g rest) l =
       elim (Contains-append_cases old more e c) [
         | inl h ↦ (let u = (olds e h).0 in absurd (omega arith))
-        | inr h ↦ through e y h g (from_new_gate e.after y rest (own_gate e.after (news e h).1 g))
+        | inr h ↦ through e y h g (from_new_gate e.after y rest (own_gate actions from e.after (news e h).1 g))
       ]
 
   pub one_group : (x y : ℕ) → Leads actions (old ++ more) x y → x < actions → Leads actions old x y ⊎ Leads actions more x y
@@ -54,16 +60,12 @@ module _ (actions from : ℕ) (old more : List Edge) (enough : actions ≤ from)
   one_group _ _ (through e y c g rest) u =
       elim (Contains-append_cases old more e c) [
         | inl h ↦ inl (through e y h g (from_old_gate e.after y rest g (olds e h).1))
-        | inr h ↦ inr (through e y h g (from_new_gate e.after y rest (own_gate e.after (news e h).1 g)))
+        | inr h ↦ inr (through e y h g (from_new_gate e.after y rest (own_gate actions from e.after (news e h).1 g)))
       ]
 
   -- and back
-  more_edges : (some : List Edge) → ((e : Edge) → Contains some e → Contains (old ++ more) e) → (x y : ℕ) → Leads actions some x y → Leads actions (old ++ more) x y
-  more_edges some f _ _ (direct e c) = direct e (f e c)
-  more_edges some f _ _ (through e y c g rest) = through e y (f e c) g (more_edges some f e.after y rest)
-
   pub of_old : (x y : ℕ) → Leads actions old x y → Leads actions (old ++ more) x y
-  of_old = more_edges old (λ e c. Contains-append_left old more e c)
+  of_old = more_edges actions old (old ++ more) (λ e c. Contains-append_left old more e c)
 
   pub of_more : (x y : ℕ) → Leads actions more x y → Leads actions (old ++ more) x y
-  of_more = more_edges more (λ e c. Contains-append_right old more e c)
+  of_more = more_edges actions more (old ++ more) (λ e c. Contains-append_right old more e c)

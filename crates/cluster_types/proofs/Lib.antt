@@ -35,10 +35,8 @@ pub mod SilentEnds
 pub mod GateGroups
 pub mod OpLaws
 pub mod RuleLeaves
-pub mod GoneLines
 pub mod LastSigns
 pub mod SourceLaws
-pub mod OneGate
 mod GuardExamples
 mod MigrationGuards
 mod RecoveryGuards

@@ -2,6 +2,7 @@
 use Rattle.std.proofs.Common.{arith, ◌≡◌, ◌≢◌, ◌<◌, ◌≤◌, ◌+◌, ◌==◌, ◌&&◌, ℕ, suc, zero, Bool, true, false, if◌then◌else◌, ◌∷◌, ◌⊎◌, inl, inr, refl, sym, ◌∙◌, count_by, length}
 use Rattle.std.specs.List.{range_with_len}
 use Rattle.std.proofs.lemmas.Bool.{cases_eq}
+use Rattle.std.proofs.Math.Bool.{and-false}
 use Rattle.lemmas.proofs.Counts.{count-is, count_agree}
 use Rattle.cluster_types.specs.declared.cluster.Cluster.{Cluster}
 use Rattle.cluster_types.specs.declared.placement.Target.{Target}
@@ -55,11 +56,7 @@ module _ (c : Cluster) (table : Targets) (r n : ℕ) (t : Target) where
   loads_stay e m = count_agree (λ s. is_somewhere (changed s m)) (λ s. is_somewhere (table s m)) (λ s. same_somewhere e s m) (range_with_len 0 (length c.leaves))
 
   no_second : (s m : ℕ) → m ≢ n → (s == r && m == n) ≡ false
-  no_second s m other = let f : (m == n) ≡ false = grind arith in rw f (and_false (s == r))
-    where
-      and_false : (b : Bool) → b && false ≡ false
-      and_false true = refl
-      and_false false = refl
+  no_second s m other = let f : (m == n) ≡ false = grind arith in rw f (and-false (s == r))
 
   no_first : (s m : ℕ) → s ≢ r → (s == r && m == n) ≡ false
   no_first s m other = let f : (s == r) ≡ false = grind arith in rw f refl

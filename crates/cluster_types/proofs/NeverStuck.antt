@@ -3,7 +3,7 @@ use Rattle.std.proofs.Common.{arith, ◌≡◌, ◌<◌, ◌≤◌, ◌+◌, ◌
 use Rattle.std.specs.Prelude.{cond}
 use Rattle.std.specs.List.{list_all, list_any, range_with_len}
 use Rattle.std.proofs.lemmas.Bool.{and_from, not-false, not-true, or_parts}
-use Rattle.lemmas.proofs.Booleans.{one_of}
+use Rattle.lemmas.proofs.Booleans.{if_then, one_of, unless}
 use Rattle.lemmas.proofs.Ranges.{all_in_range, each_in_range, some_in_range}
 use Rattle.cluster_types.specs.declared.cluster.Cluster.{Cluster}
 use Rattle.cluster_types.specs.declared.journal.Event.{Event}
@@ -41,11 +41,6 @@ succeeded-of_ended c k (x ∷ xs) h g e =
     one_of (ends_number k x) (succeeds_number c k x) (list_any (ends_number k) xs) (list_any (succeeds_number c k) xs)
     (λ f. success_of c k x f none.0 here.0) (succeeded-of_ended c k xs none.1 here.1) e
 
-only_one_way : (a b : Bool) → a && not b ≡ false → a ≡ true → b ≡ true
-only_one_way true true h g = refl
-only_one_way true false h g = cc
-only_one_way false b h g = cc
-
 module _ (t : Transition) (events : List Event) (upward : (j k : ℕ) → t.precedes j k ≡ true → j < k)
     (unaborted : has_aborted t events ≡ false) (none_gone : list_any is_gone events ≡ false)
     (idle : flight t events ≡ []) (settled : is_settled t events ≡ true) where
@@ -66,18 +61,14 @@ module _ (t : Transition) (events : List Event) (upward : (j k : ℕ) → t.prec
       (and_from (list_any (λ j. j == k) (numbers t)) _ (some_in_range (λ j. j == k) 1 (length t.actions) k (omega arith) (omega arith) (grind arith)) (rw unaborted refl))
       (rw fresh refl)) room)
       (all_in_range (λ j. not (t.precedes j k) || has_succeeded t events j) 1 (length t.actions)
-      (λ j j_low j_high. by_order (t.precedes j k) (has_succeeded t events j) (λ e. earlier j (omega arith) (upward j k e))))
-    where
-      by_order : (b d : Bool) → (b ≡ true → d ≡ true) → not b || d ≡ true
-      by_order true d f = f refl
-      by_order false d f = refl
+      (λ j j_low j_high. if_then (t.precedes j k) (has_succeeded t events j) (λ e. earlier j (omega arith) (upward j k e))))
 
   -- what has begun has succeeded
   done : (k : ℕ) → 0 < k → k ≤ length t.actions → has_begun t events k ≡ true → has_succeeded t events k ≡ true
   done k low high begun =
       succeeded-of_ended t.cluster k events unaborted none_gone
-      (only_one_way (has_begun t events k) (has_ended t events k)
-      (none_in_range (is_in_flight_number t events) 1 (length t.actions) k (omega arith) (omega arith) idle) begun)
+      (unless (has_begun t events k) (has_ended t events k) begun
+      (none_in_range (is_in_flight_number t events) 1 (length t.actions) k (omega arith) (omega arith) idle))
 
   up_to : (bound k : ℕ) → 0 < k → k < bound → k ≤ length t.actions → has_succeeded t events k ≡ true
   up_to zero k low below high = absurd (let f : ⊥ = omega arith in f)

@@ -1,9 +1,10 @@
 -- The actions that are needed have one list in the order of their numbers, and each stands in it once.
-use Rattle.std.proofs.Common.{arith, ◌≡◌, ◌==◌, ◌&&◌, ◌||◌, nat_lt, ℕ, Bool, true, false, List, refl, get_or}
+use Rattle.std.proofs.Common.{arith, ◌≡◌, ◌<◌, ◌==◌, ◌&&◌, ◌||◌, nat_lt, ℕ, Bool, true, false, List, refl, length, get_or}
 use Rattle.std.specs.List.{list_any}
-use Rattle.std.specs.Prelude.{Contains, Any, slice_get, Some}
+use Rattle.std.specs.Prelude.{AllPairs, Contains, Any, slice_get, Some}
 use Rattle.std.proofs.lemmas.List.Folds.{Any-from_list_any}
-use Rattle.lemmas.proofs.Ordered.{one_place, same_list}
+use Rattle.std.proofs.lemmas.Option.{get_or_from_slice_get, slice_get_within}
+use Rattle.lemmas.proofs.Ordered.{same_list}
 use Rattle.lemmas.proofs.Searches.{passes_by}
 use Rattle.lemmas.proofs.Booleans.{same_test}
 use Rattle.cluster_types.specs.declared.cluster.Cluster.{Cluster}
@@ -19,13 +20,13 @@ by_first x y true true f h k = f refl refl
 by_first x y true false f h k = let e : false ≡ true = grind arith in cc
 by_first x y false q f h k = let e : false ≡ true = grind arith in cc
 
-abbrev by_node : Place → Place → Bool
+abbrev pub by_node : Place → Place → Bool
 by_node a b = nat_lt a.node b.node || a.node == b.node && nat_lt a.interval b.interval
 
-abbrev by_leaf : Place → Place → Bool
+abbrev pub by_leaf : Place → Place → Bool
 by_leaf a b = nat_lt a.leaf b.leaf || a.leaf == b.leaf && by_node a b
 
-abbrev by_rank : Place → Place → Bool
+abbrev pub by_rank : Place → Place → Bool
 by_rank a b = nat_lt a.ranked b.ranked || a.ranked == b.ranked && by_leaf a b
 
 not_both_less : (x y : ℕ) → nat_lt x y ≡ true → nat_lt y x ≡ true → ⊥
@@ -76,6 +77,28 @@ one_list c Needed xs ys h k =
     let from : (a : Action) → Contains ys a → Contains xs a = λ a at. (h.needed a).1 ((k.needed a).0 at) in
     same_list (λ x y. is_earlier c xs x y ≡ true) (λ x y. not_both (place_of c xs x) (place_of c xs y)) xs ys h.in_order
     (λ i j d less within. same_order c xs ys to from (get_or ys i d) (get_or ys j d) (k.in_order i j d less within)) to from
+
+module _ {X : Type 0} (R : X → X → Type 0) (strict : (a b : X) → R a b → R b a → ⊥) where
+  -- an element doesn't stand before itself
+  not_before_itself : (xs : List X) (i j : ℕ) (a : X) → AllPairs R xs → slice_get xs i ≡ Some a → slice_get xs j ≡ Some a → i < j → ⊥
+  not_before_itself xs i j a h p q less =
+      let within : j < length xs = slice_get_within xs j a q in
+      let one : get_or xs i a ≡ a = get_or_from_slice_get xs i a a p in
+      let other : get_or xs j a ≡ a = get_or_from_slice_get xs j a a q in
+      let full : R (get_or xs i a) (get_or xs j a) = h i j a less within in
+      let half : R (get_or xs i a) a = rw other at full in
+      let itself : R a a = rw one at half in
+      strict a a itself itself
+
+  one_of_three : (xs : List X) (i j : ℕ) (a : X) → AllPairs R xs → slice_get xs i ≡ Some a → slice_get xs j ≡ Some a
+      → (less more : Bool) → nat_lt i j ≡ less → nat_lt j i ≡ more → i ≡ j
+  one_of_three xs i j a h p q true more l m = absurd (not_before_itself xs i j a h p q (grind arith))
+  one_of_three xs i j a h p q false true l m = absurd (not_before_itself xs j i a h q p (grind arith))
+  one_of_three xs i j a h p q false false l m = grind arith
+
+  -- an element stands at one place of a list in order
+  one_place : (xs : List X) (i j : ℕ) (a : X) → AllPairs R xs → slice_get xs i ≡ Some a → slice_get xs j ≡ Some a → i ≡ j
+  one_place xs i j a h p q = one_of_three xs i j a h p q (nat_lt i j) (nat_lt j i) refl refl
 
 pub one_number : (c : Cluster) (Needed : Action → Type 0) (xs : List Action) (i j : ℕ) (a : Action) → AreNumbered c Needed xs
     → slice_get xs i ≡ Some a → slice_get xs j ≡ Some a → i ≡ j

@@ -1,10 +1,12 @@
--- What is said of an operation by itself, and by the role that it gives.
+-- What is said of an operation by itself, and by the role that it gives; and of the kind of an order.
 use Rattle.std.proofs.Common.{◌≡◌, true, refl}
 use Rattle.cluster_types.specs.declared.leaf.Op.{Op}
 use Rattle.cluster_types.specs.declared.leaf.Op.TheVariants.{Start, Stop, Promote, Demote, Monitor}
 use Rattle.cluster_types.specs.declared.leaf.Role.{Role}
+use Rattle.cluster_types.specs.declared.rules.OrderKind.{OrderKind}
+use Rattle.cluster_types.specs.declared.rules.OrderKind.TheVariants as kind
 use Rattle.cluster_types.specs.Held.{Gives, started, promoted}
-use Rattle.cluster_types.specs.Precedence.{is_same_op, is_up}
+use Rattle.cluster_types.specs.Precedence.{is_mandatory_order, is_same_op, is_up, role_by}
 
 pub op_itself : (o : Op) → is_same_op o o ≡ true
 op_itself Start = refl
@@ -17,3 +19,20 @@ op_itself Monitor = refl
 pub up_of : (o : Op) (role : Role) → Gives o role → is_up o ≡ true
 up_of _ _ started = refl
 up_of _ _ promoted = refl
+
+-- and a word that goes up gives its role
+pub gives_by : (o : Op) → is_up o ≡ true → Gives o (role_by o)
+gives_by Start h = started
+gives_by Promote h = promoted
+gives_by Stop h = cc
+gives_by Demote h = cc
+gives_by Monitor h = cc
+
+pub gives_one : (o : Op) (given : Role) → Gives o given → given ≡ role_by o
+gives_one _ _ started = refl
+gives_one _ _ promoted = refl
+
+pub of_kind : (k : OrderKind) → is_mandatory_order k ≡ true → k ≡ kind.Mandatory
+of_kind kind.Mandatory h = refl
+of_kind kind.Optional h = cc
+of_kind kind.Serialize h = cc

@@ -2,13 +2,14 @@
 use Rattle.std.proofs.Common.{arith, ◌≡◌, ◌≢◌, ◌<◌, ◌≤◌, ◌+◌, ◌-◌, ◌==◌, ◌&&◌, ◌||◌, ◌⊎◌, inl, inr, ℕ, suc, zero, Bool, true, false, cond, List, [], ◌∷◌, ◌++◌, length, take, filter, get_or, replicate, refl, sym, ap, subst, ◌∙◌, map-id, append-nil}
 use Rattle.std.specs.Prelude.{Any, Contains, slice_set}
 use Rattle.std.specs.List.{list_any, range_with_len}
-use Rattle.std.proofs.Math.Bool.{or-false, or_assoc}
+use Rattle.std.proofs.Math.Bool.{or-false, or-true, or_assoc}
 use Rattle.std.proofs.lemmas.Bool.{cases_eq, ne_eqb, or_cases, or_left, or_right}
 use Rattle.std.proofs.lemmas.List.{get_or_default, get_or-set_same, get_or-set_other}
 use Rattle.std.proofs.lemmas.List.Folds.{list_any_more, Any-from_list_any}
 use Rattle.std.proofs.lemmas.List.FromFn.{filter_of_map_range_with_len_more}
 use Rattle.lemmas.proofs.Booleans.{sooner, later, same_test}
 use Rattle.lemmas.proofs.Searches.{passes_by}
+use Rattle.lemmas.proofs.Ranges.{filter-alike}
 use Rattle.cluster_types.specs.declared.edges.Edge.{Edge}
 use Rattle.cluster_types.specs.declared.edges.Edges.{Edges}
 use Rattle.cluster_types.specs.Graphs.{GraphOf, IsGraph, EndWithin, LeadUpward, Leads, direct, through, is_before, is_number}
@@ -48,10 +49,6 @@ module _ (edges : List Edge) (i : ℕ) (e d : Edge) (lt : i < length edges) (at 
       let f : (e.after == y) ≡ true = grind arith in
       let g : (e.before == x) ≡ true = grind arith in
       rw (f, g) (ap (λ k. is_marked (slice_set marks e.before true) k) same ∙ (get_or-set_same marks e.before true false within ∙ sym (or-true (is_marked marks x))))
-    where
-      or-true : (b : Bool) → (b || true) ≡ true
-      or-true true = refl
-      or-true false = refl
   set_at here within x (inr differ) =
       let g : (e.before == x) ≡ false = ne_eqb _ _ (λ s. differ (sym s)) in
       rw g (get_or-set_other marks e.before x true false differ ∙ sym (joined_not (is_marked marks x) (e.after == y)))
@@ -148,27 +145,23 @@ pub all_marked : (actions : ℕ) (edges : List Edge) (x y : ℕ) (marks : List B
 all_marked actions edges _ _ marks made (direct e c) = made.direct e c refl
 all_marked actions edges _ _ marks made (through e y c gate rest) = made.through e c gate gate (all_marked actions edges e.after y marks made rest)
 
+-- the numbers of the actions are those from 1 to their count
+pub numbered : (g : GraphOf) (k : ℕ) → 0 < k → k ≤ length g.actions → is_number g k ≡ true
+numbered g k low high = grind arith
+
 module _ (g : GraphOf) (graph : IsGraph g) (y : ℕ) (from_one : 0 < y) (to_count : y ≤ length g.actions) (marks : List Bool)
     (made : AreMarked (length g.actions) g.edges.list (y - 1) (length g.actions) marks) where
-  numbered : (k : ℕ) → 0 < k → k ≤ length g.actions → is_number g k ≡ true
-  numbered k low high = grind arith
-
   pub marked_is_before : (k : ℕ) → 0 < k → k ≤ length g.actions → is_marked marks (k - 1) ≡ is_before g k y
   marked_is_before k low high =
       same_test _ _
-      (λ h. before-computed g k y graph (record { earlier = numbered k low high; later = numbered y from_one to_count; leads = made.leading (k - 1) h }))
+      (λ h. before-computed g k y graph (record { earlier = numbered g k low high; later = numbered g y from_one to_count; leads = made.leading (k - 1) h }))
       (λ h. all_marked (length g.actions) g.edges.list (k - 1) (y - 1) marks made (before-from_computed g k y h).leads)
-
-filter-from : (p q : ℕ → Bool) (from n : ℕ) → ((k : ℕ) → from ≤ k → k < from + n → p k ≡ q k) → filter p (range_with_len from n) ≡ filter q (range_with_len from n)
-filter-from p q from zero same = refl
-filter-from p q from (suc n) same =
-    rw (same from (omega arith) (omega arith), filter-from p q (from + 1) n (λ k ge lt. same k (omega arith) (omega arith))) refl
 
 befores_are : (g : GraphOf) (graph : IsGraph g) (y : ℕ) (from_one : 0 < y) (to_count : y ≤ length g.actions) (marks : List Bool)
     → AreMarked (length g.actions) g.edges.list (y - 1) (length g.actions) marks
     → filter (λ k. is_marked marks (k - 1)) (range_with_len 1 (length g.actions)) ≡ filter (λ k. is_before g k y) (range_with_len 1 (length g.actions))
 befores_are g graph y from_one to_count marks made =
-    filter-from (λ k. is_marked marks (k - 1)) (λ k. is_before g k y) 1 (length g.actions)
+    filter-alike (λ k. is_marked marks (k - 1)) (λ k. is_before g k y) 1 (length g.actions)
     (λ k low high. marked_is_before g graph y from_one to_count marks made k (omega arith) (omega arith))
 
 -- one action more, by its mark

@@ -33,6 +33,10 @@ is_same_decision (Place r) (Place s) = r == s
 is_same_decision (Promote r) (Promote s) = r == s
 is_same_decision _ _ = false
 
+-- the decision is among these
+abbrev pub is_among : List Decision → Decision → Bool
+is_among ds d = list_any (is_same_decision d) ds
+
 -- the decision that gives the leaf its role
 abbrev pub decision_of : ℕ → Role → Decision
 decision_of r role.Started = Place r

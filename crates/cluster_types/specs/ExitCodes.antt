@@ -4,6 +4,9 @@ use Rattle.std.specs.Prelude.{ℕ}
 abbrev pub success : ℕ
 success = 0
 
+abbrev pub err_generic : ℕ
+err_generic = 1
+
 abbrev pub err_args : ℕ
 err_args = 2
 

@@ -39,16 +39,17 @@ is_up op.Start = true
 is_up op.Promote = true
 is_up _ = false
 
+-- the role that a start or a promote gives
+abbrev pub role_by : Op → Role
+role_by op.Promote = role.Promoted
+role_by _ = role.Started
+
 abbrev pub inverse : Op → Op
 inverse op.Start = op.Stop
 inverse op.Stop = op.Start
 inverse op.Promote = op.Demote
 inverse op.Demote = op.Promote
 inverse op.Monitor = op.Monitor
-
-abbrev pub fence_node : Action → Option ℕ
-fence_node (Fence n) = Some n
-fence_node _ = None
 
 abbrev pub probe_cell : Action → Option CellOf
 probe_cell (Probe r n) = cell_of r n
@@ -180,6 +181,10 @@ abbrev pub is_inverse_pair : List Action → Order → Action → Action → Boo
 is_inverse_pair actions o x y =
     if is_up o.first_op && is_up o.then_op then is_taken_back actions o x y
     else is_pair actions o (inverse o.then_op) o.then_leaf (inverse o.first_op) o.first x y
+
+abbrev pub is_mandatory_order : OrderKind → Bool
+is_mandatory_order kind.Mandatory = true
+is_mandatory_order _ = false
 
 abbrev pub is_serialize : OrderKind → Bool
 is_serialize kind.Serialize = true

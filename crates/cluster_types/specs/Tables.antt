@@ -30,7 +30,12 @@ abbrev pub is_promoted_target : Target → Bool
 is_promoted_target target.Promoted = true
 is_promoted_target _ = false
 
--- a leaf holds Started wherever it has a target, and Promoted where it is to be promoted
+-- a leaf with this target holds the role: Started wherever it has one, and Promoted where it is to be promoted
+abbrev pub target_holds : Target → Role → Bool
+target_holds goal role.Started = is_somewhere goal
+target_holds goal role.Promoted = is_promoted_target goal
+
+-- the leaf holds the role on the node
 abbrev pub holds_role : Targets → ℕ → Role → ℕ → Bool
 holds_role table r role.Started n = is_somewhere (table r n)
 holds_role table r role.Promoted n = is_promoted_target (table r n)

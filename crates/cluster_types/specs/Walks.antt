@@ -1,11 +1,15 @@
 -- How the actions before one are found: the positions from which edges lead to it are marked, and then those from which edges lead to a gate that
--- is marked (rule of this project).
+-- is marked (rule of this project). No public clause cites this module.
 use Rattle.std.specs.Prelude.{◌≡◌, ◌≤◌, ◌==◌, ◌&&◌, ℕ, Bool, true, false, List, Contains, slice_index_or}
 use Rattle.cluster_types.specs.declared.edges.Edge.{Edge}
 use Rattle.cluster_types.specs.Graphs.{Leads}
 
 abbrev pub is_marked : List Bool → ℕ → Bool
 is_marked marks x = slice_index_or marks x false
+
+-- what is read where no edge is
+abbrev pub no_edge : Edge
+no_edge = record { before = 0; after = 0 }
 
 -- the edge leads from x to y
 abbrev pub joins : ℕ → ℕ → Edge → Bool

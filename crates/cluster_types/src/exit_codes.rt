@@ -3,6 +3,9 @@
 
 pub const SUCCESS: u8 = 0;
 
+/// The agent says that it failed.
+pub const ERR_GENERIC: u8 = 1;
+
 /// The agent was called in a way that it doesn't take.
 pub const ERR_ARGS: u8 = 2;
 

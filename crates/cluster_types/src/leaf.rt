@@ -35,6 +35,16 @@ impl Op {
         matches!(self, Op::Start | Op::Promote)
     }
 
+    /// The role that a start or a promote gives. It is Started for any other.
+    pub fn role_given(self) -> Role
+        ensures { result ≡ precedence.role_by self }
+    {
+        match self {
+            Op::Promote => Role::Promoted,
+            _ => Role::Started,
+        }
+    }
+
     /// The operation that undoes it. A monitor has nothing to undo.
     pub fn inverse(self) -> Op
         ensures { result ≡ precedence.inverse self }

@@ -25,6 +25,18 @@ pub enum Target {
     Promoted,
 }
 
+impl Target {
+    /// Whether a leaf with this target holds the role: Started wherever it has one, and Promoted where it is to be promoted.
+    pub fn holds(self, role: Role) -> bool
+        ensures { result ≡ tables.target_holds self role }
+    {
+        match role {
+            Role::Started => self != Target::Nowhere,
+            Role::Promoted => self == Target::Promoted,
+        }
+    }
+}
+
 /// The targets of all cells, leaf by leaf, node by node.
 #[derive(PartialEq, Eq, Drop)]
 pub struct Table {
@@ -64,15 +76,11 @@ impl Table {
         }
     }
 
-    /// Whether the leaf holds the role on the node: Started wherever it has a target, and Promoted where it is to be promoted.
+    /// Whether the leaf holds the role on the node.
     pub fn holds_role(&self, leaf: LeafId, role: Role, node: NodeId) -> bool
         ensures { result ≡ tables.holds_role (targets_of self.now) leaf role node }
     {
-        let target = self.target(leaf, node);
-        match role {
-            Role::Started => target != Target::Nowhere,
-            Role::Promoted => target == Target::Promoted,
-        }
+        self.target(leaf, node).holds(role)
     }
 
     /// The table in which a cell that it has gets this target, and each other stays as it was. It takes no memory.

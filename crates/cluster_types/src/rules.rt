@@ -1,5 +1,6 @@
 ghost use Rattle.std.specs.Prelude.{◌≡◌};
 ghost use Rattle.cluster_types.specs.Choice as choice;
+ghost use Rattle.cluster_types.specs.Precedence as precedence;
 
 use crate::leaf::{LeafId, Op, Role};
 use crate::node::NodeId;
@@ -80,4 +81,13 @@ pub struct Order {
     pub symmetrical: bool,
     /// Whether it joins the copies on one node only.
     pub local: bool,
+}
+
+impl Order {
+    /// Whether the then can't run without the first.
+    pub fn is_mandatory(&self) -> bool
+        ensures { result ≡ precedence.is_mandatory_order self.now.kind }
+    {
+        self.kind == OrderKind::Mandatory
+    }
 }

@@ -69,7 +69,7 @@ rising-faults n (line ∷ lines) =
     Rising-append (4 * n) (place n LineTooLong + 1) (place n NotUtf8) top long (byte_faults n line ++ (open_fault ++ later))
     (Rising-lower (place n LineTooLong) (4 * n) (place n LineTooLong + 1) long (omega arith) (rising-if (nat_lt 1048576 (content_length all)) n LineTooLong)) (omega arith) second
 
--- how many lines the groups have
+-- how many physical lines some groups of them have
 abbrev pub count_lines : List (List (List ℕ)) → ℕ
 count_lines [] = 0
 count_lines (group ∷ groups) = length group + count_lines groups

@@ -7,3 +7,4 @@ pub mod Reading
 pub mod WordRoom
 pub mod Pieces
 pub mod FaultOrder
+pub mod Causes

@@ -1,3 +1,6 @@
+ghost use Rattle.std.specs.Prelude.{◌≡◌};
+ghost use Rattle.crm_lex.specs.Causes.{lex_name};
+
 use faults::Fault;
 use thiserror::Error;
 
@@ -18,6 +21,18 @@ pub enum LexCause {
     /// first physical line of it.
     #[error("it is too long")]
     LineTooLong,
+}
+
+/// The name of a cause, as it is printed: that of its variant.
+pub fn lex_name(cause: LexCause) -> &'static str
+    ensures { result.now ≡ lex_name cause }
+{
+    match cause {
+        LexCause::NotUtf8 => "NotUtf8",
+        LexCause::ControlByte => "ControlByte",
+        LexCause::OpenQuote => "OpenQuote",
+        LexCause::LineTooLong => "LineTooLong",
+    }
 }
 
 /// Why the words of a text could not be given.

@@ -14,7 +14,7 @@ mod text;
 mod word;
 mod word_buf;
 
-pub use fault::{LexCause, LexFault};
+pub use fault::{LexCause, LexFault, lex_name};
 pub use faults::NoMemory;
 pub use laws::{lines_of_pieces, the_first_fault_is_read};
 pub use line::Line;

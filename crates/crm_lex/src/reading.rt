@@ -70,7 +70,7 @@ fn find_words(
     Ok(())
 }
 
-/// The names, in a list without room for more.
+/// Moves the names out of the list that it is lent, into one without room for more.
 fn list_of(alloc: Global, names: &mut Vec<Name>) -> Result<Listed<Name>, NoMemory>
     ensures { IfOk result (λ list. list ≡ names.old.items) }
 {
@@ -79,7 +79,7 @@ fn list_of(alloc: Global, names: &mut Vec<Name>) -> Result<Listed<Name>, NoMemor
     Ok(Listed::from(list))
 }
 
-/// The words of a text, in a list without room for more. `word` has room for one word; `found` is cleared.
+/// The words of a text, in a list without room for more. `word` has room for one word.
 fn read_words(
     alloc: Global,
     text: &[u8],
@@ -183,7 +183,8 @@ fn read_lines(
 }
 
 /// The logical lines of a text with their words, or its first fault. A line without words, as a comment, is left out.
-/// (crmsh manual, continuation lines, comments and quoting; the faults and the limit are a rule of this project.)
+/// (crmsh manual, continuation lines, comments and quoting; the faults and the limit are a rule of this project.) It asks
+/// for fewer than 2^32 bytes.
 pub fn logical_lines(alloc: Global, bytes: &[u8]) -> Result<Vec<Line>, LexFault>
     requires { length bytes.now < 2 ^ 32 }
     ensures { Gives (λ lines. lines.items) result (reads bytes.now) }

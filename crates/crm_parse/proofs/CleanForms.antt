@@ -11,6 +11,7 @@ use Rattle.crm_parse.specs.Node.{node_at}
 use Rattle.crm_parse.specs.Primitive.{agent_of, colon_parts, primitive_at}
 use Rattle.crm_parse.specs.Reading.{Words, given_at, name_at, prefixed_at, word_at}
 use Rattle.crm_parse.specs.Sections.{sections_at}
+use Rattle.crm_parse.specs.WordTexts.{clone_word}
 use Rattle.crm_parse.proofs.Affixes.{colon_at-words, given_words, noted_words, prefixed_at-words}
 use Rattle.crm_parse.proofs.Binds.{given_at-ok, name_at-ok, word_at-ok}
 use Rattle.faults.proofs.Steps.{bind-ok}
@@ -21,7 +22,7 @@ use Rattle.crm_parse.proofs.MetaAgain.{label}
 use Rattle.crm_parse.proofs.PairLists.{pair_words}
 use Rattle.crm_parse.proofs.PrimitiveAgain.{agent-again}
 use Rattle.crm_parse.proofs.SectionsAgain.{op_sections}
-use Rattle.crm_parse.proofs.Written.{clone_word, meta_words, section_words, written}
+use Rattle.crm_parse.proofs.Written.{meta_words, section_words, written}
 
 -- words that are clean, of which a first part was read
 record Split (front rest : Words) : Type 0 where

@@ -13,6 +13,7 @@ use Rattle.crm_parse.proofs.CleanStatements.{DraftClean, draft-clean}
 use Rattle.crm_parse.proofs.LinesAgain.{Says, read_of-ok, said}
 use Rattle.crm_parse.proofs.Written.{written}
 
+-- the words of a line are clean
 abbrev pub CleanLine : Line → Type 0
 CleanLine line = AllClean line.words
 

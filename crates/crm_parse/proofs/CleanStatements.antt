@@ -29,6 +29,7 @@ use Rattle.crm_parse.specs.Primitive.{primitive_at}
 use Rattle.crm_parse.specs.Reading.{Words, name_at, score_of, word_at}
 use Rattle.crm_parse.specs.Settings.{settings_at}
 use Rattle.crm_parse.specs.Statements.{draft_after, draft_of, finished, keyword_of, order, whole, with_actions}
+use Rattle.crm_parse.specs.WordTexts.{action_text, bool_text, kind_text, settings_text}
 use Rattle.crm_parse.proofs.Binds.{name_at-ok}
 use Rattle.faults.proofs.Steps.{bind-ok}
 use Rattle.crm_parse.proofs.Clean.{AllClean, Clean, clean-append, clean-ascii, clean-name}
@@ -41,7 +42,7 @@ use Rattle.crm_parse.proofs.OrderAgain.{IsOrder, Named, NamedDraft, actions-name
 use Rattle.crm_parse.proofs.ResourceNames.{IsResource}
 use Rattle.crm_parse.proofs.ScoreAgain.{score_of-ok}
 use Rattle.crm_parse.proofs.SettingsAgain.{settings-written}
-use Rattle.crm_parse.proofs.Written.{action_word, bool_word, kind_word, settings_word, side_word, step_word, written}
+use Rattle.crm_parse.proofs.Written.{side_word, step_word, written}
 
 side-clean : (name : List ℕ) (r : RoleWord) → IsResource name → Clean (side_word (record { resource = name; role = r }))
 side-clean name role.Started h = clean-name name h.named
@@ -69,25 +70,25 @@ colocation-clean words f e =
       ),
     )
 
-kind-clean : (kind : KindWord) → Clean (kind_word kind ++ codes ":")
+kind-clean : (kind : KindWord) → Clean (kind_text kind ++ codes ":")
 kind-clean Mandatory = clean-ascii (codes "Mandatory:") refl
 kind-clean Optional = clean-ascii (codes "Optional:") refl
 kind-clean Serialize = clean-ascii (codes "Serialize:") refl
 
-action-clean : (action : ActionWord) → Clean (58 ∷ action_word action)
+action-clean : (action : ActionWord) → Clean (58 ∷ action_text action)
 action-clean Start = clean-ascii (codes ":start") refl
 action-clean Stop = clean-ascii (codes ":stop") refl
 action-clean Promote = clean-ascii (codes ":promote") refl
 action-clean Demote = clean-ascii (codes ":demote") refl
 
-symmetrical-clean : (both : Bool) → Clean (codes "symmetrical=" ++ bool_word both)
+symmetrical-clean : (both : Bool) → Clean (codes "symmetrical=" ++ bool_text both)
 symmetrical-clean true = clean-ascii (codes "symmetrical=true") refl
 symmetrical-clean false = clean-ascii (codes "symmetrical=false") refl
 
 steps-clean : (steps : List OrderStep) → AllByRecursion Named steps → AllClean (map step_word steps)
 steps-clean [] h = tt
 steps-clean (step ∷ steps) h =
-    (clean-append step.resource (58 ∷ action_word step.action) (clean-name step.resource h.0.named) (action-clean step.action), steps-clean steps h.1)
+    (clean-append step.resource (58 ∷ action_text step.action) (clean-name step.resource h.0.named) (action-clean step.action), steps-clean steps h.1)
 
 order-clean : (promotable : Words) (order : OrderDraft) → IsOrder order → AllClean (written (finished promotable (draft.Order order)))
 order-clean promotable order h =
@@ -98,13 +99,13 @@ order-clean promotable order h =
         clean-name order.id h.named,
         (
           kind-clean order.kind,
-          all-append (map step_word steps) ((codes "symmetrical=" ++ bool_word order.symmetrical) ∷ [])
+          all-append (map step_word steps) ((codes "symmetrical=" ++ bool_text order.symmetrical) ∷ [])
               (steps-clean steps (actions-named promotable Start order.steps all)) (symmetrical-clean order.symmetrical, tt),
         ),
       ),
     )
 
-settings-clean : (what : SettingsWord) → Clean (settings_word what)
+pub settings-clean : (what : SettingsWord) → Clean (settings_text what)
 settings-clean Property = clean-ascii (codes "property") refl
 settings-clean RscDefaults = clean-ascii (codes "rsc_defaults") refl
 settings-clean OpDefaults = clean-ascii (codes "op_defaults") refl

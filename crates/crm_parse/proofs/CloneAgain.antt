@@ -8,13 +8,14 @@ use Rattle.crm_parse.specs.declared.pair.Kv.{Kv}
 use Rattle.crm_parse.specs.Groups.{clone_at, clone_owner}
 use Rattle.crm_parse.specs.Reading.{Words, name_at, prefixed_at}
 use Rattle.crm_parse.specs.Sections.{place_of, section_of, sections_at}
+use Rattle.crm_parse.specs.WordTexts.{clone_word}
 use Rattle.crm_parse.proofs.Binds.{name_at-again, name_at-ok}
 use Rattle.faults.proofs.Steps.{bind-ok}
 use Rattle.crm_parse.proofs.MetaAgain.{description-last, label}
 use Rattle.crm_parse.proofs.PairLists.{Kept}
 use Rattle.crm_parse.proofs.SectionsAgain.{Follows, meta_sections-again}
 use Rattle.crm_parse.proofs.SectionsKept.{sections_at-kept}
-use Rattle.crm_parse.proofs.Written.{Again, clone_word, meta_words}
+use Rattle.crm_parse.proofs.Written.{Again, meta_words}
 
 clone-follows : (ms : Bool) → Follows (clone_owner ms)
 unfolding section_of

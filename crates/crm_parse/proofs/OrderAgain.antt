@@ -20,11 +20,12 @@ use Rattle.faults.specs.Reading.{◌>>=◌}
 use Rattle.crm_parse.specs.Statements.{action_after, finished, with_actions}
 use Rattle.crm_parse.specs.Texts.{after}
 use Rattle.crm_parse.specs.Values.{action_of, bool_of}
+use Rattle.crm_parse.specs.WordTexts.{action_text, bool_text, kind_text}
 use Rattle.crm_parse.proofs.Binds.{name_at-again, name_at-ok}
 use Rattle.faults.proofs.Steps.{bind-ok}
 use Rattle.crm_parse.proofs.PairWords.{cut_at-again, has}
 use Rattle.crm_parse.proofs.ResourceNames.{IsResource, has-append, name-lacks, no_label, resource-ok}
-use Rattle.crm_parse.proofs.Written.{action_word, bool_word, kind_word, step_word, written}
+use Rattle.crm_parse.proofs.Written.{step_word, written}
 
 -- a step with the action that it was given
 abbrev pub done_step : OrderStep → StepDraft
@@ -37,7 +38,7 @@ done_order promotable order =
 
 -- the words behind the first of an order
 abbrev pub order_words : List ℕ → KindWord → List OrderStep → Bool → Words
-order_words id kind steps symmetrical = id ∷ (kind_word kind ++ codes ":") ∷ (map step_word steps ++ (codes "symmetrical=" ++ bool_word symmetrical) ∷ [])
+order_words id kind steps symmetrical = id ∷ (kind_text kind ++ codes ":") ∷ (map step_word steps ++ (codes "symmetrical=" ++ bool_text symmetrical) ∷ [])
 
 abbrev pub Named : OrderStep → Type 0
 Named step = IsResource step.resource
@@ -46,23 +47,23 @@ abbrev pub NamedDraft : StepDraft → Type 0
 NamedDraft step = IsResource step.resource
 
 -- an action is read again
-action_again : (action : ActionWord) → action_of (action_word action) ≡ Some action
+action_again : (action : ActionWord) → action_of (action_text action) ≡ Some action
 action_again Start = refl
 action_again Stop = refl
 action_again Promote = refl
 action_again Demote = refl
 
-kind_again : (kind : KindWord) → kind_by_word (kind_word kind) ≡ Ok kind
+kind_again : (kind : KindWord) → kind_by_word (kind_text kind) ≡ Ok kind
 unfolding kind_by_word
 kind_again Mandatory = refl
 kind_again Optional = refl
 kind_again Serialize = refl
 
-bool_again : (b : Bool) → bool_of (bool_word b) ≡ Some b
+bool_again : (b : Bool) → bool_of (bool_text b) ≡ Some b
 bool_again true = refl
 bool_again false = refl
 
-action_lacks : (action : ActionWord) → has 61 (58 ∷ action_word action) ≡ false
+action_lacks : (action : ActionWord) → has 61 (58 ∷ action_text action) ≡ false
 action_lacks Start = refl
 action_lacks Stop = refl
 action_lacks Promote = refl
@@ -72,20 +73,20 @@ action_lacks Demote = refl
 step_of-again : (step : OrderStep) → Named step → step_of (step_word step) ≡ Ok (done_step step)
 unfolding step_of
 step_of-again step h =
-    rw (step_parts, cut_at-again 58 step.resource (action_word step.action) (name-lacks 58 step.resource refl h.named), h.read, action_again step.action) refl
+    rw (step_parts, cut_at-again 58 step.resource (action_text step.action) (name-lacks 58 step.resource refl h.named), h.read, action_again step.action) refl
 
 step_goes_on : (step : OrderStep) → Named step → ends_steps (step_word step) ≡ false
 step_goes_on step h =
-    rw (no_label 61 (codes "symmetrical") [] (step_word step) (has-append 61 step.resource (58 ∷ action_word step.action) (name-lacks 61 step.resource refl h.named) (action_lacks step.action))) refl
+    rw (no_label 61 (codes "symmetrical") [] (step_word step) (has-append 61 step.resource (58 ∷ action_text step.action) (name-lacks 61 step.resource refl h.named) (action_lacks step.action))) refl
 
 -- some steps are read again
 with_steps-again : (before : List StepDraft) (steps : List OrderStep) (both : Bool) → AllByRecursion Named steps
-    → with_steps before (map step_word steps ++ (codes "symmetrical=" ++ bool_word both) ∷ []) ≡ Ok (before ++ map done_step steps, (codes "symmetrical=" ++ bool_word both) ∷ [])
+    → with_steps before (map step_word steps ++ (codes "symmetrical=" ++ bool_text both) ∷ []) ≡ Ok (before ++ map done_step steps, (codes "symmetrical=" ++ bool_text both) ∷ [])
 with_steps-again before [] both h = rw (append-nil before) refl
 with_steps-again before (step ∷ steps) both h =
     rw (step_goes_on step h.0, step_of-again step h.0) (
     with_steps-again (before ++ done_step step ∷ []) steps both h.1
-    ∙ ap (λ (ss : List StepDraft). Ok (ss, (codes "symmetrical=" ++ bool_word both) ∷ [])) (append_assoc before (done_step step ∷ []) (map done_step steps))
+    ∙ ap (λ (ss : List StepDraft). Ok (ss, (codes "symmetrical=" ++ bool_text both) ∷ [])) (append_assoc before (done_step step ∷ []) (map done_step steps))
     )
 
 with_step-again : (before : List StepDraft) (step : OrderStep) (words : Words) → Named step → with_step before (step_word step ∷ words) ≡ Ok (before ++ done_step step ∷ [], words)
@@ -93,11 +94,11 @@ unfolding with_step
 with_step-again before step words h = rw (step_of-again step h) refl
 
 steps_at-again : (one two : OrderStep) (steps : List OrderStep) (both : Bool) → Named one → Named two → AllByRecursion Named steps
-    → steps_at (map step_word (one ∷ two ∷ steps) ++ (codes "symmetrical=" ++ bool_word both) ∷ [])
-    ≡ Ok (map done_step (one ∷ two ∷ steps), (codes "symmetrical=" ++ bool_word both) ∷ [])
+    → steps_at (map step_word (one ∷ two ∷ steps) ++ (codes "symmetrical=" ++ bool_text both) ∷ [])
+    ≡ Ok (map done_step (one ∷ two ∷ steps), (codes "symmetrical=" ++ bool_text both) ∷ [])
 unfolding steps_at
 steps_at-again one two steps both h k all =
-    let end : Words = (codes "symmetrical=" ++ bool_word both) ∷ [] in
+    let end : Words = (codes "symmetrical=" ++ bool_text both) ∷ [] in
     rw (with_step-again [] one (step_word two ∷ (map step_word steps ++ end)) h, with_step-again (done_step one ∷ []) two (map step_word steps ++ end) k)
     (with_steps-again (done_step one ∷ done_step two ∷ []) steps both all)
 
@@ -256,13 +257,13 @@ actions-again promotable action done [] = sym (append-nil done)
 actions-again promotable action done (step ∷ steps) =
     actions-again promotable step.action (done ++ step ∷ []) steps ∙ append_assoc done (step ∷ []) steps
 
-kind_at-again : (kind : KindWord) (words : Words) → kind_at ((kind_word kind ++ codes ":") ∷ words) ≡ Ok (kind, words)
+kind_at-again : (kind : KindWord) (words : Words) → kind_at ((kind_text kind ++ codes ":") ∷ words) ≡ Ok (kind, words)
 unfolding kind_at kind_by_word
 kind_at-again Mandatory words = refl
 kind_at-again Optional words = refl
 kind_at-again Serialize words = refl
 
-symmetrical_in-again : (kind : KindWord) (both : Bool) → symmetrical_as kind both ≡ Ok both → symmetrical_in kind (Some (bool_word both)) ≡ Ok both
+symmetrical_in-again : (kind : KindWord) (both : Bool) → symmetrical_as kind both ≡ Ok both → symmetrical_in kind (Some (bool_text both)) ≡ Ok both
 unfolding symmetrical_in
 symmetrical_in-again kind true h = h
 symmetrical_in-again kind false h = h
@@ -272,10 +273,10 @@ order-made : (id : List ℕ) (kind : KindWord) (one two : OrderStep) (more : Lis
     → order_at (order_words id kind (one ∷ two ∷ more) both) ≡ Ok (record { id = id; kind = kind; steps = map done_step (one ∷ two ∷ more); symmetrical = both })
 unfolding order_at
 order-made id kind one two more both named first second others fits =
-    let end : Words = (codes "symmetrical=" ++ bool_word both) ∷ [] in
+    let end : Words = (codes "symmetrical=" ++ bool_text both) ∷ [] in
     let steps = map step_word (one ∷ two ∷ more) ++ end in
     rw (
-      name_at-again id ((kind_word kind ++ codes ":") ∷ steps) named,
+      name_at-again id ((kind_text kind ++ codes ":") ∷ steps) named,
       kind_at-again kind steps,
       steps_at-again one two more both first second others,
       symmetrical_in-again kind both fits,

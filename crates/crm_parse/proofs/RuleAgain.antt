@@ -14,19 +14,20 @@ use Rattle.crm_parse.specs.Location.{all_of, either_at, rule_at, rule_id_at, rul
 use Rattle.crm_parse.specs.Reading.{Words, prefixed_at, rule_role_of, score_of, some_name, word_at}
 use Rattle.crm_parse.specs.Rules.{expression_at, joiner_at}
 use Rattle.crm_parse.specs.Texts.{after}
+use Rattle.crm_parse.specs.WordTexts.{role_text}
 use Rattle.crm_parse.proofs.Affixes.{noted_words, prefixed_at-again}
 use Rattle.crm_parse.proofs.Binds.{some_name-ok, unless-ok, ok-same}
 use Rattle.faults.proofs.Steps.{bind-ok}
 use Rattle.crm_parse.proofs.ExpressionAgain.{ExpressionAgain, expression_at-again}
 use Rattle.crm_parse.proofs.ScoreAgain.{IsRead, score-no_label, score-none, score_of-again, score_of-ok}
-use Rattle.crm_parse.proofs.Written.{role_word, role_words, rule_words, ruled_words, score_word}
+use Rattle.crm_parse.proofs.Written.{role_words, rule_words, ruled_words, score_word}
 
 -- no label begins where a score stands
 pub score_label : (b : ℕ) (label : List ℕ) (points : ℤ) (words : Words) → after (b ∷ label) (score_word points) ≡ None
     → prefixed_at (b ∷ label) (score_word points ∷ words) ≡ (None, score_word points ∷ words)
 score_label b label points words h = rw (h, prefixed_at) refl
 
-pub rule_role_of-again : (r : RoleWord) → rule_role_of (role_word r) ≡ Ok r
+pub rule_role_of-again : (r : RoleWord) → rule_role_of (role_text r) ≡ Ok r
 unfolding rule_role_of
 rule_role_of-again role.Started = refl
 rule_role_of-again role.Promoted = refl

@@ -13,12 +13,13 @@ use Rattle.crm_parse.specs.Pairs.{kv_of, repeats}
 use Rattle.crm_parse.specs.Reading.{Words, given_at}
 use Rattle.faults.specs.Reading.{◌>>=◌}
 use Rattle.crm_parse.specs.Settings.{begins_pair, set_at, set_before, sets, settings_at, settings_pairs, settings_place, with_setting, with_settings}
+use Rattle.crm_parse.specs.WordTexts.{settings_text}
 use Rattle.crm_parse.proofs.Affixes.{colon_at-words, given_words}
 use Rattle.crm_parse.proofs.Binds.{given_at-ok, unless-ok}
 use Rattle.faults.proofs.Steps.{bind-ok}
 use Rattle.crm_parse.proofs.PairLists.{Adds, AddsAll, adds_more, adds_none, pair_words}
 use Rattle.crm_parse.proofs.PairWords.{kv_of-word}
-use Rattle.crm_parse.proofs.Written.{settings_word, written}
+use Rattle.crm_parse.proofs.Written.{written}
 
 with_setting-adds : (what : SettingsWord) (before : List DraftStatement) (pairs : List Kv) (word : List ℕ) (more : List Kv)
     → with_setting what before pairs word ≡ Ok more → Adds pairs word more
@@ -56,7 +57,7 @@ set-case words false read b e =
 
 -- the words that are written are those that were read
 pub settings-written : (what : SettingsWord) (before : List DraftStatement) (words : Words) (f : Form) → settings_at what before words ≡ Ok f
-    → written f ≡ settings_word what ∷ words
+    → written f ≡ settings_text what ∷ words
 unfolding settings_at
 settings-written what before words f e =
     let (set, is_set, e1) = bind-ok (set_at words) _ f e in
@@ -64,7 +65,7 @@ settings-written what before words f e =
     let whole : form.Settings what set.0 pairs ≡ f = cc in
     let same : given_words set.0 ++ pair_words pairs ≡ words =
     ap (λ ws. given_words set.0 ++ ws) (sym (settings_pairs-words what before set.1 pairs are_pairs)) ∙ sym (set-case words (begins_pair words) set refl is_set) in
-    subst (λ g. written g ≡ settings_word what ∷ words) whole (ap (λ ws. settings_word what ∷ ws) same)
+    subst (λ g. written g ≡ settings_text what ∷ words) whole (ap (λ ws. settings_text what ∷ ws) same)
 
 -- some statements give the same keys as others
 abbrev pub SameKeys : List DraftStatement → List DraftStatement → Type 0

@@ -20,6 +20,7 @@ use Rattle.crm_parse.specs.Primitive.{primitive_at}
 use Rattle.crm_parse.specs.Reading.{Words}
 use Rattle.crm_parse.specs.Settings.{settings_at}
 use Rattle.crm_parse.specs.Statements.{draft_after, draft_of, finished, keyword_of, order, whole}
+use Rattle.crm_parse.specs.WordTexts.{settings_text}
 use Rattle.faults.proofs.Steps.{bind-ok}
 use Rattle.crm_parse.proofs.CloneAgain.{clone_at-again}
 use Rattle.crm_parse.proofs.ColocationAgain.{colocation-again}
@@ -29,7 +30,7 @@ use Rattle.crm_parse.proofs.NodeAgain.{node_at-again}
 use Rattle.crm_parse.proofs.OrderAgain.{done_order, order-again, order_at-ok}
 use Rattle.crm_parse.proofs.PrimitiveAgain.{primitive_at-again}
 use Rattle.crm_parse.proofs.SettingsAgain.{SameKeys, settings-after, settings-written}
-use Rattle.crm_parse.proofs.Written.{Again, settings_word, written}
+use Rattle.crm_parse.proofs.Written.{Again, written}
 
 -- what the words of a statement are read as
 abbrev pub written_draft : Words → Draft → Draft
@@ -68,7 +69,7 @@ kept-case promotable after word words d k e =
     let same : draft.Whole (form.Kept (word ∷ words)) ≡ d = cc in
     subst (DraftAgain promotable after) same (rw k refl)
 
-settings_keyword : (what : SettingsWord) → keyword_of (settings_word what) ≡ Ok (keyword.Settings what)
+settings_keyword : (what : SettingsWord) → keyword_of (settings_text what) ≡ Ok (keyword.Settings what)
 unfolding keyword_of
 settings_keyword Property = refl
 settings_keyword RscDefaults = refl

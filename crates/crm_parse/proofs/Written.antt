@@ -10,41 +10,12 @@ use Rattle.crm_parse.specs.declared.form.Side.{Side}
 use Rattle.crm_parse.specs.declared.pair.Kv.{Kv}
 use Rattle.crm_parse.specs.declared.pair.Operation.{Operation}
 use Rattle.crm_parse.specs.declared.rule_form.RuleForm.{RuleForm}
-use Rattle.crm_parse.specs.declared.words.ActionWord.{ActionWord}
-use Rattle.crm_parse.specs.declared.words.ActionWord.TheVariants.{Start, Stop, Promote, Demote}
-use Rattle.crm_parse.specs.declared.words.KindWord.{KindWord}
-use Rattle.crm_parse.specs.declared.words.KindWord.TheVariants.{Mandatory, Optional, Serialize}
 use Rattle.crm_parse.specs.declared.words.RoleWord.{RoleWord}
 use Rattle.crm_parse.specs.declared.words.RoleWord.TheVariants as role
-use Rattle.crm_parse.specs.declared.words.SettingsWord.{SettingsWord}
-use Rattle.crm_parse.specs.declared.words.SettingsWord.TheVariants.{Property, RscDefaults, OpDefaults}
 use Rattle.crm_parse.specs.Reading.{Words}
+use Rattle.crm_parse.specs.WordTexts.{action_text, bool_text, clone_word, kind_text, role_text, settings_text}
 use Rattle.crm_parse.proofs.Affixes.{given_words, noted_words}
 use Rattle.crm_parse.proofs.PairLists.{pair_words}
-
-abbrev pub role_word : RoleWord → List ℕ
-role_word role.Started = codes "Started"
-role_word role.Promoted = codes "Promoted"
-
-abbrev pub kind_word : KindWord → List ℕ
-kind_word Mandatory = codes "Mandatory"
-kind_word Optional = codes "Optional"
-kind_word Serialize = codes "Serialize"
-
-abbrev pub action_word : ActionWord → List ℕ
-action_word Start = codes "start"
-action_word Stop = codes "stop"
-action_word Promote = codes "promote"
-action_word Demote = codes "demote"
-
-abbrev pub bool_word : Bool → List ℕ
-bool_word true = codes "true"
-bool_word false = codes "false"
-
-abbrev pub settings_word : SettingsWord → List ℕ
-settings_word Property = codes "property"
-settings_word RscDefaults = codes "rsc_defaults"
-settings_word OpDefaults = codes "op_defaults"
 
 -- a score with its colon
 abbrev pub score_word : ℤ → List ℕ
@@ -53,7 +24,7 @@ score_word points = score_text points ++ codes ":"
 -- a role behind its label, where there is one
 abbrev pub role_words : List ℕ → Option RoleWord → Words
 role_words label None = []
-role_words label (Some role) = (label ++ role_word role) ∷ []
+role_words label (Some role) = (label ++ role_text role) ∷ []
 
 -- a section, where it has pairs
 abbrev pub section_words : List ℕ → List Kv → Words
@@ -72,7 +43,7 @@ abbrev pub side_word : Side → List ℕ
 side_word s = elim s.role [ role.Started ↦ s.resource | role.Promoted ↦ s.resource ++ 58 ∷ codes "Promoted" ]
 
 abbrev pub step_word : OrderStep → List ℕ
-step_word s = s.resource ++ 58 ∷ action_word s.action
+step_word s = s.resource ++ 58 ∷ action_text s.action
 
 -- what stands behind the word `rule`
 abbrev pub rule_words : RuleForm → Words
@@ -88,10 +59,6 @@ discovery_words false = []
 -- a location up to its score or its rules
 abbrev pub located_words : List ℕ → List ℕ → Option RoleWord → Bool → Words → Words
 located_words id resource role everywhere rest = id ∷ resource ∷ (role_words (codes "role=") role ++ (discovery_words everywhere ++ rest))
-
-abbrev pub clone_word : Bool → List ℕ
-clone_word true = codes "ms"
-clone_word false = codes "clone"
 
 -- the words of a statement
 abbrev pub written : Form → Words
@@ -112,8 +79,8 @@ written (form.RuledLocation id resource role everywhere rules) =
 written (form.Colocation id score dependent primary) =
     codes "colocation" ∷ id ∷ score_word score ∷ side_word dependent ∷ side_word primary ∷ []
 written (form.Order id kind steps symmetrical) =
-    codes "order" ∷ id ∷ (kind_word kind ++ codes ":") ∷ (map step_word steps ++ (codes "symmetrical=" ++ bool_word symmetrical) ∷ [])
-written (form.Settings what set pairs) = settings_word what ∷ (given_words set ++ pair_words pairs)
+    codes "order" ∷ id ∷ (kind_text kind ++ codes ":") ∷ (map step_word steps ++ (codes "symmetrical=" ++ bool_text symmetrical) ∷ [])
+written (form.Settings what set pairs) = settings_text what ∷ (given_words set ++ pair_words pairs)
 written (form.Kept words) = words
 
 -- a reader of the words behind a first word gives the form again from its words

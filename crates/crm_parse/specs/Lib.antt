@@ -20,3 +20,4 @@ pub mod Statements
 pub mod Named
 pub mod Monitors
 pub mod ReadForms
+pub mod WordTexts

@@ -107,7 +107,7 @@ fn position(word: &[u8], lines: &[Line]) -> u32
 ///
 /// The configuration is all lines before the first whose first word begins with `%`. That line is `%status` or `%results`; `%results` may
 /// follow once after `%status`, and each stands alone on its line. The first line that begins with `%` and isn't so is refused as
-/// `UnknownStatement`, and no other answer than that and the sections comes. Rule of this project.
+/// `UnknownStatement`, and no other answer than that and the sections comes. It asks for fewer than 2^32 lines. Rule of this project.
 pub fn sections(lines: &[Line]) -> Result<SectionMarks, ParseFault>
     requires { length lines.now < 2 ^ 32 }
     ensures { result ≡ sections_of lines.now }
@@ -135,7 +135,7 @@ pub fn sections(lines: &[Line]) -> Result<SectionMarks, ParseFault>
     })
 }
 
-/// The sections of an input with a trace. They are those of `sections` with `%trace` in the place of `%results`.
+/// The sections of an input with a trace. They are those of `sections` with `%trace` in the place of `%results`, and it asks for the same.
 pub fn audit_sections(lines: &[Line]) -> Result<AuditMarks, ParseFault>
     requires { length lines.now < 2 ^ 32 }
     ensures { result ≡ audit_sections_of lines.now }

@@ -16,16 +16,16 @@ use Rattle.crm_parse.specs.declared.words.KindWord.{KindWord}
 use Rattle.crm_parse.specs.declared.words.KindWord.TheVariants.{Mandatory, Optional, Serialize}
 use Rattle.crm_parse.specs.declared.words.RoleWord.{RoleWord}
 use Rattle.crm_parse.specs.declared.words.RoleWord.TheVariants as role
-use Rattle.crm_parse.specs.declared.words.SettingsWord.{SettingsWord}
-use Rattle.crm_parse.specs.declared.words.SettingsWord.TheVariants.{Property, RscDefaults, OpDefaults}
 use Rattle.crm_parse.specs.Reading.{Words}
+use Rattle.crm_parse.specs.WordTexts.{action_text, bool_text, kind_text, role_text, settings_text}
 use Rattle.crm_parse.proofs.Affixes.{given_words, noted_words}
 use Rattle.crm_parse.proofs.Clean.{AllClean, Clean, EachClean, clean-after, clean-ascii, clean-before, clean-behind, is_clean_byte}
 use Rattle.crm_parse.proofs.CleanSections.{all-behind, all-front}
+use Rattle.crm_parse.proofs.CleanStatements.{settings-clean}
 use Rattle.crm_parse.proofs.PairLists.{pair_words}
 use Rattle.crm_parse.proofs.PairWords.{pair_word}
 use Rattle.crm_parse.proofs.Written.{discovery_words, located_words, meta_words, operation_words, role_words, ruled_words, score_word, section_words, side_word, step_word, written}
-use Rattle.crm_print.specs.Items.{action_text, bool_text, discovery, given, items_of, kind_text, labelled, located, noted, noted_role, operation, pair, role_text, rule, section, settings_text, side, step, with_colon, with_meta, word}
+use Rattle.crm_print.specs.Items.{discovery, given, items_of, labelled, located, noted, noted_role, operation, pair, rule, section, side, step, with_colon, with_meta, word}
 use Rattle.crm_print.specs.Quoting.{Item}
 
 pub each-append : (xs ys : List Item) → EachClean xs → EachClean ys → EachClean (xs ++ ys)
@@ -148,11 +148,6 @@ action-clean Demote = clean-ascii (codes "demote") refl
 bool-clean : (b : Bool) → Clean (bool_text b)
 bool-clean true = clean-ascii (codes "true") refl
 bool-clean false = clean-ascii (codes "false") refl
-
-settings-clean : (what : SettingsWord) → Clean (settings_text what)
-settings-clean Property = clean-ascii (codes "property") refl
-settings-clean RscDefaults = clean-ascii (codes "rsc_defaults") refl
-settings-clean OpDefaults = clean-ascii (codes "op_defaults") refl
 
 noted_role-clean : (label : List ℕ) (role : Option RoleWord) → list_all is_clean_byte label ≡ true → EachClean (noted_role label role)
 noted_role-clean label None l = tt

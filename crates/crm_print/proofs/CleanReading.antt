@@ -14,6 +14,7 @@ use Rattle.crm_lex.specs.declared.fault.LexCause.TheVariants.{LineTooLong, NotUt
 use Rattle.faults.specs.declared.fault.Fault.{Fault}
 use Rattle.crm_lex.specs.declared.line.Line.{Line}
 use Rattle.crm_parse.proofs.Clean.{AllClean, Clean, clean-append, clean-ascii, clean-before, clean-nil}
+use Rattle.crm_parse.proofs.CleanLines.{CleanLine}
 use Rattle.crm_print.proofs.CleanWords.{clean-words}
 
 nothing-front : (xs ys : List (Fault LexCause)) → xs ++ ys ≡ [] → xs ≡ []
@@ -98,10 +99,6 @@ clean_text (line ∷ lines) h = split (begins_comment (content line)) (clean_joi
     split : (t : Bool) → Clean (joined_text (line ∷ lines)) → Clean (if t then [] else joined_text (line ∷ lines))
     split true c = clean-nil
     split false c = c
-
--- the words of a line are clean
-abbrev pub CleanLine : Line → Type 0
-CleanLine line = AllClean line.words
 
 both_clean : (xs ys : List Line) → AllByRecursion CleanLine xs → AllByRecursion CleanLine ys → AllByRecursion CleanLine (xs ++ ys)
 both_clean [] ys h g = g

@@ -8,8 +8,9 @@ use Rattle.crm_parse.specs.declared.pair.Operation.{Operation}
 use Rattle.crm_parse.specs.declared.rule_form.RuleForm.{RuleForm}
 use Rattle.crm_parse.specs.declared.words.RoleWord.{RoleWord}
 use Rattle.crm_parse.specs.declared.words.RoleWord.TheVariants as role
+use Rattle.crm_parse.specs.WordTexts.{bool_text}
 use Rattle.score.specs.ScoreText.{score_text}
-use Rattle.crm_print.specs.Items.{bool_text, discovery, given, in_role, items_of, labelled, located, noted, noted_role, operation, pair, rule, section, side, step, with_colon, with_meta, word}
+use Rattle.crm_print.specs.Items.{discovery, given, in_role, items_of, labelled, located, noted, noted_role, operation, pair, rule, section, side, step, with_colon, with_meta, word}
 use Rattle.crm_print.specs.Quoting.{Item}
 use Rattle.crm_print.proofs.Lines.{is_filled}
 

@@ -20,12 +20,13 @@ use Rattle.crm_parse.specs.declared.words.RoleWord.TheVariants as role
 use Rattle.crm_parse.specs.declared.words.SettingsWord.{SettingsWord}
 use Rattle.crm_parse.specs.declared.words.SettingsWord.TheVariants.{Property, RscDefaults, OpDefaults}
 use Rattle.crm_parse.specs.Reading.{Words}
+use Rattle.crm_parse.specs.WordTexts.{action_text, bool_text, kind_text, settings_text}
 use Rattle.crm_parse.proofs.Affixes.{given_words, noted_words}
 use Rattle.crm_parse.proofs.OperationWords.{op_words}
 use Rattle.crm_parse.proofs.PairLists.{pair_words}
 use Rattle.crm_parse.proofs.PairWords.{pair_word}
-use Rattle.crm_parse.proofs.Written.{bool_word, discovery_words, kind_word, settings_word, located_words, meta_words, operation_words, role_words, ruled_words, score_word, section_words, side_word, step_word, written}
-use Rattle.crm_print.specs.Items.{action_text, bool_text, discovery, given, in_role, items_of, kind_text, labelled, located, noted, noted_role, operation, pair, parted, rule, section, settings_text, side, step, with_colon, with_meta, word}
+use Rattle.crm_parse.proofs.Written.{discovery_words, located_words, meta_words, operation_words, role_words, ruled_words, score_word, section_words, side_word, step_word, written}
+use Rattle.crm_print.specs.Items.{discovery, given, in_role, items_of, labelled, located, noted, noted_role, operation, pair, parted, rule, section, side, step, with_colon, with_meta, word}
 use Rattle.crm_print.specs.Quoting.{Item, item_word}
 use Rattle.crm_print.specs.Text.{canonical_words}
 
@@ -150,16 +151,16 @@ steps-spell : (steps : List OrderStep) → Spells (map step steps) (map step_wor
 steps-spell [] = nothing
 steps-spell (s ∷ steps) = cons (step s) (map step steps) (step_word s) (map step_word steps) (step-is s) (steps-spell steps)
 
-kind-is : (kind : KindWord) → item_word (with_colon (kind_text kind)) ≡ kind_word kind ++ codes ":"
+kind-is : (kind : KindWord) → item_word (with_colon (kind_text kind)) ≡ kind_text kind ++ codes ":"
 kind-is Mandatory = refl
 kind-is Optional = refl
 kind-is Serialize = refl
 
-symmetrical-is : (b : Bool) → item_word (labelled (codes "symmetrical=") (bool_text b)) ≡ codes "symmetrical=" ++ bool_word b
+symmetrical-is : (b : Bool) → item_word (labelled (codes "symmetrical=") (bool_text b)) ≡ codes "symmetrical=" ++ bool_text b
 symmetrical-is true = refl
 symmetrical-is false = refl
 
-settings-is : (what : SettingsWord) → item_word (word (settings_text what)) ≡ settings_word what
+settings-is : (what : SettingsWord) → item_word (word (settings_text what)) ≡ settings_text what
 settings-is Property = refl
 settings-is RscDefaults = refl
 settings-is OpDefaults = refl
@@ -195,11 +196,11 @@ form-spells (form.Colocation id score dependent primary) =
     (cons (with_colon (score_text score)) (side dependent ∷ side primary ∷ []) (score_word score) (side_word dependent ∷ side_word primary ∷ []) refl
     (cons (side dependent) (side primary ∷ []) (side_word dependent) (side_word primary ∷ []) (side-is dependent) (cons (side primary) [] (side_word primary) [] (side-is primary) nothing))))
 form-spells (form.Order id kind steps symmetrical) =
-    let last = cons (labelled (codes "symmetrical=") (bool_text symmetrical)) [] (codes "symmetrical=" ++ bool_word symmetrical) [] (symmetrical-is symmetrical) nothing in
-    cons (word (codes "order")) _ (codes "order") _ refl (cons (word id) _ id _ (word-is id) (cons (with_colon (kind_text kind)) _ (kind_word kind ++ codes ":") _ (kind-is kind)
-    (join (map step steps) (labelled (codes "symmetrical=") (bool_text symmetrical) ∷ []) (map step_word steps) ((codes "symmetrical=" ++ bool_word symmetrical) ∷ []) (steps-spell steps) last)))
+    let last = cons (labelled (codes "symmetrical=") (bool_text symmetrical)) [] (codes "symmetrical=" ++ bool_text symmetrical) [] (symmetrical-is symmetrical) nothing in
+    cons (word (codes "order")) _ (codes "order") _ refl (cons (word id) _ id _ (word-is id) (cons (with_colon (kind_text kind)) _ (kind_text kind ++ codes ":") _ (kind-is kind)
+    (join (map step steps) (labelled (codes "symmetrical=") (bool_text symmetrical) ∷ []) (map step_word steps) ((codes "symmetrical=" ++ bool_text symmetrical) ∷ []) (steps-spell steps) last)))
 form-spells (form.Settings what set pairs) =
-    cons (word (settings_text what)) _ (settings_word what) _ (settings-is what) (join (given set) (map pair pairs) _ _ (given-spells set) (pairs-spell pairs))
+    cons (word (settings_text what)) _ (settings_text what) _ (settings-is what) (join (given set) (map pair pairs) _ _ (given-spells set) (pairs-spell pairs))
 form-spells (form.Kept words) = words-spell words
 
 -- the canonical line of a statement is read as the words that it is written with

@@ -9,14 +9,9 @@ use Rattle.crm_parse.specs.declared.form.Side.{Side}
 use Rattle.crm_parse.specs.declared.pair.Kv.{Kv}
 use Rattle.crm_parse.specs.declared.pair.Operation.{Operation}
 use Rattle.crm_parse.specs.declared.rule_form.RuleForm.{RuleForm}
-use Rattle.crm_parse.specs.declared.words.ActionWord.{ActionWord}
-use Rattle.crm_parse.specs.declared.words.ActionWord.TheVariants.{Start, Stop, Promote, Demote}
-use Rattle.crm_parse.specs.declared.words.KindWord.{KindWord}
-use Rattle.crm_parse.specs.declared.words.KindWord.TheVariants.{Mandatory, Optional, Serialize}
 use Rattle.crm_parse.specs.declared.words.RoleWord.{RoleWord}
 use Rattle.crm_parse.specs.declared.words.RoleWord.TheVariants as role
-use Rattle.crm_parse.specs.declared.words.SettingsWord.{SettingsWord}
-use Rattle.crm_parse.specs.declared.words.SettingsWord.TheVariants.{Property, RscDefaults, OpDefaults}
+use Rattle.crm_parse.specs.WordTexts.{action_text, bool_text, clone_word, kind_text, role_text, settings_text}
 use Rattle.crm_print.specs.Quoting.{Item}
 
 -- a word alone
@@ -38,30 +33,6 @@ parted first second = first ∷ codes ":" ∷ second ∷ []
 -- a key, `=` and a value
 abbrev pub pair : Kv → Item
 pair kv = kv.key ∷ codes "=" ∷ kv.value ∷ []
-
-abbrev pub role_text : RoleWord → List ℕ
-role_text role.Started = codes "Started"
-role_text role.Promoted = codes "Promoted"
-
-abbrev pub kind_text : KindWord → List ℕ
-kind_text Mandatory = codes "Mandatory"
-kind_text Optional = codes "Optional"
-kind_text Serialize = codes "Serialize"
-
-abbrev pub action_text : ActionWord → List ℕ
-action_text Start = codes "start"
-action_text Stop = codes "stop"
-action_text Promote = codes "promote"
-action_text Demote = codes "demote"
-
-abbrev pub bool_text : Bool → List ℕ
-bool_text true = codes "true"
-bool_text false = codes "false"
-
-abbrev pub settings_text : SettingsWord → List ℕ
-settings_text Property = codes "property"
-settings_text RscDefaults = codes "rsc_defaults"
-settings_text OpDefaults = codes "op_defaults"
 
 -- an id before its colon, where there is one
 abbrev pub given : Option (List ℕ) → List Item
@@ -117,10 +88,6 @@ discovery false = []
 abbrev pub located : List ℕ → List ℕ → Option RoleWord → Bool → List Item
 located id resource role everywhere =
     word (codes "location") ∷ word id ∷ word resource ∷ (noted_role (codes "role=") role ++ discovery everywhere)
-
-abbrev pub clone_word : Bool → List ℕ
-clone_word true = codes "ms"
-clone_word false = codes "clone"
 
 -- the items of a statement
 abbrev pub items_of : Form → List Item

@@ -3,8 +3,9 @@
 ghost use Rattle.std.specs.Prelude.{◌≡◌, ◌++◌, ◌∷◌, [], OnOk, codes, map};
 ghost use Rattle.std.specs.List.{flat_map};
 ghost use Rattle.crm_parse.specs.declared.form.Form.TheVariants as form;
+ghost use Rattle.crm_parse.specs.WordTexts.{bool_text};
 ghost use Rattle.crm_print.specs.Quoting.{line_of, spaced};
-ghost use Rattle.crm_print.specs.Items.{bool_text, labelled, operation, section, step, with_meta, word};
+ghost use Rattle.crm_print.specs.Items.{labelled, operation, section, step, with_meta, word};
 ghost use Rattle.crm_print.specs.Text.{canonical_line};
 
 use crate::item::{

@@ -29,7 +29,7 @@ impl Draws {
         }
     }
 
-    /// The next draw: a number below the bound.
+    /// The next draw: a number below the bound. It asks for a bound above 0, and for fewer than 2^32 - 1 draws so far.
     #[tactic(auto, using(crate::proofs::DrawLaws::state_more))]
     pub fn below(&mut self, bound: u32) -> u32
         requires some { 0 < bound }

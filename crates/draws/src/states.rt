@@ -19,7 +19,7 @@ pub fn next_state(state: u32) -> u32
     next as u32
 }
 
-/// What is taken of a state: a number below the bound.
+/// What is taken of a state: a number below the bound. It asks for a bound above 0.
 pub fn taken_of(state: u32, bound: u32) -> u32
     requires { 0 < bound }
     ensures value { result ≡ taken_of state bound }

@@ -1,2 +1,1 @@
-pub mod LeafFails
 pub mod MoreFailures

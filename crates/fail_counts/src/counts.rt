@@ -48,7 +48,8 @@ fn is_fatal_somewhere(cluster: &Cluster, events: &[Event], leaf: LeafId) -> bool
 
 /// Whether the leaf is banned from the node: its fail count there reaches `migration-threshold`, if that is above 0, a failure that counts there has
 /// an exit code from 2 to 5, or one that counts on any node has the exit code 6 (Pacemaker Explained, "migration-threshold"; Pacemaker
-/// Administration, "How are OCF Return Codes Interpreted?"). A timeout does neither of the last two.
+/// Administration, "How are OCF Return Codes Interpreted?"). A timeout does neither of the last two. It asks for a cluster within the
+/// limits.
 pub fn banned(cluster: &Cluster, journal: &Journal, leaf: LeafId, node: NodeId) -> bool
     requires { KeepsLimits cluster.now }
     ensures { result ≡ spec.is_banned cluster.now leaf node journal.now.events }

@@ -21,6 +21,11 @@ abbrev pub on_line : {A C : Type 0} → ℕ → Result A C → Result A (Fault C
 on_line line (Ok x) = Ok x
 on_line line (Err cause) = Err (At line cause)
 
+-- the fault of a line, if it has a cause, and else a later one
+abbrev pub fault_at : {C : Type 0} → ℕ → Option C → Option (Fault C) → Option (Fault C)
+fault_at line (Some cause) later = Some (At line cause)
+fault_at line None later = later
+
 -- the fault of a line whose words aren't read
 abbrev pub as_fault : {C : Type 0} → ℕ → Stop C → Fault C
 as_fault line (stop.Cause cause) = At line cause

@@ -4,7 +4,7 @@ use Rattle.std.specs.List.{list_any, list_all, flat_map, range_with_len}
 use Rattle.std.proofs.lemmas.Bool.{not-true}
 use Rattle.std.proofs.lemmas.Option.{get_or_from_slice_get}
 use Rattle.lemmas.proofs.Booleans.{later}
-use Rattle.lemmas.proofs.Ranges.{all-alike, any-alike, filter-alike}
+use Rattle.lemmas.proofs.Ranges.{any-alike, filter-alike}
 use Rattle.cluster_types.specs.declared.journal.Action.{Action}
 use Rattle.cluster_types.specs.declared.journal.Action.TheVariants.{Fence}
 use Rattle.cluster_types.specs.declared.journal.Event.{Event}
@@ -12,7 +12,7 @@ use Rattle.cluster_types.specs.Graphs.{is_before}
 use Rattle.cluster_types.specs.Steps as steps
 use Rattle.cluster_types.specs.Steps.{Begins, numbers, may_begin, is_settled, has_begun, has_succeeded, has_aborted, has_room, flight, flying, is_in_flight_number, aborts}
 use Rattle.number_set.specs.Sets.{is_member, members}
-use Rattle.waiting.specs.Ready.{is_set, is_free, startable}
+use Rattle.waiting.specs.Ready.{is_free, startable}
 use Rattle.graph_exec.specs.Flights.{FlightOf, pairs, paired}
 use Rattle.graph_exec.specs.Logs.{LogOf}
 use Rattle.graph_exec.specs.Running.{Running, Follows, going, running}
@@ -44,6 +44,13 @@ all_numbers n k low high =
       every a zero = refl
       every a (suc n) = ap (◌∷◌ a) (every (a + 1) n)
 
+-- where two tests agree on the numbers from one on, both pass for all of these numbers, or neither does
+module _ (p q : ℕ → Bool) where
+  all-alike : (from n : ℕ) → ((k : ℕ) → from ≤ k → k < from + n → p k ≡ q k) → list_all p (range_with_len from n) ≡ list_all q (range_with_len from n)
+  all-alike from zero same = refl
+  all-alike from (suc n) same =
+      rw (same from (omega arith) (omega arith), all-alike (from + 1) n (λ k ge lt. same k (omega arith) (omega arith))) refl
+
 -- an event aborts where there is a first that does
 pub found_so : (p : Event → Bool) (es : List Event) (o : Option Event) → find p es ≡ o → list_any p es ≡ is_some o
 found_so p [] None e = refl
@@ -72,12 +79,12 @@ module _ (log : LogOf) (f : FlightOf) (h : Follows log f) where
   free : (k : ℕ) → is_free f.progress.graph f.progress.succeeded k
       ≡ list_all (λ j. not (is_before r.graph j k) || has_succeeded (going r) r.since j) (range_with_len 1 count)
   free k =
-      all-alike (λ j. not (is_before r.graph j k) || is_set f.progress.succeeded j)
+      all-alike (λ j. not (is_before r.graph j k) || is_member f.progress.succeeded j)
       (λ j. not (is_before r.graph j k) || has_succeeded (going r) r.since j) 1 count
       (λ j low high. ap (λ b. not (is_before r.graph j k) || b) (h.each j low (omega arith)).succeeded)
 
   abbrev test : ℕ → Bool
-  test k = is_free f.progress.graph f.progress.succeeded k && not (is_set f.progress.begun k)
+  test k = is_free f.progress.graph f.progress.succeeded k && not (is_member f.progress.begun k)
 
   abbrev is_open : Bool
   is_open = not (has_aborted (going r) r.since) && has_room (going r) r.since
@@ -115,8 +122,8 @@ module _ (log : LogOf) (f : FlightOf) (h : Follows log f) where
     pub high : k ≤ count
     high = omega (arith, first.high)
 
-    pub not_begun : is_set f.progress.begun k ≡ false
-    not_begun = not-true (is_set f.progress.begun k) (later (is_free f.progress.graph f.progress.succeeded k) (not (is_set f.progress.begun k)) first.passes)
+    pub not_begun : is_member f.progress.begun k ≡ false
+    not_begun = not-true (is_member f.progress.begun k) (later (is_free f.progress.graph f.progress.succeeded k) (not (is_member f.progress.begun k)) first.passes)
 
     within : (j : ℕ) → may_begin (going r) r.since j ≡ true → list_any (λ i. i == j) (numbers (going r)) ≡ true
     within j may =

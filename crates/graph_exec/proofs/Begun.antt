@@ -8,7 +8,8 @@ use Rattle.lemmas.proofs.Counts.{count-append}
 use Rattle.cluster_types.specs.declared.journal.Action.{Action}
 use Rattle.cluster_types.specs.declared.journal.Event.TheVariants.{Begin}
 use Rattle.cluster_types.specs.Steps as steps
-use Rattle.waiting.specs.Ready.{is_set, startable}
+use Rattle.number_set.specs.Sets.{is_member}
+use Rattle.waiting.specs.Ready.{startable}
 use Rattle.graph_exec.specs.Flights.{FlightOf, with_begun}
 use Rattle.graph_exec.specs.Logs.{LogOf}
 use Rattle.graph_exec.specs.Running.{Running, Follows, going, running}
@@ -26,7 +27,7 @@ module _ (log : LogOf) (f : FlightOf) (h : Follows log f) (k : ℕ) (at : slice_
   high : k ≤ length f.progress.graph.actions
   high = beginning.high log f h k at
 
-  not_begun : is_set f.progress.begun k ≡ false
+  not_begun : is_member f.progress.begun k ≡ false
   not_begun = beginning.not_begun log f h k at
 
   counted_begun : count_by not (slice_set f.progress.begun (k - 1) true) + 1 ≡ count_by not f.progress.begun
@@ -39,7 +40,7 @@ module _ (log : LogOf) (f : FlightOf) (h : Follows log f) (k : ℕ) (at : slice_
       let v : one (not (slice_index_or f.progress.begun (k - 1) false)) ≡ 1 = ap (λ (b : Bool). one (not b)) not_begun in
       omega arith
 
-  not_flying : is_set f.flying k ≡ false
+  not_flying : is_member f.flying k ≡ false
   not_flying =
       (h.each k low high).flying
       ∙ ap (λ b. b && not (steps.has_ended (going r) r.since k)) (sym (h.each k low high).begun ∙ not_begun)
@@ -64,8 +65,8 @@ module _ (log : LogOf) (f : FlightOf) (h : Follows log f) (k : ℕ) (at : slice_
     succeeded_size = refl;
     flight_size = length-set f.flying (k - 1) true;
     begun = λ j some within. set_one f.progress.begun k j low (rw h.begun_size high) some;
-    succeeded = λ j some within. sym (or-false (is_set f.progress.succeeded j));
-    flying = λ j some within. set_one f.flying k j low (rw h.flight_size high) some ∙ sym (and-true (is_set f.flying j || (k == j)));
+    succeeded = λ j some within. sym (or-false (is_member f.progress.succeeded j));
+    flying = λ j some within. set_one f.flying k j low (rw h.flight_size high) some ∙ sym (and-true (is_member f.flying j || (k == j)));
     fresh = λ j some within is. let e : k ≡ j = eqb-true k j is in rw (← e) not_begun;
     known = λ j some within is. cc;
     from_one = let l = low in ne_eqb k 0 (λ e. let g : ⊥ = omega arith in g);

@@ -1,5 +1,6 @@
 -- How steps are put together.
 use Rattle.std.proofs.Common.{arith, ◌≡◌, ◌<◌, ◌≤◌, ℕ, Bool, true, Option, Some, None, List, [], ◌∷◌, ◌++◌, length, refl, sym, ap, ◌∙◌, subst}
+use Rattle.std.proofs.lemmas.Bool.{eq-eqb}
 use Rattle.std.proofs.lemmas.List.{nil_from_length}
 use Rattle.cluster_io.specs.Streams.{Rose}
 use Rattle.cluster_types.specs.declared.journal.Action.{Action}
@@ -8,14 +9,16 @@ use Rattle.cluster_types.specs.declared.journal.Event.{Event}
 use Rattle.cluster_types.specs.declared.journal.Event.TheVariants.{Begin}
 use Rattle.cluster_types.specs.Sources.{Says, untold}
 use Rattle.cluster_types.specs.declared.journal.Outcome.TheVariants.{Code}
+use Rattle.cluster_types.specs.Answering.{is_number_of}
 use Rattle.cluster_types.specs.Steps.{Transition, StepsOn, begins, takes, is_silent, Goes, here, one_more, HasEnded, IsWaiting, ended, events_of, flight, flying, is_settled, silent_code}
+use Rattle.run_safety.proofs.InFlight.{among_flying}
+use Rattle.run_safety.proofs.Printed.{answer_line, end_line}
 use Rattle.graph_exec.specs.declared.ends.WatchedEnd.{WatchedEnd}
 use Rattle.graph_exec.specs.declared.ends.WatchedEnd.TheVariants as how
 use Rattle.graph_exec.specs.Rounds.{Advanced, Answered, Began, StopsAs, asks_left, begins_left}
 use Rattle.graph_exec.specs.Running.{Running, EndedSilently, Took, Went, going, later}
 use Rattle.graph_exec.specs.Transitions.{EndsAs, GoneTo, HasGoneToEnd, IsExpected}
 use Rattle.graph_exec.proofs.Fewer.{asks_fewer, begin_leaves, silent_leaves, take_leaves}
-use Rattle.graph_exec.proofs.Lines.{silent_line, taken_line}
 use Rattle.graph_exec.proofs.Flying.{many_flying}
 
 -- a count that rose later rose since
@@ -82,7 +85,7 @@ module _ (whole : Bool) (old new : Running) (rest left : Option (List Answer)) w
     events = events_of (going old) old.since given;
     step = takes rest left given said t.takes;
     goes_on = t.goes_on;
-    lines = taken_line old given t.takes.applies;
+    lines = answer_line (going old) old.since given t.takes.applies;
     fewer = rw t.goes_on (take_leaves old given t.takes.applies);
   }
 
@@ -91,7 +94,8 @@ module _ (whole : Bool) (old new : Running) (rest left : Option (List Answer)) w
     events = ended (going old) old.since s.number (Code (silent_code s.action));
     step = is_silent rest left s.number s.action said s.ends;
     goes_on = s.goes_on;
-    lines = silent_line old s.number s.action s.ends;
+    lines = end_line (going old) old.since s.number (silent_code s.action)
+        (among_flying (going old) old.since s.number s.action (is_number_of s.number) (eq-eqb s.number s.number refl) s.ends.action s.ends.in_flight);
     fewer = rw s.goes_on (silent_leaves old s.number s.action s.ends);
   })
 

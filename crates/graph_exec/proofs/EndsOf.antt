@@ -4,7 +4,7 @@ use Rattle.std.specs.List.{list_any}
 use Rattle.std.proofs.lemmas.Bool.{cases_lt, eqb-true, ne_eqb, not-true}
 use Rattle.std.proofs.lemmas.List.{length-set}
 use Rattle.std.proofs.lemmas.List.Sums.{sum_by-set}
-use Rattle.std.proofs.Math.Bool.{or-false, and-true}
+use Rattle.std.proofs.Math.Bool.{or-false, and-true, and-false}
 use Rattle.lemmas.proofs.Booleans.{sooner, later}
 use Rattle.lemmas.proofs.Counts.{count-append}
 use Rattle.cluster_types.specs.declared.journal.Action.{Action}
@@ -14,7 +14,7 @@ use Rattle.cluster_types.specs.declared.journal.Outcome.{Outcome}
 use Rattle.cluster_types.specs.Answering.{is_number_of}
 use Rattle.cluster_types.specs.Journals.{moment_of}
 use Rattle.cluster_types.specs.Steps.{is_success, is_from_outside, ended, flying, has_begun, has_ended, has_succeeded}
-use Rattle.waiting.specs.Ready.{is_set}
+use Rattle.number_set.specs.Sets.{is_member}
 use Rattle.graph_exec.specs.Flights.{FlightOf, pairs, with_ended}
 use Rattle.graph_exec.specs.Logs.{LogOf}
 use Rattle.graph_exec.specs.Running.{Running, Follows, going, running}
@@ -46,17 +46,17 @@ module _ (log : LogOf) (f : FlightOf) (h : Follows log f) where
     pub high : k ≤ length f.progress.graph.actions
     high = rw h.flight_size at within
 
-    is_up : is_set f.flying k ≡ true
+    is_up : is_member f.flying k ≡ true
     is_up = sym (is_flying f (record { flags = h.flight_size }) k low within) ∙ flies_here
 
     up : (has_begun (going r) r.since k && not (has_ended (going r) r.since k)) ≡ true
     up = sym (h.each k low high).flying ∙ is_up
 
     -- it has begun, and hasn't succeeded
-    pub has_run : is_set f.progress.begun k ≡ true
+    pub has_run : is_member f.progress.begun k ≡ true
     has_run = (h.each k low high).begun ∙ sooner (has_begun (going r) r.since k) (not (has_ended (going r) r.since k)) up
 
-    pub not_yet : is_set f.progress.succeeded k ≡ false
+    pub not_yet : is_member f.progress.succeeded k ≡ false
     not_yet = (h.each k low high).succeeded ∙ on (has_succeeded (going r) r.since k) refl where
       on : (b : Bool) → has_succeeded (going r) r.since k ≡ b → b ≡ false
       on true e =
@@ -98,17 +98,14 @@ module _ (log : LogOf) (f : FlightOf) (h : Follows log f) where
           omega arith
 
       succeeded_so : (j : ℕ) → 0 < j → (b : Bool) → b ≡ is_success log.cluster action outcome
-          → is_set (if b then slice_set f.progress.succeeded (k - 1) true else f.progress.succeeded) j
-          ≡ (is_set f.progress.succeeded j || (k == j && is_success log.cluster action outcome))
+          → is_member (if b then slice_set f.progress.succeeded (k - 1) true else f.progress.succeeded) j
+          ≡ (is_member f.progress.succeeded j || (k == j && is_success log.cluster action outcome))
       succeeded_so j some true e =
           set_one f.progress.succeeded k j low (rw h.succeeded_size high) some
-          ∙ ap (λ (b : Bool). is_set f.progress.succeeded j || b) (sym (and-true (k == j)) ∙ ap (λ (b : Bool). k == j && b) e)
+          ∙ ap (λ (b : Bool). is_member f.progress.succeeded j || b) (sym (and-true (k == j)) ∙ ap (λ (b : Bool). k == j && b) e)
       succeeded_so j some false e =
-          sym (or-false (is_set f.progress.succeeded j))
-          ∙ ap (λ (b : Bool). is_set f.progress.succeeded j || b) (sym (no_more (k == j)) ∙ ap (λ (b : Bool). k == j && b) e) where
-            no_more : (b : Bool) → (b && false) ≡ false
-            no_more true = refl
-            no_more false = refl
+          sym (or-false (is_member f.progress.succeeded j))
+          ∙ ap (λ (b : Bool). is_member f.progress.succeeded j || b) (sym (and-false (k == j)) ∙ ap (λ (b : Bool). k == j && b) e)
 
       succeeded_long : (b : Bool) → length (if b then slice_set f.progress.succeeded (k - 1) true else f.progress.succeeded) ≡ length f.progress.succeeded
       succeeded_long true = length-set f.progress.succeeded (k - 1) true
@@ -120,9 +117,9 @@ module _ (log : LogOf) (f : FlightOf) (h : Follows log f) where
         begun_size = refl;
         succeeded_size = succeeded_long success;
         flight_size = length-set f.flying (k - 1) false;
-        begun = λ j some most. sym (or-false (is_set f.progress.begun j));
+        begun = λ j some most. sym (or-false (is_member f.progress.begun j));
         succeeded = λ j some most. succeeded_so j some success is;
-        flying = λ j some most. unset_one f.flying k j low within some ∙ ap (λ (b : Bool). b && not (k == j)) (sym (or-false (is_set f.flying j)));
+        flying = λ j some most. unset_one f.flying k j low within some ∙ ap (λ (b : Bool). b && not (k == j)) (sym (or-false (is_member f.flying j)));
         fresh = λ j some most b. cc;
         known = λ j some most b. let e : k ≡ j = eqb-true k j b in rw (← e) has_run;
         from_one = refl;

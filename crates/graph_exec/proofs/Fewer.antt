@@ -1,12 +1,13 @@
 -- How many begins and answers may come yet: each step leaves fewer.
 use Rattle.std.proofs.Common.{arith, ◌≡◌, ◌<◌, ◌≤◌, ◌+◌, ◌-◌, ◌==◌, ◌&&◌, ◌||◌, not, nat_lt, ℕ, Bool, true, false, List, [], ◌∷◌, ◌++◌, length, count_by, slice_index_or, refl, sym, ap, ◌∙◌, ◌⊎◌, inl, inr}
 use Rattle.std.specs.List.{list_any}
-use Rattle.std.proofs.lemmas.Bool.{cases_lt, eq-eqb, ltb-true, not-true}
+use Rattle.std.proofs.lemmas.Bool.{cases_lt, eq-eqb, ltb-true, not-true, or_left}
 use Rattle.std.proofs.lemmas.List.Folds.{list_any-append}
 use Rattle.std.proofs.lemmas.List.FromFn.{get_or-range_with_len, length-range_with_len}
 use Rattle.std.proofs.lemmas.List.Sums.{count_by-le-length}
-use Rattle.lemmas.proofs.Booleans.{sooner, later}
+use Rattle.lemmas.proofs.Booleans.{sooner, later, contrary}
 use Rattle.lemmas.proofs.Counts.{count-append, count-is, count_more, count_one_more}
+use Rattle.lemmas.proofs.Searches.{any_last}
 use Rattle.cluster_types.specs.declared.journal.Action.{Action}
 use Rattle.cluster_types.specs.declared.journal.Answer.{Answer}
 use Rattle.cluster_types.specs.declared.journal.Answer.TheVariants as answer
@@ -26,10 +27,8 @@ use Rattle.graph_exec.proofs.Flying.{ended_of, flying_is}
 use Rattle.graph_exec.proofs.Pairs.{action_of, any_number, among, none_above, number_none}
 
 not_before : (p : Event → Bool) (xs ys : List Event) → not (list_any p (xs ++ ys)) ≡ true → not (list_any p xs) ≡ true
-not_before p xs ys h = on (list_any p xs) (list_any p ys) (ap not (sym (list_any-append p xs ys)) ∙ h) where
-  on : (a b : Bool) → not (a || b) ≡ true → not a ≡ true
-  on true b h = h
-  on false b h = refl
+not_before p xs ys h =
+    contrary (list_any p xs) (list_any p xs || list_any p ys) (or_left (list_any p xs) (list_any p ys)) (ap not (sym (list_any-append p xs ys)) ∙ h)
 
 module _ (r : Running) (es : List Event) where
   pub begins_fewer : begins_left (running.later r es) ≤ begins_left r
@@ -71,13 +70,6 @@ module _ (r : Running) (es : List Event) where
   pub one_told : outside (going r) r.since < most_from_outside → 0 < count_by is_from_outside es → asks_left (running.later r es) < asks_left r
   one_told few some = let e = ends_fewer in let o = outside_more in omega arith
 
-any_last : (p : Event → Bool) (xs : List Event) (e : Event) → p e ≡ true → list_any p (xs ++ e ∷ []) ≡ true
-any_last p xs e h = list_any-append p xs (e ∷ []) ∙ on (list_any p xs) (p e) h where
-  on : (a b : Bool) → b ≡ true → (a || (b || false)) ≡ true
-  on true b h = refl
-  on false true h = refl
-  on false false h = h
-
 module _ (r : Running) where
   module _ (k : ℕ) (low : 0 < k) (high : k ≤ length r.graph.actions) (up : is_in_flight_number (going r) r.since k ≡ true) (outcome : Outcome) where
     pub ended_is : ended (going r) r.since k outcome ≡ Ended k (action_of r.graph.actions k) outcome (moment_of (r.planned_at ++ r.since)) ∷ []
@@ -94,12 +86,12 @@ module _ (r : Running) where
         (any_last (ends_number k) r.since (Ended k (action_of r.graph.actions k) outcome (moment_of (r.planned_at ++ r.since))) (eq-eqb k k refl)))
 
   -- an action in flight is one of the transition
-  pub record IsUp (k : ℕ) : Type 0 where
+  record IsUp (k : ℕ) : Type 0 where
     pub low : 0 < k
     pub high : k ≤ length r.graph.actions
     pub up : is_in_flight_number (going r) r.since k ≡ true
 
-  pub up_of : (k : ℕ) → list_any (is_number_of k) (flying (going r) r.since) ≡ true → IsUp k
+  up_of : (k : ℕ) → list_any (is_number_of k) (flying (going r) r.since) ≡ true → IsUp k
   up_of k flies = on (cases_lt 0 k) (cases_lt (length r.graph.actions) k) where
     there : list_any (λ j. j == k) (flight (going r) r.since) ≡ true
     there = sym (ap (list_any (is_number_of k)) (flying_is r) ∙ any_number r.graph.actions k (flight (going r) r.since)) ∙ flies

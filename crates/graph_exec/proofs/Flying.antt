@@ -6,6 +6,7 @@ use Rattle.std.proofs.lemmas.Bool.{cases_eq, eq-eqb, ne_eqb}
 use Rattle.std.proofs.lemmas.List.{drop_at, length-map, length-take, length-drop, length-append}
 use Rattle.std.proofs.lemmas.Option.{slice_get_within}
 use Rattle.std.proofs.Math.Bool.{or-false}
+use Rattle.std.proofs.lemmas.Map.Keys.{any_passes_from_place}
 use Rattle.lemmas.proofs.Ranges.{filter-alike}
 use Rattle.lemmas.proofs.Searches.{any-more}
 use Rattle.cluster_types.specs.declared.journal.Action.{Action}
@@ -17,7 +18,7 @@ use Rattle.cluster_types.specs.Answering.{is_number_of, end_of}
 use Rattle.cluster_types.specs.Journals.{ends_number, moment_of}
 use Rattle.cluster_types.specs.Steps.{begins_number, ended, flight, flying, has_begun, has_ended, is_in_flight_number}
 use Rattle.graph_exec.specs.Running.{Running, going}
-use Rattle.graph_exec.proofs.Pairs.{action_of, with_action, flat_is, found_of, of_members, passes_here}
+use Rattle.graph_exec.proofs.Pairs.{action_of, with_action, flat_is, found_of, of_members}
 
 -- a list of numbers without the one at a place
 module _ (p q : ℕ → Bool) (k : ℕ) (gone : q k ≡ false) (others : (j : ℕ) → j ≢ k → q j ≡ p j) where
@@ -77,7 +78,7 @@ module _ (r : Running) where
   pub stands_at : (place k : ℕ) (a : Action) → slice_get (flying (going r) r.since) place ≡ Some (k, a) → StandsAt place k a
   stands_at place k a at =
       let u = unmapped r.graph.actions ks place k a (ap (λ (ps : List (ℕ × Action)). slice_get ps place) (sym flying_is) ∙ at) in
-      record { number = u.0; action = u.1; flies = passes_here (is_number_of k) (flying (going r) r.since) place (k, a) at (eq-eqb k k refl) }
+      record { number = u.0; action = u.1; flies = any_passes_from_place (is_number_of k) (flying (going r) r.since) place (k, a) at (eq-eqb k k refl) }
 
   module _ (place k : ℕ) (a : Action) (s : StandsAt place k a) where
     abbrev pub event : Event

@@ -9,15 +9,12 @@ use Rattle.cluster_types.specs.Answering.{added_by, applies_after}
 use Rattle.cluster_types.specs.Steps.{Transition, action_at, events_of, flying, is_from_outside, is_in_flight_number, journal, numbers, outside, resting}
 use Rattle.graph_exec.specs.Logs.{JournalOf}
 use Rattle.graph_exec.specs.Resting.{IsRefusedResting, IsResting, TookResting, resting_at}
-use Rattle.graph_exec.specs.Running.{Running, going, later}
+use Rattle.graph_exec.specs.Running.{Running, going, known_of, later}
 
 none_flying : (t : Transition) (since : List Event) → t.actions ≡ [] → flying t since ≡ []
 none_flying t since e =
     let none : numbers t ≡ [] = ap (λ (actions : List Action). range_with_len 1 (length actions)) e in
     ap (λ (ks : List ℕ). flat_map (λ k. option_map_or (λ a. (k, a) ∷ []) (action_at t k) []) (filter (is_in_flight_number t since) ks)) none
-
-abbrev left_by : Running → JournalOf
-left_by r = record { cluster = r.cluster; events = r.planned_at ++ r.since; promotions = r.promotions }
 
 module _ (r : Running) (is : IsResting r) where
   pub flies_none : flying (going r) r.since ≡ []
@@ -50,9 +47,9 @@ module _ (r : Running) (is : IsResting r) where
   pub takes_resting : (given : Answer) (b : Bool)
       → b ≡ applies_after r.cluster (journal (going r) r.since) (flying (going r) r.since) (outside (going r) r.since) given → b ≡ true
       → (now : Running) → now ≡ later r (events_of (going r) r.since given)
-      → (j : JournalOf) → j ≡ left_by now → TookResting (resting_at r) j given
+      → (j : JournalOf) → j ≡ known_of now → TookResting (resting_at r) j given
   takes_resting given b says so now goes j left = record {
     applies = sym (resting_applies given) ∙ sym says ∙ so;
-    goes_on = left ∙ ap left_by goes ∙ ap (λ (since : List Event). rests_with (r.planned_at ++ (since ++ events_of (going r) r.since given))) is.nothing_new
+    goes_on = left ∙ ap known_of goes ∙ ap (λ (since : List Event). rests_with (r.planned_at ++ (since ++ events_of (going r) r.since given))) is.nothing_new
         ∙ ap (λ (events : List Event). rests_with (r.planned_at ++ events)) (resting_adds given);
   }

@@ -12,7 +12,6 @@ pub mod Outside
 pub mod Losses
 pub mod Silent
 pub mod Fewer
-pub mod Lines
 pub mod Carrying
 pub mod Coming
 pub mod Stepping
@@ -20,5 +19,4 @@ pub mod Said
 pub mod Told
 pub mod NeverStuck
 pub mod Agreeing
-pub mod Agreed
 pub mod Promised

@@ -1,6 +1,6 @@
 -- What one event more changes of what is kept.
 use Rattle.std.proofs.Common.{arith, ◌≡◌, ◌<◌, ◌≤◌, ◌+◌, ◌-◌, ◌==◌, ◌&&◌, ◌||◌, not, ℕ, Bool, true, false, List, [], ◌∷◌, ◌++◌, length, slice_set, refl, sym, ap, ◌∙◌, ◌≢◌, ◌⊎◌, inl, inr}
-use Rattle.std.proofs.lemmas.Bool.{cases_eq, eq-eqb, ne_eqb}
+use Rattle.std.proofs.lemmas.Bool.{cases_eq, eq-eqb, ne_eqb, or_right}
 use Rattle.std.proofs.lemmas.List.{get_or-set_same, get_or-set_other}
 use Rattle.std.proofs.Math.Bool.{or-false, or-true}
 use Rattle.lemmas.proofs.Booleans.{either}
@@ -8,7 +8,7 @@ use Rattle.lemmas.proofs.Searches.{any-more}
 use Rattle.cluster_types.specs.declared.journal.Event.{Event}
 use Rattle.cluster_types.specs.Journals.{ends_number}
 use Rattle.cluster_types.specs.Steps.{begins_number, succeeds_number, has_begun, has_ended, has_succeeded}
-use Rattle.waiting.specs.Ready.{is_set}
+use Rattle.number_set.specs.Sets.{is_member}
 use Rattle.run_safety.proofs.Preceded.{success_ends}
 use Rattle.graph_exec.specs.Flights.{FlightOf}
 use Rattle.graph_exec.specs.Logs.{LogOf, logged}
@@ -31,13 +31,13 @@ pub record Adds (log : LogOf) (f after : FlightOf) (e : Event) : Type 0 where
   pub begun_size : length after.progress.begun ≡ length f.progress.begun
   pub succeeded_size : length after.progress.succeeded ≡ length f.progress.succeeded
   pub flight_size : length after.flying ≡ length f.flying
-  pub begun : (j : ℕ) → 0 < j → j ≤ length f.progress.graph.actions → is_set after.progress.begun j ≡ (is_set f.progress.begun j || begins_number j e)
+  pub begun : (j : ℕ) → 0 < j → j ≤ length f.progress.graph.actions → is_member after.progress.begun j ≡ (is_member f.progress.begun j || begins_number j e)
   pub succeeded : (j : ℕ) → 0 < j → j ≤ length f.progress.graph.actions
-      → is_set after.progress.succeeded j ≡ (is_set f.progress.succeeded j || succeeds_number log.cluster j e)
+      → is_member after.progress.succeeded j ≡ (is_member f.progress.succeeded j || succeeds_number log.cluster j e)
   pub flying : (j : ℕ) → 0 < j → j ≤ length f.progress.graph.actions
-      → is_set after.flying j ≡ ((is_set f.flying j || begins_number j e) && not (ends_number j e))
-  pub fresh : (j : ℕ) → 0 < j → j ≤ length f.progress.graph.actions → begins_number j e ≡ true → is_set f.progress.begun j ≡ false
-  pub known : (j : ℕ) → 0 < j → j ≤ length f.progress.graph.actions → ends_number j e ≡ true → is_set f.progress.begun j ≡ true
+      → is_member after.flying j ≡ ((is_member f.flying j || begins_number j e) && not (ends_number j e))
+  pub fresh : (j : ℕ) → 0 < j → j ≤ length f.progress.graph.actions → begins_number j e ≡ true → is_member f.progress.begun j ≡ false
+  pub known : (j : ℕ) → 0 < j → j ≤ length f.progress.graph.actions → ends_number j e ≡ true → is_member f.progress.begun j ≡ true
   pub from_one : begins_number 0 e ≡ false
   pub fewer : to_come (logged log e) after + 1 ≤ to_come log f
 
@@ -56,7 +56,7 @@ module _ (log : LogOf) (f after : FlightOf) (e : Event) (h : Follows log f) (a :
         ≡ (has_succeeded (going (running log f)) log.since j || succeeds_number log.cluster j e)
     succeeded_now = any-more (succeeds_number log.cluster j) log.since e
 
-    kept_begun : is_set after.progress.begun j ≡ has_begun (going (running log f)) (log.since ++ e ∷ []) j
+    kept_begun : is_member after.progress.begun j ≡ has_begun (going (running log f)) (log.since ++ e ∷ []) j
     kept_begun = a.begun j low high ∙ ap (λ (b : Bool). b || begins_number j e) old.begun ∙ sym begun_now
 
     kept : IsKept (logged log e) after j
@@ -73,11 +73,8 @@ module _ (log : LogOf) (f after : FlightOf) (e : Event) (h : Follows log f) (a :
           (λ now. rw begun_now (rw (sym old.begun ∙ a.known j low high now) refl));
       over = λ t. either (has_succeeded (going (running log f)) log.since j) (succeeds_number log.cluster j e) (sym succeeded_now ∙ t)
           (λ before. rw ended_now (rw (old.over before) refl))
-          (λ now. rw ended_now (last (has_ended (going (running log f)) log.since j) (success_ends log.cluster j e now)));
-    } where
-      last : (b : Bool) {x : Bool} → x ≡ true → (b || x) ≡ true
-      last true is = refl
-      last false is = is
+          (λ now. rw ended_now (or_right (has_ended (going (running log f)) log.since j) (ends_number j e) (success_ends log.cluster j e now)));
+    }
 
   pub follows_more : Follows (logged log e) after
   follows_more = record {
@@ -90,21 +87,21 @@ module _ (log : LogOf) (f after : FlightOf) (e : Event) (h : Follows log f) (a :
   }
 
 -- a flag that is set, and one that is taken away
-pub set_one : (flags : List Bool) (k j : ℕ) → 0 < k → k ≤ length flags → 0 < j → is_set (slice_set flags (k - 1) true) j ≡ (is_set flags j || (k == j))
+pub set_one : (flags : List Bool) (k j : ℕ) → 0 < k → k ≤ length flags → 0 < j → is_member (slice_set flags (k - 1) true) j ≡ (is_member flags j || (k == j))
 set_one flags k j low high some = on (cases_eq k j) where
-  on : (k ≡ j) ⊎ (k ≢ j) → is_set (slice_set flags (k - 1) true) j ≡ (is_set flags j || (k == j))
-  on (inl e) = rw (← e) (get_or-set_same flags (k - 1) true false (omega arith) ∙ sym (rw (eq-eqb k k refl) (or-true (is_set flags k))))
-  on (inr d) = get_or-set_other flags (k - 1) (j - 1) true false (λ e. d (omega arith)) ∙ sym (rw (ne_eqb k j d) (or-false (is_set flags j)))
+  on : (k ≡ j) ⊎ (k ≢ j) → is_member (slice_set flags (k - 1) true) j ≡ (is_member flags j || (k == j))
+  on (inl e) = rw (← e) (get_or-set_same flags (k - 1) true false (omega arith) ∙ sym (rw (eq-eqb k k refl) (or-true (is_member flags k))))
+  on (inr d) = get_or-set_other flags (k - 1) (j - 1) true false (λ e. d (omega arith)) ∙ sym (rw (ne_eqb k j d) (or-false (is_member flags j)))
 
 pub unset_one : (flags : List Bool) (k j : ℕ) → 0 < k → k ≤ length flags → 0 < j
-    → is_set (slice_set flags (k - 1) false) j ≡ (is_set flags j && not (k == j))
+    → is_member (slice_set flags (k - 1) false) j ≡ (is_member flags j && not (k == j))
 unset_one flags k j low high some = on (cases_eq k j) where
-  on : (k ≡ j) ⊎ (k ≢ j) → is_set (slice_set flags (k - 1) false) j ≡ (is_set flags j && not (k == j))
-  on (inl e) = rw (← e) (get_or-set_same flags (k - 1) false false (omega arith) ∙ sym (rw (eq-eqb k k refl) (last (is_set flags k)))) where
+  on : (k ≡ j) ⊎ (k ≢ j) → is_member (slice_set flags (k - 1) false) j ≡ (is_member flags j && not (k == j))
+  on (inl e) = rw (← e) (get_or-set_same flags (k - 1) false false (omega arith) ∙ sym (rw (eq-eqb k k refl) (last (is_member flags k)))) where
     last : (b : Bool) → (b && not true) ≡ false
     last true = refl
     last false = refl
-  on (inr d) = get_or-set_other flags (k - 1) (j - 1) false false (λ e. d (omega arith)) ∙ sym (rw (ne_eqb k j d) (last (is_set flags j))) where
+  on (inr d) = get_or-set_other flags (k - 1) (j - 1) false false (λ e. d (omega arith)) ∙ sym (rw (ne_eqb k j d) (last (is_member flags j))) where
     last : (b : Bool) → (b && not false) ≡ b
     last true = refl
     last false = refl

@@ -8,7 +8,7 @@ use Rattle.cluster_types.specs.declared.journal.Event.TheVariants.{Up, Down, Los
 use Rattle.cluster_types.specs.Answering.{most_from_outside}
 use Rattle.cluster_types.specs.Journals.{ends_number}
 use Rattle.cluster_types.specs.Steps.{begins_number, succeeds_number, is_from_outside}
-use Rattle.waiting.specs.Ready.{is_set}
+use Rattle.number_set.specs.Sets.{is_member}
 use Rattle.graph_exec.specs.Flights.{FlightOf}
 use Rattle.graph_exec.specs.Logs.{LogOf}
 use Rattle.graph_exec.specs.Running.{Follows}
@@ -65,9 +65,9 @@ module _ (log : LogOf) (f : FlightOf) (h : Follows log f) (event : Event) (outer
     begun_size = refl;
     succeeded_size = refl;
     flight_size = refl;
-    begun = λ j some most. rw (begins_none j event outer) (sym (or-false (is_set f.progress.begun j)));
-    succeeded = λ j some most. rw (succeeds_none j event some outer) (sym (or-false (is_set f.progress.succeeded j)));
-    flying = λ j some most. unchanged (is_set f.flying j) (begins_number j event) (ends_number j event) (begins_none j event outer) (ends_none j event some outer);
+    begun = λ j some most. rw (begins_none j event outer) (sym (or-false (is_member f.progress.begun j)));
+    succeeded = λ j some most. rw (succeeds_none j event some outer) (sym (or-false (is_member f.progress.succeeded j)));
+    flying = λ j some most. unchanged (is_member f.flying j) (begins_number j event) (ends_number j event) (begins_none j event outer) (ends_none j event some outer);
     fresh = λ j some most b. let n = begins_none j event outer in cc;
     known = λ j some most b. let n = ends_none j event some outer in cc;
     from_one = begins_none 0 event outer;

@@ -14,9 +14,9 @@ use Rattle.cluster_types.specs.Journals.{is_on}
 use Rattle.cluster_types.specs.Plans.{transition_on}
 use Rattle.cluster_types.specs.Steps as steps
 use Rattle.cluster_types.specs.Steps.{Transition, Goes, Begins, Takes, EndsSilently, ended, silent_code, is_settled, has_begun, has_ended, has_succeeded, is_in_flight_number, outside, events_of, flying}
-use Rattle.waiting.specs.Ready.{is_set}
+use Rattle.number_set.specs.Sets.{is_member}
 use Rattle.graph_exec.specs.Flights.{FlightOf}
-use Rattle.graph_exec.specs.Logs.{LogOf}
+use Rattle.graph_exec.specs.Logs.{JournalOf, LogOf}
 
 -- the cluster, the graph that is carried out, the journal when it was planned with the promotion scores of the status, and the events since
 pub record Running : Type 0 where
@@ -42,6 +42,10 @@ going r = transition_on r.cluster r.graph r.planned_at
 -- the same, some events later
 abbrev pub later : Running → List Event → Running
 later r events = record { cluster = r.cluster; graph = r.graph; planned_at = r.planned_at; since = r.since ++ events; promotions = r.promotions }
+
+-- its journal now, with what it tells
+abbrev pub known_of : Running → JournalOf
+known_of r = record { cluster = r.cluster; events = r.planned_at ++ r.since; promotions = r.promotions }
 
 -- what the loss of a node ends: each action in flight of a cell on it, in the order of their numbers
 abbrev pub all_gone : Running → ℕ → List Event
@@ -89,9 +93,9 @@ pub record EndedSilently (old new : Running) (given : Answer) : Type 0 where
 
 -- what is kept of one number is what the events say of it
 pub record IsKept (log : LogOf) (f : FlightOf) (k : ℕ) : Type 0 where
-  pub begun : is_set f.progress.begun k ≡ has_begun (going (running log f)) log.since k
-  pub succeeded : is_set f.progress.succeeded k ≡ has_succeeded (going (running log f)) log.since k
-  pub flying : is_set f.flying k ≡ is_in_flight_number (going (running log f)) log.since k
+  pub begun : is_member f.progress.begun k ≡ has_begun (going (running log f)) log.since k
+  pub succeeded : is_member f.progress.succeeded k ≡ has_succeeded (going (running log f)) log.since k
+  pub flying : is_member f.flying k ≡ is_in_flight_number (going (running log f)) log.since k
   pub ended : has_ended (going (running log f)) log.since k ≡ true → has_begun (going (running log f)) log.since k ≡ true
   pub over : has_succeeded (going (running log f)) log.since k ≡ true → has_ended (going (running log f)) log.since k ≡ true
 

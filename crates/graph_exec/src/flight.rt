@@ -4,7 +4,7 @@ ghost use Rattle.std.specs.Prelude.{◌≡◌, ◌<◌, ◌≤◌, ◌-◌, true
 ghost use Rattle.std.specs.List.{list_any};
 ghost use Rattle.cluster_types.specs.Answering.{is_number_of};
 ghost use Rattle.number_set.specs.Sets.{is_member};
-ghost use Rattle.waiting.specs.Ready.{is_set, none_begun, startable};
+ghost use Rattle.waiting.specs.Ready.{none_begun, startable};
 ghost use Rattle.graph_exec.specs.Flights.{is_about, is_busy, pairs, with_begun, with_ended};
 
 use cluster_types::{Action, Graph, LeafId, NodeId};
@@ -121,8 +121,8 @@ impl InFlight {
     pub(crate) fn end(&mut self, number: u32, success: bool)
         requires from_one { 0 < number }
         requires to_count { number ≤ length self.old.progress.graph.actions }
-        requires begun { is_set self.old.progress.begun number ≡ true }
-        requires not_yet { is_set self.old.progress.succeeded number ≡ false }
+        requires begun { is_member self.old.progress.begun number ≡ true }
+        requires not_yet { is_member self.old.progress.succeeded number ≡ false }
         ensures { self.new ≡ with_ended self.old number success }
     {
         self.flying.remove(number);

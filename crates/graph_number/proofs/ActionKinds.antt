@@ -19,6 +19,7 @@ abbrev pub index_by : List MonitorOf → ℕ → ℕ
 index_by [] i = 0
 index_by (m ∷ ms) i = if m.interval_ms == i then 0 else index_by ms i + 1
 
+-- each two of them have different intervals
 abbrev pub AreApart : List MonitorOf → Type 0
 AreApart ms = AllPairs (λ (one other : MonitorOf). one.interval_ms ≢ other.interval_ms) ms
 

@@ -2,7 +2,7 @@
 use Rattle.std.proofs.Common.{arith, ◌≡◌, ◌<◌, ◌≤◌, ◌==◌, ◌&&◌, ◌||◌, not, if◌then◌else◌, ℕ, Bool, true, false, List, Option, Some, None, length, get_or, count_by, refl, sym, ◌∙◌}
 use Rattle.std.specs.List.{range_with_len, slice_get}
 use Rattle.std.specs.Option.{option_map_or}
-use Rattle.std.proofs.lemmas.Bool.{both_ways, eq-eqb, eqb-false, eqb-true}
+use Rattle.std.proofs.lemmas.Bool.{and_right, both_ways, eq-eqb, eqb-false, eqb-true, not_from_true}
 use Rattle.std.proofs.lemmas.List.FromFn.{get_or-range_with_len, length-range_with_len}
 use Rattle.std.proofs.lemmas.Option.{get_or_from_slice_get, slice_get_within}
 use Rattle.lemmas.proofs.Booleans.{later, sooner, unless}
@@ -37,12 +37,7 @@ abbrev elsewhere : (ℕ → Bool) → ℕ → ℕ → Bool
 elsewhere p n i = p i && not (i == n)
 
 not_here : (p : ℕ → Bool) (n : ℕ) → elsewhere p n n ≡ false
-not_here p n = on (p n) (n == n) (eq-eqb n n refl)
-  where
-    on : (a b : Bool) → b ≡ true → a && not b ≡ false
-    on true true e = refl
-    on false true e = refl
-    on a false e = cc
+not_here p n = and_right (p n) (not (n == n)) (not_from_true (n == n) (eq-eqb n n refl))
 
 one_of_few : (p : ℕ → Bool) (most n m : ℕ) → count_by p (range_with_len 0 most) ≤ 1 → n < most → m < most → p n ≡ true → p m ≡ true → n ≡ m
 one_of_few p most n m few l k h g =

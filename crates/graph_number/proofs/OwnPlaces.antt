@@ -2,8 +2,7 @@
 use Rattle.std.proofs.Common.{arith, ◌≡◌, ◌<◌, ◌+◌, ◌==◌, ◌&&◌, if◌then◌else◌, ℕ, Bool, true, false, List, [], ◌∷◌, ◌↔◌, length, Contains, refl, sym, ap, ◌∙◌}
 use Rattle.std.proofs.lemmas.Bool.{and_from, eq-eqb, eqb-true}
 use Rattle.lemmas.proofs.Members.{at_head, in_rest}
-use Rattle.rule_loops.proofs.FromValid.{valid_order}
-use Rattle.step_ranks.proofs.OneRanking.{rank_rises}
+use Rattle.step_ranks.proofs.OneRanking.{valid_rise}
 use Rattle.cluster_types.specs.declared.cluster.Cluster.{Cluster}
 use Rattle.cluster_types.specs.declared.journal.Action.{Action}
 use Rattle.cluster_types.specs.declared.journal.Action.TheVariants.{Fence, Probe, Cell, MigrateTo, MigrateFrom}
@@ -15,7 +14,7 @@ use Rattle.cluster_types.specs.declared.leaf.Role.TheVariants as role
 use Rattle.cluster_types.specs.declared.placement.Placed.{Placed}
 use Rattle.cluster_types.specs.Fields.{is_promotable, monitors}
 use Rattle.cluster_types.specs.Needed.{FirstSet, GetsStep, Needed, fence, kept, monitor, probe, sent, step, taken_in}
-use Rattle.cluster_types.specs.Numbers.{Link, Place, link, links, place_of, rank, step_of}
+use Rattle.cluster_types.specs.Numbers.{Place, link, place_of, rank, step_of}
 use Rattle.cluster_types.specs.Plans.{IsPlaced}
 use Rattle.cluster_types.specs.Precedence.{is_migrating}
 use Rattle.cluster_types.specs.Tables.{Targets, targets_of}
@@ -90,19 +89,16 @@ module _ (c : Cluster) (es : List Event) (ps : List Promotion) (placed : Placed)
   abbrev targets : Targets
   targets = targets_of placed.table
 
-  rise : (l : Link) → Contains (links c) l → rank c l.before < rank c l.after
-  rise l h = rank_rises c (valid_order c valid.orders) valid.steps l h
-
   -- on a promotable leaf
   start_below : (r : ℕ) → r < length c.leaves → is_promotable c r ≡ true → rank c (step_of op.Start r) < rank c (step_of op.Promote r)
   start_below r low e =
-      rise (link op.Start r op.Promote r)
+      valid_rise c valid (link op.Start r op.Promote r)
       (link_of_leaf c r (link op.Start r op.Promote r) low refl refl e (in_rest (link op.Demote r op.Stop r) (link op.Start r op.Promote r ∷ []) (link op.Start r op.Promote r)
       (at_head (link op.Start r op.Promote r) [] (link op.Start r op.Promote r) refl)))
 
   demote_below : (r : ℕ) → r < length c.leaves → is_promotable c r ≡ true → rank c (step_of op.Demote r) < rank c (step_of op.Stop r)
   demote_below r low e =
-      rise (link op.Demote r op.Stop r)
+      valid_rise c valid (link op.Demote r op.Stop r)
       (link_of_leaf c r (link op.Demote r op.Stop r) low refl e refl (at_head (link op.Demote r op.Stop r) (link op.Start r op.Promote r ∷ []) (link op.Demote r op.Stop r) refl))
 
   step_kind : (r n : ℕ) (o : Op) → r < length c.leaves → n < length c.nodes → GetsStep c es targets r n o

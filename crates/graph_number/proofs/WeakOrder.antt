@@ -1,6 +1,7 @@
 -- The order of numbers is an order in which any two actions compare, and places that are apart come one before the other.
 use Rattle.std.proofs.Common.{arith, ◌≡◌, ◌==◌, ◌&&◌, ◌||◌, nat_lt, ℕ, Bool, true, false, refl}
 use Rattle.cluster_types.specs.Numbers.{Place, is_before}
+use Rattle.cluster_types.proofs.NumberLaws.{by_leaf, by_node, by_rank}
 
 chain_first : (x y z : ℕ) (p q r : Bool) → (p ≡ false → q ≡ false → r ≡ false) → nat_lt x y || x == y && p ≡ false → nat_lt y z || y == z && q ≡ false
     → nat_lt x z || x == z && r ≡ false
@@ -9,15 +10,6 @@ chain_first x y z true false r f h k = grind arith
 chain_first x y z false true r f h k = grind arith
 chain_first x y z false false true f h k = let e : true ≡ false = f refl refl in cc
 chain_first x y z false false false f h k = grind arith
-
-abbrev by_node : Place → Place → Bool
-by_node a b = nat_lt a.node b.node || a.node == b.node && nat_lt a.interval b.interval
-
-abbrev by_leaf : Place → Place → Bool
-by_leaf a b = nat_lt a.leaf b.leaf || a.leaf == b.leaf && by_node a b
-
-abbrev by_rank : Place → Place → Bool
-by_rank a b = nat_lt a.ranked b.ranked || a.ranked == b.ranked && by_leaf a b
 
 chain_less : (x y z : ℕ) → nat_lt x y ≡ false → nat_lt y z ≡ false → nat_lt x z ≡ false
 chain_less x y z h k = grind arith

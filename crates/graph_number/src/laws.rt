@@ -21,7 +21,7 @@ pub fn needed_actions_have_places_of_their_own()
         → Contains actions x → Contains actions y → place_of c actions x ≡ place_of c actions y → x ≡ y }
 {}
 
-/// The graph of a plan of a valid cluster, however large, has fewer than a hundred million edges.
+/// The graph of a plan of a valid cluster, however large, has at most a hundred million edges.
 pub fn plans_have_few_edges()
     ensures { (c : ClusterOf) (actions : List ActionOf) → IsValid c → ArePlanned c actions → most_edges c actions ≤ 100000000 }
 {}

@@ -3,11 +3,10 @@ use Rattle.std.proofs.Common.{◌≡◌, ℕ, ◌+◌, nat_lt, not, Bool, true, 
 use Rattle.std.specs.List.{list_any}
 use Rattle.std.specs.Str.{is_utf8}
 use Rattle.lemmas.proofs.Results.{by_result}
-use Rattle.lemmas.proofs.Booleans.{by_test}
 use Rattle.crm_lex.specs.declared.fault.LexCause.{LexCause}
 use Rattle.crm_lex.specs.declared.fault.LexCause.TheVariants.{ControlByte, LineTooLong, NotUtf8, OpenQuote}
 use Rattle.faults.specs.declared.fault.Fault.{Fault}
-use Rattle.faults.specs.Reading.{faulting, on_line, unless, ◌>>=◌}
+use Rattle.faults.specs.Reading.{fault_at, faulting, on_line, unless, ◌>>=◌}
 use Rattle.crm_lex.specs.declared.line.Line.{Line}
 use Rattle.crm_lex.specs.LogicalLines.{all_byte_faults, byte_faults, content_length, fault_if, faults, is_control, line_text}
 use Rattle.crm_lex.specs.RawLines.{content, raw_lines}
@@ -167,18 +166,19 @@ statements_stand found =
     by_result (λ r. Stands (faulting cause.Statements r) → Stands (faulting cause.Statements (statements.read_of r))) (λ x h. tt) (λ fault h. h)
     (statements.with_lines [] found) drafts
 
--- the leaves
-expands_at : (line : ℕ) (found : Option ExpandCause) (more : Option (Fault ExpandCause)) → StandsAt more → StandsAt (expanding.fault_at line found more)
-expands_at line (Some why) more h = tt
-expands_at line None more h = h
+-- a line at fault, or a later one
+line_stands : {C : Type 0} (line : ℕ) (found : Option C) (more : Option (Fault C)) → StandsAt more → StandsAt (fault_at line found more)
+line_stands line (Some why) more h = tt
+line_stands line None more h = h
 
+-- the leaves
 module _ {S : Type 0} (cause_at : S → Statement → Option ExpandCause) (after : S → Statement → S) (first : S → List Statement → Option (Fault ExpandCause))
     (none : (s : S) → first s [] ≡ None)
-    (some : (s : S) (l : Statement) (ls : List Statement) → first s (l ∷ ls) ≡ expanding.fault_at l.line (cause_at s l) (first (after s l) ls)) where
+    (some : (s : S) (l : Statement) (ls : List Statement) → first s (l ∷ ls) ≡ fault_at l.line (cause_at s l) (first (after s l) ls)) where
   first_expands : (s : S) (ls : List Statement) → StandsAt (first s ls)
   first_expands s [] = subst (λ (o : Option (Fault ExpandCause)). StandsAt o) (sym (none s)) tt
   first_expands s (l ∷ ls) =
-      subst (λ (o : Option (Fault ExpandCause)). StandsAt o) (sym (some s l ls)) (expands_at l.line (cause_at s l) (first (after s l) ls) (first_expands (after s l) ls))
+      subst (λ (o : Option (Fault ExpandCause)). StandsAt o) (sym (some s l ls)) (line_stands l.line (cause_at s l) (first (after s l) ls) (first_expands (after s l) ls))
 
 leaves_stand : (found : List Statement) → Stands (faulting cause.Leaves (expansion_of found))
 unfolding fault_of
@@ -189,13 +189,9 @@ leaves_stand found =
     (expanding.first_fault kinds) (λ s. refl) (λ s l ls. refl) nothing_seen found)
 
 -- the cluster
-model_at : (line : ℕ) (found : Option ModelCause) (more : Option (Fault ModelCause)) → StandsAt more → StandsAt (modelling.fault_at line found more)
-model_at line (Some why) more h = tt
-model_at line None more h = h
-
 first_model : (cause : List Statement → Statement → Option ModelCause) (before ls : List Statement) → StandsAt (modelling.first_fault cause before ls)
 first_model cause before [] = tt
-first_model cause before (l ∷ ls) = model_at l.line (cause before l) (modelling.first_fault cause (before ++ l ∷ []) ls) (first_model cause (before ++ l ∷ []) ls)
+first_model cause before (l ∷ ls) = line_stands l.line (cause before l) (modelling.first_fault cause (before ++ l ∷ []) ls) (first_model cause (before ++ l ∷ []) ls)
 
 cluster_stands : (leaves : Leaves) (found : List Statement) → Stands (faulting cause.Cluster (resolution_of leaves found))
 unfolding resolution_of
@@ -203,6 +199,11 @@ cluster_stands leaves found =
     let d = directory_of leaves found in
     unless_stands cause.Cluster (modelling.first_fault (cause_after d leaves.leaves) [] found) (cluster_of d leaves.leaves found)
     (first_model (cause_after d leaves.leaves) [] found)
+
+-- what holds of both values holds of a test
+by_test : (P : Bool → Type 0) (test : Bool) → P true → P false → P test
+by_test P true one other = one
+by_test P false one other = other
 
 -- the status
 status_stands : (c : Cluster) (found : List Line) → Stands (faulting cause.Status (status_of c found))

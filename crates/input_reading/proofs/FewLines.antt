@@ -9,8 +9,9 @@ use Rattle.crm_lex.specs.LogicalLines.{line_text}
 use Rattle.crm_lex.specs.RawLines.{goes_on, joined, onto_group, physical_lines, raw_lines}
 use Rattle.crm_lex.specs.Reading.{faults_from, first_fault, reads, row, rows_from}
 use Rattle.crm_lex.specs.Words.{words_of}
+use Rattle.crm_lex.proofs.FaultOrder.{count_lines}
 use Rattle.crm_lex.proofs.PhysicalLines.{few_lines}
-use Rattle.cluster_model.proofs.EachOf.{all_append}
+use Rattle.lemmas.proofs.Members.{all_append}
 use Rattle.input_reading.specs.Reading.{line_behind}
 
 one_row : (n : ℕ) (words : List (List ℕ)) → length (row n words) ≤ 1
@@ -44,21 +45,16 @@ few_rows_read text lines e =
     let short : length (rows_from 1 (raw_lines text)) ≤ length text = omega (arith, few_rows 1 (raw_lines text), few_groups false (physical_lines text), few_lines text) in
     subst (λ (found : List Line). length found ≤ length text) rows short
 
--- how many physical lines some groups of them have
-abbrev lines_in : List (List (List ℕ)) → ℕ
-lines_in [] = 0
-lines_in (group ∷ groups) = length group + lines_in groups
-
-in_onto : (line : List ℕ) (groups : List (List (List ℕ))) → lines_in (onto_group line groups) ≡ 1 + lines_in groups
+in_onto : (line : List ℕ) (groups : List (List (List ℕ))) → count_lines (onto_group line groups) ≡ 1 + count_lines groups
 in_onto line [] = omega arith
 in_onto line (group ∷ groups) = omega arith
 
-in_joined : (continues : Bool) (lines : List (List ℕ)) → lines_in (joined continues lines) ≡ length lines
+in_joined : (continues : Bool) (lines : List (List ℕ)) → count_lines (joined continues lines) ≡ length lines
 in_joined continues [] = refl
 in_joined continues (line ∷ lines) = split (goes_on continues line) (in_joined true lines) (in_joined false lines)
   where
-    split : (t : Bool) → lines_in (joined true lines) ≡ length lines → lines_in (joined false lines) ≡ length lines
-        → lines_in (if t then onto_group line (joined true lines) else (line ∷ []) ∷ joined false lines) ≡ length (line ∷ lines)
+    split : (t : Bool) → count_lines (joined true lines) ≡ length lines → count_lines (joined false lines) ≡ length lines
+        → count_lines (if t then onto_group line (joined true lines) else (line ∷ []) ∷ joined false lines) ≡ length (line ∷ lines)
     split true one other = omega (arith, one, in_onto line (joined true lines))
     split false one other = omega (arith, other)
 
@@ -87,7 +83,7 @@ some_joined continues (line ∷ lines) = split (goes_on continues line) (some_jo
     split true one other = some_onto line (joined true lines) one
     split false one other = (omega arith, other)
 
-rows_before : (n m : ℕ) (groups : List (List (List ℕ))) → AllSome groups → n + lines_in groups ≤ m → AllBefore m (rows_from n groups)
+rows_before : (n m : ℕ) (groups : List (List (List ℕ))) → AllSome groups → n + count_lines groups ≤ m → AllBefore m (rows_from n groups)
 rows_before n m [] some h = tt
 rows_before n m (group ∷ groups) some h =
     let words = words_of (line_text group) in
@@ -106,7 +102,7 @@ pub few_lines_before : (text : List ℕ) (lines : List Line) → reads text ≡ 
 few_lines_before text lines e =
     let groups = raw_lines text in
     let rows = (unless-ok (first_fault (faults_from 1 groups)) (rows_from 1 groups) lines e).1 in
-    let bound : 1 + lines_in groups ≤ 1 + length text = omega (arith, in_joined false (physical_lines text), few_lines text) in
+    let bound : 1 + count_lines groups ≤ 1 + length text = omega (arith, in_joined false (physical_lines text), few_lines text) in
     let all : AllBefore (1 + length text) lines
     = subst (λ (found : List Line). AllBefore (1 + length text) found) rows
     (rows_before 1 (1 + length text) groups (some_joined false (physical_lines text)) bound) in

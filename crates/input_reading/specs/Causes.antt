@@ -8,20 +8,13 @@ use Rattle.cluster_model.specs.declared.fault.ModelCause.{ModelCause}
 use Rattle.cluster_model.specs.declared.fault.ModelCause.TheVariants as model
 use Rattle.op_history.specs.declared.fault.StatusCause.{StatusCause}
 use Rattle.op_history.specs.declared.fault.StatusCause.TheVariants as status
-use Rattle.crm_lex.specs.declared.fault.LexCause.{LexCause}
-use Rattle.crm_lex.specs.declared.fault.LexCause.TheVariants as lex
+use Rattle.crm_lex.specs.Causes.{lex_name}
 use Rattle.op_history.specs.declared.fault.ResultCause.{ResultCause}
 use Rattle.op_history.specs.declared.fault.ResultCause.TheVariants as result
 use Rattle.line_words.specs.declared.cause.WordCause.{WordCause}
 use Rattle.line_words.specs.declared.cause.WordCause.TheVariants as word
 use Rattle.input_reading.specs.declared.cause.InputCause.{InputCause}
 use Rattle.input_reading.specs.declared.cause.InputCause.TheVariants.{Words, Statements, Leaves, Cluster, Status, Results, Run}
-
-abbrev pub lex_name : LexCause → List ℕ
-lex_name lex.NotUtf8 = codes "NotUtf8"
-lex_name lex.ControlByte = codes "ControlByte"
-lex_name lex.OpenQuote = codes "OpenQuote"
-lex_name lex.LineTooLong = codes "LineTooLong"
 
 abbrev pub parse_name : ParseCause → List ℕ
 parse_name parse.UnknownStatement = codes "UnknownStatement"

@@ -1,11 +1,11 @@
 //! Why an input is refused, and the names of the causes.
 
 ghost use Rattle.std.specs.Prelude.{◌≡◌};
-ghost use Rattle.input_reading.specs.Causes.{cause_name, expand_name, lex_name, model_name, parse_name, result_name, status_name, word_name};
+ghost use Rattle.input_reading.specs.Causes.{cause_name, expand_name, model_name, parse_name, result_name, status_name, word_name};
 
 use clone_expand::ExpandCause;
 use cluster_model::ModelCause;
-use crm_lex::LexCause;
+use crm_lex::{LexCause, lex_name};
 use crm_parse::ParseCause;
 use line_words::WordCause;
 use op_history::{ResultCause, StatusCause};
@@ -27,17 +27,6 @@ pub enum InputCause {
     Results(ResultCause),
     /// A line of a run can't be read.
     Run(WordCause),
-}
-
-fn lex_name(cause: LexCause) -> &'static str
-    ensures { result.now ≡ lex_name cause }
-{
-    match cause {
-        LexCause::NotUtf8 => "NotUtf8",
-        LexCause::ControlByte => "ControlByte",
-        LexCause::OpenQuote => "OpenQuote",
-        LexCause::LineTooLong => "LineTooLong",
-    }
 }
 
 fn parse_name(cause: ParseCause) -> &'static str

@@ -75,7 +75,7 @@ fn kept(totals: &[Score], within: &NodeSet, form: Form) -> NodeSet
     kept
 }
 
-/// The nodes of the set whose total is 0 or more, by lanes.
+/// The nodes of the set whose total is 0 or more, by lanes. It asks for a total of each node of the set.
 pub fn candidates(totals: &[Score], within: &NodeSet) -> NodeSet
     requires { (n : ℕ) → has within.now n ≡ true → n < length totals.now }
     ensures { (n : ℕ) → has result n ≡ (has within.now n && is_candidate totals.now n) }

@@ -81,7 +81,7 @@ fn number_of(node: Option<usize>) -> Option<u32>
 }
 
 /// The node of the set with the greatest total, of these the one with the smallest load, of these the one with the smallest number, by lanes.
-/// None when the set is empty.
+/// None when the set is empty. It asks for a total of each node of the set, and for as many loads as totals.
 #[tactic(auto, unfolding(crate::specs::NodeSet::has))]
 pub fn greatest(totals: &[Score], loads: &[u32], among: &NodeSet) -> Option<u32>
     requires nodes { (n : ℕ) → has among.now n ≡ true → n < length totals.now }

@@ -33,7 +33,7 @@ impl NodeSet {
         }
     }
 
-    /// The nodes that pass, of so many.
+    /// The nodes that pass, of so many. It asks for at most 256 nodes, and that each of them may be asked about.
     pub fn of<F: Fn(u32) -> bool>(nodes: u32, passes: F) -> NodeSet
         requires few { nodes ≤ 256 }
         requires passes { (n : ℕ) → n < nodes → F.pre passes n }

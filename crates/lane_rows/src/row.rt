@@ -56,7 +56,7 @@ fn finite_points(term: Score) -> i32
 }
 
 impl Row {
-    /// A row of nodes without terms.
+    /// A row of nodes without terms. It asks for at most 256 nodes.
     pub fn zeros(alloc: Global, nodes: u32) -> Result<Row, NoMemory>
         requires { nodes ≤ 256 }
         ensures terms { IfOk result (λ row. Stands row (replicate nodes [])) }
@@ -70,7 +70,7 @@ impl Row {
         Ok(Row { minus, plus, sums })
     }
 
-    /// Adds one term to those of a node.
+    /// Adds one term to those of a node. It asks for a node of the row, whose finite sum stays from -10^12 to 10^12.
     pub fn put(&mut self, node: u32, term: Score)
         requires node { node < length self.old }
         requires room { IsSumInRange (finite_at self.old node +ℤ finite_part term) }
@@ -99,7 +99,8 @@ fn add_terms(into: &mut Row, other: &Row, form: Form)
     sums::add(&mut into.sums, &other.sums, form);
 }
 
-/// Adds the terms of `other` to those of `into`, node by node, by lanes.
+/// Adds the terms of `other` to those of `into`, node by node, by lanes. It asks for rows of as many nodes, and that each finite sum stays from
+/// -10^12 to 10^12.
 pub fn add_row(into: &mut Row, other: &Row)
     requires nodes { length into.old ≡ length other.now }
     requires room { (n : ℕ) → n < length into.old → IsSumInRange (finite_at into.old n +ℤ finite_at other.now n) }

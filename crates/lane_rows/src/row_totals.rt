@@ -143,7 +143,7 @@ fn write_totals(row: &Row, out: &mut [Score], form: Form)
     all_totals(&row.minus, &row.plus, &row.sums, out, form);
 }
 
-/// Writes the total of each node, by lanes.
+/// Writes the total of each node, by lanes. It asks for as many places as the row has nodes.
 pub fn totals(row: &Row, out: &mut [Score])
     requires { length row.now ≡ length out.old }
     ensures { (terms : List (List ℤ)) → Stands row.now terms → out.new ≡ map total_of terms }

@@ -21,26 +21,37 @@ pub either : (a b : Bool) {P : Type 0} → (a || b) ≡ true → (a ≡ true →
 either true b h f g = f refl
 either false b h f g = g h
 
--- one test follows from another
+-- of three that pass the first does
+pub first_of_three : (a b c : Bool) → a && b && c ≡ true → a ≡ true
+first_of_three true b c h = refl
+first_of_three false b c h = h
+
+-- of two tests of which one passes the first does where the second fails
+pub first_passes : (a b : Bool) → a || b ≡ true → b ≡ false → a ≡ true
+first_passes true b h e = refl
+first_passes false b h e = cc
+
+-- one test follows from another, and back
 pub implied : (a b : Bool) → not a || b ≡ true → a ≡ true → b ≡ true
 implied true b h e = h
 implied false b h e = cc
 
+pub if_then : (a b : Bool) → (a ≡ true → b ≡ true) → not a || b ≡ true
+if_then true b f = f refl
+if_then false b f = refl
+
+-- where one test passes, and not without another, the other does
 pub unless : (a b : Bool) → a ≡ true → a && not b ≡ false → b ≡ true
 unless true true e h = refl
 unless true false e h = cc
 unless false b e h = cc
-
--- the second of two tests fails where the first passes, and not both
-pub second_fails : (a b : Bool) → a ≡ true → a && b ≡ false → b ≡ false
-second_fails true b h g = g
-second_fails false b h g = cc
 
 -- what another test follows from fails where that fails
 pub fails_too : (a b : Bool) → (a ≡ true → b ≡ true) → b ≡ false → a ≡ false
 fails_too true b f h = let e = f refl in cc
 fails_too false b f h = refl
 
+-- true where one test passes, and else another test, is either of the two
 pub cond-or : (a b : Bool) → cond a true b ≡ (b || a)
 cond-or true true = refl
 cond-or true false = refl
@@ -68,11 +79,6 @@ pub one_of : (a b c d : Bool) → (a ≡ true → b ≡ true) → (c ≡ true �
 one_of a true c d f g h = refl
 one_of true false c d f g h = let e : false ≡ true = f refl in cc
 one_of false false c d f g h = g h
-
--- what holds of both values holds of a test
-pub by_test : (P : Bool → Type 0) (test : Bool) → P true → P false → P test
-by_test P true one other = one
-by_test P false one other = other
 
 -- numbers are compared the same from both sides, and a number is itself
 pub equal_turned : (a b : ℕ) → (a == b) ≡ (b == a)

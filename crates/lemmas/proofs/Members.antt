@@ -1,6 +1,6 @@
 -- Members of lists that are made of others.
 use Rattle.std.proofs.Common.{arith, ◌≡◌, ◌<◌, ◌≤◌, ◌+◌, ℕ, suc, zero, Bool, true, false, List, [], ◌∷◌, ◌++◌, length, map, filter, take, cond, slice_get, slice_index_or, refl, sym, ◌∙◌, ap, ◌⊎◌, inl, inr, Contains}
-use Rattle.std.specs.List.{flat_map, range_with_len}
+use Rattle.std.specs.List.{AllByRecursion, flat_map, range_with_len}
 use Rattle.std.proofs.lemmas.Bool.{cases_order}
 use Rattle.std.proofs.lemmas.List.{length-take, get_or-take, take_more}
 use Rattle.std.proofs.lemmas.List.Elements.{Contains-append_left, Contains-append_right, Contains-append_cases, Contains-push_cases}
@@ -34,11 +34,10 @@ module _ {X : Type 0} where
       let l = length-take n xs in
       (k, omega arith, sym (get_or-take n xs k x (omega arith)) ∙ at)
 
-  pub contains_shorter : (m n : ℕ) (xs : List X) (x : X) → m ≤ n → Contains (take m xs) x → Contains (take n xs) x
-  contains_shorter m n xs x le (k, lt, at) =
-      let l = length-take m xs in
-      let r = length-take n xs in
-      (k, omega arith, get_or-take n xs k x (omega arith) ∙ sym (get_or-take m xs k x (omega arith)) ∙ at)
+  -- what holds of all in each of two lists holds of all in both together
+  pub all_append : (P : X → Type 0) (xs ys : List X) → AllByRecursion P xs → AllByRecursion P ys → AllByRecursion P (xs ++ ys)
+  all_append P [] ys h k = k
+  all_append P (x ∷ xs) ys h k = (h.0, all_append P xs ys h.1 k)
 
   -- what holds of each of the first and of the one behind them
   pub all_more : (P : X → Type 0) (xs : List X) (i : ℕ) (x : X) → i < length xs → x ≡ slice_index_or xs i x

@@ -18,9 +18,6 @@ map-more f n = map-range_with_len_more f 0 n n (omega arith)
 pub range-more : (n : ℕ) → range_with_len 0 (n + 1) ≡ range_with_len 0 n ++ n ∷ []
 range-more n = sym (map-id (range_with_len 0 (n + 1))) ∙ (map-more (λ k. k) n ∙ ap (λ xs. xs ++ n ∷ []) (map-id (range_with_len 0 n)))
 
-pub range-suc : (n : ℕ) → range_with_len 0 (suc n) ≡ range_with_len 0 n ++ n ∷ []
-range-suc n = let on : n + 1 ≡ suc n = omega arith in subst (λ k. range_with_len 0 k ≡ range_with_len 0 n ++ n ∷ []) on (range-more n)
-
 pub flat_map-more : {X : Type 0} (f : ℕ → List X) (n : ℕ) → flat_map f (range_with_len 0 (n + 1)) ≡ flat_map f (range_with_len 0 n) ++ f n
 flat_map-more f n = ap (flat_map f) (range-more n) ∙ (flat_map-append f (range_with_len 0 n) (n ∷ []) ∙ ap (λ xs. flat_map f (range_with_len 0 n) ++ xs) (append-nil (f n)))
 
@@ -56,11 +53,6 @@ module _ (p q : ℕ → Bool) where
   any-alike from (suc n) same =
       rw (same from (omega arith) (omega arith), any-alike (from + 1) n (λ k ge lt. same k (omega arith) (omega arith))) refl
 
-  pub all-alike : (from n : ℕ) → AgreeOn from n → list_all p (range_with_len from n) ≡ list_all q (range_with_len from n)
-  all-alike from zero same = refl
-  all-alike from (suc n) same =
-      rw (same from (omega arith) (omega arith), all-alike (from + 1) n (λ k ge lt. same k (omega arith) (omega arith))) refl
-
   pub count-alike : (from n : ℕ) → AgreeOn from n → count_by p (range_with_len from n) ≡ count_by q (range_with_len from n)
   count-alike from zero same = refl
   count-alike from (suc n) same =
@@ -91,12 +83,6 @@ any-same p q n same = any-alike p q 0 n (λ i least most. same i (omega (arith, 
 
 pub count-same : (p q : ℕ → Bool) (n : ℕ) → ((i : ℕ) → i < n → p i ≡ q i) → count_by p (range_with_len 0 n) ≡ count_by q (range_with_len 0 n)
 count-same p q n same = count-alike p q 0 n (λ i least most. same i (omega (arith, most)))
-
-pub filter-none : (n : ℕ) → filter (λ (i : ℕ). false) (range_with_len 0 n) ≡ []
-filter-none zero = refl
-filter-none (suc n) =
-    let on : n + 1 ≡ suc n = omega arith in
-    subst (λ k. filter (λ (i : ℕ). false) (range_with_len 0 k) ≡ []) on (filter-more (λ i. false) n false refl ∙ (append-nil _ ∙ filter-none n))
 
 -- a test over the numbers from one on: it passes for all, or for one of them
 pub all_in_range : (p : ℕ → Bool) (from count : ℕ) → ((j : ℕ) → from ≤ j → j < from + count → p j ≡ true) → list_all p (range_with_len from count) ≡ true

@@ -1,7 +1,7 @@
 -- Searches in lists.
-use Rattle.std.proofs.Common.{◌≡◌, zero, suc, Bool, true, ◌||◌, List, [], ◌∷◌, ◌++◌, get_or, refl, sym, ap, ◌∙◌, All, Contains, arith}
+use Rattle.std.proofs.Common.{◌≡◌, zero, suc, Bool, true, ◌||◌, List, [], ◌∷◌, ◌++◌, get_or, refl, ap, ◌∙◌, All, Contains, arith}
 use Rattle.std.proofs.Math.Bool.{or-false}
-use Rattle.std.proofs.lemmas.Bool.{and_from, and_parts}
+use Rattle.std.proofs.lemmas.Bool.{and_from, and_parts, or_right}
 use Rattle.std.specs.List.{list_all, list_any}
 use Rattle.std.proofs.lemmas.List.Elements.{Contains-get_or}
 use Rattle.std.proofs.lemmas.List.Folds.{list_any-append, list_any_at}
@@ -34,6 +34,5 @@ all_where P xs each k d lt = each (get_or xs k d) (Contains-get_or xs k d lt)
 pub any-more : {X : Type 0} (p : X → Bool) (xs : List X) (x : X) → list_any p (xs ++ x ∷ []) ≡ (list_any p xs || p x)
 any-more p xs x = list_any-append p xs (x ∷ []) ∙ ap (λ b. list_any p xs || b) (or-false (p x))
 
-pub any_or : {X : Type 0} (test : X → Bool) (xs : List X) (x : X) (before : Bool) → before ≡ list_any test xs
-    → (before || test x) ≡ list_any test (xs ++ x ∷ [])
-any_or test xs x before e = ap (λ b. b || test x) e ∙ sym (any-more test xs x)
+pub any_last : {X : Type 0} (p : X → Bool) (xs : List X) (x : X) → p x ≡ true → list_any p (xs ++ x ∷ []) ≡ true
+any_last p xs x h = any-more p xs x ∙ or_right (list_any p xs) (p x) h

@@ -3,7 +3,7 @@ use Rattle.std.specs.Prelude.{ℕ, ◌*◌, ◌/◌, max, nat_eq, Bool, Result, 
 use Rattle.std.specs.Cmp.Lexicographic.{pointwise}
 use Rattle.crm_lex.specs.declared.line.Line.{Line}
 use Rattle.crm_lex.specs.declared.fault.LexCause.{LexCause}
-use Rattle.crm_lex.specs.declared.fault.LexCause.TheVariants.{NotUtf8, ControlByte, OpenQuote, LineTooLong}
+use Rattle.crm_lex.specs.Causes.{lex_name}
 use Rattle.faults.specs.declared.fault.Fault.{Fault}
 use Rattle.faults.specs.declared.fault.Fault.TheVariants.{At, NoMemory}
 
@@ -11,16 +11,10 @@ use Rattle.faults.specs.declared.fault.Fault.TheVariants.{At, NoMemory}
 abbrev pub words_in : List Line → ℕ
 words_in lines = sum_by (λ line. length line.words) lines
 
-abbrev pub name_of : LexCause → List ℕ
-name_of NotUtf8 = codes "NotUtf8"
-name_of ControlByte = codes "ControlByte"
-name_of OpenQuote = codes "OpenQuote"
-name_of LineTooLong = codes "LineTooLong"
-
 -- what is printed of what was read of a text: the number of its lines and of all their words, or the line and cause of its first fault
 abbrev pub report : Result (List Line) (Fault LexCause) → List ℕ
 report (Ok lines) = decimal (length lines) ++ (codes " lines, " ++ (decimal (words_in lines) ++ codes " words"))
-report (Err (At line cause)) = codes "line " ++ (decimal line ++ (codes ": " ++ name_of cause))
+report (Err (At line cause)) = codes "line " ++ (decimal line ++ (codes ": " ++ lex_name cause))
 report (Err NoMemory) = []
 
 -- the word that asks for the time

@@ -1,8 +1,8 @@
 ghost use Rattle.std.specs.Prelude.{◌≡◌, ◌<◌, ◌^◌, IfOk, length, string_bytes};
 ghost use Rattle.crm_lex.specs.Reading.{reads};
-ghost use Rattle.lex_bench.specs.Counting.{name_of, report, words_in};
+ghost use Rattle.lex_bench.specs.Counting.{report, words_in};
 
-use crm_lex::{LexCause, LexFault, Line, logical_lines};
+use crm_lex::{LexFault, Line, lex_name, logical_lines};
 use std::alloc::{AllocError, Global};
 
 /// How many words the lines have together.
@@ -11,17 +11,6 @@ fn word_count(lines: &[Line]) -> usize
     ensures { result ≡ words_in lines.now }
 {
     lines.iter().map(|line| line.words.len()).sum()
-}
-
-fn cause_name(cause: LexCause) -> &'static str
-    ensures { result.now ≡ name_of cause }
-{
-    match cause {
-        LexCause::NotUtf8 => "NotUtf8",
-        LexCause::ControlByte => "ControlByte",
-        LexCause::OpenQuote => "OpenQuote",
-        LexCause::LineTooLong => "LineTooLong",
-    }
 }
 
 /// What is printed of a text: how many lines with words it has and how many words these have together, or the line of its first fault and the
@@ -36,7 +25,7 @@ pub fn report_of(alloc: Global, bytes: &[u8]) -> Result<String, AllocError>
             format!(in alloc; "{} lines, {words} words", lines.len())
         }
         Err(LexFault::At { line, cause }) => {
-            let name = cause_name(cause);
+            let name = lex_name(cause);
             format!(in alloc; "line {line}: {name}")
         }
         Err(LexFault::NoMemory) => Err(AllocError),

@@ -28,7 +28,8 @@ fn place_of_leaf(cluster: &Cluster, word: &[u8]) -> Option<usize>
         .position(|leaf| is(leaf.name.bytes(), word))
 }
 
-/// The number of the node with this name. None when the cluster has no such node. The time grows with the number of nodes.
+/// The number of the node with this name. None when the cluster has no such node. The time grows with the number of nodes. It asks for a
+/// cluster within the limits.
 pub fn node_of(cluster: &Cluster, word: &[u8]) -> Option<NodeId>
     requires { KeepsLimits cluster.now }
     ensures value { result ≡ node_of cluster.now word.now }
@@ -38,7 +39,8 @@ pub fn node_of(cluster: &Cluster, word: &[u8]) -> Option<NodeId>
     Some(place as NodeId)
 }
 
-/// The number of the leaf with this name. None when the cluster has no such leaf. The time grows with the number of leaves.
+/// The number of the leaf with this name. None when the cluster has no such leaf. The time grows with the number of leaves. It asks for a
+/// cluster within the limits.
 pub fn leaf_of(cluster: &Cluster, word: &[u8]) -> Option<LeafId>
     requires { KeepsLimits cluster.now }
     ensures value { result ≡ leaf_of cluster.now word.now }

@@ -6,4 +6,8 @@
 
 mod list;
 
+// What a slice has at a place.
+mod places;
+
 pub use list::Listed;
+pub use places::{flag_at, number_at};

@@ -16,7 +16,7 @@ use Rattle.run_safety.proofs.PlansAreOne.{plans_one}
 use Rattle.input_reading.specs.Written.{IsNamed}
 use Rattle.live_run.specs.declared.verdict.Clause.{Clause}
 use Rattle.live_run.specs.Lawful.{IsCut, IsFaulty, IsLawful, IsOther, IsUndue, IsWhole, answers_in, other, undue}
-use Rattle.live_run.proofs.Ends.{one_line_each}
+use Rattle.live_run.proofs.LineTexts.{one_line_each}
 use Rattle.live_run.proofs.Lines.{IsTextLine, same_lines}
 use Rattle.live_run.proofs.NamedRuns.{named_run}
 use Rattle.live_run.proofs.Verdicts.{joined, stands}

@@ -6,7 +6,7 @@ use Rattle.cluster_types.specs.declared.run.RunLine.{RunLine}
 use Rattle.cluster_types.specs.declared.run.RunLine.TheVariants as line
 use Rattle.cluster_types.specs.Texts.{run_line}
 use Rattle.live_run.specs.Lawful.{clause_of}
-use Rattle.live_run.specs.Written.{kind_in}
+use Rattle.live_run.specs.TextLines.{kind_in}
 
 pub kind_of_line : (c : Cluster) (l : RunLine) (more : List ℕ) → kind_in (run_line c l ++ more) ≡ clause_of l
 kind_of_line c (line.Transition k) more = refl

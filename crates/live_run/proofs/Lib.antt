@@ -8,14 +8,13 @@ pub mod Bringing
 pub mod Unfinished
 pub mod Stepping
 pub mod Asked
-pub mod Following
 pub mod Few
 pub mod Readers
 pub mod Written
 pub mod HeadBringing
 pub mod HeadLines
 pub mod Lines
-pub mod Ends
+pub mod LineTexts
 pub mod FirstBytes
 pub mod Named
 pub mod AuditDues

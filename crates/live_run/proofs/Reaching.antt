@@ -3,7 +3,7 @@ use Rattle.std.proofs.Common.{◌≡◌, ◌≢◌, ◌⊎◌, ◌↔◌, inl, i
 use Rattle.std.proofs.Math.Seq.{take-length}
 use Rattle.std.proofs.lemmas.Grind.{flat_map-append}
 use Rattle.std.proofs.lemmas.List.{append_cancel_right, map-append}
-use Rattle.lemmas.proofs.Results.{same_some}
+use Rattle.std.proofs.lemmas.Option.{same_Some}
 use Rattle.cluster_io.proofs.Pieces.{Adds-then as adds_then}
 use Rattle.cluster_io.specs.NextLine.{IsUndecided}
 use Rattle.cluster_io.specs.Readings.{Reading}
@@ -83,7 +83,7 @@ module _ (c : Cluster) (journal : Journal) (reading : Reading) where
         all (Some rest) k h e o =
             let ended : to_come t rest ≡ no_more None = ap (λ (x : Course). in_course x (to_come_reading rest)) k in
             record {
-              all = same_some results (results_first p.given (to_come t rest)) e
+              all = same_Some results (results_first p.given (to_come t rest)) e
                   ∙ (ap (results_first p.given) ended ∙ ap (λ (rs : List ResultLine). record { results = rs; stop = None }) (append-nil p.given));
               unstopped = refl;
               none_left = sym o ∙ ap Some h;
@@ -132,7 +132,7 @@ module _ (c : Cluster) (journal : Journal) (reading : Reading) where
         on : (o : Option (List ℕ)) → o ≡ after → Some results ≡ option_map (λ rest. results_first p.given (to_come t rest)) o → Given
         on None o e = cc
         on (Some rest) o e =
-            let whole = same_some results (results_first p.given (to_come t rest)) e in
+            let whole = same_Some results (results_first p.given (to_come t rest)) e in
             record {
               given = p.given;
               behind = (to_come t rest).results;
@@ -157,8 +157,8 @@ module _ (c : Cluster) (journal : Journal) (reading : Reading) where
         let g = given_by follows in
         let unread = runs_back c journal.promotions (is_none results.stop) (due 1 journal.events) run.last (Some (answers_of results)) run.unread lines (answers_of results) run.steps refl in
         let next = says_next (is_none results.stop) run.unread (rest_of (told_by t after)) a unread.back run.cut.said unread.is in
-        let back : next.back ≡ map answer_in g.behind = same_some next.back (map answer_in g.behind) (sym next.is ∙ g.rest) in
-        let front : unread.back ≡ a ∷ next.back = same_some unread.back (a ∷ next.back) (sym unread.is ∙ next.front) in
+        let back : next.back ≡ map answer_in g.behind = same_Some next.back (map answer_in g.behind) (sym next.is ∙ g.rest) in
+        let front : unread.back ≡ a ∷ next.back = same_Some unread.back (a ∷ next.back) (sym unread.is ∙ next.front) in
         let one : answers_of results ≡ (unread.taken ++ a ∷ []) ++ map answer_in g.behind
         = unread.joined ∙ (ap (λ (x : List Answer). unread.taken ++ x) (front ∙ ap (λ (x : List Answer). a ∷ x) back)
         ∙ sym (append_assoc unread.taken (a ∷ []) (map answer_in g.behind))) in
@@ -261,13 +261,13 @@ module _ (c : Cluster) (journal : Journal) (reading : Reading) where
           → Some (raw_lines (reading.held ++ left)) ≡ option_map (λ rest. h.lines ++ raw_lines (t.lines.reading.held ++ rest)) o → IsBrokenOff c journal reading left after old new
       on None o e cut = cc
       on (Some unread) o e cut =
-          let all = same_some (results_behind c journal reading left) (results_first h.given (to_come t unread)) e in
+          let all = same_Some (results_behind c journal reading left) (results_first h.given (to_come t unread)) e in
           record {
             lines = h.lines;
             held = t.lines.reading.held;
             unread = unread;
             left_is = sym o;
-            cut = same_some (raw_lines (reading.held ++ left)) (h.lines ++ raw_lines (t.lines.reading.held ++ unread)) cut;
+            cut = same_Some (raw_lines (reading.held ++ left)) (h.lines ++ raw_lines (t.lines.reading.held ++ unread)) cut;
             bytes = h.bytes;
             taken = h.read.taken;
             parts = h.read.parts;
@@ -290,7 +290,7 @@ module _ (c : Cluster) (journal : Journal) (reading : Reading) where
                 let said = w.said refl in
                 let behind = answers_of (to_come t unread) in
                 let taken : answers_of (results_behind c journal reading left) ≡ said.answers ++ behind
-                = same_some (answers_of (results_behind c journal reading left)) (said.answers ++ behind)
+                = same_Some (answers_of (results_behind c journal reading left)) (said.answers ++ behind)
                 (subst (λ (x : Option (List ℕ)). Some (answers_of (results_behind c journal reading left)) ≡ option_map (λ xs. said.answers ++ xs) (rest_of (told_by t x))) (sym o)
                 said.taken) in
                 let split : answers_of (results_behind c journal reading left) ≡ map answer_in h.given ++ behind
@@ -366,7 +366,7 @@ module _ (c : Cluster) (journal : Journal) (reading : Reading) where
       on None o f = cc
       on (Some rest) o f =
           let all : results_behind c journal reading left ≡ record { results = h.given; stop = Some h.why }
-          = same_some (results_behind c journal reading left) (record { results = h.given; stop = Some h.why }) f in
+          = same_Some (results_behind c journal reading left) (record { results = h.given; stop = Some h.why }) f in
           let stop : (results_behind c journal reading left).stop ≡ Some h.why = ap (λ (x : Coming). x.stop) all in
           let behind : rest_of (told_by t after) ≡ Some []
           = ap (λ (x : Option (List ℕ)). rest_of (told_by t x)) (sym o) ∙ ap (λ (x : Coming). Some (answers_of x)) (stops_here t h.why rest h.last h.stop) in

@@ -19,14 +19,14 @@ use Rattle.live_run.specs.declared.verdict.Verdict.{Verdict}
 use Rattle.live_run.specs.declared.verdict.Verdict.TheVariants.{Yes, No}
 use Rattle.live_run.specs.Compared.{Compares, IsDifference, IsEnd, IsFault, IsFront, WroteRun}
 use Rattle.live_run.specs.Lawful.{IsFaulty, IsFaultyLine, IsLawful, IsOther, IsSoFar, IsUndue, Judges, answers_in, clause_of, other, undue, said}
-use Rattle.live_run.specs.Written.{ended_in, kind_in, unended_in}
-use Rattle.live_run.proofs.Ends.{one_line_each}
+use Rattle.live_run.specs.TextLines.{ended_in, kind_in, unended_in}
+use Rattle.live_run.proofs.LineTexts.{one_line_each}
 use Rattle.live_run.proofs.FirstBytes.{kind_of_line}
 use Rattle.live_run.proofs.Lines.{IsParted, IsTextLine, ended-append, ended_line, no_line, parted, same_line}
 use Rattle.live_run.proofs.NamedRuns.{named_run}
 
 -- what named lines say is named
-said_named : (lines : List RunTextLine) → AreNamed lines → AllByRecursion IsNamed (said lines)
+pub said_named : (lines : List RunTextLine) → AreNamed lines → AllByRecursion IsNamed (said lines)
 said_named [] h = tt
 said_named (l ∷ lines) h = (h.0, said_named lines h.1)
 

@@ -14,7 +14,8 @@ use Rattle.lemmas.proofs.Ranges.{flat_map-more}
 use Rattle.live_run.specs.Writing.{Puts, heard_of}
 use Rattle.trace_text.proofs.MoreLines.{lines_of_lines, lines_of_three}
 
-adds_none : (text : Option (List ℕ)) → Adds text [] text
+-- nothing is added
+pub adds_none : (text : Option (List ℕ)) → Adds text [] text
 adds_none None = refl
 adds_none (Some t) = ap Some (sym (append-nil t))
 

@@ -16,7 +16,7 @@ use Rattle.live_run.specs.declared.verdict.Clause.TheVariants as clause
 use Rattle.live_run.specs.declared.verdict.Verdict.{Verdict}
 use Rattle.live_run.specs.declared.verdict.Verdict.TheVariants.{Yes, No}
 use Rattle.live_run.specs.Lawful.{number_at}
-use Rattle.live_run.specs.Written.{ended_in, kind_in, unended_in}
+use Rattle.live_run.specs.TextLines.{ended_in, kind_in, unended_in}
 
 module _ (c : Cluster) (journal : Journal) (answers : List Answer) (written : List ℕ) where
   -- the whole run was written

@@ -13,5 +13,5 @@ pub mod Writing
 pub mod LineWriters
 pub mod Heads
 pub mod Lawful
-pub mod Written
+pub mod TextLines
 pub mod Compared

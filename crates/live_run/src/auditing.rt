@@ -22,8 +22,8 @@ use trace_text::valid_clusters_have_short_names;
 /// line that isn't the due one, and what is due there; where the lines end too early, `after` stands for its number.
 ///
 /// It asks for a valid cluster, for a journal in order with nothing in flight, as a status gives it, for a moment in seconds that fits 64
-/// bits, and for lines as `read_run` gives them. `NoMemory` comes when memory runs out, or there are 4,294,967,295 lines or more. Rule of
-/// this project.
+/// bits, and for lines as `read_run` gives them. `NoMemory` comes when memory runs out, or there are 4,294,967,295 answers or more. Rule
+/// of this project.
 pub fn audit(
     alloc: Global,
     cluster: &Cluster,

@@ -1,7 +1,7 @@
 //! Two texts of lines, and where they differ.
 
 ghost use Rattle.std.specs.Prelude.{◌≡◌, ◌≢◌, ◌≤◌, ◌<◌, length, take, slice_get};
-ghost use Rattle.live_run.specs.Written.{ended_in, kind_by, kind_in, unended_in};
+ghost use Rattle.live_run.specs.TextLines.{ended_in, kind_by, kind_in, unended_in};
 
 use crate::verdict::Clause;
 use memchr::memrchr;

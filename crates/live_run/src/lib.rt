@@ -1,6 +1,6 @@
-//! A run over result lines as they come, each line written as it happens, to where its text ends (Pacemaker Administration,
-//! "Transitions"; when a run ends is a rule of this project); and an auditor of written runs: whether their lines are those
-//! of the run of their own answers (rule of this project).
+//! A run over result lines as they come, each line written as it happens, to where its text ends (Pacemaker
+//! Administration, "Transitions"; when a run ends is a rule of this project); and an auditor of written runs: whether
+//! their lines are those of the run of their own answers (rule of this project).
 #![tactic(auto)]
 
 // The head of an input.

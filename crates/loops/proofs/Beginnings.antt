@@ -50,6 +50,7 @@ module _ (p : ℕ → Bool) where
       IsDistinct-cons ◌==◌ a (filter p (range_with_len (a + 1) n)) (none_all a (filter p (range_with_len (a + 1) n)) (fresh a n)) d
   distinct_on a n false d = d
 
+  -- the numbers of a range that pass a test are different
   pub distinct_filter : (a n : ℕ) → IsDistinct ◌==◌ (filter p (range_with_len a n))
   unfolding IsDistinct
   distinct_filter a zero = tt

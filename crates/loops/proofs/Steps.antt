@@ -38,6 +38,10 @@ taken_next positions edges taken waiting cleared lt c = record {
 
 -- An edge is counted off.
 
+-- the counts of the other positions stay
+pub left_elsewhere : (waiting : List ℕ) (p x : ℕ) → x ≢ p → slice_index_or (less_one waiting p) x 0 ≡ slice_index_or waiting x 0
+left_elsewhere waiting p x differ = get_or-set_other waiting p x (slice_index_or waiting p 0 - 1) 0 differ
+
 module _ (positions : ℕ) (edges : List Edge) (taken p : ℕ) (pending waiting cleared : List ℕ)
     (c : Clears positions edges taken (p ∷ pending) waiting cleared)
     (some : 0 < slice_index_or waiting p 0) where
@@ -56,9 +60,6 @@ module _ (positions : ℕ) (edges : List Edge) (taken p : ℕ) (pending waiting 
   left_there : slice_index_or (less_one waiting p) p 0 ≡ slice_index_or waiting p 0 - 1
   left_there = let s = c.size in let w = p_within in get_or-set_same waiting p (slice_index_or waiting p 0 - 1) 0 (omega arith)
 
-  left_elsewhere : (x : ℕ) → x ≢ p → slice_index_or (less_one waiting p) x 0 ≡ slice_index_or waiting x 0
-  left_elsewhere x differ = get_or-set_other waiting p x (slice_index_or waiting p 0 - 1) 0 differ
-
   counted_there : slice_index_or (less_one waiting p) p 0 ≡ edges_beyond edges (take taken cleared) p + count_by (◌==◌ p) pending
   counted_there =
       let l = left_there in
@@ -69,7 +70,7 @@ module _ (positions : ℕ) (edges : List Edge) (taken p : ℕ) (pending waiting 
   counted_elsewhere : (x : ℕ) → x < positions → x ≢ p
       → slice_index_or (less_one waiting p) x 0 ≡ edges_beyond edges (take taken cleared) x + count_by (◌==◌ x) pending
   counted_elsewhere x within differ =
-      let l = left_elsewhere x differ in
+      let l = left_elsewhere waiting p x differ in
       let old = c.counted x within in
       let none : count_by (◌==◌ x) (p ∷ pending) ≡ 0 + count_by (◌==◌ x) pending = count-is (◌==◌ x) p pending false (ne_eqb x p differ) in
       omega arith
@@ -85,7 +86,7 @@ module _ (positions : ℕ) (edges : List Edge) (taken p : ℕ) (pending waiting 
   ready_later : slice_index_or waiting p 0 ≢ 1 → (x : ℕ) → x < positions → has cleared x ≡ (slice_index_or (less_one waiting p) x 0 == 0)
   ready_later more x within = elim (cases_eq x p) [
     | inl e ↦ rw e (let l = left_there in let w = p_waits in grind arith)
-    | inr differ ↦ rw (left_elsewhere x differ) (c.ready x within)
+    | inr differ ↦ rw (left_elsewhere waiting p x differ) (c.ready x within)
   ]
 
   pub still_waits : slice_index_or waiting p 0 ≢ 1 → Clears positions edges taken pending (less_one waiting p) cleared
@@ -113,7 +114,7 @@ module _ (positions : ℕ) (edges : List Edge) (taken p : ℕ) (pending waiting 
       → has (cleared ++ p ∷ []) x ≡ (slice_index_or (less_one waiting p) x 0 == 0)
   ready_now one x within = elim (cases_eq x p) [
     | inl e ↦ rw (e, has_push cleared p p) (let l = left_there in let w = p_waits in grind arith)
-    | inr differ ↦ rw (left_elsewhere x differ, has_push cleared p x, ne_eqb x p differ) (or-false (has cleared x) ∙ c.ready x within)
+    | inr differ ↦ rw (left_elsewhere waiting p x differ, has_push cleared p x, ne_eqb x p differ) (or-false (has cleared x) ∙ c.ready x within)
   ]
 
   leads_to_taken : slice_index_or waiting p 0 ≡ 1 → (e : Edge) → Contains edges e → e.before ≡ p → has cleared e.after ≡ true

@@ -19,7 +19,7 @@ edges_from edges x = count_by (λ e. x == e.before) edges
 abbrev pub edges_beyond : List Edge → List ℕ → ℕ → ℕ
 edges_beyond edges taken x = count_by (λ e. x == e.before && not (has taken e.after)) edges
 
--- the counts when one edge from the position is counted off
+-- the counts when one edge of the position is counted off
 abbrev pub less_one : List ℕ → ℕ → List ℕ
 less_one waiting x = slice_set waiting x (slice_index_or waiting x 0 - 1)
 

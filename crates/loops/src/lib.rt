@@ -23,4 +23,4 @@ pub use laws::{
     edges_without_a_loop_rise, first_loop_is_one, longest_ways_are_one, loops_are_paths,
     loops_or_none, loops_stay, ways_are_short,
 };
-pub use measuring::longest_ways;
+pub use measuring::{longest_ways, longest_ways_if_free};

@@ -2,7 +2,7 @@ ghost use Rattle.std.specs.Prelude.{◌≡◌, ◌≤◌, ◌<◌, ℕ, IfOk, le
 ghost use Rattle.loops.specs.Loops.{EndWithin, HasNoLoop};
 ghost use Rattle.loops.specs.Longest as longest;
 
-use crate::clearing::backward_order;
+use crate::clearing::{backward_order, is_loop_free};
 use crate::edge::Edge;
 use crate::sources::sources;
 use std::alloc::{AllocError, Global};
@@ -41,4 +41,23 @@ pub fn longest_ways(alloc: Global, positions: u32, edges: &[Edge]) -> Result<Vec
         ways[position as usize] = most;
     }
     Ok(ways)
+}
+
+/// The same of edges that may have a loop: where they have one it is empty.
+///
+/// It asks for at most 1,000,000,000 positions, and for edges whose ends are positions.
+pub fn longest_ways_if_free(
+    alloc: Global,
+    positions: u32,
+    edges: &[Edge],
+) -> Result<Vec<u32>, AllocError>
+    requires few { positions ≤ 1000000000 }
+    requires within { EndWithin positions edges.now }
+    ensures { IfOk result (λ ways. HasNoLoop positions edges.now
+        → (x : ℕ) → x < positions → slice_index_or ways.items x 0 ≡ longest.longest positions edges.now x) }
+{
+    if !is_loop_free(alloc, positions, edges)? {
+        return Ok(Vec::new(alloc));
+    }
+    longest_ways(alloc, positions, edges)
 }

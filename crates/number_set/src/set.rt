@@ -116,7 +116,7 @@ impl NumberSet {
         one_less(self.counts.as_mut_slice(), leaves, leaves + place);
     }
 
-    /// The member at this place in ascending order, from 0.
+    /// The member at this place in ascending order, from 0. It asks for a place below the count.
     pub fn nth(&self, place: u32) -> u32
         requires { place < length (members self.now) }
         ensures { slice_get (members self.now) place ≡ Some result }

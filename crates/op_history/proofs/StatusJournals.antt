@@ -1,6 +1,7 @@
 -- The first journal that a status says is in order and has nothing in flight.
 use Rattle.std.proofs.Common.{◌≡◌, ℕ, nat_lt, ◌==◌, Bool, true, false, if◌then◌else◌, List, [], ◌∷◌, length, codes, Result, Ok, Err, IfOk, refl, sym, subst}
 use Rattle.std.specs.List.{list_all}
+use Rattle.std.proofs.lemmas.Result.{IfOk-weaker}
 use Rattle.crm_lex.specs.Names.{is}
 use Rattle.lemmas.proofs.Results.{by_result}
 use Rattle.crm_lex.specs.declared.line.Line.{Line}
@@ -126,15 +127,11 @@ by_lines c P lines journal =
     (λ told h e. let same : journals.journal_of c told ≡ journal = cc in subst (λ (j : Journal). P j.events) same h)
     (λ fault h e. absurd cc) (journals.with_lines c [] lines)
 
-if_so : {A F : Type 0} (P Q : A → Type 0) → ((x : A) → P x → Q x) → (read : Result A F) → IfOk read P → IfOk read Q
-if_so P Q so (Ok x) h = so x h
-if_so P Q so (Err fault) h = tt
-
 pub journal_orderly : (c : Cluster) (lines : List Line) (journal : Journal) → status_of c lines ≡ Ok journal → Orderly journal.events
 journal_orderly c lines journal =
-    by_lines c Orderly lines journal (if_so _ _ (journal_in_order c) (journals.with_lines c [] lines) (lines_known c lines))
+    by_lines c Orderly lines journal (IfOk-weaker (journals.with_lines c [] lines) _ _ (journal_in_order c) (lines_known c lines))
 
 pub journal_idle : (c : Cluster) (lines : List Line) (journal : Journal) → status_of c lines ≡ Ok journal → in_flight journal.events ≡ []
 journal_idle c lines journal =
     by_lines c (λ es. in_flight es ≡ []) lines journal
-    (if_so _ _ (journal_is_idle c) (journals.with_lines c [] lines) (lines_known c lines))
+    (IfOk-weaker (journals.with_lines c [] lines) _ _ (journal_is_idle c) (lines_known c lines))

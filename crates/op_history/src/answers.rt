@@ -167,7 +167,7 @@ fn answer_as<W: Words>(
 }
 
 /// The answer that the words of a result line give, which is taken at a moment in seconds, or the cause of its leftmost
-/// faulty word. The lines are those of `read_result`.
+/// faulty word. The lines are those of `read_result`. It asks for a cluster within the limits and a moment below 2^40.
 #[tactic(auto, unfolding(crate::specs::Results::answer_of))]
 pub fn answer_of<W: Words>(cluster: &Cluster, moment: u64, words: &W) -> Result<Answer, WordCause>
     requires limits { KeepsLimits cluster.now }

@@ -64,7 +64,8 @@ fn result_of<W: Words>(
 /// `report NODE LEAF MS CODE`. A number of an action and MS are from 1 to 4,294,967,295, CODE is from 0 to 255, and after a wait the moment is
 /// below 1,099,511,627,776. `TooManyResults` comes after 10,000 result lines. Else the leftmost faulty word counts: `UnknownStatement` at a
 /// first word that begins no result line, `MissingWord` where the line ends too early, `ExtraWord` past its end, `UnknownName` at a NODE or
-/// LEAF that the cluster doesn't have, and `BadValue` at any other word that isn't one of its place. Rule of this project.
+/// LEAF that the cluster doesn't have, and `BadValue` at any other word that isn't one of its place. It asks for a cluster within the limits
+/// and a moment below 2^40. Rule of this project.
 pub fn read_result(
     cluster: &Cluster,
     moment: u64,
@@ -84,8 +85,8 @@ pub fn read_result(
 }
 
 /// Reads result lines, of which the first is taken at the moment of the journal. Each line is read as by `read_result`, after the lines before
-/// it and their waits. The fault is that of the first faulty line; `NoMemory` comes when
-/// memory runs out.
+/// it and their waits. The fault is that of the first faulty line; `NoMemory` comes when memory runs out. It asks for a cluster within the
+/// limits and a journal with a moment below 2^40.
 pub fn read_results(
     alloc: Global,
     cluster: &Cluster,

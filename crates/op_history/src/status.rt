@@ -18,7 +18,7 @@ use cluster_types::{Cluster, Journal};
 use crm_lex::Line;
 use std::alloc::Global;
 
-/// What one more line tells, which no line before it told.
+/// What one more line tells; `Repeated` where a line before it told what may be told once.
 fn told_on(cluster: &Cluster, told: &ToldLines, line: &Line) -> Result<Told, StatusFault>
     requires { KeepsLimits cluster.now }
     ensures read { Gives (λ one. told.now ++ one ∷ []) result (with_line cluster.now told.now line.now) }

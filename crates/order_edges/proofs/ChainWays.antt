@@ -3,13 +3,9 @@ use Rattle.std.proofs.Common.{arith, ◌≡◌, ◌<◌, ◌≤◌, ◌+◌, inl
 use Rattle.std.proofs.lemmas.List.Elements.{Contains-append_cases, Contains-append_left, Contains-append_right}
 use Rattle.cluster_types.specs.declared.edges.Edge.{Edge}
 use Rattle.cluster_types.specs.Graphs.{Leads, direct, through}
-use Rattle.cluster_types.proofs.GateGroups.{IsOwn, action, gate}
+use Rattle.cluster_types.proofs.GateGroups.{more_edges, own_gate}
 use Rattle.order_edges.specs.Gates.{chain_edges, chain_step, edge, next_gate, then_step}
 use Rattle.order_edges.proofs.ChainEdges.{IsChainEdge, IsHeadEdge, to_then, into, onward, chain_edge, has_first, has_then, is_head, next_is, next_of, next_same}
-
-more_edges : (actions : ℕ) (some all : List Edge) → ((e : Edge) → Contains some e → Contains all e) → (x y : ℕ) → Leads actions some x y → Leads actions all x y
-more_edges actions some all f _ _ (direct e c) = direct e (f e c)
-more_edges actions some all f _ _ (through e y c g rest) = through e y (f e c) g (more_edges actions some all f e.after y rest)
 
 module _ (actions : ℕ) (is_first is_then : ℕ → Bool) where
   abbrev chain : ℕ → List ℕ → List Edge
@@ -17,10 +13,6 @@ module _ (actions : ℕ) (is_first is_then : ℕ → Bool) where
 
   abbrev head : ℕ → ℕ → List Edge
   head from place = then_step is_first is_then from place ++ chain_step is_first is_then from place
-
-  gate_after : (from x : ℕ) → IsOwn actions from x → actions ≤ x → from ≤ x
-  gate_after from x (action h) l = absurd (omega arith)
-  gate_after from x (gate h) l = h
 
   -- one position in front of a chain
   module _ (from place : ℕ) (places : List ℕ) (le : actions ≤ from) (within : place < actions) (all_within : (i : ℕ) → Contains places i → i < actions) where
@@ -58,7 +50,7 @@ module _ (actions : ℕ) (is_first is_then : ℕ → Bool) where
         elim (Contains-append_cases (head from place) tail e c) [
           | inl h ↦ not_head e (is_head actions is_first is_then from place e h) l
           | inr h ↦ (
-              let k = gate_after (next + 1) e.after (tail_edge e h).after g in
+              let k = own_gate actions (next + 1) e.after (tail_edge e h).after g in
               let n = next_of actions is_first is_then from place in
               through e y h g (from_later e.after y rest (omega arith)))
         ]
@@ -66,7 +58,7 @@ module _ (actions : ℕ) (is_first is_then : ℕ → Bool) where
     -- what leads on within the rest
     within_tail : (e : Edge) (y : ℕ) → Contains tail e → actions ≤ e.after → Leads actions whole e.after y → Leads actions tail e.before y
     within_tail e y h g rest =
-        let k = gate_after (next + 1) e.after (tail_edge e h).after g in
+        let k = own_gate actions (next + 1) e.after (tail_edge e h).after g in
         let n = next_of actions is_first is_then from place in
         through e y h g (from_later e.after y rest (omega arith))
 
@@ -93,7 +85,7 @@ module _ (actions : ℕ) (is_first is_then : ℕ → Bool) where
     same_gate : (e : Edge) → Contains tail e → e.before ≡ from → e.before ≡ next
     same_gate e h q =
         let n = next_of actions is_first is_then from place in
-        let k = gate_after next e.before (tail_edge e h).before (omega arith) in
+        let k = own_gate actions next e.before (tail_edge e h).before (omega arith) in
         omega arith
 
     pub from_start : (x y : ℕ) → Leads actions whole x y → x ≡ from → y < actions → FromStart y

@@ -4,7 +4,7 @@ use Rattle.std.specs.List.{list_any}
 use Rattle.std.proofs.lemmas.Bool.{eqb-true, eqb-false}
 use Rattle.std.proofs.lemmas.List.{get_or-set_same, get_or-set_other, take_more}
 use Rattle.std.proofs.lemmas.List.Folds.{list_any-append}
-use Rattle.std.proofs.Math.Bool.{or-false}
+use Rattle.std.proofs.Math.Bool.{or-false, or-true}
 use Rattle.cluster_types.specs.declared.journal.Action.{Action}
 use Rattle.cluster_types.specs.declared.journal.Action.TheVariants.{Fence, Probe, Cell, MigrateTo, MigrateFrom}
 use Rattle.cluster_types.specs.Precedence.{is_migrating, sends}
@@ -34,14 +34,10 @@ migrating_more actions i d a r b at within e =
 set_at : (flags : List Bool) (r q : ℕ) (before : Bool) → q < length flags → get_or flags r false ≡ before → get_or (set flags q true) r false ≡ before || q == r
 set_at flags r q before l is = on (q == r) refl
   where
-    or_true : (b : Bool) → true ≡ b || true
-    or_true true = refl
-    or_true false = refl
-
     on : (b : Bool) → (q == r) ≡ b → get_or (set flags q true) r false ≡ before || b
     on true e =
         let same : q ≡ r = eqb-true q r e in
-        subst (λ n. get_or (set flags q true) n false ≡ before || true) same (get_or-set_same flags q true false l ∙ or_true before)
+        subst (λ n. get_or (set flags q true) n false ≡ before || true) same (get_or-set_same flags q true false l ∙ sym (or-true before))
     on false e = get_or-set_other flags q r true false (λ same. eqb-false q r e (sym same)) ∙ (is ∙ sym (or-false before))
 
 pub flags_more : (actions : List Action) (i : ℕ) (flags more : List Bool) (d a : Action) (leaf : Option ℕ) → a ≡ get_or actions i d → i < length actions → send_if a ≡ leaf

@@ -1,5 +1,5 @@
 -- What is built of a colocation more.
-use Rattle.std.proofs.Common.{◌≡◌, ◌<◌, ◌+◌, ◌*◌, ◌++◌, if◌then◌else◌, ℕ, true, List, [], ◌∷◌, length, Result, Ok, Err, IfOk, OnOk, sym, ap, subst}
+use Rattle.std.proofs.Common.{◌≡◌, ◌<◌, ◌+◌, ◌*◌, ◌++◌, if◌then◌else◌, ℕ, true, List, [], ◌∷◌, length, sym, ap, subst}
 use Rattle.std.proofs.lemmas.List.{append_assoc}
 use Rattle.cluster_types.specs.declared.cluster.Cluster.{Cluster}
 use Rattle.cluster_types.specs.declared.edges.Edge.{Edge}
@@ -15,10 +15,6 @@ use Rattle.order_edges.specs.Places.{places_of}
 use Rattle.order_edges.specs.Rooms.{Builds, rows_of, width_of}
 use Rattle.order_edges.proofs.BuildsMore.{builds_more}
 use Rattle.order_edges.proofs.IndexPlaces.{index_is}
-
-pub on_both : {T E A B C : Type 0} (r : Result T E) → (A → B → C) → OnOk r A → OnOk r B → OnOk r C
-on_both (Ok v) f a b = f a b
-on_both (Err e) f a b = tt
 
 module _ (c : Cluster) (actions : List Action) (index : List (List ℕ)) (col : Colocation) (is : IsIndex actions (length c.leaves) index)
     (dependent : col.dependent < length c.leaves) (primary : col.primary < length c.leaves) (separate : is_separation col ≡ true) where
@@ -45,11 +41,3 @@ module _ (c : Cluster) (actions : List Action) (index : List (List ℕ)) (col : 
       let second = builds_more c actions (places_of actions) more on (js ++ one ∷ []) other (places_in index col.primary col.dependent) most upto first
       (index_is actions (length c.leaves) index col.primary col.dependent is primary dependent) g h in
       subst (λ v. Built most upto (js ++ v)) (sym joins_are) (subst (λ v. Built most upto v) (append_assoc js (one ∷ []) (other ∷ [])) second)
-
-pub on_ok : {T E A B : Type 0} (r : Result T E) → (A → B) → OnOk r A → OnOk r B
-on_ok (Ok v) f a = f a
-on_ok (Err e) f a = tt
-
-pub if_ok : {T E : Type 0} {A B : T → Type 0} (r : Result T E) → ((v : T) → A v → B v) → IfOk r A → IfOk r B
-if_ok (Ok v) f a = f v a
-if_ok (Err e) f a = tt

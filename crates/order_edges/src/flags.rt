@@ -39,7 +39,7 @@ fn no_flags(alloc: Global, leaves: u32) -> Result<Vec<bool>, AllocError>
     Ok(flags)
 }
 
-/// Of each leaf whether it migrates, in time linear in the leaves and the actions.
+/// Of each leaf whether it migrates, in time linear in the leaves and the actions. It asks that each leaf that is sent is one of so many.
 pub fn migrating_flags(
     alloc: Global,
     leaves: u32,

@@ -1,6 +1,6 @@
 //! The edges of joins, through a gate for each cell.
 
-ghost use Rattle.std.specs.Prelude.{◌≡◌, ◌++◌, ◌∷◌, [], ◌<◌, ◌≤◌, All, IfSome, OnOk, length, slice_index_or, false};
+ghost use Rattle.std.specs.Prelude.{◌≡◌, ◌++◌, ◌∷◌, [], ◌<◌, ◌≤◌, All, IfSome, OnOk, length};
 ghost use Rattle.order_edges.specs.Gates.{edge, edge_in, edge_out, edges_at, gate_of, join_edges, key_at};
 ghost use Rattle.order_edges.specs.Leaves as leaves;
 ghost use Rattle.order_edges.specs.Rooms.{HasRoom};
@@ -9,6 +9,7 @@ use crate::keys::{Key, key_of};
 use crate::known::Known;
 use crate::sides::{Join, Side};
 use cluster_types::{Action, Edge, LeafId};
+use listed::flag_at;
 use std::alloc::AllocError;
 
 fn leaf_of(action: Action) -> LeafId
@@ -23,23 +24,13 @@ fn leaf_of(action: Action) -> LeafId
     }
 }
 
-/// Whether the leaf is among those that migrate.
-fn migrates(migrating: &[bool], leaf: LeafId) -> bool
-    ensures { result ≡ slice_index_or migrating.now leaf false }
-{
-    match migrating.get(leaf as usize) {
-        Some(moves) => *moves,
-        None => false,
-    }
-}
-
 /// By which cell the action at the position stands on the side.
 fn key_at(known: &Known, side: Side, place: u32) -> Option<Key>
     requires within { place < length known.now.actions.now }
     ensures { result ≡ key_at known.now.cluster.now known.now.actions.now side place }
 {
     let action = known.actions[place as usize];
-    let moves = migrates(known.migrating, leaf_of(action));
+    let moves = flag_at(known.migrating, leaf_of(action));
     key_of(known.cluster, side, action, moves)
 }
 

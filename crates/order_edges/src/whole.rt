@@ -49,9 +49,9 @@ fn all_edges(alloc: Global, known: &Known) -> Result<Edges, NoMemory>
 /// from whose position the edges lead to the other's, directly or through gates alone. The positions of the actions come first, in the
 /// order that they have here; the gates follow. There are at most as many edges as `most_edges` says.
 ///
-/// The actions stand in the order of their numbers, and their leaves and nodes are those of the cluster. Out of memory is the only other
-/// answer. But for the sorts that orders of the kind Serialize need, the time is linear: in the actions, and for each rule in the nodes
-/// and the actions of its leaves.
+/// The actions stand in the order of their numbers, and their leaves and nodes are those of the cluster. It asks that `most_edges` is at
+/// most 2,000,000,000. Out of memory is the only other answer. But for the sorts that orders of the kind Serialize need, the time is
+/// linear: in the actions, and for each rule in the nodes and the actions of its leaves.
 pub fn edges(alloc: Global, cluster: &Cluster, actions: &[Action]) -> Result<Edges, NoMemory>
     requires valid { IsValid cluster.now }
     requires few { most_edges cluster.now actions.now ≤ 2000000000 }

@@ -2,6 +2,7 @@
 use Rattle.std.proofs.Common.{◌≡◌, ℕ, ◌+◌, ◌<◌, Bool, true, false, not, ◌&&◌, ◌||◌, List, [], ◌∷◌, length, take, get_or, refl, sym, ap, ◌∙◌}
 use Rattle.std.specs.List.{list_all}
 use Rattle.std.proofs.lemmas.List.Folds.{list_all_more}
+use Rattle.std.proofs.Math.Bool.{and_assoc}
 use Rattle.cluster_types.specs.declared.placement.Decision.{Decision}
 use Rattle.cluster_types.specs.declared.rules.Colocation.{Colocation}
 use Rattle.cluster_types.specs.Choice.{is_dependent, is_mandatory, is_primary, is_separation}
@@ -25,15 +26,11 @@ free-allows table d n col e =
     free (is_mandatory col) (is_separation col) (is_dependent d col) (is_primary d col) (holds_role table col.primary col.primary_role n)
     (holds_role table col.dependent col.dependent_role n) e
 
-grouped : (a b d : Bool) → ((a && b) && d) ≡ (a && (b && d))
-grouped true b d = refl
-grouped false b d = refl
-
 -- one colocation more
 pub allowed-more : (table : Targets) (d : Decision) (n : ℕ) (cols : List Colocation) (i : ℕ) (col : Colocation) → i < length cols → col ≡ get_or cols i col → (among : Bool)
     → ((among && list_all (allows table d n) (take i cols)) && allows table d n col) ≡ (among && list_all (allows table d n) (take (i + 1) cols))
 allowed-more table d n cols i col low is among =
-    grouped among (list_all (allows table d n) (take i cols)) (allows table d n col)
+    and_assoc among (list_all (allows table d n) (take i cols)) (allows table d n col)
     ∙ ap (λ b. among && b)
     (ap (λ x. list_all (allows table d n) (take i cols) && allows table d n x) is ∙ sym (list_all_more (allows table d n) cols i col low))
 

@@ -22,7 +22,7 @@ use Rattle.cluster_types.specs.Rights.{rights_of}
 use Rattle.cluster_types.specs.Tables.{Targets, load_of}
 use Rattle.cluster_types.specs.Unpacked.{states_of}
 use Rattle.plan_laws.proofs.Picked.{picked_are_first}
-use Rattle.plan_laws.proofs.FewChosen.{by_load_one_way, tot_one_way}
+use Rattle.plan_laws.proofs.FewChosen.{chosen_one_way}
 use Rattle.score_table.specs.Scores.{scores_of}
 use Rattle.score_table.proofs.OwnOfStates.{from-zero}
 use Rattle.score_table.proofs.TableOfStates.{total-is}
@@ -90,14 +90,6 @@ module _ (c : Cluster) (es : List Event) (ps : List Promotion) (table : Targets)
         goes _ _ (total_on c es ps table d n) (total_on c es ps table d m) _ _ (load_of c table n) (load_of c table m) n m
         (total-at n low) (total-at m also) (load-at n low) (load-at m also) h
 
-    abbrev by_load : ℕ → ℕ → Bool
-    by_load n m = nat_lt (load_of c table n) (load_of c table m) || load_of c table n == load_of c table m && nat_lt n m
-
-    not-both : (n m : ℕ) → is_chosen_before c es ps table d n m ≡ true → is_chosen_before c es ps table d m n ≡ true → ⊥
-    not-both n m h g =
-        tot_one_way (total_on c es ps table d n) (total_on c es ps table d m) (by_load n m) (by_load m n)
-        (by_load_one_way (load_of c table n) n (load_of c table m) m) h g
-
     long : length on_each ≡ length c.nodes
     long = length-map-range_with_len (total_on c es ps table d) 0 (length c.nodes)
 
@@ -107,7 +99,7 @@ module _ (c : Cluster) (es : List Event) (ps : List Promotion) (table : Targets)
     -- among the candidates that were found
     first-are : (n : ℕ) → n < length c.nodes → has picked n ≡ (has among n && nat_lt (ahead (has among) n) (cap_of c es d))
     first-are n low =
-        picked_are_first (length c.nodes) (has among) (is_chosen_before c es ps table d) not-both (has picked) picks.fits
+        picked_are_first (length c.nodes) (has among) (is_chosen_before c es ps table d) (chosen_one_way c es ps table d) (has picked) picks.fits
         (λ x y h a k. goes-before x y (there x (picks.fits x h)) (there y a) (picks.first x y h a k))
         (cap_of c es d) (let most = picks.most in omega (arith, most, size-is))
         (λ x in-range a k. let enough = picks.enough x a k in omega (arith, enough, size-is)) n low

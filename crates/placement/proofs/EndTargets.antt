@@ -16,12 +16,10 @@ use Rattle.cluster_types.specs.declared.rules.Order.{Order}
 use Rattle.cluster_types.specs.Decisions.{decision_of}
 use Rattle.cluster_types.specs.Held.{AreTargets, ColocationMayHold, Held, IsClosed, Keeps, LacksFirst, LacksPrimary, OrderMayHold}
 use Rattle.cluster_types.specs.Pins.{pin_of}
-use Rattle.cluster_types.specs.Precedence.{is_up}
+use Rattle.cluster_types.specs.Precedence.{is_mandatory_order, is_up, role_by}
 use Rattle.cluster_types.specs.Tables.{Targets, holds_role, is_in_scope, is_promoted_target, is_somewhere}
 use Rattle.cluster_types.proofs.LeastSets.{held-least}
-use Rattle.cluster_types.proofs.OpLaws.{up_of}
-use Rattle.plan_laws.specs.HeldMarks.{is_mandatory_order, role_by}
-use Rattle.plan_laws.proofs.HeldTests.{gives_one}
+use Rattle.cluster_types.proofs.OpLaws.{gives_one, up_of}
 use Rattle.plan_laws.proofs.MadeOnes.{never_both}
 use Rattle.placement.specs.declared.dependencies.Dependency.{Dependency}
 use Rattle.placement.specs.Dependencies.{dependencies_by, from_colocation, from_order, may_hold}

@@ -1,6 +1,6 @@
 -- Of the targets in the end: what is left was chosen, what isn't left is held, and what is held isn't left.
 use Rattle.std.proofs.Common.{◌≡◌, ◌<◌, ◌&&◌, not, nat_lt, ℕ, Bool, true, false, List, refl, sym, ◌∙◌, ap, length}
-use Rattle.std.proofs.lemmas.Bool.{false_from_ne_true, not-true}
+use Rattle.std.proofs.lemmas.Bool.{false_from_ne_true, ltb-true, not-true}
 use Rattle.lemmas.proofs.Booleans.{later, sooner}
 use Rattle.cluster_types.specs.declared.cluster.Cluster.{Cluster}
 use Rattle.cluster_types.specs.declared.journal.Event.{Event}
@@ -16,7 +16,6 @@ use Rattle.cluster_types.specs.Tables.{Targets, holds_role}
 use Rattle.plan_laws.specs.HeldMarks.{Marks}
 use Rattle.plan_laws.proofs.HeldReason as held_rule
 use Rattle.plan_laws.proofs.MadeOnes.{never_both}
-use Rattle.plan_laws.proofs.OneStep.{below}
 use Rattle.plan_laws.proofs.StayHeld.{has, holds_is, nowhere_has_none}
 use Rattle.plan_laws.proofs.TablesWithin.{StaysWithin, is_cell}
 use Rattle.placement.proofs.Lacking.{held_not}
@@ -30,8 +29,8 @@ on_cell c table inside r given n h = go (is_cell c r n) refl
   where
     go : (b : Bool) → is_cell c r n ≡ b → (r < length c.leaves) × (n < length c.nodes)
     go true e = (
-      below r (length c.leaves) (sooner (nat_lt r (length c.leaves)) (nat_lt n (length c.nodes)) e),
-      below n (length c.nodes) (later (nat_lt r (length c.leaves)) (nat_lt n (length c.nodes)) e),
+      ltb-true r (length c.leaves) (sooner (nat_lt r (length c.leaves)) (nat_lt n (length c.nodes)) e),
+      ltb-true n (length c.nodes) (later (nat_lt r (length c.leaves)) (nat_lt n (length c.nodes)) e),
     )
     go false e =
         absurd (never_both (has given target.Nowhere) (ap (has given) (sym (inside r n e)) ∙ (sym (holds_is table r given n) ∙ h)) (nowhere_has_none given))

@@ -1,9 +1,10 @@
 -- Where the flag of a decision is kept, and how flags change.
 use Rattle.std.proofs.Common.{◌≡◌, ℕ, ◌*◌, ◌<◌, ◌≤◌, ◌==◌, Bool, true, false, ◌&&◌, ◌||◌, if◌then◌else◌, Some, List, length, get_or, replicate, set, unwrap_or, refl, sym, ap, ◌∙◌, eqb-true, arith}
-use Rattle.std.proofs.Math.Bool.{and-false, and-true, or-false, or-true}
+use Rattle.std.proofs.Math.Bool.{and-false, and-true, or-false}
 use Rattle.std.proofs.lemmas.Bool.{false_from_ne_true}
 use Rattle.std.proofs.lemmas.List.{get_or-replicate, length-replicate, length-set}
 use Rattle.std.proofs.lemmas.Option.{slice_get-get_or}
+use Rattle.lemmas.proofs.Booleans.{cond-or, equal_turned}
 use Rattle.cluster_types.specs.declared.placement.Decision.{Decision}
 use Rattle.cluster_types.specs.declared.placement.Decision.TheVariants.{Place, Promote}
 use Rattle.cluster_types.specs.Decisions.{is_same_decision, leaf_of}
@@ -56,18 +57,11 @@ module _ (leaves : ℕ) (passes : Decision → Bool) (flags : List Bool) (are : 
           let inside : slot_of d < length flags = omega (arith, within, size) in
           slice_get-get_or (set flags (slot_of x) true) (slot_of d) false (omega (arith, inside, length-set flags (slot_of x) true))
           ∙ ap Some (get-at flags (slot_of d) (slot_of x) true false low (slot_of d == slot_of x) refl
-          ∙ (ap (λ b. if b then true else get_or flags (slot_of d) false) (turned (slot_of d) (slot_of x) ∙ same-slot x d)
-          ∙ (as_or (is_same_decision x d) (get_or flags (slot_of d) false)
+          ∙ (ap (λ b. if b then true else get_or flags (slot_of d) false) (equal_turned (slot_of d) (slot_of x) ∙ same-slot x d)
+          ∙ (cond-or (is_same_decision x d) (get_or flags (slot_of d) false)
           ∙ (ap (λ b. b || is_same_decision x d) (kept d leaf inside) ∙ ap (λ b. passes d || (b && is_same_decision x d)) (sym e)))));
     }
       where
-        turned : (a b : ℕ) → (a == b) ≡ (b == a)
-        turned a b = grind arith
-
-        as_or : (same old : Bool) → (if same then true else old) ≡ (old || same)
-        as_or true old = sym (or-true old)
-        as_or false old = sym (or-false old)
-
         kept : (d : Decision) → leaf_of d < leaves → slot_of d < length flags → get_or flags (slot_of d) false ≡ passes d
         kept d leaf inside = ap (λ f. unwrap_or f false) (sym (slice_get-get_or flags (slot_of d) false inside) ∙ are.each d leaf)
 

@@ -2,7 +2,7 @@
 use Rattle.std.proofs.Common.{◌≡◌, ◌<◌, ◌&&◌, not, ℕ, Bool, true, false, if◌then◌else◌, Some, None, List, refl, sym, subst, length}
 use Rattle.std.proofs.lemmas.Bool.{and_from, not-true}
 use Rattle.lemmas.proofs.Booleans.{later, sooner}
-use Rattle.rule_loops.proofs.Needs.{is_itself, same_decision}
+use Rattle.rule_loops.proofs.Needs.{is_itself, placed_by, same_decision}
 use Rattle.cluster_types.specs.declared.cluster.Cluster.{Cluster}
 use Rattle.cluster_types.specs.declared.journal.Event.{Event}
 use Rattle.cluster_types.specs.declared.leaf.Role.{Role}
@@ -13,22 +13,16 @@ use Rattle.cluster_types.specs.declared.rules.Order.{Order}
 use Rattle.cluster_types.specs.Choice.{is_mandatory}
 use Rattle.cluster_types.specs.Decisions.{decision_of, is_same_decision}
 use Rattle.cluster_types.specs.Held.{Gives, Held, LacksFirst}
-use Rattle.cluster_types.specs.Precedence.{is_up}
+use Rattle.cluster_types.specs.Precedence.{is_mandatory_order, is_up, role_by}
 use Rattle.cluster_types.specs.Reasons.{IsHeldByColocation, IsHeldByOrder}
 use Rattle.cluster_types.specs.Tables.{Targets, holds_role}
-use Rattle.cluster_types.proofs.OpLaws.{up_of}
-use Rattle.plan_laws.specs.HeldMarks.{is_mandatory_order, role_by}
-use Rattle.plan_laws.proofs.HeldTests.{gives_by, gives_one, of_kind}
+use Rattle.cluster_types.proofs.OpLaws.{gives_by, gives_one, of_kind, up_of}
 use Rattle.placement.specs.Dependencies.{from_colocation, from_order, may_hold, of_colocation, of_order}
 use Rattle.placement.specs.Reasoning.{holds_back}
 use Rattle.placement.specs.Taking.{has_primary}
 use Rattle.placement.proofs.EndTargets.{has_gone, missing, scoped}
 use Rattle.placement.proofs.Lacking.{held_not, lacked, lacking}
 use Rattle.placement.proofs.LeftOfChosen.{IsLeft, in_scope}
-
-started_place : (r s : ℕ) (given : Role) → Place r ≡ decision_of s given → (s ≡ r) × (given ≡ role.Started)
-started_place r s role.Started e = (cc, refl)
-started_place r s role.Promoted e = cc
 
 module _ (c : Cluster) (es : List Event) (chosen targets : Targets) (is : IsLeft c es chosen targets)
     (gone : (r : ℕ) (given : Role) (n : ℕ) → Held c es chosen (decision_of r given) n → holds_role targets r given n ≡ false)
@@ -67,7 +61,7 @@ module _ (c : Cluster) (es : List Event) (chosen targets : Targets) (is : IsLeft
           let has = has_primary (length c.nodes) targets (from_order o) n in
           let two = sooner (is_mandatory_order o.kind && is_up o.first_op) (is_up o.then_op) e in
           let same : Place r ≡ decision_of o.then_leaf (role_by o.then_op) = same_decision (Place r) _ (sooner its (not has) h) in
-          let (leaf, starts) = started_place r o.then_leaf (role_by o.then_op) same in
+          let (leaf, starts) = placed_by r o.then_leaf (role_by o.then_op) same in
           record {
             mandatory = of_kind o.kind (sooner (is_mandatory_order o.kind) (is_up o.first_op) two);
             later = leaf;

@@ -30,7 +30,8 @@ use Rattle.plan_laws.proofs.HeldReason as held_rule
 use Rattle.plan_laws.proofs.MadeOnes.{never_both}
 use Rattle.plan_laws.proofs.TablesWithin.{StaysWithin}
 use Rattle.placement.specs.Dependencies.{of_colocation, of_order}
-use Rattle.placement.specs.Reasoning.{first_colocation, first_node, first_order, has_target, held_by, holds_back, id_of, is_stopped_in, or_held, plain_by, reason_by, reason_in}
+use Rattle.placement.specs.Reads.{is_fail_stopped_in}
+use Rattle.placement.specs.Reasoning.{first_colocation, first_node, first_order, has_target, held_by, holds_back, id_of, or_held, plain_by, reason_by, reason_in}
 use Rattle.placement.proofs.EndedCells.{ended, held_gone, rule_of}
 use Rattle.placement.proofs.FirstFound.{Least, finds_none, found_first, found_least, found_none}
 use Rattle.placement.proofs.HeldBack.{colocation_no, colocation_yes, order_no, order_yes}
@@ -139,8 +140,8 @@ module _ (c : Cluster) (es : List Event) (chosen targets : Targets) (inside : St
     by_plain None is = from_node is (first_node (length c.nodes) chosen r) refl
 
   module _ (states : States) (starts : Bool) (pins : List (Option Pin)) (pinned : pins ≡ map (pin_of c es) (range_with_len 0 (length c.leaves)))
-      (stopped : is_stopped_in states r ≡ is_fail_stopped c r es) (rights : starts ≡ may_start c es) where
-    same_plain : plain_by c r (is_stopped_in states r) starts (not (is_some (first_node (length c.nodes) chosen r))) ≡ plain_reason c es chosen r
+      (stopped : is_fail_stopped_in states r ≡ is_fail_stopped c r es) (rights : starts ≡ may_start c es) where
+    same_plain : plain_by c r (is_fail_stopped_in states r) starts (not (is_some (first_node (length c.nodes) chosen r))) ≡ plain_reason c es chosen r
     same_plain =
         ap (λ (b : Bool). plain_by c r b starts (not (is_some (first_node (length c.nodes) chosen r)))) stopped
         ∙ ap (λ (b : Bool). plain_by c r (is_fail_stopped c r es) b (not (is_some (first_node (length c.nodes) chosen r)))) rights
@@ -149,7 +150,7 @@ module _ (c : Cluster) (es : List Event) (chosen targets : Targets) (inside : St
     without_target : is_pinned c es r ≡ false → has_target (length c.nodes) targets r ≡ false
         → HasReason c es chosen targets r (reason_by c states starts (length c.nodes) chosen targets r)
     without_target free none_there =
-        by_plain free nowhere (plain_by c r (is_stopped_in states r) starts (not (is_some (first_node (length c.nodes) chosen r)))) (sym same_plain)
+        by_plain free nowhere (plain_by c r (is_fail_stopped_in states r) starts (not (is_some (first_node (length c.nodes) chosen r)))) (sym same_plain)
       where
         nowhere : (n : ℕ) → n < length c.nodes → is_somewhere (targets r n) ≡ false
         nowhere n lt =

@@ -1,6 +1,6 @@
 -- What is left was chosen, and what isn't left is held.
 use Rattle.std.proofs.Common.{◌≡◌, ◌<◌, ◌==◌, ◌&&◌, not, ℕ, Bool, true, false, Option, List, inl, inr, refl, sym, ◌∙◌, subst, Contains, length, map}
-use Rattle.std.proofs.lemmas.Bool.{not-true}
+use Rattle.std.proofs.lemmas.Bool.{eqb-true, not-true}
 use Rattle.std.specs.List.{range_with_len}
 use Rattle.lemmas.proofs.Booleans.{implied, later, sooner}
 use Rattle.cluster_types.specs.declared.cluster.Cluster.{Cluster}
@@ -15,12 +15,10 @@ use Rattle.cluster_types.specs.Choice.{is_mandatory}
 use Rattle.cluster_types.specs.Decisions.{decision_of}
 use Rattle.cluster_types.specs.Held.{Held, by_colocation, by_order, by_place}
 use Rattle.cluster_types.specs.Pins.{is_pinned, pin_of}
-use Rattle.cluster_types.specs.Precedence.{is_up}
+use Rattle.cluster_types.specs.Precedence.{is_mandatory_order, is_up, role_by}
 use Rattle.cluster_types.specs.Tables.{Targets, holds_role, is_in_scope}
-use Rattle.plan_laws.specs.HeldMarks.{is_mandatory_order, role_by}
-use Rattle.plan_laws.proofs.HeldTests.{gives_by, of_kind}
+use Rattle.cluster_types.proofs.OpLaws.{gives_by, of_kind}
 use Rattle.plan_laws.proofs.MadeOnes.{never_both}
-use Rattle.plan_laws.proofs.OneStep.{equal}
 use Rattle.placement.specs.declared.dependencies.Dependency.{Dependency}
 use Rattle.placement.specs.Dependencies.{dependencies_by, from_colocation, from_order, may_hold}
 use Rattle.placement.specs.Taking.{Taken, has_primary, none_yet, one_more, takes, without}
@@ -37,7 +35,7 @@ pub record IsLeft (c : Cluster) (es : List Event) (chosen left : Targets) : Type
 
 -- a node in the scope of an order
 pub in_scope : (o : Order) (n m : ℕ) → is_in_scope o n m ≡ true → o.local ≡ true → n ≡ m
-in_scope o n m scope local = equal n m (implied o.local (n == m) scope local)
+in_scope o n m scope local = eqb-true n m (implied o.local (n == m) scope local)
 
 module _ (c : Cluster) (es : List Event) (pins : List (Option Pin)) (are : pins ≡ map (pin_of c es) (range_with_len 0 (length c.leaves))) (chosen : Targets) where
   module _ (left : Targets) (is : IsLeft c es chosen left) (n : ℕ) (lt : n < length c.nodes) where

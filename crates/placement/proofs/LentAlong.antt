@@ -3,16 +3,15 @@ use Rattle.std.proofs.Common.{arith, ◌≡◌, ◌<◌, ℕ, suc, Bool, true, f
 use Rattle.rule_loops.proofs.Needs.{is_itself, same_decision}
 use Rattle.cluster_types.specs.declared.cluster.Cluster.{Cluster}
 use Rattle.cluster_types.specs.declared.placement.Decision.{Decision}
-use Rattle.cluster_types.specs.Decisions.{Key, greater_key, is_less, is_same_decision, leaf_of, needs}
+use Rattle.cluster_types.specs.Decisions.{Key, greater_key, is_among, is_less, is_same_decision, leaf_of, needs}
+use Rattle.plan_laws.proofs.MadeOnes.{stands_among}
 use Rattle.placement.specs.Flags.{slot_of}
 use Rattle.placement.specs.Lending.{AreKeys, effective_within, greater_by, is_raised, key_at, keys_among, lent_along, raises, with_lent}
 use Rattle.placement.specs.Links.{link}
-use Rattle.placement.specs.Needing.{is_among}
 use Rattle.placement.proofs.EffectiveBounds.{each_within, most_within, own_within}
 use Rattle.placement.proofs.FlagLaws.{slot-within}
 use Rattle.placement.proofs.KeyOrder.{at_most_onward, least_bound, not_itself, own_kept, second_kept}
 use Rattle.placement.proofs.LastNeeds.{more_needs, need_at_end, one_need}
-use Rattle.placement.proofs.LinkedNeeds.{in-among}
 use Rattle.placement.proofs.ReadyFlags.{among-is}
 use Rattle.placement.proofs.SlotLaws.{kept-is, keys-same, lent-nothing, lent-one, set-one}
 
@@ -82,7 +81,7 @@ module _ (c : Cluster) (ds : List Decision) (key : Decision → Key) where
         both : (also : Bool) → is_among ds f ≡ also → needs c f d ≡ true
             → is_less (within (suc n) d) (greater_by (now d) (if also then Some (now f) else None)) ≡ false
         both true a wants_d =
-            let in_set : Contains ds f = in-among ds f a in
+            let in_set : Contains ds f = stands_among ds f a in
             least_bound (now d) (now f) (within (suc n) d) (is_less (now d) (now f)) own
             (at_most_onward (now f) (within n f) (within (suc n) d) (bounded f in_set) (over_needing n d f there in_set wants_d))
         both false a wants_d = own

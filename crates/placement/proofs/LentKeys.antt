@@ -6,17 +6,17 @@ use Rattle.rule_loops.proofs.Needs.{same_decision}
 use Rattle.cluster_types.specs.declared.cluster.Cluster.{Cluster}
 use Rattle.cluster_types.specs.declared.edges.Edge.{Edge}
 use Rattle.cluster_types.specs.declared.placement.Decision.{Decision}
-use Rattle.cluster_types.specs.Decisions.{Key, is_less, is_same_decision, leaf_of, needs}
+use Rattle.cluster_types.specs.Decisions.{Key, is_among, is_less, is_same_decision, leaf_of, needs}
 use Rattle.cluster_types.specs.Valid.{IsValid}
+use Rattle.plan_laws.proofs.MadeOnes.{stands_among}
 use Rattle.placement.specs.Flags.{slot_of}
 use Rattle.placement.specs.Lending.{AreKeys, effective_within, key_at, keys_among, lent_along}
 use Rattle.placement.specs.Links.{link, links_in}
-use Rattle.placement.specs.Needing.{is_among}
 use Rattle.placement.proofs.EffectiveBounds.{each_within, most_within, own_within, reached_within}
 use Rattle.placement.proofs.FlagLaws.{same-slot}
 use Rattle.placement.proofs.KeyOrder.{at_most_onward, not_itself, one_key}
 use Rattle.placement.proofs.LastNeeds.{LastNeed, last_need}
-use Rattle.placement.proofs.LinkedNeeds.{Linked, in-among, link-there, linked}
+use Rattle.placement.proofs.LinkedNeeds.{Linked, link-there, linked}
 use Rattle.placement.proofs.ReadyFlags.{among-is}
 use Rattle.placement.proofs.ShortNeeds.{short}
 use Rattle.placement.proofs.SlotLaws.{kept-is, keys-same}
@@ -141,7 +141,7 @@ module _ (c : Cluster) (ds : List Decision) (key : Decision → Key) where
       go : (d : Decision) (there : Bool) → is_among ds d ≡ there
           → (if there then Some (t.now d) else None) ≡ (if there then Some (within (length ds) d) else None)
       go d true e =
-          let among = in-among ds d e in
+          let among = stands_among ds d e in
           ap Some (one_key (t.now d) (within (length ds) d) (t.reached d among)
           (at_most_onward (t.now d) (within t.lent.most d) (within (length ds) d) (t.lent.bounded d among) (no_more d)))
       go d false e = refl

@@ -1,7 +1,7 @@
 -- Links lead from the decisions that are needed, and a decision that no link holds needs none that isn't made.
 use Rattle.std.proofs.Common.{◌≡◌, ◌*◌, ◌<◌, ◌==◌, ◌&&◌, ◌||◌, not, Bool, true, false, if◌then◌else◌, List, [], ◌∷◌, length, slice_index_or, Contains, Any, eqb-true, refl, sym, ap, subst, ◌∙◌, inl, inr}
 use Rattle.std.specs.List.{flat_map, list_all, list_any}
-use Rattle.std.proofs.lemmas.Bool.{and_from, eq-eqb, false_from_ne_true, false≢true, or_right}
+use Rattle.std.proofs.lemmas.Bool.{and_from, eq-eqb, false_from_ne_true, false≢true, not-true, or_right}
 use Rattle.std.proofs.lemmas.List.Elements.{Contains-append_cases, Contains-append_left, Contains-append_right}
 use Rattle.std.proofs.lemmas.List.Folds.{Any-from_list_any}
 use Rattle.std.proofs.lemmas.Option.{unwrap_or-slice_get}
@@ -15,22 +15,17 @@ use Rattle.cluster_types.specs.declared.edges.Edge.{Edge}
 use Rattle.cluster_types.specs.declared.placement.Decision.{Decision}
 use Rattle.cluster_types.specs.declared.placement.Decision.TheVariants.{Place, Promote}
 use Rattle.cluster_types.specs.declared.rules.Colocation.{Colocation}
-use Rattle.cluster_types.specs.Decisions.{decision_of, is_place, is_same_decision, joins, leaf_of, needs}
+use Rattle.cluster_types.specs.Decisions.{decision_of, is_among, is_place, is_same_decision, joins, leaf_of, needs}
 use Rattle.cluster_types.specs.Graphs.{EndWithin}
 use Rattle.cluster_types.specs.Valid.{IsValid}
 use Rattle.plan_laws.proofs.Ready.{needs_place}
-use Rattle.plan_laws.proofs.MadeInPlace.{among}
+use Rattle.plan_laws.proofs.MadeOnes.{stands_among}
 use Rattle.placement.specs.Flags.{AreFlags, slot_of}
 use Rattle.placement.specs.Links.{link, links_in, promote_links, rule_links}
-use Rattle.placement.specs.Needing.{is_among}
 use Rattle.placement.specs.Queueing.{held}
 use Rattle.placement.proofs.FlagLaws.{flag-is, same-slot, slot-within}
 use Rattle.placement.proofs.ReadyFlags.{all-met, among-is}
 use Rattle.placement.proofs.SameDecisions.{role-within, same-turned}
-
--- what is decided stands in the list
-pub in-among : (ds : List Decision) (d : Decision) → is_among ds d ≡ true → Contains ds d
-in-among ds d h = among ds d h
 
 -- a need by a colocation
 pub needs_rule : (c : Cluster) (d : Decision) (col : Colocation) → Contains c.colocations col → is_same_decision (decision_of col.primary col.primary_role) d ≡ true
@@ -69,7 +64,7 @@ module _ (c : Cluster) (valid : IsValid c) (ds : List Decision) (low : (d : Deci
         | inl is ↦ record {
           needed = primary;
           needing = dependent;
-          among = in-among ds primary k;
+          among = stands_among ds primary k;
           within = role-within c col.dependent col.dependent_role (valid.colocations col there).dependent;
           wants = needs_rule c primary col there (is_itself primary);
           is = is;
@@ -163,9 +158,5 @@ module _ (c : Cluster) (valid : IsValid c) (ds : List Decision) (low : (d : Deci
     all-met-by d =
         same_test (held links flags (slot_of d) == 0) (not (list_any (unmet d) ds))
         (λ h. ap not (free-of d (eqb-true (held links flags (slot_of d)) 0 h)))
-        (λ h. eq-eqb (held links flags (slot_of d)) 0 (held-by d (not-so (list_any (unmet d) ds) h)))
+        (λ h. eq-eqb (held links flags (slot_of d)) 0 (held-by d (not-true (list_any (unmet d) ds) h)))
         ∙ all-met (needs c d) (is_among made) ds
-      where
-        not-so : (b : Bool) → not b ≡ true → b ≡ false
-        not-so false h = refl
-        not-so true h = cc

@@ -9,7 +9,7 @@ use Rattle.rule_loops.proofs.Needs.{same_decision}
 use Rattle.cluster_types.specs.declared.cluster.Cluster.{Cluster}
 use Rattle.cluster_types.specs.declared.placement.Decision.{Decision}
 use Rattle.cluster_types.specs.declared.placement.Decision.TheVariants.{Place}
-use Rattle.cluster_types.specs.Decisions.{Key, leaf_of}
+use Rattle.cluster_types.specs.Decisions.{Key, is_among, leaf_of}
 use Rattle.cluster_types.specs.Valid.{IsValid}
 use Rattle.plan_laws.proofs.MadeBefore.{before_some_way}
 use Rattle.placement.specs.declared.queue.Queue.{Queue}
@@ -17,7 +17,6 @@ use Rattle.placement.specs.declared.ranked.Ranked.{Ranked}
 use Rattle.placement.specs.Effective.{goes_before}
 use Rattle.placement.specs.Flags.{AreFlags, slot_of}
 use Rattle.placement.specs.Links.{links_in}
-use Rattle.placement.specs.Needing.{is_among}
 use Rattle.placement.specs.Queueing.{IsFirstPlace, IsQueue, is_at, is_free}
 use Rattle.placement.specs.Turns.{AreSorted, IsFirstReady, is_ready_in, ranks_before, slots_of}
 use Rattle.placement.proofs.FlagLaws.{same-slot, slot-within}

@@ -1,7 +1,7 @@
 -- One more node is picked: the first of those that are left.
 use Rattle.std.proofs.Common.{◌≡◌, ◌≢◌, inl, inr, ℕ, ◌+◌, ◌<◌, ◌≤◌, ◌==◌, Bool, true, false, not, ◌&&◌, ◌||◌, ℤ, List, [], ◌∷◌, count_by, length, refl, sym, ap, ◌∙◌, arith}
 use Rattle.std.proofs.Math.Bool.{or-true}
-use Rattle.std.proofs.lemmas.Bool.{cases_eq, false_from_ne_true, false≢true}
+use Rattle.std.proofs.lemmas.Bool.{cases_eq, false_from_ne_true, false≢true, ne_eqb}
 use Rattle.std.specs.List.{range_with_len}
 use Rattle.lemmas.proofs.Counts.{count-is}
 use Rattle.lemmas.proofs.Booleans.{number_itself}
@@ -17,9 +17,6 @@ pub record Picked (totals : List ℤ) (loads : List ℕ) (among : NodeSet) (turn
   pub apart : (n : ℕ) → has chosen n ≡ true → has left n ≡ false
   pub first : (n m : ℕ) → has chosen n ≡ true → has left m ≡ true → GoesBefore totals loads n m
   pub size : size_of (length totals) chosen ≡ turn
-
-is-other : (n m : ℕ) → n ≢ m → (n == m) ≡ false
-is-other n m e = grind (arith, e)
 
 module _ (totals : List ℤ) (loads : List ℕ) (among : NodeSet) (turn : ℕ) (chosen left : NodeSet) (old : Picked totals loads among turn chosen left) where
   -- those that are left are among the others
@@ -38,13 +35,13 @@ module _ (totals : List ℤ) (loads : List ℕ) (among : NodeSet) (turn : ℕ) (
     new-here = put node ∙ ap (λ b. b || has chosen node) (number_itself node)
 
     new-other : (n : ℕ) → n ≢ node → has new-chosen n ≡ has chosen n
-    new-other n e = put n ∙ ap (λ b. b || has chosen n) (is-other n node e)
+    new-other n e = put n ∙ ap (λ b. b || has chosen n) (ne_eqb n node e)
 
     out-here : has new-left node ≡ false
     out-here = out node ∙ ap (λ b. not b && has left node) (number_itself node)
 
     out-other : (n : ℕ) → n ≢ node → has new-left n ≡ has left n
-    out-other n e = out n ∙ ap (λ b. not b && has left n) (is-other n node e)
+    out-other n e = out n ∙ ap (λ b. not b && has left n) (ne_eqb n node e)
 
     was-left : (m : ℕ) → has new-left m ≡ true → m ≢ node
     was-left m h e = false≢true (sym out-here ∙ (ap (has new-left) (sym e) ∙ h))

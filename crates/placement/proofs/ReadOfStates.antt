@@ -19,8 +19,9 @@ use Rattle.cluster_types.specs.Tables.{Targets}
 use Rattle.cluster_types.specs.Terms.{active_count, is_active}
 use Rattle.cluster_types.specs.Unpacked.{states_of}
 use Rattle.cluster_types.proofs.StatesKept.{cell_kept, fail_stop_kept}
-use Rattle.score_table.proofs.OwnOfStates.{usable-is}
-use Rattle.placement.specs.Reads.{active_count_in, cap_in, is_active_in, is_kept_in, is_open_in, is_permitted_in, state_in}
+use Rattle.score_table.specs.OwnRows.{is_active_by}
+use Rattle.score_table.proofs.OwnOfStates.{active-is, usable-is}
+use Rattle.placement.specs.Reads.{active_count_in, cap_in, is_kept_in, is_open_in, is_permitted_in, state_in}
 
 turned : (s k b h : Bool) → (s || (k && b) && h) ≡ (s || k && h && b)
 turned true k b h = refl
@@ -36,8 +37,8 @@ module _ (c : Cluster) (es : List Event) (ps : List Promotion) where
 
   count-is : (r : ℕ) → r < length c.leaves → active_count_in c (states_of c es ps) r ≡ active_count c es r
   count-is r leaf =
-      count-same (is_active_in c (states_of c es ps) r) (λ n. is_active (cell_state c r n es)) (length c.nodes)
-      (λ n low. ap (λ s. option_map_or is_active s false) (state-is r n leaf low))
+      count-same (is_active_by c (states_of c es ps) r) (λ n. is_active (cell_state c r n es)) (length c.nodes)
+      (λ n low. active-is c es ps r n leaf low)
 
   pub cap-is : (d : Decision) → leaf_of d < length c.leaves → cap_in c (states_of c es ps) d ≡ cap_of c es d
   cap-is (Place r) leaf =

@@ -1,15 +1,15 @@
 -- Which decisions are ready, by flags.
 use Rattle.std.proofs.Common.{◌≡◌, ℕ, ◌<◌, Bool, true, false, not, ◌&&◌, ◌||◌, List, [], ◌∷◌, ◌++◌, count_by, refl, sym, ap, ◌∙◌, Contains}
 use Rattle.std.specs.List.{list_all, list_any}
-use Rattle.lemmas.proofs.Booleans.{later, sooner}
+use Rattle.std.proofs.lemmas.Bool.{or_left}
+use Rattle.lemmas.proofs.Booleans.{contrary, later, sooner}
 use Rattle.lemmas.proofs.Counts.{count_one_more}
-use Rattle.lemmas.proofs.Searches.{any-more, passes_by}
+use Rattle.lemmas.proofs.Searches.{any-more, any_last, passes_by}
 use Rattle.rule_loops.proofs.Needs.{is_itself}
 use Rattle.cluster_types.specs.declared.cluster.Cluster.{Cluster}
 use Rattle.cluster_types.specs.declared.placement.Decision.{Decision}
-use Rattle.cluster_types.specs.Decisions.{Key, is_same_decision}
+use Rattle.cluster_types.specs.Decisions.{Key, is_among, is_same_decision}
 use Rattle.placement.specs.Flags.{AreFlags}
-use Rattle.placement.specs.Needing.{is_among}
 use Rattle.placement.specs.Turns.{IsFirstReady, is_ready_in}
 use Rattle.placement.proofs.FlagLaws.{flags-same}
 use Rattle.placement.proofs.SameDecisions.{same-turned}
@@ -44,18 +44,12 @@ module _ (c : Cluster) (ds made : List Decision) where
       new = later (is_among ds d) (not (is_among made d)) (sooner (is_among ds d && not (is_among made d)) _ best.ready_now)
 
       now : is_among (made ++ d ∷ []) d ≡ true
-      now = any-more (is_same_decision d) made d ∙ (ap (λ b. is_among made d || b) (is_itself d) ∙ all (is_among made d))
-        where
-          all : (b : Bool) → (b || true) ≡ true
-          all true = refl
-          all false = refl
+      now = any_last (is_same_decision d) made d (is_itself d)
 
       still : (e : Decision) → not (is_among (made ++ d ∷ []) e) ≡ true → not (is_among made e) ≡ true
-      still e h = go (is_among made e) (is_same_decision e d) (sym (ap not (any-more (is_same_decision e) made d)) ∙ h)
-        where
-          go : (a b : Bool) → not (a || b) ≡ true → not a ≡ true
-          go true b k = k
-          go false b k = refl
+      still e h =
+          contrary (is_among made e) (is_among made e || is_same_decision e d) (or_left (is_among made e) (is_same_decision e d))
+          (sym (ap not (any-more (is_same_decision e) made d)) ∙ h)
 
       at : Contains ds d → count_by (λ e. not (is_among (made ++ d ∷ []) e)) ds < count_by (λ e. not (is_among made e)) ds
       at (k, lt, is) = count_one_more (λ e. not (is_among (made ++ d ∷ []) e)) (λ e. not (is_among made e)) still ds k d lt is (rw now refl) new

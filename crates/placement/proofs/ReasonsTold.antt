@@ -4,9 +4,8 @@ use Rattle.std.specs.Prelude.{slice_get, unwrap_or}
 use Rattle.std.specs.List.{range_with_len}
 use Rattle.std.proofs.lemmas.Bool.{cases_lt}
 use Rattle.std.proofs.lemmas.List.FromFn.{length-map-range_with_len}
-use Rattle.std.proofs.lemmas.Option.{slice_get_past}
+use Rattle.std.proofs.lemmas.Option.{same_Some, slice_get_past}
 use Rattle.lemmas.proofs.Ranges.{slice_get-range}
-use Rattle.lemmas.proofs.Results.{same_some}
 use Rattle.cluster_types.specs.declared.cluster.Cluster.{Cluster}
 use Rattle.cluster_types.specs.declared.journal.Event.{Event}
 use Rattle.cluster_types.specs.declared.journal.Promotion.{Promotion}
@@ -23,7 +22,8 @@ use Rattle.cluster_types.specs.Tables.{targets_of}
 use Rattle.cluster_types.specs.Unpacked.{states_of}
 use Rattle.cluster_types.proofs.StatesKept.{fail_stop_kept}
 use Rattle.plan_laws.proofs.TablesWithin.{kept_within}
-use Rattle.placement.specs.Reasoning.{is_stopped_in, reason_in}
+use Rattle.placement.specs.Reads.{is_fail_stopped_in}
+use Rattle.placement.specs.Reasoning.{reason_in}
 use Rattle.placement.proofs.LeafReasons.{leaf_reason}
 
 -- an element of a list by numbers
@@ -33,7 +33,7 @@ record At {X : Type 0} (f : ℕ → X) (n r : ℕ) (x : X) : Type 0 where
 
 at_leaf : {X : Type 0} (f : ℕ → X) (n r : ℕ) (x : X) → slice_get (map f (range_with_len 0 n)) r ≡ Some x → At f n r x
 at_leaf f n r x h = elim (cases_lt r n) [
-  | inl lt ↦ record { low = lt; is = same_some (f r) x (sym (slice_get-range f n r lt) ∙ h) }
+  | inl lt ↦ record { low = lt; is = same_Some (f r) x (sym (slice_get-range f n r lt) ∙ h) }
   | inr le ↦
       let size = length-map-range_with_len f 0 n in
       let past : length (map f (range_with_len 0 n)) ≤ r = omega arith in
@@ -47,9 +47,9 @@ module _ (c : Cluster) (es : List Event) (ps : List Promotion) (chosen targets :
     (are : AreTargets c es (targets_of chosen) (targets_of targets)) (states : States) (told : states ≡ states_of c es ps)
     (pins : List (Option Pin)) (pinned : pins ≡ map (pin_of c es) (range_with_len 0 (length c.leaves)))
     (starts : Bool) (rights : starts ≡ may_start c es) where
-  stopped : (r : ℕ) → r < length c.leaves → is_stopped_in states r ≡ is_fail_stopped c r es
+  stopped : (r : ℕ) → r < length c.leaves → is_fail_stopped_in states r ≡ is_fail_stopped c r es
   stopped r low =
-      ap (λ (s : States). is_stopped_in s r) told ∙ ap (λ (o : Option Bool). unwrap_or o false) (fail_stop_kept c es ps r low)
+      ap (λ (s : States). is_fail_stopped_in s r) told ∙ ap (λ (o : Option Bool). unwrap_or o false) (fail_stop_kept c es ps r low)
 
   holds : (r : ℕ) → r < length c.leaves
       → HasReason c es (targets_of chosen) (targets_of targets) r (reason_in c states starts targets.nodes (targets_of chosen) (targets_of targets) pins r)

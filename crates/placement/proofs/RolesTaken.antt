@@ -1,5 +1,6 @@
 -- What taking one role away changes.
 use Rattle.std.proofs.Common.{◌≡◌, ◌==◌, ◌&&◌, ◌⊎◌, inl, inr, ℕ, Bool, true, false, if◌then◌else◌, refl, sym, ◌∙◌, ap}
+use Rattle.std.proofs.lemmas.Bool.{eqb-true}
 use Rattle.lemmas.proofs.Booleans.{sooner, later}
 use Rattle.cluster_types.specs.declared.leaf.Role.{Role}
 use Rattle.cluster_types.specs.declared.leaf.Role.TheVariants as role
@@ -8,7 +9,6 @@ use Rattle.cluster_types.specs.declared.placement.Target.TheVariants as target
 use Rattle.cluster_types.specs.Tables.{Targets, holds_role}
 use Rattle.cluster_types.proofs.TableCells.{promoted_somewhere}
 use Rattle.plan_laws.proofs.MadeOnes.{never_both}
-use Rattle.plan_laws.proofs.OneStep.{equal}
 use Rattle.plan_laws.proofs.StayHeld.{has, holds_is}
 use Rattle.placement.specs.Taking.{below, without}
 
@@ -44,7 +44,7 @@ module _ (table left : Targets) (r : ℕ) (given : Role) (n : ℕ) (holds : hold
       holds_is left s other m ∙ ap (has other) (is s m ∙ ap (λ (k : Bool). if k then below given else table s m) e)
 
   here : (s m : ℕ) → (s == r && m == n) ≡ true → (s ≡ r) × (m ≡ n)
-  here s m e = (equal s r (sooner (s == r) (m == n) e), equal m n (later (s == r) (m == n) e))
+  here s m e = (eqb-true s r (sooner (s == r) (m == n) e), eqb-true m n (later (s == r) (m == n) e))
 
   has_here : (s m : ℕ) → (s == r && m == n) ≡ true → has given (table s m) ≡ true
   has_here s m e = let (leaf, node) = here s m e in rw (leaf, node) (sym (holds_is table r given n) ∙ holds)

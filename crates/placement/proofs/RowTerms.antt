@@ -1,5 +1,6 @@
 -- Rows of the scores of the colocations that count, with one colocation and one node more.
-use Rattle.std.proofs.Common.{◌≡◌, ℕ, ◌+◌, ◌<◌, ◌≤◌, ◌==◌, ℤ, Bool, true, false, not, ◌&&◌, nat_lt, if◌then◌else◌, List, [], ◌∷◌, ◌++◌, length, take, get_or, refl, sym, ap, ◌∙◌, append-nil, arith}
+use Rattle.std.proofs.Common.{◌≡◌, ℕ, ◌+◌, ◌<◌, ◌≤◌, ◌==◌, ℤ, Bool, false, not, ◌&&◌, nat_lt, if◌then◌else◌, List, [], ◌∷◌, ◌++◌, length, take, get_or, sym, ap, ◌∙◌, append-nil, arith}
+use Rattle.std.proofs.lemmas.Bool.{and_left, and_right}
 use Rattle.lane_rows.specs.Row.{Tally}
 use Rattle.cluster_types.specs.declared.placement.Decision.{Decision}
 use Rattle.cluster_types.specs.declared.rules.Colocation.{Colocation}
@@ -21,17 +22,14 @@ one-node nodes p k here term terms row e is =
     row-same nodes (more_where (λ n. here && k == n) term (more_where (λ n. nat_lt n k && p n) term terms)) (more_where (λ n. nat_lt n (k + 1) && p n) term terms) row
     (λ n low. ap (λ b. more_where (λ m. b && k == m) term (more_where (λ m. nat_lt m k && p m) term terms) n) (sym e) ∙ each-more p k term terms n) is
 
-uncounted : (f d h : Bool) → d ≡ false → ((f && d) && h) ≡ false
-uncounted true d h e = rw e refl
-uncounted false d h e = refl
-
 -- a colocation of another dependent gives nothing
 pub not-counted : (table : Targets) (d : Decision) (col : Colocation) (nodes : ℕ) (terms : ℕ → List ℤ) (row : List Tally) → is_dependent d col ≡ false
     → IsRow nodes terms row → IsRow nodes (more_where (λ n. counts table d n col) col.score terms) row
 not-counted table d col nodes terms row e is =
     row-same nodes terms (more_where (λ n. counts table d n col) col.score terms) row
     (λ n low. sym (ap (λ b. terms n ++ (if b then col.score ∷ [] else []))
-    (uncounted (not (is_mandatory col) && not (is_separation col)) (is_dependent d col) (holds_role table col.primary col.primary_role n) e)
+    (and_left (not (is_mandatory col) && not (is_separation col) && is_dependent d col) (holds_role table col.primary col.primary_role n)
+    (and_right (not (is_mandatory col) && not (is_separation col)) (is_dependent d col) e))
     ∙ append-nil (terms n))) is
 
 -- one colocation more

@@ -5,13 +5,13 @@ use Rattle.std.proofs.lemmas.Bool.{false_from_ne_true}
 use Rattle.std.proofs.lemmas.List.{get_or-replicate, length-replicate, length-set}
 use Rattle.std.proofs.lemmas.List.Folds.{list_any_more}
 use Rattle.std.proofs.lemmas.Option.{slice_get-get_or}
+use Rattle.lemmas.proofs.Booleans.{equal_turned}
 use Rattle.rule_loops.proofs.Needs.{same_decision}
 use Rattle.cluster_types.specs.declared.placement.Decision.{Decision}
-use Rattle.cluster_types.specs.Decisions.{Key, is_same_decision, leaf_of}
+use Rattle.cluster_types.specs.Decisions.{Key, is_among, is_same_decision, leaf_of}
 use Rattle.cluster_types.proofs.TableCells.{get-at}
 use Rattle.placement.specs.Flags.{slot_of}
 use Rattle.placement.specs.Lending.{AreKeys, is_raised, key_at, keys_among, with_lent}
-use Rattle.placement.specs.Needing.{is_among}
 use Rattle.placement.proofs.FlagLaws.{same-slot, slot-within}
 use Rattle.placement.proofs.SameDecisions.{same-turned}
 
@@ -44,13 +44,10 @@ module _ (leaves : ℕ) (kept : Decision → Option Key) (slots : List (Option K
           let inside : slot_of d < length slots = omega (arith, within, size) in
           slice_get-get_or (set slots (slot_of x) key) (slot_of d) None (omega (arith, inside, length-set slots (slot_of x) key))
           ∙ ap Some (get-at slots (slot_of d) (slot_of x) key None low (slot_of d == slot_of x) refl
-          ∙ (ap (λ (b : Bool). if b then key else get_or slots (slot_of d) None) (turned (slot_of d) (slot_of x) ∙ same-slot x d)
+          ∙ (ap (λ (b : Bool). if b then key else get_or slots (slot_of d) None) (equal_turned (slot_of d) (slot_of x) ∙ same-slot x d)
           ∙ ap (λ (k : Option Key). if is_same_decision x d then key else k) (was d leaf inside)));
     }
       where
-        turned : (a b : ℕ) → (a == b) ≡ (b == a)
-        turned a b = grind arith
-
         was : (d : Decision) → leaf_of d < leaves → slot_of d < length slots → get_or slots (slot_of d) None ≡ kept d
         was d leaf inside = ap (λ (o : Option (Option Key)). unwrap_or o None) (sym (slice_get-get_or slots (slot_of d) None inside) ∙ are.each d leaf)
 

@@ -8,7 +8,6 @@ pub mod Steps
 pub mod Pins
 pub mod DecisionLists
 pub mod Flags
-pub mod Needing
 pub mod Links
 pub mod LinkOrder
 pub mod Queueing

@@ -16,8 +16,8 @@ use Rattle.cluster_types.specs.Choice.{has_primaries, is_apart, is_kept_by, is_p
 use Rattle.cluster_types.specs.Decisions.{leaf_of}
 use Rattle.cluster_types.specs.Fields.{copies, promoted_copies, target_role_of}
 use Rattle.cluster_types.specs.Tables.{Targets}
-use Rattle.cluster_types.specs.Terms.{is_active}
 use Rattle.score_table.specs.declared.table.ScoreTable.{ScoreTable}
+use Rattle.score_table.specs.OwnRows.{is_active_by}
 use Rattle.score_table.specs.Scores.{score_in}
 use Rattle.score_table.specs.Usable.{is_usable_by}
 
@@ -35,12 +35,9 @@ module _ (c : Cluster) (states : States) where
   abbrev pub state_in : ℕ → ℕ → Option CellState
   state_in r n = option_map (λ (cell : Cell). cell.state) (slice_get states.cells (r * length c.nodes + n))
 
-  abbrev pub is_active_in : ℕ → ℕ → Bool
-  is_active_in r n = option_map_or is_active (state_in r n) false
-
   -- in how many cells a leaf is active
   abbrev pub active_count_in : ℕ → ℕ
-  active_count_in r = count_by (is_active_in r) (range_with_len 0 (length c.nodes))
+  active_count_in r = count_by (is_active_by c states r) (range_with_len 0 (length c.nodes))
 
   -- what runs in the cell may stay, by the state of the cell
   abbrev pub is_kept_in : Decision → ℕ → Bool

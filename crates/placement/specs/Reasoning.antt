@@ -1,5 +1,5 @@
 -- Why a leaf has no target, by what is known of the cluster and by the tables (follows from the definition of the reasons).
-use Rattle.std.specs.Prelude.{ℕ, ◌==◌, ◌&&◌, Bool, false, not, if◌then◌else◌, Option, Some, None, is_some, List, slice_get, unwrap_or}
+use Rattle.std.specs.Prelude.{ℕ, ◌==◌, ◌&&◌, Bool, false, not, if◌then◌else◌, Option, Some, None, is_some, List}
 use Rattle.std.specs.List.{find, list_any, range_with_len}
 use Rattle.std.specs.Option.{option_map}
 use Rattle.cluster_types.specs.declared.cluster.Cluster.{Cluster}
@@ -17,11 +17,8 @@ use Rattle.cluster_types.specs.Pins.{is_pinned_in}
 use Rattle.cluster_types.specs.Tables.{Targets, is_somewhere}
 use Rattle.placement.specs.declared.dependencies.Dependency.{Dependency}
 use Rattle.placement.specs.Dependencies.{of_colocation, of_order}
+use Rattle.placement.specs.Reads.{is_fail_stopped_in}
 use Rattle.placement.specs.Taking.{has_primary}
-
--- a failure stops the leaf everywhere
-abbrev pub is_stopped_in : States → ℕ → Bool
-is_stopped_in states r = unwrap_or (slice_get states.fail_stop r) false
 
 -- the first reason that holds, of those that are no rule's: whether a failure stops the leaf, whether the cluster may start, whether it was chosen nowhere
 abbrev pub plain_by : Cluster → ℕ → Bool → Bool → Bool → Option NoReason
@@ -80,7 +77,7 @@ module _ (c : Cluster) (states : States) (may_start : Bool) (nodes : ℕ) (chose
   -- the reason of a leaf that needs one
   abbrev pub reason_by : ℕ → Option NoReason
   reason_by r =
-      or_held (plain_by c r (is_stopped_in states r) may_start (not (is_some (first_node nodes chosen r))))
+      or_held (plain_by c r (is_fail_stopped_in states r) may_start (not (is_some (first_node nodes chosen r))))
       (held_by c nodes targets r (first_node nodes chosen r))
 
   -- the reason of each leaf

@@ -3,11 +3,10 @@ use Rattle.std.specs.Prelude.{◌≡◌, ◌≢◌, ℕ, ◌<◌, length, slice_
 use Rattle.std.specs.List.{list_all}
 use Rattle.cluster_types.specs.declared.cluster.Cluster.{Cluster}
 use Rattle.cluster_types.specs.declared.placement.Decision.{Decision}
-use Rattle.cluster_types.specs.Decisions.{Key, is_less, is_place, leaf_of, needs}
+use Rattle.cluster_types.specs.Decisions.{Key, is_among, is_less, is_place, leaf_of, needs}
 use Rattle.placement.specs.declared.ranked.Ranked.{Ranked}
 use Rattle.placement.specs.Effective.{goes_before}
 use Rattle.placement.specs.Flags.{slot_of}
-use Rattle.placement.specs.Needing.{is_among}
 
 -- the decision can be made: it hasn't been, and what it needs of these has been
 abbrev pub is_ready_in : Cluster → List Decision → List Decision → Decision → Bool

@@ -7,7 +7,7 @@ ghost use Rattle.placement.specs.Reads as spec;
 use cluster_types::{Cluster, Decision, LeafId, States, TargetRole};
 
 /// Whether a failure stops the leaf everywhere.
-fn is_fail_stopped(states: &States, leaf: LeafId) -> bool
+pub(crate) fn is_fail_stopped(states: &States, leaf: LeafId) -> bool
     ensures { result ≡ spec.is_fail_stopped_in states.now leaf }
 {
     match states.fail_stop.as_slice().get(leaf as usize) {

@@ -5,6 +5,7 @@ ghost use Rattle.cluster_types.specs.Choice as choice;
 ghost use Rattle.placement.specs.Reads as spec;
 
 use cluster_types::{CellState, Cluster, Decision, LeafId, NodeId, States, cell_place};
+use score_table::is_active;
 
 /// The state of a cell, if it is known.
 fn state_of(cluster: &Cluster, states: &States, leaf: LeafId, node: NodeId) -> Option<CellState>
@@ -15,16 +16,6 @@ fn state_of(cluster: &Cluster, states: &States, leaf: LeafId, node: NodeId) -> O
     match states.cells.as_slice().get(place) {
         Some(cell) => Some(cell.state),
         None => None,
-    }
-}
-
-fn is_active(cluster: &Cluster, states: &States, leaf: LeafId, node: NodeId) -> bool
-    requires { length cluster.now.nodes ≤ 256 }
-    ensures { result ≡ spec.is_active_in cluster.now states.now leaf node }
-{
-    match state_of(cluster, states, leaf, node) {
-        Some(state) => state.is_active(),
-        None => false,
     }
 }
 

@@ -3,13 +3,10 @@
 ghost use Rattle.std.specs.Prelude.{◌≡◌, ◌++◌, IfOk, OnOk};
 ghost use Rattle.std.specs.List.{list_any, range_with_len};
 ghost use Rattle.cluster_types.specs.Tables.{holds_role, targets_of};
-ghost use Rattle.plan_laws.specs.HeldMarks.{role_by};
 ghost use Rattle.placement.specs.Dependencies as spec;
 ghost use Rattle.placement.specs.Taking as taking;
 
-use cluster_types::{
-    Cluster, Colocation, LeafId, NodeId, Op, Order, OrderKind, Pin, Role, Table, is_pinned,
-};
+use cluster_types::{Cluster, Colocation, LeafId, NodeId, Order, Pin, Role, Table, is_pinned};
 use std::alloc::{AllocError, Global};
 
 /// The dependent may hold its role only where the primary holds its own.
@@ -23,21 +20,11 @@ pub struct Dependency {
     pub local: bool,
 }
 
-/// The role that a start or a promote gives.
-fn role_of(op: Op) -> Role
-    ensures { result ≡ role_by op }
-{
-    match op {
-        Op::Promote => Role::Promoted,
-        _ => Role::Started,
-    }
-}
-
 /// Whether the order may hold its then back: it is mandatory, and both its words give a role.
 fn may_hold(order: &Order) -> bool
     ensures { result ≡ spec.may_hold order.now }
 {
-    order.kind == OrderKind::Mandatory && order.first_op.is_up() && order.then_op.is_up()
+    order.is_mandatory() && order.first_op.is_up() && order.then_op.is_up()
 }
 
 /// Whether the leaf holds the role on some node.
@@ -55,9 +42,9 @@ impl Dependency {
         if may_hold(order) {
             Some(Dependency {
                 dependent: order.then_leaf,
-                dependent_role: role_of(order.then_op),
+                dependent_role: order.then_op.role_given(),
                 primary: order.first,
-                primary_role: role_of(order.first_op),
+                primary_role: order.first_op.role_given(),
                 local: order.local,
             })
         } else {

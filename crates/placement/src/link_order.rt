@@ -10,7 +10,8 @@ ghost use Rattle.placement.specs.Links.{links_in};
 use crate::decision_set::DecisionSet;
 use crate::links::links_of;
 use cluster_types::Edge;
-use loops::{Edge as Way, is_loop_free, longest_ways};
+use listed::number_at;
+use loops::{Edge as Way, longest_ways_if_free};
 use std::alloc::{AllocError, Global};
 
 /// The way of keys along each link, from what needs to what is needed.
@@ -34,19 +35,7 @@ fn heights_of(alloc: Global, slots: u32, links: &[Edge]) -> Result<Vec<u32>, All
     ensures { IfOk result (λ heights. spec.AreHeights slots links.now heights.items) }
 {
     let ways = ways_of(alloc, links)?;
-    if !is_loop_free(alloc, slots, &ways)? {
-        return Ok(Vec::new(alloc));
-    }
-    longest_ways(alloc, slots, &ways)
-}
-
-fn height_of(heights: &[u32], slot: u32) -> u32
-    ensures { result ≡ spec.height_in heights.now slot }
-{
-    match heights.get(slot as usize) {
-        Some(height) => *height,
-        None => 0,
-    }
+    longest_ways_if_free(alloc, slots, &ways)
 }
 
 /// Sorts the links by how high the slots are to which they lend.
@@ -54,7 +43,7 @@ fn sort_by_height(links: &mut Vec<Edge>, heights: &[u32]) -> Result<(), AllocErr
     ensures same { OnOk result (IsPermutation links.old.items links.new.items) }
     ensures sorted { OnOk result (spec.AreSorted heights.now links.new.items) }
 {
-    links.sort_by_key(|link| height_of(heights, link.before))?;
+    links.sort_by_key(|link| number_at(heights, link.before))?;
     Ok(())
 }
 

@@ -3,11 +3,10 @@
 ghost use Rattle.std.specs.Prelude.{◌≡◌, ◌<◌, ◌++◌, ℕ, List, IfOk, OnOk, length};
 ghost use Rattle.std.specs.List.{flat_map};
 ghost use Rattle.cluster_types.specs.declared.placement.Decision.{Decision as DecisionOf};
-ghost use Rattle.cluster_types.specs.Decisions.{decision_of, leaf_of};
+ghost use Rattle.cluster_types.specs.Decisions.{decision_of, is_among, leaf_of};
 ghost use Rattle.cluster_types.specs.Valid.{IsValid};
 ghost use Rattle.placement.specs.Flags.{AreFlags};
 ghost use Rattle.placement.specs.Links as spec;
-ghost use Rattle.placement.specs.Needing.{is_among};
 
 use crate::decision_set::DecisionSet;
 use crate::flags::{flag_at, no_flags, raise_if, slot_of};

@@ -13,8 +13,9 @@ ghost use Rattle.cluster_types.specs.Unpacked.{states_of};
 ghost use Rattle.cluster_types.specs.Valid.{KeepsLimits};
 ghost use Rattle.placement.specs.Reasoning as spec;
 
+use crate::caps::is_fail_stopped;
 use crate::holders::holder_id;
-use crate::plain::{is_fail_stopped, plain_reason};
+use crate::plain::plain_reason;
 use cluster_types::{
     Cluster, LeafId, NoMemory, NoReason, NodeId, Pin, Role, States, Table, is_pinned,
 };

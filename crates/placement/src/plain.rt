@@ -4,22 +4,12 @@ ghost use Rattle.std.specs.Prelude.{◌≡◌};
 ghost use Rattle.cluster_types.specs.Choice.{is_stopped_role};
 ghost use Rattle.placement.specs.Reasoning as spec;
 
-use cluster_types::{Cluster, LeafId, NoReason, States, TargetRole};
+use cluster_types::{Cluster, LeafId, NoReason, TargetRole};
 
 fn is_stopped(role: TargetRole) -> bool
     ensures { result ≡ is_stopped_role role }
 {
     role == TargetRole::Stopped
-}
-
-/// Whether a failure stops the leaf everywhere.
-pub fn is_fail_stopped(states: &States, leaf: LeafId) -> bool
-    ensures { result ≡ spec.is_stopped_in states.now leaf }
-{
-    match states.fail_stop.as_slice().get(leaf as usize) {
-        Some(stopped) => *stopped,
-        None => false,
-    }
 }
 
 /// The first reason that holds, of those that are no rule's: the leaf may have no copy, it is to be stopped, a failure stops it, all are stopped, the

@@ -8,9 +8,9 @@ use Rattle.cluster_types.specs.declared.cluster.Cluster.{Cluster}
 use Rattle.cluster_types.specs.declared.journal.Event.{Event}
 use Rattle.cluster_types.specs.declared.journal.Promotion.{Promotion}
 use Rattle.cluster_types.specs.declared.placement.Decision.{Decision}
-use Rattle.cluster_types.specs.Decisions.{Decides, IsMadeNext, all_made, decisions, is_made_before, is_ready, one_more}
+use Rattle.cluster_types.specs.Decisions.{Decides, IsMadeNext, all_made, decisions, is_among, is_made_before, is_ready, one_more}
 use Rattle.plan_laws.proofs.MadeBefore.{made_onward, made_some_way}
-use Rattle.plan_laws.proofs.MadeOnes.{never_both, now_made, still_made, there, was_made}
+use Rattle.plan_laws.proofs.MadeOnes.{never_both, now_made, still_made, there}
 use Rattle.plan_laws.proofs.OneOrder.{same_or_other}
 use Rattle.plan_laws.proofs.Ready.{ready_is_new, ready_is_one}
 
@@ -65,7 +65,7 @@ module _ (c : Cluster) (es : List Event) (ps : List Promotion) where
     best (x ∷ xs) = with_one x xs (is_ready c es made x) refl (best xs)
 
   abbrev unmade : List Decision → Decision → Bool
-  unmade made d = not (was_made made d)
+  unmade made d = not (is_among made d)
 
   abbrev pub left : List Decision → ℕ
   left made = count_by (unmade made) (decisions c es)
@@ -76,10 +76,10 @@ module _ (c : Cluster) (es : List Event) (ps : List Promotion) where
     where
       at : Contains (decisions c es) d → left (made ++ d ∷ []) < left made
       at (k, lt, is) =
-          let now : was_made (made ++ d ∷ []) d ≡ true = now_made made d d refl in
-          let new : was_made made d ≡ false = ready_is_new c es made d ready in
+          let now : is_among (made ++ d ∷ []) d ≡ true = now_made made d d refl in
+          let new : is_among made d ≡ false = ready_is_new c es made d ready in
           count_one_more (unmade (made ++ d ∷ [])) (unmade made)
-          (λ x. contrary (was_made made x) (was_made (made ++ d ∷ []) x) (still_made made x d))
+          (λ x. contrary (is_among made x) (is_among (made ++ d ∷ []) x) (still_made made x d))
           (decisions c es) k d lt is (rw now refl) (rw new refl)
 
   -- all decisions, in the order in which they are made

@@ -3,12 +3,12 @@ use Rattle.std.proofs.Common.{arith, ◌≡◌, ◌<◌, ◌≤◌, ◌+◌, ◌
 use Rattle.std.specs.List.{flat_map, list_any, range_with_len}
 use Rattle.std.proofs.lemmas.List.Folds.{Any-from_list_any}
 use Rattle.std.proofs.lemmas.List.Sums.{count_by-le-length}
-use Rattle.std.proofs.lemmas.Bool.{false_from_ne_true}
-use Rattle.lemmas.proofs.Booleans.{sooner, later}
+use Rattle.std.proofs.lemmas.Bool.{false_from_ne_true, ltb-true, not-true, or_left, or_right}
+use Rattle.lemmas.proofs.Booleans.{sooner, later, unless}
 use Rattle.lemmas.proofs.Counts.{count_one_more}
 use Rattle.lemmas.proofs.Searches.{passes_by}
 use Rattle.lemmas.proofs.Members.{in_flat, in_map, in_range}
-use Rattle.rule_loops.proofs.Needs.{decision_there}
+use Rattle.rule_loops.proofs.Needs.{decided_leaf, decision_there}
 use Rattle.cluster_types.specs.declared.cluster.Cluster.{Cluster}
 use Rattle.cluster_types.specs.declared.journal.Event.{Event}
 use Rattle.cluster_types.specs.declared.leaf.Role.{Role}
@@ -21,7 +21,6 @@ use Rattle.cluster_types.specs.Tables.{Targets, holds_role}
 use Rattle.plan_laws.specs.HeldMarks.{Marks, is_held_by}
 use Rattle.plan_laws.proofs.HeldRounds.{rules_give, stable_is_closed}
 use Rattle.plan_laws.proofs.MadeOnes.{never_both}
-use Rattle.plan_laws.proofs.OneStep.{below}
 use Rattle.plan_laws.proofs.StayHeld.{has, holds_is, nowhere_has_none}
 use Rattle.plan_laws.proofs.TablesWithin.{StaysWithin, is_cell}
 
@@ -47,14 +46,10 @@ module _ (c : Cluster) (es : List Event) (table : Targets) (inside : StaysWithin
   role_within : (r : ℕ) (given : Role) (n : ℕ) → holds_role table r given n ≡ true → IsWithin (decision_of r given) n
   role_within r given n h = go (is_cell c r n) refl
     where
-      leaf_is : (given : Role) → leaf_of (decision_of r given) ≡ r
-      leaf_is role.Started = refl
-      leaf_is role.Promoted = refl
-
       go : (b : Bool) → is_cell c r n ≡ b → IsWithin (decision_of r given) n
       go true e = record {
-        leaf = rw (leaf_is given) (below r (length c.leaves) (sooner (nat_lt r (length c.leaves)) (nat_lt n (length c.nodes)) e));
-        node = below n (length c.nodes) (later (nat_lt r (length c.leaves)) (nat_lt n (length c.nodes)) e);
+        leaf = rw (decided_leaf r given) (ltb-true r (length c.leaves) (sooner (nat_lt r (length c.leaves)) (nat_lt n (length c.nodes)) e));
+        node = ltb-true n (length c.nodes) (later (nat_lt r (length c.leaves)) (nat_lt n (length c.nodes)) e);
       }
       go false e =
           let there : has given (table r n) ≡ true = rw (← holds_is table r given n) h in
@@ -85,18 +80,13 @@ module _ (c : Cluster) (es : List Event) (table : Targets) (inside : StaysWithin
     pub sound : (d : Decision) (n : ℕ) → marks d n ≡ true → Held c es table d n
     pub closed : IsClosed c es table (λ d n. marks d n ≡ true)
 
-  not_new : (a b : Bool) → a ≡ true → a && not b ≡ false → b ≡ true
-  not_new true true h e = refl
-  not_new true false h e = cc
-  not_new false b h e = cc
-
   none_new : (marks : Marks) → ((d : Decision) (n : ℕ) → marks d n ≡ true → Held c es table d n) → list_any (is_new marks) spots ≡ false → HeldCells
   none_new marks sound none = record {
     marks = marks;
     sound = sound;
     closed = stable_is_closed c es table marks (λ d n h.
         let w : IsWithin d n = held_within d n (rules_give c es table marks sound d n h) in
-        not_new (is_held_by c es table marks d n) (marks d n) h
+        unless (is_held_by c es table marks d n) (marks d n) h
         (false_from_ne_true (is_held_by c es table marks d n && not (marks d n)) (λ new.
         never_both (list_any (is_new marks) spots) (passes_by (is_new marks) spots (record { decision = d; node = n }) (in_spots d n w.leaf w.node) new) none)));
   }
@@ -105,20 +95,9 @@ module _ (c : Cluster) (es : List Event) (table : Targets) (inside : StaysWithin
       → count_by (λ x. marks x.decision x.node) spots < count_by (λ (x : Spot). round marks x.decision x.node) spots
   more_marked marks (k, x, lt, there, h) =
       count_one_more (λ (x : Spot). marks x.decision x.node) (λ (x : Spot). round marks x.decision x.node)
-      (λ y e. kept_true (marks y.decision y.node) (is_held_by c es table marks y.decision y.node) e) spots k x lt there
-      (untrue (marks x.decision x.node) (later (is_held_by c es table marks x.decision x.node) (not (marks x.decision x.node)) h))
-      (second (marks x.decision x.node) (is_held_by c es table marks x.decision x.node) (sooner (is_held_by c es table marks x.decision x.node) (not (marks x.decision x.node)) h))
-    where
-      kept_true : (a b : Bool) → a ≡ true → a || b ≡ true
-      kept_true a b e = rw e refl
-
-      second : (a b : Bool) → b ≡ true → a || b ≡ true
-      second true b e = refl
-      second false b e = e
-
-      untrue : (b : Bool) → not b ≡ true → b ≡ false
-      untrue true e = cc
-      untrue false e = refl
+      (λ y e. or_left (marks y.decision y.node) (is_held_by c es table marks y.decision y.node) e) spots k x lt there
+      (not-true (marks x.decision x.node) (later (is_held_by c es table marks x.decision x.node) (not (marks x.decision x.node)) h))
+      (or_right (marks x.decision x.node) (is_held_by c es table marks x.decision x.node) (sooner (is_held_by c es table marks x.decision x.node) (not (marks x.decision x.node)) h))
 
   search_on : (room : ℕ) (marks : Marks) → ((d : Decision) (n : ℕ) → marks d n ≡ true → Held c es table d n)
       → length spots ≤ count_by (λ (x : Spot). marks x.decision x.node) spots + room → HeldCells

@@ -2,10 +2,9 @@
 use Rattle.std.proofs.Common.{◌≡◌, ◌&&◌, ℕ, Bool, true, List, ◌⊎◌, inl, inr, refl, sym, subst, Contains}
 use Rattle.std.specs.List.{AllByRecursion}
 use Rattle.lemmas.proofs.Booleans.{sooner, later}
-use Rattle.rule_loops.proofs.Needs.{is_itself, same_decision}
+use Rattle.rule_loops.proofs.Needs.{is_itself, placed_by, same_decision}
 use Rattle.cluster_types.specs.declared.cluster.Cluster.{Cluster}
 use Rattle.cluster_types.specs.declared.journal.Event.{Event}
-use Rattle.cluster_types.specs.declared.leaf.Role.{Role}
 use Rattle.cluster_types.specs.declared.leaf.Role.TheVariants as role
 use Rattle.cluster_types.specs.declared.placement.Decision.{Decision}
 use Rattle.cluster_types.specs.declared.placement.Decision.TheVariants.{Place}
@@ -14,12 +13,12 @@ use Rattle.cluster_types.specs.declared.rules.Order.{Order}
 use Rattle.cluster_types.specs.Choice.{is_dependent, is_mandatory}
 use Rattle.cluster_types.specs.Decisions.{decision_of, is_same_decision}
 use Rattle.cluster_types.specs.Held.{Gives, Held, by_colocation, by_order, by_place}
-use Rattle.cluster_types.specs.Precedence.{is_up}
+use Rattle.cluster_types.specs.Precedence.{is_mandatory_order, is_up, role_by}
 use Rattle.cluster_types.specs.Reasons.{IsFirstOf, IsHeldByColocation, IsHeldByOrder}
 use Rattle.cluster_types.specs.Tables.{Targets}
-use Rattle.cluster_types.proofs.OpLaws.{up_of}
-use Rattle.plan_laws.specs.HeldMarks.{Marks, is_mandatory_order, lacks_first, lacks_primary, role_by}
-use Rattle.plan_laws.proofs.HeldTests.{first_lacks, gives_by, gives_one, lacks_of_first, lacks_of_primary, of_kind, primary_lacks}
+use Rattle.cluster_types.proofs.OpLaws.{gives_by, gives_one, of_kind, up_of}
+use Rattle.plan_laws.specs.HeldMarks.{Marks, lacks_first, lacks_primary}
+use Rattle.plan_laws.proofs.HeldTests.{first_lacks, lacks_of_first, lacks_of_primary, primary_lacks}
 use Rattle.plan_laws.proofs.Firsts.{FirstOrNone, a_first, first_or_none, never, none_holds}
 
 module _ (c : Cluster) (es : List Event) (table : Targets) (marks : Marks) (sound : (d : Decision) (n : ℕ) → marks d n ≡ true → Held c es table d n)
@@ -46,10 +45,6 @@ module _ (c : Cluster) (es : List Event) (table : Targets) (marks : Marks) (soun
       is_mandatory_order o.kind && is_up o.first_op && is_up o.then_op && is_same_decision (Place r) (decision_of o.then_leaf (role_by o.then_op))
       && lacks_first c es table marks o n
 
-  of_place : (s : ℕ) (given : Role) → Place r ≡ decision_of s given → (s ≡ r) × (given ≡ role.Started)
-  of_place s role.Started e = (cc, refl)
-  of_place s role.Promoted e = cc
-
   order_yes : (o : Order) → by_order_test o ≡ true → IsHeldByOrder c es table r n o
   order_yes o h =
       let four = sooner _ (lacks_first c es table marks o n) h in
@@ -57,7 +52,7 @@ module _ (c : Cluster) (es : List Event) (table : Targets) (marks : Marks) (soun
       let two = sooner _ (is_up o.then_op) three in
       let same : Place r ≡ decision_of o.then_leaf (role_by o.then_op)
       = same_decision (Place r) _ (later _ (is_same_decision (Place r) (decision_of o.then_leaf (role_by o.then_op))) four) in
-      let (leaf, starts) = of_place o.then_leaf (role_by o.then_op) same in
+      let (leaf, starts) = placed_by r o.then_leaf (role_by o.then_op) same in
       record {
         mandatory = of_kind o.kind (sooner (is_mandatory_order o.kind) (is_up o.first_op) two);
         later = leaf;
@@ -84,7 +79,7 @@ module _ (c : Cluster) (es : List Event) (table : Targets) (marks : Marks) (soun
 
   rule_of : (d : Decision) → Place r ≡ d → Held c es table d n → RuleOf
   rule_of _ e (by_order o _ first given may lacks) =
-      let (leaf, starts) = of_place o.then_leaf given e in
+      let (leaf, starts) = placed_by r o.then_leaf given e in
       an_order o may.present (record {
         mandatory = may.mandatory;
         later = leaf;

@@ -15,9 +15,11 @@ use Rattle.cluster_types.specs.declared.placement.Decision.TheVariants.{Place, P
 use Rattle.cluster_types.specs.declared.rules.Order.{Order}
 use Rattle.cluster_types.specs.Decisions.{decision_of, is_same_decision}
 use Rattle.cluster_types.specs.Held.{Held, IsClosed, LacksFirst, OrderMayHold, by_colocation, by_order, by_place}
+use Rattle.cluster_types.specs.Precedence.{role_by}
 use Rattle.cluster_types.specs.Tables.{Targets, holds_role}
-use Rattle.plan_laws.specs.HeldMarks.{Marks, colocation_holds, is_held_by, lacks_first, lacks_primary, may_colocation, may_order, order_holds, place_holds, role_by}
-use Rattle.plan_laws.proofs.HeldTests.{colocation_may, first_lacks, gives_one, lacks_of_first, lacks_of_primary, may_of_colocation, may_of_order, order_may, primary_lacks}
+use Rattle.cluster_types.proofs.OpLaws.{gives_one}
+use Rattle.plan_laws.specs.HeldMarks.{Marks, colocation_holds, is_held_by, lacks_first, lacks_primary, may_colocation, may_order, order_holds, place_holds}
+use Rattle.plan_laws.proofs.HeldTests.{colocation_may, first_lacks, lacks_of_first, lacks_of_primary, may_of_colocation, may_of_order, order_may, primary_lacks}
 
 one_of_three : (a b d : Bool) → {X : Type 0} → (a ≡ true → X) → (b ≡ true → X) → (d ≡ true → X) → a || b || d ≡ true → X
 one_of_three true b d f g h e = f refl

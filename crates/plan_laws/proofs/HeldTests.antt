@@ -1,53 +1,24 @@
 -- The tests of the rules that hold cells back say what the rules say.
-use Rattle.std.proofs.Common.{arith, ◌≡◌, ◌&&◌, ◌||◌, not, nat_lt, ℕ, Bool, true, false, List, refl, length, Contains}
+use Rattle.std.proofs.Common.{arith, ◌≡◌, ◌&&◌, ◌||◌, not, nat_lt, ℕ, true, List, refl, length, Contains}
 use Rattle.std.specs.List.{range_with_len}
-use Rattle.std.proofs.lemmas.Bool.{and_from, lt-ltb, not-true}
-use Rattle.lemmas.proofs.Booleans.{implied, later, sooner}
+use Rattle.std.proofs.lemmas.Bool.{and_from, lt-ltb, ltb-true, not-true, not_from_false}
+use Rattle.lemmas.proofs.Booleans.{if_then, implied, later, sooner}
 use Rattle.lemmas.proofs.Searches.{each_passes, all_pass}
 use Rattle.lemmas.proofs.Members.{in_range, of_range}
 use Rattle.cluster_types.specs.declared.cluster.Cluster.{Cluster}
 use Rattle.cluster_types.specs.declared.journal.Event.{Event}
-use Rattle.cluster_types.specs.declared.leaf.Op.{Op}
-use Rattle.cluster_types.specs.declared.leaf.Op.TheVariants as op
 use Rattle.cluster_types.specs.declared.leaf.Role.{Role}
 use Rattle.cluster_types.specs.declared.placement.Decision.{Decision}
 use Rattle.cluster_types.specs.declared.rules.Colocation.{Colocation}
 use Rattle.cluster_types.specs.declared.rules.Order.{Order}
-use Rattle.cluster_types.specs.declared.rules.OrderKind.{OrderKind}
-use Rattle.cluster_types.specs.declared.rules.OrderKind.TheVariants as kind
 use Rattle.cluster_types.specs.Choice.{is_mandatory}
 use Rattle.cluster_types.specs.Decisions.{decision_of}
-use Rattle.cluster_types.specs.Held.{ColocationMayHold, Gives, LacksFirst, LacksPrimary, OrderMayHold, promoted, started}
+use Rattle.cluster_types.specs.Held.{ColocationMayHold, LacksFirst, LacksPrimary, OrderMayHold}
 use Rattle.cluster_types.specs.Pins.{is_pinned}
-use Rattle.cluster_types.specs.Precedence.{is_up}
+use Rattle.cluster_types.specs.Precedence.{is_mandatory_order, is_up, role_by}
 use Rattle.cluster_types.specs.Tables.{Targets, holds_role, is_in_scope}
-use Rattle.cluster_types.proofs.OpLaws.{up_of}
-use Rattle.plan_laws.specs.HeldMarks.{Marks, is_mandatory_order, lacks_first, lacks_primary, may_colocation, may_order, role_by}
-use Rattle.plan_laws.proofs.OneStep.{below}
-
-pub true_not : (b : Bool) → b ≡ false → not b ≡ true
-true_not b h = rw h refl
-
-pub if_then : (a b : Bool) → (a ≡ true → b ≡ true) → not a || b ≡ true
-if_then true b f = f refl
-if_then false b f = refl
-
-pub of_kind : (k : OrderKind) → is_mandatory_order k ≡ true → k ≡ kind.Mandatory
-of_kind kind.Mandatory h = refl
-of_kind kind.Optional h = cc
-of_kind kind.Serialize h = cc
-
--- a word of an order gives its role
-pub gives_by : (o : Op) → is_up o ≡ true → Gives o (role_by o)
-gives_by op.Start h = started
-gives_by op.Promote h = promoted
-gives_by op.Stop h = cc
-gives_by op.Demote h = cc
-gives_by op.Monitor h = cc
-
-pub gives_one : (o : Op) (given : Role) → Gives o given → given ≡ role_by o
-gives_one _ _ started = refl
-gives_one _ _ promoted = refl
+use Rattle.cluster_types.proofs.OpLaws.{gives_by, gives_one, of_kind, up_of}
+use Rattle.plan_laws.specs.HeldMarks.{Marks, lacks_first, lacks_primary, may_colocation, may_order}
 
 module _ (c : Cluster) (es : List Event) (table : Targets) where
   pub order_may : (o : Order) (n : ℕ) → Contains c.orders o → may_order c es table o n ≡ true → OrderMayHold c es table o n (role_by o.first_op) (role_by o.then_op)
@@ -62,7 +33,7 @@ module _ (c : Cluster) (es : List Event) (table : Targets) where
         first_gives = gives_by o.first_op (later (is_mandatory_order o.kind) (is_up o.first_op) two);
         then_gives = gives_by o.then_op (later _ (is_up o.then_op) three);
         managed = not-true (is_pinned c es o.then_leaf) (later _ (not (is_pinned c es o.then_leaf)) four);
-        within = below n (length c.nodes) (later _ (nat_lt n (length c.nodes)) five);
+        within = ltb-true n (length c.nodes) (later _ (nat_lt n (length c.nodes)) five);
         chosen = later _ (holds_role table o.then_leaf (role_by o.then_op) n) h;
       }
 
@@ -71,7 +42,7 @@ module _ (c : Cluster) (es : List Event) (table : Targets) where
       let kind_is : is_mandatory_order o.kind ≡ true = rw may.mandatory refl in
       let one = up_of o.first_op first may.first_gives in
       let other = up_of o.then_op given may.then_gives in
-      let free = true_not (is_pinned c es o.then_leaf) may.managed in
+      let free = not_from_false (is_pinned c es o.then_leaf) may.managed in
       let low = lt-ltb n (length c.nodes) may.within in
       let there : holds_role table o.then_leaf (role_by o.then_op) n ≡ true = rw (← gives_one o.then_op given may.then_gives) may.chosen in
       rw (kind_is, one, other, free, low) there
@@ -84,13 +55,13 @@ module _ (c : Cluster) (es : List Event) (table : Targets) where
         present = present;
         mandatory = sooner (is_mandatory col) (not (is_pinned c es col.dependent)) two;
         managed = not-true (is_pinned c es col.dependent) (later (is_mandatory col) (not (is_pinned c es col.dependent)) two);
-        within = below n (length c.nodes) (later _ (nat_lt n (length c.nodes)) three);
+        within = ltb-true n (length c.nodes) (later _ (nat_lt n (length c.nodes)) three);
         chosen = later _ (holds_role table col.dependent col.dependent_role n) h;
       }
 
   pub may_of_colocation : (col : Colocation) (n : ℕ) → ColocationMayHold c es table col n → may_colocation c es table col n ≡ true
   may_of_colocation col n may =
-      let free = true_not (is_pinned c es col.dependent) may.managed in
+      let free = not_from_false (is_pinned c es col.dependent) may.managed in
       let low = lt-ltb n (length c.nodes) may.within in
       rw (may.mandatory, free, low) may.chosen
 

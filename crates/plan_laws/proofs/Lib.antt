@@ -30,7 +30,6 @@ pub mod AllWithin
 pub mod Picked
 pub mod MoreDecisions
 pub mod MarkedTargets
-pub mod BoundedChains
 pub mod HeldTests
 pub mod HeldRounds
 pub mod HeldFound
@@ -38,8 +37,6 @@ pub mod HeldReason
 pub mod Firsts
 pub mod SomeReason
 pub mod SomePlacement
-pub mod Lenders
-pub mod FewTerms
 pub mod CellStates
 pub mod CellSteps
 pub mod NeededActions

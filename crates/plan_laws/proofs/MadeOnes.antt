@@ -1,60 +1,53 @@
 -- Which decisions there are, and which of them were made.
-use Rattle.std.proofs.Common.{arith, ◌≡◌, ◌≢◌, ◌<◌, ◌||◌, ℕ, Bool, true, false, if◌then◌else◌, List, [], ◌∷◌, ◌++◌, ◌⊎◌, inl, inr, refl, sym, ◌∙◌, length, Contains, Any}
-use Rattle.std.proofs.lemmas.Bool.{or_left, false_from_ne_true}
-use Rattle.std.specs.List.{list_any, range_with_len}
+use Rattle.std.proofs.Common.{arith, ◌≡◌, ◌≢◌, ◌<◌, ℕ, Bool, true, false, if◌then◌else◌, List, [], ◌∷◌, ◌++◌, ◌⊎◌, inl, inr, refl, sym, ◌∙◌, length, Contains, Any}
+use Rattle.std.proofs.lemmas.Bool.{or_left, false_from_ne_true, or_cases}
+use Rattle.std.specs.List.{range_with_len}
 use Rattle.std.proofs.lemmas.List.Folds.{Any-from_list_any, list_any-append}
-use Rattle.lemmas.proofs.Searches.{passes_by}
+use Rattle.lemmas.proofs.Searches.{any-more, any_last, passes_by}
 use Rattle.lemmas.proofs.Members.{Flat, at_head, head_or_rest, in_flat, in_none, in_range, in_rest, of_flat, of_range}
 use Rattle.rule_loops.proofs.Needs.{is_itself, same_decision}
 use Rattle.cluster_types.specs.declared.cluster.Cluster.{Cluster}
 use Rattle.cluster_types.specs.declared.journal.Event.{Event}
 use Rattle.cluster_types.specs.declared.placement.Decision.{Decision}
 use Rattle.cluster_types.specs.declared.placement.Decision.TheVariants.{Place, Promote}
-use Rattle.cluster_types.specs.Decisions.{decisions, decisions_of, is_decision, is_place, is_same_decision, leaf_of}
+use Rattle.cluster_types.specs.Decisions.{decisions, decisions_of, is_among, is_decision, is_place, is_same_decision, leaf_of}
 use Rattle.cluster_types.specs.Fields.{is_promotable}
 use Rattle.cluster_types.specs.Pins.{is_pinned}
 
-abbrev pub was_made : List Decision → Decision → Bool
-was_made made d = list_any (is_same_decision d) made
-
--- one more is made
-
-last_of : (a b : Bool) → a || (b || false) ≡ true → (a ≡ true) ⊎ (b ≡ true)
-last_of true b h = inl refl
-last_of false true h = inr refl
-last_of false false h = cc
-
-second_of_two : (a b : Bool) → b ≡ true → a || (b || false) ≡ true
-second_of_two true b h = refl
-second_of_two false b h = rw h refl
+-- what is among some decisions stands in their list
+pub stands_among : (ds : List Decision) (d : Decision) → is_among ds d ≡ true → Contains ds d
+stands_among ds d h = at (Any-from_list_any (is_same_decision d) ds h)
+  where
+    at : Any (λ x. is_same_decision d x ≡ true) ds → Contains ds d
+    at (k, x, lt, there, same) = let e : d ≡ x = same_decision d x same in rw e (k, lt, there)
 
 pub never_both : (b : Bool) → b ≡ true → b ≡ false → ⊥
 never_both true h g = cc
 never_both false h g = cc
 
+-- one more is made
 module _ (made : List Decision) (d e : Decision) where
-  pub still_made : was_made made d ≡ true → was_made (made ++ e ∷ []) d ≡ true
-  still_made h = list_any-append (is_same_decision d) made (e ∷ []) ∙ or_left (was_made made d) _ h
+  pub still_made : is_among made d ≡ true → is_among (made ++ e ∷ []) d ≡ true
+  still_made h = list_any-append (is_same_decision d) made (e ∷ []) ∙ or_left (is_among made d) _ h
 
-  pub now_made : d ≡ e → was_made (made ++ e ∷ []) d ≡ true
-  now_made same =
-      list_any-append (is_same_decision d) made (e ∷ []) ∙ second_of_two (was_made made d) (is_same_decision d e) (rw same (is_itself e))
+  pub now_made : d ≡ e → is_among (made ++ e ∷ []) d ≡ true
+  now_made same = any_last (is_same_decision d) made e (rw same (is_itself e))
 
-  pub made_then : was_made (made ++ e ∷ []) d ≡ true → (was_made made d ≡ true) ⊎ (d ≡ e)
+  pub made_then : is_among (made ++ e ∷ []) d ≡ true → (is_among made d ≡ true) ⊎ (d ≡ e)
   made_then h =
-      elim (last_of (was_made made d) (is_same_decision d e) (sym (list_any-append (is_same_decision d) made (e ∷ [])) ∙ h)) [
+      elim (or_cases (is_among made d) (is_same_decision d e) (sym (any-more (is_same_decision d) made e) ∙ h)) [
         | inl before ↦ inl before
         | inr same ↦ inr (same_decision d e same)
       ]
 
-  pub unmade_still : was_made made d ≡ false → d ≢ e → was_made (made ++ e ∷ []) d ≡ false
-  unmade_still h other = false_from_ne_true (was_made (made ++ e ∷ []) d) (λ t. elim (made_then t) [
-    | inl before ↦ never_both (was_made made d) before h
+  pub unmade_still : is_among made d ≡ false → d ≢ e → is_among (made ++ e ∷ []) d ≡ false
+  unmade_still h other = false_from_ne_true (is_among (made ++ e ∷ []) d) (λ t. elim (made_then t) [
+    | inl before ↦ never_both (is_among made d) before h
     | inr same ↦ absurd (other same)
   ])
 
-  pub unmade_before : was_made (made ++ e ∷ []) d ≡ false → was_made made d ≡ false
-  unmade_before h = false_from_ne_true (was_made made d) (λ t. never_both (was_made (made ++ e ∷ []) d) (still_made t) h)
+  pub unmade_before : is_among (made ++ e ∷ []) d ≡ false → is_among made d ≡ false
+  unmade_before h = false_from_ne_true (is_among made d) (λ t. never_both (is_among (made ++ e ∷ []) d) (still_made t) h)
 
 module _ (c : Cluster) (es : List Event) where
   -- what is known of a decision that there is
@@ -77,11 +70,8 @@ module _ (c : Cluster) (es : List Event) where
     ]
     promoted false f h = absurd (in_none d h)
 
-  member : (d : Decision) → Any (λ x. is_same_decision d x ≡ true) (decisions c es) → Contains (decisions c es) d
-  member d (k, x, lt, at, same) = let e : d ≡ x = same_decision d x same in rw e (k, lt, at)
-
   pub there : (d : Decision) → is_decision c es d ≡ true → Contains (decisions c es) d
-  there d h = member d (Any-from_list_any (is_same_decision d) (decisions c es) h)
+  there d h = stands_among (decisions c es) d h
 
   pub known : (d : Decision) → is_decision c es d ≡ true → Known d
   known d h =

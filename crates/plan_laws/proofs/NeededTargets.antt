@@ -3,6 +3,7 @@ use Rattle.std.proofs.Common.{◌≡◌, ◌<◌, ◌&&◌, ◌||◌, not, ℕ, 
 use Rattle.std.specs.Prelude.{nat_le}
 use Rattle.lemmas.proofs.Booleans.{sooner}
 use Rattle.lemmas.proofs.Members.{in_none}
+use Rattle.rule_loops.proofs.Needs.{decided_leaf}
 use Rattle.cluster_types.specs.declared.cluster.Cluster.{Cluster}
 use Rattle.cluster_types.specs.declared.journal.Action.TheVariants.{Cell, MigrateTo, MigrateFrom}
 use Rattle.cluster_types.specs.declared.journal.Event.{Event}
@@ -36,16 +37,12 @@ must_start false true false e h g = cc
 must_start false false k e h g = cc
 
 module _ (c : Cluster) (es : List Event) where
-  same_leaf : (r : ℕ) (given : Role) → leaf_of (decision_of r given) ≡ r
-  same_leaf r role.Started = refl
-  same_leaf r role.Promoted = refl
-
   -- what isn't kept was chosen since the cluster may start
   started_anew : (r n : ℕ) (given : Role) → is_permitted c es (decision_of r given) n ≡ true → is_kept_by (decision_of r given) (cell_state c r n es) ≡ false
       → may_start c es ≡ true
   started_anew r n given permitted h =
       must_start (may_start c es) (may_keep c es) (is_kept_by (decision_of r given) (cell_state c (leaf_of (decision_of r given)) n es))
-      (nat_le (active_count c es (leaf_of (decision_of r given))) (copies c (leaf_of (decision_of r given)))) permitted (rw (same_leaf r given) h)
+      (nat_le (active_count c es (leaf_of (decision_of r given))) (copies c (leaf_of (decision_of r given)))) permitted (rw (decided_leaf r given) h)
 
   module _ (targets : Targets) where
     -- a cell with a step is of a leaf that isn't pinned

@@ -17,7 +17,7 @@ use Rattle.cluster_types.specs.declared.placement.Decision.TheVariants.{Place}
 use Rattle.cluster_types.specs.declared.placement.NoReason.TheVariants as none
 use Rattle.cluster_types.specs.declared.placement.Placed.{Placed}
 use Rattle.cluster_types.specs.Choice.{after_decision, after_decisions, cap_of, is_candidate, is_chosen, is_stopped_role}
-use Rattle.cluster_types.specs.Decisions.{Decides, is_same_decision}
+use Rattle.cluster_types.specs.Decisions.{Decides, is_among, is_same_decision}
 use Rattle.cluster_types.specs.Failures.{is_fail_stopped}
 use Rattle.cluster_types.specs.Fields.{copies, target_role_of}
 use Rattle.cluster_types.specs.Pins.{is_pinned, pinned_targets}
@@ -29,7 +29,7 @@ use Rattle.cluster_types.specs.Valid.{IsValid}
 use Rattle.plan_laws.specs.Placing.{NoneFits}
 use Rattle.plan_laws.proofs.FewChosen.{FirstCandidate, first_candidate}
 use Rattle.plan_laws.proofs.Following.{Follow, First, first_of_rest, follow_later, follow_of}
-use Rattle.plan_laws.proofs.MadeOnes.{is_placed, was_made}
+use Rattle.plan_laws.proofs.MadeOnes.{is_placed}
 use Rattle.plan_laws.proofs.SomeReady.{each_is_made}
 use Rattle.plan_laws.proofs.StayHeld.{IsUntouched, stay_held, untouched_first, untouched_later, untouched_next}
 
@@ -39,11 +39,11 @@ pub record Stands (ds : List Decision) (d : Decision) : Type 0 where
   pub later : List Decision
   pub split : ds ≡ before ++ d ∷ later
 
-pub stands : (ds : List Decision) (d : Decision) → was_made ds d ≡ true → Stands ds d
+pub stands : (ds : List Decision) (d : Decision) → is_among ds d ≡ true → Stands ds d
 stands [] d h = cc
 stands (x ∷ ds) d h = go (is_same_decision d x) refl h (stands ds d)
   where
-    go : (b : Bool) → is_same_decision d x ≡ b → b || was_made ds d ≡ true → (was_made ds d ≡ true → Stands ds d) → Stands (x ∷ ds) d
+    go : (b : Bool) → is_same_decision d x ≡ b → b || is_among ds d ≡ true → (is_among ds d ≡ true → Stands ds d) → Stands (x ∷ ds) d
     go true e g more = record { before = []; later = ds; split = ap (λ (y : Decision). y ∷ ds) (sym (same_decision d x e)) }
     go false e g more = let s = more g in record { before = x ∷ s.before; later = s.later; split = ap (λ (xs : List Decision). x ∷ xs) s.split }
 

@@ -1,7 +1,8 @@
 -- What one decision changes in a table.
-use Rattle.std.proofs.Common.{arith, ◌≡◌, ◌<◌, ◌==◌, ◌&&◌, nat_lt, ℕ, Bool, true, false, if◌then◌else◌, List, ◌⊎◌, inl, inr, refl, length}
+use Rattle.std.proofs.Common.{◌≡◌, ◌<◌, ◌==◌, ◌&&◌, nat_lt, ℕ, Bool, true, false, if◌then◌else◌, List, ◌⊎◌, inl, inr, refl, length}
 use Rattle.lemmas.proofs.Booleans.{sooner, later}
 use Rattle.std.specs.Prelude.{pos, int_le}
+use Rattle.std.proofs.lemmas.Bool.{eqb-true, ltb-true}
 use Rattle.cluster_types.specs.declared.cluster.Cluster.{Cluster}
 use Rattle.cluster_types.specs.declared.journal.Event.{Event}
 use Rattle.cluster_types.specs.declared.journal.Promotion.{Promotion}
@@ -14,12 +15,6 @@ use Rattle.cluster_types.specs.Choice.{after_decision, has_primaries, is_apart, 
 use Rattle.cluster_types.specs.Decisions.{decision_of, leaf_of}
 use Rattle.cluster_types.specs.NodeStates.{is_usable}
 use Rattle.cluster_types.specs.Tables.{Targets, holds_role, is_somewhere, is_promoted_target}
-
-pub below : (n m : ℕ) → nat_lt n m ≡ true → n < m
-below n m h = grind arith
-
-pub equal : (n m : ℕ) → (n == m) ≡ true → n ≡ m
-equal n m h = grind arith
 
 module _ (c : Cluster) (es : List Event) (ps : List Promotion) (table : Targets) where
   -- what holds of a node that may be chosen
@@ -67,7 +62,7 @@ module _ (c : Cluster) (es : List Event) (ps : List Promotion) (table : Targets)
 
       go : (a : Bool) → (r == leaf_of d) ≡ a → (b : Bool) → nat_lt n (length c.nodes) ≡ b → (k : Bool) → is_chosen c es ps table d n ≡ k
           → is_somewhere (changed a b k d r n) ≡ true → (is_somewhere (table r n) ≡ true) ⊎ GaveRole d r role.Started n
-      go true e true f true g h = by d (equal r (leaf_of d) e) (below n (length c.nodes) f) g
+      go true e true f true g h = by d (eqb-true r (leaf_of d) e) (ltb-true n (length c.nodes) f) g
       go true e true f false g h = inl h
       go true e false f k g h = inl h
       go false e b f k g h = inl h
@@ -83,7 +78,7 @@ module _ (c : Cluster) (es : List Event) (ps : List Promotion) (table : Targets)
 
       go : (a : Bool) → (r == leaf_of d) ≡ a → (b : Bool) → nat_lt n (length c.nodes) ≡ b → (k : Bool) → is_chosen c es ps table d n ≡ k
           → is_promoted_target (changed a b k d r n) ≡ true → (is_promoted_target (table r n) ≡ true) ⊎ GaveRole d r role.Promoted n
-      go true e true f true g h = by d (equal r (leaf_of d) e) (below n (length c.nodes) f) g h
+      go true e true f true g h = by d (eqb-true r (leaf_of d) e) (ltb-true n (length c.nodes) f) g h
       go true e true f false g h = inl h
       go true e false f k g h = inl h
       go false e b f k g h = inl h

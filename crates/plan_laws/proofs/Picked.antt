@@ -3,7 +3,7 @@
 use Rattle.std.proofs.Common.{arith, ◌≡◌, ◌<◌, ◌≤◌, ◌&&◌, nat_lt, ℕ, Bool, true, false, refl, count_by, slice_index_or}
 use Rattle.std.specs.List.{range_with_len}
 use Rattle.std.proofs.lemmas.List.FromFn.{length-range_with_len, get_or-range_with_len}
-use Rattle.std.proofs.lemmas.Bool.{and_from, false_from_ne_true}
+use Rattle.std.proofs.lemmas.Bool.{and_from, false_from_ne_true, lt-ltb, ltb-true}
 use Rattle.lemmas.proofs.Booleans.{sooner, later}
 use Rattle.lemmas.proofs.Counts.{count_more, count_one_more}
 use Rattle.plan_laws.proofs.MadeOnes.{never_both}
@@ -42,24 +42,15 @@ module _ (n : ℕ) (among : ℕ → Bool) (before : ℕ → ℕ → Bool) (one_w
       → picked x ≡ (among x && nat_lt (ahead x) cap)
   picked_are_first cap most enough x low = go (picked x) refl (among x) refl
     where
-      less : nat_lt (ahead x) cap ≡ true → ahead x < cap
-      less h = let k : ahead x < cap = below (ahead x) cap h in k
-        where
-          below : (a b : ℕ) → nat_lt a b ≡ true → a < b
-          below a b h = grind arith
-
-      is_less : ahead x < cap → nat_lt (ahead x) cap ≡ true
-      is_less h = above (ahead x) cap h
-        where
-          above : (a b : ℕ) → a < b → nat_lt a b ≡ true
-          above a b h = grind arith
-
       go : (p : Bool) → picked x ≡ p → (a : Bool) → among x ≡ a → picked x ≡ (among x && nat_lt (ahead x) cap)
-      go true e true f = let few = few_ahead x low e in rw (e, f, is_less (omega arith)) refl
+      go true e true f =
+          let few = few_ahead x low e in
+          let less : nat_lt (ahead x) cap ≡ true = lt-ltb (ahead x) cap (omega arith) in
+          rw (e, f, less) refl
       go true e false f = absurd (never_both (among x) (fits x e) f)
       go false e true f =
           let many = many_ahead x f e in
           let full = enough x low f e in
-          let no : nat_lt (ahead x) cap ≡ false = false_from_ne_true (nat_lt (ahead x) cap) (λ h. let l = less h in absurd (let g : ⊥ = omega arith in g)) in
+          let no : nat_lt (ahead x) cap ≡ false = false_from_ne_true (nat_lt (ahead x) cap) (λ h. let l : ahead x < cap = ltb-true (ahead x) cap h in absurd (let g : ⊥ = omega arith in g)) in
           rw (e, f, no) refl
       go false e false f = rw (e, f) refl

@@ -17,9 +17,9 @@ use Rattle.cluster_types.specs.declared.cluster.Cluster.{Cluster}
 use Rattle.cluster_types.specs.declared.journal.Event.{Event}
 use Rattle.cluster_types.specs.declared.journal.Promotion.{Promotion}
 use Rattle.cluster_types.specs.declared.placement.Decision.{Decision}
-use Rattle.cluster_types.specs.Decisions.{Decides, all_decisions, all_made, decisions, is_decision, is_ready, is_same_decision, needs, needs_through, one_more}
+use Rattle.cluster_types.specs.Decisions.{Decides, all_decisions, all_made, decisions, is_among, is_decision, is_ready, is_same_decision, needs, needs_through, one_more}
 use Rattle.cluster_types.specs.Valid.{IsValid}
-use Rattle.plan_laws.proofs.MadeOnes.{Known, known, never_both, there, was_made}
+use Rattle.plan_laws.proofs.MadeOnes.{Known, known, never_both, there}
 
 -- an element that fails a test
 pub record Fails {X : Type 0} (p : X → Bool) (xs : List X) : Type 0 where
@@ -71,27 +71,27 @@ module _ (c : Cluster) (valid : IsValid c) where
 
   module _ (es : List Event) (made : List Decision) where
     abbrev is_met : Decision → Decision → Bool
-    is_met d e = not (needs c d e) || was_made made e
+    is_met d e = not (needs c d e) || is_among made e
 
     -- a decision that isn't made is ready, or one that it needs isn't made
     pub record Waits (d : Decision) : Type 0 where
       pub for : Decision
       pub is_one : is_decision c es for ≡ true
-      pub unmade : was_made made for ≡ false
+      pub unmade : is_among made for ≡ false
       pub higher : height d < height for
 
-    ready_or_waits : (d : Decision) → is_decision c es d ≡ true → was_made made d ≡ false → (is_ready c es made d ≡ true) ⊎ Waits d
+    ready_or_waits : (d : Decision) → is_decision c es d ≡ true → is_among made d ≡ false → (is_ready c es made d ≡ true) ⊎ Waits d
     ready_or_waits d is unmade = go (list_all (is_met d) (decisions c es)) refl
       where
         waits : Fails (is_met d) (decisions c es) → Waits d
         waits f =
-            let (wants, not_yet) = wanted (needs c d f.one) (was_made made f.one) f.fails in
+            let (wants, not_yet) = wanted (needs c d f.one) (is_among made f.one) f.fails in
             let one : is_decision c es f.one ≡ true = passes_by (is_same_decision f.one) (decisions c es) f.one f.among (is_itself f.one) in
             let k : Known c es f.one = known c es f.one one in
             record { for = f.one; is_one = one; unmade = not_yet; higher = needed_is_higher d f.one (decision_there c f.one k.within) wants }
 
         go : (b : Bool) → list_all (is_met d) (decisions c es) ≡ b → (is_ready c es made d ≡ true) ⊎ Waits d
-        go true e = inl (third (is_decision c es d) (was_made made d) (list_all (is_met d) (decisions c es)) is unmade ∙ e)
+        go true e = inl (third (is_decision c es d) (is_among made d) (list_all (is_met d) (decisions c es)) is unmade ∙ e)
         go false e = inr (waits (some_fails (is_met d) (decisions c es) e))
 
     abbrev most : ℕ
@@ -107,7 +107,7 @@ module _ (c : Cluster) (valid : IsValid c) where
       pub one : Decision
       pub ready : is_ready c es made one ≡ true
 
-    climb : (room : ℕ) (d : Decision) → is_decision c es d ≡ true → was_made made d ≡ false → most ≤ height d + room → SomeReady
+    climb : (room : ℕ) (d : Decision) → is_decision c es d ≡ true → is_among made d ≡ false → most ≤ height d + room → SomeReady
     climb zero d is unmade enough = elim (ready_or_waits d is unmade) [
       | inl ready ↦ record { one = d; ready = ready }
       | inr w ↦ let up = w.higher in let most = no_higher w.for w.is_one in absurd (let f : ⊥ = omega arith in f)
@@ -117,14 +117,14 @@ module _ (c : Cluster) (valid : IsValid c) where
       | inr w ↦ let up = w.higher in climb room w.for w.is_one w.unmade (omega arith)
     ]
 
-    pub some_is_ready : (d : Decision) → is_decision c es d ≡ true → was_made made d ≡ false → SomeReady
+    pub some_is_ready : (d : Decision) → is_decision c es d ≡ true → is_among made d ≡ false → SomeReady
     some_is_ready d is unmade = climb most d is unmade (omega arith)
 
   pub each_is_made : (es : List Event) (ps : List Promotion) (made all : List Decision) → Decides c es ps made all → (d : Decision) → is_decision c es d ≡ true
-      → was_made all d ≡ true
-  each_is_made es ps _ _ (all_made made none) d is = go (was_made made d) refl
+      → is_among all d ≡ true
+  each_is_made es ps _ _ (all_made made none) d is = go (is_among made d) refl
     where
-      go : (b : Bool) → was_made made d ≡ b → was_made made d ≡ true
+      go : (b : Bool) → is_among made d ≡ b → is_among made d ≡ true
       go true e = e
       go false e = let s : SomeReady es made = some_is_ready es made d is e in absurd (never_both (is_ready c es made s.one) s.ready (none s.one))
   each_is_made es ps _ _ (one_more made all x next more) d is = each_is_made es ps (made ++ x ∷ []) all more d is

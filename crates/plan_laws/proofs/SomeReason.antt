@@ -2,7 +2,7 @@
 use Rattle.std.proofs.Common.{arith, ◌≡◌, ◌<◌, ◌==◌, not, ℕ, Bool, true, false, if◌then◌else◌, Option, Some, None, List, inl, inr, refl, length, Any}
 use Rattle.std.specs.List.{list_any, range_with_len}
 use Rattle.std.proofs.lemmas.List.Folds.{Any-from_list_any}
-use Rattle.std.proofs.lemmas.Bool.{false_from_ne_true}
+use Rattle.std.proofs.lemmas.Bool.{false_from_ne_true, not-false}
 use Rattle.lemmas.proofs.Searches.{passes_by}
 use Rattle.lemmas.proofs.Members.{in_range, of_range}
 use Rattle.cluster_types.specs.declared.cluster.Cluster.{Cluster}
@@ -80,13 +80,9 @@ module _ (c : Cluster) (es : List Event) (table targets : Targets) (are : AreTar
     earliest : is_chosen_nowhere c es table r ≡ false → Earliest
     earliest e = at (some_fails (λ n. not (is_somewhere (table r n))) (range_with_len 0 (length c.nodes)) e)
       where
-        is : (b : Bool) → not b ≡ false → b ≡ true
-        is true h = refl
-        is false h = cc
-
         at : Fails (λ n. not (is_somewhere (table r n))) (range_with_len 0 (length c.nodes)) → Earliest
         at f =
-            let l : LeastOf (λ n. is_somewhere (table r n)) f.one = least_of (λ n. is_somewhere (table r n)) f.one (is (is_somewhere (table r f.one)) f.fails) in
+            let l : LeastOf (λ n. is_somewhere (table r n)) f.one = least_of (λ n. is_somewhere (table r n)) f.one (not-false (is_somewhere (table r f.one)) f.fails) in
             let lt = of_range 0 (length c.nodes) f.one f.among in
             let le = l.within in
             record { node = l.found.least; within = omega arith; chosen = l.found.passes; none_before = l.found.none_before }

@@ -3,8 +3,7 @@ use Rattle.std.proofs.Common.{◌≡◌, ◌↔◌, ◌<◌, ◌==◌, ◌&&◌,
 use Rattle.std.specs.List.{list_any}
 use Rattle.std.proofs.lemmas.Bool.{and_parts, both_ways}
 use Rattle.lemmas.proofs.Booleans.{either}
-use Rattle.rule_loops.proofs.FromValid.{valid_order}
-use Rattle.step_ranks.proofs.OneRanking.{rank_rises}
+use Rattle.step_ranks.proofs.OneRanking.{valid_rise}
 use Rattle.cluster_types.specs.declared.cluster.Cluster.{Cluster}
 use Rattle.cluster_types.specs.declared.journal.Action.{Action}
 use Rattle.cluster_types.specs.declared.journal.Action.TheVariants.{Fence, Probe, Cell, MigrateTo, MigrateFrom}
@@ -13,7 +12,7 @@ use Rattle.cluster_types.specs.declared.leaf.Op.TheVariants as op
 use Rattle.cluster_types.specs.declared.leaf.Role.TheVariants as role
 use Rattle.cluster_types.specs.Fields.{is_promotable}
 use Rattle.cluster_types.specs.Needed.{Needed, sent}
-use Rattle.cluster_types.specs.Numbers.{Link, is_before, is_earlier, links, place_of, rank}
+use Rattle.cluster_types.specs.Numbers.{is_before, is_earlier, place_of}
 use Rattle.cluster_types.specs.Precedence.{comes_first_in_cell, demotes_first, fences_first, is_across, is_migrating, is_ordered, is_serialize, is_serialized, migrates_first, must_precede, parts_first, probes_first, stops_first}
 use Rattle.cluster_types.specs.Tables.{Targets, holds_role}
 use Rattle.cluster_types.specs.Valid.{IsValid}
@@ -28,9 +27,6 @@ module _ (c : Cluster) (es : List Event) (targets : Targets) (actions : List Act
     (needed : (a : Action) → Contains actions a ↔ Needed c es targets a) where
   needs : (a : Action) → Contains actions a → Needed c es targets a
   needs a k = (needed a).0 k
-
-  rise : (l : Link) → Contains (links c) l → rank c l.before < rank c l.after
-  rise l h = rank_rises c (valid_order c valid.orders) valid.steps l h
 
   -- of a migrating leaf
   taken_stop : (r f t n s : ℕ) → r ≡ s → Contains actions (MigrateFrom r f t) → (b : Bool) → is_migrating actions s ≡ b
@@ -76,7 +72,7 @@ module _ (c : Cluster) (es : List Event) (targets : Targets) (actions : List Act
     orders_upward h =
         let o = found (λ o. is_ordered actions o x y || is_serialized (is_earlier c actions) o x y) c.orders h in
         either (is_ordered actions o.element x y) (is_serialized (is_earlier c actions) o.element x y) o.passes
-        (ordered_upward c es targets actions rise needs o.element o.among (valid.orders o.element o.among) x y inx iny)
+        (ordered_upward c es targets actions (valid_rise c valid) needs o.element o.among (valid.orders o.element o.among) x y inx iny)
         (λ m. (and_parts (is_serialize o.element.kind && (is_across o.element x y || is_across o.element y x)) (is_earlier c actions x y) m).1)
 
     pub pairs_upward : must_precede c actions (is_earlier c actions) x y ≡ true → is_earlier c actions x y ≡ true
@@ -88,7 +84,7 @@ module _ (c : Cluster) (es : List Event) (targets : Targets) (actions : List Act
         (λ h. either (a || b || d || e) f h
         (λ h. either (a || b || d) e h
         (λ h. either (a || b) d h
-        (λ h. either a b h (probes_upward c es targets actions needs rise roles x y) (stops_upward c es targets actions needs rise roles x y))
-        (fences_upward c es targets actions needs rise roles x y)) (in_cell_upward c es targets actions needs rise roles x y inx iny))
-        (demotes_upward c es targets actions needs rise roles x y)) separations_upward) orders_upward)
+        (λ h. either a b h (probes_upward c es targets actions needs (valid_rise c valid) roles x y) (stops_upward c es targets actions needs (valid_rise c valid) roles x y))
+        (fences_upward c es targets actions needs (valid_rise c valid) roles x y)) (in_cell_upward c es targets actions needs (valid_rise c valid) roles x y inx iny))
+        (demotes_upward c es targets actions needs (valid_rise c valid) roles x y)) separations_upward) orders_upward)
         (migrates_upward x y inx)

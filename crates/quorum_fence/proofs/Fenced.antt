@@ -1,8 +1,8 @@
 -- The nodes that are unclean by their states, and those that are to be fenced.
-use Rattle.std.proofs.Common.{◌≡◌, ℕ, ◌<◌, true, false, Some, List, [], length, filter, slice_get, refl, sym, ap, ◌∙◌}
+use Rattle.std.proofs.Common.{◌≡◌, ℕ, zero, suc, ◌+◌, ◌<◌, true, false, Some, List, [], length, filter, slice_get, refl, sym, ap, subst, ◌∙◌, append-nil, arith}
 use Rattle.std.specs.List.{range_with_len}
 use Rattle.std.specs.Option.{option_map_or}
-use Rattle.lemmas.proofs.Ranges.{filter-same, filter-none}
+use Rattle.lemmas.proofs.Ranges.{filter-more, filter-same}
 use Rattle.cluster_types.specs.declared.cluster.Cluster.{Cluster}
 use Rattle.cluster_types.specs.declared.journal.Event.{Event}
 use Rattle.cluster_types.specs.declared.journal.Promotion.{Promotion}
@@ -12,6 +12,13 @@ use Rattle.cluster_types.specs.Rights.{may_fence, is_to_be_fenced}
 use Rattle.cluster_types.specs.Unpacked.{states_of}
 use Rattle.cluster_types.proofs.StatesKept.{node_kept, nodes_fit}
 use Rattle.quorum_fence.specs.Unclean.{unclean_in}
+
+-- a test that never passes keeps none
+filter-none : (n : ℕ) → filter (λ (i : ℕ). false) (range_with_len 0 n) ≡ []
+filter-none zero = refl
+filter-none (suc n) =
+    let on : n + 1 ≡ suc n = omega arith in
+    subst (λ k. filter (λ (i : ℕ). false) (range_with_len 0 k) ≡ []) on (filter-more (λ i. false) n false refl ∙ (append-nil _ ∙ filter-none n))
 
 module _ (c : Cluster) (es : List Event) (promotions : List Promotion) (states : States) (told : states ≡ states_of c es promotions) where
   state-is : (n : ℕ) → n < length c.nodes → slice_get states.nodes n ≡ Some (node_state c n es)

@@ -36,7 +36,7 @@ fn unclean_in(alloc: Global, nodes: &[NodeState]) -> Result<Vec<NodeId>, AllocEr
 }
 
 /// The nodes that are to be fenced, by rising number: each unclean one, where the cluster may fence (Pacemaker Explained, "Fencing"; that it may fence
-/// all alike is a rule of this project). The states are those that some journal tells of the cluster.
+/// all alike is a rule of this project). The states are those that some journal tells of the cluster, of at most 256 nodes.
 pub fn to_fence(alloc: Global, cluster: &Cluster, states: &States) -> Result<Vec<NodeId>, NoMemory>
     requires { length states.now.nodes ≤ 256 }
     ensures { IfOk result (λ nodes. (events : List EventOf) (promotions : List PromotionOf)

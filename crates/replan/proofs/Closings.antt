@@ -14,7 +14,7 @@ use Rattle.cluster_types.specs.Steps as steps
 use Rattle.cluster_types.specs.Steps.{Transition, StepsOn, HasEnded, IsWaiting, flying, has_aborted, journal, outside}
 use Rattle.cluster_types.specs.Texts.{event_lines}
 use Rattle.graph_exec.specs.Logs.{JournalOf}
-use Rattle.graph_exec.specs.Running.{Running, Went, going}
+use Rattle.graph_exec.specs.Running.{Running, Went, going, known_of}
 use Rattle.graph_exec.specs.Telling.{closing_line, text_of}
 use Rattle.graph_exec.specs.Transitions.{IsAborted, IsComplete, IsCutBy, WentAsSaid, WentTo}
 use Rattle.graph_exec.specs.Watching.{IsCutOff, IsTold}
@@ -22,7 +22,7 @@ use Rattle.graph_exec.proofs.Beginning.{found_so}
 use Rattle.graph_exec.proofs.Said.{taken_none}
 use Rattle.run_safety.proofs.SoFar.{runs_once}
 use Rattle.replan.specs.Replays.{Setting, setting, sight}
-use Rattle.replan.specs.Turns.{Came, CameTo, EndsBroken, EndsCut, EndsStopped, closed_at, known_of, left_of}
+use Rattle.replan.specs.Turns.{Came, CameTo, EndsBroken, EndsCut, EndsStopped, closed_at, left_of}
 use Rattle.replan.proofs.Joined.{came_on, came_step}
 use Rattle.replan.proofs.Steps.{came_carried, part_runs, part_said, part_told}
 

@@ -25,7 +25,7 @@ use Rattle.cluster_types.specs.Tables.{targets_of}
 use Rattle.cluster_types.specs.Texts.{all_passed_lines, end_lines, event_lines, target_lines}
 use Rattle.cluster_types.proofs.SourceLaws.{carries-out}
 use Rattle.graph_exec.specs.Logs.{JournalOf}
-use Rattle.graph_exec.specs.Running.{Running, Went, going}
+use Rattle.graph_exec.specs.Running.{Running, Went, going, known_of}
 use Rattle.graph_exec.specs.Transitions.{IsAborted, IsComplete, IsCutBy, WentAsSaid, WentTo}
 use Rattle.graph_exec.proofs.Beginning.{found_so}
 use Rattle.graph_exec.proofs.Said.{taken_none}
@@ -37,7 +37,7 @@ use Rattle.replan.specs.declared.planning.Planned.{Planned}
 use Rattle.replan.specs.Keeping.{IsAnswered, IsUnanswered, Keeps, KeepsCut, KeepsEnd, KeepsSoFar, KeepsTo}
 use Rattle.replan.specs.Kept.{IsOfPlan, StandsSo}
 use Rattle.replan.specs.Replays.{Setting, setting}
-use Rattle.replan.specs.Turns.{IsReady, IsSaid, known_of, left_of}
+use Rattle.replan.specs.Turns.{IsReady, IsSaid, left_of}
 use Rattle.replan.proofs.Joined.{said_then}
 use Rattle.replan.proofs.KeptEnds.{kept_answered, kept_unanswered}
 use Rattle.replan.proofs.KeptPlans.{all_last, each_more, newly_of_plan, passed_by, within_each}

@@ -18,7 +18,8 @@ use Rattle.cluster_types.specs.Valid.{IsValid}
 use Rattle.crm_lex.specs.Names.{is_name}
 use Rattle.graph_exec.specs.Telling.{ReasonsHaveNames}
 
-first_in : {X : Type 0} (P : X → Type 0) (xs : List X) (x : X) → IsFirstOf P xs x → Contains xs x
+-- the first of which it holds is one of all
+pub first_in : {X : Type 0} (P : X → Type 0) (xs : List X) (x : X) → IsFirstOf P xs x → Contains xs x
 first_in P xs x f = rw f.split (Contains-append_right f.before (x ∷ f.after) x (at_head x f.after x refl))
 
 module _ (c : Cluster) (valid : IsValid c) where

@@ -4,7 +4,6 @@ use Rattle.std.specs.Prelude.{Option, Result}
 use Rattle.cluster_io.specs.Streams.{Adds, AddsPrefix}
 use Rattle.cluster_types.specs.declared.cluster.Cluster.{Cluster}
 use Rattle.cluster_types.specs.declared.journal.Answer.{Answer}
-use Rattle.cluster_types.specs.declared.journal.Answer.{Answer}
 use Rattle.cluster_types.specs.declared.journal.Event.{Event}
 use Rattle.cluster_types.specs.declared.journal.Journal.{Journal}
 use Rattle.cluster_types.specs.declared.journal.Promotion.{Promotion}
@@ -16,14 +15,14 @@ use Rattle.cluster_types.specs.Steps.{Transition}
 use Rattle.cluster_types.specs.Valid.{IsValid}
 use Rattle.graph_exec.specs.Logs.{JournalOf}
 use Rattle.graph_exec.specs.Promises.{IsPlanned}
-use Rattle.graph_exec.specs.Running.{Running, Went, going}
+use Rattle.graph_exec.specs.Running.{Running, Went, going, known_of}
 use Rattle.graph_exec.specs.Telling.{plan_lines, text_of}
 use Rattle.graph_exec.specs.Transitions.{Accords}
 use Rattle.graph_exec.proofs.Told.{adds_nothing}
 use Rattle.replan.specs.declared.planning.Planned.{Planned}
 use Rattle.replan.specs.declared.stop.ReplayStop.{ReplayStop}
 use Rattle.replan.specs.Replays.{Setting, Sight, WritesNamesOf, setting, sight}
-use Rattle.replan.specs.Turns.{Came, CameTo, EndsAs, EndsStopped, HasPlan, IsReady, fresh_on, known_of, left_of}
+use Rattle.replan.specs.Turns.{Came, CameTo, EndsAs, EndsStopped, HasPlan, IsReady, fresh_on, left_of}
 use Rattle.replan.proofs.Joined.{came_on, ends_on}
 use Rattle.replan.proofs.Named.{reasons_named}
 use Rattle.replan.proofs.Rests.{accords_first, accords_last, stays_there}

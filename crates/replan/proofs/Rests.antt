@@ -13,10 +13,10 @@ use Rattle.cluster_types.specs.Safety.{IsAtRest}
 use Rattle.cluster_types.specs.Steps.{Applies, events_of, is_from_outside, resting}
 use Rattle.graph_exec.specs.Logs.{JournalOf}
 use Rattle.graph_exec.specs.Promises.{IsPlanned}
-use Rattle.graph_exec.specs.Running.{Running, Went}
+use Rattle.graph_exec.specs.Running.{Running, Went, known_of}
 use Rattle.graph_exec.specs.Saying.{AgreesOn}
 use Rattle.graph_exec.specs.Transitions.{Accords}
-use Rattle.replan.specs.Turns.{HasPlan, known_of}
+use Rattle.replan.specs.Turns.{HasPlan}
 
 pub none_in_flight : (es : List Event) (flight : List (ℕ × Action)) → in_flight es ≡ [] → flight ≡ [] → IsFlight es flight
 none_in_flight es flight idle none = rw none (record {

@@ -32,12 +32,9 @@ journal_of s at = record { events = journal_at at; promotions = s.promotions }
 abbrev pub plain_of : JournalOf → Journal
 plain_of j = record { events = j.events; promotions = j.promotions }
 
--- the journal that a transition leaves, without what it tells and with it
+-- the journal that a transition leaves, without what it tells
 abbrev pub left_of : Running → Journal
 left_of r = record { events = r.planned_at ++ r.since; promotions = r.promotions }
-
-abbrev pub known_of : Running → JournalOf
-known_of r = record { cluster = r.cluster; events = r.planned_at ++ r.since; promotions = r.promotions }
 
 -- the run from a standing on prints these lines up to another, and each of its answers was said: they are those that were taken, where the answers to come
 -- are told

@@ -1,7 +1,7 @@
 -- The needs of decisions as edges.
 use Rattle.std.proofs.Common.{arith, ◌≡◌, ◌<◌, ◌+◌, ◌*◌, ◌==◌, ◌&&◌, ◌||◌, not, ℕ, suc, zero, Bool, true, false, List, [], ◌∷◌, ◌++◌, map, length, refl, sym, ap, inl, inr, Contains, Any}
 use Rattle.std.specs.List.{flat_map, list_any, range_with_len}
-use Rattle.std.proofs.lemmas.Bool.{ne_eqb, and_from, or_right}
+use Rattle.std.proofs.lemmas.Bool.{ne_eqb, and_from, or_left, or_right}
 use Rattle.std.proofs.lemmas.List.Elements.{Contains-append_left, Contains-append_right, Contains-append_cases}
 use Rattle.std.proofs.lemmas.List.Folds.{Any-from_list_any}
 use Rattle.std.proofs.lemmas.List.FromFn.{map-range_with_len_more}
@@ -40,6 +40,15 @@ same_position (Promote r) (Place s) h = absurd (let f : ⊥ = omega arith in f)
 pub is_itself : (d : Decision) → is_same_decision d d ≡ true
 is_itself (Place r) = grind arith
 is_itself (Promote r) = grind arith
+
+-- the decision that gives a leaf a role is of that leaf
+pub decided_leaf : (r : ℕ) (given : Role) → leaf_of (decision_of r given) ≡ r
+decided_leaf r Started = refl
+decided_leaf r Promoted = refl
+
+pub placed_by : (r s : ℕ) (given : Role) → Place r ≡ decision_of s given → (s ≡ r) × (given ≡ Started)
+placed_by r s Started e = (cc, refl)
+placed_by r s Promoted e = cc
 
 pub alike : (d e : Decision) → is_same_decision d e ≡ (decision_position d == decision_position e)
 alike d e = on (is_same_decision d e) refl where
@@ -143,13 +152,9 @@ module _ (c : Cluster) (joined : (col : Colocation) → Contains c.colocations c
       record {
         way = Place m.source;
         among = decision_there c (Place m.source) lt;
-        begins = rw starts (sooner_of (is_same_decision (Place m.source) (Place m.source)) _ (is_itself (Place m.source)));
+        begins = rw starts (or_left (is_same_decision (Place m.source) (Place m.source)) _ (is_itself (Place m.source)));
         to = sym (ap (λ (x : Edge). x.after) m.gives);
       }
-    where
-      sooner_of : (a b : Bool) → a ≡ true → a || b ≡ true
-      sooner_of true b h = refl
-      sooner_of false b h = cc
 
   way_of_colocation : (e : Edge) (s : Decision) → e.before ≡ decision_position s → Mapped colocation_edge c.colocations e
       → WayFor (λ w s. needs c s w) (λ d. d) (all_decisions c) decision_position e s

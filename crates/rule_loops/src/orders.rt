@@ -117,7 +117,7 @@ fn rule_at(ends: &[usize], place: usize) -> Option<usize>
     ends.iter().position(|end| place < *end)
 }
 
-/// The first order whose edges close a loop, among the edges of all links.
+/// The place of the first order whose edges close a loop, and None where none does.
 fn closing_order(
     alloc: Global,
     cluster: &Cluster,

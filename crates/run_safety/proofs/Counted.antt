@@ -1,8 +1,9 @@
 -- Each transition of a run but the last takes an answer, where the answers to come are told.
-use Rattle.std.proofs.Common.{arith, ◌≡◌, ◌<◌, ◌≤◌, ◌+◌, ◌||◌, ℕ, Bool, true, false, List, [], ◌++◌, refl, ◌∙◌, sym}
+use Rattle.std.proofs.Common.{arith, ◌≡◌, ◌<◌, ◌≤◌, ◌+◌, ℕ, Bool, true, false, List, [], ◌++◌, refl, ◌∙◌, sym}
 use Rattle.std.specs.Prelude.{Option, Some, None}
 use Rattle.std.specs.List.{list_any}
 use Rattle.std.proofs.lemmas.List.Folds.{list_any-append}
+use Rattle.lemmas.proofs.Booleans.{first_passes}
 use Rattle.cluster_types.specs.declared.cluster.Cluster.{Cluster}
 use Rattle.cluster_types.specs.declared.journal.Answer.{Answer}
 use Rattle.cluster_types.specs.declared.journal.Event.{Event}
@@ -26,10 +27,6 @@ count_silent : (whole : Bool) (rest left : Option (List Answer)) (said : Option 
 count_silent whole _ _ _ (said_first given rest) h e = absurd (let f : ⊥ = cc in f)
 count_silent whole _ _ _ (used_up over) h e = refl
 count_silent whole _ _ _ (untold said) h e = absurd h
-
-either_aborted : (a b : Bool) → b ≡ false → a || b ≡ true → a ≡ true
-either_aborted true b e h = refl
-either_aborted false b e h = sym (sym h ∙ e)
 
 -- what a step of a transition takes: an answer, or what it adds doesn't abort
 pub data IsCounted (t : Transition) (events : List Event) (rest left : Option (List Answer)) : Type 0 where
@@ -56,7 +53,7 @@ module _ (c : Cluster) (promotions : List Promotion) (whole : Bool) (most : ℕ)
     let h = counts.0 in omega (arith, e, h),
     λ aborted.
         let before : has_aborted t since ≡ true =
-        either_aborted (has_aborted t since) (list_any (aborts_it t.cluster) events) calm (sym (list_any-append (aborts_it t.cluster) since events) ∙ aborted) in
+        first_passes (has_aborted t since) (list_any (aborts_it t.cluster) events) (sym (list_any-append (aborts_it t.cluster) since events) ∙ aborted) calm in
         let h = counts.1 before in omega (arith, e, h),
   )
 

@@ -5,9 +5,10 @@ use Rattle.std.specs.List.{range_with_len}
 use Rattle.std.proofs.lemmas.Bool.{and_from, and_parts, and_right, ne_eqb, not_from_false, not_from_true}
 use Rattle.std.proofs.lemmas.Bool.Decides.{nat_tests}
 use Rattle.std.proofs.lemmas.List.FromFn.{length-range_with_len, get_or-range_with_len}
-use Rattle.lemmas.proofs.Booleans.{later, number_itself, second_fails}
+use Rattle.lemmas.proofs.Booleans.{denied_first, later, number_itself}
 use Rattle.lemmas.proofs.Counts.{count-cons, count_none, count_one_more}
 use Rattle.lemmas.proofs.Ranges.{count-same}
+use Rattle.run_safety.proofs.Truths.{other_fails}
 
 module _ (p q : ℕ → Bool) (n nodes : ℕ) (low : n < nodes) (here : q n ≡ true) (follows : (m : ℕ) → m < nodes → (m == n) ≡ false → p m ≡ true → q m ≡ true) where
   abbrev others : ℕ → Bool
@@ -24,11 +25,7 @@ module _ (p q : ℕ → Bool) (n nodes : ℕ) (low : n < nodes) (here : q n ≡ 
   weaker m h =
       let parts = and_parts (nat_lt m nodes) (others m) h in
       let lt : m < nodes = (let e = parts.0 in grind (arith, nat_tests)) in
-      follows m lt (apart (m == n) (p m) parts.1) (later (not (m == n)) (p m) parts.1)
-    where
-      apart : (a b : Bool) → not a && b ≡ true → a ≡ false
-      apart false b h = refl
-      apart true b h = cc
+      follows m lt (denied_first (m == n) (p m) parts.1) (later (not (m == n)) (p m) parts.1)
 
   not_itself : within n ≡ false
   not_itself = and_right (nat_lt n nodes) (others n) (let e : not (n == n) ≡ false = not_from_true (n == n) (number_itself n) in rw e refl)
@@ -61,5 +58,5 @@ pub none_elsewhere : (p : ℕ → Bool) (n m nodes : ℕ) → count_by (λ m. no
 none_elsewhere p n m nodes h low other =
     let long = length-range_with_len 0 nodes in
     let at : slice_index_or (range_with_len 0 nodes) m m ≡ m = (let f = get_or-range_with_len 0 nodes m m low in omega (arith, f)) in
-    second_fails (not (m == n)) (p m) (not_from_false (m == n) (ne_eqb m n other))
+    other_fails (not (m == n)) (p m) (not_from_false (m == n) (ne_eqb m n other))
     (count_none (λ m. not (m == n) && p m) (range_with_len 0 nodes) h m m (omega (arith, long, low)) at)

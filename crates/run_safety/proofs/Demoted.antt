@@ -2,7 +2,7 @@
 use Rattle.std.proofs.Common.{arith, inl, inr, ◌≡◌, ◌<◌, if◌then◌else◌, ℕ, Bool, true, false, Some, List, [], length, refl, sym, subst}
 use Rattle.std.specs.Prelude.{Contains}
 use Rattle.std.proofs.lemmas.Bool.{both_ways, false_from_ne_true, and_from}
-use Rattle.lemmas.proofs.Booleans.{sooner, number_itself, second_fails}
+use Rattle.lemmas.proofs.Booleans.{sooner, number_itself}
 use Rattle.cluster_types.specs.declared.journal.Action.{Action}
 use Rattle.cluster_types.specs.declared.journal.Action.TheVariants.{Fence, Probe, Cell}
 use Rattle.cluster_types.specs.declared.journal.Event.{Event}
@@ -31,7 +31,7 @@ use Rattle.run_safety.proofs.Needing.{Acts, Done, state, IsNeeded, probe_needed,
 use Rattle.run_safety.proofs.Offline.{out_closes, not_online, IsOut}
 use Rattle.run_safety.proofs.PromotedEffects.{down_begun, down_done, down_waited, down_turned}
 use Rattle.run_safety.proofs.Touching.{gives_promoted, takes_promoted, is_sure}
-use Rattle.run_safety.proofs.Truths.{refuse, own_cell}
+use Rattle.run_safety.proofs.Truths.{other_fails, refuse, own_cell}
 use Rattle.run_safety.proofs.Turning.{turned, unturned}
 
 -- what failed is stopped, and what was promoted and shall not be is demoted
@@ -80,7 +80,7 @@ module _ (t : Transition) (targets : Targets) (carries : Carries t targets) (r n
 
   -- what may not be promoted of a promotable leaf isn't left promoted
   pub not_left : (es : List Event) → is_promotable t.cluster r ≡ true → may_promoted t.cluster r n es ≡ false → IsDown es
-  not_left es able h = second_fails (is_promotable t.cluster r) (is_left_promoted t.cluster r n es) able h
+  not_left es able h = other_fails (is_promotable t.cluster r) (is_left_promoted t.cluster r n es) able h
 
   pub not_promoted : (es : List Event) → may t.cluster r n es ≡ false → may_promoted t.cluster r n es ≡ false
   not_promoted es off = false_from_ne_true (may_promoted t.cluster r n es) (λ e. both_ways (may t.cluster r n es) off (may-promoted t.cluster r n es e))

@@ -1,8 +1,8 @@
 -- In a journal in order nothing may run on a node that is offline.
-use Rattle.std.proofs.Common.{inl, inr, ◌⊎◌, ◌≡◌, ◌==◌, ◌&&◌, ◌||◌, not, if◌then◌else◌, ℕ, Bool, true, false, Option, Some, None, List, [], ◌∷◌, ◌++◌, length, append-nil, refl, sym, subst, ap, ◌∙◌}
+use Rattle.std.proofs.Common.{inl, inr, ◌⊎◌, ◌≡◌, ◌==◌, ◌&&◌, not, if◌then◌else◌, ℕ, Bool, true, false, Option, Some, None, List, [], ◌∷◌, ◌++◌, length, append-nil, refl, sym, subst, ap, ◌∙◌}
 use Rattle.std.specs.List.{list_any, range_with_len}
 use Rattle.std.proofs.lemmas.List.{append_assoc}
-use Rattle.std.proofs.lemmas.Bool.{or_left}
+use Rattle.std.proofs.lemmas.Bool.{or_left, or_right}
 use Rattle.lemmas.proofs.Booleans.{sooner, later}
 use Rattle.cluster_types.specs.declared.cluster.Cluster.{Cluster}
 use Rattle.cluster_types.specs.declared.journal.Action.TheVariants.{Fence, Probe, Cell, MigrateTo, MigrateFrom}
@@ -54,11 +54,7 @@ opens_wants r n (Up node) h = inr (rw h refl)
 opens_wants r n (Begin k (Cell Start leaf node interval role)) h = inl (same_node r n leaf node h)
 opens_wants r n (Begin k (Cell Promote leaf node interval role)) h = inl (same_node r n leaf node h)
 opens_wants r n (Begin k (Cell Demote leaf node interval role)) h = inl (same_node r n leaf node h)
-opens_wants r n (Begin k (MigrateTo leaf source target)) h = inl (by (source == n) (target == n) (same_node r n leaf target h))
-  where
-    by : (a b : Bool) → b ≡ true → a || b ≡ true
-    by true b h = refl
-    by false b h = h
+opens_wants r n (Begin k (MigrateTo leaf source target)) h = inl (or_right (source == n) (target == n) (same_node r n leaf target h))
 opens_wants r n (Begin k (MigrateFrom leaf source target)) h = inl (same_node r n leaf target h)
 opens_wants r n (Ended k (Cell Start leaf node interval role) o moment) h = inl (same_node r n leaf node h)
 opens_wants r n (Ended k (Cell Promote leaf node interval role) o moment) h = inl (same_node r n leaf node h)

@@ -1,5 +1,5 @@
 -- What begins, successes and waits add to the outcomes of a cell: no failure.
-use Rattle.std.proofs.Common.{arith, ◌≡◌, ◌&&◌, ◌||◌, not, ℕ, Bool, true, false, List, [], ◌∷◌, ◌++◌, filter, append-nil, refl, ap, ◌∙◌}
+use Rattle.std.proofs.Common.{arith, ◌≡◌, ◌&&◌, not, ℕ, Bool, true, false, List, [], ◌∷◌, ◌++◌, filter, append-nil, refl, ap, ◌∙◌}
 use Rattle.std.specs.Prelude.{Some, None, cond, is_none}
 use Rattle.std.specs.List.{last_or}
 use Rattle.std.proofs.lemmas.List.Elements.{filter-append}
@@ -18,6 +18,7 @@ use Rattle.cluster_types.specs.Failures.{failures_in_force, is_failure, is_outco
 use Rattle.cluster_types.specs.Outcomes.{is_among, is_bad, is_ignored}
 use Rattle.cluster_types.specs.Steps.{is_success, expected_codes}
 use Rattle.lemmas.proofs.Lasts.{last-more}
+use Rattle.lemmas.proofs.Booleans.{first_passes}
 use Rattle.fail_counts.proofs.MoreFailures.{outcomes-more}
 
 -- an expected code is good
@@ -37,11 +38,7 @@ expected_good (MigrateFrom r n m) (Code code) h = grind arith
 
 -- a success that isn't ignored is no failure
 pub success_good : (c : Cluster) (a : Action) (o : Outcome) → is_success c a o ≡ true → is_ignored c a o ≡ false → is_bad a o ≡ false
-success_good c a o ok kept = expected_good a o (by (is_among (expected_codes a) o) (is_ignored c a o) ok kept)
-  where
-    by : (x y : Bool) → x || y ≡ true → y ≡ false → x ≡ true
-    by true y h g = refl
-    by false y h g = cc
+success_good c a o ok kept = expected_good a o (first_passes (is_among (expected_codes a) o) (is_ignored c a o) ok kept)
 
 module _ (c : Cluster) (r n : ℕ) where
   module _ (es : List Event) (e : Event) (still : is_reset r n e ≡ false) where

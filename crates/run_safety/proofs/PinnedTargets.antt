@@ -2,6 +2,7 @@
 use Rattle.std.proofs.Common.{inl, inr, ◌≡◌, ◌<◌, ℕ, true, false, List, [], length, refl, sym, subst, ◌∙◌}
 use Rattle.std.proofs.lemmas.Bool.{both_ways, true_from_ne_false}
 use Rattle.lemmas.proofs.Booleans.{same_test}
+use Rattle.rule_loops.proofs.Needs.{decided_leaf}
 use Rattle.cluster_types.specs.declared.cluster.Cluster.{Cluster}
 use Rattle.cluster_types.specs.declared.journal.Event.{Event}
 use Rattle.cluster_types.specs.declared.journal.Promotion.{Promotion}
@@ -38,10 +39,6 @@ same_target target.Started target.Nowhere f = let e = f role.Started in absurd (
 same_target target.Promoted target.Nowhere f = let e = f role.Started in absurd (let g : ⊥ = cc in g)
 same_target target.Started target.Promoted f = let e = f role.Promoted in absurd (let g : ⊥ = cc in g)
 same_target target.Promoted target.Started f = let e = f role.Promoted in absurd (let g : ⊥ = cc in g)
-
-decided_leaf : (r : ℕ) (given : Role) → leaf_of (decision_of r given) ≡ r
-decided_leaf r role.Started = refl
-decided_leaf r role.Promoted = refl
 
 module _ (c : Cluster) (es : List Event) where
   -- only what isn't pinned is held back

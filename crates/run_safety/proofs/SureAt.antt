@@ -2,7 +2,7 @@
 use Rattle.std.proofs.Common.{inl, inr, ◌⊎◌, ◌≡◌, ◌<◌, ◌≤◌, ◌==◌, ℕ, Bool, true, false, List, [], ◌∷◌, ◌++◌, length, refl, sym, subst}
 use Rattle.std.specs.Prelude.{Some}
 use Rattle.std.proofs.lemmas.Bool.{false_from_ne_true, ne_eqb}
-use Rattle.lemmas.proofs.Booleans.{sooner, second_fails}
+use Rattle.lemmas.proofs.Booleans.{sooner}
 use Rattle.cluster_types.specs.declared.journal.Action.{Action}
 use Rattle.cluster_types.specs.declared.journal.Action.TheVariants.{Fence, Probe, Cell, MigrateTo, MigrateFrom}
 use Rattle.cluster_types.specs.declared.journal.Event.{Event}
@@ -31,7 +31,7 @@ use Rattle.run_safety.proofs.Needing.{state, IsNeeded}
 use Rattle.run_safety.proofs.Running.{How, by_start, by_taking, stays, how}
 use Rattle.run_safety.proofs.RunsAt.{done}
 use Rattle.run_safety.proofs.Takers.{MigratesHere, migrates_here}
-use Rattle.run_safety.proofs.Truths.{one_cell, refuse, own_cell}
+use Rattle.run_safety.proofs.Truths.{one_cell, other_fails, refuse, own_cell}
 use Rattle.run_safety.proofs.Turning.{turned, unturned}
 
 module _ (t : Transition) (targets : Targets) (carries : Carries t targets) (sound : IsSound t targets) (orderly : Orderly t.planned_at) (valid : IsValid t.cluster)
@@ -116,7 +116,7 @@ module _ (t : Transition) (targets : Targets) (carries : Carries t targets) (sou
       was : may t.cluster r n t.planned_at ≡ true → (s : CellState) → state t r n ≡ s → runs s ≡ true → is_left_open t.cluster r n t.planned_at ≡ false
       was on cell.On e g = (says_of t.cluster r n t.planned_at cell.On e).5
       was on cell.Promoted e g =
-          second_fails (may t.cluster r n t.planned_at) (is_left_open t.cluster r n t.planned_at) on (says_of t.cluster r n t.planned_at cell.Promoted e).3
+          other_fails (may t.cluster r n t.planned_at) (is_left_open t.cluster r n t.planned_at) on (says_of t.cluster r n t.planned_at cell.Promoted e).3
       was on cell.Off e g = cc
       was on cell.Away e g = cc
       was on cell.Unprobed e g = cc

@@ -15,6 +15,11 @@ own_cell r n = and_from (r == r) (n == n) (number_itself r) (number_itself n)
 pub one_cell : (r n leaf node : ℕ) → is_same_cell r n leaf node ≡ true → (leaf ≡ r) × (node ≡ n)
 one_cell r n leaf node h = (eqb-true leaf r (sooner (leaf == r) _ h), eqb-true node n (later (leaf == r) _ h))
 
+-- the other of two tests fails where one passes, and not both
+pub other_fails : (a b : Bool) → a ≡ true → a && b ≡ false → b ≡ false
+other_fails true b h g = g
+other_fails false b h g = cc
+
 pub only : (b : Bool) → b || false ≡ true → b ≡ true
 only true h = refl
 only false h = cc

@@ -1,11 +1,10 @@
 -- One more term on each node that passes, node by node.
 use Rattle.std.proofs.Common.{◌≡◌, ◌≢◌, ◌⊎◌, inl, inr, ℕ, ◌+◌, ◌<◌, ◌≤◌, ◌==◌, ℤ, Bool, true, false, ◌&&◌, if◌then◌else◌, nat_lt, List, [], ◌∷◌, ◌++◌, sym, ap, subst, ◌∙◌, append-nil, arith}
 use Rattle.std.proofs.Math.Bool.{and-false, and-true}
-use Rattle.std.proofs.lemmas.Bool.{cases_eq, cases_lt, le-ltb, lt-ltb}
+use Rattle.std.proofs.lemmas.Bool.{cases_eq, cases_lt, le-ltb, lt-ltb, ne_eqb}
 use Rattle.lane_rows.specs.Row.{Tally}
 use Rattle.score_table.specs.Rows.{IsRow, more_where}
 use Rattle.score_table.proofs.TermRows.{row-same}
-use Rattle.score_table.proofs.Tests.{differ}
 
 glue-first : (ts : List ℤ) (term : ℤ) (a b d : Bool) → a ≡ d → b ≡ false
     → (ts ++ (if a then term ∷ [] else [])) ++ (if b then term ∷ [] else []) ≡ ts ++ (if d then term ∷ [] else [])
@@ -27,7 +26,7 @@ each-more p node term terms n = go (cases_eq n node) (cases_lt n node)
     now = ap (λ b. p node && b) (let e : (node == node) ≡ true = grind arith in e) ∙ (and-true (p node) ∙ sym (ap (λ b. b && p node) (lt-ltb node (node + 1) (omega arith))))
 
     none : n ≢ node → (p node && node == n) ≡ false
-    none e = ap (λ b. p node && b) (differ node n e) ∙ and-false (p node)
+    none e = ap (λ b. p node && b) (ne_eqb node n (λ s. e (sym s))) ∙ and-false (p node)
 
     go : (n ≡ node) ⊎ (n ≢ node) → (n < node) ⊎ (node ≤ n)
         → more_where (λ k. p node && node == k) term (more_where (λ k. nat_lt k node && p k) term terms) n ≡ more_where (λ k. nat_lt k (node + 1) && p k) term terms n

@@ -5,6 +5,7 @@ use Rattle.std.proofs.lemmas.List.{length-take, map-append, append_assoc, length
 use Rattle.std.proofs.lemmas.List.Elements.{filter_more}
 use Rattle.std.proofs.lemmas.List.Sums.{count_by-le-length}
 use Rattle.std.proofs.lemmas.List.FromFn.{get_or-map-range_with_len, length-map-range_with_len}
+use Rattle.lemmas.proofs.Booleans.{first_of_three}
 use Rattle.lemmas.proofs.Counts.{count_more}
 use Rattle.lane_rows.specs.Row.{Tally, tally_of, Stands, finite_at}
 use Rattle.cluster_types.specs.declared.cluster.Cluster.{Cluster}
@@ -59,14 +60,10 @@ given-more c moment passes r ls rls i rl low is n =
     ∙ ap (λ ts. located passes r ls n ++ ts)
     (sym (kept-more (λ (rl : RuleLocation). rl.score) (λ rl. rl.leaf == r && passes rl.role && rule_holds_by c moment rl n) rls i rl low is))
 
-first-of : (a b d : Bool) → ((a && b) && d) ≡ true → a ≡ true
-first-of true b d e = refl
-first-of false b d e = e
-
 pub few-located : (passes : Role → Bool) (r : ℕ) (ls : List Location) (n : ℕ) → few (located passes r ls n) ≤ count_by (λ (l : Location). l.leaf == r) ls
 few-located passes r ls n =
     let a = few-kept (λ (l : Location). l.score) (λ l. l.leaf == r && l.node == n && passes l.role) ls in
-    let b = count_more (λ (l : Location). l.leaf == r && l.node == n && passes l.role) (λ l. l.leaf == r) (λ l e. first-of (l.leaf == r) (l.node == n) (passes l.role) e) ls in
+    let b = count_more (λ (l : Location). l.leaf == r && l.node == n && passes l.role) (λ l. l.leaf == r) (λ l e. first_of_three (l.leaf == r) (l.node == n) (passes l.role) e) ls in
     omega (arith, a, b)
 
 pub few-given : (c : Cluster) (moment : ℕ) (passes : Role → Bool) (r : ℕ) (ls : List Location) (rls : List RuleLocation) (n : ℕ)
@@ -75,7 +72,7 @@ few-given c moment passes r ls rls n =
     let a = few-located passes r ls n in
     let b = few-kept (λ (rl : RuleLocation). rl.score) (λ rl. rl.leaf == r && passes rl.role && rule_holds_by c moment rl n) rls in
     let d = count_more (λ (rl : RuleLocation). rl.leaf == r && passes rl.role && rule_holds_by c moment rl n) (λ rl. rl.leaf == r)
-    (λ rl e. first-of (rl.leaf == r) (passes rl.role) (rule_holds_by c moment rl n) e) rls in
+    (λ rl e. first_of_three (rl.leaf == r) (passes rl.role) (rule_holds_by c moment rl n) e) rls in
     let e = few-append (located passes r ls n) (ruled c moment passes r rls n) in
     omega (arith, a, b, d, e)
 

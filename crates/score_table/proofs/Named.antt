@@ -1,6 +1,7 @@
 -- Which nodes locations name, with one location more.
 use Rattle.std.proofs.Common.{◌≡◌, ℕ, ◌+◌, ◌<◌, ◌==◌, Bool, true, false, ◌&&◌, ◌||◌, List, length, take, get_or, refl, sym, ap, ◌∙◌, arith}
 use Rattle.std.proofs.lemmas.List.Folds.{list_any_more}
+use Rattle.std.proofs.Math.Bool.{or_assoc}
 use Rattle.cluster_types.specs.declared.cluster.Cluster.{Cluster}
 use Rattle.cluster_types.specs.declared.rules.Location.{Location}
 use Rattle.cluster_types.specs.declared.rules.RuleLocation.{RuleLocation}
@@ -13,10 +14,6 @@ turned true false false = refl
 turned false true before = refl
 turned false false true = refl
 turned false false false = refl
-
-pub grouped : (old before new : Bool) → ((old || before) || new) ≡ (old || (before || new))
-grouped true before new = refl
-grouped false before new = refl
 
 -- a location without a rule
 pub named-more : (r : ℕ) (ls : List Location) (i : ℕ) (l : Location) → i < length ls → l ≡ get_or ls i l → (old : Bool) (n : ℕ)
@@ -32,7 +29,7 @@ named-more r ls i l low is old n =
 pub ruled-more : (c : Cluster) (moment r : ℕ) (rls : List RuleLocation) (i : ℕ) (rl : RuleLocation) → i < length rls → rl ≡ get_or rls i rl → (old : Bool) (n : ℕ)
     → ((old || is_named_by_rule c moment r (take i rls) n) || (rl.leaf == r && rule_holds_by c moment rl n)) ≡ (old || is_named_by_rule c moment r (take (i + 1) rls) n)
 ruled-more c moment r rls i rl low is old n =
-    grouped old (is_named_by_rule c moment r (take i rls) n) (rl.leaf == r && rule_holds_by c moment rl n)
+    or_assoc old (is_named_by_rule c moment r (take i rls) n) (rl.leaf == r && rule_holds_by c moment rl n)
     ∙ ap (λ b. old || b)
     (ap (λ (x : RuleLocation). is_named_by_rule c moment r (take i rls) n || (x.leaf == r && rule_holds_by c moment x n)) is
     ∙ sym (list_any_more (λ (x : RuleLocation). x.leaf == r && rule_holds_by c moment x n) rls i rl low))

@@ -35,7 +35,7 @@ module _ (c : Cluster) (es : List Event) (ps : List Promotion) where
       ∙ ap (λ s. option_map_or is_online_state s false && not (is_standby c n)) (node_kept c es ps n low)
 
   module _ (r n : ℕ) (leaf : r < length c.leaves) (node : n < length c.nodes) where
-    active-is : is_active_by c (states_of c es ps) r n ≡ is_active (cell_state c r n es)
+    pub active-is : is_active_by c (states_of c es ps) r n ≡ is_active (cell_state c r n es)
     active-is = ap (λ s. option_map_or (λ (cell : Cell). is_active cell.state) s false) (cell_kept c es ps r n leaf node)
 
     banned-is : is_banned_by c (states_of c es ps) r n ≡ is_banned c r n es

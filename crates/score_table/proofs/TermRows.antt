@@ -1,6 +1,6 @@
 -- Rows of the terms that each node has, and one more term at a node.
 use Rattle.std.proofs.Common.{◌≡◌, ◌≢◌, ◌⊎◌, inl, inr, ℕ, ◌+◌, ◌*◌, ◌<◌, ◌≤◌, ◌==◌, ℤ, pos, neg_ℤ, ◌+ℤ◌, ◌≤ℤ◌, Bool, true, false, ◌&&◌, if◌then◌else◌, List, [], ◌∷◌, ◌++◌, length, map, filter, refl, sym, ap, subst, ◌∙◌, append-nil, arith}
-use Rattle.std.proofs.lemmas.Bool.{cases_eq, cases_lt}
+use Rattle.std.proofs.lemmas.Bool.{cases_eq, cases_lt, ne_eqb}
 use Rattle.std.proofs.lemmas.Int.{ints}
 use Rattle.std.proofs.lemmas.List.{length-map, length-append, get_or_past}
 use Rattle.std.proofs.lemmas.List.Elements.{filter-append}
@@ -9,7 +9,6 @@ use Rattle.lemmas.proofs.Ranges.{map-same, map-set-range}
 use Rattle.score.specs.Total.{IsScore}
 use Rattle.lane_rows.specs.Row.{Tally, tally_of, Stands, is_finite, finite_part, finite_at, with_term}
 use Rattle.score_table.specs.Rows.{each_of, few, IsRow, IsRoomy, more_where}
-use Rattle.score_table.proofs.Tests.{differ}
 
 -- the same terms below the number of nodes
 pub row-same : (nodes : ℕ) (f g : ℕ → List ℤ) (row : List Tally) → ((n : ℕ) → n < nodes → f n ≡ g n) → IsRow nodes f row → IsRow nodes g row
@@ -56,7 +55,7 @@ module _ (nodes node : ℕ) (term : ℤ) (terms : ℕ → List ℤ) (old new : L
   more-here = ap (λ (b : Bool). terms node ++ (if b then term ∷ [] else [])) (let e : (node == node) ≡ true = grind arith in e)
 
   more-other : (n : ℕ) → n ≢ node → more n ≡ terms n
-  more-other n e = ap (λ (b : Bool). terms n ++ (if b then term ∷ [] else [])) (differ node n e) ∙ append-nil (terms n)
+  more-other n e = ap (λ (b : Bool). terms n ++ (if b then term ∷ [] else [])) (ne_eqb node n (λ s. e (sym s))) ∙ append-nil (terms n)
 
   -- after one more term at a node
   pub put-row : IsScore term → ((ts : List (List ℤ)) → Stands old ts → Stands new (with_term ts node term))

@@ -1,8 +1,5 @@
 -- Truth of tests.
-use Rattle.std.proofs.Common.{◌≡◌, ◌≢◌, ℕ, ◌==◌, Bool, true, false, ◌&&◌, refl, arith}
-
-pub differ : (i n : ℕ) → n ≢ i → (i == n) ≡ false
-differ i n e = grind arith
+use Rattle.std.proofs.Common.{◌≡◌, Bool, true, false, ◌&&◌, refl}
 
 pub swap : (a b d : Bool) → ((a && b) && d) ≡ ((a && d) && b)
 swap true true true = refl

@@ -1,8 +1,7 @@
 -- How much a leaf wants to be promoted, put into a row node by node.
-use Rattle.std.proofs.Common.{◌≡◌, inl, inr, ℕ, ◌+◌, ◌<◌, ◌≤◌, ◌==◌, ℤ, true, ◌&&◌, if◌then◌else◌, nat_lt, List, [], ◌∷◌, ◌++◌, refl, sym, ap, subst, append-nil, arith}
-use Rattle.std.proofs.lemmas.Bool.{cases_eq, cases_lt, le-ltb, lt-ltb}
+use Rattle.std.proofs.Common.{◌≡◌, inl, inr, ℕ, ◌+◌, ◌<◌, ◌≤◌, ◌==◌, ℤ, true, false, ◌&&◌, if◌then◌else◌, nat_lt, List, [], ◌∷◌, ◌++◌, refl, sym, ap, subst, append-nil, arith}
+use Rattle.std.proofs.lemmas.Bool.{cases_eq, cases_lt, le-ltb, lt-ltb, ne_eqb}
 use Rattle.score_table.specs.Rows.{more_where}
-use Rattle.score_table.proofs.Tests.{differ}
 
 module _ (first : ℕ → List ℤ) (wish : ℕ → ℤ) where
   -- with the wishes of the nodes below one
@@ -16,12 +15,12 @@ module _ (first : ℕ → List ℤ) (wish : ℕ → ℤ) where
       | inl low ↦
           let before = lt-ltb n node low in
           let after = lt-ltb n (node + 1) (omega (arith, low)) in
-          let other = differ node n e in
+          let other : (node == n) ≡ false = ne_eqb node n (λ s. e (sym s)) in
           rw (before, after, other) (append-nil (first n ++ wish n ∷ []))
       | inr high ↦
           let before = le-ltb n node high in
           let after = le-ltb n (node + 1) (omega (arith, high, e)) in
-          let other = differ node n e in
+          let other : (node == n) ≡ false = ne_eqb node n (λ s. e (sym s)) in
           rw (before, after, other) (append-nil (first n ++ []))
     ]
   ]

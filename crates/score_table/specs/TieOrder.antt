@@ -13,7 +13,7 @@ edge_of tie = record { before = tie.primary; after = tie.dependent }
 abbrev pub EndAtLeaves : ℕ → List Tie → Type 0
 EndAtLeaves leaves ties = (tie : Tie) → Contains ties tie → (tie.dependent < leaves) × (tie.primary < leaves)
 
--- how many ties the longest chain to each leaf has, where none leads back
+-- how many ties the longest chain from each leaf to another has, where none leads back
 abbrev pub AreHeightsOf : ℕ → List Tie → List ℕ → Type 0
 AreHeightsOf leaves ties heights =
     HasNoLoop leaves (map edge_of ties) → (r : ℕ) → r < leaves → slice_index_or heights r 0 ≡ longest leaves (map edge_of ties) r

@@ -25,6 +25,7 @@ mod laws;
 mod table;
 
 pub use laws::scores_are_totals;
+pub use own::is_active;
 pub use own_rows::usable_nodes;
 pub use putting::put_if;
 pub use row_totals::totals_of;

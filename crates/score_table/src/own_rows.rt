@@ -33,7 +33,7 @@ fn is_usable(cluster: &Cluster, states: &States, node: NodeId) -> bool
         && !cluster.is_standby(node)
 }
 
-/// The nodes that may run resources: those that are online and not in standby (Pacemaker Explained, "standby").
+/// The nodes that may run resources: those that are online and not in standby (Pacemaker Explained, "standby"). It asks for at most 256 nodes.
 pub fn usable_nodes(cluster: &Cluster, states: &States) -> NodeSet
     requires { length cluster.now.nodes ≤ 256 }
     ensures { (n : ℕ) → has result n ≡ is_usable_by cluster.now states.now n }

@@ -9,7 +9,8 @@ use cluster_types::NodeId;
 use lane_rows::{NodeSet, Row};
 use score::Score;
 
-/// Adds a term to those of a node, if it is wanted. The node has room for one more.
+/// Adds a term to those of a node, if it is wanted. It asks for a node of the row, and that its finite sum is from -9 * 10^11 to 9 * 10^11, so that
+/// there is room for one more.
 pub fn put_if(row: &mut Row, node: NodeId, term: Score, wanted: bool)
     requires node { node < length row.old }
     requires room { IsRoomy (finite_at row.old node) }

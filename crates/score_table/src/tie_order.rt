@@ -1,15 +1,14 @@
 //! The order in which ties are followed.
 
-ghost use Rattle.std.specs.Prelude.{◌≡◌, ◌<◌, ◌≤◌, ℕ, length, map, Contains, IfOk, OnOk, slice_index_or};
+ghost use Rattle.std.specs.Prelude.{◌≡◌, ◌≤◌, length, map, Contains, IfOk, OnOk, slice_index_or};
 ghost use Rattle.std.specs.List.Sorted.{IsNonDecreasingBy, IsPermutation};
-ghost use Rattle.loops.specs.Longest.{longest};
-ghost use Rattle.loops.specs.Loops.{EndWithin, HasNoLoop};
+ghost use Rattle.loops.specs.Loops.{HasNoLoop};
 ghost use Rattle.score_table.specs.declared.ties.Tie.{Tie as TieOf};
 ghost use Rattle.score_table.specs.TieOrder as spec;
 
 use crate::ties::Tie;
-use cluster_types::LeafId;
-use loops::{Edge, is_loop_free, longest_ways};
+use listed::number_at;
+use loops::{Edge, longest_ways_if_free};
 use std::alloc::{AllocError, Global};
 
 /// An edge for each tie, from its primary to its dependent.
@@ -26,19 +25,6 @@ fn edges_of(alloc: Global, ties: &[Tie]) -> Result<Vec<Edge>, AllocError>
     Ok(edges)
 }
 
-/// For each of so many positions, how many edges the longest way along these has. It is empty where they have a loop.
-fn heights_by(alloc: Global, positions: u32, edges: &[Edge]) -> Result<Vec<u32>, AllocError>
-    requires few { positions ≤ 1000 }
-    requires within { EndWithin positions edges.now }
-    ensures { IfOk result (λ heights. HasNoLoop positions edges.now
-        → (p : ℕ) → p < positions → slice_index_or heights.items p 0 ≡ longest positions edges.now p) }
-{
-    if !is_loop_free(alloc, positions, edges)? {
-        return Ok(Vec::new(alloc));
-    }
-    longest_ways(alloc, positions, edges)
-}
-
 /// For each leaf, how many ties the longest chain from it to another has. It is empty where a chain leads from a leaf back to it.
 fn heights_of(alloc: Global, leaves: u32, ties: &[Tie]) -> Result<Vec<u32>, AllocError>
     requires few { leaves ≤ 1000 }
@@ -46,16 +32,7 @@ fn heights_of(alloc: Global, leaves: u32, ties: &[Tie]) -> Result<Vec<u32>, Allo
     ensures { IfOk result (λ heights. spec.AreHeightsOf leaves ties.now heights.items) }
 {
     let edges = edges_of(alloc, ties)?;
-    heights_by(alloc, leaves, &edges)
-}
-
-fn height_of(heights: &[u32], leaf: LeafId) -> u32
-    ensures { result ≡ slice_index_or heights.now leaf 0 }
-{
-    match heights.get(leaf as usize) {
-        Some(height) => *height,
-        None => 0,
-    }
+    longest_ways_if_free(alloc, leaves, &edges)
 }
 
 /// Sorts the ties by how high their dependents are.
@@ -63,7 +40,7 @@ fn sort_by_height(ties: &mut Vec<Tie>, heights: &[u32]) -> Result<(), AllocError
     ensures same { OnOk result (IsPermutation ties.old.items ties.new.items) }
     ensures sorted { OnOk result (IsNonDecreasingBy (λ tie. slice_index_or heights.now tie.dependent 0) ties.new.items) }
 {
-    ties.sort_by_key(|tie| height_of(heights, tie.dependent))?;
+    ties.sort_by_key(|tie| number_at(heights, tie.dependent))?;
     Ok(())
 }
 

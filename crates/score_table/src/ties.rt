@@ -12,6 +12,7 @@ ghost use Rattle.score_table.specs.Ties as spec;
 use crate::tie_order::put_in_order;
 use carry::done;
 use cluster_types::{Cluster, Colocation, LeafId, Role};
+use listed::flag_at;
 use std::alloc::{AllocError, Global};
 
 /// A colocation that ties its dependent to its primary for good.
@@ -63,10 +64,7 @@ pub(crate) fn ties_of(alloc: Global, cluster: &Cluster) -> Result<Vec<Tie>, Allo
 pub(crate) fn is_marked(marks: &[bool], leaf: LeafId) -> bool
     ensures { result ≡ spec.is_marked marks.now leaf }
 {
-    match marks.get(leaf as usize) {
-        Some(mark) => *mark,
-        None => false,
-    }
+    flag_at(marks, leaf)
 }
 
 /// Whether the leaf is there and has no mark.

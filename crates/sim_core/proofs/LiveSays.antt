@@ -1,9 +1,9 @@
 -- What the word `replay` answers says what it has to of the input.
-use Rattle.std.proofs.Common.{◌≡◌, inl, inr, ℕ, true, Option, Some, None, List, [], ◌++◌, drop, length, IfSome, refl, sym, ap, subst, ◌∙◌, append-nil}
+use Rattle.std.proofs.Common.{◌≡◌, inl, inr, ℕ, true, Option, Some, None, List, [], ◌++◌, drop, length, IfSome, refl, sym, ap, subst, ◌∙◌}
 use Rattle.std.specs.Option.{option_map}
 use Rattle.std.proofs.Math.Seq.{drop-append_seam}
 use Rattle.cluster_io.specs.Readings.{Reading}
-use Rattle.cluster_io.specs.Streams.{Adds, AddsPrefix}
+use Rattle.cluster_io.specs.Streams.{AddsPrefix}
 use Rattle.cluster_types.specs.declared.cluster.Cluster.{Cluster}
 use Rattle.cluster_types.specs.declared.journal.Journal.{Journal}
 use Rattle.cluster_types.specs.Journals.{moment_of}
@@ -16,6 +16,7 @@ use Rattle.live_run.specs.declared.live_end.LiveEnd.TheVariants as end
 use Rattle.live_run.specs.Ends.{Gets}
 use Rattle.live_run.specs.Reached as run
 use Rattle.live_run.specs.Reached.{Reaches, results_behind}
+use Rattle.live_run.proofs.Written.{adds_none}
 use Rattle.sim_core.specs.declared.beginning.HeadEnd.{HeadEnd}
 use Rattle.sim_core.specs.declared.beginning.HeadEnd.TheVariants as stop
 use Rattle.input_reading.specs.declared.cause.InputCause.{InputCause}
@@ -28,10 +29,6 @@ use Rattle.sim_core.specs.LiveSteps.{IsBehind, StopsBy, WritesFault, status_of}
 use Rattle.input_reading.specs.Causes.{refusal_text}
 use Rattle.sim_core.specs.Replay.{IsHeadFault, IsReplayOutput, IsTextOfRun, coming_behind}
 use Rattle.sim_core.specs.Table.{live}
-
-nothing_added : (before : Option (List ℕ)) → Adds before [] before
-nothing_added None = refl
-nothing_added (Some held) = ap Some (sym (append-nil held))
 
 -- the head has a fault
 refused_says : (input : List ℕ) (left before after : Option (List ℕ)) (line : ℕ) (why : InputCause) (status : Status) → IsHeadFault input line why
@@ -64,7 +61,7 @@ pub fault_says : (line : ℕ) (why : InputCause) (before after : Option (List �
 fault_says line why before after status writes input left fault = refused_says input left before after line why status fault writes
 
 pub large_says : (before : Option (List ℕ)) (input : List ℕ) (left : Option (List ℕ)) → StopsBy input left stop.TooLarge → SaysLive input left before before TooLarge
-large_says before input left large = record { text = []; due = inl (record { is = large; printed = refl }); added = nothing_added before }
+large_says before input left large = record { text = []; due = inl (record { is = large; printed = refl }); added = adds_none before }
 
 pub amid_says : (before : Option (List ℕ)) (input : List ℕ) (left : Option (List ℕ)) → StopsBy input left stop.ReadFault → SaysLive input left before before ReadFault
 amid_says before input left a = amid_head a refl

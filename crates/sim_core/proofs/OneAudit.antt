@@ -1,5 +1,5 @@
 -- An input gets one status with the word `audit`.
-use Rattle.std.proofs.Common.{◌≡◌, ℕ, List, [], ◌∷◌, map, refl, sym, subst}
+use Rattle.std.proofs.Common.{◌≡◌, ℕ, List, map, refl, sym, subst}
 use Rattle.std.specs.List.{AllByRecursion}
 use Rattle.cluster_types.specs.declared.cluster.Cluster.{Cluster}
 use Rattle.cluster_types.specs.declared.journal.Journal.{Journal}
@@ -8,10 +8,10 @@ use Rattle.cluster_types.specs.Valid.{IsValid}
 use Rattle.input_reading.specs.declared.trace.Trace.{Trace}
 use Rattle.input_reading.proofs.OneReading.{not_both_of_a_trace, one_trace}
 use Rattle.input_reading.proofs.ValidTrace.{cluster_valid, run_named}
-use Rattle.input_reading.specs.declared.text.RunTextLine.{RunTextLine}
-use Rattle.input_reading.specs.Written.{AreNamed, IsNamed}
+use Rattle.input_reading.specs.Written.{IsNamed}
 use Rattle.live_run.specs.declared.verdict.Clause.{Clause}
 use Rattle.live_run.specs.Lawful.{IsFaulty, IsLawful, said}
+use Rattle.live_run.proofs.Verdicts.{said_named}
 use Rattle.sim_core.specs.declared.status.Status.{Status}
 use Rattle.sim_core.specs.declared.status.Status.TheVariants.{Done, NotLawful, Refused}
 use Rattle.sim_core.specs.Audit.{IsAuditOutput, IsLawfulTrace, IsTraceRefusal, IsUnlawfulTrace}
@@ -21,10 +21,6 @@ abbrev pub AreExcluded : Type 0
 AreExcluded = (c : Cluster) (journal : Journal) (lines : List RunLine) (place : ℕ) (kind : Clause) → IsValid c → AllByRecursion IsNamed lines
     → IsFaulty c journal lines place kind → ¬ IsLawful c journal lines
 
-all_said : (lines : List RunTextLine) → AreNamed lines → AllByRecursion IsNamed (said lines)
-all_said [] h = tt
-all_said (line ∷ lines) h = (h.0, all_said lines h.1)
-
 module _ (excluded : AreExcluded) (input : List ℕ) where
   lawful_or_not : (text more : List ℕ) → IsLawfulTrace input text → ¬ IsUnlawfulTrace input more
   lawful_or_not text more a b =
@@ -32,7 +28,7 @@ module _ (excluded : AreExcluded) (input : List ℕ) where
       let lawful : IsLawful b.whole.head.cluster b.whole.head.journal (said b.whole.run.lines)
       = subst (λ (t : Trace). IsLawful t.head.cluster t.head.journal (said t.run.lines)) (sym same) a.lawful in
       excluded b.whole.head.cluster b.whole.head.journal (said b.whole.run.lines) b.fault.place b.clause (cluster_valid input b.whole b.reads)
-      (all_said b.whole.run.lines (run_named input b.whole b.reads)) b.fault.fault lawful
+      (said_named b.whole.run.lines (run_named input b.whole b.reads)) b.fault.fault lawful
 
   lawful_or_refused : (text more : List ℕ) → IsLawfulTrace input text → ¬ IsTraceRefusal input more
   lawful_or_refused text more a b = not_both_of_a_trace input (record { whole = a.whole; reads = a.reads }) (record { line = b.line; why = b.why; fault = b.fault })

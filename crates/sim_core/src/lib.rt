@@ -1,7 +1,7 @@
 //! The words of the command line, and the top call that carries them out.
 //!
-//! `check`, `scores`, `graph`, `survive`, `audit` and `world` read a whole input. `replay` reads its result lines while it writes the run, and `gen` reads
-//! nothing.
+//! `check`, `scores`, `graph`, `survive`, `audit` and `world` read a whole input. `replay` reads its result lines while
+//! it writes the run, and `gen` reads nothing.
 #![tactic(auto)]
 
 // The top call.

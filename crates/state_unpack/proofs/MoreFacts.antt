@@ -1,5 +1,6 @@
 -- What one more event tells of a cell.
-use Rattle.std.proofs.Common.{◌≡◌, ℕ, Bool, true, false, not, ◌&&◌, ◌||◌, if◌then◌else◌, is_some, slice_get, Option, Some, None, List, [], ◌∷◌, ◌++◌, map, refl, ap, ◌∙◌, append-nil}
+use Rattle.std.proofs.Common.{◌≡◌, ℕ, Bool, true, false, not, ◌&&◌, ◌||◌, if◌then◌else◌, is_some, slice_get, Option, Some, None, List, [], ◌∷◌, ◌++◌, map, refl, sym, ap, ◌∙◌, append-nil}
+use Rattle.std.proofs.Math.Bool.{or-false, or-true}
 use Rattle.std.specs.List.{list_any, last_or, after_last, range_with_len}
 use Rattle.std.specs.Option.{option_map_or}
 use Rattle.lemmas.proofs.Searches.{any-more}
@@ -23,19 +24,11 @@ module _ (c : Cluster) (r n : ℕ) (es : List Event) (e : Event) where
   last-after false true h o = ap (last_or None) (outcomes-more c r n es e h) ∙ (rw o (last-more None (outcomes c r n es) e))
   last-after false false h o = ap (last_or None) (outcomes-more c r n es e h) ∙ (rw o (ap (last_or None) (append-nil (outcomes c r n es))))
 
-  or_true : (b : Bool) → true ≡ (b || true)
-  or_true true = refl
-  or_true false = refl
-
-  or_false : (b : Bool) → b ≡ (b || false)
-  or_false true = refl
-  or_false false = refl
-
   seen-after : (reset outcome : Bool) → is_reset r n e ≡ reset → is_outcome c r n e ≡ outcome
       → is_some (last_outcome c r n (es ++ e ∷ [])) ≡ (not reset && (is_some (last_outcome c r n es) || outcome))
   seen-after true outcome h o = rw (last-after true outcome h o) refl
-  seen-after false true h o = rw (last-after false true h o) (or_true (is_some (last_outcome c r n es)))
-  seen-after false false h o = rw (last-after false false h o) (or_false (is_some (last_outcome c r n es)))
+  seen-after false true h o = rw (last-after false true h o) (sym (or-true (is_some (last_outcome c r n es))))
+  seen-after false false h o = rw (last-after false false h o) (sym (or-false (is_some (last_outcome c r n es))))
 
   left-after : (reset outcome : Bool) → is_reset r n e ≡ reset → is_outcome c r n e ≡ outcome
       → option_map_or leaves_open (last_outcome c r n (es ++ e ∷ [])) false

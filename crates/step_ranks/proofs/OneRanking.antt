@@ -3,11 +3,13 @@ use Rattle.std.proofs.Common.{arith, ◌≡◌, ◌<◌, ◌≤◌, ◌+◌, ◌
 use Rattle.loops.proofs.Longest.{fold_each, longest_are_heights, longest_bounded, map_alike}
 use Rattle.cluster_types.specs.declared.cluster.Cluster.{Cluster}
 use Rattle.cluster_types.specs.Numbers.{HasNoLoop, Link, StepOf, is_same_step, links, rank}
+use Rattle.cluster_types.specs.Valid.{IsValid}
 use Rattle.rule_loops.specs.Edges.{step_edges}
 use Rattle.rule_loops.specs.FirstLoops.{AllOrder}
 use Rattle.rule_loops.proofs.LinkLoops.{steps_within}
 use Rattle.lemmas.proofs.Members.{at_head, in_filter, of_filter}
 use Rattle.rule_loops.proofs.StepPlaces.{same_step, spot, step_itself}
+use Rattle.rule_loops.proofs.FromValid.{valid_order}
 use Rattle.step_ranks.specs.Ranks.{IsRanking, links_into}
 use Rattle.step_ranks.proofs.ChainWays.{chains_are_ways, edges_free, rank_is}
 
@@ -61,3 +63,7 @@ module _ (c : Cluster) (ordered : AllOrder c) (free : HasNoLoop c) where
 
     pub one_ranking : (s : StepOf) → height s ≡ rank c s
     one_ranking s = agrees (rank c s) s (omega arith)
+
+-- in a valid cluster it rises along each link
+pub valid_rise : (c : Cluster) → IsValid c → (l : Link) → Contains (links c) l → rank c l.before < rank c l.after
+valid_rise c valid = rank_rises c (valid_order c valid.orders) valid.steps

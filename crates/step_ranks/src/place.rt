@@ -48,7 +48,7 @@ impl Model for Place {
 
 impl Place {
     /// The first place of a phase.
-    pub fn first_of(phase: Phase) -> Place
+    pub(crate) fn first_of(phase: Phase) -> Place
         ensures { result ≡ place (phase_number phase) 0 0 0 0 }
     {
         Place {

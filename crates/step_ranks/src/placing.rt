@@ -12,14 +12,12 @@ ghost use Rattle.step_ranks.specs.Ranks.{AreMigrating, AreRanks};
 use crate::place::{Phase, Place};
 use crate::ranking::StepRanks;
 use cluster_types::{Action, LeafId, NodeId, Op};
+use listed::flag_at;
 
 fn is_migrating(migrating: &[bool], leaf: LeafId) -> bool
     ensures { (actions : List ActionOf) → AreMigrating actions migrating.now → result ≡ precedence.is_migrating actions leaf }
 {
-    match migrating.get(leaf as usize) {
-        Some(flag) => *flag,
-        None => false,
-    }
+    flag_at(migrating, leaf)
 }
 
 impl StepRanks {

@@ -1,6 +1,5 @@
 pub mod MoreLines
 pub mod ShortNames
-pub mod EventLines
 -- The edges to each position.
 pub mod Linked
 -- The first of some numbers.

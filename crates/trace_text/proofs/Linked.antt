@@ -6,8 +6,8 @@ use Rattle.std.proofs.lemmas.Bool.{cases_eq, ne_eqb}
 use Rattle.std.proofs.lemmas.List.{get_or-append-add, get_or_append_left, get_or-set_same, get_or-set_other, get_or-replicate, length-append, length-replicate, length-set}
 use Rattle.std.proofs.lemmas.List.Folds.{list_any_more}
 use Rattle.cluster_types.specs.declared.edges.Edge.{Edge}
-use Rattle.cluster_types.specs.Walks.{joins}
-use Rattle.trace_text.specs.Arriving.{AreLinked, last_to, leads_to, no_edge}
+use Rattle.cluster_types.specs.Walks.{joins, no_edge}
+use Rattle.trace_text.specs.Arriving.{AreLinked, last_to, leads_to}
 
 -- one edge more
 last_suc : (edges : List Edge) (y i : ℕ) → last_to edges y (i + 1) ≡ (if leads_to edges y i then i + 1 else last_to edges y i)

@@ -1,7 +1,7 @@
 -- What is found, by the numbers of actions and gates.
 use Rattle.std.proofs.Common.{arith, ◌≡◌, ◌≢◌, ◌⊎◌, inl, inr, ◌<◌, ◌≤◌, ◌+◌, ◌-◌, ◌==◌, ◌||◌, ◌&&◌, not, ℕ, Bool, true, false, List, [], length, get_or, set, refl, sym, ap, ◌∙◌}
 use Rattle.std.specs.Prelude.{nat_lt}
-use Rattle.std.proofs.Math.Bool.{or-false, and-false, or-true}
+use Rattle.std.proofs.Math.Bool.{or-false, and-false, or-true, and-true}
 use Rattle.std.proofs.lemmas.Bool.{cases_eq, ne_eqb, lt-ltb, le-ltb, ltb-true, ltb-false}
 use Rattle.std.proofs.lemmas.List.{get_or-set_same, get_or-set_other, length-set}
 use Rattle.number_set.specs.Sets.{is_member, members}
@@ -124,10 +124,6 @@ without_gate old new gate room low high positions actions gates x lt = on (cases
 
   here : new.gates ≡ set old.gates (old.positions - (old.positions - gate) - 1) false
   here = rw place gates
-
-  and-true : (b : Bool) → (b && true) ≡ b
-  and-true true = refl
-  and-true false = refl
 
   on : (old.positions - gate ≡ x) ⊎ (old.positions - gate ≢ x) → is_found new x ≡ (is_found old x && not (x == old.positions - gate))
   on (inl same) =

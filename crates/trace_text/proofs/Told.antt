@@ -1,9 +1,10 @@
 -- The numbers that are told are those of the actions that come before.
-use Rattle.std.proofs.Common.{arith, ◌≡◌, ◌<◌, ◌≤◌, ◌+◌, ◌-◌, ℕ, true, [], length, sym, ap, ◌∙◌}
+use Rattle.std.proofs.Common.{arith, ◌≡◌, ◌<◌, ◌≤◌, ◌+◌, ◌-◌, ℕ, [], length, sym, ap, ◌∙◌}
 use Rattle.lemmas.proofs.Booleans.{same_test}
 use Rattle.lemmas.proofs.Ranges.{filter-alike}
-use Rattle.cluster_types.specs.Graphs.{GraphOf, IsGraph, is_before, is_number}
+use Rattle.cluster_types.specs.Graphs.{GraphOf, IsGraph, is_before}
 use Rattle.cluster_types.proofs.Paths.{before-from_computed, before-computed}
+use Rattle.cluster_types.proofs.Walks.{numbered}
 use Rattle.number_set.specs.Sets.{is_member, members}
 use Rattle.trace_text.specs.declared.found.Found.{Found}
 use Rattle.trace_text.specs.Backward.{IsOnTheWay}
@@ -15,16 +16,13 @@ use Rattle.trace_text.proofs.Places.{found_action, no_gate_found}
 module _ (g : GraphOf) (graph : IsGraph g) (y : ℕ) (from_one : 0 < y) (to_count : y ≤ length g.actions) (f : Found) (positions : f.positions ≡ g.edges.positions)
     (actions : length f.actions ≡ length g.actions) (room : HasRoom f) (none : members f.gates ≡ [])
     (way : IsOnTheWay (length g.actions) g.edges.positions g.edges.list (y - 1) (is_found f)) where
-  numbered : (k : ℕ) → 0 < k → k ≤ length g.actions → is_number g k ≡ true
-  numbered k low high = grind arith
-
   found_before : (k : ℕ) → 0 < k → k ≤ length g.actions → is_found f (k - 1) ≡ is_before g k y
   found_before k low high =
       let few = graph.positions in
       same_test _ _
       (λ h. before-computed g k y graph (record {
-        earlier = numbered k low high;
-        later = numbered y from_one to_count;
+        earlier = numbered g k low high;
+        later = numbered g y from_one to_count;
         leads = way.leading (k - 1) (omega arith) h;
       }))
       (λ h. found_leads (length g.actions) g.edges.positions g.edges.list (y - 1) (is_found f) way

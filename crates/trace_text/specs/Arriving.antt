@@ -2,10 +2,7 @@
 -- project).
 use Rattle.std.specs.Prelude.{◌≡◌, ◌<◌, ℕ, suc, zero, ◌==◌, Bool, if◌then◌else◌, List, length, slice_index_or}
 use Rattle.cluster_types.specs.declared.edges.Edge.{Edge}
-
--- what is read past the end of a list of edges
-abbrev pub no_edge : Edge
-no_edge = record { before = 0; after = 0 }
+use Rattle.cluster_types.specs.Walks.{no_edge}
 
 -- the edge at a place leads to a position
 abbrev pub leads_to : List Edge → ℕ → ℕ → Bool

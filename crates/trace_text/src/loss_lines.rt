@@ -28,8 +28,8 @@ fn push_loss(text: &mut Vec<u8>, cluster: &Cluster, loss: &Loss) -> Result<(), N
     )
 }
 
-/// The text of what the loss of each node does: of each node that may be lost, its line and then the target lines (rule of this project). `NoMemory`
-/// comes when memory runs out.
+/// The text of what the loss of each node does: of each node that may be lost, its line and then the target lines (rule of this project). It asks for
+/// a cluster within the limits. `NoMemory` comes when memory runs out.
 pub fn survive_text(alloc: Global, cluster: &Cluster, report: &Report) -> Result<Vec<u8>, NoMemory>
     requires limits { KeepsLimits cluster.now }
     ensures { IfOk result (λ text. text.items ≡ losses.survive_text cluster.now report.now) }

@@ -6,7 +6,8 @@ ghost use Rattle.cluster_types.specs.Texts as texts;
 use cluster_types::{Cluster, LeafId};
 use faults::NoMemory;
 
-pub(crate) fn node_name(cluster: &Cluster, node: usize) -> &[u8]
+/// The name of the node at a place, or no bytes past the last.
+pub fn node_name(cluster: &Cluster, node: usize) -> &[u8]
     ensures { result.now ≡ texts.node_name cluster.now node }
 {
     match cluster.nodes.as_slice().get(node) {

@@ -309,8 +309,9 @@ fn put_words(text: &mut LineBuf, cluster: &Cluster, what: &RunLineRef<'_>)
 /// Writes the line of a run at the front of the buffer, with its line feed, and gives its length in bytes: less than
 /// 1,024. It takes no memory.
 ///
-/// It asks for names of at most 256 bytes, as a valid cluster has and as a rule has that holds a leaf back. A leaf or
-/// node that the cluster doesn't have is written as an empty name. Rule of this project.
+/// It asks for names of at most 256 bytes, as a valid cluster has (`valid_clusters_have_short_names`), and that the id
+/// of a rule that holds a leaf back is a name (`reasons_with_names_are_named`). A leaf or node that the cluster doesn't
+/// have is written as an empty name. Rule of this project.
 pub fn write_line(cluster: &Cluster, line: &RunLineRef<'_>, buf: &mut [u8; 1024]) -> usize
     requires names { HasShortNames cluster.now }
     requires reason { HasName line.now }

@@ -89,7 +89,7 @@ fn push_all_decided(
 }
 
 /// The text of scores: each decision in the order in which it was made with its total on each node, and then the target lines (rule of
-/// this project). `NoMemory` comes when memory runs out.
+/// this project). It asks for a cluster within the limits. `NoMemory` comes when memory runs out.
 pub fn score_text(alloc: Global, cluster: &Cluster, placed: &Placed) -> Result<Vec<u8>, NoMemory>
     requires limits { KeepsLimits cluster.now }
     ensures { IfOk result (λ text. text.items ≡ texts.scores_text cluster.now placed.now) }

@@ -10,10 +10,6 @@ use Rattle.waiting.specs.declared.side.Side.{Side}
 use Rattle.waiting.specs.declared.side.Side.TheVariants.{Before, After}
 use Rattle.waiting.specs.Rows.{edges_at, end_of}
 
--- what is read where no edge is
-abbrev pub no_edge : Edge
-no_edge = record { before = 0; after = 0 }
-
 pub end_within : (side : Side) (positions : ℕ) (edges : List Edge) (i : ℕ) (d : Edge) → EndWithin positions edges → i < length edges
     → end_of side (slice_index_or edges i d) < positions
 end_within Before positions edges i d ends lt = (ends (slice_index_or edges i d) (Contains-get_or edges i d lt)).0

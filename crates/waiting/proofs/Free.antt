@@ -10,7 +10,7 @@ use Rattle.cluster_types.specs.Graphs.{GraphOf, IsGraph, Leads, direct, through,
 use Rattle.cluster_types.proofs.Paths.{before-computed, before-from_computed}
 use Rattle.number_set.specs.Sets.{is_member, members}
 use Rattle.waiting.specs.Clearing.{Clears, edges_held}
-use Rattle.waiting.specs.Ready.{is_set, is_free, startable}
+use Rattle.waiting.specs.Ready.{is_free, startable}
 use Rattle.lemmas.proofs.Booleans.{unless, sooner, later}
 use Rattle.lemmas.proofs.Counts.{count_none, count_some}
 use Rattle.lemmas.proofs.Ranges.{all_in_range, filter-alike}
@@ -121,7 +121,7 @@ module _ (g : GraphOf) (graph : IsGraph g) (begun succeeded ready : List Bool) (
   -- numbers count from 1, and positions from 0
 
   passes : (k j : ℕ) → 0 < k → k ≤ length g.actions → slice_index_or left (k - 1) 0 ≡ 0 → 1 ≤ j → j < 1 + length g.actions
-      → (b : Bool) → is_before g j k ≡ b → (not b || is_set succeeded j) ≡ true
+      → (b : Bool) → is_before g j k ≡ b → (not b || is_member succeeded j) ≡ true
   passes k j some lt none low high true e =
       let b = before-from_computed g j k e in
       let p = graph.positions in
@@ -141,12 +141,12 @@ module _ (g : GraphOf) (graph : IsGraph g) (begun succeeded ready : List Bool) (
         leads = let e : x + 1 - 1 ≡ x = omega arith in rw e leads;
       })
 
-  stays : (x : ℕ) → slice_index_or succeeded x false ≡ false → is_set succeeded (x + 1) ≡ false
+  stays : (x : ℕ) → slice_index_or succeeded x false ≡ false → is_member succeeded (x + 1) ≡ false
   stays x f = let e : x + 1 - 1 ≡ x = omega arith in rw e f
 
   pub free_none : (k : ℕ) → 0 < k → k ≤ length g.actions → (b : Bool) → (slice_index_or left (k - 1) 0 == 0) ≡ b → b ≡ is_free g succeeded k
   free_none k some lt true e =
-      sym (all_in_range (λ j. not (is_before g j k) || is_set succeeded j) 1 (length g.actions)
+      sym (all_in_range (λ j. not (is_before g j k) || is_member succeeded j) 1 (length g.actions)
       (λ j low high. passes k j some lt (eqb-true _ 0 e) low high (is_before g j k) refl))
   free_none k some lt false e =
       let p = graph.positions in
@@ -157,13 +157,13 @@ module _ (g : GraphOf) (graph : IsGraph g) (begun succeeded ready : List Bool) (
       let there : slice_index_or (range_with_len 1 (length g.actions)) b.by 0 ≡ b.by + 1
       = get_or-range_with_len 1 (length g.actions) b.by 0 b.action ∙ (let e : 1 + b.by ≡ b.by + 1 = omega arith in e) in
       let long = length-range_with_len 1 (length g.actions) in
-      sym (list_all_at (λ j. not (is_before g j k) || is_set succeeded j) (range_with_len 1 (length g.actions)) b.by 0 (omega arith)
+      sym (list_all_at (λ j. not (is_before g j k) || is_member succeeded j) (range_with_len 1 (length g.actions)) b.by 0 (omega arith)
       (rw (there, before, later') refl))
 
   pub are_startable : members ready ≡ startable (record { graph = g; begun = begun; succeeded = succeeded })
   are_startable =
       let s = c.ready_size in
       ap (λ n. filter (is_member ready) (range_with_len 1 n)) s
-      ∙ filter-alike (is_member ready) (λ k. is_free g succeeded k && not (is_set begun k)) 1 (length g.actions)
+      ∙ filter-alike (is_member ready) (λ k. is_free g succeeded k && not (is_member begun k)) 1 (length g.actions)
       (λ k low high. c.may_begin (k - 1) (omega arith)
-      ∙ ap (λ b. b && not (is_set begun k)) (free_none k (omega arith) (omega arith) (slice_index_or left (k - 1) 0 == 0) refl))
+      ∙ ap (λ b. b && not (is_member begun k)) (free_none k (omega arith) (omega arith) (slice_index_or left (k - 1) 0 == 0) refl))

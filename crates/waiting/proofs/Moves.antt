@@ -10,7 +10,7 @@ use Rattle.number_set.specs.Sets.{is_member, members}
 use Rattle.waiting.specs.Clearing.{Clears, Rests}
 use Rattle.waiting.specs.declared.side.Side.TheVariants.{After}
 use Rattle.waiting.specs.Rows.{edges_at}
-use Rattle.waiting.specs.Ready.{startable, is_set}
+use Rattle.waiting.specs.Ready.{startable}
 use Rattle.std.proofs.Math.Bool.{and-true, or-false}
 use Rattle.lemmas.proofs.Booleans.{sooner, later}
 use Rattle.lemmas.proofs.Counts.{count_agree}
@@ -188,7 +188,7 @@ module _ (g : GraphOf) (ends targets : List ℕ) (begun succeeded ready : List B
         clears = clears_begun g begun succeeded ready (length cleared) (k - 1) left cleared r.clears r.begun_size (omega arith) m.is;
       }
 
-  module _ (k : ℕ) (low : 0 < k) (high : k ≤ length g.actions) (runs : is_set begun k ≡ true) (not_yet : is_set succeeded k ≡ false) where
+  module _ (k : ℕ) (low : 0 < k) (high : k ≤ length g.actions) (runs : is_member begun k ≡ true) (not_yet : is_member succeeded k ≡ false) where
     pub success_clears : Clears g begun (slice_set succeeded (k - 1) true) ready (length cleared) [] left (cleared ++ (k - 1) ∷ [])
     success_clears =
         clears_success g r.graph begun succeeded ready (k - 1) left cleared r.clears r.succeeded_size (omega arith) runs not_yet

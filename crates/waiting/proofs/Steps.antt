@@ -8,14 +8,14 @@ use Rattle.std.proofs.lemmas.Map.Keys.{IsDistinct-push}
 use Rattle.std.proofs.lemmas.Map.Steps.{length-le_from_distinct_below}
 use Rattle.cluster_types.specs.declared.edges.Edge.{Edge}
 use Rattle.cluster_types.specs.Graphs.{GraphOf, IsGraph}
-use Rattle.waiting.specs.Clearing.{Clears, cleared_then, ready_then, less_one, edges_held}
+use Rattle.waiting.specs.Clearing.{Clears, cleared_then, ready_then, edges_held}
 use Rattle.waiting.specs.Rows.{targets_of}
 use Rattle.std.proofs.Math.Bool.{or-false}
 use Rattle.lemmas.proofs.Booleans.{sooner}
 use Rattle.lemmas.proofs.Counts.{count-is, count_some}
-use Rattle.loops.specs.Clearing.{has}
+use Rattle.loops.specs.Clearing.{has, less_one}
 use Rattle.loops.proofs.Members.{equal_laws, has_push, not_before}
-use Rattle.loops.proofs.Steps.{after_take}
+use Rattle.loops.proofs.Steps.{after_take, left_elsewhere}
 use Rattle.waiting.proofs.Beyond.{beyond, beyond_more}
 
 -- A position is taken: the edges from it are to be counted off.
@@ -123,26 +123,23 @@ module _ (g : GraphOf) (begun succeeded ready : List Bool) (taken p : ℕ) (pend
   left_there : slice_index_or (less_one left p) p 0 ≡ slice_index_or left p 0 - 1
   left_there = let s = c.size in let w = p_within in get_or-set_same left p (slice_index_or left p 0 - 1) 0 (omega arith)
 
-  left_elsewhere : (x : ℕ) → x ≢ p → slice_index_or (less_one left p) x 0 ≡ slice_index_or left x 0
-  left_elsewhere x differ = get_or-set_other left p x (slice_index_or left p 0 - 1) 0 differ
-
   counted_left : (x : ℕ) → x < g.edges.positions
       → slice_index_or (less_one left p) x 0 ≡ edges_held g.edges.list (take taken cleared) x + count_by (◌==◌ x) pending
   counted_left x within = elim (cases_eq x p) [
     | inl e ↦ rw e (let l = left_there in let o = one_more in let old = c.counted p p_within in omega arith)
-    | inr differ ↦ let l = left_elsewhere x differ in let o = no_more x differ in let old = c.counted x within in omega arith
+    | inr differ ↦ let l = left_elsewhere left p x differ in let o = no_more x differ in let old = c.counted x within in omega arith
   ]
 
   within_left : (x : ℕ) → count_by (◌==◌ x) pending ≤ slice_index_or (less_one left p) x 0
   within_left x = elim (cases_eq x p) [
     | inl e ↦ rw e (let l = left_there in let o = one_more in let old = c.within p in omega arith)
-    | inr differ ↦ let l = left_elsewhere x differ in let o = no_more x differ in let old = c.within x in omega arith
+    | inr differ ↦ let l = left_elsewhere left p x differ in let o = no_more x differ in let old = c.within x in omega arith
   ]
 
   free_left : (x : ℕ) → x < length g.actions → slice_index_or begun x false ≡ true → slice_index_or (less_one left p) x 0 ≡ 0
   free_left x lt b = elim (cases_eq x p) [
     | inl e ↦ let l = left_there in let f = c.begun_free x lt b in rw e (let h : slice_index_or left p 0 ≡ 0 = rw e at f in omega arith)
-    | inr differ ↦ left_elsewhere x differ ∙ c.begun_free x lt b
+    | inr differ ↦ left_elsewhere left p x differ ∙ c.begun_free x lt b
   ]
 
   size_left : length (less_one left p) ≡ g.edges.positions
@@ -184,14 +181,14 @@ module _ (g : GraphOf) (begun succeeded ready : List Bool) (taken p : ℕ) (pend
     gates_later : (x : ℕ) → length g.actions ≤ x → x < g.edges.positions → has cleared x ≡ (slice_index_or (less_one left p) x 0 == 0)
     gates_later x gate within = elim (cases_eq x p) [
       | inl e ↦ rw e (p_waits ∙ sym p_holds)
-      | inr differ ↦ rw (left_elsewhere x differ) (c.gates x gate within)
+      | inr differ ↦ rw (left_elsewhere left p x differ) (c.gates x gate within)
     ]
 
     may_later : (x : ℕ) → x < length g.actions
         → slice_index_or ready x false ≡ (slice_index_or (less_one left p) x 0 == 0 && not (slice_index_or begun x false))
     may_later x lt = elim (cases_eq x p) [
       | inl e ↦ let m = c.may_begin x lt in rw (e, p_holds) (let n : slice_index_or ready p false ≡ (slice_index_or left p 0 == 0 && not (slice_index_or begun p false)) = rw e at m in n ∙ ap (λ b. b && not (slice_index_or begun p false)) p_held)
-      | inr differ ↦ rw (left_elsewhere x differ) (c.may_begin x lt)
+      | inr differ ↦ rw (left_elsewhere left p x differ) (c.may_begin x lt)
     ]
 
   module _ (one : slice_index_or left p 0 ≡ 1) where
@@ -203,13 +200,13 @@ module _ (g : GraphOf) (begun succeeded ready : List Bool) (taken p : ℕ) (pend
     begins_now action =
         gathered (slice_set ready p true) cleared (length-set ready p true) c.enough refl c.below gates_now c.actions may_now c.distinct where
           gates_now : (x : ℕ) → length g.actions ≤ x → x < g.edges.positions → has cleared x ≡ (slice_index_or (less_one left p) x 0 == 0)
-          gates_now x gate within = rw (left_elsewhere x (λ e. omega arith)) (c.gates x gate within)
+          gates_now x gate within = rw (left_elsewhere left p x (λ e. omega arith)) (c.gates x gate within)
 
           may_now : (x : ℕ) → x < length g.actions
               → slice_index_or (slice_set ready p true) x false ≡ (slice_index_or (less_one left p) x 0 == 0 && not (slice_index_or begun x false))
           may_now x lt = elim (cases_eq x p) [
             | inl e ↦ rw (e, none_left, p_not_begun action (slice_index_or begun p false) refl) (let s = c.ready_size in get_or-set_same ready p true false (omega arith))
-            | inr differ ↦ rw (left_elsewhere x differ) (get_or-set_other ready p x true false differ ∙ c.may_begin x lt)
+            | inr differ ↦ rw (left_elsewhere left p x differ) (get_or-set_other ready p x true false differ ∙ c.may_begin x lt)
           ]
 
     -- no edge to the gate is left
@@ -231,7 +228,7 @@ module _ (g : GraphOf) (begun succeeded ready : List Bool) (taken p : ℕ) (pend
               → has (cleared ++ p ∷ []) x ≡ (slice_index_or (less_one left p) x 0 == 0)
           gates_now x gate within = elim (cases_eq x p) [
             | inl e ↦ rw (e, none_left, has_push cleared p p) (rw p_waits (eq-eqb p p refl))
-            | inr differ ↦ rw (left_elsewhere x differ) (elsewhere x differ ∙ c.gates x gate within)
+            | inr differ ↦ rw (left_elsewhere left p x differ) (elsewhere x differ ∙ c.gates x gate within)
           ]
 
           actions_now : (x : ℕ) → x < length g.actions → has (cleared ++ p ∷ []) x ≡ slice_index_or succeeded x false
@@ -239,7 +236,7 @@ module _ (g : GraphOf) (begun succeeded ready : List Bool) (taken p : ℕ) (pend
 
           may_now : (x : ℕ) → x < length g.actions
               → slice_index_or ready x false ≡ (slice_index_or (less_one left p) x 0 == 0 && not (slice_index_or begun x false))
-          may_now x lt = rw (left_elsewhere x (λ e. omega arith)) (c.may_begin x lt)
+          may_now x lt = rw (left_elsewhere left p x (λ e. omega arith)) (c.may_begin x lt)
 
   by_kind : slice_index_or left p 0 ≡ 1 → (b : Bool) → nat_lt p (length g.actions) ≡ b
       → Clears g begun succeeded (if b then slice_set ready p true else ready) taken pending (less_one left p) (if not b then cleared ++ p ∷ [] else cleared)

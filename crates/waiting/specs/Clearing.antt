@@ -1,6 +1,6 @@
 -- How positions of a graph are cleared: an action by its success, and a gate once each edge to it comes from a position that is cleared (rule of
 -- this project).
-use Rattle.std.specs.Prelude.{◌≡◌, ◌<◌, ◌≤◌, ◌+◌, ◌-◌, ℕ, ◌==◌, ◌&&◌, Bool, true, false, not, nat_lt, if◌then◌else◌, List, [], ◌∷◌, ◌++◌, length, take, count_by, slice_index_or, slice_set}
+use Rattle.std.specs.Prelude.{◌≡◌, ◌<◌, ◌≤◌, ◌+◌, ℕ, ◌==◌, ◌&&◌, Bool, true, false, not, nat_lt, if◌then◌else◌, List, [], ◌∷◌, ◌++◌, length, take, count_by, slice_index_or, slice_set}
 use Rattle.std.specs.List.{IsDistinct}
 use Rattle.cluster_types.specs.declared.edges.Edge.{Edge}
 use Rattle.cluster_types.specs.Graphs.{GraphOf, IsGraph}
@@ -10,10 +10,6 @@ use Rattle.waiting.specs.Rows.{AreRows}
 -- how many edges lead to a position from others than these
 abbrev pub edges_held : List Edge → List ℕ → ℕ → ℕ
 edges_held edges taken y = count_by (λ e. y == e.after && not (has taken e.before)) edges
-
--- the counts when one edge to the position is counted off
-abbrev pub less_one : List ℕ → ℕ → List ℕ
-less_one left y = slice_set left y (slice_index_or left y 0 - 1)
 
 -- the cleared positions then: a gate is one more if that was its last edge
 abbrev pub cleared_then : ℕ → List ℕ → List ℕ → ℕ → List ℕ

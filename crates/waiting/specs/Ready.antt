@@ -1,7 +1,8 @@
 -- Which actions wait no longer: those before which none is left (rule of this project).
-use Rattle.std.specs.Prelude.{ℕ, ◌-◌, ◌||◌, ◌&&◌, Bool, false, not, List, length, filter, replicate, slice_index_or}
+use Rattle.std.specs.Prelude.{ℕ, ◌-◌, ◌||◌, ◌&&◌, Bool, false, not, List, length, filter, replicate}
 use Rattle.std.specs.List.{list_all, range_with_len}
 use Rattle.cluster_types.specs.Graphs.{GraphOf, is_before}
+use Rattle.number_set.specs.Sets.{is_member}
 
 -- the actions of a graph, of which some have begun and some have succeeded. The flag at place k - 1 is that of the action of number k
 pub record Progress : Type 0 where
@@ -13,14 +14,10 @@ pub record Progress : Type 0 where
 abbrev pub none_begun : GraphOf → Progress
 none_begun g = record { graph = g; begun = replicate (length g.actions) false; succeeded = replicate (length g.actions) false }
 
--- the flag of a number
-abbrev pub is_set : List Bool → ℕ → Bool
-is_set flags k = slice_index_or flags (k - 1) false
-
 -- each action that comes before this one has succeeded
 abbrev pub is_free : GraphOf → List Bool → ℕ → Bool
-is_free g succeeded k = list_all (λ j. not (is_before g j k) || is_set succeeded j) (range_with_len 1 (length g.actions))
+is_free g succeeded k = list_all (λ j. not (is_before g j k) || is_member succeeded j) (range_with_len 1 (length g.actions))
 
 -- the numbers of the actions that haven't begun and before which none is left, ascending
 abbrev pub startable : Progress → List ℕ
-startable p = filter (λ k. is_free p.graph p.succeeded k && not (is_set p.begun k)) (range_with_len 1 (length p.graph.actions))
+startable p = filter (λ k. is_free p.graph p.succeeded k && not (is_member p.begun k)) (range_with_len 1 (length p.graph.actions))

@@ -1,6 +1,7 @@
 ghost use Rattle.std.specs.Prelude.{◌≡◌, ◌<◌, ◌≤◌, ◌+◌, ◌-◌, ◌++◌, ◌∷◌, [], ℕ, true, false, IfOk, length, replicate, slice_index_or, slice_set, vec_len, vec_capacity};
 ghost use Rattle.cluster_types.specs.Graphs.{IsGraph};
-ghost use Rattle.waiting.specs.Clearing.{Clears, cleared_then, less_one, ready_then};
+ghost use Rattle.loops.specs.Clearing.{less_one};
+ghost use Rattle.waiting.specs.Clearing.{Clears, cleared_then, ready_then};
 ghost use Rattle.waiting.specs.Rows.{AreRows};
 
 use crate::roots::first_free;

@@ -1,5 +1,6 @@
 ghost use Rattle.std.specs.Prelude.{◌≡◌, ◌<◌, ◌≤◌, ◌-◌, true, false, Option, Some, None, IfOk, IfErr, length, slice_get, slice_set, replicate};
-ghost use Rattle.waiting.specs.Ready.{Progress, is_set, none_begun, startable};
+ghost use Rattle.number_set.specs.Sets.{is_member};
+ghost use Rattle.waiting.specs.Ready.{Progress, none_begun, startable};
 
 use crate::queue::Queue;
 use crate::rows::Rows;
@@ -74,8 +75,8 @@ impl Waiting {
     pub fn succeed(&mut self, number: u32)
         requires from_one { 0 < number }
         requires to_count { number ≤ length self.old.graph.actions }
-        requires begun { is_set self.old.begun number ≡ true }
-        requires not_yet { is_set self.old.succeeded number ≡ false }
+        requires begun { is_member self.old.begun number ≡ true }
+        requires not_yet { is_member self.old.succeeded number ≡ false }
         ensures { self.new ≡ record { graph = self.old.graph; begun = self.old.begun; succeeded = slice_set self.old.succeeded (number - 1) true } }
     {
         let from = self.queue.cleared.len();

@@ -2,12 +2,9 @@
 use Rattle.std.proofs.Common.{arith, ◌≡◌, ◌<◌, ◌≤◌, ◌+◌, ℕ, suc, zero, Some, List, [], ◌∷◌, ◌++◌, Contains, slice_get}
 use Rattle.std.specs.List.{AllByRecursion, flat_map, range_with_len}
 use Rattle.std.proofs.lemmas.Option.{get_or_from_slice_get, slice_get_within}
+use Rattle.lemmas.proofs.Members.{all_append}
 
 module _ {X : Type 0} (P : X → Type 0) where
-  pub all_joined : (xs ys : List X) → AllByRecursion P xs → AllByRecursion P ys → AllByRecursion P (xs ++ ys)
-  all_joined [] ys h k = k
-  all_joined (x ∷ xs) ys h k = (h.0, all_joined xs ys h.1 k)
-
   pub all_first : (xs ys : List X) → AllByRecursion P (xs ++ ys) → AllByRecursion P xs
   all_first [] ys h = tt
   all_first (x ∷ xs) ys h = (h.0, all_first xs ys h.1)
@@ -20,7 +17,7 @@ module _ {X : Type 0} (P : X → Type 0) where
       → AllByRecursion P (flat_map f (range_with_len from count))
   all_in_range f from zero h = tt
   all_in_range f from (suc count) h =
-      all_joined (f from) (flat_map f (range_with_len (from + 1) count)) (h from (omega arith) (omega arith))
+      all_append P (f from) (flat_map f (range_with_len (from + 1) count)) (h from (omega arith) (omega arith))
       (all_in_range f (from + 1) count (λ j low high. h j (omega (arith, low)) (omega (arith, high))))
 
 -- what is read of a list is in it

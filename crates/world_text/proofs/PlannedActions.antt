@@ -1,5 +1,5 @@
 -- The actions of a plan are of its cluster.
-use Rattle.std.proofs.Common.{arith, ◌≡◌, ◌≢◌, ◌<◌, ◌==◌, if◌then◌else◌, ℕ, suc, Bool, true, false, Option, Some, None, List, [], ◌∷◌, length, AllPairs, Contains, inl, inr, ◌⊎◌, refl, sym, ap, slice_get}
+use Rattle.std.proofs.Common.{arith, ◌≡◌, ◌≢◌, ◌<◌, ◌==◌, if◌then◌else◌, ℕ, suc, Bool, true, false, Option, Some, None, List, [], ◌∷◌, length, Contains, inl, inr, ◌⊎◌, refl, sym, ap, slice_get}
 use Rattle.std.specs.Prelude.{find}
 use Rattle.std.specs.Option.{option_map_or}
 use Rattle.std.proofs.lemmas.Bool.{eq-eqb, eqb-true}
@@ -17,13 +17,11 @@ use Rattle.cluster_types.specs.Fields.{monitors}
 use Rattle.cluster_types.specs.Needed.{FirstSet, Migrates, Needed, fence, kept, monitor, probe, sent, step, taken_in}
 use Rattle.cluster_types.specs.Tables.{Targets}
 use Rattle.cluster_types.specs.Valid.{IsValid}
+use Rattle.graph_number.proofs.ActionKinds.{AreApart}
 use Rattle.plan_laws.proofs.CellSteps.{is_step}
 use Rattle.world_text.specs.Fitting.{IntervalsFit}
 use Rattle.input_reading.specs.Written.{IsActionOf, IsCellOf, IsNumber}
 use Rattle.world_text.proofs.Each.{read_in}
-
-abbrev AreApart : List MonitorOf → Type 0
-AreApart ms = AllPairs (λ (one other : MonitorOf). one.interval_ms ≢ other.interval_ms) ms
 
 -- of monitors of different intervals each is found by its own
 role_found : (ms : List MonitorOf) (m : MonitorOf) → AreApart ms → Contains ms m → m.role ≡ role_of_interval ms m.interval_ms

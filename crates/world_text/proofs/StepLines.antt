@@ -1,8 +1,7 @@
 -- What a step of a transition prints is of its cluster.
 use Rattle.std.proofs.Common.{arith, ◌≡◌, ◌<◌, ◌-◌, ◌+◌, ◌^◌, ◌==◌, ◌&&◌, ◌||◌, nat_lt, not, if◌then◌else◌, ℕ, Bool, true, false, Option, Some, None, List, [], ◌∷◌, ◌++◌, length, Contains, eqb-true, refl, sym, subst, slice_get}
 use Rattle.std.specs.List.{AllByRecursion, flat_map, list_any}
-use Rattle.std.proofs.lemmas.Bool.{eq-eqb}
-use Rattle.std.proofs.lemmas.Bool.Decides.{nat_tests}
+use Rattle.std.proofs.lemmas.Bool.{eq-eqb, ltb-true}
 use Rattle.lemmas.proofs.Booleans.{later, sooner}
 use Rattle.cluster_types.specs.declared.journal.Action.{Action}
 use Rattle.cluster_types.specs.declared.journal.Action.TheVariants.{Fence, Probe, Cell, MigrateTo, MigrateFrom}
@@ -54,9 +53,6 @@ left_fits whole _ _ _ (untold said) lines behind fit = all_later LineFits lines 
 
 -- What applies.
 
-below_limit : (a b : ℕ) → nat_lt a b ≡ true → a < b
-below_limit a b h = grind (arith, nat_tests)
-
 first_three : (a b d e f g i j : Bool) → a && b && d && e && f && g && i && j ≡ true → (a ≡ true) × (b ≡ true) × (d ≡ true)
 first_three true true true e f g i j h = (refl, refl, refl)
 first_three true true false e f g i j h = cc
@@ -99,14 +95,14 @@ module _ (t : Transition) (since : List Event) (few : length t.actions < 2 ^ 32)
   answer_fits (answer.End k code) h fits = (flown k (flying t since) (all_fly t since) h, fits)
   answer_fits (answer.Timeout k) h fits = flown k (flying t since) (all_fly t since) h
   answer_fits (answer.Lost n) h fits =
-      below_limit n (length t.cluster.nodes)
+      ltb-true n (length t.cluster.nodes)
       (later (nat_lt (outside t since) most_from_outside) (nat_lt n (length t.cluster.nodes)) (sooner _ (is_joined (last_sign n (journal t since))) h))
   answer_fits (answer.Up n) h fits =
-      below_limit n (length t.cluster.nodes)
+      ltb-true n (length t.cluster.nodes)
       (later (nat_lt (outside t since) most_from_outside) (nat_lt n (length t.cluster.nodes)) (sooner _ (is_offline_state (node_state t.cluster n (journal t since))) h))
   answer_fits (answer.Quorum now) h fits = tt
   answer_fits (answer.Wait seconds) h fits =
-      let low = below_limit (moment_of (journal t since) + seconds) (2 ^ 40)
+      let low = ltb-true (moment_of (journal t since) + seconds) (2 ^ 40)
       (later (nat_lt (outside t since) most_from_outside) (nat_lt (moment_of (journal t since) + seconds) (2 ^ 40)) h) in
       omega (arith, low)
   answer_fits (answer.Report n r interval code) h fits =
@@ -114,8 +110,8 @@ module _ (t : Transition) (since : List Event) (few : length t.actions < 2 ^ 32)
       let front = first_three (nat_lt n (length t.cluster.nodes)) (nat_lt r (length t.cluster.leaves)) (nat_lt 0 interval) (is_online t.cluster n (journal t since))
       (may t.cluster r n (journal t since)) (is_bad (monitor_action t.cluster r n interval) (Code code))
       (not (is_ignored t.cluster (monitor_action t.cluster r n interval) (Code code))) (is_quiet_cell t.cluster (journal t since) (flying t since) r n) news in (
-        record { leaf = below_limit r (length t.cluster.leaves) front.1; node = below_limit n (length t.cluster.nodes) front.0 },
-        record { low = below_limit 0 interval front.2; high = fits.0 },
+        record { leaf = ltb-true r (length t.cluster.leaves) front.1; node = ltb-true n (length t.cluster.nodes) front.0 },
+        record { low = ltb-true 0 interval front.2; high = fits.0 },
         fits.1,
       )
 

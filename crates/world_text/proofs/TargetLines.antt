@@ -1,9 +1,8 @@
 -- The target lines of a placement are lines of the cluster.
-use Rattle.std.proofs.Common.{arith, ◌≡◌, ◌<◌, ◌+◌, ◌∙◌, ℕ, true, Option, Some, None, List, ◌∷◌, ◌++◌, length, Contains, inl, inr, ◌⊎◌, refl, sym, ap, subst, slice_get}
+use Rattle.std.proofs.Common.{arith, ◌≡◌, ◌<◌, ◌+◌, ◌∙◌, ℕ, true, Option, Some, None, List, ◌++◌, length, inl, inr, ◌⊎◌, refl, ap, slice_get}
 use Rattle.std.specs.Prelude.{unwrap_or}
 use Rattle.std.specs.List.{AllByRecursion, flat_map, range_with_len}
-use Rattle.std.proofs.lemmas.List.Elements.{Contains-append_right}
-use Rattle.lemmas.proofs.Members.{at_head}
+use Rattle.lemmas.proofs.Members.{all_append}
 use Rattle.crm_lex.specs.Names.{is_name}
 use Rattle.cluster_types.specs.declared.cluster.Cluster.{Cluster}
 use Rattle.cluster_types.specs.declared.journal.Event.{Event}
@@ -24,11 +23,8 @@ use Rattle.cluster_types.specs.Tables.{Targets, targets_of}
 use Rattle.cluster_types.specs.Texts.{goal_line, lacking_lines, leaf_lines, pin_lines, target_lines}
 use Rattle.cluster_types.specs.Valid.{IsValid}
 use Rattle.input_reading.specs.Written.{IsLineOf}
-use Rattle.world_text.proofs.Each.{all_in_range, all_joined}
-
-first_among : {X : Type 0} (P : X → Type 0) (xs : List X) (x : X) → IsFirstOf P xs x → Contains xs x
-first_among P xs x is =
-    subst (λ l. Contains l x) (sym is.split) (Contains-append_right is.before (x ∷ is.after) x (at_head x is.after x refl))
+use Rattle.replan.proofs.Named.{first_in}
+use Rattle.world_text.proofs.Each.{all_in_range}
 
 module _ (c : Cluster) (valid : IsValid c) where
   -- the rule that holds a leaf back has a name
@@ -39,8 +35,8 @@ module _ (c : Cluster) (valid : IsValid c) where
           ⊎ (AllByRecursion (λ (col : Colocation). ¬ IsHeldByColocation c es table r held.node col) c.colocations
           × ((o : Order) × IsFirstOf (IsHeldByOrder c es table r held.node) c.orders o × (id ≡ o.id)))
           → is_name id ≡ true
-      by (inl h) = ap is_name h.2 ∙ (valid.colocations h.0 (first_among _ c.colocations h.0 h.1)).id
-      by (inr h) = ap is_name h.1.2 ∙ (valid.orders h.1.0 (first_among _ c.orders h.1.0 h.1.1)).id
+      by (inl h) = ap is_name h.2 ∙ (valid.colocations h.0 (first_in _ c.colocations h.0 h.1)).id
+      by (inr h) = ap is_name h.1.2 ∙ (valid.orders h.1.0 (first_in _ c.orders h.1.0 h.1.1)).id
 
   lacking_fits : (es : List Event) (table targets : Targets) (r : ℕ) → r < length c.leaves → (reason : Option NoReason) → HasReason c es table targets r reason
       → AllByRecursion (IsLineOf c) (lacking_lines c r reason)
@@ -78,8 +74,8 @@ module _ (c : Cluster) (valid : IsValid c) where
       let pinned = pin_lines c r (unwrap_or (slice_get pins r) None) in
       let placed = flat_map (λ n. goal_line c r n (targets r n)) (range_with_len 0 (length c.nodes)) in
       let lacking = lacking_lines c r (unwrap_or (slice_get reasons r) None) in
-      all_joined (IsLineOf c) (pinned ++ placed) lacking
-      (all_joined (IsLineOf c) pinned placed (pin_fits r low (unwrap_or (slice_get pins r) None))
+      all_append (IsLineOf c) (pinned ++ placed) lacking
+      (all_append (IsLineOf c) pinned placed (pin_fits r low (unwrap_or (slice_get pins r) None))
       (all_in_range (IsLineOf c) (λ n. goal_line c r n (targets r n)) 0 (length c.nodes) (λ n up high. goal_fits r n low (omega (arith, high)) (targets r n))))
       (read_fits es table targets reasons r low has)
 

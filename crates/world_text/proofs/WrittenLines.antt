@@ -1,6 +1,7 @@
 -- All lines of a run are of its cluster, and so they are read again.
 use Rattle.std.proofs.Common.{arith, ◌≡◌, ◌<◌, ◌≤◌, ◌+◌, ◌^◌, Bool, Option, Some, List, [], ◌∷◌, ◌++◌, length, Contains, refl, subst}
 use Rattle.std.specs.List.{AllByRecursion, flat_map}
+use Rattle.lemmas.proofs.Members.{all_append}
 use Rattle.cluster_types.specs.declared.cluster.Cluster.{Cluster}
 use Rattle.cluster_types.specs.declared.journal.Action.{Action}
 use Rattle.cluster_types.specs.declared.journal.Answer.{Answer}
@@ -17,7 +18,6 @@ use Rattle.run_safety.specs.Followed.{number_at}
 use Rattle.run_safety.proofs.Counted.{few_transitions}
 use Rattle.input_reading.specs.Written.{IsActionOf, IsLineOf}
 use Rattle.world_text.specs.Fitting.{AnswersFit, Fits, IntervalsFit}
-use Rattle.world_text.proofs.Each.{all_joined}
 use Rattle.world_text.proofs.FewActions.{few_planned}
 use Rattle.world_text.proofs.PlannedActions.{needed_fits}
 use Rattle.world_text.proofs.StepLines.{answer_fits, behind_fits, front_fits, left_fits, said_fits, step_fits, step_leaves}
@@ -90,7 +90,7 @@ module _ (c : Cluster) (valid : IsValid c) (intervals : IntervalsFit c) (promoti
   all_written at _ rest _ _ (here _ _) stands fit few = tt
   all_written at later rest left _ (one_more _ next _ _ middle _ lines more step runs) stands fit few =
       let up = grow next later middle left more runs in
-      all_joined (IsLineOf c) lines more (prints at next rest middle lines step stands (front_fits rest lines more fit) (omega (arith, up, few)))
+      all_append (IsLineOf c) lines more (prints at next rest middle lines step stands (front_fits rest lines more fit) (omega (arith, up, few)))
       (all_written next later middle left more runs (still_stands at next rest middle lines step stands) (leaves at next rest middle lines step stands more fit) few)
 
   -- from the first transition on

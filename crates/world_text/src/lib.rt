@@ -1,5 +1,5 @@
 //! The text of the run of a simulated cluster, with what really runs at its end; and laws of what is written of runs: it
-//! reads again, and of the run of a simulated cluster it is one.
+//! reads again, and the run of a simulated cluster has one text.
 #![tactic(auto)]
 
 // What really runs, line by line.

@@ -11,15 +11,7 @@ ghost use Rattle.world_text.specs.WorldTexts as spec;
 use agent_world::{Real, World};
 use cluster_types::{Cluster, LeafId, NodeId};
 use faults::NoMemory;
-
-fn node_name(cluster: &Cluster, node: NodeId) -> &[u8]
-    ensures { result.now ≡ texts.node_name cluster.now node }
-{
-    match cluster.nodes.as_slice().get(node as usize) {
-        Some(node) => node.name.bytes(),
-        None => &[],
-    }
-}
+use trace_text::node_name;
 
 /// The leaf and the node, and what stands behind them in their line.
 fn push_cell(
@@ -34,7 +26,7 @@ fn push_cell(
     text.extend_from_slice(b"real ")?;
     text.extend_from_slice(cluster.leaf_name(leaf))?;
     text.extend_from_slice(b" ")?;
-    text.extend_from_slice(node_name(cluster, node))?;
+    text.extend_from_slice(node_name(cluster, node as usize))?;
     text.extend_from_slice(word)?;
     Ok(())
 }

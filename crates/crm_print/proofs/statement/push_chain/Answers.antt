@@ -1,7 +1,8 @@
 use Rattle.std.proofs.Common.{◌++◌, codes, map, sym, ap, ◌∙◌}
 use Rattle.std.specs.List.{flat_map}
+use Rattle.crm_parse.specs.WordTexts.{bool_text}
 use Rattle.crm_print.specs.Quoting.{spaced}
-use Rattle.crm_print.specs.Items.{bool_text, labelled, step}
+use Rattle.crm_print.specs.Items.{labelled, step}
 use Rattle.crm_print.proofs.FormLines.{on_ok-more, spaced_last, two_pieces}
 use Rattle.crm_print.proofs.statement.push_chain.Goals as goal
 

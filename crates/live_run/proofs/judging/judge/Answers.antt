@@ -1,5 +1,5 @@
 use Rattle.std.proofs.Common.{arith, ◌≡◌, ◌≤◌, ◌-◌, length, inr, sym, subst, ap, ◌∙◌}
-use Rattle.live_run.specs.Written.{kind_in}
+use Rattle.live_run.specs.TextLines.{kind_in}
 use Rattle.live_run.proofs.AuditDues.{due_is}
 use Rattle.live_run.proofs.judging.judge.Goals as goal
 

@@ -1,6 +1,7 @@
 use Rattle.std.proofs.Common.{rules, ◌≡◌, true}
+use Rattle.lemmas.proofs.Results.{on_both}
 use Rattle.cluster_types.specs.Choice.{is_separation}
-use Rattle.order_edges.proofs.RuleBuilds.{colocation_more, on_both}
+use Rattle.order_edges.proofs.RuleBuilds.{colocation_more}
 use Rattle.order_edges.proofs.colocations.add_colocation.Goals as goal
 
 pub returns-clause-builds : goal.returns-clause-builds

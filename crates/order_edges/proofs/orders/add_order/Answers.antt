@@ -1,4 +1,6 @@
 use Rattle.std.proofs.Common.{arith, rules, ◌≡◌, ◌≤◌, ◌+◌, ◌*◌, true, false, sym, subst, ℕ}
+use Rattle.std.proofs.lemmas.Result.{on_ok_weaker}
+use Rattle.lemmas.proofs.Results.{on_both}
 use Rattle.cluster_types.specs.declared.cluster.Cluster.{Cluster}
 use Rattle.cluster_types.specs.Precedence.{is_serialize}
 use Rattle.order_edges.specs.declared.sides.Join.{Join}
@@ -6,7 +8,6 @@ use Rattle.order_edges.specs.Joins.{inverse_join, own_join}
 use Rattle.order_edges.specs.Rooms.{IsEven, rows_of, width_of}
 use Rattle.order_edges.proofs.EvenJoins.{inverse_even}
 use Rattle.order_edges.proofs.OrderBuilds.{inverse_small, order_alone, order_both, own_small}
-use Rattle.order_edges.proofs.RuleBuilds.{on_both, on_ok}
 use Rattle.order_edges.proofs.orders.add_order.Goals as goal
 
 pub returns-then-not-order-clause-builds : goal.returns-then-not-order-clause-builds
@@ -42,4 +43,4 @@ returns-clause-gates c =
     let one = small c.args.known.now.cluster.now c.own_join-own.result (own_join c.args.order.now) c.own_join-own.ensures (own_small c.args.known.now.cluster.now c.args.order.now c.args.known.now.nodes) in
     let two = small c.args.known.now.cluster.now c.inverse_join-back.result (inverse_join c.args.order.now) c.inverse_join-back.ensures
     (inverse_small c.args.known.now.cluster.now c.args.order.now c.args.known.now.nodes) in
-    on_ok c.add_rule-2.result (λ g. below _ _ _ _ _ c.in_ok-add_rule.ensures.gates one g two) c.add_rule-2.ensures.gates
+    on_ok_weaker c.add_rule-2.result (λ g. below _ _ _ _ _ c.in_ok-add_rule.ensures.gates one g two) c.add_rule-2.ensures.gates

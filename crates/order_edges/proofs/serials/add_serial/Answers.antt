@@ -1,8 +1,8 @@
 use Rattle.std.proofs.Common.{rules, ◌≡◌, ◌*◌, true, false, length, subst}
+use Rattle.std.proofs.lemmas.Result.{on_ok_weaker}
 use Rattle.cluster_types.specs.Precedence.{is_serialize}
 use Rattle.order_edges.specs.Chains.{IsChainedSomewhere}
 use Rattle.order_edges.specs.Groups.{Adds}
-use Rattle.order_edges.proofs.RuleBuilds.{on_ok}
 use Rattle.order_edges.proofs.SerialSays.{other_adds, serial_adds}
 use Rattle.order_edges.proofs.serials.add_serial.Goals as goal
 
@@ -14,7 +14,7 @@ returns-then-not-is_serialize-clause-adds c =
 pub returns-clause-adds : goal.returns-clause-adds
 returns-clause-adds c =
     let kind : is_serialize c.args.order.now.kind ≡ true = search rules in
-    on_ok c.add_chains.result
+    on_ok_weaker c.add_chains.result
     (λ h. serial_adds c.args.known.now.cluster.now c.args.known.now.actions.now c.args.order.now kind c.in_ok-places.places.items c.in_ok-places.ensures c.args.building.now.list.items
     c.add_chains.new.building.list.items c.args.building.now.base c.add_chains.new.building.base
     (subst (λ v. Adds (length c.args.known.now.actions.now) c.args.building.now.list.items c.add_chains.new.building.list.items c.args.building.now.base c.add_chains.new.building.base

@@ -1,5 +1,5 @@
 use Rattle.std.proofs.Common.{◌≡◌, true, false, sym, ◌∙◌, arith}
-use Rattle.placement.specs.Reads.{is_active_in}
+use Rattle.score_table.specs.OwnRows.{is_active_by}
 use Rattle.placement.proofs.OneMore.{count-no, count-yes}
 use Rattle.placement.proofs.cells.active_count.Goals as goal
 
@@ -8,7 +8,7 @@ loop-node-preserved-then-not-is_active c =
     let l = c.loop-node in
     let at : c.is_active.result ≡ false = let t = c.if-not-is_active.true in cc in
     record {
-      counted = count-no (is_active_in c.args.cluster.now c.args.states.now c.args.leaf) l.node l.count l.invariant.counted (sym c.is_active.ensures ∙ at);
+      counted = count-no (is_active_by c.args.cluster.now c.args.states.now c.args.leaf) l.node l.count l.invariant.counted (sym c.is_active.ensures ∙ at);
       few = let f = l.invariant.few in omega arith;
     }
 
@@ -17,6 +17,6 @@ loop-node-preserved c =
     let l = c.loop-node in
     let at : c.is_active.result ≡ true = let t = c.if-not-is_active.false in cc in
     record {
-      counted = count-yes (is_active_in c.args.cluster.now c.args.states.now c.args.leaf) l.node l.count l.invariant.counted (sym c.is_active.ensures ∙ at);
+      counted = count-yes (is_active_by c.args.cluster.now c.args.states.now c.args.leaf) l.node l.count l.invariant.counted (sym c.is_active.ensures ∙ at);
       few = let f = l.invariant.few in omega arith;
     }

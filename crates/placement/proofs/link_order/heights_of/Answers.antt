@@ -1,8 +1,10 @@
-use Rattle.std.proofs.Common.{rules, ◌≡◌, ◌<◌, ℕ, List, map, sym, subst, ◌∙◌}
+use Rattle.std.proofs.Common.{rules, ◌≡◌, ◌<◌, ℕ, List, map, slice_index_or, sym, subst, ◌∙◌}
+use Rattle.std.proofs.lemmas.Result.{IfOk-weaker}
 use Rattle.lemmas.proofs.Members.{of_map}
 use Rattle.cluster_types.specs.declared.edges.Edge.{Edge}
 use Rattle.cluster_types.specs.Graphs as links
 use Rattle.loops.specs.declared.edge.Edge.{Edge as Way}
+use Rattle.loops.specs.Longest.{longest}
 use Rattle.loops.specs.Loops as ways
 use Rattle.placement.specs.LinkOrder.{way_of}
 use Rattle.placement.proofs.link_order.heights_of.Goals as goal
@@ -14,12 +16,15 @@ ways-within slots ls within way among =
     let ends = within m.source m.among in
     (subst (λ (w : Way). w.before < slots) m.gives ends.1, subst (λ (w : Way). w.after < slots) m.gives ends.0)
 
-pub is_loop_free-requires : goal.is_loop_free-requires
-is_loop_free-requires c =
+pub longest_ways_if_free-requires-clause-within : goal.longest_ways_if_free-requires-clause-within
+longest_ways_if_free-requires-clause-within c =
     let made : c.in_ok-ways.ways.items ≡ map way_of c.args.links.now = search rules in
     subst (ways.EndWithin c.args.slots) (sym (c.deref.ensures.value ∙ made)) (ways-within c.args.slots c.args.links.now c.requires.within)
 
-pub longest_ways-requires-clause-ends : goal.longest_ways-requires-clause-ends
-longest_ways-requires-clause-ends c =
+pub returns : goal.returns
+returns c =
     let made : c.in_ok-ways.ways.items ≡ map way_of c.args.links.now = search rules in
-    subst (ways.EndWithin c.args.slots) (sym (c.deref-2.ensures.value ∙ made)) (ways-within c.args.slots c.args.links.now c.requires.within)
+    IfOk-weaker c.longest_ways_if_free.result _ _
+    (λ heights are. subst
+    (λ (es : List Way). ways.HasNoLoop c.args.slots es → (x : ℕ) → x < c.args.slots → slice_index_or heights.items x 0 ≡ longest c.args.slots es x)
+    (c.deref.ensures.value ∙ made) are) c.longest_ways_if_free.ensures

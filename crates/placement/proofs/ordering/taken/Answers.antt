@@ -1,10 +1,9 @@
 use Rattle.std.proofs.Common.{rules, arith, ◌≡◌, ◌<◌, ◌*◌, ◌++◌, ◌∷◌, [], ◌&&◌, ◌||◌, ℕ, List, MatchOption, Option, true, false, not, count_by, get_or, length, slice_index_or, slice_set, Contains, refl, sym, ap, subst, ◌∙◌}
 use Rattle.cluster_types.specs.declared.placement.Decision.{Decision}
-use Rattle.cluster_types.specs.Decisions.{is_same_decision, leaf_of}
+use Rattle.cluster_types.specs.Decisions.{is_among, is_same_decision, leaf_of}
 use Rattle.placement.specs.declared.ranked.Ranked.{Ranked}
 use Rattle.placement.specs.Flags.{AreFlags, slot_of}
 use Rattle.placement.specs.Links.{links_in}
-use Rattle.placement.specs.Needing.{is_among}
 use Rattle.placement.specs.Queueing.{IsFirstPlace, IsNextPlace, is_at}
 use Rattle.placement.specs.Turns.{WereMade, none_made, one_more}
 use Rattle.placement.proofs.FlagLaws.{none-raised, raised, slot-within}

@@ -1,9 +1,8 @@
 use Rattle.std.proofs.Common.{◌≡◌, ◌*◌, ℕ, true, not, count_by, length, Contains}
 use Rattle.cluster_types.specs.declared.placement.Decision.{Decision}
-use Rattle.cluster_types.specs.Decisions.{Key}
+use Rattle.cluster_types.specs.Decisions.{Key, is_among}
 use Rattle.placement.specs.Flags.{AreFlags}
 use Rattle.placement.specs.Links.{links_in}
-use Rattle.placement.specs.Needing.{is_among}
 use Rattle.placement.specs.Queueing.{IsQueue, is_at}
 use Rattle.placement.specs.Turns.{AreSorted, WereMade, slots_of}
 use Rattle.placement.proofs.ordering.taken.Given as goal

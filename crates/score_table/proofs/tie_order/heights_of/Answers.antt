@@ -7,15 +7,15 @@ use Rattle.score_table.specs.TieOrder.{edge_of}
 use Rattle.score_table.proofs.TieSides.{edges-within}
 use Rattle.score_table.proofs.tie_order.heights_of.Goals as goal
 
-pub heights_by-requires-clause-within : goal.heights_by-requires-clause-within
-heights_by-requires-clause-within c =
+pub longest_ways_if_free-requires-clause-within : goal.longest_ways_if_free-requires-clause-within
+longest_ways_if_free-requires-clause-within c =
     let made : c.in_ok-edges.edges.items ≡ map edge_of c.args.ties.now = search rules in
     subst (EndWithin c.args.leaves) (sym (c.deref.ensures.value ∙ made)) (edges-within c.args.leaves c.args.ties.now c.requires.within)
 
 pub returns : goal.returns
 returns c =
     let made : c.in_ok-edges.edges.items ≡ map edge_of c.args.ties.now = search rules in
-    IfOk-weaker c.heights_by.result _ _
+    IfOk-weaker c.longest_ways_if_free.result _ _
     (λ heights are. subst
     (λ (es : List Edge). HasNoLoop c.args.leaves es → (r : ℕ) → r < c.args.leaves → slice_index_or heights.items r 0 ≡ longest c.args.leaves es r)
-    (c.deref.ensures.value ∙ made) are) c.heights_by.ensures
+    (c.deref.ensures.value ∙ made) are) c.longest_ways_if_free.ensures

@@ -1,5 +1,6 @@
-use Rattle.std.proofs.Common.{ℕ, List, Result, Ok, Err, OnOk, sym, subst, slice_index_or}
+use Rattle.std.proofs.Common.{ℕ, List, sym, subst, slice_index_or}
 use Rattle.std.specs.List.Sorted.{IsNonDecreasingBy}
+use Rattle.lemmas.proofs.Results.{on_both}
 use Rattle.score_table.specs.declared.ties.Tie.{Tie}
 use Rattle.score_table.specs.TieOrder.{AreHeightsOf, EndAtLeaves}
 use Rattle.score_table.proofs.TieOrders.{put-in-order}
@@ -18,7 +19,3 @@ returns-clause-ordered c =
     (λ same sorted free. put-in-order c.args.leaves old new c.in_ok-heights.heights.items c.requires.within free high same
     (subst (λ (hs : List ℕ). IsNonDecreasingBy (λ (tie : Tie). slice_index_or hs tie.dependent 0) new) c.deref-2.ensures.value sorted))
     c.sort_by_height.ensures.same c.sort_by_height.ensures.sorted
-  where
-    on_both : {X E A B C : Type 0} (r : Result X E) → (A → B → C) → OnOk r A → OnOk r B → OnOk r C
-    on_both (Ok x) f a b = f a b
-    on_both (Err e) f a b = tt

@@ -1,7 +1,8 @@
 use Rattle.std.proofs.Common.{arith, ◌≡◌, ◌<◌, ◌+◌, length, slice_index_or, ◌∙◌}
 use Rattle.std.proofs.lemmas.List.{get_or_read, length-set}
+use Rattle.cluster_types.specs.Walks.{no_edge}
 use Rattle.waiting.specs.Rows.{end_of}
-use Rattle.waiting.proofs.Counted.{no_edge, end_within, few_at, counted_more}
+use Rattle.waiting.proofs.Counted.{end_within, few_at, counted_more}
 use Rattle.waiting.proofs.side.count_ends.Goals as goal
 
 pub index_mut-requires : goal.index_mut-requires

@@ -1,9 +1,9 @@
 use Rattle.std.proofs.Common.{Some, [], ◌∷◌, ◌++◌}
+use Rattle.lemmas.proofs.Members.{all_append}
 use Rattle.cluster_types.specs.declared.run.RunLine.TheVariants as line
 use Rattle.run_safety.proofs.SoFar.{stopped_runs}
 use Rattle.input_reading.specs.Written.{IsLineOf}
 use Rattle.input_reading.proofs.TextAgain.{text_again}
-use Rattle.world_text.proofs.Each.{all_joined}
 use Rattle.world_text.proofs.WrittenLines.{run_written, told_written}
 use Rattle.world_text.proofs.read_again.texts_of_runs_read_again.Goals as goal
 
@@ -22,7 +22,7 @@ returns-clause-so_far c = λ cl ps whole es left answers behind lines valid inte
 pub returns-clause-cut : goal.returns-clause-cut
 returns-clause-cut c = λ cl ps whole es left answers behind given lines l valid intervals fit few run number.
     text_again cl valid (lines ++ line.Unexpected l ∷ [])
-    (all_joined (IsLineOf cl) lines (line.Unexpected l ∷ []) (told_written cl valid intervals ps whole es run.last answers run.unread lines run.steps fit few) (number, tt))
+    (all_append (IsLineOf cl) lines (line.Unexpected l ∷ []) (told_written cl valid intervals ps whole es run.last answers run.unread lines run.steps fit few) (number, tt))
 
 pub returns-clause-stopped : goal.returns-clause-stopped
 returns-clause-stopped c = λ cl ps whole es left answers behind told call closing valid intervals fit few run.

@@ -1,8 +1,14 @@
-use Rattle.std.proofs.Common.{rules, ◌≡◌, ◌++◌, ◌∷◌, ◌∙◌, []}
-use Rattle.lemmas.proofs.Searches.{any_or}
+use Rattle.std.proofs.Common.{rules, ◌≡◌, Bool, ◌||◌, List, [], ◌∷◌, ◌++◌, sym, ap, ◌∙◌}
+use Rattle.std.specs.List.{list_any}
+use Rattle.lemmas.proofs.Searches.{any-more}
 use Rattle.op_history.specs.FirstJournal.{is_again}
 use Rattle.op_history.specs.Repeats.{Adds}
 use Rattle.op_history.proofs.told_lines.ToldLines.with.Goals as goal
+
+-- a test that passed somewhere or passes now passes somewhere with one more element
+any_or : {X : Type 0} (test : X → Bool) (xs : List X) (x : X) (before : Bool) → before ≡ list_any test xs
+    → (before || test x) ≡ list_any test (xs ++ x ∷ [])
+any_or test xs x before e = ap (λ b. b || test x) e ∙ sym (any-more test xs x)
 
 pub invariant_of-result : goal.invariant_of-result
 invariant_of-result c =

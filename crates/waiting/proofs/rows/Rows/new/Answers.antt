@@ -2,9 +2,10 @@ use Rattle.std.proofs.Common.{arith, ◌≡◌, ◌<◌, ◌+◌, List, length, 
 use Rattle.std.proofs.lemmas.List.{get_or_read}
 use Rattle.cluster_types.specs.declared.edges.Edge.{Edge}
 use Rattle.cluster_types.specs.Graphs.{EndWithin}
+use Rattle.cluster_types.specs.Walks.{no_edge}
 use Rattle.waiting.specs.declared.side.Side.TheVariants.{Before}
 use Rattle.waiting.specs.Rows.{AreRows, edges_at, edges_below}
-use Rattle.waiting.proofs.Counted.{no_edge, end_within}
+use Rattle.waiting.proofs.Counted.{end_within}
 use Rattle.waiting.proofs.Filled.{is_place, place_within, one_filled}
 use Rattle.waiting.proofs.rows.Rows.new.Goals as goal
 

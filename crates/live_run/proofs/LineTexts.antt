@@ -26,7 +26,7 @@ use Rattle.line_words.specs.Places.{Words}
 use Rattle.input_reading.proofs.WordsOfLines.{action_words, answer_words, joined, line-joined, line_words}
 use Rattle.input_reading.proofs.TextAgain.{no_byte}
 use Rattle.input_reading.specs.Written.{IsNamed}
-use Rattle.live_run.specs.Written.{ended_in}
+use Rattle.live_run.specs.TextLines.{ended_in}
 use Rattle.live_run.proofs.Lines.{IsTextLine, ended-append}
 
 abbrev Plain : List ℕ → Type 0
