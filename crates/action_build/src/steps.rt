@@ -7,7 +7,7 @@ ghost use Rattle.action_build.specs.Levels.{no_need, steps_by};
 use cluster_types::{CellState, Op, Target};
 
 /// What is known of a cell and what it is to be: what its actions hang on.
-#[derive(Clone, Copy, Debug, PartialEq, Eq)]
+#[derive(Clone, Copy)]
 pub struct CellNeed {
     pub state: CellState,
     /// Whether the leaf may run there.

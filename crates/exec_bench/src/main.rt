@@ -43,18 +43,6 @@ fn words(rt: &HostRuntime) -> io::Result<Vec<String>> {
     Ok(env::args(rt)?.skip(1).collect(rt.alloc())?)
 }
 
-/// The cluster and the first journal of an input.
-fn start(alloc: Global, text: Vec<u8>) -> io::Result<(Cluster, Journal)>
-    requires { length text.items ≤ 16777216 }
-    ensures valid { IfOk result (λ start. IsValid start.0) }
-    ensures moment { IfOk result (λ start. moment_of start.1.events < 2 ^ 40) }
-{
-    match read_input(alloc, text) {
-        Ok(input) => Ok((input.head.cluster, input.head.journal)),
-        Err(_) => Err(io::Error::from(ErrorKind::InvalidData)),
-    }
-}
-
 /// A transition that was carried out: the number of its actions, how it ended, and the nanoseconds that this took.
 struct Carried {
     actions: u32,
@@ -89,30 +77,69 @@ fn end_by(alloc: Global, cluster: &Cluster, journal: Journal, graph: Graph) -> R
     }
 }
 
+/// The answer, where the transition took the time since this moment.
+fn carried(
+    rt: &HostRuntime,
+    actions: u32,
+    began: Instant,
+    end: Result<End, NoMemory>,
+) -> io::Result<Carried> {
+    let nanos = began.elapsed(rt)?.as_nanos();
+    match end {
+        Ok(end) => Ok(Carried {
+            actions,
+            end,
+            nanos,
+        }),
+        Err(NoMemory) => Err(out_of_memory()),
+    }
+}
+
+/// Carries out the transition of a graph.
+fn timed(rt: &HostRuntime, cluster: &Cluster, journal: Journal, graph: Graph) -> io::Result<Carried>
+    requires valid { IsValid cluster.now }
+    requires moment { moment_of journal.events < 2 ^ 40 }
+{
+    let actions = graph.count();
+    match Instant::now(rt) {
+        Ok(began) => carried(
+            rt,
+            actions,
+            began,
+            end_by(rt.alloc(), cluster, journal, graph),
+        ),
+        Err(why) => Err(why),
+    }
+}
+
+/// Carries out the transition that is due for a journal.
 fn carry_out(rt: &HostRuntime, cluster: &Cluster, journal: Journal) -> io::Result<Carried>
     requires valid { IsValid cluster.now }
     requires moment { moment_of journal.events < 2 ^ 40 }
 {
-    let graph = graph_of(rt.alloc(), cluster, &journal).map_err(|_| out_of_memory())?;
-    let actions = graph.count();
-    let began = Instant::now(rt)?;
-    let end = end_by(rt.alloc(), cluster, journal, graph).map_err(|_| out_of_memory())?;
-    let nanos = began.elapsed(rt)?.as_nanos();
-    Ok(Carried {
-        actions,
-        end,
-        nanos,
-    })
+    match graph_of(rt.alloc(), cluster, &journal) {
+        Ok(graph) => timed(rt, cluster, journal, graph),
+        Err(NoMemory) => Err(out_of_memory()),
+    }
+}
+
+/// Carries out the transition that is due for an input.
+fn carry_out_input(rt: &HostRuntime, text: Vec<u8>) -> io::Result<Carried>
+    requires { length text.items ≤ 16777216 }
+{
+    match read_input(rt.alloc(), text) {
+        Ok(input) => carry_out(rt, &input.head.cluster, input.head.journal),
+        Err(_) => Err(io::Error::from(ErrorKind::InvalidData)),
+    }
 }
 
 fn main(rt: HostRuntime) -> io::Result<()> {
     let bytes = text(&rt)?;
-    let (cluster, journal) = start(rt.alloc(), bytes)?;
     let Carried {
         actions,
         end,
         nanos,
-    } = carry_out(&rt, &cluster, journal)?;
+    } = carry_out_input(&rt, bytes)?;
     let line = if asks_for_time(&words(&rt)?) {
         time_line(rt.alloc(), actions, nanos)?
     } else {

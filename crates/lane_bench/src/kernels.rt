@@ -14,13 +14,13 @@ use std::alloc::Global;
 const ROUNDS: u32 = 1000;
 
 /// Which form of a kernel is called.
-#[derive(Clone, Copy, Debug, PartialEq, Eq)]
+#[derive(Clone, Copy)]
 pub enum Form {
     Lanes,
     Plain,
 }
 
-#[derive(Clone, Copy, Debug, PartialEq, Eq)]
+#[derive(Clone, Copy)]
 pub enum Kernel {
     AddRow,
     Totals,

@@ -13,7 +13,7 @@ use std::{env, io};
 /// How many passes are timed.
 const PASSES: u32 = 200;
 
-const KERNELS: [(Kernel, &str); 4] = [
+const KERNELS: &[(Kernel, &str)] = &[
     (Kernel::AddRow, "add_row"),
     (Kernel::Totals, "totals"),
     (Kernel::Candidates, "candidates"),
@@ -42,18 +42,31 @@ fn is_timed(rt: &HostRuntime) -> io::Result<bool> {
     Ok(false)
 }
 
+/// How much longer the plain form of a kernel takes, in hundredths of the time by lanes.
+fn hundredths(rt: &HostRuntime, kernel: Kernel) -> io::Result<u128> {
+    let by_lanes = nanos(rt, kernel, Form::Lanes)?;
+    let plain = nanos(rt, kernel, Form::Plain)?;
+    Ok(plain.saturating_mul(100) / by_lanes.max(1))
+}
+
+fn print_time(rt: &HostRuntime, kernel: Kernel, name: &str) -> io::Result<()> {
+    let ratio = hundredths(rt, kernel)?;
+    println!(rt; "{name}: the plain form takes {ratio} hundredths of the time by lanes")
+}
+
+fn print_sums(rt: &HostRuntime, kernel: Kernel, name: &str) -> io::Result<()> {
+    let by_lanes = checked_pass(rt.alloc(), kernel, Form::Lanes)?;
+    let plain = checked_pass(rt.alloc(), kernel, Form::Plain)?;
+    println!(rt; "{name}: by lanes {by_lanes}, plain {plain}")
+}
+
 fn main(rt: HostRuntime) -> io::Result<()> {
     let timed = is_timed(&rt)?;
     for (kernel, name) in KERNELS {
         if timed {
-            let by_lanes = nanos(&rt, kernel, Form::Lanes)?;
-            let plain = nanos(&rt, kernel, Form::Plain)?;
-            let ratio = plain.saturating_mul(100) / by_lanes.max(1);
-            println!(rt; "{name}: the plain form takes {ratio} hundredths of the time by lanes")?;
+            print_time(&rt, *kernel, name)?;
         } else {
-            let by_lanes = checked_pass(rt.alloc(), kernel, Form::Lanes)?;
-            let plain = checked_pass(rt.alloc(), kernel, Form::Plain)?;
-            println!(rt; "{name}: by lanes {by_lanes}, plain {plain}")?;
+            print_sums(&rt, *kernel, name)?;
         }
     }
     Ok(())

@@ -1,5 +1,5 @@
 /// How a kernel goes over the nodes.
-#[derive(Clone, Copy, Debug, PartialEq, Eq)]
+#[derive(Clone, Copy)]
 pub(crate) enum Form {
     /// By whole vectors of lanes, and then node by node.
     Lanes,

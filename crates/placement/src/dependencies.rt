@@ -10,7 +10,7 @@ use cluster_types::{Cluster, Colocation, LeafId, NodeId, Order, Pin, Role, Table
 use std::alloc::{AllocError, Global};
 
 /// The dependent may hold its role only where the primary holds its own.
-#[derive(Clone, Copy, Debug, PartialEq, Eq)]
+#[derive(Clone, Copy)]
 pub struct Dependency {
     pub dependent: LeafId,
     pub dependent_role: Role,

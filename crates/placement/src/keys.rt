@@ -18,7 +18,7 @@ use std::alloc::{AllocError, Global};
 use std::marker::Model;
 
 /// The priority of the leaf, its greatest total where it is active, and its greatest total on a usable node (rule of this project).
-#[derive(Clone, Copy, Debug, PartialEq, Eq)]
+#[derive(Clone, Copy)]
 pub(crate) struct Key {
     pub(crate) rank: Score,
     pub(crate) active: Score,

@@ -5,7 +5,7 @@ ghost use Rattle.sim_core.specs.Words.{case_number, command_of, two_words_comman
 use digits::number_up_to;
 
 /// What the words after the program's name ask for.
-#[derive(Clone, Copy, Debug, PartialEq, Eq)]
+#[derive(Clone, Copy)]
 pub enum Command {
     Check,
     Scores,

@@ -11,7 +11,7 @@ use cluster_types::{Action, Event, NodeId, NodeState, Outcome};
 use std::alloc::{AllocError, Global};
 
 /// What an event shows of a node.
-#[derive(Clone, Copy, Debug, PartialEq, Eq)]
+#[derive(Clone, Copy)]
 pub enum Sign {
     Joined,
     WentDown,
