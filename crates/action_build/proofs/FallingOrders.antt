@@ -12,7 +12,7 @@ use Rattle.cluster_types.specs.Precedence.{is_serialize, is_up, takers}
 use Rattle.rule_loops.specs.Edges.{counts}
 use Rattle.rule_loops.specs.FirstLoops.{AllOrder}
 use Rattle.lemmas.proofs.Members.{at_head, head_or_rest, in_filter, in_flat, in_map, in_rest}
-use Rattle.step_ranks.proofs.OneRanking.{rank_rises}
+use Rattle.rule_loops.proofs.OneRanking.{rank_rises}
 use Rattle.action_build.specs.Cycling.{FallByRank, NoneComesBack, is_cycling}
 use Rattle.action_build.proofs.OrderWords.{Cycles, cycles_of}
 

@@ -21,7 +21,7 @@ use crate::listing::push_leaves;
 use crate::work::CellWork;
 use cluster_types::{Action, Cluster, NoMemory, NodeId, NodeState, Placed, Rights, States};
 use std::alloc::{AllocError, Global};
-use step_ranks::ranks;
+use rule_loops::ranks;
 
 fn is_unclean(states: &[NodeState], node: NodeId) -> bool
     ensures { result ≡ actions.is_unclean_in states.now node }

@@ -5,7 +5,7 @@ ghost use Rattle.cluster_types.specs.declared.journal.Event.{Event as EventOf};
 ghost use Rattle.cluster_types.specs.Needed.{Cycled};
 ghost use Rattle.cluster_types.specs.Tables.{Targets};
 ghost use Rattle.cluster_types.specs.Valid.{IsValid};
-ghost use Rattle.step_ranks.specs.Ranks.{AreRanks};
+ghost use Rattle.rule_loops.specs.Ranks.{AreRanks};
 ghost use Rattle.action_build.specs.Levels.{AreNeeds, marks_in};
 
 use crate::activity::mark_active;
@@ -14,7 +14,7 @@ use crate::passing::{mark_levels, top_level};
 use crate::steps::CellNeed;
 use cluster_types::{Cluster, NoMemory};
 use std::alloc::Global;
-use step_ranks::StepRanks;
+use rule_loops::StepRanks;
 
 /// The cells that are stopped and started again: those of leaves that are active in more cells than they have copies, and those of each
 /// then whose first is disturbed.

@@ -12,3 +12,15 @@ pub mod Counting
 mod Holding
 mod Showing
 mod Turned
+pub mod Lived
+pub mod Each
+pub mod PlannedActions
+pub mod FewActions
+pub mod TargetLines
+pub mod StepLines
+pub mod WrittenLines
+pub mod FirstEvents
+pub mod OneLife
+pub mod Together
+pub mod Transitions
+pub mod OneEnd

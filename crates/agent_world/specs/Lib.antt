@@ -6,3 +6,6 @@ pub mod RealWorlds
 pub mod Turns
 pub mod Lives
 pub mod Kept
+pub mod WorldTexts
+pub mod Fitting
+pub mod LivesOn

@@ -21,7 +21,7 @@ use Rattle.clone_expand.specs.Faults.{cause_of, fault_of, first_fault, ids_in, k
 use Rattle.clone_expand.specs.Laws.{NamesDiffer}
 use Rattle.clone_expand.specs.Leaves.{leaf_in, leaf_of, leaves_in, leaves_of, surroundings_of}
 use Rattle.clone_expand.specs.Settings.{nodes_in}
-use Rattle.name_sets.specs.NameSets.{has}
+use Rattle.crm_lex.specs.NameSets.{has}
 use Rattle.clone_expand.proofs.SameNames.{has-more}
 
 is_itself : (name : List ℕ) → pointwise nat_eq name name ≡ true

@@ -15,7 +15,7 @@ use Rattle.clone_expand.specs.declared.kinds.Kind.{Kind}
 use Rattle.clone_expand.specs.declared.seen.Seen.{Seen}
 use Rattle.clone_expand.specs.Faults.{cause_of, fault_of, first_fault, ids_in, kinds_of, nothing_seen, seen_after}
 use Rattle.clone_expand.specs.Settings.{nodes_in}
-use Rattle.name_sets.specs.NameSets.{has}
+use Rattle.crm_lex.specs.NameSets.{has}
 use Rattle.clone_expand.proofs.NameLaws.{kept, not_first, other}
 
 -- names that are none of those before and differ from each other

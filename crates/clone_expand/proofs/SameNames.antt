@@ -5,7 +5,7 @@ use Rattle.std.specs.List.{list_any}
 use Rattle.std.proofs.lemmas.List.{append-nil, append_assoc, drop_more, take_more}
 use Rattle.std.proofs.lemmas.List.Folds.{list_any-append}
 use Rattle.std.proofs.Math.Bool.{or-false}
-use Rattle.name_sets.specs.NameSets.{IsWith, has}
+use Rattle.crm_lex.specs.NameSets.{IsWith, has}
 use Rattle.crm_parse.specs.declared.form.Form.{Form}
 use Rattle.crm_parse.specs.declared.statement.Statement.{Statement}
 use Rattle.clone_expand.specs.declared.fault.ExpandCause.{ExpandCause}

@@ -1,6 +1,6 @@
 -- Whether a part is named twice, by the names before it, in whatever order they stand.
 use Rattle.std.proofs.Common.{◌≡◌, ℕ, false, ◌||◌, List, [], ◌∷◌, ◌++◌, refl, sym, ap, ◌∙◌}
-use Rattle.name_sets.specs.NameSets.{IsWith, has}
+use Rattle.crm_lex.specs.NameSets.{IsWith, has}
 use Rattle.clone_expand.specs.Faults.{HaveTheSame, has_twice}
 use Rattle.clone_expand.proofs.SameNames.{has-more, twice_alike, with_one}
 use Rattle.std.proofs.lemmas.List.{append_assoc}

@@ -13,9 +13,8 @@ use crate::name_table::NameTable;
 use crate::seen::{Seen, nothing_seen, parts_in};
 use crate::{ExpandCause, ExpandFault};
 use cluster_types::NoMemory;
-use crm_lex::Name;
+use crm_lex::{Name, NameSet};
 use crm_parse::{Form, Statement};
-use name_sets::NameSet;
 use std::alloc::Global;
 
 fn is_unknown(kinds: &NameTable<Kind>, part: &Name) -> bool

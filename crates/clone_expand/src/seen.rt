@@ -3,12 +3,11 @@ ghost use Rattle.std.specs.List.{list_any};
 ghost use Rattle.std.specs.Option.{option_copied, option_to_list};
 ghost use Rattle.clone_expand.specs.Faults.{AreAlike, HaveTheSame, ids_in, is_duplicate, nothing_seen, parts_in, seen_after};
 ghost use Rattle.clone_expand.specs.Settings.{nodes_in};
-ghost use Rattle.name_sets.specs.NameSets.{has};
+ghost use Rattle.crm_lex.specs.NameSets.{has};
 
 use cluster_types::NoMemory;
-use crm_lex::Name;
+use crm_lex::{Name, NameSet};
 use crm_parse::Form;
-use name_sets::NameSet;
 use std::alloc::Global;
 use std::slice;
 

@@ -10,3 +10,4 @@ pub mod WordRoom
 pub mod LineFaults
 pub mod Pieces
 pub mod FaultOrder
+mod Orders

@@ -8,3 +8,4 @@ pub mod WordRoom
 pub mod Pieces
 pub mod FaultOrder
 pub mod Causes
+pub mod NameSets

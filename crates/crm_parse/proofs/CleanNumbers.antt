@@ -12,7 +12,7 @@ use Rattle.std.proofs.lemmas.Int.{ints}
 use lib.IntN.{negsuc}
 use Rattle.score.specs.ScoreText.{score_text}
 use Rattle.score.specs.Total.{infinity}
-use Rattle.digits.proofs.Numbers.{digits}
+use Rattle.faults.proofs.Numbers.{digits}
 use Rattle.crm_parse.proofs.Clean.{Clean, clean-append, clean-ascii, is_clean_byte}
 use Rattle.crm_parse.proofs.ScoreAgain.{IsRead, read_score-within}
 use Rattle.crm_parse.proofs.Written.{score_word}

@@ -7,7 +7,7 @@ use Rattle.std.specs.Option.{ok_or}
 use Rattle.std.specs.Str.Parse.{digits_value, starts_with_minus, without_leading_sign}
 use Rattle.std.proofs.lemmas.Bool.Decides.{nat_tests}
 use Rattle.std.proofs.lemmas.Int.{ints}
-use Rattle.digits.specs.Digits.{is_number}
+use Rattle.faults.specs.Digits.{is_number}
 use Rattle.score.specs.ScoreText.{is_infinity, read_points, read_score, score_text}
 use Rattle.score.specs.Total.{infinity, IsScore}
 use Rattle.score.proofs.TextLemmas.{read_score-score_text}

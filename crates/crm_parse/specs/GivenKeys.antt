@@ -5,7 +5,7 @@ use Rattle.crm_parse.specs.declared.draft.DraftStatement.{DraftStatement}
 use Rattle.crm_parse.specs.declared.setting_keys.SettingKeys.{SettingKeys}
 use Rattle.crm_parse.specs.declared.words.SettingsWord.{SettingsWord}
 use Rattle.crm_parse.specs.declared.words.SettingsWord.TheVariants.{Property, RscDefaults, OpDefaults}
-use Rattle.name_sets.specs.NameSets.{has}
+use Rattle.crm_lex.specs.NameSets.{has}
 use Rattle.crm_parse.specs.Settings.{sets}
 
 -- the set of these settings has the key

@@ -2,7 +2,7 @@
 use Rattle.std.specs.Prelude.{◌≡◌, ℕ, List}
 use Rattle.std.specs.List.{list_any}
 use Rattle.crm_lex.specs.Names.{is}
-use Rattle.name_sets.specs.NameSets.{has}
+use Rattle.crm_lex.specs.NameSets.{has}
 use Rattle.crm_parse.specs.declared.pair.Kv.{Kv}
 
 -- the set has the keys of the pairs, and no other

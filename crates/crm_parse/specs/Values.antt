@@ -4,7 +4,7 @@ use Rattle.std.specs.Char.{is_ascii_digit}
 use Rattle.std.specs.List.{prefix_len}
 use Rattle.std.specs.Str.{str_eq_ignore_ascii_case}
 use Rattle.crm_lex.specs.Names.{is}
-use Rattle.digits.specs.Digits.{number_up_to}
+use Rattle.faults.specs.Digits.{number_up_to}
 use Rattle.crm_parse.specs.declared.words.ActionWord.{ActionWord}
 use Rattle.crm_parse.specs.declared.words.ActionWord.TheVariants as action
 use Rattle.crm_parse.specs.declared.words.KindWord.{KindWord}

@@ -9,9 +9,8 @@ ghost use Rattle.crm_parse.specs.Sections.{is_empty};
 use crate::Kv;
 use crate::keys::{is_clone_meta, is_promoted_max};
 use crate::place::Place;
-use crm_lex::{Name, NoMemory, is};
+use crm_lex::{Name, NameSet, NoMemory, is};
 use listed::Listed;
-use name_sets::NameSet;
 use std::alloc::Global;
 use std::marker::Model;
 

@@ -4,9 +4,8 @@ ghost use Rattle.std.specs.Prelude.{◌≡◌, ◌++◌, ◌∷◌, [], IfOk};
 ghost use Rattle.std.specs.List.{list_any};
 ghost use Rattle.crm_lex.specs.Names.{is};
 
-use crm_lex::{Name, NoMemory};
+use crm_lex::{Name, NameSet, NoMemory};
 use listed::Listed;
-use name_sets::NameSet;
 use std::alloc::Global;
 use std::marker::Model;
 

@@ -5,13 +5,12 @@ ghost use Rattle.std.specs.List.{list_any};
 ghost use Rattle.crm_lex.specs.Names.{is};
 ghost use Rattle.crm_parse.specs.declared.words.SettingsWord.{SettingsWord as Kind};
 ghost use Rattle.crm_parse.specs.GivenKeys.{gives, AddsSettings};
-ghost use Rattle.name_sets.specs.NameSets.{has};
+ghost use Rattle.crm_lex.specs.NameSets.{has};
 ghost use Rattle.crm_parse.specs.Settings.{is_same_settings, sets};
 
 use crate::draft::{Draft, DraftStatement};
 use crate::{Form, Kv, SettingsWord};
-use crm_lex::{Name, NoMemory};
-use name_sets::NameSet;
+use crm_lex::{Name, NameSet, NoMemory};
 use std::alloc::Global;
 
 /// A set of keys for each kind of settings.

@@ -4,7 +4,7 @@ ghost use Rattle.std.specs.Prelude.{◌≡◌};
 ghost use Rattle.crm_parse.specs.Values.{action_of, bool_of, count_of, digits_before, kind_of, role_of, says, time_of, unit_of};
 
 use crate::{ActionWord, KindWord};
-use digits::number_up_to;
+use faults::number_up_to;
 
 const MOST_OF_A_COUNT: u64 = 1_000_000;
 

@@ -8,8 +8,8 @@ use Rattle.std.proofs.lemmas.Bool.{and_parts}
 use Rattle.std.proofs.lemmas.Bool.Decides.{nat_tests}
 use Rattle.std.proofs.lemmas.Fmt.{decimal_nonempty, digits_decimal, digits_value-decimal, length-decimal-le}
 use Rattle.crm_lex.specs.Names.{is_name, is_name_byte}
-use Rattle.digits.specs.Digits.{number_up_to}
-use Rattle.digits.proofs.Numbers.{digits, is_number-true}
+use Rattle.faults.specs.Digits.{number_up_to}
+use Rattle.faults.proofs.Numbers.{digits, is_number-true}
 use Rattle.line_words.specs.Numbers.{above_0, code_of, number_of, seconds_of}
 use Rattle.input_reading.specs.Written.{IsNumber}
 

@@ -3,7 +3,7 @@ use Rattle.std.proofs.Common.{◌≡◌, ℕ, nat_lt, nat_le, ◌&&◌, Bool, tr
 use Rattle.std.specs.List.{position_or_len}
 use Rattle.std.specs.Str.Parse.{digits_value}
 use Rattle.std.proofs.lemmas.Bool.Decides.{nat_tests}
-use Rattle.digits.specs.Digits.{is_number}
+use Rattle.faults.specs.Digits.{is_number}
 use Rattle.cluster_types.specs.declared.cluster.Cluster.{Cluster}
 use Rattle.line_words.specs.Names.{node_of, place_of}
 use Rattle.line_words.specs.Numbers.{seconds_of}

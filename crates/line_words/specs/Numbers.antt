@@ -1,6 +1,6 @@
 -- The numbers that words write: digits, with leading zeros or without, of a value in a range (rule of this project).
 use Rattle.std.specs.Prelude.{ℕ, ◌==◌, if◌then◌else◌, List, Option, Some, None}
-use Rattle.digits.specs.Digits.{number_up_to}
+use Rattle.faults.specs.Digits.{number_up_to}
 
 -- seconds, below 2^40
 abbrev pub seconds_of : List ℕ → Option ℕ

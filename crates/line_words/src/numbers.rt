@@ -4,7 +4,7 @@
 ghost use Rattle.std.specs.Prelude.{◌≡◌, ◌<◌, ◌^◌, IfSome};
 ghost use Rattle.line_words.specs.Numbers.{code_of, interval_of, number_of, seconds_of};
 
-use digits::number_up_to;
+use faults::number_up_to;
 
 const MOST_SECONDS: u64 = 1_099_511_627_775;
 

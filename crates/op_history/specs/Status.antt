@@ -14,7 +14,7 @@ use Rattle.cluster_types.specs.declared.leaf.Op.TheVariants.{Start, Stop, Promot
 use Rattle.cluster_types.specs.declared.leaf.Role.TheVariants as role
 use Rattle.cluster_types.specs.Fields.{is_promotable, monitors}
 use Rattle.cluster_types.specs.Answering.{role_of_interval}
-use Rattle.digits.specs.Digits.{number_up_to}
+use Rattle.faults.specs.Digits.{number_up_to}
 use Rattle.faults.specs.Reading.{◌>>=◌}
 use Rattle.line_words.specs.declared.cause.WordCause.{WordCause}
 use Rattle.line_words.specs.declared.cause.WordCause.TheVariants.{BadValue, UnknownStatement}

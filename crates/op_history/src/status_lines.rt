@@ -4,14 +4,14 @@ ghost use Rattle.std.specs.Prelude.{◌≡◌, ◌<◌, ◌^◌, ℕ, length, tr
 ghost use Rattle.cluster_types.specs.Journals.{is_reported};
 ghost use Rattle.cluster_types.specs.declared.journal.Event.TheVariants as event;
 ghost use Rattle.cluster_types.specs.Valid.{KeepsLimits};
-ghost use Rattle.digits.specs.Digits.{number_up_to};
+ghost use Rattle.faults.specs.Digits.{number_up_to};
 ghost use Rattle.op_history.specs.FirstJournal.{is_known};
 ghost use Rattle.op_history.specs.Status.{action_as, cleanup_line, fitting, interval_as, interval_at, may_have, node_line, node_word, now_line, op_at, op_line, op_of, outcome_at, outcome_of, promotable, promotable_at, promotion_line, quorum_line, score_at, state_at, status_word, told_as, told_of};
 
 use crate::told::{NodeWord, Told};
 use cluster_types::{Action, Cluster, Event, LeafId, NodeId, Op, Outcome, Promotion, Role};
 use crm_lex::is;
-use digits::number_up_to;
+use faults::number_up_to;
 use line_words::{
     WordCause, Words, code_of, end_at, interval_of, leaf_at, node_at, seconds_at, word_at, yes_at,
 };

@@ -3,9 +3,9 @@
 use crate::plain::cluster_of;
 use crate::todos::{Todo, action};
 use cluster_types::{LeafId, Op, Role};
+use rule_loops::{StepRanks, ranks};
 use std::alloc::Global;
 use std::process::Abort;
-use step_ranks::{StepRanks, ranks};
 
 /// `a` before `b`, and `b` before the promotion of `c`. So what takes the promotion of `c` away, or `c` itself, comes before the stop of `b`, and this
 /// before that of `a`.

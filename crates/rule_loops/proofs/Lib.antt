@@ -7,3 +7,6 @@ pub mod FirstOrders
 pub mod OneFirst
 pub mod FromValid
 pub mod LoopTests
+pub mod ChainWays
+pub mod OneRanking
+pub mod RankLists

@@ -1,2 +1,3 @@
 pub mod FirstLoops
 pub mod Edges
+pub mod Ranks

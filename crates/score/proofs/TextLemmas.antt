@@ -10,7 +10,7 @@ use Rattle.std.proofs.lemmas.Int.{ints}
 use Rattle.std.proofs.lemmas.Str.Parse.{digit_at, without_leading_plus_none}
 use Rattle.score.specs.ScoreText.{read_points, read_score, score_text}
 use Rattle.score.specs.Total.{infinity}
-use Rattle.digits.proofs.Numbers.{digits, is_number-true}
+use Rattle.faults.proofs.Numbers.{digits, is_number-true}
 
 -- digits have no minus
 digits_minus : (word : List ℕ) → IsNumeral 10 word → starts_with_minus word ≡ false

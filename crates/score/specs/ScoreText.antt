@@ -5,7 +5,7 @@ use Rattle.std.specs.Int.{int_min}
 use Rattle.std.specs.Ordering.{int_eq}
 use Rattle.std.specs.Str.{str_eq_ignore_ascii_case}
 use Rattle.std.specs.Str.Parse.{digits_value, starts_with_minus, without_leading_sign}
-use Rattle.digits.specs.Digits.{is_number}
+use Rattle.faults.specs.Digits.{is_number}
 use Rattle.score.specs.Total.{infinity}
 
 -- `inf` (crmsh manual, location) or `infinity` (Pacemaker Explained, "Scores"); that letters may be of either case is a rule of this project

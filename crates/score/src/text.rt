@@ -3,7 +3,7 @@ ghost use Rattle.std.specs.Str.Parse.{starts_with_minus, without_leading_sign};
 ghost use Rattle.score.specs.ScoreText.{is_infinity, read_points, read_score, score_text};
 
 use crate::points::Score;
-use digits::number_up_to;
+use faults::number_up_to;
 use itoa::Buffer;
 
 fn is_infinity(word: &[u8]) -> bool

@@ -1,7 +1,7 @@
 -- The forms of the words on the command line.
 use Rattle.std.specs.Prelude.{ℕ, nat_lt, ◌==◌, ◌&&◌, if◌then◌else◌, Option, Some, None, List, [], ◌∷◌, codes, length, option_map, slice_index}
 use Rattle.std.specs.Str.{bytes_eq}
-use Rattle.digits.specs.Digits.{number_up_to}
+use Rattle.faults.specs.Digits.{number_up_to}
 use Rattle.sim_core.specs.declared.words.Command.{Command}
 use Rattle.sim_core.specs.declared.words.Command.TheVariants.{Check, Scores, Graph, Survive, Audit, Replay, Gen, World, Help, Version}
 

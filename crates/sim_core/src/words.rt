@@ -2,7 +2,7 @@ ghost use Rattle.std.specs.Prelude.{◌≡◌, map};
 ghost use Rattle.std.specs.String.{string_bytes};
 ghost use Rattle.sim_core.specs.Words.{case_number, command_of, two_words_command, word_command};
 
-use digits::number_up_to;
+use faults::number_up_to;
 
 /// What the words after the program's name ask for.
 #[derive(Clone, Copy)]

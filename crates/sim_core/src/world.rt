@@ -10,10 +10,10 @@ ghost use Rattle.sim_core.specs.World.{IsWorldOf};
 use crate::input_word::InputWord;
 use crate::status::Status;
 use crate::text_word::refusal_text;
+use agent_world::world_text;
 use faults::NoMemory;
 use input_reading::{Head, Input, InputFault, read_input};
 use std::alloc::Global;
-use world_text::world_text;
 
 /// The text of the run in the simulated cluster of this number, of an input that says this. Its results aren't used.
 fn text_of(alloc: Global, number: u32, whole: Input) -> Result<Vec<u8>, NoMemory>

@@ -5,7 +5,7 @@ use Rattle.cluster_types.specs.declared.rules.Order.{Order}
 use Rattle.cluster_types.specs.Numbers.{rank, step_of}
 use Rattle.rule_loops.proofs.FromValid.{valid_order}
 use Rattle.lemmas.proofs.Members.{all_more}
-use Rattle.step_ranks.proofs.OneRanking.{rank_bounded}
+use Rattle.rule_loops.proofs.OneRanking.{rank_bounded}
 use Rattle.action_build.proofs.passing.top_level.Goals as goal
 
 pub overflow_add-top : goal.overflow_add-top

@@ -1,7 +1,7 @@
 use Rattle.std.proofs.Common.{rules, ◌≡◌, ◌+◌, ◌++◌, ◌∷◌, false, drop, sym, ap, ◌∙◌}
 use Rattle.std.proofs.lemmas.List.{drop_more}
 use Rattle.clone_expand.specs.Faults.{has_twice}
-use Rattle.name_sets.specs.NameSets.{IsWith, has}
+use Rattle.crm_lex.specs.NameSets.{IsWith, has}
 use Rattle.clone_expand.proofs.Twice.{next_part}
 use Rattle.clone_expand.proofs.checks.has_twice_after.Goals as goal
 

@@ -1,7 +1,7 @@
 use Rattle.std.proofs.Common.{◌≡◌, ◌||◌, ℕ, List, take}
 use Rattle.std.specs.List.{list_any}
 use Rattle.crm_lex.specs.Names.{is}
-use Rattle.name_sets.specs.NameSets.{has}
+use Rattle.crm_lex.specs.NameSets.{has}
 use Rattle.crm_parse.proofs.setting_keys.add_keys.Given as goal
 
 abbrev pub invariant-loop-pair : goal.invariant-loop-pair

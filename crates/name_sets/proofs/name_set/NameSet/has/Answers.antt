@@ -1,6 +1,0 @@
-use Rattle.std.proofs.Common.{◌∙◌}
-use Rattle.name_sets.proofs.Orders.{found}
-use Rattle.name_sets.proofs.name_set.NameSet.has.Goals as goal
-
-pub returns : goal.returns
-returns c = rw (← c.self.view_is) (c.contains.ensures ∙ found c.self.inside.names.keys c.args.name.now)

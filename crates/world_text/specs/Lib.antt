@@ -1,3 +1,0 @@
-pub mod WorldTexts
-pub mod Fitting
-pub mod LivesOn
