@@ -20,8 +20,8 @@ use crate::knowing::cell_needs;
 use crate::listing::push_leaves;
 use crate::work::CellWork;
 use cluster_types::{Action, Cluster, NoMemory, NodeId, NodeState, Placed, Rights, States};
-use std::alloc::{AllocError, Global};
 use rule_loops::ranks;
+use std::alloc::{AllocError, Global};
 
 fn is_unclean(states: &[NodeState], node: NodeId) -> bool
     ensures { result ≡ actions.is_unclean_in states.now node }

@@ -13,8 +13,8 @@ use crate::marks::CellMarks;
 use crate::passing::{mark_levels, top_level};
 use crate::steps::CellNeed;
 use cluster_types::{Cluster, NoMemory};
-use std::alloc::Global;
 use rule_loops::StepRanks;
+use std::alloc::Global;
 
 /// The cells that are stopped and started again: those of leaves that are active in more cells than they have copies, and those of each
 /// then whose first is disturbed.

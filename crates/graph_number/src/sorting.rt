@@ -8,8 +8,8 @@ ghost use Rattle.graph_number.specs.Planned.{ArePlanned};
 
 use cluster_types::{Action, Cluster, NoMemory};
 use order_edges::migrating_flags;
-use std::alloc::Global;
 use rule_loops::ranks;
+use std::alloc::Global;
 
 /// The same actions in the order of their numbers. Where each stands in that order is found once.
 pub fn in_number_order(
