@@ -17,7 +17,7 @@ use Rattle.cluster_types.specs.Journals.{IsFlight}
 use Rattle.cluster_types.specs.Steps.{is_from_outside}
 use Rattle.graph_exec.specs.Flights.{FlightOf, paired, pairs}
 use Rattle.graph_exec.specs.Saying.{AgreesOn, AgreesSilent}
-use Rattle.number_set.specs.Sets.{members}
+use Rattle.listed.specs.Sets.{members}
 use Rattle.agent_world.specs.declared.turn.Fate.{Fate}
 use Rattle.agent_world.specs.declared.turn.Turn.{Turn}
 use Rattle.agent_world.specs.declared.turn.Turn.TheVariants as turn

@@ -5,7 +5,7 @@ use Rattle.std.proofs.lemmas.Fmt.{length-decimal-le}
 use Rattle.std.proofs.lemmas.Nat.{mod_below}
 use Rattle.std.specs.List.{flat_map, range_with_len}
 use Rattle.case_gen.specs.Case.{case_text, colocation_line, group_line, kind_word, lines, location_line, lost_node, monitor_words, node_line, online_line, order_line, primitive_line, results_text, resources_text, rules_text, separation_line, status_text}
-use Rattle.draws.specs.Draws.{draw, state_after}
+use Rattle.case_gen.specs.Draws.{draw, state_after}
 
 short_number : (n : ℕ) → n < 10000 → length (decimal n) ≤ 4
 short_number n low = length-decimal-le 4 n (omega arith) (omega (arith, low)) (omega (arith, low))

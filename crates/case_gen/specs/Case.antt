@@ -1,7 +1,7 @@
 -- The text of a generated case (rule of this project).
 use Rattle.std.specs.Prelude.{ℕ, ◌+◌, ◌-◌, ◌*◌, ◌%◌, ◌==◌, if◌then◌else◌, List, [], ◌∷◌, ◌++◌, codes, decimal}
 use Rattle.std.specs.List.{concat, flat_map, range_with_len}
-use Rattle.draws.specs.Draws.{draw}
+use Rattle.case_gen.specs.Draws.{draw}
 
 -- the lines of the numbers from a first on, below an end
 unfoldable pub lines : (ℕ → List ℕ) → ℕ → ℕ → List ℕ

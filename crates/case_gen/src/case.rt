@@ -4,10 +4,10 @@ ghost use Rattle.std.specs.Prelude.{◌≡◌, ◌<◌, ◌++◌, ◌^◌, IfOk,
 ghost use Rattle.std.specs.String.{string_bytes};
 ghost use Rattle.case_gen.specs.Case.{case_text, lost_node};
 
+use crate::Draws;
 use crate::resources::push_resources;
 use crate::rules::push_rules;
 use crate::state::{push_results, push_status};
-use draws::Draws;
 use faults::NoMemory;
 use std::alloc::{AllocError, Global};
 

@@ -4,7 +4,7 @@ ghost use Rattle.std.specs.Prelude.{◌≡◌, ◌<◌, ◌≤◌, ◌+◌, ◌*
 ghost use Rattle.std.specs.String.{string_bytes};
 ghost use Rattle.case_gen.specs.Case as case;
 
-use draws::Draws;
+use crate::Draws;
 use std::alloc::AllocError;
 
 fn push_location(text: &mut String, draws: &mut Draws, number: u32) -> Result<(), AllocError>

@@ -1,5 +1,5 @@
-//! Tests of the crates that act: `waiting` and `number_set`, `graph_exec`, which carries a transition out, `replan`, which makes
-//! runs of them, `agent_world`, and the lines of runs (`live_run`, `trace_text`, `input_reading`).
+//! Tests of the crates that act: `waiting`, on `NumberSet`; `graph_exec`, which carries a transition out; `replan`, which makes
+//! runs of them; `agent_world`, and the lines of runs (`live_run`, `trace_text`, `input_reading`).
 //!
 //! They stand in a crate of their own, since the tests of a crate are proved together with all of its code once more.
 #![tactic(auto)]

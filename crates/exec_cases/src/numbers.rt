@@ -1,6 +1,6 @@
 //! A set of numbers.
 
-use number_set::NumberSet;
+use listed::NumberSet;
 
 /// It has so many members, of which this is the least.
 fn has(set: &NumberSet, count: u32, first: Option<u32>) -> bool {

@@ -14,7 +14,7 @@ use Rattle.cluster_types.specs.declared.journal.Outcome.{Outcome}
 use Rattle.cluster_types.specs.Answering.{is_number_of}
 use Rattle.cluster_types.specs.Journals.{moment_of}
 use Rattle.cluster_types.specs.Steps.{is_success, is_from_outside, ended, flying, has_begun, has_ended, has_succeeded}
-use Rattle.number_set.specs.Sets.{is_member}
+use Rattle.listed.specs.Sets.{is_member}
 use Rattle.graph_exec.specs.Flights.{FlightOf, pairs, with_ended}
 use Rattle.graph_exec.specs.Logs.{LogOf}
 use Rattle.graph_exec.specs.Running.{Running, Follows, going, running}

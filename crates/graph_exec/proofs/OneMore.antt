@@ -8,7 +8,7 @@ use Rattle.lemmas.proofs.Searches.{any-more}
 use Rattle.cluster_types.specs.declared.journal.Event.{Event}
 use Rattle.cluster_types.specs.Journals.{ends_number}
 use Rattle.cluster_types.specs.Steps.{begins_number, succeeds_number, has_begun, has_ended, has_succeeded}
-use Rattle.number_set.specs.Sets.{is_member}
+use Rattle.listed.specs.Sets.{is_member}
 use Rattle.run_safety.proofs.Preceded.{success_ends}
 use Rattle.graph_exec.specs.Flights.{FlightOf}
 use Rattle.graph_exec.specs.Logs.{LogOf, logged}

@@ -10,7 +10,7 @@ use Rattle.cluster_types.specs.declared.journal.Action.{Action}
 use Rattle.cluster_types.specs.declared.journal.Action.TheVariants.{Fence}
 use Rattle.cluster_types.specs.Answering.{is_number_of}
 use Rattle.cluster_types.specs.Steps.{numbered}
-use Rattle.number_set.specs.Sets.{is_member, members}
+use Rattle.listed.specs.Sets.{is_member, members}
 use Rattle.graph_exec.specs.Flights.{FlightOf, IsFlight, paired, pairs}
 
 -- the action of a number that is there

@@ -5,7 +5,7 @@ use Rattle.std.specs.Option.{option_map_or}
 use Rattle.cluster_types.specs.declared.journal.Action.{Action}
 use Rattle.cluster_types.specs.Cells.{is_of_cell, is_sent_to}
 use Rattle.cluster_types.specs.Steps.{numbered}
-use Rattle.number_set.specs.Sets.{members}
+use Rattle.listed.specs.Sets.{members}
 use Rattle.waiting.specs.Ready.{Progress}
 
 -- which actions have begun and succeeded, and which are in flight

@@ -14,7 +14,7 @@ use Rattle.cluster_types.specs.Journals.{is_on}
 use Rattle.cluster_types.specs.Plans.{transition_on}
 use Rattle.cluster_types.specs.Steps as steps
 use Rattle.cluster_types.specs.Steps.{Transition, Goes, Begins, Takes, EndsSilently, ended, silent_code, is_settled, has_begun, has_ended, has_succeeded, is_in_flight_number, outside, events_of, flying}
-use Rattle.number_set.specs.Sets.{is_member}
+use Rattle.listed.specs.Sets.{is_member}
 use Rattle.graph_exec.specs.Flights.{FlightOf}
 use Rattle.graph_exec.specs.Logs.{JournalOf, LogOf}
 

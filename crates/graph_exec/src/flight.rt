@@ -3,12 +3,12 @@
 ghost use Rattle.std.specs.Prelude.{◌≡◌, ◌<◌, ◌≤◌, ◌-◌, true, false, Some, IfOk, IfErr, length, slice_get, replicate};
 ghost use Rattle.std.specs.List.{list_any};
 ghost use Rattle.cluster_types.specs.Answering.{is_number_of};
-ghost use Rattle.number_set.specs.Sets.{is_member};
+ghost use Rattle.listed.specs.Sets.{is_member};
 ghost use Rattle.waiting.specs.Ready.{none_begun, startable};
 ghost use Rattle.graph_exec.specs.Flights.{is_about, is_busy, pairs, with_begun, with_ended};
 
 use cluster_types::{Action, Graph, LeafId, NodeId};
-use number_set::NumberSet;
+use listed::NumberSet;
 use std::alloc::Global;
 use std::marker::Model;
 use waiting::Waiting;

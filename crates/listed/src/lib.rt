@@ -1,7 +1,8 @@
-//! A list that contracts see as a plain list.
+//! Lists and sets of numbers, as contracts see them.
 //!
-//! Every struct of the product keeps its lists in this type, so that two structs are equal where their
-//! values are, whatever room the memory behind them has.
+//! Every struct of the product keeps its lists in [`Listed`], so that two structs are equal where their values are,
+//! whatever room the memory behind them has. [`NumberSet`] is a set of numbers from 1 on, that finds its members by
+//! their place.
 #![tactic(auto)]
 
 mod list;
@@ -9,5 +10,10 @@ mod list;
 // What a slice has at a place.
 mod places;
 
+// A set of numbers, and its counts.
+mod counting;
+mod set;
+
 pub use list::Listed;
 pub use places::{flag_at, number_at};
+pub use set::NumberSet;

@@ -2,7 +2,7 @@
 use Rattle.std.proofs.Common.{arith, ◌≡◌, ℕ, suc, zero, ◌+◌, ◌-◌, ◌<◌, ◌≤◌, Bool, true, false, Option, Some, None, MatchOption, List, length, filter, slice_get, slice_index_or, sym, ap, subst, ◌∙◌, refl, inl, inr}
 use Rattle.std.specs.List.{range_with_len}
 use Rattle.std.proofs.lemmas.Bool.{cases_eq}
-use Rattle.number_set.specs.Sets.{is_member, members}
+use Rattle.listed.specs.Sets.{is_member, members}
 use Rattle.placement.specs.Queueing.{IsFirstPlace}
 
 module _ (f : ℕ → Bool) where

@@ -9,7 +9,7 @@ ghost use Rattle.waiting.specs.Rows.{AreRows, edges_at};
 
 use carry::with;
 use cluster_types::Edge;
-use number_set::NumberSet;
+use listed::NumberSet;
 use std::alloc::{AllocError, Global};
 use waiting::{Rows, Side, count_ends};
 

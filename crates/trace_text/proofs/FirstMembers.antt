@@ -5,7 +5,7 @@ use Rattle.std.proofs.lemmas.Bool.{cases_eq}
 use Rattle.std.proofs.lemmas.List.{get_or-set_same, get_or-set_other, get_or-replicate, length-set, length-replicate}
 use Rattle.lemmas.proofs.Members.{in_filter, in_none, in_range}
 use Rattle.lemmas.proofs.Ranges.{filter-alike}
-use Rattle.number_set.specs.Sets.{is_member, members}
+use Rattle.listed.specs.Sets.{is_member, members}
 
 -- the first of the numbers in a range that pass, and what is left without it
 pub record IsFirst (p : ℕ → Bool) (from n k : ℕ) (rest : List ℕ) : Type 0 where

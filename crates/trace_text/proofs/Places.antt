@@ -4,7 +4,7 @@ use Rattle.std.specs.Prelude.{nat_lt}
 use Rattle.std.proofs.Math.Bool.{or-false, and-false, or-true, and-true}
 use Rattle.std.proofs.lemmas.Bool.{cases_eq, ne_eqb, lt-ltb, le-ltb, ltb-true, ltb-false}
 use Rattle.std.proofs.lemmas.List.{get_or-set_same, get_or-set_other, length-set}
-use Rattle.number_set.specs.Sets.{is_member, members}
+use Rattle.listed.specs.Sets.{is_member, members}
 use Rattle.trace_text.specs.declared.found.Found.{Found}
 use Rattle.trace_text.specs.Found.{HasRoom, SameSizes, is_found}
 use Rattle.trace_text.proofs.FirstMembers.{no_member}

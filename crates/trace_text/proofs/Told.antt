@@ -5,7 +5,7 @@ use Rattle.lemmas.proofs.Ranges.{filter-alike}
 use Rattle.cluster_types.specs.Graphs.{GraphOf, IsGraph, is_before}
 use Rattle.cluster_types.proofs.Paths.{before-from_computed, before-computed}
 use Rattle.cluster_types.proofs.Walks.{numbered}
-use Rattle.number_set.specs.Sets.{is_member, members}
+use Rattle.listed.specs.Sets.{is_member, members}
 use Rattle.trace_text.specs.declared.found.Found.{Found}
 use Rattle.trace_text.specs.Backward.{IsOnTheWay}
 use Rattle.trace_text.specs.Found.{HasRoom, is_found}

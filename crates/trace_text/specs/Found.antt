@@ -1,7 +1,7 @@
 -- The positions that a walk back has found: actions, and gates that are still to be gone through. Gates are numbered from the last one, as a walk takes
 -- them (rule of this project).
 use Rattle.std.specs.Prelude.{◌≡◌, ◌+◌, ◌-◌, ℕ, nat_lt, Bool, if◌then◌else◌, length}
-use Rattle.number_set.specs.Sets.{is_member}
+use Rattle.listed.specs.Sets.{is_member}
 use Rattle.trace_text.specs.declared.found.Found.{Found}
 
 abbrev pub is_found : Found → ℕ → Bool

@@ -2,7 +2,7 @@
 use Rattle.std.specs.Prelude.{◌≡◌, ℕ, List, [], length, filter}
 use Rattle.std.specs.List.{range_with_len}
 use Rattle.cluster_types.specs.Graphs.{GraphOf, IsGraph, is_before}
-use Rattle.number_set.specs.Sets.{members}
+use Rattle.listed.specs.Sets.{members}
 use Rattle.trace_text.specs.declared.found.Found.{Found}
 use Rattle.trace_text.specs.Arriving.{AreLinked}
 use Rattle.trace_text.specs.Found.{HasRoom}

@@ -3,14 +3,14 @@ ghost use Rattle.std.specs.List.{list_any};
 ghost use Rattle.cluster_types.specs.declared.edges.Edge.{Edge as EdgeOf};
 ghost use Rattle.cluster_types.specs.Graphs.{EndWithin, LeadUpward, Leads};
 ghost use Rattle.cluster_types.specs.Walks.{joins};
-ghost use Rattle.number_set.specs.Sets.{members};
+ghost use Rattle.listed.specs.Sets.{members};
 ghost use Rattle.trace_text.specs.Arriving.{AreLinked};
 ghost use Rattle.trace_text.specs.Found.{HasRoom, SameSizes, is_found};
 ghost use Rattle.trace_text.specs.Backward.{IsOnTheWay};
 
 use crate::arriving::Arriving;
 use cluster_types::Edge;
-use number_set::NumberSet;
+use listed::NumberSet;
 use std::alloc::{AllocError, Global};
 
 /// Takes all members out.

@@ -20,7 +20,7 @@ pub struct Predecessors<'g> {
 }
 
 impl<'g> Model for Predecessors<'g> {
-    ghost use Rattle.number_set.specs.Sets.{members};
+    ghost use Rattle.listed.specs.Sets.{members};
     ghost use Rattle.trace_text.specs.Walk.{Rests, Walk};
 
     ghost Value = { Walk };

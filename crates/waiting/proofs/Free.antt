@@ -8,7 +8,7 @@ use Rattle.std.proofs.lemmas.List.FromFn.{get_or-range_with_len, length-range_wi
 use Rattle.cluster_types.specs.declared.edges.Edge.{Edge}
 use Rattle.cluster_types.specs.Graphs.{GraphOf, IsGraph, Leads, direct, through, is_before}
 use Rattle.cluster_types.proofs.Paths.{before-computed, before-from_computed}
-use Rattle.number_set.specs.Sets.{is_member, members}
+use Rattle.listed.specs.Sets.{is_member, members}
 use Rattle.waiting.specs.Clearing.{Clears, edges_held}
 use Rattle.waiting.specs.Ready.{is_free, startable}
 use Rattle.lemmas.proofs.Booleans.{unless, sooner, later}

@@ -6,7 +6,7 @@ use Rattle.std.proofs.lemmas.List.{get_or-set_same, get_or-set_other, get_or-rep
 use Rattle.std.proofs.lemmas.Map.Keys.{IsDistinct-push}
 use Rattle.std.proofs.lemmas.Option.{slice_get_within, get_or_from_slice_get}
 use Rattle.cluster_types.specs.Graphs.{GraphOf, IsGraph}
-use Rattle.number_set.specs.Sets.{is_member, members}
+use Rattle.listed.specs.Sets.{is_member, members}
 use Rattle.waiting.specs.Clearing.{Clears, Rests}
 use Rattle.waiting.specs.declared.side.Side.TheVariants.{After}
 use Rattle.waiting.specs.Rows.{edges_at}

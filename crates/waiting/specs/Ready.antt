@@ -2,7 +2,7 @@
 use Rattle.std.specs.Prelude.{ℕ, ◌-◌, ◌||◌, ◌&&◌, Bool, false, not, List, length, filter, replicate}
 use Rattle.std.specs.List.{list_all, range_with_len}
 use Rattle.cluster_types.specs.Graphs.{GraphOf, is_before}
-use Rattle.number_set.specs.Sets.{is_member}
+use Rattle.listed.specs.Sets.{is_member}
 
 -- the actions of a graph, of which some have begun and some have succeeded. The flag at place k - 1 is that of the action of number k
 pub record Progress : Type 0 where

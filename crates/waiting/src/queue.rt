@@ -9,7 +9,7 @@ use crate::rows::Rows;
 use crate::side::{Side, count_ends};
 use carry::with;
 use cluster_types::Graph;
-use number_set::NumberSet;
+use listed::NumberSet;
 use std::alloc::{AllocError, Global};
 
 /// Which positions of a graph are cleared, and which actions may begin.

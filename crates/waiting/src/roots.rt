@@ -2,7 +2,7 @@ ghost use Rattle.std.specs.Prelude.{◌≡◌, ◌<◌, ◌≤◌, ◌-◌, ◌=
 ghost use Rattle.std.specs.List.{range_with_len};
 
 use carry::with;
-use number_set::NumberSet;
+use listed::NumberSet;
 use std::alloc::{AllocError, Global};
 
 /// The gates to which no edge leads, in a list with room for all positions.

@@ -1,5 +1,5 @@
 ghost use Rattle.std.specs.Prelude.{◌≡◌, ◌<◌, ◌≤◌, ◌-◌, true, false, Option, Some, None, IfOk, IfErr, length, slice_get, slice_set, replicate};
-ghost use Rattle.number_set.specs.Sets.{is_member};
+ghost use Rattle.listed.specs.Sets.{is_member};
 ghost use Rattle.waiting.specs.Ready.{Progress, none_begun, startable};
 
 use crate::queue::Queue;

@@ -1,5 +1,5 @@
 use Rattle.std.proofs.Common.{rules, ◌≡◌, ◌<◌, length, slice_get, None, sym}
-use Rattle.number_set.specs.Sets.{members}
+use Rattle.listed.specs.Sets.{members}
 use Rattle.trace_text.proofs.FirstMembers.{first_from_one, first_to_most, none_first, one_fewer}
 use Rattle.trace_text.proofs.found.clear.Goals as goal
 

@@ -1,5 +1,5 @@
 use Rattle.std.proofs.Common.{◌≡◌, length}
-use Rattle.number_set.specs.Sets.{members}
+use Rattle.listed.specs.Sets.{members}
 use Rattle.trace_text.proofs.found.clear.Given as goal
 
 abbrev pub invariant-loop-number : goal.invariant-loop-number

@@ -1,6 +1,6 @@
 use Rattle.std.proofs.Common.{rules, ◌≡◌, ◌<◌, slice_get, length, None, sym, subst}
 use Rattle.cluster_types.specs.Graphs.{LeadUpward}
-use Rattle.number_set.specs.Sets.{members}
+use Rattle.listed.specs.Sets.{members}
 use Rattle.trace_text.proofs.FirstMembers.{first_from_one, first_to_most, none_first}
 use Rattle.trace_text.proofs.NextGate.{fewer_left, gates_left, way_kept}
 use Rattle.trace_text.proofs.Places.{room_kept, sizes_kept}

@@ -1,7 +1,7 @@
 use Rattle.std.proofs.Common.{arith, ◌≡◌, ◌∙◌, ap, [], length, refl}
 use Rattle.std.proofs.lemmas.List.{length-replicate}
 use Rattle.cluster_types.specs.declared.edges.Edges.{Edges}
-use Rattle.number_set.specs.Sets.{members}
+use Rattle.listed.specs.Sets.{members}
 use Rattle.trace_text.proofs.FirstMembers.{nothing_in}
 use Rattle.trace_text.proofs.walk.Predecessors.made.Goals as goal
 

@@ -1,5 +1,5 @@
 use Rattle.std.proofs.Common.{◌≡◌, drop, sym, refl}
-use Rattle.number_set.specs.Sets.{members}
+use Rattle.listed.specs.Sets.{members}
 use Rattle.trace_text.proofs.FirstMembers.{first_from_one, first_to_most, without_first}
 use Rattle.trace_text.proofs.walk.Predecessors.next.Goals as goal
 

@@ -2,7 +2,7 @@ use Rattle.std.proofs.Common.{◌≡◌, ◌-◌, ◌∙◌, ap, subst, List, le
 use Rattle.cluster_types.specs.declared.edges.Edge.{Edge}
 use Rattle.cluster_types.specs.declared.edges.Edges.{Edges}
 use Rattle.cluster_types.specs.Graphs.{EndWithin}
-use Rattle.number_set.specs.Sets.{members}
+use Rattle.listed.specs.Sets.{members}
 use Rattle.trace_text.specs.Backward.{IsOnTheWay}
 use Rattle.trace_text.specs.Found.{is_found}
 use Rattle.trace_text.specs.Walk.{befores}
