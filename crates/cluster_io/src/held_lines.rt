@@ -52,10 +52,11 @@ impl Model for HeldLines {
 }
 
 impl HeldLines {
-    /// Nothing is held. It takes memory for a line that has `longest` bytes without line ends, and
-    /// for one read. Such a line has at most three times as many bytes and two more: each physical
-    /// line that is joined to the next one has a backslash and at most two bytes of line end, and
-    /// the last one has its line end. It asks for a limit below 2^32.
+    /// Nothing is held. It takes memory for a line that has `longest` bytes without line ends and
+    /// isn't whole yet, and for one read. Such a line has at most three times as many bytes and one
+    /// more: each physical line that is joined to the next one has a backslash and at most two
+    /// bytes of line end. It never takes more than the limit and one read. It asks for a limit
+    /// below 2^32.
     pub fn new(alloc: Global, limit: usize, longest: usize) -> Result<HeldLines, NoMemory>
         requires { limit < 2 ^ 32 }
         ensures { IfOk result (λ h. h ≡ record {

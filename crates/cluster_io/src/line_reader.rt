@@ -23,8 +23,8 @@ impl<'s, S: Source> LineReader<'s, S> {
     ghost use Rattle.cluster_io.specs.LineReaders.{reading_of, source_of, loan_of};
 
     /// A reader of the first `limit` bytes of the source, whose logical lines may have `longest`
-    /// bytes without line ends. It takes memory for the longest line, which has at most three times
-    /// as many bytes and two more, and for one read. It asks for a limit below 2^32.
+    /// bytes without line ends. It takes memory for such a line that isn't whole yet, which has at
+    /// most three times as many bytes and one more, and for one read. It asks for a limit below 2^32.
     pub fn new(
         alloc: Global,
         src: &'s mut S,

@@ -33,7 +33,7 @@ is_same_op op.Demote op.Demote = true
 is_same_op op.Monitor op.Monitor = true
 is_same_op _ _ = false
 
--- a word of an order that gives a role, and the inverse of a word
+-- a word of an order that gives a role
 abbrev pub is_up : Op → Bool
 is_up op.Start = true
 is_up op.Promote = true
@@ -44,6 +44,7 @@ abbrev pub role_by : Op → Role
 role_by op.Promote = role.Promoted
 role_by _ = role.Started
 
+-- the word of what undoes it
 abbrev pub inverse : Op → Op
 inverse op.Start = op.Stop
 inverse op.Stop = op.Start

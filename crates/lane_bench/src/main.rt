@@ -42,7 +42,7 @@ fn is_timed(rt: &HostRuntime) -> io::Result<bool> {
     Ok(false)
 }
 
-/// How much longer the plain form of a kernel takes, in hundredths of the time by lanes.
+/// How long the plain form of a kernel takes, in hundredths of the time by lanes.
 fn hundredths(rt: &HostRuntime, kernel: Kernel) -> io::Result<u128> {
     let by_lanes = nanos(rt, kernel, Form::Lanes)?;
     let plain = nanos(rt, kernel, Form::Plain)?;

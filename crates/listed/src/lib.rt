@@ -1,6 +1,6 @@
 //! Lists and sets of numbers, as contracts see them.
 //!
-//! Every struct of the product keeps its lists in [`Listed`], so that two structs are equal where their values are,
+//! Structs that are compared keep their lists in [`Listed`], so that two of them are equal where their values are,
 //! whatever room the memory behind them has. [`NumberSet`] is a set of numbers from 1 on, that finds its members by
 //! their place.
 #![tactic(auto)]

@@ -51,7 +51,7 @@ pub(crate) fn write_run(
     let most = answers.len() as u32 + 1;
     let mut script = Script::new(answers);
     let mut writer = LineWriter::new(cluster, sink);
-    // Each arm drops its journal by name: left to the arm's end, that takes the checker twice as long.
+    // An arm with a journal drops it by name: left to the arm's end, that takes the checker twice as long.
     match replay_watched(alloc, cluster, journal, &mut script, &mut writer, most) {
         Ok(journal) => {
             drop(journal);

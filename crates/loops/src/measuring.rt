@@ -1,5 +1,5 @@
-ghost use Rattle.std.specs.Prelude.{◌≡◌, ◌≤◌, ◌<◌, ℕ, IfOk, length, slice_index_or, Contains};
-ghost use Rattle.loops.specs.Loops.{EndWithin, HasNoLoop};
+ghost use Rattle.std.specs.Prelude.{◌≡◌, ◌≤◌, ◌<◌, ℕ, IfOk, [], length, slice_index_or, Contains};
+ghost use Rattle.loops.specs.Loops.{EndWithin, HasLoop, HasNoLoop};
 ghost use Rattle.loops.specs.Longest as longest;
 
 use crate::clearing::{backward_order, is_loop_free};
@@ -53,8 +53,10 @@ pub fn longest_ways_if_free(
 ) -> Result<Vec<u32>, AllocError>
     requires few { positions ≤ 1000000000 }
     requires within { EndWithin positions edges.now }
-    ensures { IfOk result (λ ways. HasNoLoop positions edges.now
+    ensures size { IfOk result (λ ways. HasNoLoop positions edges.now → length ways.items ≡ positions) }
+    ensures longest { IfOk result (λ ways. HasNoLoop positions edges.now
         → (x : ℕ) → x < positions → slice_index_or ways.items x 0 ≡ longest.longest positions edges.now x) }
+    ensures looped { IfOk result (λ ways. HasLoop positions edges.now → ways.items ≡ []) }
 {
     if !is_loop_free(alloc, positions, edges)? {
         return Ok(Vec::new(alloc));

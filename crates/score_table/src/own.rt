@@ -13,7 +13,7 @@ use lane_rows::{NoMemory, NodeSet, Row};
 use score::Score;
 use std::alloc::Global;
 
-/// Whether the leaf is active on the node, by what is known of its cell. Where nothing is known it isn't. It asks for at most 256 nodes.
+/// Whether the leaf is active on a node of the cluster, by what is known of its cell. Where nothing is known it isn't. It asks for at most 256 nodes.
 pub fn is_active(cluster: &Cluster, states: &States, leaf: LeafId, node: NodeId) -> bool
     requires { length cluster.now.nodes ≤ 256 }
     ensures { result ≡ spec.is_active_by cluster.now states.now leaf node }

@@ -27,4 +27,4 @@ returns c =
     IfOk-weaker c.longest_ways_if_free.result _ _
     (λ heights are. subst
     (λ (es : List Way). ways.HasNoLoop c.args.slots es → (x : ℕ) → x < c.args.slots → slice_index_or heights.items x 0 ≡ longest c.args.slots es x)
-    (c.deref.ensures.value ∙ made) are) c.longest_ways_if_free.ensures
+    (c.deref.ensures.value ∙ made) are) c.longest_ways_if_free.ensures.longest

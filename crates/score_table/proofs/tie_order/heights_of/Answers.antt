@@ -18,4 +18,4 @@ returns c =
     IfOk-weaker c.longest_ways_if_free.result _ _
     (λ heights are. subst
     (λ (es : List Edge). HasNoLoop c.args.leaves es → (r : ℕ) → r < c.args.leaves → slice_index_or heights.items r 0 ≡ longest c.args.leaves es r)
-    (c.deref.ensures.value ∙ made) are) c.longest_ways_if_free.ensures
+    (c.deref.ensures.value ∙ made) are) c.longest_ways_if_free.ensures.longest
