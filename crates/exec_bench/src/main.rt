@@ -78,7 +78,7 @@ fn end_by(alloc: Global, cluster: &Cluster, journal: Journal, graph: Graph) -> R
 }
 
 /// The answer, where the transition took the time since this moment.
-fn carried(
+fn carried_since(
     rt: &HostRuntime,
     actions: u32,
     began: Instant,
@@ -102,7 +102,7 @@ fn timed(rt: &HostRuntime, cluster: &Cluster, journal: Journal, graph: Graph) ->
 {
     let actions = graph.count();
     match Instant::now(rt) {
-        Ok(began) => carried(
+        Ok(began) => carried_since(
             rt,
             actions,
             began,
@@ -128,7 +128,10 @@ fn carry_out_input(rt: &HostRuntime, text: Vec<u8>) -> io::Result<Carried>
     requires { length text.items ≤ 16777216 }
 {
     match read_input(rt.alloc(), text) {
-        Ok(input) => carry_out(rt, &input.head.cluster, input.head.journal),
+        Ok(input) => {
+            let cluster = input.head.cluster;
+            carry_out(rt, &cluster, input.head.journal)
+        }
         Err(_) => Err(io::Error::from(ErrorKind::InvalidData)),
     }
 }
