@@ -4,7 +4,7 @@ use Rattle.std.specs.List.{flat_map, range_with_len}
 use Rattle.std.proofs.lemmas.Bool.{and_from, both_ways, eq-eqb, ne_eqb, not-true, not_from_false}
 use Rattle.std.proofs.lemmas.List.Elements.{Contains-append_left, Contains-append_right, Contains-append_cases}
 use Rattle.lemmas.proofs.Booleans.{later, sooner}
-use Rattle.lemmas.proofs.Members.{at_head, head_or_rest, in_filter, in_flat, in_map, in_none, in_range, in_rest, of_filter, of_flat, of_map, of_range}
+use Rattle.lemmas.proofs.Members.{at_head, head_or_rest, in_filter, in_flat, in_if, in_map, in_none, in_range, in_rest, of_filter, of_flat, of_map, of_range}
 use Rattle.cluster_types.specs.declared.cluster.Cluster.{Cluster}
 use Rattle.cluster_types.specs.declared.journal.Action.{Action}
 use Rattle.cluster_types.specs.declared.journal.Action.TheVariants.{Fence, Probe, Cell, MigrateTo, MigrateFrom}
@@ -20,13 +20,13 @@ use Rattle.cluster_types.specs.Pins.{is_pinned, is_unprobed_state}
 use Rattle.cluster_types.specs.Precedence.{is_same_op}
 use Rattle.cluster_types.specs.Rights.{is_to_be_fenced}
 use Rattle.cluster_types.specs.Tables.{Targets}
-use Rattle.cluster_types.proofs.NeededLaws.{bounds_of_start, bounds_of_stop}
+use Rattle.cluster_types.proofs.NeededLaws.{bounds_of_first}
 use Rattle.rule_loops.specs.FirstLoops.{AllJoin, AllOrder}
 use Rattle.rule_loops.proofs.StepPlaces.{same_op}
 use Rattle.action_build.specs.Actions.{cell_actions, free_leaf_actions, has_op, is_elsewhere, is_filled, is_free, leaves_actions, migrations_of, migrations_to, monitor_action, monitors_in, probes_in, source_of, stays_needed, step_action, steps_in, wanted}
 use Rattle.action_build.specs.Cycling.{Marks}
 use Rattle.action_build.specs.declared.steps.CellNeed.{CellNeed}
-use Rattle.action_build.proofs.Conditions.{in_if, in_unless, of_if, of_one, of_unless}
+use Rattle.action_build.proofs.Conditions.{in_unless, of_if, of_one, of_unless}
 use Rattle.action_build.proofs.Harmless.{free_of, is_free_where}
 use Rattle.action_build.proofs.SentFrom.{is_sent_from, sent_from}
 use Rattle.action_build.proofs.StepTests.{has_it, it_is}
@@ -86,7 +86,7 @@ module _ (c : Cluster) (es : List Event) (targets : Targets) where
 
     from_source : (r n m : ℕ) → Migrates c es targets r n m → source r ≡ Some n
     from_source r n m g =
-        let b = bounds_of_stop c es targets r n g.stopped in
+        let b = bounds_of_first c es targets op.Stop r n 0 role.Started g.stopped in
         is_sent_from c es targets need marked told r b.0 n (free r) record {
           allowed = g.allowed;
           uncloned = g.uncloned;
@@ -170,8 +170,8 @@ module _ (c : Cluster) (es : List Event) (targets : Targets) where
 
     in_migrations : (r n m : ℕ) (a : Action) → Migrates c es targets r n m → Contains (MigrateTo r n m ∷ MigrateFrom r n m ∷ []) a → Contains all a
     in_migrations r n m a g h =
-        let b = bounds_of_stop c es targets r n g.stopped in
-        let e = bounds_of_start c es targets r m g.started in
+        let b = bounds_of_first c es targets op.Stop r n 0 role.Started g.stopped in
+        let e = bounds_of_first c es targets op.Start r m 0 role.Started g.started in
         let lm : m < length c.nodes = e.1 in
         let here : not (n == m) && has_op op.Start (steps_in need marked r m) ≡ true
         = and_from (not (n == m)) _ (not_from_false (n == m) (ne_eqb n m (λ s. g.away (sym s))))

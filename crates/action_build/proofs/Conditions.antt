@@ -1,13 +1,9 @@
 -- Lists that are there on one condition.
 use Rattle.std.proofs.Common.{◌≡◌, Bool, true, false, if◌then◌else◌, List, [], ◌∷◌, refl, inl, inr, Contains}
-use Rattle.lemmas.proofs.Members.{at_head, head_or_rest, in_none}
+use Rattle.lemmas.proofs.Members.{head_or_rest, in_none}
 
 module _ {X : Type 0} where
-  pub in_if : (b : Bool) (x : X) → b ≡ true → Contains (if b then x ∷ [] else []) x
-  in_if true x h = at_head x [] x refl
-  in_if false x h = cc
-
-  -- what stands in such a list
+  -- what stands in a list that is there on a condition
   pub record There (b : Bool) (xs : List X) (x : X) : Type 0 where
     pub holds : b ≡ true
     pub among : Contains xs x

@@ -4,25 +4,17 @@ use Rattle.std.specs.List.{flat_map, range_with_len}
 use Rattle.std.proofs.lemmas.List.Elements.{Contains-append_right}
 use Rattle.std.proofs.lemmas.Bool.{and_from}
 use Rattle.cluster_types.specs.declared.cluster.Cluster.{Cluster}
-use Rattle.cluster_types.specs.declared.leaf.Op.{Op}
-use Rattle.cluster_types.specs.declared.leaf.Op.TheVariants.{Start, Stop, Promote, Demote, Monitor}
+use Rattle.cluster_types.specs.declared.leaf.Op.TheVariants.{Stop}
 use Rattle.cluster_types.specs.declared.rules.Order.{Order}
 use Rattle.cluster_types.specs.Numbers.{HasNoLoop, Link, inverse_links, leaf_links, link, links, order_links, rank, step_of}
 use Rattle.cluster_types.specs.Precedence.{is_serialize, is_up, takers}
 use Rattle.rule_loops.specs.Edges.{counts}
 use Rattle.rule_loops.specs.FirstLoops.{AllOrder}
-use Rattle.lemmas.proofs.Members.{at_head, head_or_rest, in_filter, in_flat, in_map, in_rest}
+use Rattle.cluster_types.proofs.OpLaws.{stop_takes}
+use Rattle.lemmas.proofs.Members.{head_or_rest, in_filter, in_flat, in_map, in_rest}
 use Rattle.rule_loops.proofs.OneRanking.{rank_rises}
 use Rattle.action_build.specs.Cycling.{FallByRank, NoneComesBack, is_cycling}
 use Rattle.action_build.proofs.OrderWords.{Cycles, cycles_of}
-
--- whatever a word gives, a stop takes away
-stop_takes : (o : Op) → is_up o ≡ true → Contains (takers o) Stop
-stop_takes Start h = at_head Stop [] Stop refl
-stop_takes Stop h = cc
-stop_takes Promote h = in_rest Demote (Stop ∷ []) Stop (at_head Stop [] Stop refl)
-stop_takes Demote h = cc
-stop_takes Monitor h = cc
 
 abbrev stops_link : Order → Link
 stops_link o = link Stop o.then_leaf Stop o.first

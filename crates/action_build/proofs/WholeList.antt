@@ -5,7 +5,7 @@ use Rattle.std.specs.List.{range_with_len}
 use Rattle.std.specs.Option.{option_map_or}
 use Rattle.std.proofs.lemmas.List.FromFn.{get_or-map-range_with_len}
 use Rattle.std.proofs.lemmas.Option.{get_or_from_slice_get, slice_get_within}
-use Rattle.lemmas.proofs.Members.{in_flat, in_range, of_flat, of_range}
+use Rattle.lemmas.proofs.Members.{in_flat, in_if, in_range, of_flat, of_range}
 use Rattle.cluster_types.specs.declared.cluster.Cluster.{Cluster}
 use Rattle.cluster_types.specs.declared.journal.Action.{Action}
 use Rattle.cluster_types.specs.declared.journal.Action.TheVariants.{Fence}
@@ -29,7 +29,7 @@ use Rattle.action_build.specs.Cycling.{Marks}
 use Rattle.action_build.specs.Works.{flag_of}
 use Rattle.action_build.specs.declared.steps.CellNeed.{CellNeed}
 use Rattle.action_build.proofs.AllNeeded.{all_needed, there}
-use Rattle.action_build.proofs.Conditions.{in_if, of_if, of_one}
+use Rattle.action_build.proofs.Conditions.{of_if, of_one}
 use Rattle.action_build.proofs.OnceEach.{all_once}
 use Rattle.action_build.proofs.PairsApart.{no_pairs}
 use Rattle.action_build.proofs.StepsGot.{Tells, touched_is}

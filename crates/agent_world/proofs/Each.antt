@@ -5,10 +5,6 @@ use Rattle.std.proofs.lemmas.Option.{get_or_from_slice_get, slice_get_within}
 use Rattle.lemmas.proofs.Members.{all_append}
 
 module _ {X : Type 0} (P : X → Type 0) where
-  pub all_first : (xs ys : List X) → AllByRecursion P (xs ++ ys) → AllByRecursion P xs
-  all_first [] ys h = tt
-  all_first (x ∷ xs) ys h = (h.0, all_first xs ys h.1)
-
   pub all_later : (xs ys : List X) → AllByRecursion P (xs ++ ys) → AllByRecursion P ys
   all_later [] ys h = h
   all_later (x ∷ xs) ys h = all_later xs ys h.1

@@ -1,8 +1,9 @@
 -- What a simulated cluster is made of at first is what the journal says.
 use Rattle.std.proofs.Common.{◌≡◌, ℕ, ◌+◌, ◌*◌, ◌<◌, ◌==◌, Bool, true, false, if◌then◌else◌, is_some, is_none, Option, Some, None, List, [], ◌∷◌, ◌++◌, length, length-append, slice_get, refl, sym, ap, ◌∙◌, eqb-true, arith}
 use Rattle.std.proofs.lemmas.Bool.{and_parts}
-use Rattle.std.proofs.lemmas.List.{get_or_append_left, get_or_push}
+use Rattle.std.proofs.lemmas.List.{get_or_push}
 use Rattle.std.proofs.lemmas.Option.{slice_get-get_or}
+use Rattle.lemmas.proofs.Members.{slice_get_left}
 use Rattle.cluster_types.specs.declared.cluster.Cluster.{Cluster}
 use Rattle.cluster_types.specs.declared.journal.Event.{Event}
 use Rattle.cluster_types.specs.declared.states.NodeState.TheVariants.{Online, Offline, Unclean}
@@ -22,13 +23,8 @@ use Rattle.agent_world.specs.RealWorlds.{Cells, first_real, first_world, is_risi
 use Rattle.agent_world.specs.Firsts.{IsFilled}
 use Rattle.agent_world.proofs.Hearing.{place_within}
 
--- what is found in a list with one element more
+-- one element more is found where the list ended
 module _ {X : Type 0} (xs : List X) (x : X) where
-  old_found : (i : ℕ) → i < length xs → slice_get (xs ++ x ∷ []) i ≡ slice_get xs i
-  old_found i low =
-      slice_get-get_or (xs ++ x ∷ []) i x (omega (arith, low, length-append xs (x ∷ [])))
-      ∙ (ap Some (get_or_append_left xs (x ∷ []) x i low) ∙ sym (slice_get-get_or xs i x low))
-
   new_found : (i : ℕ) → length xs ≡ i → slice_get (xs ++ x ∷ []) i ≡ Some x
   new_found i is = slice_get-get_or (xs ++ x ∷ []) i x (omega (arith, is, length-append xs (x ∷ []))) ∙ ap Some (get_or_push xs x x i is)
 
@@ -50,7 +46,7 @@ module _ (c : Cluster) where
           rw (leaves, nodes) (new_found kept x (leaf * length c.nodes + node) len ∙ ap Some is)
       on r n l m low false e =
           let earlier : r * length c.nodes + n < length kept = grind (arith, length-append kept (x ∷ [])) in
-          old_found kept x (r * length c.nodes + n) earlier ∙ f.each r n l m earlier
+          slice_get_left kept (x ∷ []) (r * length c.nodes + n) earlier ∙ f.each r n l m earlier
 
   pub holds-filled : (kept : List Real) (cells : Cells) → length kept ≡ length c.leaves * length c.nodes → IsFilled c kept cells → Holds c kept cells
   holds-filled kept cells full f = record { full = full; each = λ r n l m. f.each r n l m (place_within c (length kept) r n full l m) }
@@ -103,7 +99,7 @@ nodes-push kept held count x len is h n low = on (n == count) refl
   where
     on : (last : Bool) → (n == count) ≡ last → slice_get (kept ++ x ∷ []) n ≡ Some (held n)
     on true e = let same : n ≡ count = eqb-true n count e in rw same (new_found kept x count len ∙ ap Some is)
-    on false e = let earlier : n < length kept = grind arith in old_found kept x n earlier ∙ h n (omega (arith, earlier, len))
+    on false e = let earlier : n < length kept = grind arith in slice_get_left kept (x ∷ []) n earlier ∙ h n (omega (arith, earlier, len))
 
 pub nothing_heard : {X : Type 0} (o : Option X) → is_some o ≡ false → is_none o ≡ true
 nothing_heard None h = refl

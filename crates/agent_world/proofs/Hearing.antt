@@ -9,8 +9,7 @@ use Rattle.cluster_types.specs.Cells.{is_reset, is_same_cell}
 use Rattle.cluster_types.specs.CellStates.{last_outcome}
 use Rattle.cluster_types.specs.Failures.{is_outcome}
 use Rattle.cluster_types.proofs.TableCells.{ordered, same_place, get-at, same_cell}
-use Rattle.state_unpack.specs.declared.facts.Facts.{Facts}
-use Rattle.state_unpack.proofs.MoreFacts.{facts-after}
+use Rattle.state_unpack.proofs.MoreFacts.{seen-after}
 use Rattle.agent_world.specs.Firsts.{Hears, IsSaidOf}
 
 module _ (c : Cluster) where
@@ -72,11 +71,6 @@ module _ (c : Cluster) where
       → ((r n : ℕ) → r < length c.leaves → n < length c.nodes → all r n ≡ touched r n) → IsSaidOf c all x old new
   said-as touched all x old new a is = record { len = a.len; each = λ r n l m. a.each r n l m ∙ rw (is r n l m) refl }
 
-  -- whether an outcome is in force after one more event
-  heard_after : (r n : ℕ) (es : List Event) (e : Event)
-      → is_some (last_outcome c r n (es ++ e ∷ [])) ≡ (not (is_reset r n e) && (is_some (last_outcome c r n es) || is_outcome c r n e))
-  heard_after r n es e = ap (λ (facts : Facts). facts.seen) (facts-after c r n es e)
-
   pub hears-said : (es : List Event) (e : Event) (touched : ℕ → ℕ → Bool) (x : Bool) (old new : List Bool) → IsSaidOf c touched x old new
       → ((r n : ℕ) (was : Bool) → (if touched r n then x else was) ≡ (not (is_reset r n e) && (was || is_outcome c r n e)))
       → Hears c es old → Hears c (es ++ e ∷ []) new
@@ -84,9 +78,12 @@ module _ (c : Cluster) where
     where
       split : (r n : ℕ) → r < length c.leaves → n < length c.nodes → (t : Bool) → touched r n ≡ t
           → (if touched r n then Some x else slice_get old (r * length c.nodes + n)) ≡ Some (is_some (last_outcome c r n (es ++ e ∷ [])))
-      split r n l m true t = let now = rw t at (is r n (is_some (last_outcome c r n es))) in rw t (ap Some (now ∙ sym (heard_after r n es e)))
+      split r n l m true t =
+          let now = rw t at (is r n (is_some (last_outcome c r n es))) in
+          rw t (ap Some (now ∙ sym (seen-after c r n es e (is_reset r n e) (is_outcome c r n e) refl refl)))
       split r n l m false t =
-          let now = rw t at (is r n (is_some (last_outcome c r n es))) in rw t (h.each r n l m ∙ ap Some (now ∙ sym (heard_after r n es e)))
+          let now = rw t at (is r n (is_some (last_outcome c r n es))) in
+          rw t (h.each r n l m ∙ ap Some (now ∙ sym (seen-after c r n es e (is_reset r n e) (is_outcome c r n e) refl refl)))
 
   -- an event that is no outcome, and after which all that was heard still counts
   pub hears-still : (es : List Event) (e : Event) (heard : List Bool) → ((r n : ℕ) → is_reset r n e ≡ false) → ((r n : ℕ) → is_outcome c r n e ≡ false)

@@ -3,6 +3,7 @@ use Rattle.std.proofs.Common.{arith, ◌≡◌, ◌<◌, ◌-◌, ◌+◌, ◌^�
 use Rattle.std.specs.List.{AllByRecursion, flat_map, list_any}
 use Rattle.std.proofs.lemmas.Bool.{eq-eqb, ltb-true}
 use Rattle.lemmas.proofs.Booleans.{later, sooner}
+use Rattle.lemmas.proofs.Members.{all_first}
 use Rattle.cluster_types.specs.declared.journal.Action.{Action}
 use Rattle.cluster_types.specs.declared.journal.Action.TheVariants.{Fence, Probe, Cell, MigrateTo, MigrateFrom}
 use Rattle.cluster_types.specs.declared.journal.Answer.{Answer}
@@ -27,7 +28,7 @@ use Rattle.run_safety.proofs.Each.{Each, none, more}
 use Rattle.run_safety.proofs.InFlight.{among_flying, number_within}
 use Rattle.run_safety.proofs.Shapes.{Flies, all_fly}
 use Rattle.agent_world.specs.Fitting.{AnswersFit, Fits, LineFits}
-use Rattle.agent_world.proofs.Each.{all_first, all_later, read_in}
+use Rattle.agent_world.proofs.Each.{all_later, read_in}
 
 -- Answers that are told, and those that lines tell.
 

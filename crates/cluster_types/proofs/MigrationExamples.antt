@@ -10,6 +10,7 @@ use Rattle.cluster_types.specs.declared.journal.Event.{Event}
 use Rattle.cluster_types.specs.declared.journal.Event.TheVariants.{Begin, Ended}
 use Rattle.cluster_types.specs.declared.journal.Outcome.TheVariants.{Code}
 use Rattle.cluster_types.specs.declared.leaf.Op.TheVariants.{Start, Stop, Monitor}
+use Rattle.cluster_types.specs.declared.leaf.Role.TheVariants as role
 use Rattle.cluster_types.specs.declared.placement.Decision.TheVariants.{Place}
 use Rattle.cluster_types.specs.declared.placement.Target.TheVariants as target
 use Rattle.cluster_types.specs.declared.states.CellState.TheVariants as cell
@@ -25,7 +26,7 @@ use Rattle.cluster_types.specs.Tables.{Targets}
 use Rattle.cluster_types.specs.Terms.{active_count}
 use Rattle.cluster_types.specs.Texts.{graph_text}
 use Rattle.cluster_types.proofs.Few.{below_one, below_two, cells_of_one, of_one, of_two, of_three, pairs_of_three}
-use Rattle.cluster_types.proofs.NeededLaws.{unwatched, can_be_cycled, of_first_set, is_never_cycled, step_of_uncycled, bounds_of_stop, bounds_of_start, of_needed}
+use Rattle.cluster_types.proofs.NeededLaws.{unwatched, can_be_cycled, of_first_set, is_never_cycled, step_of_uncycled, bounds_of_first, of_needed}
 use Rattle.cluster_types.proofs.SmallClusters.{plain_leaf, two_nodes, location, did, probed, online, step}
 use Rattle.cluster_types.proofs.SmallRuns.{table_by, predecessors, transition, beginners}
 
@@ -89,8 +90,8 @@ not_started_on_n2 (kept _ f k) = k 0 0 1 it_migrates refl
 -- it can migrate from n1 to n2 alone
 only_so : (r n m : ℕ) → Migrates machine runs_on_n1 table r n m → (P : ℕ → ℕ → ℕ → Type 0) → P 0 0 1 → P r n m
 only_so r n m g P p =
-    let from = bounds_of_stop machine runs_on_n1 table r n g.stopped in
-    let to = bounds_of_start machine runs_on_n1 table r m g.started in
+    let from = bounds_of_first machine runs_on_n1 table Stop r n 0 role.Started g.stopped in
+    let to = bounds_of_first machine runs_on_n1 table Start r m 0 role.Started g.started in
     cells_of_one (λ r n. cell_state machine r n runs_on_n1 ≡ cell.On → m ≢ n → P r n m)
     (λ e d. below_two (λ m. m ≢ 0 → P 0 0 m) (λ d. absurd (d refl)) (λ d. p) m to.1 d)
     (λ e d. cc) r n from.0 from.1 g.running g.away
@@ -155,7 +156,7 @@ still_better_on_n2 = refl
 -- it doesn't migrate now, for it runs nowhere for sure
 no_second_sending : (r n m : ℕ) → Migrates machine left_open open_table r n m → ⊥
 no_second_sending r n m g =
-    let from = bounds_of_stop machine left_open open_table r n g.stopped in
+    let from = bounds_of_first machine left_open open_table Stop r n 0 role.Started g.stopped in
     cells_of_one (λ r n. cell_state machine r n left_open ≡ cell.On → ⊥) (λ e. cc) (λ e. cc) r n from.0 from.1 g.running
 
 not_cycled_on_n1 : Cycled machine left_open open_table 0 0 → ⊥

@@ -8,7 +8,8 @@ use Rattle.cluster_types.specs.declared.journal.Action.TheVariants.{Fence, Probe
 use Rattle.cluster_types.specs.declared.journal.Event.{Event}
 use Rattle.cluster_types.specs.declared.leaf.Monitor.{Monitor as MonitorOf}
 use Rattle.cluster_types.specs.declared.leaf.Op.{Op}
-use Rattle.cluster_types.specs.declared.leaf.Op.TheVariants.{Start, Stop, Monitor}
+use Rattle.cluster_types.specs.declared.leaf.Op.TheVariants.{Monitor}
+use Rattle.cluster_types.specs.declared.leaf.Role.{Role}
 use Rattle.cluster_types.specs.declared.leaf.Role.TheVariants as role
 use Rattle.cluster_types.specs.declared.rules.Order.{Order}
 use Rattle.cluster_types.specs.CellStates.{cell_state}
@@ -42,12 +43,10 @@ module _ (c : Cluster) (es : List Event) (targets : Targets) where
   step_of_uncycled r n o still (inl g) = absurd (still g.0)
   step_of_uncycled r n o still (inr g) = g.1
 
-  -- a step is of a leaf and a node of the cluster
-  pub bounds_of_stop : (r n : ℕ) → FirstSet c es targets (Cell Stop r n 0 role.Started) → (r < length c.leaves) × (n < length c.nodes)
-  bounds_of_stop r n (step _ _ _ h l g) = (h, l)
-
-  pub bounds_of_start : (r n : ℕ) → FirstSet c es targets (Cell Start r n 0 role.Started) → (r < length c.leaves) × (n < length c.nodes)
-  bounds_of_start r n (step _ _ _ h l g) = (h, l)
+  -- what is done to a cell is of a leaf and a node of the cluster
+  pub bounds_of_first : (o : Op) (r n i : ℕ) (given : Role) → FirstSet c es targets (Cell o r n i given) → (r < length c.leaves) × (n < length c.nodes)
+  bounds_of_first _ _ _ _ _ (step r n o h l g) = (h, l)
+  bounds_of_first _ _ _ _ _ (monitor r n m h l k g) = (h, l)
 
   -- a leaf that may not migrate doesn't
   pub is_never_sent : ((r : ℕ) → may_migrate c r ≡ false) → (r n m : ℕ) → Migrates c es targets r n m → ⊥

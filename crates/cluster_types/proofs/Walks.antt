@@ -64,18 +64,18 @@ module _ (edges : List Edge) (i : ℕ) (e d : Edge) (lt : i < length edges) (at 
       set_at here within x (cases_eq x e.before)
       ∙ (ap (λ b. b || joins x y e) (so_far x) ∙ (or_assoc (is_marked old x) _ _ ∙ ap (λ b. is_marked old x || b) (sym (any_more x))))
 
--- what is marked by an edge
+-- one position joins another by an edge of the list
 of_any : (edges : List Edge) (x y : ℕ) → Any (λ e. joins x y e ≡ true) edges → (e : Edge) × Contains edges e × (e.after ≡ y) × (e.before ≡ x)
 of_any edges x y (k, e, lt, at, f) =
     let a : (e.after == y) ≡ true = sooner (e.after == y) (e.before == x) f in
     let b : (e.before == x) ≡ true = later (e.after == y) (e.before == x) f in
     (e, (k, lt, at), grind arith, grind arith)
 
-by_edge : (edges : List Edge) (x y : ℕ) → list_any (joins x y) edges ≡ true → (e : Edge) × Contains edges e × (e.after ≡ y) × (e.before ≡ x)
+pub by_edge : (edges : List Edge) (x y : ℕ) → list_any (joins x y) edges ≡ true → (e : Edge) × Contains edges e × (e.after ≡ y) × (e.before ≡ x)
 by_edge edges x y h = of_any edges x y (Any-from_list_any (joins x y) edges h)
 
-found : (edges : List Edge) (e : Edge) (y : ℕ) → Contains edges e → e.after ≡ y → list_any (joins e.before y) edges ≡ true
-found edges e y c h =
+pub joined : (edges : List Edge) (e : Edge) (y : ℕ) → Contains edges e → e.after ≡ y → list_any (joins e.before y) edges ≡ true
+joined edges e y c h =
     let a : (e.after == y) ≡ true = grind arith in
     let b : (e.before == e.before) ≡ true = grind arith in
     passes_by (joins e.before y) edges e c (rw (a, b) refl)
@@ -88,7 +88,7 @@ module _ (actions positions : ℕ) (edges : List Edge) (y : ℕ) (ends : EndWith
       → ((x : ℕ) → is_marked marks x ≡ (is_marked old x || list_any (joins x y) edges)) → AreMarked actions edges y positions marks
   at_first old marks none made = record {
     leading = λ x h. straight x (by_edge edges x y (sym (made x ∙ ap (λ b. b || list_any (joins x y) edges) (none x)) ∙ h));
-    direct = λ e c h. made e.before ∙ or_right _ _ (found edges e y c h);
+    direct = λ e c h. made e.before ∙ or_right _ _ (joined edges e y c h);
     through = λ e c gate above h. absurd (let w = ends e c in let f : ⊥ = omega arith in f);
   }
 
@@ -129,7 +129,7 @@ module _ (actions positions : ℕ) (edges : List Edge) (y : ℕ) (ends : EndWith
 
       goes_through : (e : Edge) → Contains edges e → actions ≤ e.after → lowest ≤ e.after → is_marked marks e.after ≡ true → (e.after ≡ lowest) ⊎ (e.after ≢ lowest)
           → is_marked marks e.before ≡ true
-      goes_through e c gate above f (inl same) = made e.before ∙ or_right _ _ (found edges e lowest c same)
+      goes_through e c gate above f (inl same) = made e.before ∙ or_right _ _ (joined edges e lowest c same)
       goes_through e c gate above f (inr other) = kept e.before (before.through e c gate (omega arith) (was_marked e above f))
 
       pub one_gate_more : AreMarked actions edges y lowest marks

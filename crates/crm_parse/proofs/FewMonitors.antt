@@ -1,11 +1,12 @@
 -- The recurring monitors of a primitive that was read are few, and have different intervals.
 use Rattle.std.proofs.Common.{arith, ◌≡◌, ◌≢◌, ◌<◌, ℕ, zero, suc, Bool, true, false, not, ◌&&◌, ◌||◌, cond, List, [], ◌∷◌, ◌++◌, length, filter, slice_index_or, Ok, Err, refl, sym, ap, ◌∙◌, subst, append-nil, nat_le}
 use Rattle.std.specs.Prelude.{◌==◌}
-use Rattle.std.specs.List.{AllByRecursion, list_any}
+use Rattle.std.specs.List.{list_any}
 use Rattle.std.proofs.lemmas.Bool.{and_parts, eq-eqb, eqb-true, false≢true, leb-false, ltb-true, or_parts, not-true}
 use Rattle.std.proofs.lemmas.List.{length-append}
 use Rattle.std.proofs.lemmas.List.Concat.{flat_map-append}
 use Rattle.std.proofs.lemmas.List.Quantifiers.{all_pairs_push}
+use Rattle.lemmas.proofs.Members.{all_append}
 use Rattle.crm_parse.specs.declared.fault.ParseCause.TheVariants.{RepeatedKey, Unsupported}
 use Rattle.crm_parse.specs.declared.pair.Operation.{Operation}
 use Rattle.crm_parse.specs.Keys.{when}
@@ -26,14 +27,10 @@ differs (x ∷ xs) y h (suc k) d l same =
     let (one, rest) = or_parts (x == y) (list_any (λ x. x == y) xs) h in
     differs xs y rest k d (omega (arith, l)) same
 
-above-append : (xs ys : List ℕ) → AllByRecursion (λ x. 0 < x) xs → AllByRecursion (λ x. 0 < x) ys → AllByRecursion (λ x. 0 < x) (xs ++ ys)
-above-append [] ys h k = k
-above-append (x ∷ xs) ys h k = (h.0, above-append xs ys h.1 k)
-
 few-push : (xs : List ℕ) (x : ℕ) → AreFew xs → length xs < 8 → 0 < x → list_any (λ y. y == x) xs ≡ false → AreFew (xs ++ x ∷ [])
 few-push xs x h few above new = record {
   few = omega (arith, length-append xs (x ∷ []), few);
-  above = above-append xs (x ∷ []) h.above (above, tt);
+  above = all_append (λ (y : ℕ). 0 < y) xs (x ∷ []) h.above (above, tt);
   apart = all_pairs_push (λ (one other : ℕ). one ≢ other) xs x h.apart (differs xs x new);
 }
 

@@ -4,6 +4,7 @@ use Rattle.std.proofs.lemmas.Str.{IsUtf8-from_is_utf8}
 use Rattle.std.specs.List.{list_any, AllByRecursion}
 use Rattle.std.specs.Str.{is_utf8}
 use Rattle.std.proofs.lemmas.Bool.{not-false}
+use Rattle.lemmas.proofs.Members.{all_append}
 use Rattle.crm_lex.specs.RawLines.{begins_comment, content, raw_lines}
 use Rattle.crm_lex.specs.LogicalLines.{all_byte_faults, byte_faults, content_length, fault_if, faults, is_control, joined_text, joint, line_text, with_joint}
 use Rattle.crm_lex.specs.Reading.{faults_from, first_fault, reads, row, rows_from}
@@ -100,10 +101,6 @@ clean_text (line ∷ lines) h = split (begins_comment (content line)) (clean_joi
     split true c = clean-nil
     split false c = c
 
-both_clean : (xs ys : List Line) → AllByRecursion CleanLine xs → AllByRecursion CleanLine ys → AllByRecursion CleanLine (xs ++ ys)
-both_clean [] ys h g = g
-both_clean (x ∷ xs) ys h g = (h.0, both_clean xs ys h.1 g)
-
 clean_row : (n : ℕ) (words : List (List ℕ)) → AllClean words → AllByRecursion CleanLine (row n words)
 clean_row n [] h = tt
 clean_row n (word ∷ words) h = (h, tt)
@@ -111,7 +108,7 @@ clean_row n (word ∷ words) h = (h, tt)
 clean_rows : (n : ℕ) (groups : List (List (List ℕ))) → faults_from n groups ≡ [] → AllByRecursion CleanLine (rows_from n groups)
 clean_rows n [] e = tt
 clean_rows n (lines ∷ more) e =
-    both_clean (row n (words_of (line_text lines))) (rows_from (n + length lines) more)
+    all_append CleanLine (row n (words_of (line_text lines))) (rows_from (n + length lines) more)
     (clean_row n (words_of (line_text lines)) (clean-words (line_text lines) (clean_text lines (clean_lines n lines (nothing-front (faults n lines) (faults_from (n + length lines) more) e)))))
     (clean_rows (n + length lines) more (nothing-back (faults n lines) (faults_from (n + length lines) more) e))
 

@@ -2,6 +2,7 @@
 use Rattle.std.proofs.Common.{◌≡◌, ℕ, ◌+◌, nat_le, true, List, [], ◌∷◌, ◌++◌, length, map, Ok, refl, sym, ap, subst, ◌∙◌, append-nil}
 use Rattle.std.specs.List.{flat_map, list_all, AllByRecursion}
 use Rattle.std.proofs.lemmas.Bool.{and_parts}
+use Rattle.lemmas.proofs.Members.{all_first}
 use Rattle.crm_lex.specs.declared.line.Line.{Line}
 use Rattle.crm_lex.specs.Reading.{reads}
 use Rattle.crm_parse.specs.declared.form.Form.{Form}
@@ -22,10 +23,6 @@ use Rattle.crm_print.proofs.FilledItems.{filled-items}
 use Rattle.crm_print.proofs.Lines.{is_filled}
 use Rattle.crm_print.proofs.TextReads.{Readable, ended_lines, numbered, text-reads, text-reads-before-comment}
 use Rattle.crm_print.proofs.WrittenWords.{canonical_words-written}
-
-all-first : {X : Type 0} (P : X → Type 0) (xs ys : List X) → AllByRecursion P (xs ++ ys) → AllByRecursion P xs
-all-first P [] ys h = tt
-all-first P (x ∷ xs) ys h = (h.0, all-first P xs ys h.1)
 
 -- the items of some statements
 abbrev all_items : List Statement → List (List Item)
@@ -74,7 +71,7 @@ reads-so : (text behind : List ℕ) (lines rest : List Line) (crm : Crm) → rea
     → ReadsAs (canonical_text crm ++ behind) crm
 reads-so text behind lines rest crm e p s so =
     let all = all_items crm.statements in
-    let clean = statements-clean lines crm (all-first CleanLine lines rest (clean-reads text (lines ++ rest) e)) p in
+    let clean = statements-clean lines crm (all_first CleanLine lines rest (clean-reads text (lines ++ rest) e)) p in
     let (again, read, same) = statements-again lines (numbered 1 all) crm p (numbered-words 1 crm.statements) in
     let words = statements-words (numbered 1 all) again read in
     record {

@@ -27,7 +27,7 @@ use Rattle.cluster_types.specs.Pins.{is_pinned}
 use Rattle.cluster_types.specs.Plans.{IsPlaced}
 use Rattle.cluster_types.specs.Tables.{Targets, is_somewhere, targets_of}
 use Rattle.cluster_types.specs.Valid.{IsValid}
-use Rattle.cluster_types.proofs.NeededLaws.{bounds_of_start, bounds_of_stop}
+use Rattle.cluster_types.proofs.NeededLaws.{bounds_of_first}
 use Rattle.plan_laws.proofs.LawfulTable.{lawful}
 use Rattle.plan_laws.proofs.CellStates.{says_of}
 use Rattle.plan_laws.proofs.CellSteps.{is_known, is_step}
@@ -81,8 +81,8 @@ module _ (c : Cluster) (es : List Event) (ps : List Promotion) (placed : Placed)
 
   pub one_goal : (r n m p q : ℕ) → Migrates c es targets r n m → Migrates c es targets r p q → m ≡ q
   one_goal r n m p q one other =
-      let here = bounds_of_start c es targets r m one.started in
-      let there = bounds_of_start c es targets r q other.started in
+      let here = bounds_of_first c es targets op.Start r m 0 role.Started one.started in
+      let there = bounds_of_first c es targets op.Start r q 0 role.Started other.started in
       one_target r m q here.0 one.uncloned one.managed here.1 there.1 (start_target r m one.started) (start_target r q other.started)
 
   pub one_source : (r n m p q : ℕ) → Migrates c es targets r n m → Migrates c es targets r p q → n ≡ p
@@ -91,6 +91,6 @@ module _ (c : Cluster) (es : List Event) (ps : List Promotion) (placed : Placed)
       on : (b : Bool) → (p == n) ≡ b → n ≡ p
       on true e = sym (eqb-true p n e)
       on false e =
-          let there = bounds_of_stop c es targets r p other.stopped in
+          let there = bounds_of_first c es targets op.Stop r p 0 role.Started other.stopped in
           let running : may c r p es ≡ true = (says_of c r p es cell.On other.running).4 in
           absurd (both_ways (may c r p es) (one.nowhere_else p there.1 (eqb-false p n e)) running)

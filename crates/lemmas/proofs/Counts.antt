@@ -26,6 +26,11 @@ pub count-none : {X : Type 0} (p : X → Bool) (xs : List X) → list_any p xs �
 count-none p [] h = refl
 count-none p (x ∷ xs) h = none_on p x xs (p x) refl h (count-none p xs)
 
+-- a test that passes for none counts none
+pub count_of_none : {X : Type 0} (p : X → Bool) → ((x : X) → p x ≡ false) → (xs : List X) → count_by p xs ≡ 0
+count_of_none p none [] = refl
+count_of_none p none (x ∷ xs) = let c = count-is p x xs false (none x) in let r = count_of_none p none xs in omega arith
+
 -- where nothing is counted, no element passes
 count_none_on : {X : Type 0} (p : X → Bool) (x : X) (xs : List X) (b : Bool) → p x ≡ b → count_by p (x ∷ xs) ≡ 0 → b ≡ false
 count_none_on p x xs true e h =
@@ -61,7 +66,7 @@ count_agree p q same [] = refl
 count_agree p q same (x ∷ xs) = count_agree_on p q x xs (same x) (count_agree p q same xs)
 
 -- a test that passes wherever another does counts no fewer, and more where it alone passes somewhere
-count_more_on : {X : Type 0} (p q : X → Bool) (x : X) (xs : List X) (a b : Bool) → p x ≡ a → q x ≡ b → (a ≡ true → b ≡ true)
+pub count_more_on : {X : Type 0} (p q : X → Bool) (x : X) (xs : List X) (a b : Bool) → p x ≡ a → q x ≡ b → (a ≡ true → b ≡ true)
     → count_by p xs ≤ count_by q xs → count_by p (x ∷ xs) ≤ count_by q (x ∷ xs)
 count_more_on p q x xs true true f g h rest =
     let c = count-is p x xs true f in

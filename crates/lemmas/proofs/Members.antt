@@ -1,5 +1,5 @@
 -- Members of lists that are made of others.
-use Rattle.std.proofs.Common.{arith, ◌≡◌, ◌<◌, ◌≤◌, ◌+◌, ℕ, suc, zero, Bool, true, false, List, [], ◌∷◌, ◌++◌, length, map, filter, take, cond, slice_get, slice_index_or, refl, sym, ◌∙◌, ap, ◌⊎◌, inl, inr, Contains}
+use Rattle.std.proofs.Common.{arith, ◌≡◌, ◌<◌, ◌≤◌, ◌+◌, ℕ, suc, zero, Bool, true, false, if◌then◌else◌, List, [], ◌∷◌, ◌++◌, length, map, filter, take, cond, slice_get, slice_index_or, refl, sym, ◌∙◌, ap, ◌⊎◌, inl, inr, Contains}
 use Rattle.std.specs.List.{AllByRecursion, flat_map, range_with_len}
 use Rattle.std.proofs.lemmas.Bool.{cases_order}
 use Rattle.std.proofs.lemmas.List.{length-take, get_or-take, take_more}
@@ -25,6 +25,11 @@ module _ {X : Type 0} where
   pub in_none : (a : X) → Contains [] a → ⊥
   in_none a (k, l, f) = absurd (let f : ⊥ = omega arith in f)
 
+  -- the one element of a list that is there on a condition
+  pub in_if : (b : Bool) (x : X) → b ≡ true → Contains (if b then x ∷ [] else []) x
+  in_if true x h = at_head x [] x refl
+  in_if false x h = cc
+
   -- what a loop reads
   pub read_there : {xs ys : List X} {k : ℕ} {x : X} → ys ≡ xs → k < length ys → x ≡ slice_index_or ys k x → Contains xs x
   read_there same lt is = rw (← same) (_, lt, sym is)
@@ -34,10 +39,21 @@ module _ {X : Type 0} where
       let l = length-take n xs in
       (k, omega arith, sym (get_or-take n xs k x (omega arith)) ∙ at)
 
-  -- what holds of all in each of two lists holds of all in both together
+  -- what is among the first is among more of them
+  pub contains_shorter : (m n : ℕ) (xs : List X) (x : X) → m ≤ n → Contains (take m xs) x → Contains (take n xs) x
+  contains_shorter m n xs x le (k, lt, at) =
+      let l = length-take m xs in
+      let r = length-take n xs in
+      (k, omega arith, get_or-take n xs k x (omega arith) ∙ sym (get_or-take m xs k x (omega arith)) ∙ at)
+
+  -- what holds of all in each of two lists holds of all in both together, and of all in the first where it holds of all in both
   pub all_append : (P : X → Type 0) (xs ys : List X) → AllByRecursion P xs → AllByRecursion P ys → AllByRecursion P (xs ++ ys)
   all_append P [] ys h k = k
   all_append P (x ∷ xs) ys h k = (h.0, all_append P xs ys h.1 k)
+
+  pub all_first : (P : X → Type 0) (xs ys : List X) → AllByRecursion P (xs ++ ys) → AllByRecursion P xs
+  all_first P [] ys h = tt
+  all_first P (x ∷ xs) ys h = (h.0, all_first P xs ys h.1)
 
   -- what holds of each of the first and of the one behind them
   pub all_more : (P : X → Type 0) (xs : List X) (i : ℕ) (x : X) → i < length xs → x ≡ slice_index_or xs i x

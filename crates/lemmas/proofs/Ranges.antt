@@ -9,7 +9,7 @@ use Rattle.std.proofs.lemmas.Option.{slice_get-get_or}
 use Rattle.std.specs.Prelude.{Some, slice_get}
 use Rattle.std.specs.List.{flat_map, list_all, list_any, range_with_len}
 use Rattle.lemmas.proofs.Booleans.{sooner, later}
-use Rattle.lemmas.proofs.Counts.{count-is}
+use Rattle.lemmas.proofs.Counts.{count-append, count-is}
 
 -- one number more
 pub map-more : {X : Type 0} (f : ℕ → X) (n : ℕ) → map f (range_with_len 0 (n + 1)) ≡ map f (range_with_len 0 n) ++ f n ∷ []
@@ -25,6 +25,24 @@ pub filter-more : (p : ℕ → Bool) (n : ℕ) (here : Bool) → p n ≡ here
     → filter p (range_with_len 0 (n + 1)) ≡ filter p (range_with_len 0 n) ++ (if here then n ∷ [] else [])
 filter-more p n true e = ap (filter p) (range-more n) ∙ (filter-append p (range_with_len 0 n) (n ∷ []) ∙ rw e refl)
 filter-more p n false e = ap (filter p) (range-more n) ∙ (filter-append p (range_with_len 0 n) (n ∷ []) ∙ rw e refl)
+
+-- how many of the numbers below one pass a test, with one number more that passes or doesn't
+module _ (p : ℕ → Bool) (k count : ℕ) (was : count ≡ count_by p (range_with_len 0 k)) where
+  pub count-yes : p k ≡ true → count + 1 ≡ count_by p (range_with_len 0 (k + 1))
+  count-yes here =
+      let longer = ap (count_by p) (range-more k) in
+      let parts = count-append p (range_with_len 0 k) (k ∷ []) in
+      let one : count_by p (k ∷ []) ≡ 1 + count_by p [] = count-is p k [] true here in
+      let none : count_by p [] ≡ 0 = refl in
+      omega (arith, longer, parts, one, none, was)
+
+  pub count-no : p k ≡ false → count ≡ count_by p (range_with_len 0 (k + 1))
+  count-no here =
+      let longer = ap (count_by p) (range-more k) in
+      let parts = count-append p (range_with_len 0 k) (k ∷ []) in
+      let one : count_by p (k ∷ []) ≡ 0 + count_by p [] = count-is p k [] false here in
+      let none : count_by p [] ≡ 0 = refl in
+      omega (arith, longer, parts, one, none, was)
 
 -- where two functions or tests agree on the numbers from one on, what is made of these numbers is the same
 module _ {X : Type 0} (f g : ℕ → X) where

@@ -5,6 +5,7 @@ use Rattle.std.proofs.lemmas.Bool.{and_from, and_parts, or_right}
 use Rattle.std.specs.List.{list_all, list_any}
 use Rattle.std.proofs.lemmas.List.Elements.{Contains-get_or}
 use Rattle.std.proofs.lemmas.List.Folds.{list_any-append, list_any_at}
+use Rattle.lemmas.proofs.Booleans.{one_of}
 use Rattle.lemmas.proofs.Members.{at_head, in_rest}
 
 -- an empty list has no element
@@ -29,6 +30,11 @@ all_pass p (x ∷ xs) each = and_from (p x) (list_all p xs) (each x (at_head x x
 -- what holds of each holds of all
 pub all_where : {X : Type 0} (P : X → Type 0) (xs : List X) → ((x : X) → Contains xs x → P x) → All P xs
 all_where P xs each k d lt = each (get_or xs k d) (Contains-get_or xs k d lt)
+
+-- where a test passes somewhere, a weaker one does
+pub any-weaker : {X : Type 0} (p q : X → Bool) (xs : List X) → ((x : X) → p x ≡ true → q x ≡ true) → list_any p xs ≡ true → list_any q xs ≡ true
+any-weaker p q [] f h = h
+any-weaker p q (x ∷ xs) f h = one_of (p x) (q x) (list_any p xs) (list_any q xs) (f x) (any-weaker p q xs f) h
 
 -- with one more element, a test passes somewhere where it passed before, and where it passes there
 pub any-more : {X : Type 0} (p : X → Bool) (xs : List X) (x : X) → list_any p (xs ++ x ∷ []) ≡ (list_any p xs || p x)

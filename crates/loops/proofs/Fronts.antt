@@ -1,7 +1,7 @@
 -- The first edges of a list, and lists with more edges.
-use Rattle.std.proofs.Common.{arith, ◌≡◌, ◌<◌, ◌≤◌, ◌+◌, ◌==◌, ℕ, suc, zero, true, List, [], ◌∷◌, length, take, refl, sym, ◌∙◌, ap, Option, Some, None, inl, inr, Contains}
+use Rattle.std.proofs.Common.{arith, ◌≡◌, ◌<◌, ◌≤◌, ◌+◌, ◌==◌, ℕ, suc, zero, true, List, [], ◌∷◌, length, take, refl, ap, Option, Some, None, inl, inr, Contains}
 use Rattle.std.proofs.lemmas.Bool.{both_ways, cases_order}
-use Rattle.std.proofs.lemmas.List.{length-take, get_or-take}
+use Rattle.lemmas.proofs.Members.{contains_first, contains_shorter}
 use Rattle.loops.specs.declared.edge.Edge.{Edge}
 use Rattle.loops.specs.Loops.{ClosesFirst, EndWithin, HasLoop, HasNoLoop, IsFirstLoop, leads_within}
 use Rattle.loops.proofs.Booleans.{onward}
@@ -16,13 +16,8 @@ pub some_edge : (positions : ℕ) (edges : List Edge) → HasLoop positions edge
 some_edge positions [] l = absurd (both_ways _ (none_without_edges positions l.at) l.leads)
 some_edge positions (e ∷ es) l = omega arith
 
-pub contains_front : (n : ℕ) (edges : List Edge) (e : Edge) → Contains (take n edges) e → Contains edges e
-contains_front n edges e (k, lt, at) =
-    let l = length-take n edges in
-    (k, omega arith, sym (get_or-take n edges k e (omega arith)) ∙ at)
-
 pub ends_front : (positions : ℕ) (edges : List Edge) → EndWithin positions edges → (n : ℕ) → EndWithin positions (take n edges)
-ends_front positions edges ends n e c = ends e (contains_front n edges e c)
+ends_front positions edges ends n e c = ends e (contains_first n edges e c)
 
 -- a list with all edges of another leads wherever that leads
 module _ (edges more : List Edge) (has_all : (e : Edge) → Contains edges e → Contains more e) where
@@ -42,19 +37,13 @@ module _ (edges more : List Edge) (has_all : (e : Edge) → Contains edges e →
 
 -- there is one first loop
 
-shorter : (m n : ℕ) (edges : List Edge) → m ≤ n → (e : Edge) → Contains (take m edges) e → Contains (take n edges) e
-shorter m n edges le e (k, lt, at) =
-    let l = length-take m edges in
-    let r = length-take n edges in
-    (k, omega arith, get_or-take n edges k e (omega arith) ∙ sym (get_or-take m edges k e (omega arith)) ∙ at)
-
 stays_looped : (positions m n : ℕ) (edges : List Edge) → m ≤ n → HasLoop positions (take m edges) → HasNoLoop positions (take n edges) → ⊥
 stays_looped positions m n edges le l none =
-    one_way positions (take n edges) (loop_with_more (take m edges) (take n edges) (shorter m n edges le) positions l) none
+    one_way positions (take n edges) (loop_with_more (take m edges) (take n edges) (λ e h. contains_shorter m n edges e le h) positions l) none
 
 never_closed : (positions k : ℕ) (edges : List Edge) → ClosesFirst positions edges k → HasNoLoop positions edges → ⊥
 never_closed positions k edges c none =
-    one_way positions edges (loop_with_more (take (k + 1) edges) edges (contains_front (k + 1) edges) positions c.closed) none
+    one_way positions edges (loop_with_more (take (k + 1) edges) edges (contains_first (k + 1) edges) positions c.closed) none
 
 pub first_is_one : (positions : ℕ) (edges : List Edge) (a b : Option ℕ) → IsFirstLoop positions edges a → IsFirstLoop positions edges b
     → a ≡ b

@@ -1,11 +1,11 @@
 -- One edge more.
-use Rattle.std.proofs.Common.{arith, ◌≡◌, ◌<◌, ◌≤◌, ◌+◌, ◌==◌, ℕ, Bool, false, List, [], ◌∷◌, ◌++◌, length, take, map, filter, cond, slice_index_or, slice_set, ap, sym, ◌∙◌, ◌≢◌, ◌⊎◌, inl, inr}
+use Rattle.std.proofs.Common.{arith, ◌≡◌, ◌<◌, ◌≤◌, ◌+◌, ◌==◌, ℕ, Bool, false, List, [], ◌∷◌, ◌++◌, length, take, filter, cond, slice_index_or, slice_set, refl, sym, ◌∙◌, ◌≢◌, ◌⊎◌, inl, inr}
 use Rattle.std.specs.List.{range_with_len}
 use Rattle.std.proofs.lemmas.Bool.{cases_eq, ne_eqb}
-use Rattle.std.proofs.lemmas.List.{get_or-set_same, get_or-set_other, length-take, map-id, append-nil, get_or_default}
+use Rattle.std.proofs.lemmas.List.{get_or-set_same, get_or-set_other, length-take, append-nil, get_or_default}
 use Rattle.std.proofs.lemmas.List.Elements.{Contains-get_or}
-use Rattle.std.proofs.lemmas.List.FromFn.{filter_of_map_range_with_len_more}
 use Rattle.std.proofs.lemmas.List.Sums.{count_by-le-length, count_by_more_yes, count_by_more_no}
+use Rattle.lemmas.proofs.Ranges.{filter-more}
 use Rattle.loops.specs.declared.edge.Edge.{Edge}
 use Rattle.loops.specs.Loops.{EndWithin}
 use Rattle.loops.specs.Clearing.{edges_from}
@@ -46,18 +46,13 @@ module _ (counts : List ℕ) (edges : List Edge) (i : ℕ) (d : Edge) (lt : i < 
 
 -- one number more that may pass
 pub filter_more : (p : ℕ → Bool) (n : ℕ) → filter p (range_with_len 0 (n + 1)) ≡ filter p (range_with_len 0 n) ++ cond (p n) (n ∷ []) []
-filter_more p n =
-    let e : filter p (map (λ x. x) (range_with_len 0 (n + 1))) ≡ filter p (map (λ x. x) (range_with_len 0 n)) ++ cond (p n) (n ∷ []) []
-    = filter_of_map_range_with_len_more p (λ x. x) 0 n n (omega arith) in
-    rw (map-id (range_with_len 0 (n + 1)), map-id (range_with_len 0 n)) at e
+filter_more p n = filter-more p n (p n) refl
 
 pub filter_kept : (p : ℕ → Bool) (n : ℕ) (xs : List ℕ) → p n ≡ false → xs ≡ filter p (range_with_len 0 n)
     → xs ≡ filter p (range_with_len 0 (n + 1))
 filter_kept p n xs fails before =
-    let e = filter_more p n in
-    let f : filter p (range_with_len 0 (n + 1)) ≡ filter p (range_with_len 0 n) ++ []
-    = e ∙ ap (λ (b : Bool). filter p (range_with_len 0 n) ++ cond b (n ∷ []) []) fails in
-    before ∙ sym (f ∙ append-nil (filter p (range_with_len 0 n)))
+    let e : filter p (range_with_len 0 (n + 1)) ≡ filter p (range_with_len 0 n) ++ [] = filter-more p n false fails in
+    before ∙ sym (e ∙ append-nil (filter p (range_with_len 0 n)))
 
 pub end_of : (positions : ℕ) (edges : List Edge) (d : Edge)
     → ((k : ℕ) → k < length edges → ((slice_index_or edges k d).before < positions) × ((slice_index_or edges k d).after < positions))

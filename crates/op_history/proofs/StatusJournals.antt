@@ -1,5 +1,5 @@
 -- The first journal that a status says is in order and has nothing in flight.
-use Rattle.std.proofs.Common.{◌≡◌, ℕ, nat_lt, ◌==◌, Bool, true, false, if◌then◌else◌, List, [], ◌∷◌, length, codes, Result, Ok, Err, IfOk, refl, sym, subst}
+use Rattle.std.proofs.Common.{◌≡◌, ℕ, nat_lt, ◌==◌, Bool, true, false, if◌then◌else◌, List, [], ◌∷◌, length, codes, Result, Ok, IfOk, refl, sym, subst}
 use Rattle.std.specs.List.{list_all}
 use Rattle.std.proofs.lemmas.Result.{IfOk-weaker}
 use Rattle.crm_lex.specs.Names.{is}
@@ -99,15 +99,11 @@ module _ {S L F : Type 0} (Kept : S → Type 0) (next : S → L → Result S F) 
     (none : (s : S) → run s [] ≡ Ok s)
     (some : (s : S) (l : L) (ls : List L) → run s (l ∷ ls) ≡ (next s l >>= (λ more. run more ls)))
     (each : (s : S) (l : L) → Kept s → IfOk (next s l) Kept) where
-  go_on : (read : Result S F) (ls : List L) → IfOk read Kept → ((more : S) → Kept more → IfOk (run more ls) Kept)
-      → IfOk (read >>= (λ more. run more ls)) Kept
-  go_on (Ok more) ls h all = all more h
-  go_on (Err fault) ls h all = tt
-
   all_kept : (s : S) (ls : List L) → Kept s → IfOk (run s ls) Kept
   all_kept s [] h = subst (λ (r : Result S F). IfOk r Kept) (sym (none s)) h
   all_kept s (l ∷ ls) h =
-      subst (λ (r : Result S F). IfOk r Kept) (sym (some s l ls)) (go_on (next s l) ls (each s l h) (λ more k. all_kept more ls k))
+      subst (λ (r : Result S F). IfOk r Kept) (sym (some s l ls))
+      (step Kept Kept (next s l) (λ more. run more ls) (each s l h) (λ more k. all_kept more ls k))
 
 lines_known : (c : Cluster) (lines : List Line)
     → IfOk (journals.with_lines c [] lines) (λ told. list_all (is_known (length c.nodes)) told ≡ true)

@@ -1,10 +1,9 @@
 -- The loop over the orders of the kind Serialize.
-use Rattle.std.proofs.Common.{arith, ◌≡◌, ◌<◌, ◌≤◌, ◌+◌, ◌||◌, ◌⊎◌, ℕ, Bool, true, false, List, [], ◌∷◌, ◌++◌, length, get_or, take, sym, ap, subst, ◌∙◌}
+use Rattle.std.proofs.Common.{arith, ◌≡◌, ◌<◌, ◌≤◌, ◌+◌, ◌⊎◌, ℕ, Bool, true, false, List, [], ◌∷◌, ◌++◌, length, get_or, take, sym, ap, subst, ◌∙◌}
 use Rattle.std.specs.List.{list_any, sum_by}
 use Rattle.std.proofs.lemmas.List.{take_more}
-use Rattle.std.proofs.lemmas.List.Folds.{list_any-append}
 use Rattle.std.proofs.lemmas.List.Sums.{sum_by-append, sum_by-cons}
-use Rattle.std.proofs.Math.Bool.{or-false}
+use Rattle.lemmas.proofs.Searches.{any-more}
 use Rattle.cluster_types.specs.declared.cluster.Cluster.{Cluster}
 use Rattle.cluster_types.specs.declared.edges.Edge.{Edge}
 use Rattle.cluster_types.specs.declared.journal.Action.{Action}
@@ -33,9 +32,6 @@ module _ (c : Cluster) (actions : List Action) where
     room = omega arith;
   }
 
-  any_more : (x y : ℕ) (os : List Order) (o : Order) → list_any (says x y) (os ++ o ∷ []) ≡ list_any (says x y) os || says x y o
-  any_more x y os o = list_any-append (says x y) os (o ∷ []) ∙ ap (λ v. list_any (says x y) os || v) (or-false (says x y o))
-
   sum_more : (f : Order → ℕ) (os : List Order) (o : Order) → sum_by f (os ++ o ∷ []) ≡ sum_by f os + f o
   sum_more f os o = let a = sum_by-append f os (o ∷ []) in let b = sum_by-cons f o [] in omega arith
 
@@ -50,8 +46,8 @@ module _ (c : Cluster) (actions : List Action) where
         adds =
             adds_says (length actions) old new from upto (sum_by (most_serial actions) os + most_serial actions o) (sum_by (most_serial actions) (os ++ o ∷ []))
             (λ x y. (list_any (says x y) os ≡ true) ⊎ (says x y o ≡ true)) (λ x y. list_any (says x y) (os ++ o ∷ []) ≡ true)
-            (λ x y l m k. any_more x y os o ∙ one_or (list_any (says x y) os) (says x y o) k)
-            (λ x y l m k. or_one (list_any (says x y) os) (says x y o) (sym (any_more x y os o) ∙ k)) (omega arith)
+            (λ x y l m k. any-more (says x y) os o ∙ one_or (list_any (says x y) os) (says x y o) k)
+            (λ x y l m k. or_one (list_any (says x y) os) (says x y o) (sym (any-more (says x y) os o) ∙ k)) (omega arith)
             (adds_after (length actions) old now new from base upto (sum_by (most_serial actions) os) (most_serial actions o) (λ x y. list_any (says x y) os ≡ true)
             (λ x y. says x y o ≡ true) h.adds more);
         room = let r = h.room in omega arith;

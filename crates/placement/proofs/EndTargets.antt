@@ -20,13 +20,13 @@ use Rattle.cluster_types.specs.Precedence.{is_mandatory_order, is_up, role_by}
 use Rattle.cluster_types.specs.Tables.{Targets, holds_role, is_in_scope, is_promoted_target, is_somewhere}
 use Rattle.cluster_types.proofs.LeastSets.{held-least}
 use Rattle.cluster_types.proofs.OpLaws.{gives_one, up_of}
+use Rattle.cluster_types.proofs.TableCells.{promoted_somewhere}
 use Rattle.plan_laws.proofs.MadeOnes.{never_both}
 use Rattle.placement.specs.declared.dependencies.Dependency.{Dependency}
 use Rattle.placement.specs.Dependencies.{dependencies_by, from_colocation, from_order, may_hold}
 use Rattle.placement.specs.Taking.{IsSettled, has_primary}
 use Rattle.placement.proofs.Lacking.{lacked, not_both}
 use Rattle.placement.proofs.LeftOfChosen.{IsLeft}
-use Rattle.placement.proofs.RolesTaken.{promoted_is_started}
 use Rattle.placement.proofs.RuleOrigins.{colocation_there, order_there}
 
 -- the role that the decision gives isn't held on the node
@@ -92,7 +92,7 @@ module _ (c : Cluster) (es : List Event) (chosen left : Targets) (is : IsLeft c 
       by_colocation = by_a_colocation;
       by_place = λ r n promoted gone.
           false_from_ne_true (holds_role left r role.Promoted n) (λ h.
-          never_both (holds_role left r role.Started n) (promoted_is_started left r n h) gone);
+          never_both (holds_role left r role.Started n) (promoted_somewhere (left r n) h) gone);
     }
 
     held_has_gone : (d : Decision) (n : ℕ) → Held c es chosen d n → HasGone left d n

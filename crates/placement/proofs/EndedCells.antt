@@ -8,19 +8,18 @@ use Rattle.cluster_types.specs.declared.leaf.Role.{Role}
 use Rattle.cluster_types.specs.declared.leaf.Role.TheVariants as role
 use Rattle.cluster_types.specs.declared.placement.Decision.{Decision}
 use Rattle.cluster_types.specs.declared.placement.Decision.TheVariants.{Place, Promote}
-use Rattle.cluster_types.specs.declared.placement.Target.{Target}
 use Rattle.cluster_types.specs.declared.placement.Target.TheVariants as target
 use Rattle.cluster_types.specs.Decisions.{decision_of}
-use Rattle.cluster_types.specs.Held.{AreTargets, Held, Keeps, by_colocation, by_order, by_place}
+use Rattle.cluster_types.specs.Held.{AreTargets, Held, by_colocation, by_order, by_place}
 use Rattle.cluster_types.specs.Tables.{Targets, holds_role}
 use Rattle.plan_laws.specs.HeldMarks.{Marks}
 use Rattle.plan_laws.proofs.HeldReason as held_rule
+use Rattle.plan_laws.proofs.KeptTargets as kept_targets
 use Rattle.plan_laws.proofs.MadeOnes.{never_both}
 use Rattle.plan_laws.proofs.StayHeld.{has, holds_is, nowhere_has_none}
 use Rattle.plan_laws.proofs.TablesWithin.{StaysWithin, is_cell}
 use Rattle.placement.proofs.Lacking.{held_not}
 use Rattle.placement.proofs.LeftOfChosen.{IsLeft}
-use Rattle.placement.proofs.RolesTaken.{promoted_is_started}
 
 -- a role is held only in a cell of the cluster
 on_cell : (c : Cluster) (table : Targets) → StaysWithin c table → (r : ℕ) (given : Role) (n : ℕ) → holds_role table r given n ≡ true
@@ -37,44 +36,21 @@ on_cell c table inside r given n h = go (is_cell c r n) refl
 
 module _ (c : Cluster) (es : List Event) (chosen targets : Targets) (inside : StaysWithin c chosen) (also : StaysWithin c targets)
     (are : AreTargets c es chosen targets) where
-  was_chosen : (r n : ℕ) (t : Target) (given : Role) → Keeps c es chosen r n t → has given t ≡ true → holds_role chosen r given n ≡ true
-  was_chosen r n target.Nowhere given kept h = absurd (never_both (has given target.Nowhere) h (nowhere_has_none given))
-  was_chosen r n target.Started role.Started kept h = kept.0
-  was_chosen r n target.Started role.Promoted kept h = cc
-  was_chosen r n target.Promoted role.Started kept h = promoted_is_started chosen r n kept.0
-  was_chosen r n target.Promoted role.Promoted kept h = kept.0
-
-  is_held : (r n : ℕ) (t : Target) (given : Role) → Keeps c es chosen r n t → holds_role chosen r given n ≡ true → has given t ≡ false
-      → Held c es chosen (decision_of r given) n
-  is_held r n target.Nowhere role.Started kept was h = kept was
-  is_held r n target.Nowhere role.Promoted kept was h = by_place r n was (kept (promoted_is_started chosen r n was))
-  is_held r n target.Started role.Started kept was h = cc
-  is_held r n target.Started role.Promoted kept was h = kept.2 was
-  is_held r n target.Promoted role.Started kept was h = cc
-  is_held r n target.Promoted role.Promoted kept was h = cc
-
-  never_held : (r n : ℕ) (t : Target) (given : Role) → Keeps c es chosen r n t → has given t ≡ true → Held c es chosen (decision_of r given) n → ⊥
-  never_held r n target.Nowhere given kept h held = never_both (has given target.Nowhere) h (nowhere_has_none given)
-  never_held r n target.Started role.Started kept h held = kept.1 held
-  never_held r n target.Started role.Promoted kept h held = cc
-  never_held r n target.Promoted role.Started kept h held = kept.1 (by_place r n kept.0 held)
-  never_held r n target.Promoted role.Promoted kept h held = kept.1 held
-
   pub ended : IsLeft c es chosen targets
   ended = record {
     within = λ r given n h.
         let (low, lt) = on_cell c targets also r given n h in
-        was_chosen r n (targets r n) given (are r n low lt) (sym (holds_is targets r given n) ∙ h);
+        kept_targets.chosen c es chosen targets r n given (are r n low lt) h;
     held = λ r given n was now.
         let (low, lt) = on_cell c chosen inside r given n was in
-        is_held r n (targets r n) given (are r n low lt) was (sym (holds_is targets r given n) ∙ now);
+        kept_targets.back c es chosen targets r n given (are r n low lt) was now;
   }
 
   pub held_gone : (r : ℕ) (given : Role) (n : ℕ) → Held c es chosen (decision_of r given) n → holds_role targets r given n ≡ false
   held_gone r given n held =
       false_from_ne_true (holds_role targets r given n) (λ h.
       let (low, lt) = on_cell c targets also r given n h in
-      never_held r n (targets r n) given (are r n low lt) (sym (holds_is targets r given n) ∙ h) held)
+      kept_targets.free c es chosen targets r n given (are r n low lt) h held)
 
   -- a place that is held is held by a rule
 

@@ -1,4 +1,3 @@
-pub mod OneMore
 pub mod AllowedBy
 pub mod RowTerms
 pub mod LoadsAfter

@@ -1,9 +1,9 @@
 -- One more node is picked: the first of those that are left.
-use Rattle.std.proofs.Common.{◌≡◌, ◌≢◌, inl, inr, ℕ, ◌+◌, ◌<◌, ◌≤◌, ◌==◌, Bool, true, false, not, ◌&&◌, ◌||◌, ℤ, List, [], ◌∷◌, count_by, length, refl, sym, ap, ◌∙◌, arith}
+use Rattle.std.proofs.Common.{◌≡◌, ◌≢◌, inl, inr, ℕ, ◌+◌, ◌<◌, ◌≤◌, ◌==◌, true, false, not, ◌&&◌, ◌||◌, ℤ, List, length, refl, sym, ap, ◌∙◌, arith}
 use Rattle.std.proofs.Math.Bool.{or-true}
 use Rattle.std.proofs.lemmas.Bool.{cases_eq, false_from_ne_true, false≢true, ne_eqb}
 use Rattle.std.specs.List.{range_with_len}
-use Rattle.lemmas.proofs.Counts.{count-is}
+use Rattle.lemmas.proofs.Counts.{count_of_none}
 use Rattle.lemmas.proofs.Booleans.{number_itself}
 use Rattle.cluster_types.proofs.Loads.{one_more_counted}
 use Rattle.lane_rows.specs.Choice.{GoesBefore, IsGreatest}
@@ -85,18 +85,11 @@ module _ (totals : List ℤ) (loads : List ℕ) (among : NodeSet) (turn : ℕ) (
     enough = λ n a h. let is = old.size in omega (arith, is, full);
   }
 
-none-counted : (p : ℕ → Bool) → ((n : ℕ) → p n ≡ false) → (xs : List ℕ) → count_by p xs ≡ 0
-none-counted p none [] = refl
-none-counted p none (x ∷ xs) =
-    let here = count-is p x xs false (none x) in
-    let rest = none-counted p none xs in
-    omega (arith, here, rest)
-
 -- nothing was picked yet
 pub none-picked : (totals : List ℤ) (loads : List ℕ) (among chosen : NodeSet) → ((n : ℕ) → has chosen n ≡ false) → Picked totals loads among 0 chosen among
 none-picked totals loads among chosen none = record {
   parted = λ n. sym (ap (λ b. b || has among n) (none n));
   apart = λ n h. absurd (false≢true (sym (none n) ∙ h));
   first = λ n m h k. absurd (false≢true (sym (none n) ∙ h));
-  size = none-counted (has chosen) none (range_with_len 0 (length totals));
+  size = count_of_none (has chosen) none (range_with_len 0 (length totals));
 }

@@ -5,7 +5,6 @@ use Rattle.lemmas.proofs.Booleans.{sooner, later}
 use Rattle.cluster_types.specs.declared.leaf.Role.{Role}
 use Rattle.cluster_types.specs.declared.leaf.Role.TheVariants as role
 use Rattle.cluster_types.specs.declared.placement.Target.{Target}
-use Rattle.cluster_types.specs.declared.placement.Target.TheVariants as target
 use Rattle.cluster_types.specs.Tables.{Targets, holds_role}
 use Rattle.cluster_types.proofs.TableCells.{promoted_somewhere}
 use Rattle.plan_laws.proofs.MadeOnes.{never_both}
@@ -13,9 +12,6 @@ use Rattle.plan_laws.proofs.StayHeld.{has, holds_is}
 use Rattle.placement.specs.Taking.{below, without}
 
 -- of one target
-
-pub promoted_is_started : (table : Targets) (r n : ℕ) → holds_role table r role.Promoted n ≡ true → holds_role table r role.Started n ≡ true
-promoted_is_started table r n h = promoted_somewhere (table r n) h
 
 less_below : (t : Target) (given other : Role) → has given t ≡ true → has other (below given) ≡ true → has other t ≡ true
 less_below t role.Started role.Started h k = cc

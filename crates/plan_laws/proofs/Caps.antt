@@ -1,7 +1,7 @@
 -- In the table after all decisions a leaf that isn't pinned holds a role on no more nodes than the cap of its decision.
-use Rattle.std.proofs.Common.{arith, ◌≡◌, ◌<◌, ◌≤◌, ◌+◌, ℕ, suc, zero, Bool, true, false, List, [], ◌∷◌, length, count_by, inl, inr, refl}
+use Rattle.std.proofs.Common.{arith, ◌≡◌, ◌<◌, ◌≤◌, ◌+◌, ℕ, suc, zero, Bool, true, false, List, [], length, count_by, inl, inr, refl}
 use Rattle.std.specs.List.{range_with_len}
-use Rattle.lemmas.proofs.Counts.{count-is}
+use Rattle.lemmas.proofs.Counts.{count_more_on}
 use Rattle.cluster_types.specs.declared.cluster.Cluster.{Cluster}
 use Rattle.cluster_types.specs.declared.journal.Event.{Event}
 use Rattle.cluster_types.specs.declared.journal.Promotion.{Promotion}
@@ -18,15 +18,10 @@ use Rattle.plan_laws.proofs.StayHeld.{free_of_pins}
 
 -- a test that passes wherever another does among some numbers counts no fewer of them
 module _ (p q : ℕ → Bool) where
-  more_on : (x : ℕ) (xs : List ℕ) (a b : Bool) → p x ≡ a → q x ≡ b → (a ≡ true → b ≡ true) → count_by p xs ≤ count_by q xs → count_by p (x ∷ xs) ≤ count_by q (x ∷ xs)
-  more_on x xs true true e f g rest = let c = count-is p x xs true e in let d = count-is q x xs true f in omega arith
-  more_on x xs true false e f g rest = let t = g refl in cc
-  more_on x xs false b e f g rest = let c = count-is p x xs false e in let d = count-is q x xs b f in omega arith
-
   pub count_within : (from n : ℕ) → ((x : ℕ) → from ≤ x → x < from + n → p x ≡ true → q x ≡ true) → count_by p (range_with_len from n) ≤ count_by q (range_with_len from n)
   count_within from zero more = omega arith
   count_within from (suc n) more =
-      more_on from (range_with_len (from + 1) n) (p from) (q from) refl refl (more from (omega arith) (omega arith))
+      count_more_on p q from (range_with_len (from + 1) n) (p from) (q from) refl refl (more from (omega arith) (omega arith))
       (count_within (from + 1) n (λ x ge lt. more x (omega arith) (omega arith)))
 
 module _ (c : Cluster) (es : List Event) (ps : List Promotion) (ds : List Decision) (in_order : Decides c es ps [] ds) where

@@ -16,6 +16,7 @@ use Rattle.cluster_types.specs.CellStates.{cell_state}
 use Rattle.cluster_types.specs.Needed.{GetsStep, steps_at, steps_of}
 use Rattle.cluster_types.specs.Pins.{is_pinned}
 use Rattle.cluster_types.specs.Tables.{Targets, is_promoted_target, is_somewhere}
+use Rattle.cluster_types.specs.Terms.{is_active}
 
 -- its node is there, and it isn't blocked
 abbrev pub is_known : CellState → Bool
@@ -36,18 +37,11 @@ promoted_state cell.Failed h = cc
 promoted_state cell.On h = cc
 promoted_state cell.Off h = cc
 
--- something runs there, or may
-abbrev pub may_be_running : CellState → Bool
-may_be_running cell.On = true
-may_be_running cell.Promoted = true
-may_be_running cell.Failed = true
-may_be_running _ = false
-
 -- a cell of this state and target can need the step
 abbrev pub fits : CellState → Target → Op → Bool
 fits s t op.Start = is_known s && is_somewhere t
 fits s t op.Promote = is_known s && is_promoted_target t
-fits s t op.Stop = may_be_running s
+fits s t op.Stop = is_active s
 fits s t op.Demote = is_promoted_state s
 fits s t op.Monitor = false
 

@@ -5,7 +5,7 @@ use Rattle.std.proofs.lemmas.List.FromFn.{length-range_with_len, get_or-range_wi
 use Rattle.std.proofs.lemmas.Bool.{and_from, cases_eq, eqb-true}
 use Rattle.std.proofs.lemmas.List.Folds.{Any-from_list_any}
 use Rattle.lemmas.proofs.Booleans.{sooner, later}
-use Rattle.lemmas.proofs.Counts.{count-is, count_one_more, count_some}
+use Rattle.lemmas.proofs.Counts.{count-is, count_of_none, count_one_more, count_some}
 
 -- two tests that together pass wherever a third does
 module _ {X : Type 0} (p q r : X → Bool) (parts : (x : X) → r x ≡ true → p x || q x ≡ true) where
@@ -33,11 +33,6 @@ module _ {X : Type 0} (p q r : X → Bool) (parts : (x : X) → r x ≡ true →
   pub count_both : (xs : List X) → count_by r xs ≤ count_by p xs + count_by q xs
   count_both [] = omega arith
   count_both (x ∷ xs) = both_on x xs (p x) (q x) (r x) refl refl refl (parts x) (count_both xs)
-
--- a test that passes for none
-pub count_of_none : {X : Type 0} (p : X → Bool) → ((x : X) → p x ≡ false) → (xs : List X) → count_by p xs ≡ 0
-count_of_none p none [] = refl
-count_of_none p none (x ∷ xs) = let c = count-is p x xs false (none x) in let r = count_of_none p none xs in omega arith
 
 -- a test that passes for one number at most
 none_later : (p : ℕ → Bool) (first last : ℕ) → ((x y : ℕ) → x < last → y < last → p x ≡ true → p y ≡ true → x ≡ y) → p first ≡ true

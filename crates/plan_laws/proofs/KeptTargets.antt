@@ -17,7 +17,7 @@ use Rattle.cluster_types.specs.Choice.{is_mandatory}
 use Rattle.cluster_types.specs.Decisions.{decision_of}
 use Rattle.cluster_types.specs.Held.{AreTargets, Gives, Held, by_order, by_colocation, by_place, Keeps, OrderMayHold, ColocationMayHold}
 use Rattle.cluster_types.specs.Pins.{is_pinned}
-use Rattle.cluster_types.specs.Tables.{Targets, holds_role, is_in_scope, is_somewhere, is_promoted_target}
+use Rattle.cluster_types.specs.Tables.{Targets, holds_role, is_in_scope, target_holds}
 use Rattle.cluster_types.specs.Valid.{IsValid}
 use Rattle.cluster_types.proofs.TableCells.{promoted_somewhere}
 use Rattle.rule_loops.proofs.FromValid.{valid_join, valid_order}
@@ -25,43 +25,37 @@ use Rattle.lemmas.proofs.Searches.{passes_by}
 
 module _ (c : Cluster) (es : List Event) (table : Targets) where
   module _ (r n : ℕ) where
-    started_too : holds_role table r role.Promoted n ≡ true → holds_role table r role.Started n ≡ true
-    started_too h = promoted_somewhere (table r n) h
-
     one_target : (t u : Target) → Keeps c es table r n t → Keeps c es table r n u → t ≡ u
     one_target target.Nowhere target.Nowhere h k = refl
     one_target target.Nowhere target.Started h k = absurd (k.1 (h k.0))
-    one_target target.Nowhere target.Promoted h k = absurd (k.1 (by_place r n k.0 (h (started_too k.0))))
+    one_target target.Nowhere target.Promoted h k = absurd (k.1 (by_place r n k.0 (h (promoted_somewhere (table r n) k.0))))
     one_target target.Started target.Nowhere h k = absurd (h.1 (k h.0))
     one_target target.Started target.Started h k = refl
     one_target target.Started target.Promoted h k = absurd (k.1 (h.2 k.0))
-    one_target target.Promoted target.Nowhere h k = absurd (h.1 (by_place r n h.0 (k (started_too h.0))))
+    one_target target.Promoted target.Nowhere h k = absurd (h.1 (by_place r n h.0 (k (promoted_somewhere (table r n) h.0))))
     one_target target.Promoted target.Started h k = absurd (h.1 (k.2 h.0))
     one_target target.Promoted target.Promoted h k = refl
 
-    abbrev has : Target → Role → Bool
-    has t role.Started = is_somewhere t
-    has t role.Promoted = is_promoted_target t
-
     -- a role that was chosen and isn't a target is held back
-    back_on : (t : Target) (given : Role) → Keeps c es table r n t → holds_role table r given n ≡ true → has t given ≡ false → Held c es table (decision_of r given) n
+    back_on : (t : Target) (given : Role) → Keeps c es table r n t → holds_role table r given n ≡ true → target_holds t given ≡ false
+        → Held c es table (decision_of r given) n
     back_on target.Nowhere role.Started k h f = k h
-    back_on target.Nowhere role.Promoted k h f = by_place r n h (k (started_too h))
+    back_on target.Nowhere role.Promoted k h f = by_place r n h (k (promoted_somewhere (table r n) h))
     back_on target.Started role.Started k h f = cc
     back_on target.Started role.Promoted k h f = k.2 h
     back_on target.Promoted role.Started k h f = cc
     back_on target.Promoted role.Promoted k h f = cc
 
     -- a role of a target was chosen, and isn't held back
-    chosen_on : (t : Target) (given : Role) → Keeps c es table r n t → has t given ≡ true → holds_role table r given n ≡ true
+    chosen_on : (t : Target) (given : Role) → Keeps c es table r n t → target_holds t given ≡ true → holds_role table r given n ≡ true
     chosen_on target.Nowhere role.Started k h = cc
     chosen_on target.Nowhere role.Promoted k h = cc
     chosen_on target.Started role.Started k h = k.0
     chosen_on target.Started role.Promoted k h = cc
-    chosen_on target.Promoted role.Started k h = started_too k.0
+    chosen_on target.Promoted role.Started k h = promoted_somewhere (table r n) k.0
     chosen_on target.Promoted role.Promoted k h = k.0
 
-    free_on : (t : Target) (given : Role) → Keeps c es table r n t → has t given ≡ true → Held c es table (decision_of r given) n → ⊥
+    free_on : (t : Target) (given : Role) → Keeps c es table r n t → target_holds t given ≡ true → Held c es table (decision_of r given) n → ⊥
     free_on target.Nowhere role.Started k h b = cc
     free_on target.Nowhere role.Promoted k h b = cc
     free_on target.Started role.Started k h b = k.1 b

@@ -20,6 +20,7 @@ pub mod SomeReady
 pub mod NoCandidate
 pub mod OneReason
 pub mod OnePlacement
+pub mod OnePlan
 pub mod NeededSteps
 pub mod NeededTargets
 pub mod MadeBefore

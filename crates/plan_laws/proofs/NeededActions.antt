@@ -19,6 +19,7 @@ use Rattle.cluster_types.specs.May.{is_left_promoted}
 use Rattle.cluster_types.specs.Needed.{GetsStep, IsDisturbed, FirstSet, fence, probe, step, monitor, Migrates, Needed, kept, sent, taken_in}
 use Rattle.cluster_types.specs.Precedence.{is_migrating, sends}
 use Rattle.cluster_types.specs.Tables.{Targets, is_promoted_target}
+use Rattle.cluster_types.proofs.NeededLaws.{bounds_of_first}
 use Rattle.plan_laws.proofs.CellStates.{says_of}
 use Rattle.plan_laws.proofs.CellSteps.{IsStep, is_step, is_known, promoted_state}
 
@@ -55,18 +56,14 @@ module _ (c : Cluster) (es : List Event) (targets : Targets) where
   step_of_cell _ _ _ _ _ e (step r n o h l g) = g
   step_of_cell _ _ _ _ _ e (monitor r n m h l k g) = cc
 
-  bounds_of_first : (o : Op) (r n i : ℕ) (role : Role) → FirstSet c es targets (Cell o r n i role) → (r < length c.leaves) × (n < length c.nodes)
-  bounds_of_first _ _ _ _ _ (step r n o h l g) = (h, l)
-  bounds_of_first _ _ _ _ _ (monitor r n m h l k g) = (h, l)
-
   pub gets_step : (o : Op) (r n i : ℕ) (role : Role) → is_monitor o ≡ false → Needed c es targets (Cell o r n i role) → GetsStep c es targets r n o
   gets_step o r n i role e h = step_of_cell o r n i role e (first_of_cell o r n i role h)
 
   pub bounds_of_cell : (o : Op) (r n i : ℕ) (role : Role) → Needed c es targets (Cell o r n i role) → (r < length c.leaves) × (n < length c.nodes)
-  bounds_of_cell o r n i role h = bounds_of_first o r n i role (first_of_cell o r n i role h)
+  bounds_of_cell o r n i role h = bounds_of_first c es targets o r n i role (first_of_cell o r n i role h)
 
   disturbed_by_first : (o : Op) (r n i : ℕ) (role : Role) → is_monitor o ≡ false → FirstSet c es targets (Cell o r n i role) → IsDisturbed c es targets r
-  disturbed_by_first o r n i role e f = (n, (bounds_of_first o r n i role f).1, (o, step_of_cell o r n i role e f))
+  disturbed_by_first o r n i role e f = (n, (bounds_of_first c es targets o r n i role f).1, (o, step_of_cell o r n i role e f))
 
   pub disturbed_by : (o : Op) (r n i : ℕ) (role : Role) → is_monitor o ≡ false → Needed c es targets (Cell o r n i role) → IsDisturbed c es targets r
   disturbed_by o r n i role e h = disturbed_by_first o r n i role e (first_of_cell o r n i role h)

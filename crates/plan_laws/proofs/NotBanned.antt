@@ -6,7 +6,7 @@ use Rattle.std.proofs.lemmas.List.Elements.{Contains-append_left, Contains-appen
 use Rattle.std.proofs.lemmas.Bool.{false_from_ne_true}
 use Rattle.score.specs.Total.{has, minus_infinity, total_of}
 use Rattle.lemmas.proofs.Searches.{passes_by}
-use Rattle.lemmas.proofs.Members.{at_head, in_flat}
+use Rattle.lemmas.proofs.Members.{at_head, in_flat, in_if}
 use Rattle.cluster_types.specs.declared.cluster.Cluster.{Cluster}
 use Rattle.cluster_types.specs.declared.journal.Event.{Event}
 use Rattle.cluster_types.specs.declared.journal.Promotion.{Promotion}
@@ -30,16 +30,12 @@ minus_in : (terms : List ℤ) → Contains terms minus_infinity → has minus_in
 minus_in terms h = passes_by (λ term. int_eq term minus_infinity) terms minus_infinity h refl
 
 module _ (c : Cluster) (es : List Event) where
-  in_ban : (b : Bool) → b ≡ true → Contains (if b then minus_infinity ∷ [] else []) minus_infinity
-  in_ban true h = at_head minus_infinity [] minus_infinity refl
-  in_ban false h = cc
-
   -- the ban is a term of the leaf's own
   ban_among_own : (r n : ℕ) → is_banned c r n es ≡ true → Contains (own_terms c es r n) minus_infinity
   ban_among_own r n h =
       Contains-append_left (location_scores c es is_started r n ++ stickiness_scores c es r n ++ ban_scores c es r n) (opt_in_scores c es r n) minus_infinity
       (Contains-append_right (location_scores c es is_started r n ++ stickiness_scores c es r n) (ban_scores c es r n) minus_infinity
-      (in_ban (is_banned c r n es) h))
+      (in_if (is_banned c r n es) minus_infinity h))
 
   -- who joined stays
   joins_on : (joined : List ℕ) (s r : ℕ) (b : Bool) → Contains joined r → Contains (if b then joined ++ s ∷ [] else joined) r

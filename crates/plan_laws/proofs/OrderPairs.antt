@@ -15,9 +15,10 @@ use Rattle.cluster_types.specs.Numbers.{Link, is_earlier, is_step, is_within_pha
 use Rattle.cluster_types.specs.Precedence.{as_earlier, as_later, inverse, is_inverse_pair, is_migrating, is_ordered, is_pair, is_serialize, is_taken_back, is_up, takers}
 use Rattle.cluster_types.specs.Tables.{Targets, is_in_scope}
 use Rattle.cluster_types.specs.Valid.{IsValidOrder, MayHaveWord}
+use Rattle.cluster_types.proofs.OpLaws.{stop_takes}
 use Rattle.plan_laws.proofs.Links.{inverse_by_word, inverse_link, link_of_order, own_link, step_by_word, taken_link, taker_by_word, turned_link}
 use Rattle.plan_laws.proofs.NeededActions.{found, Migrant, disturbed_by, is_monitor, migrant_disturbed, migrates_by_sent, migrates_by_taken, migrating}
-use Rattle.plan_laws.proofs.OrderWords.{inverse_is_step, not_start, stop_takes, taker_takes, turned_up, word_is_step}
+use Rattle.plan_laws.proofs.OrderWords.{inverse_is_step, not_start, taker_takes, turned_up, word_is_step}
 use Rattle.plan_laws.proofs.Phases.{Rightly, rightly_upward}
 use Rattle.plan_laws.proofs.Words.{both_there, Earlier, first_start, first_taken_in, first_stop, first_promote, first_demote, earlier, Later, then_start, then_sent_to, then_sent_off, then_stop, then_promote, then_demote, later}
 

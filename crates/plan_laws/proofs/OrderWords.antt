@@ -1,6 +1,5 @@
 -- What the words of orders are: of steps, that give a role or take one.
-use Rattle.std.proofs.Common.{◌≡◌, ◌≢◌, ℕ, true, false, [], ◌∷◌, Contains, refl, subst}
-use Rattle.lemmas.proofs.Members.{at_head, in_rest}
+use Rattle.std.proofs.Common.{◌≡◌, ◌≢◌, ℕ, true, false, Contains, refl, subst}
 use Rattle.lemmas.proofs.Searches.{of_none}
 use Rattle.cluster_types.specs.declared.cluster.Cluster.{Cluster}
 use Rattle.cluster_types.specs.declared.leaf.Op.{Op}
@@ -31,14 +30,6 @@ taker_takes op.Stop p h = of_none (λ v. (is_monitor v ≡ false) × (is_up v �
 taker_takes op.Promote p h = of_two (λ v. (is_monitor v ≡ false) × (is_up v ≡ false)) op.Demote op.Stop p (refl, refl) (refl, refl) h
 taker_takes op.Demote p h = of_none (λ v. (is_monitor v ≡ false) × (is_up v ≡ false)) p h
 taker_takes op.Monitor p h = of_none (λ v. (is_monitor v ≡ false) × (is_up v ≡ false)) p h
-
--- a stop takes whatever an up word gives
-pub stop_takes : (o : Op) → is_up o ≡ true → Contains (takers o) op.Stop
-stop_takes op.Start h = at_head op.Stop [] op.Stop refl
-stop_takes op.Promote h = in_rest op.Demote (op.Stop ∷ []) op.Stop (at_head op.Stop [] op.Stop refl)
-stop_takes op.Stop h = cc
-stop_takes op.Demote h = cc
-stop_takes op.Monitor h = cc
 
 -- the inverse of a word that takes gives, of one that gives takes
 pub turned_up : (o : Op) → is_monitor o ≡ false → is_up o ≡ false → is_up (inverse o) ≡ true

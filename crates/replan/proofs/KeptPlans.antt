@@ -18,10 +18,6 @@ use Rattle.run_safety.proofs.Kept.{between_new, between_same}
 use Rattle.run_safety.proofs.KeptRuns.{fits_more, placed_fits}
 use Rattle.replan.specs.Kept.{IsOfPlan, StandsSo}
 
-pub all_last : {X : Type 0} (P : X → Type 0) (xs : List X) (x : X) → AllByRecursion P xs → P x → AllByRecursion P (xs ++ x ∷ [])
-all_last P [] x h p = (p, tt)
-all_last P (y ∷ ys) x h p = (h.0, all_last P ys x h.1 p)
-
 stands_there : (t u : Transition) (since later : List Event) (end : PassedEnd) → t ≡ u → since ≡ later → StandsSo t since end → StandsSo u later end
 stands_there t u since later end same like h =
     subst (λ (x : Transition). StandsSo x later end) same (subst (λ (x : List Event). StandsSo t x end) like h)

@@ -4,6 +4,7 @@ use Rattle.std.specs.Prelude.{Option, Some, None}
 use Rattle.std.specs.List.{AllByRecursion, flat_map}
 use Rattle.std.proofs.lemmas.List.{length-append}
 use Rattle.lemmas.proofs.Booleans.{fails_too}
+use Rattle.lemmas.proofs.Members.{all_append}
 use Rattle.cluster_types.specs.declared.cluster.Cluster.{Cluster}
 use Rattle.cluster_types.specs.declared.journal.Answer.{Answer}
 use Rattle.cluster_types.specs.declared.journal.Event.{Event}
@@ -40,7 +41,7 @@ use Rattle.replan.specs.Replays.{Setting, setting}
 use Rattle.replan.specs.Turns.{IsReady, IsSaid, left_of}
 use Rattle.replan.proofs.Joined.{said_then}
 use Rattle.replan.proofs.KeptEnds.{kept_answered, kept_unanswered}
-use Rattle.replan.proofs.KeptPlans.{all_last, each_more, newly_of_plan, passed_by, within_each}
+use Rattle.replan.proofs.KeptPlans.{each_more, newly_of_plan, passed_by, within_each}
 use Rattle.replan.proofs.Ready.{carries}
 use Rattle.replan.proofs.Steps.{lines_of_plan, part_runs, part_said, planned_said, planned_step}
 
@@ -72,7 +73,8 @@ module _ (s : Setting) (es : List Event) (first rest : Option (List Answer)) (ov
         said = λ steady open_still. subst (λ (x : List RunLine). IsSaid s (due 1 es) at x first left) lines
             (said_then s (due 1 es) (due (1 + length passed) before) at so_far more first rest left (keeps.said steady (fails_too over over_now (stays steady) open_still)) (said steady open_still));
         each = subst (λ (x : List Event). AllByRecursion (IsOfPlan s.cluster s.promotions x) (passed ++ p ∷ [])) (sym there)
-            (all_last (IsOfPlan s.cluster s.promotions (before ++ since)) passed p (each_more s.cluster s.promotions before since passed keeps.each) is);
+            (all_append (IsOfPlan s.cluster s.promotions (before ++ since)) passed (p ∷ [])
+            (each_more s.cluster s.promotions before since passed keeps.each) (is, tt));
       }
 
   module _ (placed : Placed) (g : GraphOf) (out : CarriesOut s.cluster before s.promotions placed g) (now : Running) where

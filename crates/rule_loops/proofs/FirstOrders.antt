@@ -4,7 +4,7 @@ use Rattle.std.specs.List.{flat_map, position_or_len, range_with_len}
 use Rattle.std.proofs.Math.Seq.{take-append_seam, take-length}
 use Rattle.std.proofs.lemmas.Bool.{both_ways, lt-ltb, ltb-true, ltb-false}
 use Rattle.std.proofs.lemmas.Grind.{flat_map-append}
-use Rattle.std.proofs.lemmas.List.{append_assoc, get_or-take, length-take, take-append-drop}
+use Rattle.std.proofs.lemmas.List.{append_assoc, take-append-drop}
 use Rattle.std.proofs.lemmas.List.Elements.{Contains-append_cases}
 use Rattle.std.proofs.lemmas.List.FromFn.{get_or-map-range_with_len, length-map-range_with_len}
 use Rattle.std.proofs.lemmas.List.Quantifiers.{position-Some}
@@ -21,14 +21,7 @@ use Rattle.rule_loops.specs.Edges.{counts, edges_of, link_edge, order_ends, step
 use Rattle.rule_loops.specs.FirstLoops.{AllOrder, ClosesSteps, IsFirstOrder, with_orders}
 use Rattle.rule_loops.proofs.LinkEdges.{edges_joined}
 use Rattle.rule_loops.proofs.LinkLoops.{steps_free, steps_loop}
-use Rattle.lemmas.proofs.Members.{contains_first, head_or_rest, in_none, of_filter, of_flat, of_map}
-
--- what is among the first is among more of them
-pub contains_shorter : {X : Type 0} (m n : ℕ) (xs : List X) (x : X) → m ≤ n → Contains (take m xs) x → Contains (take n xs) x
-contains_shorter m n xs x le (k, lt, at) =
-    let l = length-take m xs in
-    let r = length-take n xs in
-    (k, omega arith, get_or-take n xs k x (omega arith) ∙ sym (get_or-take m xs k x (omega arith)) ∙ at)
+use Rattle.lemmas.proofs.Members.{contains_first, contains_shorter, head_or_rest, in_none, of_filter, of_flat, of_map}
 
 -- where a test passes somewhere, it passes somewhere first
 

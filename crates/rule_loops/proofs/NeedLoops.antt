@@ -9,7 +9,6 @@ use Rattle.std.proofs.lemmas.List.FromFn.{length-map-range_with_len}
 use Rattle.loops.specs.declared.edge.Edge.{Edge}
 use Rattle.loops.specs.Loops.{ClosesFirst, EndWithin, HasLoop, HasNoLoop}
 use Rattle.loops.proofs.Endings.{one_way}
-use Rattle.loops.proofs.Fronts.{contains_front}
 use Rattle.loops.proofs.Paths.{none_where_rising}
 use Rattle.loops.proofs.Relations.{FollowsItself, StandsFor, leads_of, nothing_follows_itself, one_follows_itself}
 use Rattle.cluster_types.specs.declared.cluster.Cluster.{Cluster}
@@ -82,7 +81,7 @@ module _ (c : Cluster) (joined : AllJoin c) where
 -- the leaves alone have no loop: each of their edges leads to a higher position
 leaves_rise : (k n : ℕ) (e : Edge) → Contains (take k (map leaf_edge (range_with_len 0 n))) e → e.before < e.after
 leaves_rise k n e h =
-    let m = of_map leaf_edge (range_with_len 0 n) e (contains_front k (map leaf_edge (range_with_len 0 n)) e h) in
+    let m = of_map leaf_edge (range_with_len 0 n) e (contains_first k (map leaf_edge (range_with_len 0 n)) e h) in
     rw (← m.gives) (omega arith)
 
 pub leaves_free : (positions k n : ℕ) → HasNoLoop positions (take k (map leaf_edge (range_with_len 0 n)))

@@ -14,9 +14,9 @@ use Rattle.cluster_types.specs.Decisions.{NeedsHaveNoLoop}
 use Rattle.cluster_types.specs.Numbers.{HasNoLoop, Link, leaf_links, links, order_links}
 use Rattle.rule_loops.specs.Edges.{counts, link_edge, need_edges, step_edges}
 use Rattle.rule_loops.specs.FirstLoops.{AllJoin, AllOrder, ClosesNeeds, ClosesSteps, IsFirstColocation, IsFirstOrder, NeedsHaveLoop, StepsHaveLoop, with_colocations, with_orders}
-use Rattle.rule_loops.proofs.FirstOrders.{contains_shorter, first_ordered}
+use Rattle.rule_loops.proofs.FirstOrders.{first_ordered}
 use Rattle.rule_loops.proofs.LinkLoops.{loop_of_steps, steps_loop}
-use Rattle.lemmas.proofs.Members.{in_filter, in_flat, in_map, of_filter, of_flat, of_map}
+use Rattle.lemmas.proofs.Members.{contains_shorter, in_filter, in_flat, in_map, of_filter, of_flat, of_map}
 use Rattle.rule_loops.proofs.NeedLoops.{first_edges, first_joined, loop_of_needs, needs_loop}
 
 pub needs_apart : (c : Cluster) → NeedsHaveLoop c → NeedsHaveNoLoop c → ⊥

@@ -1,6 +1,7 @@
 -- How begins and successes change whether a leaf may run on a node.
 use Rattle.std.proofs.Common.{arith, ◌≡◌, ◌==◌, ◌&&◌, ◌||◌, not, ℕ, Bool, true, false, List, [], ◌∷◌, ◌++◌, refl, ◌∙◌}
 use Rattle.std.proofs.lemmas.Bool.{and_from, and_left, and_right, or_left}
+use Rattle.lemmas.proofs.Booleans.{first_passes}
 use Rattle.cluster_types.specs.declared.cluster.Cluster.{Cluster}
 use Rattle.cluster_types.specs.declared.journal.Action.{Action}
 use Rattle.cluster_types.specs.declared.journal.Action.TheVariants.{Fence, Probe, Cell, MigrateTo, MigrateFrom}
@@ -15,7 +16,7 @@ use Rattle.cluster_types.specs.Outcomes.{is_among}
 use Rattle.cluster_types.specs.Steps.{is_success}
 use Rattle.cluster_types.proofs.MayLaws.{may-last}
 use Rattle.run_safety.proofs.Touching.{gives_run, takes_run}
-use Rattle.run_safety.proofs.Truths.{only, shut, still_open, still_shut}
+use Rattle.run_safety.proofs.Truths.{shut, still_open, still_shut}
 
 -- tests that fail by their parts
 pub second_fails : (a b c : Bool) → b ≡ false → (a && b) && c ≡ false
@@ -74,7 +75,7 @@ module _ (c : Cluster) (r n : ℕ) where
 
   ends_open : (k m : ℕ) (y : Action) (o : Outcome) → is_success c y o ≡ true → gives_run r n y ≡ false → opens c r n (Ended k y o m) ≡ false
   ends_open k m (Fence node) o ok h = refl
-  ends_open k m (Probe leaf node) o ok h = excluded _ (is_among (7 ∷ 5 ∷ []) o) (probed_off o (only _ ok))
+  ends_open k m (Probe leaf node) o ok h = excluded _ (is_among (7 ∷ 5 ∷ []) o) (probed_off o (first_passes _ false ok refl))
   ends_open k m (Cell Start leaf node interval held) o ok h = and_left _ true h
   ends_open k m (Cell Stop leaf node interval held) o ok h = refl
   ends_open k m (Cell Promote leaf node interval held) o ok h = and_left _ true h
@@ -96,9 +97,9 @@ module _ (c : Cluster) (r n : ℕ) where
   ends_close k m (MigrateFrom leaf source target) o ok h = refl
 
   takes_close : (k m : ℕ) (y : Action) (o : Outcome) → is_success c y o ≡ true → takes_run r n y ≡ true → closes c r n (Ended k y o m) ≡ true
-  takes_close k m (Fence node) o ok h = taken_out (node == n) _ false h (only _ ok)
-  takes_close k m (Probe leaf node) o ok h = shows _ _ h (probed_off o (only _ ok))
-  takes_close k m (Cell Stop leaf node interval held) o ok h = shows _ _ h (only _ ok)
+  takes_close k m (Fence node) o ok h = taken_out (node == n) _ false h (first_passes _ false ok refl)
+  takes_close k m (Probe leaf node) o ok h = shows _ _ h (probed_off o (first_passes _ false ok refl))
+  takes_close k m (Cell Stop leaf node interval held) o ok h = shows _ _ h (first_passes _ false ok refl)
   takes_close k m _ o ok h = cc
 
   takes_give : (y : Action) → takes_run r n y ≡ true → gives_run r n y ≡ false

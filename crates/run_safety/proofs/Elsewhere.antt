@@ -21,8 +21,9 @@ use Rattle.cluster_types.specs.Pins.{is_pinned}
 use Rattle.cluster_types.specs.Rights.{may_act_by}
 use Rattle.cluster_types.specs.Steps.{Transition, action_at, has_succeeded, journal}
 use Rattle.cluster_types.specs.Tables.{Targets, is_somewhere}
+use Rattle.cluster_types.specs.Terms.{is_active}
 use Rattle.plan_laws.proofs.CellStates.{says_of, blocked_pins}
-use Rattle.plan_laws.proofs.CellSteps.{may_be_running, is_promoted_state}
+use Rattle.plan_laws.proofs.CellSteps.{is_promoted_state}
 use Rattle.run_safety.proofs.Calm.{Calm}
 use Rattle.run_safety.proofs.Carried.{HasNumber, Carries}
 use Rattle.run_safety.proofs.Effects.{off_begun, off_done, off_waited, off_turned}
@@ -35,7 +36,7 @@ use Rattle.run_safety.proofs.Truths.{own_cell, refuse}
 use Rattle.run_safety.proofs.Turning.{turned, unturned}
 
 -- what runs where there is no target is stopped
-stop_at : (pinned : Bool) (s : CellState) (u : Target) → pinned ≡ false → may_be_running s ≡ true → is_somewhere u ≡ false
+stop_at : (pinned : Bool) (s : CellState) (u : Target) → pinned ≡ false → is_active s ≡ true → is_somewhere u ≡ false
     → Contains (if pinned then [] else steps_of s u false) op.Stop
 stop_at true s u e h g = absurd (let f : ⊥ = cc in f)
 stop_at false cell.On target.Nowhere e h g = (0, omega arith, refl)
@@ -49,7 +50,7 @@ stop_at false cell.Unprobed u e h g = absurd (let f : ⊥ = cc in f)
 stop_at false cell.Blocked u e h g = absurd (let f : ⊥ = cc in f)
 
 module _ (t : Transition) (targets : Targets) (carries : Carries t targets) (r n : ℕ) (nowhere : is_somewhere (targets r n) ≡ false) where
-  pub stop_needed : r < length t.cluster.leaves → n < length t.cluster.nodes → is_pinned t.cluster t.planned_at r ≡ false → may_be_running (state t r n) ≡ true
+  pub stop_needed : r < length t.cluster.leaves → n < length t.cluster.nodes → is_pinned t.cluster t.planned_at r ≡ false → is_active (state t r n) ≡ true
       → IsNeeded t targets (Cell op.Stop r n 0 role.Started)
   stop_needed h l free running =
       step_needed t targets r n op.Stop (λ e. let f : ⊥ = cc in f) h l
@@ -108,7 +109,7 @@ module _ (t : Transition) (targets : Targets) (carries : Carries t targets) (r n
         let number = carries.numbered x needed in
         shut_by x number takes demotes since calm (done number)
 
-    after_stop : may_be_running (state t r n) ≡ true → IsOff (journal t since)
+    after_stop : is_active (state t r n) ≡ true → IsOff (journal t since)
     after_stop running =
         taken_by (Cell op.Stop r n 0 role.Started) (stop_needed h l free running) stopped (own_cell r n) (λ e. demote_first)
 

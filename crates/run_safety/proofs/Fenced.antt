@@ -3,7 +3,7 @@ use Rattle.std.proofs.Common.{arith, inr, ◌≡◌, ◌<◌, ◌≤◌, ◌+◌
 use Rattle.std.specs.Prelude.{Some, count_by}
 use Rattle.std.specs.List.{list_any}
 use Rattle.std.proofs.lemmas.Bool.{false_from_ne_true}
-use Rattle.lemmas.proofs.Booleans.{sooner, number_itself}
+use Rattle.lemmas.proofs.Booleans.{first_passes, sooner, number_itself}
 use Rattle.lemmas.proofs.Counts.{count-append, count-is, count-none}
 use Rattle.cluster_types.specs.declared.journal.Action.{Action}
 use Rattle.cluster_types.specs.declared.journal.Action.TheVariants.{Fence, Probe, Cell, MigrateTo, MigrateFrom}
@@ -24,7 +24,6 @@ use Rattle.run_safety.proofs.Each.{more, none as no_more}
 use Rattle.run_safety.proofs.Needing.{Done, fence_needed}
 use Rattle.run_safety.proofs.Preceded.{in_flight_not_done}
 use Rattle.run_safety.proofs.Signs.{still}
-use Rattle.run_safety.proofs.Truths.{only}
 use Rattle.run_safety.proofs.Turning.{turned}
 
 pub counted : (p : Event → Bool) (xs : List Event) → list_any p xs ≡ true → 0 < count_by p xs
@@ -88,7 +87,8 @@ module _ (t : Transition) (targets : Targets) (carries : Carries t targets) (sin
 
       is_fenced : IsFenced (journal t since)
       is_fenced =
-          turned t IsFenced number.number (Fence n) number.is (λ es o m ok. signed n es (Ended number.number (Fence n) o m) was_fenced (rw (number_itself n) (rw (only (is_among (0 ∷ []) o) ok) refl)))
+          turned t IsFenced number.number (Fence n) number.is
+          (λ es o m ok. signed n es (Ended number.number (Fence n) o m) was_fenced (rw (number_itself n) (rw (first_passes (is_among (0 ∷ []) o) false ok refl) refl)))
           (λ es j y is was. inr (still n es (Begin j y ∷ []) (more _ [] refl no_more) ∙ was))
           (λ es j m y o is ok was. inr (fence_shows es j m y o was))
           (λ es s was. still n es (Wait s ∷ []) (more _ [] refl no_more) ∙ was) since calm (succeeded number)

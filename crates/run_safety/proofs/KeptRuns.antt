@@ -5,6 +5,7 @@ use Rattle.std.proofs.lemmas.List.FromFn.{length-map-range_with_len}
 use Rattle.std.specs.List.{flat_map, AllByRecursion}
 use Rattle.std.proofs.lemmas.Grind.{flat_map-append}
 use Rattle.std.proofs.lemmas.List.{length-append}
+use Rattle.lemmas.proofs.Members.{all_append}
 use Rattle.cluster_types.specs.declared.cluster.Cluster.{Cluster}
 use Rattle.cluster_types.specs.declared.journal.Answer.{Answer}
 use Rattle.cluster_types.specs.declared.journal.Event.{Event}
@@ -88,10 +89,6 @@ module _ (c : Cluster) where
   fit_more es ys [] h = tt
   fit_more es ys (p ∷ ps) h = (fits_more es ys p h.0, fit_more es ys ps h.1)
 
-  fit_last : (es : List Event) (ps : List Passed) (p : Passed) → AllByRecursion (Fits c es) ps → Fits c es p → AllByRecursion (Fits c es) (ps ++ p ∷ [])
-  fit_last es [] p h f = (f, tt)
-  fit_last es (q ∷ qs) p h f = (h.0, fit_last es qs p h.1 f)
-
   -- the transition ends so, or is left so
   closed : (lines : List RunLine) (passed : List Passed) (k : ℕ) (es since : List Event) (ending : PassedEnd) (begun : IsBegun lines passed k es since)
       → IsBetweenKept (lines ++ end_lines c k ending) (passed ++ passed_by es begun.placed since ending ∷ []) (es ++ since)
@@ -99,16 +96,17 @@ module _ (c : Cluster) where
       let n = length-append es since in
       let p = passed_by es begun.placed since ending in
       let head = (line.Transition k ∷ target_lines c begun.placed.pins (targets_of begun.placed.table) begun.placed.none) ++ flat_map event_lines since in
+      let new : Fits c (es ++ since) p = record {
+        pins = begun.goals.pins;
+        reasons = begun.goals.reasons;
+        nodes = begun.goals.nodes;
+        cells = begun.goals.cells;
+        ascending = omega arith;
+        within = omega (arith, n);
+      } in
       record {
         within = within_more (length (es ++ since)) passed p (still_within (length es) (length (es ++ since)) passed (omega (arith, n)) begun.within) (omega (arith, n)) (omega (arith, n));
-        fit = fit_last (es ++ since) passed p (fit_more es since passed begun.fit) (record {
-          pins = begun.goals.pins;
-          reasons = begun.goals.reasons;
-          nodes = begun.goals.nodes;
-          cells = begun.goals.cells;
-          ascending = omega arith;
-          within = omega (arith, n);
-        });
+        fit = all_append (Fits c (es ++ since)) passed (p ∷ []) (fit_more es since passed begun.fit) (new, tt);
         so_far = ap (λ z. z ++ end_lines c k ending) begun.so_far
             ∙ regroup (all_passed_lines c es 1 passed) head (end_lines c k ending)
             ∙ sym (one_passed_more es since c p refl refl 1 k passed begun.number begun.within);

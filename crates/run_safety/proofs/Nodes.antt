@@ -19,7 +19,8 @@ use Rattle.cluster_types.specs.Pins.{is_unprobed_state}
 use Rattle.cluster_types.specs.Rights.{may_fence}
 use Rattle.cluster_types.specs.Steps.{Transition}
 use Rattle.cluster_types.specs.Tables.{Targets}
-use Rattle.plan_laws.proofs.CellSteps.{IsStep, is_step, is_known, may_be_running, is_promoted_state}
+use Rattle.cluster_types.specs.Terms.{is_active}
+use Rattle.plan_laws.proofs.CellSteps.{IsStep, is_step, is_known, is_promoted_state}
 use Rattle.run_safety.proofs.Carried.{Carries, IsSound}
 use Rattle.run_safety.proofs.Givers.{start_step, monitored_somewhere}
 use Rattle.run_safety.proofs.Standing.{KeepsToNodes}
@@ -40,7 +41,7 @@ module _ (t : Transition) (targets : Targets) (carries : Carries t targets) (sou
   step_online : (r n : ℕ) (o : Op) → IsStep t.cluster t.planned_at targets r n o → is_online t.cluster n t.planned_at ≡ true
   step_online r n op.Start is = online_by is_known refl r n (sooner (is_known (cell_state t.cluster r n t.planned_at)) _ is.fitting)
   step_online r n op.Promote is = online_by is_known refl r n (sooner (is_known (cell_state t.cluster r n t.planned_at)) _ is.fitting)
-  step_online r n op.Stop is = online_by may_be_running refl r n is.fitting
+  step_online r n op.Stop is = online_by is_active refl r n is.fitting
   step_online r n op.Demote is = online_by is_promoted_state refl r n is.fitting
   step_online r n op.Monitor is = absurd (both_ways false refl is.fitting)
 
@@ -61,7 +62,7 @@ module _ (t : Transition) (targets : Targets) (carries : Carries t targets) (sou
       either (from == n) (m == n) h (λ e. at_node from n e (source from g.running)) (λ e. at_node m n e (step_online r m op.Start (start_step t.cluster t.planned_at targets r m g.started)))
     where
       source : (from : ℕ) → cell_state t.cluster r from t.planned_at ≡ cell.On → is_online t.cluster from t.planned_at ≡ true
-      source from e = online_by may_be_running refl r from (rw e refl)
+      source from e = online_by is_active refl r from (rw e refl)
   needed_online k n _ (taken_in r from m g) h = at_node m n h (step_online r m op.Start (start_step t.cluster t.planned_at targets r m g.started))
 
   pub fence_offline : (a : Action) (n : ℕ) → Needed t.cluster t.planned_at targets a → a ≡ Fence n → is_online t.cluster n t.planned_at ≡ false

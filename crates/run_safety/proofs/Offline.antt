@@ -45,23 +45,20 @@ is_out fencing (Some was_fenced) = true
 orderly_front : (es : List Event) (e : Event) → Orderly (es ++ e ∷ []) → Orderly es
 orderly_front es e h before after d n q w = h before (after ++ e ∷ []) d n (ap (λ xs. xs ++ e ∷ []) q ∙ append_assoc before (d ∷ after) (e ∷ [])) w
 
-same_node : (r n leaf node : ℕ) → leaf == r && node == n ≡ true → node == n ≡ true
-same_node r n leaf node h = later (leaf == r) _ h
-
 -- what opens a cell wants its node, or the node joins by it
 opens_wants : (r n : ℕ) (e : Event) → opens_cell r n e ≡ true → (wants_node n e ≡ true) ⊎ (sign_of n e ≡ Some joined)
 opens_wants r n (Up node) h = inr (rw h refl)
-opens_wants r n (Begin k (Cell Start leaf node interval role)) h = inl (same_node r n leaf node h)
-opens_wants r n (Begin k (Cell Promote leaf node interval role)) h = inl (same_node r n leaf node h)
-opens_wants r n (Begin k (Cell Demote leaf node interval role)) h = inl (same_node r n leaf node h)
-opens_wants r n (Begin k (MigrateTo leaf source target)) h = inl (or_right (source == n) (target == n) (same_node r n leaf target h))
-opens_wants r n (Begin k (MigrateFrom leaf source target)) h = inl (same_node r n leaf target h)
-opens_wants r n (Ended k (Cell Start leaf node interval role) o moment) h = inl (same_node r n leaf node h)
-opens_wants r n (Ended k (Cell Promote leaf node interval role) o moment) h = inl (same_node r n leaf node h)
-opens_wants r n (Ended k (Cell Demote leaf node interval role) o moment) h = inl (same_node r n leaf node h)
-opens_wants r n (Ended k (MigrateFrom leaf source target) o moment) h = inl (same_node r n leaf target h)
-opens_wants r n (Ended k (Probe leaf node) o moment) h = inl (same_node r n leaf node (sooner _ (not (is_among (7 ∷ 5 ∷ []) o)) h))
-opens_wants r n (Ended k (Cell Monitor leaf node interval role) o moment) h = inl (same_node r n leaf node (sooner _ (not (is_among (7 ∷ []) o)) h))
+opens_wants r n (Begin k (Cell Start leaf node interval role)) h = inl (later (leaf == r) (node == n) h)
+opens_wants r n (Begin k (Cell Promote leaf node interval role)) h = inl (later (leaf == r) (node == n) h)
+opens_wants r n (Begin k (Cell Demote leaf node interval role)) h = inl (later (leaf == r) (node == n) h)
+opens_wants r n (Begin k (MigrateTo leaf source target)) h = inl (or_right (source == n) (target == n) (later (leaf == r) (target == n) h))
+opens_wants r n (Begin k (MigrateFrom leaf source target)) h = inl (later (leaf == r) (target == n) h)
+opens_wants r n (Ended k (Cell Start leaf node interval role) o moment) h = inl (later (leaf == r) (node == n) h)
+opens_wants r n (Ended k (Cell Promote leaf node interval role) o moment) h = inl (later (leaf == r) (node == n) h)
+opens_wants r n (Ended k (Cell Demote leaf node interval role) o moment) h = inl (later (leaf == r) (node == n) h)
+opens_wants r n (Ended k (MigrateFrom leaf source target) o moment) h = inl (later (leaf == r) (target == n) h)
+opens_wants r n (Ended k (Probe leaf node) o moment) h = inl (later (leaf == r) (node == n) (sooner _ (not (is_among (7 ∷ 5 ∷ []) o)) h))
+opens_wants r n (Ended k (Cell Monitor leaf node interval role) o moment) h = inl (later (leaf == r) (node == n) (sooner _ (not (is_among (7 ∷ []) o)) h))
 opens_wants r n _ h = cc
 
 -- a sign by which a node is out closes its cells

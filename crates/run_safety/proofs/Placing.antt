@@ -14,6 +14,7 @@ use Rattle.cluster_types.specs.Needed.{FirstSet, fence, probe, step, monitor, Ne
 use Rattle.cluster_types.specs.Pins.{is_pinned}
 use Rattle.cluster_types.specs.Precedence.{CellOf, cell_of, gives_any}
 use Rattle.cluster_types.specs.Tables.{Targets, is_somewhere}
+use Rattle.cluster_types.proofs.NeededLaws.{bounds_of_first}
 use Rattle.cluster_types.proofs.TableCells.{promoted_somewhere}
 use Rattle.plan_laws.proofs.CellSteps.{IsStep, is_step, is_known}
 use Rattle.run_safety.proofs.Givers.{start_step}
@@ -53,9 +54,6 @@ module _ (c : Cluster) (es : List Event) (targets : Targets) where
   step_given r n op.Demote at h l is e = absurd (let f : ⊥ = cc in f)
   step_given r n op.Monitor at h l is e = absurd (let f : ⊥ = cc in f)
 
-  start_bounds : (r n : ℕ) → FirstSet c es targets (Cell op.Start r n 0 role.Started) → (r < length c.leaves) × (n < length c.nodes)
-  start_bounds r n (step _ _ _ h l g) = (h, l)
-
   first_given : (y : Action) (at : CellOf) → FirstSet c es targets y → gives_any y ≡ Some at → IsGiven at.leaf at.node
   first_given _ at (fence n l h) e = absurd (let f : ⊥ = cc in f)
   first_given _ at (probe r n h l u) e = absurd (let f : ⊥ = cc in f)
@@ -65,5 +63,6 @@ module _ (c : Cluster) (es : List Event) (targets : Targets) where
   pub given : (y : Action) (at : CellOf) → Needed c es targets y → gives_any y ≡ Some at → IsGiven at.leaf at.node
   given y at (kept _ f others) e = first_given y at f e
   given _ at (sent r n m g) e =
-      let bounds = start_bounds r m g.started in at_cell r m at e (of_start r m bounds.0 bounds.1 (start_step c es targets r m g.started))
+      let bounds = bounds_of_first c es targets op.Start r m 0 role.Started g.started in
+      at_cell r m at e (of_start r m bounds.0 bounds.1 (start_step c es targets r m g.started))
   given _ at (taken_in r n m g) e = absurd (let f : ⊥ = cc in f)

@@ -1,9 +1,10 @@
 -- In a calm transition what has succeeded had begun, and what has begun is preceded by successes.
 use Rattle.std.proofs.Common.{◌≡◌, ◌<◌, ◌≤◌, ◌==◌, ℕ, Bool, true, List, [], ◌∷◌, ◌++◌, length, eqb-true, sym, subst, ◌∙◌}
 use Rattle.std.specs.List.{list_any}
-use Rattle.std.proofs.lemmas.Bool.{not-true, or_left, or_right}
+use Rattle.std.proofs.lemmas.Bool.{not-true, or_left}
 use Rattle.std.proofs.lemmas.List.Folds.{list_any-append}
 use Rattle.lemmas.proofs.Booleans.{either, later, sooner}
+use Rattle.lemmas.proofs.Searches.{any-more, any-weaker}
 use Rattle.cluster_types.specs.declared.cluster.Cluster.{Cluster}
 use Rattle.cluster_types.specs.declared.journal.Event.{Event}
 use Rattle.cluster_types.specs.declared.journal.Event.TheVariants.{Wait, Begin, Ended}
@@ -11,17 +12,13 @@ use Rattle.cluster_types.specs.Journals.{ends_number}
 use Rattle.cluster_types.specs.Steps.{Transition, begins_number, has_begun, has_ended, has_succeeded, is_in_flight_number, succeeds_number}
 use Rattle.cluster_types.proofs.StepLaws.{has_preceded}
 use Rattle.run_safety.proofs.Calm.{Calm, none, begun, done, waited}
-use Rattle.run_safety.proofs.Truths.{only, refuse}
+use Rattle.run_safety.proofs.Truths.{refuse}
 
 any_first : (p : Event → Bool) (xs ys : List Event) → list_any p xs ≡ true → list_any p (xs ++ ys) ≡ true
 any_first p xs ys h = list_any-append p xs ys ∙ or_left _ _ h
 
 pub any_split : {R : Type 0} (p : Event → Bool) (xs : List Event) (e : Event) → list_any p (xs ++ e ∷ []) ≡ true → (list_any p xs ≡ true → R) → (p e ≡ true → R) → R
-any_split p xs e h f g = either _ _ (rw (list_any-append p xs (e ∷ [])) at h) f (λ k. g (only (p e) k))
-
-any_implied : (p q : Event → Bool) → ((e : Event) → p e ≡ true → q e ≡ true) → (xs : List Event) → list_any p xs ≡ true → list_any q xs ≡ true
-any_implied p q f [] h = h
-any_implied p q f (x ∷ xs) h = either (p x) _ h (λ k. or_left _ _ (f x k)) (λ k. or_right (q x) _ (any_implied p q f xs k))
+any_split p xs e h f g = either (list_any p xs) (p e) (sym (any-more p xs e) ∙ h) f g
 
 -- what succeeds, ends
 pub success_ends : (c : Cluster) (k : ℕ) (e : Event) → succeeds_number c k e ≡ true → ends_number k e ≡ true
@@ -30,7 +27,7 @@ success_ends c k _ h = cc
 
 module _ (t : Transition) where
   pub succeeded_ended : (since : List Event) (k : ℕ) → has_succeeded t since k ≡ true → has_ended t since k ≡ true
-  succeeded_ended since k h = any_implied (succeeds_number t.cluster k) (ends_number k) (success_ends t.cluster k) since h
+  succeeded_ended since k h = any-weaker (succeeds_number t.cluster k) (ends_number k) since (success_ends t.cluster k) h
 
   pub succeeded_begun : (since : List Event) (k : ℕ) → Calm t since → has_succeeded t since k ≡ true → has_begun t since k ≡ true
   succeeded_begun _ k none h = cc

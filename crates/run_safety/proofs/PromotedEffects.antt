@@ -1,6 +1,7 @@
 -- How begins and successes change whether a leaf may be promoted on a node.
 use Rattle.std.proofs.Common.{arith, ◌≡◌, ◌==◌, ℕ, true, false, List, [], ◌∷◌, ◌++◌, refl, ◌∙◌}
 use Rattle.std.proofs.lemmas.Bool.{and_left, or_left}
+use Rattle.lemmas.proofs.Booleans.{first_passes}
 use Rattle.cluster_types.specs.declared.cluster.Cluster.{Cluster}
 use Rattle.cluster_types.specs.declared.journal.Action.{Action}
 use Rattle.cluster_types.specs.declared.journal.Action.TheVariants.{Fence, Probe, Cell, MigrateTo, MigrateFrom}
@@ -16,7 +17,7 @@ use Rattle.cluster_types.specs.Steps.{is_success}
 use Rattle.cluster_types.proofs.MayLaws.{promoted-last}
 use Rattle.run_safety.proofs.Effects.{rest_of, second_fails, shows, taken_out, watched}
 use Rattle.run_safety.proofs.Touching.{gives_promoted, takes_promoted, is_sure}
-use Rattle.run_safety.proofs.Truths.{only, shut, still_open, still_shut}
+use Rattle.run_safety.proofs.Truths.{shut, still_open, still_shut}
 
 started_only : (o : Outcome) → is_among (0 ∷ 190 ∷ []) o ≡ true → is_among (8 ∷ 9 ∷ 191 ∷ []) o ≡ false
 started_only (Code code) h = grind arith
@@ -52,7 +53,7 @@ module _ (c : Cluster) (r n : ℕ) where
 
   ends_promote : (k m : ℕ) (y : Action) (o : Outcome) → is_success c y o ≡ true → gives_promoted r n y ≡ false → opens_promoted c r n (Ended k y o m) ≡ false
   ends_promote k m (Fence node) o ok h = refl
-  ends_promote k m (Probe leaf node) o ok h = second_fails _ (is_among (8 ∷ 9 ∷ 191 ∷ []) o) true (not_promoted o (only _ ok))
+  ends_promote k m (Probe leaf node) o ok h = second_fails _ (is_among (8 ∷ 9 ∷ 191 ∷ []) o) true (not_promoted o (first_passes _ false ok refl))
   ends_promote k m (Cell Start leaf node interval held) o ok h = refl
   ends_promote k m (Cell Stop leaf node interval held) o ok h = refl
   ends_promote k m (Cell Promote leaf node interval held) o ok h = and_left _ true h
@@ -75,11 +76,11 @@ module _ (c : Cluster) (r n : ℕ) where
   ends_demote k m (MigrateFrom leaf source target) o ok h = refl
 
   takes_demote : (k m : ℕ) (y : Action) (o : Outcome) → is_success c y o ≡ true → takes_promoted r n y ≡ true → is_sure y ≡ true → closes_promoted c r n (Ended k y o m) ≡ true
-  takes_demote k m (Fence node) o ok h sure = taken_out (node == n) _ false h (only _ ok)
-  takes_demote k m (Probe leaf node) o ok h sure = shows _ _ h (probed_unpromoted o (only _ ok))
-  takes_demote k m (Cell Start leaf node interval held) o ok h sure = shows _ _ h (only _ ok)
-  takes_demote k m (Cell Stop leaf node interval held) o ok h sure = shows _ _ h (only _ ok)
-  takes_demote k m (Cell Demote leaf node interval held) o ok h sure = shows _ _ h (only _ ok)
+  takes_demote k m (Fence node) o ok h sure = taken_out (node == n) _ false h (first_passes _ false ok refl)
+  takes_demote k m (Probe leaf node) o ok h sure = shows _ _ h (probed_unpromoted o (first_passes _ false ok refl))
+  takes_demote k m (Cell Start leaf node interval held) o ok h sure = shows _ _ h (first_passes _ false ok refl)
+  takes_demote k m (Cell Stop leaf node interval held) o ok h sure = shows _ _ h (first_passes _ false ok refl)
+  takes_demote k m (Cell Demote leaf node interval held) o ok h sure = shows _ _ h (first_passes _ false ok refl)
   takes_demote k m _ o ok h sure = cc
 
   takes_give : (y : Action) → takes_promoted r n y ≡ true → gives_promoted r n y ≡ false

@@ -19,8 +19,9 @@ use Rattle.cluster_types.specs.Pins.{is_pinned, is_unprobed_state}
 use Rattle.cluster_types.specs.Precedence.{is_same_op}
 use Rattle.cluster_types.specs.Steps.{Transition}
 use Rattle.cluster_types.specs.Tables.{Targets, is_somewhere}
+use Rattle.cluster_types.specs.Terms.{is_active}
 use Rattle.plan_laws.proofs.CellStates.{says_of, blocked_pins}
-use Rattle.plan_laws.proofs.CellSteps.{is_step, may_be_running}
+use Rattle.plan_laws.proofs.CellSteps.{is_step}
 use Rattle.run_safety.proofs.Carried.{Carries, IsSound}
 use Rattle.run_safety.proofs.Deciding.{cycled_or_not}
 use Rattle.run_safety.proofs.Needing.{state, IsNeeded, uncycled_idle}
@@ -101,7 +102,7 @@ module _ (t : Transition) (targets : Targets) (carries : Carries t targets) (sou
         by (inl needed) = by_start needed
         by (inr here) = by_taking here
 
-    running : runs (state t r n) ≡ true → is_unprobed_state (state t r n) ≡ false → may_be_running (state t r n) ≡ true → How
+    running : runs (state t r n) ≡ true → is_unprobed_state (state t r n) ≡ false → is_active (state t r n) ≡ true → How
     running runs_there probed may_be = by (cycled_or_not t targets carries r n h l free runs_there)
       where
         on : may t.cluster r n t.planned_at ≡ true

@@ -18,7 +18,7 @@ use Rattle.cluster_types.specs.Needed.{FirstSet, fence, probe, step, monitor, Mi
 use Rattle.cluster_types.specs.Steps.{Transition, Begins, action_at, has_begun, journal}
 use Rattle.cluster_types.specs.Tables.{Targets}
 use Rattle.cluster_types.specs.Valid.{IsValid}
-use Rattle.cluster_types.proofs.NeededLaws.{bounds_of_stop}
+use Rattle.cluster_types.proofs.NeededLaws.{bounds_of_first}
 use Rattle.cluster_types.proofs.StepLaws.{not_begun}
 use Rattle.plan_laws.proofs.CellStates.{says_of}
 use Rattle.plan_laws.proofs.CellSteps.{IsStep, is_step, is_promoted_state}
@@ -84,7 +84,7 @@ module _ (t : Transition) (targets : Targets) (carries : Carries t targets) (sou
         by : (b : Bool) → (from == n) ≡ b → from ≡ n
         by true e = eqb-true from n e
         by false e =
-            let low = (bounds_of_stop t.cluster t.planned_at targets r from other.stopped).1 in
+            let low = (bounds_of_first t.cluster t.planned_at targets op.Stop r from 0 role.Started other.stopped).1 in
             let on = (says_of t.cluster r from t.planned_at cell.On other.running).4 in
             refuse (may t.cluster r from t.planned_at) (g.nowhere_else from low (λ same. refuse (from == n) e (subst (λ z. (from == z) ≡ true) same (number_itself from)))) on
 

@@ -18,9 +18,9 @@ use Rattle.cluster_types.specs.Pins.{is_unprobed_state}
 use Rattle.cluster_types.specs.Rights.{may_fence}
 use Rattle.cluster_types.specs.Steps.{Transition}
 use Rattle.cluster_types.specs.Tables.{Targets}
+use Rattle.cluster_types.specs.Terms.{is_active}
 use Rattle.cluster_types.proofs.MayLaws.{may-promoted}
 use Rattle.plan_laws.proofs.CellStates.{says_of}
-use Rattle.plan_laws.proofs.CellSteps.{may_be_running}
 use Rattle.run_safety.proofs.Carried.{Carries}
 use Rattle.run_safety.proofs.Deciding.{find_one, find_none}
 use Rattle.run_safety.proofs.Needing.{state, IsNeeded}
@@ -69,10 +69,10 @@ module _ (t : Transition) (targets : Targets) (carries : Carries t targets) (r n
   takes_needs online _ (taken_in s from m g) h = absurd (let f : ⊥ = cc in f)
 
   -- what runs may run
-  pub running_may : may_be_running (state t r n) ≡ true → may t.cluster r n t.planned_at ≡ true
+  pub running_may : is_active (state t r n) ≡ true → may t.cluster r n t.planned_at ≡ true
   running_may h = by (state t r n) refl h
     where
-      by : (z : CellState) → state t r n ≡ z → may_be_running z ≡ true → may t.cluster r n t.planned_at ≡ true
+      by : (z : CellState) → state t r n ≡ z → is_active z ≡ true → may t.cluster r n t.planned_at ≡ true
       by cell.On e h = (says_of t.cluster r n t.planned_at cell.On e).4
       by cell.Promoted e h = may-promoted t.cluster r n t.planned_at (says_of t.cluster r n t.planned_at cell.Promoted e).4
       by cell.Failed e h = (says_of t.cluster r n t.planned_at cell.Failed e).3

@@ -20,10 +20,6 @@ pub other_fails : (a b : Bool) → a ≡ true → a && b ≡ false → b ≡ fal
 other_fails true b h g = g
 other_fails false b h g = cc
 
-pub only : (b : Bool) → b || false ≡ true → b ≡ true
-only true h = refl
-only false h = cc
-
 -- A latch: what opens it, what it was, and what shuts it.
 pub still_shut : (set was clear : Bool) → set ≡ false → was ≡ false → set || was && not clear ≡ false
 still_shut true was clear h g = cc

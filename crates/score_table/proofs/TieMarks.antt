@@ -9,7 +9,7 @@ use Rattle.std.proofs.lemmas.List.FromFn.{get_or-map-range_with_len, length-map-
 use Rattle.lemmas.proofs.Booleans.{sooner, later, either, same_test, both, one_of}
 use Rattle.lemmas.proofs.Counts.{count-is, count-cons}
 use Rattle.lemmas.proofs.Members.{at_head, in_rest, in_map, in_filter, of_map, of_filter}
-use Rattle.lemmas.proofs.Searches.{passes_by}
+use Rattle.lemmas.proofs.Searches.{any-weaker, passes_by}
 use Rattle.cluster_types.specs.declared.cluster.Cluster.{Cluster}
 use Rattle.cluster_types.specs.declared.rules.Colocation.{Colocation}
 use Rattle.cluster_types.specs.Terms.{is_tie, is_tied}
@@ -23,11 +23,6 @@ some_passes : {X : Type 0} (p : X → Bool) (xs : List X) {P : Type 0} → list_
 some_passes p [] h f = cc
 some_passes p (x ∷ xs) h f =
     either (p x) (list_any p xs) h (f x (at_head x xs x refl)) (λ rest. some_passes p xs rest (λ y among. f y (in_rest x xs y among)))
-
--- a weaker test passes too
-any-weaker : {X : Type 0} (p q : X → Bool) (xs : List X) → ((x : X) → p x ≡ true → q x ≡ true) → list_any p xs ≡ true → list_any q xs ≡ true
-any-weaker p q [] f h = h
-any-weaker p q (x ∷ xs) f h = one_of (p x) (q x) (list_any p xs) (list_any q xs) (f x) (any-weaker p q xs f) h
 
 -- one leaf less has no mark
 fewer-unmarked : (marks : List Bool) (s : ℕ) → get_or marks s true ≡ false → unmarked (set marks s true) + 1 ≡ unmarked marks

@@ -8,7 +8,7 @@ use Rattle.input_reading.proofs.ValidHead.{cluster_valid, journal_at_rest}
 use Rattle.live_run.specs.Courses.{answers_of}
 use Rattle.live_run.specs.Ends.{IsWholeText}
 use Rattle.plan_laws.proofs.LawfulTable.{lawful}
-use Rattle.planner.proofs.OnePlan.{one_list, one_placed}
+use Rattle.plan_laws.proofs.OnePlan.{one_list, one_placed}
 use Rattle.planner.proofs.SomePlan.{actions, goals, is_plan}
 use Rattle.run_safety.proofs.OneEnd.{whole_one}
 use Rattle.run_safety.proofs.PlansAreOne.{plans_one}

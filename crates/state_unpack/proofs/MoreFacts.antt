@@ -24,7 +24,7 @@ module _ (c : Cluster) (r n : ℕ) (es : List Event) (e : Event) where
   last-after false true h o = ap (last_or None) (outcomes-more c r n es e h) ∙ (rw o (last-more None (outcomes c r n es) e))
   last-after false false h o = ap (last_or None) (outcomes-more c r n es e h) ∙ (rw o (ap (last_or None) (append-nil (outcomes c r n es))))
 
-  seen-after : (reset outcome : Bool) → is_reset r n e ≡ reset → is_outcome c r n e ≡ outcome
+  pub seen-after : (reset outcome : Bool) → is_reset r n e ≡ reset → is_outcome c r n e ≡ outcome
       → is_some (last_outcome c r n (es ++ e ∷ [])) ≡ (not reset && (is_some (last_outcome c r n es) || outcome))
   seen-after true outcome h o = rw (last-after true outcome h o) refl
   seen-after false true h o = rw (last-after false true h o) (sym (or-true (is_some (last_outcome c r n es))))

@@ -1,37 +1,14 @@
 -- What a walk back finds: the actions that lead to its end.
 use Rattle.std.proofs.Common.{arith, ◌≡◌, ◌≢◌, ◌⊎◌, inl, inr, ◌<◌, ◌≤◌, ◌==◌, ◌||◌, ◌&&◌, not, ℕ, Bool, true, false, List, refl, sym, ◌∙◌}
-use Rattle.std.specs.Prelude.{Any, Contains}
+use Rattle.std.specs.Prelude.{Contains}
 use Rattle.std.specs.List.{list_any}
 use Rattle.std.proofs.lemmas.Bool.{cases_eq, ne_eqb, or_cases, or_left, or_right}
-use Rattle.std.proofs.lemmas.List.Folds.{Any-from_list_any}
-use Rattle.lemmas.proofs.Booleans.{sooner, later}
-use Rattle.lemmas.proofs.Searches.{passes_by}
+use Rattle.lemmas.proofs.Booleans.{sooner}
 use Rattle.cluster_types.specs.declared.edges.Edge.{Edge}
 use Rattle.cluster_types.specs.Graphs.{EndWithin, LeadUpward, Leads, direct, through}
 use Rattle.cluster_types.specs.Walks.{joins}
+use Rattle.cluster_types.proofs.Walks.{by_edge, joined}
 use Rattle.trace_text.specs.Backward.{IsOnTheWay, LeadsToFound}
-
--- an edge from x to y
-record IsEdge (edges : List Edge) (x y : ℕ) : Type 0 where
-  edge : Edge
-  one_of : Contains edges edge
-  from : edge.before ≡ x
-  to : edge.after ≡ y
-
-of_any : (edges : List Edge) (x y : ℕ) → Any (λ e. joins x y e ≡ true) edges → IsEdge edges x y
-of_any edges x y (k, e, lt, at, f) =
-    let a : (e.after == y) ≡ true = sooner (e.after == y) (e.before == x) f in
-    let b : (e.before == x) ≡ true = later (e.after == y) (e.before == x) f in
-    record { edge = e; one_of = (k, lt, at); from = grind arith; to = grind arith }
-
-by_edge : (edges : List Edge) (x y : ℕ) → list_any (joins x y) edges ≡ true → IsEdge edges x y
-by_edge edges x y h = of_any edges x y (Any-from_list_any (joins x y) edges h)
-
-joined : (edges : List Edge) (e : Edge) → Contains edges e → list_any (joins e.before e.after) edges ≡ true
-joined edges e c =
-    let a : (e.after == e.after) ≡ true = grind arith in
-    let b : (e.before == e.before) ≡ true = grind arith in
-    passes_by (joins e.before e.after) edges e c (rw (a, b) refl)
 
 -- the last edge of a way to y
 record LastEdge (actions : ℕ) (edges : List Edge) (x y : ℕ) : Type 0 where
@@ -58,14 +35,11 @@ module _ (actions positions : ℕ) (edges : List Edge) (ends : EndWithin positio
     reached = λ x lt leads. ends_at x (last_edge actions edges x y leads);
   }
     where
-      straight : (x : ℕ) → IsEdge edges x y → Leads actions edges x y
-      straight x e = rw (← e.from, ← e.to) (direct e.edge e.one_of)
+      straight : (x : ℕ) → (e : Edge) × Contains edges e × (e.after ≡ y) × (e.before ≡ x) → Leads actions edges x y
+      straight x (e, c, to, from) = rw (← to, ← from) (direct e c)
 
       found : (e : Edge) → Contains edges e → e.after ≡ y → has e.before ≡ true
-      found e c to =
-          let w = ends e c in
-          let there : list_any (joins e.before y) edges ≡ true = rw to at (joined edges e c) in
-          made e.before w.0 ∙ there
+      found e c to = made e.before (ends e c).0 ∙ joined edges e y c to
 
       ends_at : (x : ℕ) → LastEdge actions edges x y → (has x ≡ true) ⊎ LeadsToFound actions positions edges has x
       ends_at x last = on last.from where
@@ -86,15 +60,14 @@ module _ (actions positions : ℕ) (edges : List Edge) (ends : EndWithin positio
 
     found : (e : Edge) → Contains edges e → e.after ≡ gate → new e.before ≡ true
     found e c to =
-        let w = ends e c in
-        let there : list_any (joins e.before gate) edges ≡ true = rw to at (joined edges e c) in
-        made e.before w.0 ∙ or_right (old e.before && not (e.before == gate)) (list_any (joins e.before gate) edges) there
+        made e.before (ends e c).0
+        ∙ or_right (old e.before && not (e.before == gate)) (list_any (joins e.before gate) edges) (joined edges e gate c to)
 
     leading : (x : ℕ) → x < positions → (old x && not (x == gate) ≡ true) ⊎ (list_any (joins x gate) edges ≡ true) → Leads actions edges x y
     leading x lt (inl h) = way.leading x lt (sooner (old x) (not (x == gate)) h)
     leading x lt (inr h) = around (by_edge edges x gate h) where
-      around : IsEdge edges x gate → Leads actions edges x y
-      around e = rw (← e.from) (through e.edge y e.one_of (rw e.to is_gate) (rw e.to (way.leading gate within is)))
+      around : (e : Edge) × Contains edges e × (e.after ≡ gate) × (e.before ≡ x) → Leads actions edges x y
+      around (e, c, to, from) = rw (← from) (through e y c (rw to is_gate) (rw to (way.leading gate within is)))
 
     by_last : (x : ℕ) → LastEdge actions edges x gate → (new x ≡ true) ⊎ LeadsToFound actions positions edges new x
     by_last x last = on last.from where
@@ -131,9 +104,5 @@ found_leads actions positions edges y has way none x lt leads = on (way.reached 
 -- the edges to a gate come from below it
 pub source_below : (actions : ℕ) (edges : List Edge) (x gate : ℕ) → LeadUpward actions edges → actions ≤ gate → list_any (joins x gate) edges ≡ true → x < gate
 source_below actions edges x gate upward is_gate h = on (by_edge edges x gate h) where
-  on : IsEdge edges x gate → x < gate
-  on e =
-      let from = e.from in
-      let to = e.to in
-      let up = upward e.edge e.one_of (rw to is_gate) in
-      omega arith
+  on : (e : Edge) × Contains edges e × (e.after ≡ gate) × (e.before ≡ x) → x < gate
+  on (e, c, to, from) = let up = upward e c (rw to is_gate) in omega arith

@@ -1,6 +1,6 @@
 use Rattle.std.proofs.Common.{◌≡◌, true, false, sym, ◌∙◌, arith}
+use Rattle.lemmas.proofs.Ranges.{count-no, count-yes}
 use Rattle.cluster_types.specs.Tables.{is_somewhere, targets_of}
-use Rattle.placement.proofs.OneMore.{count-no, count-yes}
 use Rattle.placement.proofs.loaded_table.load_of.Goals as goal
 
 pub loop-leaf-preserved-then-not-holds_role : goal.loop-leaf-preserved-then-not-holds_role

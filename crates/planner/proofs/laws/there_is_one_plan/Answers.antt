@@ -1,4 +1,4 @@
-use Rattle.planner.proofs.OnePlan.{one_list, one_placed}
+use Rattle.plan_laws.proofs.OnePlan.{one_list, one_placed}
 use Rattle.planner.proofs.SomePlan.{actions, goals, is_plan}
 use Rattle.planner.proofs.laws.there_is_one_plan.Goals as goal
 
