@@ -1,5 +1,5 @@
 -- Wherever the run of a simulated cluster has stood, the simulated cluster has lived.
-use Rattle.std.proofs.Common.{◌≡◌, ◌≤◌, ◌<◌, ◌⊎◌, inl, inr, ℕ, Bool, true, false, Option, Some, None, List, [], ◌∷◌, ◌++◌, length, length-append, map, filter, find, refl, sym, ap, subst, ◌∙◌, append-nil, arith}
+use Rattle.std.proofs.Common.{◌≡◌, ◌≤◌, ◌<◌, ◌⊎◌, inl, inr, ℕ, Bool, true, false, Option, Some, None, List, [], ◌∷◌, ◌++◌, length, length-append, map, filter, find, refl, sym, ap, subst, ◌∙◌, append-nil, append_assoc, arith}
 use Rattle.std.specs.List.{list_all}
 use Rattle.std.specs.Option.{option_map_or}
 use Rattle.std.proofs.lemmas.List.{nil_from_length}
@@ -20,7 +20,6 @@ use Rattle.cluster_types.specs.Safety.{is_gone}
 use Rattle.cluster_types.specs.Steps.{StepsOn, begins, takes, is_silent, Transition, ended, events_of, flying, journal, resting, silent_code}
 use Rattle.run_safety.specs.Followed.{IsFront}
 use Rattle.run_safety.proofs.Along.{along, journals_grow}
-use Rattle.run_safety.proofs.OneRun.{regroup}
 use Rattle.agent_world.specs.Lives.{Lives, begins_here, starts, leaves, joins, ends}
 use Rattle.agent_world.specs.Turns.{after_begin, after_end, after_joining, after_leaving, answer_of, turned}
 use Rattle.agent_world.specs.RealWorlds.{World, first_world}
@@ -110,7 +109,7 @@ IsMoment first es = (es ≡ first) ⊎ (ends_gone es ≡ false)
 module _ (c : Cluster) (number : ℕ) (first : List Event) where
   -- the journal only grows
   further : (es batch : List Event) → IsFront first es → IsFront first (es ++ batch)
-  further es batch f = record { more = f.more ++ batch; joined = ap (λ l. l ++ batch) f.joined ∙ regroup first f.more batch }
+  further es batch f = record { more = f.more ++ batch; joined = ap (λ l. l ++ batch) f.joined ∙ append_assoc first f.more batch }
 
   pub grown : (es : List Event) (w : World) → Lives c number first es w → IsFront first es
   grown _ _ begins_here = record { more = []; joined = sym (append-nil first) }
@@ -198,14 +197,14 @@ module _ (first : List Event) where
   still : (xs events : List Event) → EndsHere events → IsMoment first xs → IsMoment first (xs ++ events)
   still xs _ nothing moment = subst (λ l. IsMoment first l) (sym (append-nil xs)) moment
   still xs _ (with_one front e last) moment =
-      inr (ap ends_gone (sym (regroup xs front (e ∷ []))) ∙ (behind (xs ++ front) e [] ∙ last))
+      inr (ap ends_gone (sym (append_assoc xs front (e ∷ []))) ∙ (behind (xs ++ front) e [] ∙ last))
 
   module _ (c : Cluster) (promotions : List Promotion) (whole : Bool) where
     keeps : (at next : Standing) (rest left : Option (List Answer)) (lines : List RunLine) → RunsOn c promotions whole at rest lines next left
         → IsMoment first (journal_at at) → IsMoment first (journal_at next)
     keeps _ _ rest _ _ (plans k es _ placed actions plan) moment = still es [] nothing moment
     keeps _ _ rest left _ (goes k t since events _ _ step) moment =
-        subst (λ l. IsMoment first l) (regroup t.planned_at since events) (still (journal t since) events (step_here t whole since events rest left step) moment)
+        subst (λ l. IsMoment first l) (append_assoc t.planned_at since events) (still (journal t since) events (step_here t whole since events rest left step) moment)
     keeps _ _ rest _ _ (completes k t since _ ended unaborted) moment = moment
     keeps _ _ rest _ _ (aborts k t since _ ended aborted) moment = moment
     keeps _ _ rest left _ (answers k es _ _ given said applies) moment =

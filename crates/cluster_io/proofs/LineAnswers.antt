@@ -2,7 +2,7 @@
 use Rattle.std.proofs.Common.{◌≡◌, ℕ, ◌+◌, ◌-◌, ◌≤◌, ◌<◌, nat_lt, nat_le, Bool, true, false, cond, List, [], ◌∷◌, ◌++◌, length, arith, refl, ap, sym, subst, ◌∙◌}
 use Rattle.std.specs.List.{concat}
 use Rattle.std.proofs.lemmas.Bool.{cond-true, cond-false, lt-ltb, le-ltb, le-leb, lt-leb}
-use Rattle.std.proofs.lemmas.List.{append-nil, length-append}
+use Rattle.std.proofs.lemmas.List.{append-nil, length-append, length_push}
 use Rattle.std.proofs.lemmas.List.Folds.{concat-append}
 use Rattle.crm_lex.specs.RawLines.{physical_lines, joined, goes_on, content, ends_in}
 use Rattle.cluster_io.specs.NextLine.{has_feed, first_of, first_line, content_within, line_answer, answer_of}
@@ -77,9 +77,6 @@ module _ (done text rest : List ℕ) (room longest : ℕ) (j : Joins done) (none
   line_content : length (content (text ++ 10 ∷ [])) ≡ length (before_feed text)
   line_content = ap length (content_at_feed text)
 
-  line_length : length (text ++ 10 ∷ []) ≡ length text + 1
-  line_length = omega (arith, length-append text (10 ∷ []))
-
   pub feed_too_long : longest < content_length (physical_lines done) + length (before_feed text)
       → answer_of room longest (done ++ (text ++ 10 ∷ rest)) ≡ TooLong
   feed_too_long h =
@@ -99,12 +96,12 @@ module _ (done text rest : List ℕ) (room longest : ℕ) (j : Joins done) (none
       (feed_follows done text rest none) (omega arith) in
       let both = length-append (text ++ 10 ∷ []) (concat others) in
       let short = length-before_feed text in
-      let e : room - length done - length (text ++ 10 ∷ []) ≡ 0 = omega (arith, line_length) in
+      let e : room - length done - length (text ++ 10 ∷ []) ≡ 0 = omega (arith, length_push text 10) in
       let z : content_within (room - length done - length (text ++ 10 ∷ [])) others ≡ 0 =
       ap (λ r. content_within r others) e ∙ content_within_none others in
       answer_some room longest (done ++ (text ++ 10 ∷ rest)) (some_bytes done text rest 10)
       ∙ answers_large room longest (first_line (done ++ (text ++ 10 ∷ rest))) (omega (arith, w, z, line_content, short.0))
-      (omega (arith, l, both, line_length))
+      (omega (arith, l, both, length_push text 10))
 
   module _ (ends : goes_on (continues_after false (physical_lines done)) (text ++ 10 ∷ []) ≡ false) where
     ends_here : first_of (joined (continues_after false (physical_lines done)) (physical_lines (text ++ 10 ∷ rest))) ≡ (text ++ 10 ∷ []) ∷ []
@@ -126,7 +123,7 @@ module _ (done text rest : List ℕ) (room longest : ℕ) (j : Joins done) (none
         let short = length-before_feed text in
         answer_some room longest (done ++ (text ++ 10 ∷ rest)) (some_bytes done text rest 10)
         ∙ answers_line room longest (first_line (done ++ (text ++ 10 ∷ rest))) (omega (arith, w, line_content, short.0))
-        (omega (arith, l, both, line_length))
+        (omega (arith, l, both, length_push text 10))
 
 -- the answers where bytes that join stand before a text that begins without a line feed
 module _ (done : List ℕ) (b : ℕ) (bs rest : List ℕ) (room longest : ℕ) (j : Joins done) (none : has_feed (b ∷ bs) ≡ false)

@@ -1,7 +1,7 @@
 -- One piece after another is taken from a source, or added to a sink.
-use Rattle.std.proofs.Common.{◌≡◌, ℕ, ◌+◌, ◌-◌, Option, Some, None, List, ◌++◌, length, take, drop, sym, ap, ◌∙◌, append_assoc, option_map, subst, drop-drop, length-drop, length-append, ◌≤◌}
-use Rattle.std.proofs.Math.Seq.{take-append_seam, take-add, take-length}
-use Rattle.std.proofs.lemmas.List.{take-append-drop, length-take-le}
+use Rattle.std.proofs.Common.{◌≡◌, ℕ, ◌+◌, ◌-◌, Option, Some, None, List, ◌++◌, length, take, drop, sym, ap, ◌∙◌, append_assoc, option_map, subst, drop-drop, length-append, ◌≤◌}
+use Rattle.std.proofs.Math.Seq.{take-append_seam, take-add}
+use Rattle.std.proofs.lemmas.List.{take-append-drop, take_rest, length-take-le}
 use Rattle.std.specs.Prelude.{Result, Ok, Err, OnErr}
 use Rattle.cluster_io.specs.Streams.{Takes, TakesAtMost, TakesCount, Adds}
 
@@ -27,16 +27,12 @@ piece-copied bytes rest new at n e h =
     subst (λ (k : ℕ). take k (new ++ rest) ≡ new) e (take-append_seam new rest) in
     rw (front, h, ← drop-drop) (sym (take-append-drop n (drop at bytes)))
 
--- the slice from a place to the end is the rest of the list
-pub rest_from : (xs : List ℕ) (i : ℕ) → take (length xs - i) (drop i xs) ≡ drop i xs
-rest_from xs i = rw (← length-drop) (take-length (drop i xs))
-
 -- after one more piece of a text, more of its front is added
 pub Adds-piece : (a b c : Option (List ℕ)) (text : List ℕ) (done n : ℕ)
     → Adds a (take done text) b → Adds b (take n (take (length text - done) (drop done text))) c
     → Adds a (take (done + n) text) c
 Adds-piece a b c text done n p q =
-    rw take-add (Adds-then a b c (take done text) (take n (drop done text)) p (rw rest_from at q))
+    rw take-add (Adds-then a b c (take done text) (take n (drop done text)) p (rw (take_rest text done) at q))
 
 -- with one more piece of a buffer at most so many bytes are taken
 pub Takes-at_most : (a b c : Option (List ℕ)) (xs buf : List ℕ) (n most : ℕ)

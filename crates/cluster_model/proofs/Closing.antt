@@ -3,7 +3,7 @@ use Rattle.std.proofs.Common.{◌≡◌, ℕ, ◌+◌, ◌≤◌, if◌then◌el
 use Rattle.std.specs.List.{flat_map, sum_by}
 use Rattle.std.proofs.Math.Seq.{take-append_seam}
 use Rattle.std.proofs.lemmas.Grind.{flat_map-append}
-use Rattle.std.proofs.lemmas.List.Sums.{sum_by-append}
+use Rattle.std.proofs.lemmas.List.Sums.{sum_by-append, sum_by_push}
 use Rattle.std.proofs.lemmas.List.{append_assoc, length-append}
 use Rattle.faults.specs.declared.fault.Fault.{Fault}
 use Rattle.faults.specs.Reading.{fault_at}
@@ -30,19 +30,15 @@ fault_from colocation order colocations orders (s ∷ statements) =
     fault_at s.line (closed_by colocation order (colocations + colocation_count s.form) (orders + order_count s.form))
     (fault_from colocation order (colocations + colocation_count s.form) (orders + order_count s.form) statements)
 
--- a sum with one more
-counted_more : (count : Statement → ℕ) (before : List Statement) (s : Statement) → sum_by count before + count s ≡ sum_by count (before ++ s ∷ [])
-counted_more count before s = let both = sum_by-append count before (s ∷ []) in omega (arith, both)
-
 module _ (colocation order : Option ℕ) where
   same_from : (colocations orders : ℕ) (before statements : List Statement) → colocations ≡ colocations_in_all before → orders ≡ orders_in_all before
       → fault_from colocation order colocations orders statements ≡ first_fault (closing_cause colocation order) before statements
   same_from colocations orders before [] c o = refl
   same_from colocations orders before (s ∷ statements) c o =
       let more : colocations + colocation_count s.form ≡ colocations_in_all (before ++ s ∷ [])
-      = ap (λ (n : ℕ). n + colocation_count s.form) c ∙ counted_more (λ s. colocation_count s.form) before s in
+      = ap (λ (n : ℕ). n + colocation_count s.form) c ∙ sym (sum_by_push (λ (x : Statement). colocation_count x.form) before s) in
       let others : orders + order_count s.form ≡ orders_in_all (before ++ s ∷ [])
-      = ap (λ (n : ℕ). n + order_count s.form) o ∙ counted_more (λ s. order_count s.form) before s in
+      = ap (λ (n : ℕ). n + order_count s.form) o ∙ sym (sum_by_push (λ (x : Statement). order_count x.form) before s) in
       let next = same_from (colocations + colocation_count s.form) (orders + order_count s.form) (before ++ s ∷ []) statements more others in
       rw next (rw more (rw others refl))
 

@@ -1,5 +1,5 @@
 -- A transition asks only where nothing may begin, begins each action once, and is never stuck.
-use Rattle.std.proofs.Common.{arith, ◌≡◌, ◌≤◌, ◌+◌, ◌==◌, ◌&&◌, ◌||◌, ℕ, Bool, true, false, List, [], ◌∷◌, ◌++◌, refl, sym, subst, filter, append-nil, ap, ◌∙◌}
+use Rattle.std.proofs.Common.{arith, ◌≡◌, ◌≤◌, ◌+◌, ◌==◌, ◌&&◌, ◌||◌, ℕ, Bool, true, false, List, [], ◌∷◌, ◌++◌, refl, sym, subst, filter, append-nil, append_assoc, ap, ◌∙◌}
 use Rattle.std.specs.Prelude.{Option, Some, None, count_by, cond, map, find}
 use Rattle.std.specs.List.{list_all, list_any}
 use Rattle.std.specs.Option.{option_map_or}
@@ -185,15 +185,11 @@ gone-aborts : (c : Cluster) (gone : List Event) (e : Event) → is_gone e ≡ fa
 gone-aborts c gone e h lost g =
     any_last (aborts c) gone e (loss-aborts c e (lost (first_passes (list_any is_gone gone) (is_gone e) (sym (any-more is_gone gone e) ∙ g) h)))
 
-regroup : (xs ys zs : List Event) → xs ++ ys ++ zs ≡ xs ++ (ys ++ zs)
-regroup [] ys zs = refl
-regroup (x ∷ xs) ys zs = let e = regroup xs ys zs in cc
-
 module _ (t : Transition) (since : List Event) (keeps : Keeps t since) where
   bring-keeps : IsWaiting t since → (ys : List Event) → Brings ys → Keeps t (since ++ ys)
   bring-keeps waits _ nothing = subst (Keeps t) (sym (append-nil since)) keeps
   bring-keeps waits _ (brings gone e all still silent lost) = record {
-    clean = subst IsClean (regroup since gone (e ∷ [])) (ends_in (since ++ gone) e still);
+    clean = subst IsClean (append_assoc since gone (e ∷ [])) (ends_in (since ++ gone) e still);
     asked = answer-asked t since keeps waits gone e all;
     once = still_once t since keeps (gone ++ e ∷ []) (joined_all begins_nothing gone (e ∷ []) (gone-begin_nothing gone all) (rw silent refl));
     gone_aborts = gone_or_aborted t since keeps (gone ++ e ∷ []) (gone-aborts t.cluster gone e still lost);

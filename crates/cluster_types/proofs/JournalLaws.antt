@@ -1,5 +1,5 @@
 -- The first journal is in order, and has nothing in flight.
-use Rattle.std.proofs.Common.{◌≡◌, ℕ, Bool, true, false, not, ◌&&◌, ◌==◌, if◌then◌else◌, List, [], ◌∷◌, ◌++◌, ◌+◌, ◌<◌, ◌≤◌, Option, Some, None, zero, suc, length, map, refl, sym, ap, ◌∙◌, arith}
+use Rattle.std.proofs.Common.{◌≡◌, ℕ, Bool, true, false, not, ◌&&◌, ◌==◌, if◌then◌else◌, List, [], ◌∷◌, ◌++◌, ◌+◌, ◌<◌, ◌≤◌, Option, Some, None, zero, suc, length, map, append_assoc, refl, sym, ap, ◌∙◌, arith}
 use Rattle.std.proofs.lemmas.List.Elements.{filter_map-append}
 use Rattle.std.specs.List.{list_all, filter_map, cons_option, last_or, flat_map, range_with_len, enumerate_from}
 use Rattle.std.proofs.lemmas.Bool.{and_from}
@@ -143,10 +143,6 @@ module _ (n : ℕ) (after : List Event) (e : Event) (w : wants_node n e ≡ true
     is_among_reported (x ∷ xs) (b ∷ bs) g q =
         let tail : xs ++ rest ≡ bs ++ e ∷ after = cc in is_among_reported xs bs (later (is_reported nodes x) _ g) tail
 
-regrouped : (xs ys zs : List Event) → xs ++ ys ++ zs ≡ xs ++ (ys ++ zs)
-regrouped [] ys zs = refl
-regrouped (x ∷ xs) ys zs = let e = regrouped xs ys zs in cc
-
 glued : (a b c : List NodeSign) → c ≡ a ++ b → a ≡ joined ∷ [] → b ≡ [] → c ≡ joined ∷ []
 glued a b c q h k = let e : a ++ b ≡ (joined ∷ []) ++ [] = cc in q ∙ e
 
@@ -161,7 +157,7 @@ in-order c history words quorum now h before after e n q w =
     let unwanting : Event → Bool = λ k. not (wants_node n k) in
     let rest_wants_none = all_joined unwanting leaves last (leaves_pass unwanting (λ m. refl) (λ m. refl) (λ m. refl) c 0 words) refl in
     let grouped : joins ++ (history ++ (leaves ++ last)) ≡ joins ++ history ++ leaves ++ last =
-    sym (regrouped (joins ++ history) leaves last ∙ regrouped joins history (leaves ++ last)) in
+    sym (append_assoc (joins ++ history) leaves last ∙ append_assoc joins history (leaves ++ last)) in
     past n after e w (last_sign n before) (Some joined) joins (history ++ (leaves ++ last)) before (joins_pass unwanting (λ m. refl) (λ m. refl) (λ m. refl) (range_with_len 0 nodes)) (grouped ∙ q)
     (λ b p r.
     let silent = no_sign_before n after e w nodes (leaves ++ last) rest_wants_none history b h r in

@@ -1,5 +1,5 @@
 -- How the line of a statement is put together.
-use Rattle.std.proofs.Common.{◌≡◌, ℕ, List, [], ◌∷◌, ◌++◌, Result, Ok, Err, OnOk, ap, sym, ◌∙◌, append-nil, append_assoc}
+use Rattle.std.proofs.Common.{◌≡◌, ℕ, List, [], ◌∷◌, ◌++◌, ap, sym, ◌∙◌, append-nil, append_assoc}
 use Rattle.std.proofs.lemmas.Grind.{flat_map-append}
 use Rattle.std.specs.List.{flat_map}
 use Rattle.crm_print.specs.Quoting.{Item, item_text, line_of, spaced}
@@ -25,8 +25,3 @@ pub three_pieces : (text one two three first second third : List ℕ) → one �
     → three ≡ text ++ (first ++ (second ++ third))
 three_pieces text one two three first second third e f g =
     two_pieces text one three first (second ++ third) e (two_pieces one two three second third f g)
-
--- what holds of a success gives more that holds of it
-pub on_ok-more : {A E : Type 0} {P Q : Type 0} (r : Result A E) → OnOk r P → (P → Q) → OnOk r Q
-on_ok-more (Ok x) p f = f p
-on_ok-more (Err e) p f = tt

@@ -3,7 +3,7 @@ use Rattle.std.proofs.Common.{arith, ◌≡◌, ◌≢◌, ◌⊎◌, inl, inr, 
 use Rattle.std.specs.Prelude.{Option, Some, None, slice_get}
 use Rattle.std.specs.List.{AllByRecursion, concat, flat_map}
 use Rattle.std.proofs.lemmas.Bool.Decides.{nat_tests}
-use Rattle.std.proofs.lemmas.List.{length-map, take-append-drop, take_all, length-take-le}
+use Rattle.std.proofs.lemmas.List.{length-map, take-append-drop, take-map, take_all, length-take-le}
 use Rattle.std.proofs.lemmas.Option.{none-some}
 use Rattle.cluster_types.specs.declared.cluster.Cluster.{Cluster}
 use Rattle.cluster_types.specs.declared.journal.Journal.{Journal}
@@ -33,11 +33,6 @@ said_named (l ∷ lines) h = (h.0, said_named lines h.1)
 pub joined : {X : Type 0} (f : X → List ℕ) (xs : List X) → flat_map f xs ≡ concat (map f xs)
 joined f [] = refl
 joined f (x ∷ xs) = ap (λ t. f x ++ t) (joined f xs)
-
-map-take : {X Y : Type 0} (f : X → Y) (n : ℕ) (xs : List X) → map f (take n xs) ≡ take n (map f xs)
-map-take f zero xs = refl
-map-take f (suc n) [] = refl
-map-take f (suc n) (x ∷ xs) = ap (λ ys. f x ∷ ys) (map-take f n xs)
 
 -- what stands at a place of a list of texts was made of what stands there
 record IsMadeOf {X : Type 0} (f : X → List ℕ) (xs : List X) (i : ℕ) (text : List ℕ) : Type 0 where
@@ -139,7 +134,7 @@ module _ (c : Cluster) (valid : IsValid c) (journal : Journal) (lines : List Run
         let w = f.within in
         record {
           within = omega arith;
-          same = f.same ∙ ap (λ n. take n xs) (sym count) ∙ sym (map-take (run_line c) place (said lines));
+          same = f.same ∙ ap (λ n. take n xs) (sym count) ∙ take-map (run_line c) place (said lines);
           all = λ e. (
               let n : length ys ≡ length xs = omega arith in
               let s : ys ≡ xs = f.same ∙ ap (λ n. take n xs) n ∙ take_all (length xs) xs (omega arith) in
@@ -182,7 +177,7 @@ module _ (c : Cluster) (valid : IsValid c) (journal : Journal) (lines : List Run
           due_there = ap (slice_get printed) count ∙ l.there;
           kind_is = sym kind_here ∙ kind_there;
           within = omega arith;
-          same = map-take (run_line c) place printed ∙ ap (λ n. take n ys) count ∙ sym is_parted.alike ∙ ap (λ n. take n xs) (sym count) ∙ sym (map-take (run_line c) place (said lines));
+          same = sym (take-map (run_line c) place printed) ∙ ap (λ n. take n ys) count ∙ sym is_parted.alike ∙ ap (λ n. take n xs) (sym count) ∙ take-map (run_line c) place (said lines);
           other = λ v at_v e. is_parted.apart (run_line c v) y.first (sym (ap (slice_get xs) count) ∙ stands (run_line c) (said lines) place v at_v) y.there (e ∙ l.is);
         }
 

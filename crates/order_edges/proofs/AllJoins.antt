@@ -1,6 +1,7 @@
 -- The edges of some joins are a group that says whoever is joined by one of them; with those of chains they say what must precede.
 use Rattle.std.proofs.Common.{arith, ◌≡◌, ◌<◌, ◌≤◌, ◌+◌, ◌*◌, ◌||◌, ◌⊎◌, inl, inr, ◌↔◌, ℕ, Bool, true, false, Some, None, List, [], ◌∷◌, ◌++◌, length, Contains, refl, sym, subst, ◌∙◌, ap}
 use Rattle.std.specs.List.{list_any, slice_get}
+use Rattle.std.proofs.lemmas.Bool.{or_cases}
 use Rattle.cluster_types.specs.declared.cluster.Cluster.{Cluster}
 use Rattle.cluster_types.specs.declared.edges.Edge.{Edge}
 use Rattle.cluster_types.specs.declared.journal.Action.{Action}
@@ -24,10 +25,6 @@ one_or true b h = refl
 one_or false b (inl h) = cc
 one_or false b (inr h) = h
 
-pub or_one : (a b : Bool) → a || b ≡ true → (a ≡ true) ⊎ (b ≡ true)
-or_one true b h = inl refl
-or_one false b h = inr h
-
 module _ (c : Cluster) (actions : List Action) (leaves width : Join → ℕ) (places : Join → List ℕ) where
   -- the join has the action at one position before that at another
   abbrev pub joined_at : ℕ → ℕ → Join → Bool
@@ -47,7 +44,7 @@ module _ (c : Cluster) (actions : List Action) (leaves width : Join → ℕ) (pl
       group_says (length actions) base (gates_upto c actions leaves width places (base + width j * leaves j) js)
       (join_edges base (width j) (key_at c actions j.from) (key_at c actions j.to) (places j) ++ edges_of c actions leaves width places (base + width j * leaves j) js)
       (λ x y. (joined_at x y j ≡ true) ⊎ (list_any (joined_at x y) js ≡ true)) (λ x y. joined_at x y j || list_any (joined_at x y) js ≡ true)
-      (λ x y l m h. one_or (joined_at x y j) (list_any (joined_at x y) js) h) (λ x y l m h. or_one (joined_at x y j) (list_any (joined_at x y) js) h)
+      (λ x y l m h. one_or (joined_at x y j) (list_any (joined_at x y) js) h) (λ x y l m h. or_cases (joined_at x y j) (list_any (joined_at x y) js) h)
       (group_after (length actions) base (base + width j * leaves j) (gates_upto c actions leaves width places (base + width j * leaves j) js)
       (join_edges base (width j) (key_at c actions j.from) (key_at c actions j.to) (places j)) (edges_of c actions leaves width places (base + width j * leaves j) js)
       (λ x y. joined_at x y j ≡ true) (λ x y. list_any (joined_at x y) js ≡ true) one rest)
@@ -88,7 +85,7 @@ module _ (c : Cluster) (actions : List Action) (leaves width : Join → ℕ) (pl
             | inl j ↦ inl (sym same ∙ j)
             | inr d ↦ inr ((chained x y a b h k).0 d)
           ])),
-          λ must. whole_group.all x y l m (elim (or_one _ _ (sym says ∙ must)) [
+          λ must. whole_group.all x y l m (elim (or_cases _ _ (sym says ∙ must)) [
             | inl j ↦ inl (same ∙ j)
             | inr d ↦ inr ((chained x y a b h k).1 d)
           ]),

@@ -3,7 +3,7 @@ use Rattle.std.proofs.Common.{arith, ◌≡◌, ◌≤◌, ◌+◌, ◌==◌, �
 use Rattle.std.specs.List.{range_with_len, slice_get, sum_by}
 use Rattle.std.specs.Option.{option_map_or}
 use Rattle.std.proofs.lemmas.Bool.{eq-eqb, eqb-true}
-use Rattle.std.proofs.lemmas.List.{append_assoc, length-append}
+use Rattle.std.proofs.lemmas.List.{append_assoc, length-append, length_push}
 use Rattle.std.proofs.lemmas.List.Sums.{length-filter, sum_by-cons, sum_by-le-sum_by}
 use Rattle.cluster_types.specs.declared.journal.Action.{Action}
 use Rattle.cluster_types.specs.declared.journal.Action.TheVariants.{Fence, Probe, Cell, MigrateTo, MigrateFrom}
@@ -18,15 +18,12 @@ module _ {X : Type 0} (p : X → Bool) where
   abbrev passes_at : List X → ℕ → Bool
   passes_at xs i = option_map_or p (slice_get xs i) false
 
-  longer : (pre : List X) (y : X) → length pre + 1 ≡ length (pre ++ y ∷ [])
-  longer pre y = let l = length-append pre (y ∷ []) in omega arith
-
   count_from : (pre ys : List X) → count_by (passes_at (pre ++ ys)) (range_with_len (length pre) (length ys)) ≡ count_by p ys
   count_from pre [] = refl
   count_from pre (y ∷ ys) =
       let rest : count_by (passes_at (pre ++ y ∷ ys)) (range_with_len (length pre + 1) (length ys)) ≡ count_by p ys =
       subst (λ v. count_by (passes_at v) (range_with_len (length pre + 1) (length ys)) ≡ count_by p ys) (append_assoc pre (y ∷ []) ys)
-      (subst (λ v. count_by (passes_at ((pre ++ y ∷ []) ++ ys)) (range_with_len v (length ys)) ≡ count_by p ys) (sym (longer pre y)) (count_from (pre ++ y ∷ []) ys)) in
+      (subst (λ v. count_by (passes_at ((pre ++ y ∷ []) ++ ys)) (range_with_len v (length ys)) ≡ count_by p ys) (length_push pre y) (count_from (pre ++ y ∷ []) ys)) in
       let here : cond {A = ℕ} (passes_at (pre ++ y ∷ ys) (length pre)) 1 0 ≡ cond {A = ℕ} (p y) 1 0 = ap (λ (v : Option X). cond {A = ℕ} (option_map_or p v false) 1 0) (at_end pre y ys) in
       let left = sum_by-cons (λ i. cond (passes_at (pre ++ y ∷ ys) i) 1 0) (length pre) (range_with_len (length pre + 1) (length ys)) in
       let right = sum_by-cons (λ x. cond (p x) 1 0) y ys in

@@ -1,5 +1,5 @@
 -- What must precede is what some join says, and what orders of the kind Serialize say.
-use Rattle.std.proofs.Common.{◌≡◌, ◌||◌, Bool, List, ◌++◌, sym, ap, ◌∙◌}
+use Rattle.std.proofs.Common.{◌≡◌, ◌||◌, Bool, List, sym, ap, ◌∙◌}
 use Rattle.std.specs.List.{list_any, flat_map}
 use Rattle.std.proofs.lemmas.List.Folds.{list_any-append}
 use Rattle.cluster_types.specs.declared.cluster.Cluster.{Cluster}
@@ -33,13 +33,10 @@ module _ (c : Cluster) (actions : List Action) (is_earlier : Action → Action �
       (any_same (λ o. is_ordered actions o x y) (λ o. list_any (is_joined c actions x y) (order_joins o)) (λ o. order_joined c actions o x y) c.orders
       ∙ sym (any_flat (is_joined c actions x y) order_joins c.orders))
 
-  by_rules : list_any (is_joined c actions x y) (flat_map colocation_joins c.colocations ++ flat_map order_joins c.orders)
-      ≡ (list_any (is_joined c actions x y) (flat_map colocation_joins c.colocations) || list_any (is_joined c actions x y) (flat_map order_joins c.orders))
-  by_rules = list_any-append (is_joined c actions x y) (flat_map colocation_joins c.colocations) (flat_map order_joins c.orders)
-
   pub joins-say : must_precede c actions is_earlier x y ≡ (joined || in_order)
   joins-say =
-      rw by_rules (regroup_by (probes_first x y) (both is_one_cell (by_leaf (probe_cell x)) (by_leaf (gives_any y))) (stops_first c x y) (both is_one_cell (alone c (op_cell op.Stop x)) (alone c (op_cell op.Start y)))
+      rw (list_any-append (is_joined c actions x y) (flat_map colocation_joins c.colocations) (flat_map order_joins c.orders))
+      (regroup_by (probes_first x y) (both is_one_cell (by_leaf (probe_cell x)) (by_leaf (gives_any y))) (stops_first c x y) (both is_one_cell (alone c (op_cell op.Stop x)) (alone c (op_cell op.Start y)))
       (fences_first x y) (both is_one_cell (fence_cell x) (together (gives_any y))) (demotes_first x y) (both is_one_cell (by_leaf (take_cell x)) (by_leaf (op_cell op.Promote y)))
       (list_any (λ col. parts_first col x y) c.colocations) (list_any (is_joined c actions x y) (flat_map colocation_joins c.colocations))
       (list_any (λ o. is_ordered actions o x y || is_serialized is_earlier o x y) c.orders) (list_any (is_joined c actions x y) (flat_map order_joins c.orders)) in_order

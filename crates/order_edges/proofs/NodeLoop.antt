@@ -2,7 +2,7 @@
 use Rattle.std.proofs.Common.{arith, ◌≡◌, ◌<◌, ◌≤◌, ◌+◌, ◌*◌, ◌==◌, ◌⊎◌, inl, inr, ℕ, Bool, true, false, cond, Option, Some, None, List, [], ◌∷◌, length, count_by, Contains, All, refl, sym, ap, subst}
 use Rattle.std.proofs.lemmas.Bool.{eqb-true}
 use Rattle.std.proofs.lemmas.List.Elements.{All-contains, All-from_get_or, Contains-get_or}
-use Rattle.std.proofs.lemmas.List.Sums.{length-filter, sum_by-cons}
+use Rattle.std.proofs.lemmas.List.Sums.{count_by-le-length, length-filter, sum_by-cons}
 use Rattle.cluster_types.specs.declared.cluster.Cluster.{Cluster}
 use Rattle.cluster_types.specs.declared.edges.Edge.{Edge}
 use Rattle.cluster_types.specs.declared.journal.Action.{Action}
@@ -42,18 +42,6 @@ module _ (actions : List Action) (o : Order) (places : List ℕ) where
   next_below m =
       let a = length-filter (λ i. is_at m (node_at actions i)) places in
       let b = counted m places in
-      omega arith
-
-  one_at_most : (b : Bool) → cond {A = ℕ} b 1 0 ≤ 1
-  one_at_most true = omega arith
-  one_at_most false = omega arith
-
-  count_most : (p : ℕ → Bool) (xs : List ℕ) → count_by p xs ≤ length xs
-  count_most p [] = omega arith
-  count_most p (x ∷ xs) =
-      let a = sum_by-cons (λ i. cond {A = ℕ} (p i) 1 0) x xs in
-      let b = one_at_most (p x) in
-      let d = count_most p xs in
       omega arith
 
   none_below : (v : Option ℕ) → is_below 0 v ≡ false
@@ -140,21 +128,21 @@ module _ (actions : List Action) (o : Order) (places : List ℕ) where
       pub locals_all : (old now : List Edge) (from base : ℕ) → Locals old now from base (length c.nodes)
           → Adds (length actions) old now from base (3 * length places) (IsChainedSomewhere actions o places)
       locals_all old now from base h =
-          let most = count_most (λ i. is_below (length c.nodes) (node_at actions i)) places in
+          let most = count_by-le-length (λ i. is_below (length c.nodes) (node_at actions i)) places in
           adds_says (length actions) old now from base (3 * below (length c.nodes)) (3 * length places) (ChainedBelow (length c.nodes))
           (IsChainedSomewhere actions o places) (λ x y l k q. let (m, less, p) = q in (m, p)) (λ x y l k q. let (m, p) = q in (m, chained_less m x y l p, p))
           (omega arith) h.adds
 
       pub locals_room : (old now : List Edge) (from base : ℕ) → Locals old now from base (length c.nodes) → base ≤ from + 2 * (length places + length c.nodes)
       locals_room old now from base h =
-          let most = count_most (λ i. is_below (length c.nodes) (node_at actions i)) places in
+          let most = count_by-le-length (λ i. is_below (length c.nodes) (node_at actions i)) places in
           let r = h.room in
           omega arith
 
   pub locals_fit : (old now : List Edge) (from base m : ℕ) → Locals old now from base m → base + 2 * (length (node_places actions m places) + 1)
       ≤ from + 2 * (length places + (m + 1))
   locals_fit old now from base m h =
-      let most = count_most (λ i. is_below (m + 1) (node_at actions i)) places in
+      let most = count_by-le-length (λ i. is_below (m + 1) (node_at actions i)) places in
       let next = next_below m in
       let r = h.room in
       omega arith

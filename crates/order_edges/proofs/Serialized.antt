@@ -2,7 +2,7 @@
 use Rattle.std.proofs.Common.{◌≡◌, ◌<◌, ◌==◌, ◌&&◌, ◌||◌, ◌⊎◌, inl, inr, if◌then◌else◌, ℕ, Bool, true, false, Option, Some, None, List, length, Contains, refl, sym, ap, ◌∙◌}
 use Rattle.std.specs.List.{slice_get}
 use Rattle.std.specs.Option.{option_map_or}
-use Rattle.std.proofs.lemmas.Bool.{and_from, and_parts, eq-eqb, eqb-true}
+use Rattle.std.proofs.lemmas.Bool.{and_from, and_parts, eq-eqb, eqb-true, or_cases}
 use Rattle.lemmas.proofs.Booleans.{number_itself}
 use Rattle.cluster_types.specs.declared.journal.Action.{Action}
 use Rattle.cluster_types.specs.declared.rules.Order.{Order}
@@ -120,15 +120,11 @@ module _ (actions : List Action) (is_earlier : Action → Action → Bool) (stri
         chained = inr (chain_of n.node _ _ q p (ordered.then_there n.node x within_x q) (ordered.first_there n.node y within_y p) e);
       }
 
-  either : (p q : Bool) → p || q ≡ true → (p ≡ true) ⊎ (q ≡ true)
-  either true q h = inl refl
-  either false q h = inr h
-
   pub says_chained : is_serialized is_earlier o a b ≡ true → Chained
   says_chained h =
       let (k, e) = and_parts (is_serialize o.kind && (is_across o a b || is_across o b a)) (is_earlier a b) h in
       let (kind, across) = and_parts (is_serialize o.kind) (is_across o a b || is_across o b a) k in
-      elim (either (is_across o a b) (is_across o b a) across) [
+      elim (or_cases (is_across o a b) (is_across o b a) across) [
         | inl p ↦ by_across p e
         | inr q ↦ by_back q e
       ]

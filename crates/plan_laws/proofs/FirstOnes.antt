@@ -2,7 +2,7 @@
 use Rattle.std.proofs.Common.{arith, ◌≡◌, ◌≢◌, ◌==◌, ◌&&◌, ◌||◌, nat_lt, ℕ, suc, zero, ◌+◌, ◌<◌, ◌≤◌, Bool, true, false, List, [], ◌∷◌, ◌⊎◌, inl, inr, refl, count_by, cond, slice_index_or, Any}
 use Rattle.std.specs.List.{range_with_len}
 use Rattle.std.proofs.lemmas.List.FromFn.{length-range_with_len, get_or-range_with_len}
-use Rattle.std.proofs.lemmas.Bool.{and_from, cases_eq, eqb-true}
+use Rattle.std.proofs.lemmas.Bool.{and_from, and_right, cases_eq, eqb-true}
 use Rattle.std.proofs.lemmas.List.Folds.{Any-from_list_any}
 use Rattle.lemmas.proofs.Booleans.{sooner, later}
 use Rattle.lemmas.proofs.Counts.{count-is, count_of_none, count_one_more, count_some}
@@ -70,10 +70,6 @@ module _ (n : ℕ) (among : ℕ → Bool) (before : ℕ → ℕ → Bool)
   not_itself x true h = absurd (one_way x x h h)
   not_itself x false h = h
 
-  and_none : (a b : Bool) → b ≡ false → a && b ≡ false
-  and_none true b h = h
-  and_none false b h = refl
-
   -- fewer go before one that goes before another
   fewer : (x y : ℕ) → x < n → among x ≡ true → before x y ≡ true → ahead x < ahead y
   fewer x y low a h =
@@ -81,7 +77,7 @@ module _ (n : ℕ) (among : ℕ → Bool) (before : ℕ → ℕ → Bool)
       let at : slice_index_or (range_with_len 0 n) x x ≡ x = let e = get_or-range_with_len 0 n x x low in omega (arith, e) in
       count_one_more (goes_first x) (goes_first y)
       (λ z t. and_from (among z) (before z y) (sooner (among z) (before z x) t) (onward z x y (later (among z) (before z x) t) h))
-      (range_with_len 0 n) x x (omega arith) at (and_none (among x) (before x x) (not_itself x (before x x) refl)) (and_from (among x) (before x y) a h)
+      (range_with_len 0 n) x x (omega arith) at (and_right (among x) (before x x) (not_itself x (before x x) refl)) (and_from (among x) (before x y) a h)
 
   abbrev has_ahead : ℕ → ℕ → Bool
   has_ahead k x = among x && ahead x == k
@@ -121,7 +117,7 @@ module _ (n : ℕ) (among : ℕ → Bool) (before : ℕ → ℕ → Bool)
   below_or_at false m k h = h
 
   pub few_first : (k : ℕ) → count_by (is_first_of k) (range_with_len 0 n) ≤ k
-  few_first zero = let z = count_of_none (is_first_of 0) (λ x. and_none (among x) (nat_lt (ahead x) 0) (none_below (ahead x))) (range_with_len 0 n) in omega arith
+  few_first zero = let z = count_of_none (is_first_of 0) (λ x. and_right (among x) (nat_lt (ahead x) 0) (none_below (ahead x))) (range_with_len 0 n) in omega arith
   few_first (suc k) =
       let parts = count_both (is_first_of k) (has_ahead k) (is_first_of (suc k)) (λ x. below_or_at (among x) (ahead x) k) (range_with_len 0 n) in
       let one = at_most_one (has_ahead k) 0 n (λ x y l m. same k x y (omega (arith, l)) (omega (arith, m))) in

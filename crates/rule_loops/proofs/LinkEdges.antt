@@ -1,5 +1,5 @@
 -- Edges of links, and of more of them.
-use Rattle.std.proofs.Common.{arith, ◌≡◌, ◌<◌, ◌+◌, ℕ, zero, suc, List, length, take, slice_index_or, [], ◌∷◌, ◌++◌, map, filter, sym, ◌∙◌, ap}
+use Rattle.std.proofs.Common.{arith, ◌≡◌, ◌<◌, ◌+◌, ℕ, List, length, take, slice_index_or, [], ◌∷◌, ◌++◌, map, filter, sym, ◌∙◌, ap}
 use Rattle.std.specs.List.{flat_map, range_with_len}
 use Rattle.std.proofs.lemmas.Grind.{flat_map-append}
 use Rattle.std.proofs.lemmas.List.{take_more, append_assoc, append-nil, map-append}
@@ -24,13 +24,6 @@ then_more c before between after some more e f =
     let j = edges_joined c some more in
     let a = append_assoc before (edges_of c some) (edges_of c more) in
     cc
-
-range_more : (a n : ℕ) → range_with_len a (suc n) ≡ range_with_len a n ++ (a + n) ∷ []
-range_more a zero = let e : a ≡ a + 0 = omega arith in ap (λ x. x ∷ []) e
-range_more a (suc n) =
-    let h = range_more (a + 1) n in
-    let e : a + 1 + n ≡ a + suc n = omega arith in
-    ap (λ xs. a ∷ xs) (rw e at h)
 
 -- the links of one leaf more
 pub leaf_then : (c : Cluster) (n : ℕ) (before after : List Edge) → before ≡ edges_of c (flat_map leaf_links (range_with_len 0 n))

@@ -1,5 +1,5 @@
 -- How the lines end where a run stands between two transitions.
-use Rattle.std.proofs.Common.{ℕ, ◌+◌, Bool, List, [], ◌∷◌, ◌++◌, refl, ap, ◌∙◌}
+use Rattle.std.proofs.Common.{ℕ, ◌+◌, Bool, List, [], ◌∷◌, ◌++◌, append_assoc, refl, ap, ◌∙◌}
 use Rattle.std.specs.Prelude.{Option, ⊤}
 use Rattle.cluster_types.specs.declared.cluster.Cluster.{Cluster}
 use Rattle.cluster_types.specs.declared.journal.Answer.{Answer}
@@ -11,7 +11,6 @@ use Rattle.cluster_types.specs.Runs.{Standing, due, amid, idle, RunsOn, plans, g
 use Rattle.cluster_types.specs.Steps.{events_of, journal, resting}
 use Rattle.run_safety.specs.Followed.{EndsBetween, at_first, after_aborted, after_answer, at_complete}
 use Rattle.run_safety.proofs.Along.{along}
-use Rattle.run_safety.proofs.OneRun.{regroup}
 
 module _ (c : Cluster) (promotions : List Promotion) (whole : Bool) (first : List Event) where
   abbrev Ends : Standing → List RunLine → Type 0
@@ -23,7 +22,7 @@ module _ (c : Cluster) (promotions : List Promotion) (whole : Bool) (first : Lis
       → EndsBetween first (due (k + 1) after) (before ++ line.Taken given ∷ [])
   one_answer _ _ after given _ (at_complete k es before ends) =
       after_answer k after given (before ++ line.Taken given ∷ [])
-      (record { front = ends.front; joined = ap (λ z. z ++ line.Taken given ∷ []) ends.joined ∙ regroup ends.front (line.Complete k ∷ []) (line.Taken given ∷ []) })
+      (record { front = ends.front; joined = ap (λ z. z ++ line.Taken given ∷ []) ends.joined ∙ append_assoc ends.front (line.Complete k ∷ []) (line.Taken given ∷ []) })
 
   one_end : (at next : Standing) (rest left : Option (List Answer)) (before lines : List RunLine) → RunsOn c promotions whole at rest lines next left → Ends at before → Ends next (before ++ lines)
   one_end _ _ rest _ before _ (plans k es _ placed actions plan) ends = tt

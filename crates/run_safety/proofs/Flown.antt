@@ -20,10 +20,6 @@ begin_flies : (es : List Event) (k : ℕ) (a : Action) → in_flight (es ++ Begi
 begin_flies [] k a = refl
 begin_flies (Begin j b ∷ es) k a = by (list_any (ends_number j) es) refl (begin_flies es k a)
   where
-    same_test : (x : Bool) → x || false ≡ x
-    same_test true = refl
-    same_test false = refl
-
     by : (x : Bool) → list_any (ends_number j) es ≡ x → in_flight (es ++ Begin k a ∷ []) ≡ in_flight es ++ (k, a) ∷ []
         → in_flight (Begin j b ∷ (es ++ Begin k a ∷ [])) ≡ in_flight (Begin j b ∷ es) ++ (k, a) ∷ []
     by true e rest = rw (list_any-append (ends_number j) es (Begin k a ∷ []), e) rest

@@ -1,5 +1,5 @@
 -- The lines of a run that is kept, after one more transition and after one more answer.
-use Rattle.std.proofs.Common.{arith, ◌≡◌, ◌≤◌, ◌+◌, ◌-◌, ℕ, List, [], ◌∷◌, ◌++◌, length, refl, ap, ◌∙◌, sym, append-nil, take, drop}
+use Rattle.std.proofs.Common.{arith, ◌≡◌, ◌≤◌, ◌+◌, ◌-◌, ℕ, List, [], ◌∷◌, ◌++◌, length, refl, ap, ◌∙◌, sym, append-nil, append_assoc, take, drop}
 use Rattle.std.specs.List.{flat_map}
 use Rattle.std.proofs.Math.Seq.{drop-append_seam, take-append_seam}
 use Rattle.std.proofs.lemmas.Grind.{flat_map-append}
@@ -12,7 +12,6 @@ use Rattle.cluster_types.specs.declared.run.RunLine.TheVariants as line
 use Rattle.cluster_types.specs.Tables.{targets_of}
 use Rattle.cluster_types.specs.Texts.{all_passed_lines, begin_of, between, end_lines, event_lines, passed_lines, target_lines}
 use Rattle.run_safety.specs.Kept.{AreWithin}
-use Rattle.run_safety.proofs.OneRun.{regroup}
 
 module _ (es ys : List Event) where
   -- events before the end of a journal stay where they are
@@ -53,7 +52,7 @@ module _ (es ys : List Event) where
         ap (λ z. (z ++ flat_map event_lines (between q.ends_at next (es ++ ys))) ++ mine) (passed_same k q low high)
         ∙ ap (λ z. (passed_lines c es k q ++ flat_map event_lines z) ++ mine) (between_same q.ends_at next high near)
         ∙ ap (λ z. (passed_lines c es k q ++ flat_map event_lines (between q.ends_at next es)) ++ z) e
-        ∙ sym (regroup (passed_lines c es k q ++ flat_map event_lines (between q.ends_at next es)) lines more)
+        ∙ sym (append_assoc (passed_lines c es k q ++ flat_map event_lines (between q.ends_at next es)) lines more)
 
     begin_near : (qs : List Passed) → AreWithin (length es) qs → begin_of c es qs ≤ length es
     begin_near [] h = omega arith
@@ -95,7 +94,7 @@ module _ (es ys : List Event) where
         ∙ ap (λ z. z ++ flat_map event_lines (between q.ends_at (length (es ++ ys)) (es ++ ys))) (passed_same k q h.0.0 h.0.1)
         ∙ ap (λ z. passed_lines c es k q ++ flat_map event_lines z) (between_more q.ends_at h.0.1)
         ∙ ap (λ z. passed_lines c es k q ++ z) (flat_map-append event_lines (between q.ends_at (length es) es) ys)
-        ∙ sym (regroup (passed_lines c es k q) (flat_map event_lines (between q.ends_at (length es) es)) (flat_map event_lines ys))
+        ∙ sym (append_assoc (passed_lines c es k q) (flat_map event_lines (between q.ends_at (length es) es)) (flat_map event_lines ys))
         ∙ ap (λ z. z ++ flat_map event_lines ys) (sym (append-nil (passed_lines c es k q ++ flat_map event_lines (between q.ends_at (length es) es))))
     between_passed k q (x ∷ xs) h =
         followed k q x.begins_at (all_passed_lines c (es ++ ys) (k + 1) (x ∷ xs)) (all_passed_lines c es (k + 1) (x ∷ xs)) (flat_map event_lines ys) h.0.0 h.0.1 h.1.0.0

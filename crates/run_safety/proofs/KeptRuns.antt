@@ -1,5 +1,5 @@
 -- Wherever a run stands, its lines are those of transitions that are kept.
-use Rattle.std.proofs.Common.{arith, ◌≡◌, ◌<◌, ◌≤◌, ◌+◌, ◌*◌, ℕ, Bool, List, [], ◌∷◌, ◌++◌, length, refl, ap, ◌∙◌, sym, append-nil}
+use Rattle.std.proofs.Common.{arith, ◌≡◌, ◌<◌, ◌≤◌, ◌+◌, ◌*◌, ℕ, Bool, List, [], ◌∷◌, ◌++◌, length, refl, ap, ◌∙◌, sym, append-nil, append_assoc}
 use Rattle.std.specs.Prelude.{Option}
 use Rattle.std.proofs.lemmas.List.FromFn.{length-map-range_with_len}
 use Rattle.std.specs.List.{flat_map, AllByRecursion}
@@ -25,7 +25,6 @@ use Rattle.cluster_types.specs.Texts.{Fits, all_passed_lines, end_lines, event_l
 use Rattle.run_safety.specs.Kept.{AreWithin, IsKept}
 use Rattle.run_safety.proofs.Along.{along}
 use Rattle.run_safety.proofs.Kept.{between_passed, one_passed_more}
-use Rattle.run_safety.proofs.OneRun.{regroup}
 use Rattle.run_safety.proofs.Printed.{answer_line}
 
 still_within : (low high : ℕ) (ps : List Passed) → low ≤ high → AreWithin low ps → AreWithin high ps
@@ -108,7 +107,7 @@ module _ (c : Cluster) where
         within = within_more (length (es ++ since)) passed p (still_within (length es) (length (es ++ since)) passed (omega (arith, n)) begun.within) (omega (arith, n)) (omega (arith, n));
         fit = all_append (Fits c (es ++ since)) passed (p ∷ []) (fit_more es since passed begun.fit) (new, tt);
         so_far = ap (λ z. z ++ end_lines c k ending) begun.so_far
-            ∙ regroup (all_passed_lines c es 1 passed) head (end_lines c k ending)
+            ∙ append_assoc (all_passed_lines c es 1 passed) head (end_lines c k ending)
             ∙ sym (one_passed_more es since c p refl refl 1 k passed begun.number begun.within);
       }
 
@@ -157,8 +156,8 @@ module _ (c : Cluster) where
             placed = begun.placed;
             goals = begun.goals;
             so_far = ap (λ z. z ++ flat_map event_lines events) begun.so_far
-                ∙ regroup before (head ++ flat_map event_lines since) (flat_map event_lines events)
-                ∙ ap (λ z. before ++ z) (regroup head (flat_map event_lines since) (flat_map event_lines events) ∙ ap (λ z. head ++ z) (sym (flat_map-append event_lines since events)));
+                ∙ append_assoc before (head ++ flat_map event_lines since) (flat_map event_lines events)
+                ∙ ap (λ z. before ++ z) (append_assoc head (flat_map event_lines since) (flat_map event_lines events) ∙ ap (λ z. head ++ z) (sym (flat_map-append event_lines since events)));
           },
         )
     one_kept _ _ rest _ lines _ (completes k t since _ ended unaborted) kept =

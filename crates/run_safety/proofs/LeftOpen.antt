@@ -2,6 +2,7 @@
 use Rattle.std.proofs.Common.{◌≡◌, ◌||◌, ℕ, Bool, true, false, List, [], ◌∷◌, ◌++◌, refl, ap, ◌∙◌}
 use Rattle.std.specs.List.{list_any, after_last}
 use Rattle.std.specs.Option.{option_map_or}
+use Rattle.std.proofs.lemmas.Bool.{or_from, or_parts}
 use Rattle.std.proofs.lemmas.List.Folds.{list_any-append}
 use Rattle.cluster_types.specs.declared.cluster.Cluster.{Cluster}
 use Rattle.cluster_types.specs.declared.journal.Action.{Action}
@@ -22,15 +23,6 @@ abbrev pub is_sending_from : ℕ → ℕ → Action → Bool
 is_sending_from r n (MigrateTo leaf source to) = is_same_cell r n leaf source
 is_sending_from r n _ = false
 
-neither : (a b : Bool) → a ≡ false → b ≡ false → a || b ≡ false
-neither false false h g = refl
-neither true b h g = cc
-neither false true h g = cc
-
-parts : (a b : Bool) → a || b ≡ false → (a ≡ false) × (b ≡ false)
-parts false b h = (refl, h)
-parts true b h = cc
-
 module _ (c : Cluster) (r n : ℕ) where
   abbrev pub IsSure : List Event → Type 0
   IsSure es = is_left_open c r n es ≡ false
@@ -39,16 +31,16 @@ module _ (c : Cluster) (r n : ℕ) where
   other_sure : (es : List Event) (e : Event) → is_reset r n e ≡ false → is_outcome c r n e ≡ false → begins_sending_to r n e ≡ false
       → IsSure es → IsSure (es ++ e ∷ [])
   other_sure es e still outside quiet sure =
-      let both = parts _ _ sure in
-      neither _ _ (ap (λ o. option_map_or (λ e. is_failure e || is_sent_away e) o false) (outcome_before c r n es e still outside) ∙ both.0)
+      let both = or_parts _ _ sure in
+      or_from _ _ (ap (λ o. option_map_or (λ e. is_failure e || is_sent_away e) o false) (outcome_before c r n es e still outside) ∙ both.0)
       (ap (list_any (begins_sending_to r n)) (after_last-more (is_outcome c r n) es e outside)
-      ∙ (list_any-append (begins_sending_to r n) (after_last (is_outcome c r n) es) (e ∷ []) ∙ neither _ _ both.1 (rw quiet refl)))
+      ∙ (list_any-append (begins_sending_to r n) (after_last (is_outcome c r n) es) (e ∷ []) ∙ or_from _ _ both.1 (rw quiet refl)))
 
   -- an outcome of the cell that is no failure and doesn't send the leaf away
   here_sure : (es : List Event) (e : Event) → is_reset r n e ≡ false → is_outcome c r n e ≡ true → is_failure e || is_sent_away e ≡ false
       → IsSure (es ++ e ∷ [])
   here_sure es e still inside good =
-      neither _ _ (ap (λ o. option_map_or (λ e. is_failure e || is_sent_away e) o false) (outcome_here c r n es e still inside) ∙ good)
+      or_from _ _ (ap (λ o. option_map_or (λ e. is_failure e || is_sent_away e) o false) (outcome_here c r n es e still inside) ∙ good)
       (ap (list_any (begins_sending_to r n)) (after_last-here (is_outcome c r n) es e inside))
 
   pub sure_begun : (es : List Event) (k : ℕ) (y : Action) → is_sent_to r n y ≡ false → IsSure es → IsSure (es ++ Begin k y ∷ [])
@@ -69,11 +61,11 @@ module _ (c : Cluster) (r n : ℕ) where
     where
       by : (here : Bool) → is_of_cell r n y ≡ here → (ignored : Bool) → is_ignored c y o ≡ ignored → IsSure (es ++ Ended k y o m ∷ [])
       by true e false f =
-          here_sure es (Ended k y o m) refl (rw e (rw f refl)) (neither (is_bad y o) (is_sent_away (Ended k y o m)) (success_good c y o ok f) (not_away k m y o e stays))
+          here_sure es (Ended k y o m) refl (rw e (rw f refl)) (or_from (is_bad y o) (is_sent_away (Ended k y o m)) (success_good c y o ok f) (not_away k m y o e stays))
       by true e true f = other_sure es (Ended k y o m) refl (rw e (rw f refl)) refl sure
       by false e ignored f = other_sure es (Ended k y o m) refl (rw e refl) refl sure
 
   pub sure_turned : (es : List Event) (k m : ℕ) (x : Action) (o : Outcome) → is_success c x o ≡ true → is_of_cell r n x ≡ true → is_ignored c x o ≡ false → is_sending_from r n x ≡ false
       → IsSure (es ++ Ended k x o m ∷ [])
   sure_turned es k m x o ok here kept stays =
-      here_sure es (Ended k x o m) refl (rw here (rw kept refl)) (neither (is_bad x o) (is_sent_away (Ended k x o m)) (success_good c x o ok kept) (not_away k m x o here stays))
+      here_sure es (Ended k x o m) refl (rw here (rw kept refl)) (or_from (is_bad x o) (is_sent_away (Ended k x o m)) (success_good c x o ok kept) (not_away k m x o here stays))

@@ -1,5 +1,5 @@
 -- The moment of a run stays within its bound.
-use Rattle.std.proofs.Common.{arith, ◌≡◌, ◌<◌, ◌+◌, ◌^◌, nat_lt, ℕ, Bool, true, List, [], ◌∷◌, ◌++◌, refl, sym, subst, filter, append-nil}
+use Rattle.std.proofs.Common.{arith, ◌≡◌, ◌<◌, ◌+◌, ◌^◌, nat_lt, ℕ, Bool, true, List, [], ◌∷◌, ◌++◌, refl, sym, subst, filter, append-nil, append_assoc}
 use Rattle.std.specs.Prelude.{Option, Some, None, map, find, sum_by}
 use Rattle.std.specs.Option.{option_map_or}
 use Rattle.std.proofs.lemmas.List.Sums.{sum_by-append}
@@ -19,7 +19,6 @@ use Rattle.cluster_types.specs.Runs.{Standing, RunsOn, plans, goes, completes, a
 use Rattle.cluster_types.specs.Steps.{Transition, StepsOn, begins, takes, is_silent, Applies, events_of, flying, journal, outside, resting, silent_code}
 use Rattle.lemmas.proofs.Booleans.{later}
 use Rattle.run_safety.proofs.Along.{along}
-use Rattle.run_safety.proofs.OneRun.{regroup}
 
 no_seconds : (m : ℕ) (o : Outcome) (p : Option (ℕ × Action)) → sum_by seconds_of (option_map_or (λ (p : ℕ × Action). Ended p.0 p.1 o m ∷ []) p []) ≡ 0
 no_seconds m o (Some p) = refl
@@ -59,7 +58,7 @@ module _ (c : Cluster) (promotions : List Promotion) (whole : Bool) where
       → moment_of (journal_at at) < 2 ^ 40 → moment_of (journal_at next) < 2 ^ 40
   one_moment _ _ rest _ _ (plans k es _ placed actions plan) low = joined_moment es [] (omega (arith, low))
   one_moment _ _ rest left _ (goes k t since events _ _ step) low =
-      subst (λ z. moment_of z < 2 ^ 40) (regroup t.planned_at since events) (joined_moment (journal t since) events (step_seconds t since whole events rest left step low))
+      subst (λ z. moment_of z < 2 ^ 40) (append_assoc t.planned_at since events) (joined_moment (journal t since) events (step_seconds t since whole events rest left step low))
   one_moment _ _ rest _ _ (completes k t since _ over unaborted) low = low
   one_moment _ _ rest _ _ (aborts k t since _ over aborted) low = low
   one_moment _ _ rest left _ (answers k es _ _ given said applies) low =

@@ -1,6 +1,7 @@
 -- A run that is over or cut goes no step, so it is one, and each other run from the same place is how it begins.
 use Rattle.std.proofs.Common.{◌≡◌, Bool, List, [], ◌++◌, refl, ap, ◌∙◌, sym, subst, append-nil}
 use Rattle.std.specs.Prelude.{Option, Some, None}
+use Rattle.std.proofs.lemmas.Option.{same_Some}
 use Rattle.cluster_types.specs.declared.cluster.Cluster.{Cluster}
 use Rattle.cluster_types.specs.declared.journal.Answer.{Answer}
 use Rattle.cluster_types.specs.declared.journal.Event.{Event}
@@ -14,9 +15,6 @@ use Rattle.run_safety.specs.OnePlan.{PlansAreOne}
 use Rattle.run_safety.proofs.OneRun.{one_way, runs_told}
 use Rattle.run_safety.proofs.OneStep.{ended_waits, unsettled}
 use Rattle.run_safety.proofs.Said.{says_one, some_or_none}
-
-same_answer : (a b : Answer) → Some a ≡ Some b → a ≡ b
-same_answer a b e = cc
 
 module _ (c : Cluster) (promotions : List Promotion) (whole : Bool) where
   -- no step goes on from here
@@ -35,7 +33,7 @@ module _ (c : Cluster) (promotions : List Promotion) (whole : Bool) where
       → ¬ Applies t since given → StepsOn t whole since rest events next → ⊥
   step_cut t since _ rest _ left given told waiting said refused (begins _ k a begin) = unsettled t since k a begin waiting.settled
   step_cut t since _ rest next left given told waiting said refused (takes _ _ other also taken) =
-      let same = same_answer other given (says_one whole rest next left (Some other) (Some given) told also said).0 in
+      let same = same_Some other given (says_one whole rest next left (Some other) (Some given) told also said).0 in
       refused (subst (λ z. Applies t since z) same taken.applies)
   step_cut t since _ rest next left given told waiting said refused (is_silent _ _ k a also ends) =
       some_or_none given (says_one whole rest left next (Some given) None told said also).0
@@ -46,7 +44,7 @@ module _ (c : Cluster) (promotions : List Promotion) (whole : Bool) where
   cut_stuck _ rest left given told cut _ _ _ (completes k t since _ ended unaborted) = ended_waits t since ended cut.asking
   cut_stuck _ rest left given told cut _ _ _ (aborts k t since _ ended aborted) = ended_waits t since ended cut.asking
   cut_stuck _ rest left given told cut _ _ next (answers k es _ _ other also applies) =
-      let same = same_answer other given (says_one whole rest next left (Some other) (Some given) told also cut.said).0 in
+      let same = same_Some other given (says_one whole rest next left (Some other) (Some given) told also cut.said).0 in
       cut.refused (subst (λ z. Applies (resting c es) [] z) same applies)
 
   stuck_here : (at later : Standing) (rest left : Option (List Answer)) (lines : List RunLine) → IsStuck at rest → Runs c promotions whole at rest lines later left
@@ -101,7 +99,7 @@ module _ (c : Cluster) (promotions : List Promotion) (whole : Bool) where
         (cut_run_stuck es left rest behind given lines told one) (cut_run_stuck es right rest unread other others told two) in
         let said = says_one whole one.unread behind unread (Some given) (Some other) (runs_told c promotions whole (due 1 es) one.last rest one.unread lines one.steps told)
         one.cut.said (subst (λ z. Says whole z (Some other) unread) (sym same.2) two.cut.said) in
-        (same.0, one.leaves ∙ ap (λ z. journal_at z) same.1 ∙ sym two.leaves, same_answer given other said.0, said.1)
+        (same.0, one.leaves ∙ ap (λ z. journal_at z) same.1 ∙ sym two.leaves, same_Some given other said.0, said.1)
 
     pub whole_or_cut : {R : Type 0} (left right : List Event) (lines others : List RunLine) (given : Answer) (behind : Option (List Answer))
         → IsWholeRun c promotions whole es rest lines left → IsCutRun c promotions whole es rest others right given behind → R

@@ -1,6 +1,6 @@
 -- Of the steps of a run from one place there is one, where the answers to come are told and a journal has one plan. So of two runs from one place the one goes
 -- on from the other.
-use Rattle.std.proofs.Common.{◌≡◌, ℕ, ◌+◌, Bool, true, false, List, [], ◌∷◌, ◌++◌, refl, ap, ◌∙◌, sym, subst}
+use Rattle.std.proofs.Common.{◌≡◌, ℕ, ◌+◌, Bool, true, false, List, [], ◌∷◌, ◌++◌, append_assoc, refl, ap, ◌∙◌, sym, subst}
 use Rattle.std.specs.Prelude.{Option, Some, None}
 use Rattle.std.specs.List.{flat_map}
 use Rattle.cluster_types.specs.declared.cluster.Cluster.{Cluster}
@@ -21,10 +21,6 @@ use Rattle.run_safety.specs.Followed.{IsTold, AreOnOneWay, this_first, other_fir
 use Rattle.run_safety.specs.OnePlan.{PlansAreOne}
 use Rattle.run_safety.proofs.OneStep.{step_one, ended_goes}
 use Rattle.run_safety.proofs.Said.{says_one, stays_told}
-
-pub regroup : {X : Type 0} (xs ys zs : List X) → (xs ++ ys) ++ zs ≡ xs ++ (ys ++ zs)
-regroup [] ys zs = refl
-regroup (x ∷ xs) ys zs = ap (λ l. x ∷ l) (regroup xs ys zs)
 
 both_aborted : {R : Type 0} (b : Bool) → b ≡ true → b ≡ false → R
 both_aborted true h g = absurd (let f : ⊥ = cc in f)
@@ -103,9 +99,9 @@ module _ (c : Cluster) (promotions : List Promotion) (whole : Bool) where
   further : (first second more others : List RunLine) (p q : Standing) (left right : Option (List Answer)) → first ≡ second
       → AreOnOneWay c promotions whole more p left others q right → AreOnOneWay c promotions whole (first ++ more) p left (second ++ others) q right
   further first second more others p q left right e (this_first g) =
-      this_first (record { more = g.more; runs = g.runs; joined = ap (λ z. second ++ z) g.joined ∙ ap (λ z. z ++ (more ++ g.more)) (sym e) ∙ sym (regroup first more g.more) })
+      this_first (record { more = g.more; runs = g.runs; joined = ap (λ z. second ++ z) g.joined ∙ ap (λ z. z ++ (more ++ g.more)) (sym e) ∙ sym (append_assoc first more g.more) })
   further first second more others p q left right e (other_first g) =
-      other_first (record { more = g.more; runs = g.runs; joined = ap (λ z. first ++ z) g.joined ∙ ap (λ z. z ++ (others ++ g.more)) e ∙ sym (regroup second others g.more) })
+      other_first (record { more = g.more; runs = g.runs; joined = ap (λ z. first ++ z) g.joined ∙ ap (λ z. z ++ (others ++ g.more)) e ∙ sym (append_assoc second others g.more) })
 
   moved : (at after later : Standing) (rest other left : Option (List Answer)) (lines : List RunLine) → at ≡ after → rest ≡ other
       → Runs c promotions whole after other lines later left → Runs c promotions whole at rest lines later left

@@ -1,5 +1,5 @@
 -- A transition ends in one way, where the answers to come are told; and its steps are those of a run.
-use Rattle.std.proofs.Common.{◌≡◌, ℕ, Bool, List, [], ◌++◌, refl, ◌∙◌, sym, subst, append-nil}
+use Rattle.std.proofs.Common.{◌≡◌, ℕ, Bool, List, [], ◌++◌, refl, ◌∙◌, sym, subst, append-nil, append_assoc}
 use Rattle.std.specs.Prelude.{Option}
 use Rattle.std.specs.List.{flat_map}
 use Rattle.std.proofs.lemmas.Grind.{flat_map-append}
@@ -11,7 +11,7 @@ use Rattle.cluster_types.specs.Runs.{amid, goes, Runs, here, one_more}
 use Rattle.cluster_types.specs.Steps.{Transition, Goes, HasEnded, here as there, one_more as one_further}
 use Rattle.cluster_types.specs.Texts.{event_lines}
 use Rattle.run_safety.specs.Followed.{IsTold, IsPartOfRun}
-use Rattle.run_safety.proofs.OneRun.{regroup, step_told}
+use Rattle.run_safety.proofs.OneRun.{step_told}
 use Rattle.run_safety.proofs.OneStep.{ended_goes, step_one}
 
 module _ (t : Transition) (whole : Bool) where
@@ -37,7 +37,7 @@ module _ (c : Cluster) (promotions : List Promotion) (whole : Bool) (k : ℕ) (t
       let part = goes_runs (since ++ events) later middle left more in
       record {
         events = events ++ part.events;
-        joined = part.joined ∙ regroup since events part.events;
+        joined = part.joined ∙ append_assoc since events part.events;
         runs = subst (λ z. Runs c promotions whole (amid k t since) rest z (amid k t later) left) (sym (flat_map-append event_lines events part.events))
             (one_more (amid k t since) (amid k t (since ++ events)) (amid k t later) rest middle left (flat_map event_lines events) (flat_map event_lines part.events)
             (goes k t since events rest middle step) part.runs);

@@ -1,5 +1,5 @@
 -- Runs are put together; and where the answers to come are known to be not all, a run that asks for one more goes no step.
-use Rattle.std.proofs.Common.{◌≡◌, Bool, false, List, [], ◌++◌, refl, ap, ◌∙◌, sym, subst, append-nil}
+use Rattle.std.proofs.Common.{◌≡◌, Bool, false, List, [], ◌++◌, refl, ap, ◌∙◌, sym, subst, append-nil, append_assoc}
 use Rattle.std.specs.Prelude.{Option, Some, None}
 use Rattle.cluster_types.specs.declared.cluster.Cluster.{Cluster}
 use Rattle.cluster_types.specs.declared.journal.Answer.{Answer}
@@ -13,7 +13,6 @@ use Rattle.run_safety.specs.Followed.{IsTold, IsFront}
 use Rattle.run_safety.specs.OnePlan.{PlansAreOne}
 use Rattle.run_safety.proofs.Beginnings.{begins_whole}
 use Rattle.run_safety.proofs.OneEnd.{IsStuck, both_stuck, cut_run_stuck}
-use Rattle.run_safety.proofs.OneRun.{regroup}
 use Rattle.run_safety.proofs.OneStep.{ended_waits, unsettled}
 use Rattle.run_safety.proofs.Said.{says_just, says_something, some_or_none}
 
@@ -22,7 +21,7 @@ module _ (c : Cluster) (promotions : List Promotion) (whole : Bool) where
       → Runs c promotions whole middle behind more later left → Runs c promotions whole at rest (lines ++ more) later left
   runs_joined at _ later rest _ left _ more (here _ _) two = two
   runs_joined at middle later rest behind left _ more (one_more _ next _ _ unread _ first others step runs) two =
-      subst (λ z. Runs c promotions whole at rest z later left) (sym (regroup first others more))
+      subst (λ z. Runs c promotions whole at rest z later left) (sym (append_assoc first others more))
       (one_more at next later rest unread left first (others ++ more) step (runs_joined next middle later unread behind left others more runs two))
 
   pub runs_once : (at next : Standing) (rest left : Option (List Answer)) (lines : List RunLine) → RunsOn c promotions whole at rest lines next left → Runs c promotions whole at rest lines next left

@@ -2,6 +2,7 @@
 use Rattle.std.proofs.Common.{◌≡◌, inl, inr, ℕ, true, Option, Some, None, List, [], ◌++◌, drop, length, IfSome, refl, sym, ap, subst, ◌∙◌}
 use Rattle.std.specs.Option.{option_map}
 use Rattle.std.proofs.Math.Seq.{drop-append_seam}
+use Rattle.std.proofs.lemmas.Option.{IfSome_then}
 use Rattle.cluster_io.specs.Readings.{Reading}
 use Rattle.cluster_io.specs.Streams.{AddsPrefix}
 use Rattle.cluster_types.specs.declared.cluster.Cluster.{Cluster}
@@ -153,10 +154,6 @@ write_end end.NoMemory e = absurd cc
 
 -- what is said of the source as it is lent on: that of the reader, of the answers and at the end
 module _ {S : Type 0} (left : S → Option (List ℕ)) where
-  if_told : (told : Option (List ℕ)) (P Q : List ℕ → Type 0) → ((input : List ℕ) → P input → Q input) → IfSome told P → IfSome told Q
-  if_told None P Q step h = tt
-  if_told (Some input) P Q step h = step input h
-
   pub stop_told : (src over begun final : S) (before after : Option (List ℕ)) (how : HeadEnd) (status : Status) → over ≡ src → final ≡ begun
       → IfSome (left over) (λ input. StopsBy input (left begun) how)
       → ((input : List ℕ) (rest : Option (List ℕ)) → StopsBy input rest how → SaysLive input rest before after status)
@@ -164,8 +161,7 @@ module _ {S : Type 0} (left : S → Option (List ℕ)) where
   stop_told src over begun final before after how status lent back told says =
       subst (λ (s : S). IfSome (left s) (λ input. SaysLive input (left final) before after status)) lent
       (subst (λ (s : S). IfSome (left over) (λ input. SaysLive input (left s) before after status)) (sym back)
-      (if_told (left over) (λ input. StopsBy input (left begun) how) (λ input. SaysLive input (left begun) before after status)
-      (λ input stopped. says input (left begun) stopped) told))
+      (IfSome_then (left over) told (λ input stopped. says input (left begun) stopped)))
 
   pub run_told : (src over begun asked done final : S) (before after : Option (List ℕ)) (head : Head) (reading at : Reading) (how : LiveEnd) (status : Status)
       → over ≡ src → asked ≡ begun → final ≡ done → at ≡ reading → status ≡ status_of how

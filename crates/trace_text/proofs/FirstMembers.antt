@@ -124,6 +124,3 @@ first_above flags bound le above = on (members flags) refl where
       let low = first.low in
       let high = first.high in
       above x (omega arith) (omega arith) first.passes
-
-pub first_is : (flags : List Bool) (k d : ℕ) → slice_get (members flags) 0 ≡ Some k → get_or (members flags) 0 d ≡ k
-first_is flags k d first = rw (headed (members flags) k first) refl

@@ -3,6 +3,7 @@ use Rattle.std.proofs.Common.{arith, ◌≡◌, ◌≢◌, ◌⊎◌, inl, inr, 
 use Rattle.std.specs.Prelude.{nat_lt}
 use Rattle.std.specs.List.{list_any}
 use Rattle.std.proofs.lemmas.Bool.{both_ways, or_cases, ltb-true, ltb-false}
+use Rattle.std.proofs.lemmas.Option.{get_or_from_slice_get}
 use Rattle.lemmas.proofs.Booleans.{sooner, later}
 use Rattle.cluster_types.specs.declared.edges.Edge.{Edge}
 use Rattle.cluster_types.specs.Graphs.{EndWithin, LeadUpward}
@@ -12,7 +13,7 @@ use Rattle.trace_text.specs.declared.found.Found.{Found}
 use Rattle.trace_text.specs.Backward.{IsOnTheWay}
 use Rattle.trace_text.specs.Found.{HasRoom, SameSizes, is_found}
 use Rattle.trace_text.proofs.Backward.{gate_passed, on_the_way_first, source_below}
-use Rattle.trace_text.proofs.FirstMembers.{first_above, first_from_one, first_is, first_least, first_member, first_to_most}
+use Rattle.trace_text.proofs.FirstMembers.{first_above, first_from_one, first_least, first_member, first_to_most}
 use Rattle.trace_text.proofs.Places.{gate_found, nothing_found, room_kept}
 
 -- how many numbers of gates there are from the first member on
@@ -78,7 +79,7 @@ module _ (old new : Found) (gate : ℕ) (edges : List Edge) (room : HasRoom old)
   pub fewer_left : gates_left new < gates_left old
   fewer_left =
       let gates = sizes.gates in
-      let now = first_is old.gates gate (suc (length old.gates)) first in
+      let now = get_or_from_slice_get (members old.gates) 0 gate (suc (length old.gates)) first in
       let next = first_above new.gates gate (omega (arith, high, gates)) above in
       omega (arith, high, gates, now, next)
 

@@ -1,9 +1,10 @@
 use Rattle.std.proofs.Common.{◌≡◌, ◌++◌, ◌∷◌, [], codes, ap, ◌∙◌}
 use Rattle.std.specs.List.{flat_map}
+use Rattle.std.proofs.lemmas.Result.{on_ok_weaker}
 use Rattle.crm_parse.specs.declared.form.Form.TheVariants as form
 use Rattle.crm_print.specs.Items.{operation, section, with_meta, word}
 use Rattle.crm_print.specs.Text.{canonical_line}
-use Rattle.crm_print.proofs.FormLines.{line_before, on_ok-more, three_pieces}
+use Rattle.crm_print.proofs.FormLines.{line_before, three_pieces}
 use Rattle.crm_print.proofs.statement.push_form.Goals as goal
 
 pub returns-in_ok-push_meta-in-Primitive : goal.returns-in_ok-push_meta-in-Primitive
@@ -23,8 +24,8 @@ returns-in_ok-push_meta-in-Primitive c =
     let f = c.as_slice-in-Primitive-5.ensures in
     let g = p.is in
     cc in
-    on_ok-more c.push_works.result c.push_works.ensures (
-    λ e.
+    on_ok_weaker c.push_works.result
+    (λ e.
     three_pieces text _ _ _ _ _ _ c.in_ok-push_named-in-Primitive.ensures c.in_ok-push_meta-in-Primitive.ensures e
     ∙ (
     ap (λ xs. text ++ xs) (
@@ -32,5 +33,5 @@ returns-in_ok-push_meta-in-Primitive c =
     (section (codes "utilization") utilization ++ (section (codes "operations") operations ++ flat_map operation ops))
     )
     ∙ ap (λ form. text ++ canonical_line form) same
-    )
-    )
+    ))
+    c.push_works.ensures

@@ -1,10 +1,10 @@
 use Rattle.std.proofs.Common.{rules, ◌≡◌, ◌+◌, ◌<◌, ◌≤◌, if◌then◌else◌, Option, Some, None, get_or, length, take, ap, subst, ◌∙◌}
-use Rattle.std.proofs.lemmas.List.{take_all}
+use Rattle.std.proofs.lemmas.List.{get_or_read, take_all}
 use Rattle.cluster_types.specs.declared.placement.Decision.{Decision}
 use Rattle.cluster_types.specs.declared.placement.Decision.TheVariants.{Place}
 use Rattle.cluster_types.specs.Decisions.{Key, is_same_decision}
 use Rattle.placement.specs.Lending.{AreKeys, keys_among}
-use Rattle.placement.proofs.ReadKeys.{key-at, read-at}
+use Rattle.placement.proofs.ReadKeys.{key-at}
 use Rattle.placement.proofs.SlotLaws.{key-more, keys-same}
 use Rattle.placement.proofs.key_slots.own_keys.Goals as goal
 
@@ -21,7 +21,7 @@ loop-position-preserved c = λ key are.
     let ds = set.list.items in
     let low : l.position < length ds = search rules in
     let d = get_or ds l.position (Place 0) in
-    let decision : c.index.result.now ≡ d = read-at ds l.position c.index.result.now (Place 0) low c.index.ensures in
+    let decision : c.index.result.now ≡ d = get_or_read ds l.position c.index.result.now low c.index.ensures (Place 0) in
     let keyed : c.index-keys-position.result ≡ key d = c.index-keys-position.is ∙ key-at key ds c.args.keys.now l.position (Place 0) c.index-keys-position.result are low in
     let so_far : Decision → Option Key = keys_among (take l.position ds) key in
     keys-same leaves (λ e. if is_same_decision c.index.result.now e then Some c.index-keys-position.result else so_far e) c.set_key.new.slots.items

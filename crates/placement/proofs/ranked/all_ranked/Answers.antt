@@ -1,10 +1,10 @@
 use Rattle.std.proofs.Common.{rules, ◌≡◌, ◌<◌, ◌≤◌, ◌++◌, ◌∷◌, [], get_or, length, take, sym, ap, ◌∙◌}
-use Rattle.std.proofs.lemmas.List.{map-append, take_all, take_more}
+use Rattle.std.proofs.lemmas.List.{get_or_read, map-append, take_all, take_more}
 use Rattle.cluster_types.specs.declared.placement.Decision.{Decision}
 use Rattle.cluster_types.specs.declared.placement.Decision.TheVariants.{Place}
 use Rattle.placement.specs.declared.ranked.Ranked.{Ranked}
 use Rattle.placement.specs.Turns.{ranked_by}
-use Rattle.placement.proofs.ReadKeys.{key-at, read-at}
+use Rattle.placement.proofs.ReadKeys.{key-at}
 use Rattle.placement.proofs.ranked.all_ranked.Goals as goal
 
 pub loop-position-preserved : goal.loop-position-preserved
@@ -16,7 +16,7 @@ loop-position-preserved c = λ key are.
     let d = get_or ds l.position (Place 0) in
     let one : Ranked = record { decision = c.index.result.now; key = c.index-keys-position.result } in
     let items : c.push.new.self.items ≡ l.ranked.items ++ one ∷ [] = search rules in
-    let decision : c.index.result.now ≡ d = read-at ds l.position c.index.result.now (Place 0) low c.index.ensures in
+    let decision : c.index.result.now ≡ d = get_or_read ds l.position c.index.result.now low c.index.ensures (Place 0) in
     let keyed : c.index-keys-position.result ≡ key d = c.index-keys-position.is ∙ key-at key ds c.args.keys.now l.position (Place 0) c.index-keys-position.result are low in
     let is : one ≡ record { decision = d; key = key d } = λ i. record { decision = decision i; key = keyed i } in
     items ∙ (ap (λ r. l.ranked.items ++ r ∷ []) is ∙ (ap (λ rs. rs ++ record { decision = d; key = key d } ∷ []) (l.invariant key are)
