@@ -6,6 +6,7 @@ use Rattle.std.specs.Option.{option_map_or}
 use Rattle.std.proofs.lemmas.List.FromFn.{get_or-map-range_with_len}
 use Rattle.std.proofs.lemmas.Option.{get_or_from_slice_get, slice_get_within}
 use Rattle.lemmas.proofs.Members.{in_flat, in_if, in_range, of_flat, of_range}
+use Rattle.listed.specs.Flags.{is_marked}
 use Rattle.cluster_types.specs.declared.cluster.Cluster.{Cluster}
 use Rattle.cluster_types.specs.declared.journal.Action.{Action}
 use Rattle.cluster_types.specs.declared.journal.Action.TheVariants.{Fence}
@@ -26,7 +27,6 @@ use Rattle.cluster_types.proofs.StatesKept.{node_kept}
 use Rattle.rule_loops.proofs.FromValid.{valid_join, valid_order}
 use Rattle.action_build.specs.Actions.{all_fences, fences_in, is_free, is_touched, is_unclean_in, leaves_actions}
 use Rattle.action_build.specs.Cycling.{Marks}
-use Rattle.action_build.specs.Works.{flag_of}
 use Rattle.action_build.specs.declared.steps.CellNeed.{CellNeed}
 use Rattle.action_build.proofs.AllNeeded.{all_needed, there}
 use Rattle.action_build.proofs.Conditions.{of_if, of_one}
@@ -69,29 +69,29 @@ module _ (c : Cluster) (valid : IsValid c) where
 
     module _ (need : ℕ → ℕ → CellNeed) (marked : Marks) (told : Tells c es targets need marked) (touched free : List Bool)
         (flags : touched ≡ map (is_touched c need marked) (range_with_len 0 (length c.leaves)))
-        (lefts : (r : ℕ) → r < length c.leaves → flag_of free r ≡ is_free c (flag_of touched) r) where
-      flag_known : (r : ℕ) → r < length c.leaves → flag_of touched r ≡ is_touched c need marked r
+        (lefts : (r : ℕ) → r < length c.leaves → is_marked free r ≡ is_free c (is_marked touched) r) where
+      flag_known : (r : ℕ) → r < length c.leaves → is_marked touched r ≡ is_touched c need marked r
       flag_known r lr =
-          ap (λ fs. flag_of fs r) flags
+          ap (λ fs. is_marked fs r) flags
           ∙ get_or-map-range_with_len (is_touched c need marked) 0 (length c.leaves) r r false lr (omega arith)
 
-      touched_known : (r : ℕ) → r < length c.leaves → flag_of touched r ≡ true ↔ IsDisturbed c es targets r
+      touched_known : (r : ℕ) → r < length c.leaves → is_marked touched r ≡ true ↔ IsDisturbed c es targets r
       touched_known r lr = (
         λ h. (touched_is c es targets need marked told r lr).0 (sym (flag_known r lr) ∙ h),
         λ d. flag_known r lr ∙ (touched_is c es targets need marked told r lr).1 d,
       )
 
-      listed : AreNeeded (Needed c es targets) (all_fences c may nodes ++ leaves_actions c need marked (flag_of free))
+      listed : AreNeeded (Needed c es targets) (all_fences c may nodes ++ leaves_actions c need marked (is_marked free))
       listed = record {
         needed = λ a. (
-          all_needed c es targets need marked told (valid_order c valid.orders) (valid_join c valid.colocations) (flag_of touched) (flag_of free)
+          all_needed c es targets need marked told (valid_order c valid.orders) (valid_join c valid.colocations) (is_marked touched) (is_marked free)
               touched_known lefts (all_fences c may nodes) fenced only a,
-          there c es targets need marked told (valid_order c valid.orders) (valid_join c valid.colocations) (flag_of touched) (flag_of free)
+          there c es targets need marked told (valid_order c valid.orders) (valid_join c valid.colocations) (is_marked touched) (is_marked free)
               touched_known lefts (all_fences c may nodes) fenced only a,
         );
-        once = all_once c need marked watched (flag_of free) may nodes;
+        once = all_once c need marked watched (is_marked free) may nodes;
       }
 
-      pub whole_list : (list : List Action) → list ≡ all_fences c may nodes ++ leaves_actions c need marked (flag_of free)
+      pub whole_list : (list : List Action) → list ≡ all_fences c may nodes ++ leaves_actions c need marked (is_marked free)
           → AreNeeded (Needed c es targets) list
       whole_list list is = subst (AreNeeded (Needed c es targets)) (sym is) listed

@@ -1,5 +1,5 @@
 -- What a list of what cells need says of each, with the marks of those that are cycled (rule of this project).
-use Rattle.std.specs.Prelude.{◌≡◌, ◌↔◌, ℕ, Bool, true, false, List, slice_index_or, length}
+use Rattle.std.specs.Prelude.{◌≡◌, ◌↔◌, ℕ, true, length}
 use Rattle.cluster_types.specs.declared.cluster.Cluster.{Cluster}
 use Rattle.cluster_types.specs.declared.journal.Event.{Event}
 use Rattle.cluster_types.specs.Needed.{Cycled}
@@ -14,10 +14,6 @@ needs_of work = need_in work.marks.nodes work.needs.items
 
 abbrev pub marks_of : CellWork → Marks
 marks_of work = marks_in work.marks.nodes work.marks.cells.items
-
--- what a list of flags says of each leaf
-abbrev pub flag_of : List Bool → ℕ → Bool
-flag_of flags r = slice_index_or flags r false
 
 -- the list says of each cell of the cluster what it needs, and the marks are those of the cells that are cycled
 pub record IsWork (c : Cluster) (es : List Event) (targets : Targets) (work : CellWork) : Type 0 where

@@ -2,6 +2,7 @@
 
 ghost use Rattle.std.specs.Prelude.{◌≡◌, ◌++◌, List, IfOk, OnOk, length, map};
 ghost use Rattle.std.specs.List.{range_with_len};
+ghost use Rattle.listed.specs.Flags.{is_marked};
 ghost use Rattle.cluster_types.specs.declared.journal.Event.{Event as EventOf};
 ghost use Rattle.cluster_types.specs.declared.journal.Promotion.{Promotion as PromotionOf};
 ghost use Rattle.cluster_types.specs.Needed.{Needed};
@@ -12,7 +13,7 @@ ghost use Rattle.cluster_types.specs.Tables.{Targets, targets_of};
 ghost use Rattle.cluster_types.specs.Unpacked.{states_of};
 ghost use Rattle.cluster_types.specs.Valid.{IsValid, KeepsLimits};
 ghost use Rattle.action_build.specs.Actions as actions;
-ghost use Rattle.action_build.specs.Works.{IsWork, flag_of, marks_of, needs_of};
+ghost use Rattle.action_build.specs.Works.{IsWork, marks_of, needs_of};
 
 use crate::finding::cycled_cells;
 use crate::flags::{free, touched};
@@ -96,7 +97,7 @@ fn list_of(
 ) -> Result<Vec<Action>, NoMemory>
     requires { KeepsLimits cluster.now }
     ensures { IfOk result (λ list. list.items ≡ actions.all_fences cluster.now may_fence states.now
-        ++ actions.leaves_actions cluster.now (needs_of work.now) (marks_of work.now) (flag_of free.now)) }
+        ++ actions.leaves_actions cluster.now (needs_of work.now) (marks_of work.now) (is_marked free.now)) }
 {
     let mut list = Vec::new(alloc);
     push_fences(&mut list, cluster, may_fence, states)?;

@@ -2,9 +2,10 @@
 
 ghost use Rattle.std.specs.Prelude.{◌≡◌, ◌<◌, ◌==◌, ◌&&◌, ℕ, not, IfOk, length, map};
 ghost use Rattle.std.specs.List.{range_with_len};
+ghost use Rattle.listed.specs.Flags.{is_marked};
 ghost use Rattle.cluster_types.specs.Valid.{KeepsLimits};
 ghost use Rattle.action_build.specs.Actions as actions;
-ghost use Rattle.action_build.specs.Works.{flag_of, marks_of, needs_of};
+ghost use Rattle.action_build.specs.Works.{marks_of, needs_of};
 
 use crate::work::CellWork;
 use cluster_types::{Cluster, Colocation, LeafId, Op, Order, OrderKind};
@@ -37,7 +38,7 @@ pub fn touched(alloc: Global, cluster: &Cluster, work: &CellWork) -> Result<Vec<
 /// Takes the flag of the leaf away, where this holds.
 fn clear_if(flags: &mut Vec<bool>, leaf: LeafId, clears: bool)
     ensures size { length flags.new.items ≡ length flags.old.items }
-    ensures flags { (r : ℕ) → flag_of flags.new.items r ≡ (flag_of flags.old.items r && not (r == leaf && clears)) }
+    ensures flags { (r : ℕ) → is_marked flags.new.items r ≡ (is_marked flags.old.items r && not (r == leaf && clears)) }
 {
     if clears && (leaf as usize) < flags.len() {
         flags[leaf as usize] = false;
@@ -46,7 +47,7 @@ fn clear_if(flags: &mut Vec<bool>, leaf: LeafId, clears: bool)
 
 /// Whether the order keeps its first from migrating: the then gets a step, and the order says more than that it waits for a start.
 fn keeps_first(touched: &[bool], order: &Order) -> bool
-    ensures { result ≡ actions.keeps_first (flag_of touched.now) order.now }
+    ensures { result ≡ actions.keeps_first (is_marked touched.now) order.now }
 {
     (order.kind == OrderKind::Serialize || order.first_op != Op::Start)
         && flag_at(touched, order.then_leaf)
@@ -54,7 +55,7 @@ fn keeps_first(touched: &[bool], order: &Order) -> bool
 
 /// Whether it keeps its then from migrating: the first, which is another leaf, gets a step.
 fn keeps_then(touched: &[bool], order: &Order) -> bool
-    ensures { result ≡ actions.keeps_then (flag_of touched.now) order.now }
+    ensures { result ≡ actions.keeps_then (is_marked touched.now) order.now }
 {
     order.first != order.then_leaf && flag_at(touched, order.first)
 }
@@ -62,8 +63,8 @@ fn keeps_then(touched: &[bool], order: &Order) -> bool
 /// Takes the flags away of the leaves that the order keeps from migrating.
 fn clear_by_order(flags: &mut Vec<bool>, touched: &[bool], order: &Order)
     ensures size { length flags.new.items ≡ length flags.old.items }
-    ensures flags { (r : ℕ) → flag_of flags.new.items r
-        ≡ (flag_of flags.old.items r && actions.is_harmless_order (flag_of touched.now) r order.now) }
+    ensures flags { (r : ℕ) → is_marked flags.new.items r
+        ≡ (is_marked flags.old.items r && actions.is_harmless_order (is_marked touched.now) r order.now) }
 {
     clear_if(flags, order.first, keeps_first(touched, order));
     clear_if(flags, order.then_leaf, keeps_then(touched, order));
@@ -73,8 +74,8 @@ fn clear_by_order(flags: &mut Vec<bool>, touched: &[bool], order: &Order)
 /// step.
 fn clear_by_colocation(flags: &mut Vec<bool>, touched: &[bool], colocation: &Colocation)
     ensures size { length flags.new.items ≡ length flags.old.items }
-    ensures flags { (r : ℕ) → flag_of flags.new.items r
-        ≡ (flag_of flags.old.items r && actions.is_harmless_colocation (flag_of touched.now) r colocation.now) }
+    ensures flags { (r : ℕ) → is_marked flags.new.items r
+        ≡ (is_marked flags.old.items r && actions.is_harmless_colocation (is_marked touched.now) r colocation.now) }
 {
     let apart = colocation.is_separation();
     clear_if(
@@ -92,8 +93,8 @@ fn clear_by_colocation(flags: &mut Vec<bool>, touched: &[bool], colocation: &Col
 /// Takes the flags away of the leaves that orders keep from migrating.
 fn clear_by_orders(flags: &mut Vec<bool>, touched: &[bool], cluster: &Cluster)
     ensures size { length flags.new.items ≡ length flags.old.items }
-    ensures flags { (r : ℕ) → flag_of flags.new.items r
-        ≡ (flag_of flags.old.items r && actions.is_left_by_orders cluster.now (flag_of touched.now) r) }
+    ensures flags { (r : ℕ) → is_marked flags.new.items r
+        ≡ (is_marked flags.old.items r && actions.is_left_by_orders cluster.now (is_marked touched.now) r) }
 {
     for order in cluster.orders.as_slice() {
         clear_by_order(flags, touched, order);
@@ -103,8 +104,8 @@ fn clear_by_orders(flags: &mut Vec<bool>, touched: &[bool], cluster: &Cluster)
 /// Takes the flags away of the leaves that colocations keep from migrating.
 fn clear_by_colocations(flags: &mut Vec<bool>, touched: &[bool], cluster: &Cluster)
     ensures size { length flags.new.items ≡ length flags.old.items }
-    ensures flags { (r : ℕ) → flag_of flags.new.items r
-        ≡ (flag_of flags.old.items r && actions.is_left_by_colocations cluster.now (flag_of touched.now) r) }
+    ensures flags { (r : ℕ) → is_marked flags.new.items r
+        ≡ (is_marked flags.old.items r && actions.is_left_by_colocations cluster.now (is_marked touched.now) r) }
 {
     for colocation in cluster.colocations.as_slice() {
         clear_by_colocation(flags, touched, colocation);
@@ -114,7 +115,7 @@ fn clear_by_colocations(flags: &mut Vec<bool>, touched: &[bool], cluster: &Clust
 /// Which leaves no rule keeps from migrating, given which leaves get a step anywhere.
 pub fn free(alloc: Global, cluster: &Cluster, touched: &[bool]) -> Result<Vec<bool>, AllocError>
     ensures { IfOk result (λ flags. (r : ℕ) → r < length cluster.now.leaves
-        → flag_of flags.items r ≡ actions.is_free cluster.now (flag_of touched.now) r) }
+        → is_marked flags.items r ≡ actions.is_free cluster.now (is_marked touched.now) r) }
 {
     let mut flags = vec![in alloc; true; cluster.leaves.len()]?;
     clear_by_orders(&mut flags, touched, cluster);

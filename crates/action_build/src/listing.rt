@@ -2,10 +2,11 @@
 
 ghost use Rattle.std.specs.Prelude.{◌≡◌, ◌++◌, ◌∷◌, [], if◌then◌else◌, OnOk, filter, length, map};
 ghost use Rattle.std.specs.List.{flat_map, range_with_len};
+ghost use Rattle.listed.specs.Flags.{is_marked};
 ghost use Rattle.cluster_types.specs.Needed as needed;
 ghost use Rattle.cluster_types.specs.Valid.{KeepsLimits};
 ghost use Rattle.action_build.specs.Actions as actions;
-ghost use Rattle.action_build.specs.Works.{flag_of, marks_of, needs_of};
+ghost use Rattle.action_build.specs.Works.{marks_of, needs_of};
 
 use crate::sources::source_of;
 use crate::work::CellWork;
@@ -289,7 +290,7 @@ pub fn push_leaves(
 ) -> Result<(), AllocError>
     requires { KeepsLimits cluster.now }
     ensures { OnOk result (list.new.items ≡ list.old.items
-        ++ actions.leaves_actions cluster.now (needs_of work.now) (marks_of work.now) (flag_of free.now)) }
+        ++ actions.leaves_actions cluster.now (needs_of work.now) (marks_of work.now) (is_marked free.now)) }
 {
     for leaf in 0..cluster.leaves.len() as u32 {
         push_leaf(list, cluster, work, leaf, flag_at(free, leaf))?;

@@ -1,7 +1,9 @@
 ghost use Rattle.std.specs.Prelude.{◌≡◌, ℕ, ◌+◌, ◌≤◌, ◌<◌, ◌&&◌, ◌||◌, not, false, drop, length, MatchOption, IfOk, IfErr};
-ghost use Rattle.crm_lex.specs.RawLines.{begins_comment, ends_in, ends_in_backslash, is_blank};
+ghost use Rattle.crm_lex.specs.RawLines.{begins_comment, ends_in_backslash};
 ghost use Rattle.cluster_io.specs.NextLine.{has_feed};
 ghost use Rattle.cluster_io.specs.Scanning.{Looked, Finds, FeedAt, FeedIn, FindsLast, before_feed};
+
+use crm_lex::{begins_comment, ends_in};
 
 /// How far a reader has looked through what it holds: all before `scanned`.
 #[derive(Clone, Copy)]
@@ -57,13 +59,6 @@ fn first_feed(bytes: &[u8]) -> Option<usize>
     None
 }
 
-/// The last byte of the text is this one.
-fn ends_in(byte: u8, text: &[u8]) -> bool
-    ensures { result ≡ ends_in byte text.now }
-{
-    !text.is_empty() && text[text.len() - 1] == byte
-}
-
 /// What a physical line has before its line end, where this is what it has before its line feed.
 fn before_end(text: &[u8]) -> &[u8]
     ensures { result.now ≡ before_feed text.now }
@@ -72,25 +67,6 @@ fn before_end(text: &[u8]) -> &[u8]
         return &text[..text.len() - 1];
     }
     text
-}
-
-/// A tab or a space.
-fn is_blank(byte: u8) -> bool
-    ensures { result ≡ is_blank byte }
-{
-    byte == b'\t' || byte == b' '
-}
-
-/// The first byte that isn't a blank is `#`.
-fn begins_comment(text: &[u8]) -> bool
-    ensures { result ≡ begins_comment text.now }
-{
-    for b in text {
-        if !is_blank(*b) {
-            return *b == b'#';
-        }
-    }
-    false
 }
 
 /// A physical line with this content goes on with the next one.

@@ -13,7 +13,8 @@ use Rattle.lemmas.proofs.Ranges.{filter-alike}
 use Rattle.cluster_types.specs.declared.edges.Edge.{Edge}
 use Rattle.cluster_types.specs.declared.edges.Edges.{Edges}
 use Rattle.cluster_types.specs.Graphs.{GraphOf, IsGraph, EndWithin, LeadUpward, Leads, direct, through, is_before, is_number}
-use Rattle.cluster_types.specs.Walks.{AreMarked, is_marked, joins}
+use Rattle.listed.specs.Flags.{is_marked}
+use Rattle.cluster_types.specs.Walks.{AreMarked, joins}
 use Rattle.cluster_types.proofs.Paths.{before-from_computed, before-computed}
 
 none_marked : (n x : ℕ) → is_marked (replicate n false) x ≡ false

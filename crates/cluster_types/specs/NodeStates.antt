@@ -38,6 +38,10 @@ abbrev pub is_online_state : NodeState → Bool
 is_online_state Online = true
 is_online_state _ = false
 
+-- the node of this number is online by the states of the nodes
+abbrev pub is_online_in : List NodeState → ℕ → Bool
+is_online_in nodes n = option_map_or is_online_state (slice_get nodes n) false
+
 abbrev pub is_unclean_state : NodeState → Bool
 is_unclean_state Unclean = true
 is_unclean_state _ = false

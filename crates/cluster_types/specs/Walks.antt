@@ -1,11 +1,9 @@
 -- How the actions before one are found: the positions from which edges lead to it are marked, and then those from which edges lead to a gate that
 -- is marked (rule of this project). No public clause cites this module.
-use Rattle.std.specs.Prelude.{◌≡◌, ◌≤◌, ◌==◌, ◌&&◌, ℕ, Bool, true, false, List, Contains, slice_index_or}
+use Rattle.std.specs.Prelude.{◌≡◌, ◌≤◌, ◌==◌, ◌&&◌, ℕ, Bool, true, List, Contains}
+use Rattle.listed.specs.Flags.{is_marked}
 use Rattle.cluster_types.specs.declared.edges.Edge.{Edge}
 use Rattle.cluster_types.specs.Graphs.{Leads}
-
-abbrev pub is_marked : List Bool → ℕ → Bool
-is_marked marks x = slice_index_or marks x false
 
 -- what is read where no edge is
 abbrev pub no_edge : Edge

@@ -3,7 +3,8 @@
 ghost use Rattle.std.specs.Prelude.{◌≡◌, ◌≤◌, ◌<◌, ◌-◌, ◌||◌, ℕ, IfOk, length, filter};
 ghost use Rattle.std.specs.List.{list_any, range_with_len};
 ghost use Rattle.cluster_types.specs.Graphs.{EndWithin, LeadUpward, is_before};
-ghost use Rattle.cluster_types.specs.Walks.{AreMarked, is_marked, joins};
+ghost use Rattle.cluster_types.specs.Walks.{AreMarked, joins};
+ghost use Rattle.listed.specs.Flags.{is_marked};
 
 use crate::edges::{Edge, Edges};
 use crate::graph::Graph;

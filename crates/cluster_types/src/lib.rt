@@ -39,4 +39,4 @@ pub use placement::{Decided, Decision, NoReason, Pin, Placed, Table, Target, is_
 pub use plan::Plan;
 pub use rules::{Colocation, Location, Order, OrderKind, RuleLocation};
 pub use run::{Passed, PassedEnd, Run, RunLine};
-pub use states::{Cell, CellState, NodeState, Rights, States};
+pub use states::{Cell, CellState, NodeState, Rights, States, is_online};

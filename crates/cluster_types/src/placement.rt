@@ -11,7 +11,7 @@ use crate::node::NodeId;
 use crate::rules::Colocation;
 use crm_lex::Name;
 use faults::NoMemory;
-use listed::Listed;
+use listed::{Listed, value_at};
 use score::Score;
 use std::alloc::Global;
 
@@ -166,10 +166,7 @@ pub fn is_pinned(pins: &[Option<Pin>], leaf: LeafId) -> bool
 pub fn pin_of(pins: &[Option<Pin>], leaf: LeafId) -> Option<Pin>
     ensures { result ≡ unwrap_or (slice_get pins.now leaf) None }
 {
-    match pins.get(leaf as usize) {
-        Some(pin) => *pin,
-        None => None,
-    }
+    value_at(pins, leaf as usize)
 }
 
 /// Why a leaf has no target. The first reason that holds counts.

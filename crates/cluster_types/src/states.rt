@@ -1,4 +1,5 @@
 ghost use Rattle.std.specs.Prelude.{◌≡◌, ◌+◌, ◌*◌, ◌<◌, Some, length, slice_get};
+ghost use Rattle.cluster_types.specs.NodeStates.{is_online_in};
 ghost use Rattle.cluster_types.specs.Terms.{is_active};
 
 use crate::cells::cell_place;
@@ -14,6 +15,13 @@ pub enum NodeState {
     Offline,
     /// It may still run something, and must be fenced first.
     Unclean,
+}
+
+/// Whether the node is online, by the states of the nodes. One that they don't have isn't.
+pub fn is_online(nodes: &[NodeState], node: NodeId) -> bool
+    ensures { result ≡ is_online_in nodes.now node }
+{
+    nodes.get(node as usize) == Some(&NodeState::Online)
 }
 
 /// What is known of a leaf on a node.
@@ -73,6 +81,13 @@ pub struct States {
 }
 
 impl States {
+    /// Whether the node is online. One that isn't there isn't.
+    pub fn is_online(&self, node: NodeId) -> bool
+        ensures { result ≡ is_online_in self.now.nodes node }
+    {
+        is_online(self.nodes.as_slice(), node)
+    }
+
     /// What is known of a leaf on a node that are there.
     pub fn cell(&self, leaf: LeafId, node: NodeId) -> Cell
         requires on_node { node < length self.now.nodes }

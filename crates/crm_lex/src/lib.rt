@@ -22,6 +22,7 @@ pub use line::Line;
 pub use logical::{LONGEST_LINE, line_count};
 pub use name::Name;
 pub use name_set::NameSet;
+pub use physical::{begins_comment, ends_in};
 pub use reading::logical_lines;
 pub use text::is;
 pub use word_buf::{WordBuf, lex_one};

@@ -35,8 +35,8 @@ pub fn first_line(text: &[u8]) -> (&[u8], &[u8])
     text.split_at(first_length(text))
 }
 
-/// Whether the last byte is this one.
-fn ends_in(byte: u8, bytes: &[u8]) -> bool
+/// Whether the last byte is this one. An empty text has none.
+pub fn ends_in(byte: u8, bytes: &[u8]) -> bool
     ensures { result ≡ raw.ends_in byte bytes.now }
 {
     match bytes {
@@ -61,7 +61,7 @@ pub fn content(line: &[u8]) -> &[u8]
     }
 }
 
-/// Whether the first byte that is no blank is `#`.
+/// Whether the first byte that is no blank, which is a tab or a space, is `#`. Blanks alone begin no comment.
 pub fn begins_comment(content: &[u8]) -> bool
     ensures { result ≡ raw.begins_comment content.now }
 {

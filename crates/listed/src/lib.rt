@@ -10,10 +10,14 @@ mod list;
 // What a slice has at a place.
 mod places;
 
+// What rows of flags and of lists begin with.
+mod starts;
+
 // A set of numbers, and its counts.
 mod counting;
 mod set;
 
 pub use list::Listed;
-pub use places::{flag_at, number_at};
+pub use places::{flag_at, number_at, value_at};
 pub use set::NumberSet;
+pub use starts::{empty_lists, none_set};

@@ -1,10 +1,10 @@
-ghost use Rattle.std.specs.Prelude.{◌≡◌, ◌<◌, ◌==◌, [], ℕ, IfOk, length, filter, slice_index_or, replicate};
+ghost use Rattle.std.specs.Prelude.{◌≡◌, ◌<◌, ◌==◌, [], ℕ, IfOk, length, filter, slice_index_or};
 ghost use Rattle.std.specs.List.{range_with_len};
 ghost use Rattle.loops.specs.Loops.{EndWithin};
 ghost use Rattle.loops.specs.Clearing.{edges_from, sources_of};
 
 use crate::edge::Edge;
-use listed::Listed;
+use listed::{Listed, empty_lists};
 use std::alloc::{AllocError, Global};
 
 /// How many edges lead from each position.
@@ -36,16 +36,6 @@ pub fn unused(alloc: Global, positions: u32, counts: &[usize]) -> Result<Vec<u32
     Ok(unused)
 }
 
-fn no_sources(alloc: Global, positions: u32) -> Result<Vec<Listed<u32>>, AllocError>
-    ensures { IfOk result (λ rows. rows.items ≡ replicate positions []) }
-{
-    let mut rows = Vec::new(alloc);
-    for _ in 0..positions {
-        rows.push(Listed::new(alloc))?;
-    }
-    Ok(rows)
-}
-
 /// For each position, where the edges into it begin.
 pub fn sources(
     alloc: Global,
@@ -56,7 +46,7 @@ pub fn sources(
     ensures size { IfOk result (λ rows. length rows.items ≡ positions) }
     ensures sources { IfOk result (λ rows. (y : ℕ) → y < positions → slice_index_or rows.items y [] ≡ sources_of edges.now y) }
 {
-    let mut rows = no_sources(alloc, positions)?;
+    let mut rows = empty_lists(alloc, positions)?;
     for edge in edges {
         rows[edge.after as usize].push(edge.before)?;
     }

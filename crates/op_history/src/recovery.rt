@@ -1,6 +1,10 @@
 ghost use Rattle.std.specs.Prelude.{◌≡◌};
 ghost use Rattle.op_history.specs.Recovery.{class_of};
 
+use cluster_types::exit_codes::{
+    ERR_ARGS, ERR_CONFIGURED, ERR_INSTALLED, ERR_PERM, ERR_UNIMPLEMENTED,
+};
+
 /// How a resource is recovered after an operation with a bad exit code (Pacemaker Administration, "How are OCF Return Codes Interpreted?").
 #[derive(Clone, Copy, Debug, PartialEq, Eq)]
 pub enum Recovery {
@@ -17,8 +21,8 @@ pub fn class_of(code: u8) -> Recovery
     ensures { result ≡ class_of code }
 {
     match code {
-        2..=5 => Recovery::Hard,
-        6 => Recovery::Fatal,
+        ERR_ARGS | ERR_UNIMPLEMENTED | ERR_PERM | ERR_INSTALLED => Recovery::Hard,
+        ERR_CONFIGURED => Recovery::Fatal,
         _ => Recovery::Soft,
     }
 }

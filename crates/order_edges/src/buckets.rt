@@ -4,11 +4,11 @@ ghost use Rattle.std.specs.Prelude.{◌≡◌, ◌<◌, All, IfOk, length, vec_l
 ghost use Rattle.order_edges.specs.Chains as spec;
 ghost use Rattle.order_edges.specs.Chains.{AreBuckets};
 
-use crate::index::{add_place, empty_lists};
+use crate::index::add_place;
 use crate::keys::{Key, change_key};
 use crate::known::Known;
 use cluster_types::{Action, NodeId};
-use listed::Listed;
+use listed::{Listed, empty_lists};
 use std::alloc::{AllocError, Global};
 
 fn changed_node(key: Option<Key>) -> Option<NodeId>

@@ -1,10 +1,11 @@
 //! Which leaves migrate.
 
-ghost use Rattle.std.specs.Prelude.{◌≡◌, ◌<◌, false, length, replicate, IfOk, IfSome, vec_len, All};
+ghost use Rattle.std.specs.Prelude.{◌≡◌, ◌<◌, length, IfOk, IfSome, vec_len, All};
 ghost use Rattle.order_edges.specs.Flags.{send_if, with_flag};
 ghost use Rattle.rule_loops.specs.Ranks.{AreMigrating};
 
 use cluster_types::{Action, LeafId};
+use listed::none_set;
 use std::alloc::{AllocError, Global};
 
 /// The leaf that the action sends, if it sends one.
@@ -28,17 +29,6 @@ fn set_flag(flags: &mut Vec<bool>, leaf: Option<LeafId>)
     }
 }
 
-/// So many flags that are not set.
-fn no_flags(alloc: Global, leaves: u32) -> Result<Vec<bool>, AllocError>
-    ensures { IfOk result (λ flags. flags.items ≡ replicate leaves false) }
-{
-    let mut flags = Vec::new(alloc);
-    for _ in 0..leaves {
-        flags.push(false)?;
-    }
-    Ok(flags)
-}
-
 /// Of each leaf whether it migrates, in time linear in the leaves and the actions. It asks that each leaf that is sent is one of so many.
 pub fn migrating_flags(
     alloc: Global,
@@ -48,7 +38,7 @@ pub fn migrating_flags(
     requires inside { All (λ a. IfSome (send_if a) (λ leaf. leaf < leaves)) actions.now }
     ensures { IfOk result (λ flags. AreMigrating actions.now flags.items) }
 {
-    let mut flags = no_flags(alloc, leaves)?;
+    let mut flags = none_set(alloc, leaves)?;
     for action in actions {
         set_flag(&mut flags, send_if(*action));
     }

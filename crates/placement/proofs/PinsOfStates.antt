@@ -18,7 +18,7 @@ use Rattle.cluster_types.specs.CellStates.{cell_state}
 use Rattle.cluster_types.specs.Decisions.{decisions, decisions_of}
 use Rattle.cluster_types.specs.Fields.{is_managed, is_promotable}
 use Rattle.cluster_types.specs.May.{may, may_promoted}
-use Rattle.cluster_types.specs.NodeStates.{is_online, is_online_state}
+use Rattle.cluster_types.specs.NodeStates.{is_online, is_online_in, is_online_state}
 use Rattle.cluster_types.specs.Pins.{is_blocked_state, is_pinned, is_unprobed_state, pin_of, pinned_targets}
 use Rattle.cluster_types.specs.Tables.{targets_of}
 use Rattle.cluster_types.specs.Unpacked.{states_of}
@@ -27,7 +27,7 @@ use Rattle.cluster_types.proofs.StatesKept.{cell_kept, length-rows, node_kept, s
 use Rattle.plan_laws.proofs.TablesWithin.{kept_within, pinned_within, same_within}
 use Rattle.score_table.specs.Scores.{cells_of}
 use Rattle.placement.specs.DecisionLists.{decisions_in, decisions_in_leaf}
-use Rattle.placement.specs.Pins.{is_blocked_by, is_online_by, may_stay, pin_by, pinned_in, pins_by, stay_by}
+use Rattle.placement.specs.Pins.{is_blocked_by, may_stay, pin_by, pinned_in, pins_by, stay_by}
 
 -- a cell of the cluster, a leaf that is left as it is, and whether it stays there
 in_cluster : (leaf node pinned online runs unprobed : Bool) (stays otherwise : Target) → leaf ≡ true → node ≡ true
@@ -53,7 +53,7 @@ module _ (c : Cluster) (es : List Event) (ps : List Promotion) where
   stay-is : (r n : ℕ) → r < length c.leaves → n < length c.nodes → stay_by c (states_of c es ps) r n
       ≡ (if is_online c n es && (may c r n es && not (is_unprobed_state (cell_state c r n es))) then (if may_promoted c r n es then target.Promoted else target.Started) else target.Nowhere)
   stay-is r n leaf node =
-      ap (λ s. option_map_or (λ (cell : Cell). if is_online_by (states_of c es ps) n && may_stay cell then (if cell.may_promoted then target.Promoted else target.Started) else target.Nowhere) s target.Nowhere)
+      ap (λ s. option_map_or (λ (cell : Cell). if is_online_in (states_of c es ps).nodes n && may_stay cell then (if cell.may_promoted then target.Promoted else target.Started) else target.Nowhere) s target.Nowhere)
       (cell_kept c es ps r n leaf node)
       ∙ ap (λ s. if option_map_or is_online_state s false && (may c r n es && not (is_unprobed_state (cell_state c r n es))) then (if may_promoted c r n es then target.Promoted else target.Started) else target.Nowhere)
       (node_kept c es ps n node)

@@ -1,5 +1,5 @@
 -- Which leaves are left as they are, by the states of the cluster (follows from the definition of pins).
-use Rattle.std.specs.Prelude.{ℕ, ◌&&◌, Bool, false, not, if◌then◌else◌, Option, Some, None, List, length, map, slice_get}
+use Rattle.std.specs.Prelude.{ℕ, ◌&&◌, Bool, false, not, if◌then◌else◌, Option, Some, None, List, length, map}
 use Rattle.std.specs.List.{list_any, range_with_len}
 use Rattle.std.specs.Option.{option_map_or}
 use Rattle.cluster_types.specs.declared.cluster.Cluster.{Cluster}
@@ -10,16 +10,13 @@ use Rattle.cluster_types.specs.declared.placement.Target.TheVariants as target
 use Rattle.cluster_types.specs.declared.states.Cell.{Cell}
 use Rattle.cluster_types.specs.declared.states.States.{States}
 use Rattle.cluster_types.specs.Fields.{is_managed}
-use Rattle.cluster_types.specs.NodeStates.{is_online_state}
+use Rattle.cluster_types.specs.NodeStates.{is_online_in}
 use Rattle.cluster_types.specs.Pins.{is_blocked_state, is_pinned_in, is_unprobed_state}
 use Rattle.score_table.specs.OwnRows.{cell_by}
 
 -- the leaf may be left in the cell: it may run there, and the cell was probed
 abbrev pub may_stay : Cell → Bool
 may_stay cell = cell.may && not (is_unprobed_state cell.state)
-
-abbrev pub is_online_by : States → ℕ → Bool
-is_online_by states n = option_map_or is_online_state (slice_get states.nodes n) false
 
 module _ (c : Cluster) (states : States) where
   abbrev pub is_blocked_by : ℕ → ℕ → Bool
@@ -37,7 +34,7 @@ module _ (c : Cluster) (states : States) where
   -- the target of a pinned leaf in a cell where it stays
   abbrev pub stay_by : ℕ → ℕ → Target
   stay_by r n =
-      option_map_or (λ (cell : Cell). if is_online_by states n && may_stay cell then (if cell.may_promoted then target.Promoted else target.Started) else target.Nowhere)
+      option_map_or (λ (cell : Cell). if is_online_in states.nodes n && may_stay cell then (if cell.may_promoted then target.Promoted else target.Started) else target.Nowhere)
       (cell_by c states r n) target.Nowhere
 
 module _ (c : Cluster) (pins : List (Option Pin)) (states : States) where

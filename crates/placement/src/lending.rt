@@ -12,17 +12,8 @@ use crate::key_slots::own_keys;
 use crate::keys::Key;
 use crate::link_order::links_in_order;
 use cluster_types::Edge;
+use listed::value_at;
 use std::alloc::{AllocError, Global};
-
-/// The key in the slot, if there is one.
-fn key_in(slots: &[Option<Key>], slot: u32) -> Option<Key>
-    ensures { result ≡ spec.key_in slots.now slot }
-{
-    match slots.get(slot as usize) {
-        Some(key) => *key,
-        None => None,
-    }
-}
 
 /// Whether the lent key is the greater one.
 fn is_raised(own: Option<Key>, lent: &Option<Key>) -> bool
@@ -52,8 +43,9 @@ fn lend(slots: &mut Vec<Option<Key>>, link: Edge) -> bool
     ensures raised { result ≡ spec.raises slots.old.items link }
     ensures slots { slots.new.items ≡ spec.lent_along slots.old.items link }
 {
-    let lent = key_in(slots, link.after);
-    let raised = is_raised(key_in(slots, link.before), &lent);
+    let lent = value_at(slots.as_slice(), link.after as usize);
+    let own = value_at(slots.as_slice(), link.before as usize);
+    let raised = is_raised(own, &lent);
     put_if(slots, link.before, lent, raised);
     raised
 }

@@ -13,17 +13,10 @@ ghost use Rattle.score_table.specs.Scores.{cells_of};
 ghost use Rattle.placement.specs.Pins as spec;
 
 use cluster_types::{
-    CellState, Cluster, LeafId, NoMemory, NodeId, NodeState, Pin, States, Table, Target,
-    cell_place, is_pinned,
+    CellState, Cluster, LeafId, NoMemory, NodeId, Pin, States, Table, Target, cell_place, is_pinned,
 };
 use listed::Listed;
 use std::alloc::{AllocError, Global};
-
-fn is_online(states: &States, node: NodeId) -> bool
-    ensures { result ≡ spec.is_online_by states.now node }
-{
-    states.nodes.as_slice().get(node as usize) == Some(&NodeState::Online)
-}
 
 /// The target of a pinned leaf on a node: where it may run and was probed it stays, in the role that it may have there.
 fn stay(cluster: &Cluster, states: &States, leaf: LeafId, node: NodeId) -> Target
@@ -32,7 +25,7 @@ fn stay(cluster: &Cluster, states: &States, leaf: LeafId, node: NodeId) -> Targe
 {
     let place = cell_place(cluster.nodes.len(), leaf, node);
     match states.cells.as_slice().get(place) {
-        Some(cell) if is_online(states, node) && cell.may && cell.state != CellState::Unprobed => {
+        Some(cell) if states.is_online(node) && cell.may && cell.state != CellState::Unprobed => {
             if cell.may_promoted {
                 Target::Promoted
             } else {

@@ -2,6 +2,7 @@
 use Rattle.std.proofs.Common.{arith, ◌≡◌, ◌<◌, ◌*◌, ◌++◌, ℕ, suc, Bool, List, length, map, refl, Contains}
 use Rattle.std.specs.List.{range_with_len}
 use Rattle.std.proofs.lemmas.List.FromFn.{get_or-map-range_with_len}
+use Rattle.listed.specs.Flags.{is_marked}
 use Rattle.cluster_types.specs.declared.cluster.Cluster.{Cluster}
 use Rattle.cluster_types.specs.declared.journal.Action.{Action}
 use Rattle.cluster_types.specs.declared.journal.Event.{Event}
@@ -19,7 +20,6 @@ use Rattle.rule_loops.proofs.OneRanking.{rank_bounded}
 use Rattle.action_build.specs.Actions.{all_fences, is_free, is_touched, leaves_actions}
 use Rattle.action_build.specs.Cycling.{Marks, first_marks, with_orders}
 use Rattle.action_build.specs.Levels.{below_level, need_at}
-use Rattle.action_build.specs.Works.{flag_of}
 use Rattle.action_build.proofs.Found.{found}
 use Rattle.action_build.proofs.StepsGot.{Tells}
 use Rattle.action_build.proofs.WholeList.{whole_list}
@@ -41,13 +41,13 @@ module _ (c : Cluster) (valid : IsValid c) (es : List Event) (ps : List Promotio
   touched = map (is_touched c (need_at c es targets) marks) (range_with_len 0 (length c.leaves))
 
   abbrev free : List Bool
-  free = map (is_free c (flag_of touched)) (range_with_len 0 (length c.leaves))
+  free = map (is_free c (is_marked touched)) (range_with_len 0 (length c.leaves))
 
-  free_known : (r : ℕ) → r < length c.leaves → flag_of free r ≡ is_free c (flag_of touched) r
-  free_known r lr = get_or-map-range_with_len (is_free c (flag_of touched)) 0 (length c.leaves) r r _ lr (omega arith)
+  free_known : (r : ℕ) → r < length c.leaves → is_marked free r ≡ is_free c (is_marked touched) r
+  free_known r lr = get_or-map-range_with_len (is_free c (is_marked touched)) 0 (length c.leaves) r r _ lr (omega arith)
 
   abbrev pub needed_list : List Action
-  needed_list = all_fences c (may_fence c es) (states_of c es ps).nodes ++ leaves_actions c (need_at c es targets) marks (flag_of free)
+  needed_list = all_fences c (may_fence c es) (states_of c es ps).nodes ++ leaves_actions c (need_at c es targets) marks (is_marked free)
 
   pub are_needed : AreNeeded (Needed c es targets) needed_list
   are_needed =

@@ -10,13 +10,14 @@ use Rattle.lemmas.proofs.Booleans.{sooner, later, either, same_test, both, one_o
 use Rattle.lemmas.proofs.Counts.{count-is, count-cons}
 use Rattle.lemmas.proofs.Members.{at_head, in_rest, in_map, in_filter, of_map, of_filter}
 use Rattle.lemmas.proofs.Searches.{any-weaker, passes_by}
+use Rattle.listed.specs.Flags.{is_marked}
 use Rattle.cluster_types.specs.declared.cluster.Cluster.{Cluster}
 use Rattle.cluster_types.specs.declared.rules.Colocation.{Colocation}
 use Rattle.cluster_types.specs.Terms.{is_tie, is_tied}
 use Rattle.cluster_types.specs.Valid.{IsValid}
 use Rattle.cluster_types.proofs.RuleLeaves.{role_leaf}
 use Rattle.score_table.specs.declared.ties.Tie.{Tie}
-use Rattle.score_table.specs.Ties.{AreTied, AreTies, is_marked, lacks_mark, unmarked, mark_if, leads, is_missed, tie_of, tied_within}
+use Rattle.score_table.specs.Ties.{AreTied, AreTies, lacks_mark, unmarked, mark_if, leads, is_missed, tie_of, tied_within}
 
 -- an element that passes
 some_passes : {X : Type 0} (p : X → Bool) (xs : List X) {P : Type 0} → list_any p xs ≡ true → ((x : X) → Contains xs x → p x ≡ true → P) → P

@@ -1,7 +1,8 @@
 -- Which leaves must be with a leaf through a chain of ties of bounded length, as a list of marks, one for each leaf (follows from the
 -- definition of ties).
-use Rattle.std.specs.Prelude.{◌≡◌, ◌+◌, ◌≤◌, ◌↔◌, ℕ, ◌==◌, ◌&&◌, ◌||◌, Bool, true, false, not, if◌then◌else◌, List, length, map, filter, count_by, slice_index_or, slice_set, Contains}
+use Rattle.std.specs.Prelude.{◌≡◌, ◌+◌, ◌≤◌, ◌↔◌, ℕ, ◌==◌, ◌&&◌, ◌||◌, Bool, true, not, if◌then◌else◌, List, length, map, filter, count_by, slice_index_or, slice_set, Contains}
 use Rattle.std.specs.List.{range_with_len}
+use Rattle.listed.specs.Flags.{is_marked}
 use Rattle.cluster_types.specs.declared.cluster.Cluster.{Cluster}
 use Rattle.cluster_types.specs.declared.rules.Colocation.{Colocation}
 use Rattle.cluster_types.specs.Terms.{is_tie, is_tied}
@@ -18,10 +19,6 @@ ties_of c = map tie_of (filter (is_tie c) c.colocations)
 -- the list has exactly the ties of the cluster
 pub record AreTies (c : Cluster) (ties : List Tie) : Type 0 where
   pub exact : (tie : Tie) → Contains ties tie ↔ Contains (ties_of c) tie
-
--- the leaf has a mark
-abbrev pub is_marked : List Bool → ℕ → Bool
-is_marked marks s = slice_index_or marks s false
 
 -- the leaf is there and has none
 abbrev pub lacks_mark : List Bool → ℕ → Bool

@@ -8,7 +8,7 @@ ghost use Rattle.score_table.specs.Rows.{IsRow};
 ghost use Rattle.score_table.specs.Usable.{is_usable_by};
 
 use crate::own::own_row;
-use cluster_types::{Cluster, LeafId, NodeId, NodeState, States};
+use cluster_types::{Cluster, LeafId, NodeId, States};
 use lane_rows::{NoMemory, NodeSet, Row};
 use std::alloc::{AllocError, Global};
 
@@ -29,8 +29,7 @@ fn is_usable(cluster: &Cluster, states: &States, node: NodeId) -> bool
     requires { node < length cluster.now.nodes }
     ensures { result ≡ is_usable_by cluster.now states.now node }
 {
-    states.nodes.as_slice().get(node as usize) == Some(&NodeState::Online)
-        && !cluster.is_standby(node)
+    states.is_online(node) && !cluster.is_standby(node)
 }
 
 /// The nodes that may run resources: those that are online and not in standby (Pacemaker Explained, "standby"). It asks for at most 256 nodes.

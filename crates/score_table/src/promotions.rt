@@ -1,6 +1,6 @@
 //! How much leaves want to be promoted.
 
-ghost use Rattle.std.specs.Prelude.{◌≡◌, ◌<◌, ◌≤◌, ◌++◌, ◌∷◌, [], ℕ, List, None, length, slice_get, unwrap_or, IfOk};
+ghost use Rattle.std.specs.Prelude.{◌≡◌, ◌<◌, ◌≤◌, ◌++◌, ◌∷◌, [], ℕ, List, length, IfOk};
 ghost use Rattle.cluster_types.specs.declared.journal.Promotion.{Promotion as PromotionOf};
 ghost use Rattle.cluster_types.specs.Valid.{IsValid, KeepsLimits};
 ghost use Rattle.cluster_types.specs.Terms.{promotion_score};
@@ -11,6 +11,7 @@ use crate::locations::given_row;
 use crate::putting::put_if;
 use cluster_types::{Cluster, LeafId, NodeId, Promotion, Role, States, cell_place};
 use lane_rows::{NoMemory, Row};
+use listed::value_at;
 use score::Score;
 use std::alloc::{AllocError, Global};
 
@@ -57,16 +58,6 @@ pub(crate) fn first_said(
     Ok(said)
 }
 
-/// What is kept at a place. A place that isn't there keeps nothing.
-fn kept_at(said: &[Option<Score>], place: usize) -> Option<Score>
-    ensures { result ≡ unwrap_or (slice_get said.now place) None }
-{
-    match said.get(place) {
-        Some(kept) => *kept,
-        None => None,
-    }
-}
-
 /// How much a leaf wants to be promoted on a node: what is said of it, else -1 (rule of this project).
 fn wish(cluster: &Cluster, said: &[Option<Score>], leaf: LeafId, node: NodeId) -> Score
     requires limits { KeepsLimits cluster.now }
@@ -75,7 +66,7 @@ fn wish(cluster: &Cluster, said: &[Option<Score>], leaf: LeafId, node: NodeId) -
     ensures { (promotions : List PromotionOf) → spec.AreSaid cluster.now promotions said.now → result ≡ promotion_score promotions leaf node }
 {
     let place = cell_place(cluster.nodes.len(), leaf, node);
-    kept_at(said, place).unwrap_or(Score { points: -1 })
+    value_at(said, place).unwrap_or(Score { points: -1 })
 }
 
 /// The row of what counts for promoting a leaf that is there: what locations give it in the role Promoted, and how much it wants to be

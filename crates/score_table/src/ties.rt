@@ -5,6 +5,7 @@ ghost use Rattle.cluster_types.specs.declared.cluster.Cluster.{Cluster as Cluste
 ghost use Rattle.cluster_types.specs.Terms as terms;
 ghost use Rattle.cluster_types.specs.Valid.{IsValid};
 ghost use Rattle.score_table.specs.declared.ties.Tie.{Tie as TieOf};
+ghost use Rattle.listed.specs.Flags.{is_marked};
 ghost use Rattle.loops.specs.Loops.{HasNoLoop};
 ghost use Rattle.score_table.specs.TieOrder.{AreInOrder, edge_of};
 ghost use Rattle.score_table.specs.Ties as spec;
@@ -62,7 +63,7 @@ pub(crate) fn ties_of(alloc: Global, cluster: &Cluster) -> Result<Vec<Tie>, Allo
 }
 
 pub(crate) fn is_marked(marks: &[bool], leaf: LeafId) -> bool
-    ensures { result ≡ spec.is_marked marks.now leaf }
+    ensures { result ≡ is_marked marks.now leaf }
 {
     flag_at(marks, leaf)
 }

@@ -16,7 +16,7 @@ use Rattle.cluster_types.specs.CellStates.{last_outcome, cell_state, is_running}
 use Rattle.cluster_types.specs.Failures.{failures_in_force, counted, is_forgotten, has_code, fatal_codes, has_somewhere, is_fail_stopped, wants_stop, ended_at}
 use Rattle.cluster_types.specs.Fields.{failure_timeout, monitors}
 use Rattle.cluster_types.specs.Journals.{NodeSign, joined, went_down, was_lost, was_fenced, moment_of, last_sign}
-use Rattle.cluster_types.specs.NodeStates.{node_state, state_by, is_online_state, is_online, is_to_blame}
+use Rattle.cluster_types.specs.NodeStates.{node_state, state_by, is_online_state, is_online_in, is_online, is_to_blame}
 use Rattle.cluster_types.specs.Unpacked.{cell_at}
 use Rattle.cluster_types.specs.Valid.{IsValid}
 use Rattle.fail_counts.specs.Tally.{tally_of, tally_counted, has_passed}
@@ -26,7 +26,7 @@ use Rattle.state_unpack.specs.declared.signs.Sign.TheVariants as sign
 use Rattle.state_unpack.specs.Facts.{facts_of, no_facts}
 use Rattle.state_unpack.specs.Kept.{Keeps, cell_in}
 use Rattle.state_unpack.specs.Signs.{as_sign, Shows, state_by_sign}
-use Rattle.state_unpack.specs.CellsKept.{bits_of, counted_of, state_from, cell_from, somewhere, is_fatal, is_stopping, is_blamed, node_from, is_online_in, row_from, has_few_monitors}
+use Rattle.state_unpack.specs.CellsKept.{bits_of, counted_of, state_from, cell_from, somewhere, is_fatal, is_stopping, is_blamed, node_from, row_from, has_few_monitors}
 
 -- the failures that count, by those in force
 module _ (c : Cluster) (r n : ℕ) (es : List Event) where

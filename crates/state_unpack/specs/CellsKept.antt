@@ -17,7 +17,7 @@ use Rattle.cluster_types.specs.declared.states.NodeState.{NodeState}
 use Rattle.cluster_types.specs.declared.states.States.{States}
 use Rattle.state_unpack.specs.declared.facts.Facts.{Facts}
 use Rattle.state_unpack.specs.declared.signs.Sign.{Sign}
-use Rattle.cluster_types.specs.NodeStates.{is_online_state}
+use Rattle.cluster_types.specs.NodeStates.{is_online_in}
 use Rattle.state_unpack.specs.Facts.{no_facts}
 use Rattle.state_unpack.specs.Kept.{cell_in}
 use Rattle.state_unpack.specs.Signs.{state_by_sign}
@@ -70,10 +70,6 @@ is_fatal tally = tally.fatal
 
 abbrev pub is_stopping : Tally → Bool
 is_stopping tally = tally.stop
-
--- the node of this number is online by the states of the nodes
-abbrev pub is_online_in : List NodeState → ℕ → Bool
-is_online_in nodes n = option_map_or is_online_state (slice_get nodes n) false
 
 -- what is known of each cell of a leaf, node by node
 abbrev pub row_from : Cluster → List Facts → List NodeState → ℕ → ℕ → List Cell

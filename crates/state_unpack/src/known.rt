@@ -13,11 +13,12 @@ ghost use Rattle.state_unpack.specs.CellsKept.{has_few_monitors};
 ghost use Rattle.state_unpack.specs.Known.{Knows};
 
 use crate::facts::Facts;
-use crate::nodes::{facts_or_none, node_from, sign_at};
+use crate::nodes::{facts_or_none, node_from};
 use crate::signs::{Sign, nothing_shown, quorum_after, show};
 use crate::states::states_from;
 use crate::telling::{nothing_told, tell};
 use cluster_types::{Cluster, Event, LeafId, NoMemory, NodeId, NodeState, Promotion, States};
+use listed::value_at;
 use std::alloc::Global;
 use std::marker::Model;
 
@@ -114,7 +115,10 @@ impl<'c> Known<'c> {
         requires { node < length self.now.cluster.nodes }
         ensures { (c : ClusterOf) (es : List EventOf) → Knows c es self.now → result ≡ is_joined (journals.last_sign node es) }
     {
-        matches!(sign_at(self.signs.as_slice(), node), Some(Sign::Joined))
+        matches!(
+            value_at(self.signs.as_slice(), node as usize),
+            Some(Sign::Joined)
+        )
     }
 
     /// Whether a leaf of the cluster may run on a node of it.

@@ -1,6 +1,6 @@
 //! What is known of nodes and leaves, by what is kept of their cells.
 
-ghost use Rattle.std.specs.Prelude.{◌≡◌, false, None, slice_get, unwrap_or};
+ghost use Rattle.std.specs.Prelude.{◌≡◌, false, unwrap_or};
 ghost use Rattle.cluster_types.specs.Valid.{KeepsLimits};
 ghost use Rattle.state_unpack.specs.CellsKept as spec;
 ghost use Rattle.state_unpack.specs.Facts.{no_facts};
@@ -12,6 +12,7 @@ use crate::cells::counted_of;
 use crate::facts::Facts;
 use crate::signs::{Sign, state_by_sign};
 use cluster_types::{Cluster, LeafId, NodeId, NodeState, cell_place};
+use listed::value_at;
 
 /// What is kept of a cell.
 pub fn facts_at(cluster: &Cluster, cells: &[Facts], leaf: LeafId, node: NodeId) -> Option<Facts>
@@ -92,16 +93,6 @@ pub fn is_stopped(cluster: &Cluster, cells: &[Facts], leaf: LeafId, now: u128) -
     ))
 }
 
-/// The last that is shown of a node, if anything is.
-pub fn sign_at(signs: &[Option<Sign>], node: NodeId) -> Option<Sign>
-    ensures { result ≡ unwrap_or (slice_get signs.now node) None }
-{
-    match signs.get(node as usize) {
-        Some(sign) => *sign,
-        None => None,
-    }
-}
-
 /// The state of a node.
 pub fn node_from(
     cluster: &Cluster,
@@ -115,6 +106,6 @@ pub fn node_from(
     state_by_sign(
         cluster.properties.fencing,
         is_blamed(cluster, cells, node),
-        sign_at(signs, node),
+        value_at(signs, node as usize),
     )
 }

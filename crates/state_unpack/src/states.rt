@@ -9,7 +9,7 @@ use crate::cells::cell_from;
 use crate::facts::Facts;
 use crate::nodes::{facts_or_none, is_fatal, is_stopped, node_from};
 use crate::signs::Sign;
-use cluster_types::{Cell, Cluster, LeafId, NodeId, NodeState, Promotion, States};
+use cluster_types::{Cell, Cluster, LeafId, NodeState, Promotion, States, is_online};
 use listed::Listed;
 use std::alloc::{AllocError, Global};
 
@@ -27,12 +27,6 @@ fn node_states(
         states.push(node_from(cluster, cells, signs, node as u32))?;
     }
     Ok(states)
-}
-
-fn is_online(nodes: &[NodeState], node: NodeId) -> bool
-    ensures { result ≡ spec.is_online_in nodes.now node }
-{
-    nodes.get(node as usize) == Some(&NodeState::Online)
 }
 
 /// Adds what is known of each cell of the leaf, node by node.

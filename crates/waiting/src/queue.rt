@@ -9,7 +9,7 @@ use crate::rows::Rows;
 use crate::side::{Side, count_ends};
 use carry::with;
 use cluster_types::Graph;
-use listed::NumberSet;
+use listed::{NumberSet, none_set};
 use std::alloc::{AllocError, Global};
 
 /// Which positions of a graph are cleared, and which actions may begin.
@@ -25,14 +25,6 @@ pub struct Queue {
     pub succeeded: Vec<bool>,
     /// Which actions may begin.
     pub ready: NumberSet,
-}
-
-/// A flag for each action, none of which is set.
-fn none_set(alloc: Global, actions: u32) -> Result<Vec<bool>, AllocError>
-    ensures { IfOk result (λ flags. flags.items ≡ replicate actions false) }
-{
-    let flags = vec![in alloc; false; actions as usize]?;
-    Ok(flags)
 }
 
 /// Which actions have begun, and which have succeeded: none.

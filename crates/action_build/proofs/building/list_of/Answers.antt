@@ -1,6 +1,7 @@
 use Rattle.std.proofs.Common.{◌++◌, ap, ◌∙◌}
+use Rattle.listed.specs.Flags.{is_marked}
 use Rattle.action_build.specs.Actions.{all_fences, leaves_actions}
-use Rattle.action_build.specs.Works.{flag_of, marks_of, needs_of}
+use Rattle.action_build.specs.Works.{marks_of, needs_of}
 use Rattle.action_build.proofs.building.list_of.Goals as goal
 
 pub returns : goal.returns
@@ -8,5 +9,5 @@ returns c =
     let cl = c.args.cluster.now in
     let work = c.args.work.now in
     c.in_ok-push_leaves.ensures
-    ∙ ap (λ xs. xs ++ leaves_actions cl (needs_of work) (marks_of work) (flag_of c.args.free.now))
+    ∙ ap (λ xs. xs ++ leaves_actions cl (needs_of work) (marks_of work) (is_marked c.args.free.now))
     (c.in_ok-push_fences.ensures ∙ ap (λ xs. xs ++ all_fences cl c.args.may_fence c.args.states.now) c.new-list.ensures.items)

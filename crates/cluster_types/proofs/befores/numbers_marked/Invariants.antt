@@ -1,6 +1,6 @@
 use Rattle.std.proofs.Common.{◌≡◌, ◌-◌, filter}
 use Rattle.std.specs.List.{range_with_len}
-use Rattle.cluster_types.specs.Walks.{is_marked}
+use Rattle.listed.specs.Flags.{is_marked}
 use Rattle.cluster_types.proofs.befores.numbers_marked.Given as goal
 
 abbrev pub invariant-loop-place : goal.invariant-loop-place

@@ -1,7 +1,8 @@
 use Rattle.std.proofs.Common.{rules, ◌≡◌, ◌++◌, ◌∷◌, [], ℕ, map, unwrap_or, sym, ap, ◌∙◌, append_assoc}
 use Rattle.std.specs.List.{range_with_len}
 use Rattle.lemmas.proofs.Ranges.{map-more}
-use Rattle.state_unpack.specs.CellsKept.{cell_from, is_online_in}
+use Rattle.cluster_types.specs.NodeStates.{is_online_in}
+use Rattle.state_unpack.specs.CellsKept.{cell_from}
 use Rattle.state_unpack.specs.Facts.{no_facts}
 use Rattle.state_unpack.specs.Kept.{cell_in}
 use Rattle.state_unpack.proofs.states.push_row.Goals as goal
