@@ -21,8 +21,8 @@ use Rattle.cluster_types.specs.Precedence.{is_same_op}
 use Rattle.cluster_types.specs.Rights.{is_to_be_fenced}
 use Rattle.cluster_types.specs.Tables.{Targets}
 use Rattle.cluster_types.proofs.NeededLaws.{bounds_of_first}
-use Rattle.rule_loops.specs.FirstLoops.{AllJoin, AllOrder}
-use Rattle.rule_loops.proofs.StepPlaces.{same_op}
+use Rattle.loops.specs.FirstLoops.{AllJoin, AllOrder}
+use Rattle.loops.proofs.StepPlaces.{same_op}
 use Rattle.action_build.specs.Actions.{cell_actions, free_leaf_actions, has_op, is_elsewhere, is_filled, is_free, leaves_actions, migrations_of, migrations_to, monitor_action, monitors_in, probes_in, source_of, stays_needed, step_action, steps_in, wanted}
 use Rattle.action_build.specs.Cycling.{Marks}
 use Rattle.action_build.specs.declared.steps.CellNeed.{CellNeed}

@@ -9,7 +9,7 @@ use Rattle.cluster_types.specs.declared.leaf.Op.TheVariants.{Stop}
 use Rattle.cluster_types.specs.declared.rules.Order.{Order}
 use Rattle.cluster_types.specs.Numbers.{HasNoLoop, rank, step_of}
 use Rattle.cluster_types.specs.Tables.{Targets}
-use Rattle.rule_loops.specs.FirstLoops.{AllOrder}
+use Rattle.loops.specs.FirstLoops.{AllOrder}
 use Rattle.lemmas.proofs.Members.{at_head, in_filter, in_none, in_rest, of_filter}
 use Rattle.action_build.specs.Cycling.{AreCycling, Marks, NoneComesBack, is_cycling, with_order, with_orders}
 use Rattle.action_build.specs.Levels.{at_level, below_level, is_at_level}

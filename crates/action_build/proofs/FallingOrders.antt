@@ -8,11 +8,11 @@ use Rattle.cluster_types.specs.declared.leaf.Op.TheVariants.{Stop}
 use Rattle.cluster_types.specs.declared.rules.Order.{Order}
 use Rattle.cluster_types.specs.Numbers.{HasNoLoop, Link, inverse_links, leaf_links, link, links, order_links, rank, step_of}
 use Rattle.cluster_types.specs.Precedence.{is_serialize, is_up, takers}
-use Rattle.rule_loops.specs.Edges.{counts}
-use Rattle.rule_loops.specs.FirstLoops.{AllOrder}
+use Rattle.loops.specs.Edges.{counts}
+use Rattle.loops.specs.FirstLoops.{AllOrder}
 use Rattle.cluster_types.proofs.OpLaws.{stop_takes}
 use Rattle.lemmas.proofs.Members.{head_or_rest, in_filter, in_flat, in_map, in_rest}
-use Rattle.rule_loops.proofs.OneRanking.{rank_rises}
+use Rattle.loops.proofs.OneRanking.{rank_rises}
 use Rattle.action_build.specs.Cycling.{FallByRank, NoneComesBack, is_cycling}
 use Rattle.action_build.proofs.OrderWords.{Cycles, cycles_of}
 

@@ -17,8 +17,8 @@ use Rattle.cluster_types.specs.Choice.{is_separation}
 use Rattle.cluster_types.specs.Needed.{IsDisturbed, IsHarmlessColocation, IsHarmlessOrder}
 use Rattle.cluster_types.specs.Precedence.{is_same_op, is_serialize}
 use Rattle.cluster_types.specs.Tables.{Targets}
-use Rattle.rule_loops.specs.FirstLoops.{AllJoin, AllOrder}
-use Rattle.rule_loops.proofs.StepPlaces.{same_op}
+use Rattle.loops.specs.FirstLoops.{AllJoin, AllOrder}
+use Rattle.loops.proofs.StepPlaces.{same_op}
 use Rattle.action_build.specs.Actions.{is_free, is_harmless_colocation, is_harmless_order, keeps_first}
 
 -- the first of an order, by tests: it is this leaf, the kind is Serialize, the word is a start, and the then gets a step

@@ -9,7 +9,7 @@ use Rattle.std.proofs.lemmas.List.FromFn.{get_or-map-range_with_len, length-map-
 use Rattle.lemmas.proofs.Booleans.{later, sooner}
 use Rattle.lemmas.proofs.Searches.{passes_by}
 use Rattle.lemmas.proofs.Ranges.{any-same}
-use Rattle.rule_loops.specs.FirstLoops.{OrdersSteps}
+use Rattle.loops.specs.FirstLoops.{OrdersSteps}
 use Rattle.lemmas.proofs.Members.{in_range}
 use Rattle.cluster_types.specs.declared.cluster.Cluster.{Cluster}
 use Rattle.cluster_types.specs.declared.journal.Event.{Event}

@@ -9,7 +9,7 @@ use Rattle.lemmas.proofs.Searches.{passes_by}
 use Rattle.cluster_types.specs.declared.leaf.Op.{Op}
 use Rattle.cluster_types.specs.Precedence.{is_same_op}
 use Rattle.cluster_types.proofs.OpLaws.{op_itself}
-use Rattle.rule_loops.proofs.StepPlaces.{same_op}
+use Rattle.loops.proofs.StepPlaces.{same_op}
 use Rattle.action_build.specs.Actions.{has_op, is_filled}
 
 -- an element that passes, where some does

@@ -24,7 +24,7 @@ use Rattle.cluster_types.specs.Tables.{Targets}
 use Rattle.cluster_types.specs.Unpacked.{states_of}
 use Rattle.cluster_types.specs.Valid.{IsValid}
 use Rattle.cluster_types.proofs.StatesKept.{node_kept}
-use Rattle.rule_loops.proofs.FromValid.{valid_join, valid_order}
+use Rattle.loops.proofs.FromValid.{valid_join, valid_order}
 use Rattle.action_build.specs.Actions.{all_fences, fences_in, is_free, is_touched, is_unclean_in, leaves_actions}
 use Rattle.action_build.specs.Cycling.{Marks}
 use Rattle.action_build.specs.declared.steps.CellNeed.{CellNeed}

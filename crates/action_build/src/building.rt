@@ -21,7 +21,7 @@ use crate::knowing::cell_needs;
 use crate::listing::push_leaves;
 use crate::work::CellWork;
 use cluster_types::{Action, Cluster, NoMemory, NodeId, NodeState, Placed, Rights, States};
-use rule_loops::ranks;
+use loops::ranks;
 use std::alloc::{AllocError, Global};
 
 fn is_unclean(states: &[NodeState], node: NodeId) -> bool

@@ -5,7 +5,7 @@ ghost use Rattle.cluster_types.specs.declared.journal.Event.{Event as EventOf};
 ghost use Rattle.cluster_types.specs.Needed.{Cycled};
 ghost use Rattle.cluster_types.specs.Tables.{Targets};
 ghost use Rattle.cluster_types.specs.Valid.{IsValid};
-ghost use Rattle.rule_loops.specs.Ranks.{AreRanks};
+ghost use Rattle.loops.specs.Ranks.{AreRanks};
 ghost use Rattle.action_build.specs.Levels.{AreNeeds, marks_in};
 
 use crate::activity::mark_active;
@@ -13,7 +13,7 @@ use crate::marks::CellMarks;
 use crate::passing::{mark_levels, top_level};
 use crate::steps::CellNeed;
 use cluster_types::{Cluster, NoMemory};
-use rule_loops::StepRanks;
+use loops::StepRanks;
 use std::alloc::Global;
 
 /// The cells that are stopped and started again: those of leaves that are active in more cells than they have copies, and those of each

@@ -7,7 +7,7 @@ ghost use Rattle.cluster_types.specs.declared.rules.Order.{Order};
 ghost use Rattle.cluster_types.specs.Needed.{Cycled};
 ghost use Rattle.cluster_types.specs.Numbers.{HasNoLoop};
 ghost use Rattle.cluster_types.specs.Tables.{Targets};
-ghost use Rattle.rule_loops.specs.FirstLoops.{AllOrder};
+ghost use Rattle.loops.specs.FirstLoops.{AllOrder};
 ghost use Rattle.action_build.specs.Cycling.{AreCycling, FallByRank, NoneComesBack, first_marks, with_orders};
 
 /// One pass over the orders that may have cells cycled marks just the cells that are stopped and started again, where none of them has as

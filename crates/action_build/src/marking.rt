@@ -6,7 +6,7 @@ ghost use Rattle.cluster_types.specs.declared.cluster.Cluster.{Cluster as Cluste
 ghost use Rattle.cluster_types.specs.declared.journal.Event.{Event as EventOf};
 ghost use Rattle.cluster_types.specs.Precedence.{role_by};
 ghost use Rattle.cluster_types.specs.Tables.{Targets, target_holds};
-ghost use Rattle.rule_loops.specs.FirstLoops.{OrdersSteps};
+ghost use Rattle.loops.specs.FirstLoops.{OrdersSteps};
 ghost use Rattle.action_build.specs.Cycling as cycling;
 ghost use Rattle.action_build.specs.ByNeeds as by_needs;
 ghost use Rattle.action_build.specs.Levels.{AreNeeds, marks_in, need_in};

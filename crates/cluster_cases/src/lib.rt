@@ -1,4 +1,4 @@
-//! Tests of the crates that make a cluster of statements and a history of lines: `cluster_types`, `rule_loops`, `clone_expand`,
+//! Tests of the crates that make a cluster of statements and a history of lines: `cluster_types`, `loops`, `clone_expand`,
 //! `cluster_model` and `op_history`.
 //!
 //! They stand in a crate of their own, since the tests of a crate are proved together with all of its code once more.

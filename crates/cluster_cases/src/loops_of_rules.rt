@@ -3,7 +3,7 @@
 use crate::reading::{cluster, name};
 use cluster_types::{Cluster, Colocation, LeafId, Op, Order, OrderKind, Role};
 use listed::Listed;
-use rule_loops::{colocation_loop, joins_leaves, order_loop, orders_steps};
+use loops::{colocation_loop, joins_leaves, order_loop, orders_steps};
 use score::Score;
 use std::alloc::Global;
 use std::process::Abort;

@@ -10,8 +10,8 @@ use Rattle.faults.specs.Reading.{fault_at}
 use Rattle.crm_parse.specs.declared.statement.Statement.{Statement}
 use Rattle.cluster_types.specs.declared.cluster.Cluster.{Cluster}
 use Rattle.cluster_types.specs.declared.leaf.Leaf.{Leaf}
-use Rattle.rule_loops.specs.FirstLoops.{AllJoin, AllOrder, IsFirstColocation, IsFirstOrder, has_need_loop, has_step_loop, is_closed_by}
-use Rattle.rule_loops.proofs.LoopTests.{needs_closed, steps_closed}
+use Rattle.loops.specs.FirstLoops.{AllJoin, AllOrder, IsFirstColocation, IsFirstOrder, has_need_loop, has_step_loop, is_closed_by}
+use Rattle.loops.proofs.LoopTests.{needs_closed, steps_closed}
 use Rattle.cluster_model.specs.declared.directory.Directory.{Directory}
 use Rattle.cluster_model.specs.declared.fault.ModelCause.{ModelCause}
 use Rattle.cluster_model.specs.declared.fault.ModelCause.TheVariants.{ColocationLoop, OrderLoop}

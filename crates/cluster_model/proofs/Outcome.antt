@@ -7,8 +7,8 @@ use Rattle.cluster_types.specs.declared.cluster.Cluster.{Cluster}
 use Rattle.cluster_types.specs.declared.leaf.Leaf.{Leaf}
 use Rattle.cluster_types.specs.Decisions.{NeedsHaveNoLoop}
 use Rattle.cluster_types.specs.Numbers.{HasNoLoop}
-use Rattle.rule_loops.specs.FirstLoops.{has_need_loop, has_step_loop}
-use Rattle.rule_loops.proofs.LoopTests.{need_of_none, no_needs, no_steps, step_of_none}
+use Rattle.loops.specs.FirstLoops.{has_need_loop, has_step_loop}
+use Rattle.loops.proofs.LoopTests.{need_of_none, no_needs, no_steps, step_of_none}
 use Rattle.crm_parse.specs.declared.statement.Statement.{Statement}
 use Rattle.clone_expand.specs.declared.leaves.Leaves.{Leaves}
 use Rattle.cluster_model.specs.declared.directory.Directory.{Directory}

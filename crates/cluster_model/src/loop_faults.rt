@@ -4,7 +4,7 @@ ghost use Rattle.std.specs.Prelude.{◌≡◌, [], List, IfOk, Contains};
 ghost use Rattle.cluster_types.specs.declared.leaf.Leaf.{Leaf};
 ghost use Rattle.cluster_types.specs.declared.rules.Colocation.{Colocation};
 ghost use Rattle.cluster_types.specs.declared.rules.Order.{Order};
-ghost use Rattle.rule_loops.specs.FirstLoops.{JoinsLeaves, OrdersSteps, is_closed_by};
+ghost use Rattle.loops.specs.FirstLoops.{JoinsLeaves, OrdersSteps, is_closed_by};
 ghost use Rattle.cluster_model.specs.declared.directory.Directory.{Directory};
 ghost use Rattle.cluster_model.specs.FirstFaults.{first_fault};
 ghost use Rattle.cluster_model.specs.Resolution.{cluster_of, loop_cause};
@@ -14,7 +14,7 @@ use crate::counts::{colocation_count, order_count, sum};
 use crate::{ModelCause, ModelFault};
 use cluster_types::{Cluster, NoMemory};
 use crm_parse::Statement;
-use rule_loops::{colocation_loop, order_loop};
+use loops::{colocation_loop, order_loop};
 use std::alloc::Global;
 
 /// More leaves than these are more than memory can hold.

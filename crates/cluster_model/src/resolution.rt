@@ -4,7 +4,7 @@ ghost use Rattle.faults.specs.Reading.{Gives, unless};
 ghost use Rattle.cluster_types.specs.declared.leaf.Leaf.{Leaf as LeafOf};
 ghost use Rattle.cluster_types.specs.declared.rules.Colocation.{Colocation as ColocationOf};
 ghost use Rattle.cluster_types.specs.declared.rules.Order.{Order as OrderOf};
-ghost use Rattle.rule_loops.specs.FirstLoops.{JoinsLeaves, OrdersSteps};
+ghost use Rattle.loops.specs.FirstLoops.{JoinsLeaves, OrdersSteps};
 ghost use Rattle.cluster_model.specs.declared.directory.Directory.{Directory as DirectoryOf};
 ghost use Rattle.cluster_model.specs.Colocations.{colocations_of};
 ghost use Rattle.cluster_model.specs.Directories.{directory_of};

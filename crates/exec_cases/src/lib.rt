@@ -1,4 +1,4 @@
-//! Tests of the crates that act: `waiting`, on `NumberSet`; `graph_exec`, which carries a transition out; `replan`, which makes
+//! Tests of the crates that act: `Waiting` of `loops`; `graph_exec`, which carries a transition out; `replan`, which makes
 //! runs of them; `agent_world`, and the lines of runs (`live_run`, `trace_text`, `input_reading`).
 //!
 //! They stand in a crate of their own, since the tests of a crate are proved together with all of its code once more.

@@ -6,9 +6,9 @@ ghost use Rattle.exec_cases.specs.SmallGraph.{small_graph};
 use crate::graphs::{PROBE_1, PROBE_2};
 use cluster_types::{Action, Edge, Edges, Graph};
 use listed::Listed;
+use loops::Waiting;
 use std::alloc::Global;
 use std::process::Abort;
-use waiting::Waiting;
 
 const PROBE_3: Action = Action::Probe { leaf: 0, node: 2 };
 

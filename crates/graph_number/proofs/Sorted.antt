@@ -15,7 +15,7 @@ use Rattle.cluster_types.specs.Precedence.{sends}
 use Rattle.cluster_types.specs.Tables.{targets_of}
 use Rattle.cluster_types.specs.Valid.{IsValid}
 use Rattle.cluster_types.proofs.NumberLaws.{not_both}
-use Rattle.rule_loops.specs.Ranks.{AreMigrating}
+use Rattle.loops.specs.Ranks.{AreMigrating}
 use Rattle.graph_number.specs.Planned.{ArePlanned}
 use Rattle.graph_number.proofs.OwnPlaces.{own_place}
 use Rattle.graph_number.proofs.PlaceOrder.{place_cmp, place_less}

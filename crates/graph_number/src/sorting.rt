@@ -7,8 +7,8 @@ ghost use Rattle.cluster_types.specs.Valid.{IsValid};
 ghost use Rattle.graph_number.specs.Planned.{ArePlanned};
 
 use cluster_types::{Action, Cluster, NoMemory};
+use loops::ranks;
 use order_edges::migrating_flags;
-use rule_loops::ranks;
 use std::alloc::Global;
 
 /// The same actions in the order of their numbers. Where each stands in that order is found once.

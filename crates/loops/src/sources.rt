@@ -21,7 +21,7 @@ pub fn leaving(alloc: Global, positions: u32, edges: &[Edge]) -> Result<Vec<usiz
 }
 
 /// The positions with a count of 0.
-#[tactic(auto, using(crate::proofs::Rows::filter_more))]
+#[tactic(auto, using(crate::proofs::SourceRows::filter_more))]
 pub fn unused(alloc: Global, positions: u32, counts: &[usize]) -> Result<Vec<u32>, AllocError>
     requires { length counts.now ≡ positions }
     ensures { IfOk result (λ unused. unused.items ≡ filter (λ x. slice_index_or counts.now x 0 == 0) (range_with_len 0 positions)) }

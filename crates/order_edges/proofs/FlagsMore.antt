@@ -9,7 +9,7 @@ use Rattle.cluster_types.specs.declared.journal.Action.{Action}
 use Rattle.cluster_types.specs.declared.journal.Action.TheVariants.{Fence, Probe, Cell, MigrateTo, MigrateFrom}
 use Rattle.cluster_types.specs.Precedence.{is_migrating, sends}
 use Rattle.order_edges.specs.Flags.{send_if, with_flag}
-use Rattle.rule_loops.specs.Ranks.{AreMigrating}
+use Rattle.loops.specs.Ranks.{AreMigrating}
 
 sends_is : (r : ℕ) (a : Action) (q : ℕ) → send_if a ≡ Some q → sends r a ≡ (q == r)
 sends_is r (Fence n) q h = cc

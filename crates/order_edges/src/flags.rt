@@ -2,7 +2,7 @@
 
 ghost use Rattle.std.specs.Prelude.{◌≡◌, ◌<◌, length, IfOk, IfSome, vec_len, All};
 ghost use Rattle.order_edges.specs.Flags.{send_if, with_flag};
-ghost use Rattle.rule_loops.specs.Ranks.{AreMigrating};
+ghost use Rattle.loops.specs.Ranks.{AreMigrating};
 
 use cluster_types::{Action, LeafId};
 use listed::none_set;

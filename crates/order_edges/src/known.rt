@@ -8,7 +8,7 @@ ghost use Rattle.cluster_types.specs.Numbers.{is_earlier};
 ghost use Rattle.cluster_types.specs.Plans.{most_edges};
 ghost use Rattle.order_edges.specs.Index.{IsIndex};
 ghost use Rattle.order_edges.specs.Rooms.{IsWithin, all_within_prop};
-ghost use Rattle.rule_loops.specs.Ranks.{AreMigrating};
+ghost use Rattle.loops.specs.Ranks.{AreMigrating};
 
 use cluster_types::{Action, Cluster};
 use listed::Listed;

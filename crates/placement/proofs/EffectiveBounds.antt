@@ -2,7 +2,7 @@
 use Rattle.std.proofs.Common.{◌≡◌, ◌||◌, ℕ, Bool, true, false, Option, Some, List, filter, fold, map, sym, subst, ◌∙◌, Contains}
 use Rattle.std.proofs.lemmas.List.Folds.{fold-map}
 use Rattle.lemmas.proofs.Members.{Kept, Mapped, in_filter, in_map, of_filter, of_map}
-use Rattle.rule_loops.proofs.Needs.{same_decision}
+use Rattle.loops.proofs.Needs.{same_decision}
 use Rattle.cluster_types.specs.declared.cluster.Cluster.{Cluster}
 use Rattle.cluster_types.specs.declared.placement.Decision.{Decision}
 use Rattle.cluster_types.specs.Decisions.{Key, greater_key, is_less, is_same_decision, needs_through}

@@ -2,7 +2,7 @@
 use Rattle.std.proofs.Common.{◌≡◌, ◌<◌, ◌&&◌, not, ℕ, Bool, true, false, if◌then◌else◌, Some, None, List, refl, sym, subst, length}
 use Rattle.std.proofs.lemmas.Bool.{and_from, not-true}
 use Rattle.lemmas.proofs.Booleans.{later, sooner}
-use Rattle.rule_loops.proofs.Needs.{is_itself, placed_by, same_decision}
+use Rattle.loops.proofs.Needs.{is_itself, placed_by, same_decision}
 use Rattle.cluster_types.specs.declared.cluster.Cluster.{Cluster}
 use Rattle.cluster_types.specs.declared.journal.Event.{Event}
 use Rattle.cluster_types.specs.declared.leaf.Role.{Role}

@@ -10,8 +10,8 @@ use Rattle.lemmas.proofs.Counts.{count-is, count-none, count_agree}
 use Rattle.lemmas.proofs.Members.{of_filter, of_map}
 use Rattle.cluster_types.specs.declared.edges.Edge.{Edge}
 use Rattle.cluster_types.specs.Graphs.{EndWithin}
-use Rattle.waiting.specs.declared.side.Side.TheVariants.{After}
-use Rattle.waiting.specs.Rows.{edges_at, targets_of}
+use Rattle.loops.specs.declared.side.Side.TheVariants.{After}
+use Rattle.loops.specs.Rows.{edges_at, targets_of}
 use Rattle.placement.specs.Queueing.{held}
 
 -- each target stands at the end of an edge

@@ -1,6 +1,6 @@
 -- A key that is lent along one link: none falls, and none rises above what it is through so many needs.
 use Rattle.std.proofs.Common.{arith, ◌≡◌, ◌<◌, ℕ, suc, Bool, true, false, if◌then◌else◌, Option, Some, None, List, length, set, Contains, refl, sym, ap, subst, ◌∙◌}
-use Rattle.rule_loops.proofs.Needs.{is_itself, same_decision}
+use Rattle.loops.proofs.Needs.{is_itself, same_decision}
 use Rattle.cluster_types.specs.declared.cluster.Cluster.{Cluster}
 use Rattle.cluster_types.specs.declared.placement.Decision.{Decision}
 use Rattle.cluster_types.specs.Decisions.{Key, greater_key, is_among, is_less, is_same_decision, leaf_of, needs}

@@ -9,7 +9,7 @@ use Rattle.lemmas.proofs.Booleans.{either, later, same_test, sooner}
 use Rattle.lemmas.proofs.Counts.{count-none, count_none}
 use Rattle.lemmas.proofs.Members.{Flat, at_head, head_or_rest, in_flat, in_none, of_flat}
 use Rattle.lemmas.proofs.Searches.{passes_by}
-use Rattle.rule_loops.proofs.Needs.{is_itself, same_decision}
+use Rattle.loops.proofs.Needs.{is_itself, same_decision}
 use Rattle.cluster_types.specs.declared.cluster.Cluster.{Cluster}
 use Rattle.cluster_types.specs.declared.edges.Edge.{Edge}
 use Rattle.cluster_types.specs.declared.placement.Decision.{Decision}

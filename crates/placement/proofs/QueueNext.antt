@@ -2,8 +2,8 @@
 use Rattle.std.proofs.Common.{arith, ◌≡◌, ℕ, ◌<◌, ◌≤◌, ◌==◌, ◌∷◌, false, List, length, count_by, slice_index_or, Contains}
 use Rattle.std.proofs.lemmas.List.Elements.{Contains-get_or}
 use Rattle.cluster_types.specs.declared.edges.Edge.{Edge}
-use Rattle.waiting.specs.Rows.{row_of, targets_of}
-use Rattle.waiting.proofs.Filled.{row_is, row_order, row_room}
+use Rattle.loops.specs.Rows.{row_of, targets_of}
+use Rattle.loops.proofs.Filled.{row_is, row_order, row_room}
 use Rattle.placement.specs.declared.queue.Queue.{Queue}
 use Rattle.placement.specs.Queueing.{IsFirstPlace, IsQueue}
 use Rattle.placement.proofs.HeldCounts.{row-few, target-within}

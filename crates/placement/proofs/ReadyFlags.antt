@@ -5,7 +5,7 @@ use Rattle.std.proofs.lemmas.Bool.{or_left}
 use Rattle.lemmas.proofs.Booleans.{contrary, later, sooner}
 use Rattle.lemmas.proofs.Counts.{count_one_more}
 use Rattle.lemmas.proofs.Searches.{any-more, any_last, passes_by}
-use Rattle.rule_loops.proofs.Needs.{is_itself}
+use Rattle.loops.proofs.Needs.{is_itself}
 use Rattle.cluster_types.specs.declared.cluster.Cluster.{Cluster}
 use Rattle.cluster_types.specs.declared.placement.Decision.{Decision}
 use Rattle.cluster_types.specs.Decisions.{Key, is_among, is_same_decision}

@@ -6,7 +6,7 @@ use Rattle.std.proofs.lemmas.List.{get_or-replicate, length-replicate, length-se
 use Rattle.std.proofs.lemmas.List.Folds.{list_any_more}
 use Rattle.std.proofs.lemmas.Option.{slice_get-get_or}
 use Rattle.lemmas.proofs.Booleans.{equal_turned}
-use Rattle.rule_loops.proofs.Needs.{same_decision}
+use Rattle.loops.proofs.Needs.{same_decision}
 use Rattle.cluster_types.specs.declared.placement.Decision.{Decision}
 use Rattle.cluster_types.specs.Decisions.{Key, is_among, is_same_decision, leaf_of}
 use Rattle.cluster_types.proofs.TableCells.{get-at}

@@ -4,7 +4,7 @@ use Rattle.std.specs.Prelude.{◌≡◌, ℕ, ◌<◌, ◌==◌, ◌&&◌, Bool,
 use Rattle.std.specs.Option.{option_map_or}
 use Rattle.cluster_types.specs.declared.edges.Edge.{Edge}
 use Rattle.cluster_types.specs.Graphs.{EndWithin}
-use Rattle.waiting.specs.Rows.{AreRows}
+use Rattle.loops.specs.Rows.{AreRows}
 use Rattle.placement.specs.declared.queue.Queue.{Queue}
 
 -- how many edges lead to the position from others than were taken

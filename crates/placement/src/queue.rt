@@ -5,13 +5,13 @@ ghost use Rattle.std.specs.List.{list_any};
 ghost use Rattle.cluster_types.specs.declared.edges.Edge.{Edge as EdgeOf};
 ghost use Rattle.cluster_types.specs.Graphs.{EndWithin};
 ghost use Rattle.placement.specs.Queueing as spec;
-ghost use Rattle.waiting.specs.Rows.{AreRows, edges_at};
+ghost use Rattle.loops.specs.Rows.{AreRows, edges_at};
 
 use carry::with;
 use cluster_types::Edge;
 use listed::NumberSet;
+use loops::{Rows, Side, count_ends};
 use std::alloc::{AllocError, Global};
-use waiting::{Rows, Side, count_ends};
 
 /// Positions, of which some were taken. The first to be taken is that of the least place.
 #[derive(Drop)]

@@ -1,5 +1,5 @@
 //! Tests of the crates that decide: what a journal tells (`fail_counts`, `state_unpack`, `quorum_fence`), where everything goes
-//! (`score_table`, `placement`), and what has to be done in which order (`rule_loops`, `action_build`, `order_edges`,
+//! (`score_table`, `placement`), and what has to be done in which order (`loops`, `action_build`, `order_edges`,
 //! `graph_number`).
 //!
 //! They stand in a crate of their own, since the tests of a crate are proved together with all of its code once more.

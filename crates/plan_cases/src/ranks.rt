@@ -3,7 +3,7 @@
 use crate::plain::cluster_of;
 use crate::todos::{Todo, action};
 use cluster_types::{LeafId, Op, Role};
-use rule_loops::{StepRanks, ranks};
+use loops::{StepRanks, ranks};
 use std::alloc::Global;
 use std::process::Abort;
 

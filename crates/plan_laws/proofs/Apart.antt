@@ -3,8 +3,8 @@ use Rattle.std.proofs.Common.{arith, ◌≡◌, ◌<◌, ◌&&◌, ◌||◌, not
 use Rattle.std.proofs.lemmas.Bool.{and_from, or_right}
 use Rattle.lemmas.proofs.Booleans.{sooner}
 use Rattle.lemmas.proofs.Searches.{passes_by, each_passes}
-use Rattle.rule_loops.proofs.Needs.{decision_there, is_itself}
-use Rattle.rule_loops.proofs.FromValid.{valid_join}
+use Rattle.loops.proofs.Needs.{decision_there, is_itself}
+use Rattle.loops.proofs.FromValid.{valid_join}
 use Rattle.cluster_types.specs.declared.cluster.Cluster.{Cluster}
 use Rattle.cluster_types.specs.declared.journal.Event.{Event}
 use Rattle.cluster_types.specs.declared.journal.Promotion.{Promotion}

@@ -8,7 +8,7 @@ use Rattle.lemmas.proofs.Booleans.{sooner, later, unless}
 use Rattle.lemmas.proofs.Counts.{count_one_more}
 use Rattle.lemmas.proofs.Searches.{passes_by}
 use Rattle.lemmas.proofs.Members.{in_flat, in_map, in_range}
-use Rattle.rule_loops.proofs.Needs.{decided_leaf, decision_there}
+use Rattle.loops.proofs.Needs.{decided_leaf, decision_there}
 use Rattle.cluster_types.specs.declared.cluster.Cluster.{Cluster}
 use Rattle.cluster_types.specs.declared.journal.Event.{Event}
 use Rattle.cluster_types.specs.declared.leaf.Role.{Role}

@@ -2,7 +2,7 @@
 use Rattle.std.proofs.Common.{◌≡◌, ◌&&◌, ℕ, Bool, true, List, ◌⊎◌, inl, inr, refl, sym, subst, Contains}
 use Rattle.std.specs.List.{AllByRecursion}
 use Rattle.lemmas.proofs.Booleans.{sooner, later}
-use Rattle.rule_loops.proofs.Needs.{is_itself, placed_by, same_decision}
+use Rattle.loops.proofs.Needs.{is_itself, placed_by, same_decision}
 use Rattle.cluster_types.specs.declared.cluster.Cluster.{Cluster}
 use Rattle.cluster_types.specs.declared.journal.Event.{Event}
 use Rattle.cluster_types.specs.declared.leaf.Role.TheVariants as role

@@ -5,7 +5,7 @@ use Rattle.std.proofs.lemmas.List.Folds.{Any-from_list_any}
 use Rattle.std.proofs.lemmas.Bool.{and_from}
 use Rattle.lemmas.proofs.Booleans.{sooner, later}
 use Rattle.lemmas.proofs.Searches.{passes_by}
-use Rattle.rule_loops.proofs.Needs.{is_itself, same_decision}
+use Rattle.loops.proofs.Needs.{is_itself, same_decision}
 use Rattle.cluster_types.specs.declared.cluster.Cluster.{Cluster}
 use Rattle.cluster_types.specs.declared.journal.Event.{Event}
 use Rattle.cluster_types.specs.declared.leaf.Role.{Role}

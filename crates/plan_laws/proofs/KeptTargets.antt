@@ -20,7 +20,7 @@ use Rattle.cluster_types.specs.Pins.{is_pinned}
 use Rattle.cluster_types.specs.Tables.{Targets, holds_role, is_in_scope, target_holds}
 use Rattle.cluster_types.specs.Valid.{IsValid}
 use Rattle.cluster_types.proofs.TableCells.{promoted_somewhere}
-use Rattle.rule_loops.proofs.FromValid.{valid_join, valid_order}
+use Rattle.loops.proofs.FromValid.{valid_join, valid_order}
 use Rattle.lemmas.proofs.Searches.{passes_by}
 
 module _ (c : Cluster) (es : List Event) (table : Targets) where

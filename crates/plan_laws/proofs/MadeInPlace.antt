@@ -21,7 +21,7 @@ use Rattle.plan_laws.proofs.Ready.{needed_is_made, place_is_made, ready_is_new}
 use Rattle.plan_laws.proofs.SomeReady.{each_is_made}
 use Rattle.plan_laws.proofs.StayHeld.{stay_held, untouched_first, untouched_later}
 use Rattle.lemmas.proofs.Searches.{passes_by}
-use Rattle.rule_loops.proofs.Needs.{is_itself}
+use Rattle.loops.proofs.Needs.{is_itself}
 
 pub unmade : (made : List Decision) (d : Decision) → (Contains made d → ⊥) → is_among made d ≡ false
 unmade made d h = false_from_ne_true (is_among made d) (λ t. h (stands_among made d t))

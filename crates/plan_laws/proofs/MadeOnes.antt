@@ -5,7 +5,7 @@ use Rattle.std.specs.List.{range_with_len}
 use Rattle.std.proofs.lemmas.List.Folds.{Any-from_list_any, list_any-append}
 use Rattle.lemmas.proofs.Searches.{any-more, any_last, passes_by}
 use Rattle.lemmas.proofs.Members.{Flat, at_head, head_or_rest, in_flat, in_none, in_range, in_rest, of_flat, of_range}
-use Rattle.rule_loops.proofs.Needs.{is_itself, same_decision}
+use Rattle.loops.proofs.Needs.{is_itself, same_decision}
 use Rattle.cluster_types.specs.declared.cluster.Cluster.{Cluster}
 use Rattle.cluster_types.specs.declared.journal.Event.{Event}
 use Rattle.cluster_types.specs.declared.placement.Decision.{Decision}

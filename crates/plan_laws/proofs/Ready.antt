@@ -5,7 +5,7 @@ use Rattle.std.proofs.lemmas.Bool.{not-true}
 use Rattle.lemmas.proofs.Booleans.{implied, later, sooner}
 use Rattle.lemmas.proofs.Searches.{each_passes}
 use Rattle.lemmas.proofs.Members.{head_or_rest, in_none}
-use Rattle.rule_loops.proofs.Needs.{is_itself}
+use Rattle.loops.proofs.Needs.{is_itself}
 use Rattle.cluster_types.specs.declared.cluster.Cluster.{Cluster}
 use Rattle.cluster_types.specs.declared.journal.Event.{Event}
 use Rattle.cluster_types.specs.declared.placement.Decision.{Decision}

@@ -6,12 +6,12 @@ use Rattle.loops.specs.Loops.{HasNoLoop, RiseSomehow}
 use Rattle.loops.proofs.Heights.{rise_somehow}
 use Rattle.loops.proofs.Paths.{loop_or_none}
 use Rattle.loops.proofs.Relations.{EdgeFor}
-use Rattle.rule_loops.specs.Edges.{decision_position, need_edges}
-use Rattle.rule_loops.specs.FirstLoops.{AllJoin, NeedsHaveLoop}
-use Rattle.rule_loops.proofs.FromValid.{valid_join}
+use Rattle.loops.specs.Edges.{decision_position, need_edges}
+use Rattle.loops.specs.FirstLoops.{AllJoin, NeedsHaveLoop}
+use Rattle.loops.proofs.FromValid.{valid_join}
 use Rattle.lemmas.proofs.Members.{at_head, in_rest}
-use Rattle.rule_loops.proofs.NeedLoops.{needs_loop, needs_within}
-use Rattle.rule_loops.proofs.Needs.{decision_there, edge_for, is_itself}
+use Rattle.loops.proofs.NeedLoops.{needs_loop, needs_within}
+use Rattle.loops.proofs.Needs.{decision_there, edge_for, is_itself}
 use Rattle.lemmas.proofs.Searches.{passes_by}
 use Rattle.cluster_types.specs.declared.cluster.Cluster.{Cluster}
 use Rattle.cluster_types.specs.declared.journal.Event.{Event}

@@ -1,6 +1,6 @@
 -- Which actions stand as the earlier and as the later of a pair, by the word of an order.
 use Rattle.std.proofs.Common.{◌≡◌, if◌then◌else◌, ℕ, Bool, true, false, Option, Some, None, List, refl, subst, ap}
-use Rattle.rule_loops.proofs.StepPlaces.{same_op}
+use Rattle.loops.proofs.StepPlaces.{same_op}
 use Rattle.cluster_types.specs.declared.journal.Action.{Action}
 use Rattle.cluster_types.specs.declared.journal.Action.TheVariants.{Fence, Probe, Cell, MigrateTo, MigrateFrom}
 use Rattle.cluster_types.specs.declared.leaf.Op.{Op}

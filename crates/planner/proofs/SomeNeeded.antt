@@ -15,8 +15,8 @@ use Rattle.cluster_types.specs.Rights.{may_fence}
 use Rattle.cluster_types.specs.Tables.{Targets}
 use Rattle.cluster_types.specs.Unpacked.{states_of}
 use Rattle.cluster_types.specs.Valid.{IsValid}
-use Rattle.rule_loops.proofs.FromValid.{valid_order}
-use Rattle.rule_loops.proofs.OneRanking.{rank_bounded}
+use Rattle.loops.proofs.FromValid.{valid_order}
+use Rattle.loops.proofs.OneRanking.{rank_bounded}
 use Rattle.action_build.specs.Actions.{all_fences, is_free, is_touched, leaves_actions}
 use Rattle.action_build.specs.Cycling.{Marks, first_marks, with_orders}
 use Rattle.action_build.specs.Levels.{below_level, need_at}

@@ -1,5 +1,5 @@
 use Rattle.std.proofs.Common.{◌∙◌, ap}
-use Rattle.rule_loops.proofs.FromValid.{valid_order}
+use Rattle.loops.proofs.FromValid.{valid_order}
 use Rattle.action_build.specs.Cycling.{Marks, with_orders}
 use Rattle.action_build.specs.Levels.{below_level}
 use Rattle.action_build.proofs.Found.{found}

@@ -3,9 +3,9 @@ use Rattle.std.proofs.lemmas.List.{take_all}
 use Rattle.cluster_types.specs.declared.leaf.Op.TheVariants.{Stop}
 use Rattle.cluster_types.specs.declared.rules.Order.{Order}
 use Rattle.cluster_types.specs.Numbers.{rank, step_of}
-use Rattle.rule_loops.proofs.FromValid.{valid_order}
+use Rattle.loops.proofs.FromValid.{valid_order}
 use Rattle.lemmas.proofs.Members.{all_more}
-use Rattle.rule_loops.proofs.OneRanking.{rank_bounded}
+use Rattle.loops.proofs.OneRanking.{rank_bounded}
 use Rattle.action_build.proofs.passing.top_level.Goals as goal
 
 pub overflow_add-top : goal.overflow_add-top

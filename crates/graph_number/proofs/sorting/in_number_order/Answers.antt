@@ -4,7 +4,7 @@ use Rattle.std.proofs.lemmas.Fn.{always_returns_same}
 use Rattle.cluster_types.specs.Numbers.{place_of}
 use Rattle.order_edges.specs.Flags.{send_if}
 use Rattle.order_edges.proofs.ValidRules.{sent_leaves}
-use Rattle.rule_loops.specs.Ranks.{AreMigrating}
+use Rattle.loops.specs.Ranks.{AreMigrating}
 use Rattle.graph_number.proofs.Sorted.{in_order, still_migrating}
 use Rattle.graph_number.proofs.Whole.{planned_within}
 use Rattle.graph_number.proofs.sorting.in_number_order.Goals as goal

@@ -1,6 +1,6 @@
 use Rattle.std.proofs.Common.{arith, ◌≡◌, refl, inl, inr}
 use Rattle.std.proofs.lemmas.Bool.{cases_lt}
-use Rattle.loops.proofs.Rows.{end_of, ends_at}
+use Rattle.loops.proofs.SourceRows.{end_of, ends_at}
 use Rattle.loops.proofs.edge.end_within.Goals.{then-edge-positions-via-then-edge-positions, then-edge-positions-via-else-edge-positions+then-edge-positions-2}
 use Rattle.loops.proofs.edge.end_within.Goals as goal
 

@@ -1,6 +1,6 @@
 use Rattle.std.proofs.Common.{arith, ◌≡◌, ◌<◌, ◌+◌, length, slice_index_or, ◌∙◌}
 use Rattle.std.proofs.lemmas.List.{get_or_read, length-set}
-use Rattle.loops.proofs.Rows.{ends_at, few_from, counted_more}
+use Rattle.loops.proofs.SourceRows.{ends_at, few_from, counted_more}
 use Rattle.loops.proofs.sources.leaving.Goals as goal
 
 pub index_mut-requires : goal.index_mut-requires

@@ -1,5 +1,5 @@
 use Rattle.std.proofs.Common.{arith}
-use Rattle.loops.proofs.Rows.{ends_at}
+use Rattle.loops.proofs.SourceRows.{ends_at}
 use Rattle.loops.proofs.sources.sources.Goals as goal
 
 pub index_mut-requires : goal.index_mut-requires

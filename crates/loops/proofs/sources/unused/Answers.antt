@@ -1,6 +1,6 @@
 use Rattle.std.proofs.Common.{arith, ◌≡◌, ◌==◌, false, slice_index_or}
 use Rattle.std.proofs.lemmas.Bool.{ne_eqb}
-use Rattle.loops.proofs.Rows.{filter_kept}
+use Rattle.loops.proofs.SourceRows.{filter_kept}
 use Rattle.loops.proofs.sources.unused.Goals as goal
 
 pub loop-position-preserved-then-counts-position-gt0 : goal.loop-position-preserved-then-counts-position-gt0

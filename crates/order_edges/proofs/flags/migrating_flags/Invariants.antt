@@ -1,6 +1,6 @@
 use Rattle.std.proofs.Common.{◌≡◌, take}
 use Rattle.std.specs.Prelude.{vec_len}
-use Rattle.rule_loops.specs.Ranks.{AreMigrating}
+use Rattle.loops.specs.Ranks.{AreMigrating}
 use Rattle.order_edges.proofs.flags.migrating_flags.Given as goal
 
 abbrev pub invariant-loop-action : goal.invariant-loop-action

@@ -1,7 +1,7 @@
 use Rattle.std.proofs.Common.{arith, rules, ◌≡◌, ◌<◌, All, IfSome, ap, length, subst, sym, ◌∙◌}
 use Rattle.order_edges.specs.Flags.{send_if}
 use Rattle.order_edges.specs.Index.{leaf_if}
-use Rattle.rule_loops.specs.Ranks.{AreMigrating}
+use Rattle.loops.specs.Ranks.{AreMigrating}
 use Rattle.order_edges.proofs.AllEdges.{few_actions}
 use Rattle.order_edges.proofs.ValidRules.{dependents, firsts, leaves_within, primaries, sent_leaves, thens}
 use Rattle.order_edges.proofs.whole.edges.Goals as goal

@@ -1,0 +1,172 @@
+-- Loops of links are loops of their edges.
+use Rattle.std.proofs.Common.{arith, ◌≡◌, ◌≢◌, ◌<◌, ◌*◌, ◌==◌, ◌&&◌, ℕ, Bool, true, false, [], ◌∷◌, ◌++◌, cond, map, length, refl, sym, ◌∙◌, ap, inl, inr, Contains}
+use Rattle.std.specs.List.{flat_map, range_with_len}
+use Rattle.std.proofs.lemmas.List.Elements.{Contains-append_cases}
+use Rattle.loops.specs.declared.edge.Edge.{Edge}
+use Rattle.loops.specs.Loops.{EndWithin, HasLoop, HasNoLoop as NoLoopOfEdges}
+use Rattle.loops.proofs.Relations.{EdgeFor, FollowsItself, StandsFor, WayFor, leads_of, nothing_follows_itself, one_follows_itself}
+use Rattle.cluster_types.specs.declared.cluster.Cluster.{Cluster}
+use Rattle.cluster_types.specs.declared.leaf.Op.{Op}
+use Rattle.cluster_types.specs.declared.leaf.Op.TheVariants.{Start, Stop, Promote, Demote, Monitor}
+use Rattle.cluster_types.specs.declared.rules.Order.{Order}
+use Rattle.cluster_types.specs.Numbers.{HasNoLoop, Link, StepOf, inverse_links, is_same_step, leaf_links, link, links, order_links, reaches}
+use Rattle.cluster_types.specs.Precedence.{inverse, is_serialize, is_up, takers}
+use Rattle.loops.specs.Edges.{counts, link_edge, step_edges, step_position}
+use Rattle.loops.specs.FirstLoops.{AllOrder, OrdersSteps, StepsHaveLoop}
+use Rattle.lemmas.proofs.Members.{head_or_rest, in_map, in_none, of_filter, of_flat, of_map, of_range}
+use Rattle.loops.proofs.StepPlaces.{Stands, inverse_changes, position_is, position_within, same_spot, same_step, spot, step_itself, steps_alike}
+
+-- both steps of the link are of leaves that are there
+pub record BothStand (n : ℕ) (l : Link) : Type 0 where
+  pub first : Stands n l.before
+  pub later : Stands n l.after
+
+pub both_stand : (n : ℕ) (o : Op) (r : ℕ) (p : Op) (s : ℕ) (l : Link) → link o r p s ≡ l → o ≢ Monitor → r < n → p ≢ Monitor → s < n
+    → BothStand n l
+both_stand n o r p s l e ne lt nf ls =
+    rw (← e) (record { first = record { within = lt; changes = ne }; later = record { within = ls; changes = nf } })
+
+of_leaf : (n r : ℕ) (l : Link) → r < n → Contains (leaf_links r) l → BothStand n l
+of_leaf n r l lt h = elim (head_or_rest (link Demote r Stop r) (link Start r Promote r ∷ []) l h) [
+  | inl e ↦ both_stand n Demote r Stop r l e (λ x. cc) lt (λ x. cc) lt
+  | inr t ↦ elim (head_or_rest (link Start r Promote r) [] l t) [
+    | inl e ↦ both_stand n Start r Promote r l e (λ x. cc) lt (λ x. cc) lt
+    | inr f ↦ absurd (in_none l f)
+  ]
+]
+
+takers_change : (o p : Op) → Contains (takers o) p → p ≢ Monitor
+takers_change Start p h e = elim (head_or_rest Stop [] p h) [
+  | inl s ↦ cc
+  | inr f ↦ in_none p f
+]
+takers_change Promote p h e = elim (head_or_rest Demote (Stop ∷ []) p h) [
+  | inl s ↦ cc
+  | inr t ↦ elim (head_or_rest Stop [] p t) [
+    | inl s ↦ cc
+    | inr f ↦ in_none p f
+  ]
+]
+takers_change Stop p h e = in_none p h
+takers_change Demote p h e = in_none p h
+takers_change Monitor p h e = in_none p h
+
+module _ (c : Cluster) (o : Order) (ordered : OrdersSteps c o) where
+  of_takers : (l : Link)
+      → Contains (flat_map (λ p. map (λ q. link p o.then_leaf q o.first) (takers o.first_op)) (takers o.then_op)) l
+      → BothStand (length c.leaves) l
+  of_takers l h =
+      let f = of_flat (λ p. map (λ q. link p o.then_leaf q o.first) (takers o.first_op)) (takers o.then_op) l h in
+      let m = of_map (λ q. link f.source o.then_leaf q o.first) (takers o.first_op) l f.gives in
+      both_stand (length c.leaves) f.source o.then_leaf m.source o.first l m.gives (takers_change o.then_op f.source f.among) ordered.later
+      (takers_change o.first_op m.source m.among) ordered.first
+
+  of_inverse : (l : Link) → Contains (inverse_links o) l → BothStand (length c.leaves) l
+  of_inverse l h = on (is_up o.first_op && is_up o.then_op) h where
+    on : (b : Bool) → Contains (cond b (flat_map (λ p. map (λ q. link p o.then_leaf q o.first) (takers o.first_op)) (takers o.then_op))
+        (link (inverse o.then_op) o.then_leaf (inverse o.first_op) o.first ∷ [])) l
+        → BothStand (length c.leaves) l
+    on true g = of_takers l g
+    on false g = elim (head_or_rest (link (inverse o.then_op) o.then_leaf (inverse o.first_op) o.first) [] l g) [
+      | inl e ↦ both_stand (length c.leaves) (inverse o.then_op) o.then_leaf (inverse o.first_op) o.first l e
+          (inverse_changes o.then_op ordered.later_word) ordered.later (inverse_changes o.first_op ordered.first_word) ordered.first
+      | inr f ↦ absurd (in_none l f)
+    ]
+
+  of_symmetrical : (b : Bool) (l : Link) → Contains (cond b (inverse_links o) []) l → BothStand (length c.leaves) l
+  of_symmetrical true l h = of_inverse l h
+  of_symmetrical false l h = absurd (in_none l h)
+
+  of_order : (l : Link) → Contains (order_links o) l → BothStand (length c.leaves) l
+  of_order l h = on (is_serialize o.kind) h where
+    on : (b : Bool)
+        → Contains (cond b [] (link o.first_op o.first o.then_op o.then_leaf ∷ cond o.symmetrical (inverse_links o) [])) l
+        → BothStand (length c.leaves) l
+    on true g = absurd (in_none l g)
+    on false g = elim (head_or_rest (link o.first_op o.first o.then_op o.then_leaf) (cond o.symmetrical (inverse_links o) []) l g) [
+      | inl e ↦ both_stand (length c.leaves) o.first_op o.first o.then_op o.then_leaf l e ordered.first_word ordered.first
+          ordered.later_word ordered.later
+      | inr t ↦ of_symmetrical o.symmetrical l t
+    ]
+
+module _ (c : Cluster) (ordered : AllOrder c) where
+  pub links_stand : (l : Link) → Contains (links c) l → BothStand (length c.leaves) l
+  links_stand l h =
+      let k = of_filter (counts c) (flat_map leaf_links (range_with_len 0 (length c.leaves)) ++ flat_map order_links c.orders) l h in
+      elim (Contains-append_cases (flat_map leaf_links (range_with_len 0 (length c.leaves))) (flat_map order_links c.orders) l k.among) [
+        | inl own ↦
+            let f = of_flat leaf_links (range_with_len 0 (length c.leaves)) l own in
+            let lt = of_range 0 (length c.leaves) f.source f.among in
+            of_leaf (length c.leaves) f.source l (omega arith) f.gives
+        | inr other ↦
+            let f = of_flat order_links c.orders l other in
+            of_order c f.source (ordered f.source f.among) l f.gives
+      ]
+
+  edge_for : (l : Link) (s : StepOf) → Contains (links c) l → is_same_step l.before s ≡ true
+      → EdgeFor (λ (l : Link). l.after) (step_edges c) (spot (length c.leaves)) l s
+  edge_for l s h same =
+      let b = links_stand l h in
+      record {
+        edge = link_edge l;
+        among = in_map link_edge (links c) l h;
+        from = position_is (length c.leaves) l.before b.first ∙ ap (spot (length c.leaves)) (same_step l.before s same);
+        to = position_is (length c.leaves) l.after b.later;
+      }
+
+  way_for : (e : Edge) (s : StepOf) → Contains (step_edges c) e → e.before ≡ spot (length c.leaves) s
+      → WayFor (λ (l : Link) s. is_same_step l.before s) (λ (l : Link). l.after) (links c) (spot (length c.leaves)) e s
+  way_for e s h from =
+      let m = of_map link_edge (links c) e h in
+      let b = links_stand m.source m.among in
+      let at : step_position m.source.before ≡ e.before = ap (λ (x : Edge). x.before) m.gives in
+      let same : m.source.before ≡ s
+      = same_spot (length c.leaves) m.source.before s b.first (sym (position_is (length c.leaves) m.source.before b.first) ∙ at ∙ from) in
+      record {
+        way = m.source;
+        among = m.among;
+        begins = rw same (step_itself s);
+        to = sym (ap (λ (x : Edge). x.after) m.gives) ∙ position_is (length c.leaves) m.source.after b.later;
+      }
+
+  stands : (e : Edge) → Contains (step_edges c) e → StandsFor (spot (length c.leaves)) e.before
+  stands e h =
+      let m = of_map link_edge (links c) e h in
+      let b = links_stand m.source m.among in
+      record {
+        thing = m.source.before;
+        here = sym (ap (λ (x : Edge). x.before) m.gives) ∙ position_is (length c.leaves) m.source.before b.first;
+      }
+
+  alike : (l : Link) (t : StepOf) → Contains (links c) l
+      → is_same_step l.after t ≡ (spot (length c.leaves) l.after == spot (length c.leaves) t)
+  alike l t h = let b = links_stand l h in steps_alike (length c.leaves) l.after t b.later
+
+  pub steps_free : NoLoopOfEdges (4 * length c.leaves) (step_edges c) → HasNoLoop c
+  steps_free free s =
+      nothing_follows_itself (λ (l : Link) s. is_same_step l.before s) (λ (l : Link). l.after) is_same_step (links c) (reaches c)
+      (λ _ _. refl) (λ _ _ _. refl)
+      (step_edges c) (spot (length c.leaves)) alike edge_for (4 * length c.leaves) free s
+
+  pub steps_loop : HasLoop (4 * length c.leaves) (step_edges c) → StepsHaveLoop c
+  steps_loop l =
+      let one : FollowsItself (reaches c) (4 * length c.leaves)
+      = one_follows_itself (λ (l : Link) s. is_same_step l.before s) (λ (l : Link). l.after) is_same_step (links c) (reaches c)
+      (λ _ _. refl) (λ _ _ _. refl)
+      (step_edges c) (spot (length c.leaves)) alike way_for stands (4 * length c.leaves) l in
+      record { step = one.thing; reached = one.follows }
+
+  pub loop_of_steps : StepsHaveLoop c → HasLoop (4 * length c.leaves) (step_edges c)
+  loop_of_steps l =
+      record {
+        at = spot (length c.leaves) l.step;
+        leads = leads_of (λ (l : Link) s. is_same_step l.before s) (λ (l : Link). l.after) is_same_step (links c) (reaches c)
+            (λ _ _. refl) (λ _ _ _. refl)
+            (step_edges c) (spot (length c.leaves)) alike edge_for (4 * length c.leaves) l.step l.step l.reached;
+      }
+
+  pub steps_within : EndWithin (4 * length c.leaves) (step_edges c)
+  steps_within e h =
+      let m = of_map link_edge (links c) e h in
+      let b = links_stand m.source m.among in
+      rw (← m.gives) (position_within (length c.leaves) m.source.before b.first, position_within (length c.leaves) m.source.after b.later)

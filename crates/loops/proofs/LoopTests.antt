@@ -1,0 +1,180 @@
+-- The tests of loops answer as the relations say, and, for a cluster with so many of the rules of another, by the place of its first loop.
+use Rattle.std.proofs.Common.{arith, ◌≡◌, ◌≤◌, ◌+◌, ◌*◌, ◌&&◌, ◌||◌, ℕ, suc, zero, nat_lt, Bool, true, false, List, [], ◌++◌, length, map, take, Option, Some, None, refl, sym, ap, ◌∙◌, subst, Contains, Any}
+use Rattle.std.proofs.lemmas.List.Folds.{Any-from_list_any}
+use Rattle.std.proofs.Math.Seq.{take-length}
+use Rattle.std.proofs.lemmas.List.{append-nil}
+use Rattle.std.proofs.lemmas.Bool.{both_ways, false_from_ne_true}
+use Rattle.std.proofs.lemmas.Bool.Decides.{nat_tests}
+use Rattle.lemmas.proofs.Booleans.{later, same_test, sooner}
+use Rattle.lemmas.proofs.Searches.{passes_by}
+use Rattle.loops.specs.declared.edge.Edge.{Edge}
+use Rattle.loops.specs.Loops.{HasLoop, HasNoLoop as NoLoopOfEdges}
+use Rattle.cluster_types.specs.declared.cluster.Cluster.{Cluster}
+use Rattle.cluster_types.specs.declared.leaf.Leaf.{Leaf}
+use Rattle.cluster_types.specs.declared.placement.Decision.{Decision}
+use Rattle.cluster_types.specs.declared.rules.Colocation.{Colocation}
+use Rattle.cluster_types.specs.declared.rules.Order.{Order}
+use Rattle.cluster_types.specs.Decisions.{NeedsHaveNoLoop, all_decisions, is_same_decision, needs, needs_through}
+use Rattle.cluster_types.specs.Numbers.{HasNoLoop, Link, StepOf, is_same_step, links, reaches}
+use Rattle.loops.specs.Edges.{colocation_edge, leaf_edges, need_edges, step_edges}
+use Rattle.loops.specs.FirstLoops.{AllJoin, AllOrder, IsFirstColocation, IsFirstOrder, NeedsHaveLoop, StepsHaveLoop, has_need_loop, has_step_loop, is_closed_by, with_colocations, with_orders}
+use Rattle.lemmas.proofs.Members.{in_none}
+use Rattle.loops.proofs.FirstOrders.{first_ordered, own_free}
+use Rattle.loops.proofs.LinkLoops.{loop_of_steps, steps_free, steps_loop}
+use Rattle.loops.proofs.NeedLoops.{first_joined, leaves_free, loop_of_needs, needs_free, needs_loop}
+use Rattle.loops.proofs.Needs.{same_decision}
+use Rattle.loops.proofs.OneFirst.{all_colocations, all_orders_loop, needs_apart, needs_stay, steps_apart, steps_stay}
+use Rattle.loops.proofs.StepPlaces.{same_step}
+
+-- where a chain of needs among some decisions ends, one of them stands
+module _ (c : Cluster) (among : List Decision) where
+  end_among : (most : ℕ) (d e : Decision) → needs_through c among most d e ≡ true → Contains among e
+  end_among zero d e h = absurd cc
+  end_among (suc most) d e h =
+      first (Any-from_list_any (λ f. needs c d f && (is_same_decision f e || needs_through c among most f e)) among h) (λ f on. end_among most f e on)
+    where
+      last : (f : Decision) → Contains among f → (same : Bool) → is_same_decision f e ≡ same → same || needs_through c among most f e ≡ true
+          → ((f : Decision) → needs_through c among most f e ≡ true → Contains among e) → Contains among e
+      last f there true same on next = rw (same_decision f e same) at there
+      last f there false same on next = next f on
+
+      first : Any (λ f. needs c d f && (is_same_decision f e || needs_through c among most f e) ≡ true) among
+          → ((f : Decision) → needs_through c among most f e ≡ true → Contains among e) → Contains among e
+      first (k, f, lt, at, h) next = last f (k, lt, at) (is_same_decision f e) refl (later (needs c d f) _ h) next
+
+module _ (c : Cluster) where
+  pub loop_of_need : has_need_loop c ≡ true → NeedsHaveLoop c
+  loop_of_need h = on (Any-from_list_any (λ d. needs_through c (all_decisions c) (length (all_decisions c)) d d) (all_decisions c) h) where
+    on : Any (λ d. needs_through c (all_decisions c) (length (all_decisions c)) d d ≡ true) (all_decisions c) → NeedsHaveLoop c
+    on (k, d, lt, at, h) = record { decision = d; needed = h }
+
+  pub need_of_loop : NeedsHaveLoop c → has_need_loop c ≡ true
+  need_of_loop l =
+      passes_by (λ d. needs_through c (all_decisions c) (length (all_decisions c)) d d) (all_decisions c) l.decision
+      (end_among c (all_decisions c) (length (all_decisions c)) l.decision l.decision l.needed) l.needed
+
+  pub need_of_none : has_need_loop c ≡ false → NeedsHaveNoLoop c
+  need_of_none h d = false_from_ne_true _ (λ needed. both_ways _ h (need_of_loop (record { decision = d; needed = needed })))
+
+-- the first link of a chain from a step
+record Begins (c : Cluster) (s : StepOf) : Type 0 where
+  pub way : Link
+  pub among : Contains (links c) way
+  pub from : way.before ≡ s
+
+module _ (c : Cluster) where
+  begins : (most : ℕ) (s t : StepOf) → reaches c most s t ≡ true → Begins c s
+  begins zero s t h = absurd cc
+  begins (suc most) s t h = on (Any-from_list_any (λ l. is_same_step l.before s && (is_same_step l.after t || reaches c most l.after t)) (links c) h) where
+    on : Any (λ l. is_same_step l.before s && (is_same_step l.after t || reaches c most l.after t) ≡ true) (links c) → Begins c s
+    on (k, l, lt, at, h) = record { way = l; among = (k, lt, at); from = same_step l.before s (sooner _ _ h) }
+
+  pub loop_of_step : has_step_loop c ≡ true → StepsHaveLoop c
+  loop_of_step h = on (Any-from_list_any (λ l. reaches c (4 * length c.leaves) l.before l.before) (links c) h) where
+    on : Any (λ l. reaches c (4 * length c.leaves) l.before l.before ≡ true) (links c) → StepsHaveLoop c
+    on (k, l, lt, at, h) = record { step = l.before; reached = h }
+
+  pub step_of_loop : StepsHaveLoop c → has_step_loop c ≡ true
+  step_of_loop l =
+      let b = begins (4 * length c.leaves) l.step l.step l.reached in
+      passes_by (λ l. reaches c (4 * length c.leaves) l.before l.before) (links c) b.way b.among (rw b.from l.reached)
+
+  pub step_of_none : has_step_loop c ≡ false → HasNoLoop c
+  step_of_none h s = false_from_ne_true _ (λ reached. both_ways _ h (step_of_loop (record { step = s; reached = reached })))
+
+-- a cluster with the first so many colocations of another
+module _ (c d : Cluster) (joined : AllJoin c) (count : ℕ) (few : count ≤ length c.colocations) (leaves : d.leaves ≡ c.leaves)
+    (colocations : d.colocations ≡ take count c.colocations) where
+  same_needs : need_edges d ≡ need_edges (with_colocations c count)
+  same_needs =
+      ap (λ (ls : List Leaf). need_edges record d { leaves = ls }) leaves
+      ∙ ap (λ (cs : List Colocation). need_edges record d { leaves = c.leaves; colocations = cs }) colocations
+
+  all_joined : AllJoin d
+  all_joined col h =
+      let j = first_joined c joined count col (rw colocations at h) in
+      record { dependent = rw leaves j.dependent; primary = rw leaves j.primary }
+
+  first_needs : NeedsHaveLoop d → NeedsHaveLoop (with_colocations c count)
+  first_needs l =
+      let looped : HasLoop (2 * length c.leaves) (need_edges (with_colocations c count)) =
+      subst (λ (n : ℕ). HasLoop n (need_edges (with_colocations c count))) (ap (λ (ls : List Leaf). 2 * length ls) leaves)
+      (subst (λ (es : List Edge). HasLoop (2 * length d.leaves) es) same_needs (loop_of_needs d all_joined l)) in
+      needs_loop (with_colocations c count) (first_joined c joined count) looped
+
+  needs_of_first : NeedsHaveLoop (with_colocations c count) → NeedsHaveLoop d
+  needs_of_first l =
+      let looped : HasLoop (2 * length c.leaves) (need_edges (with_colocations c count)) = loop_of_needs (with_colocations c count) (first_joined c joined count) l in
+      needs_loop d all_joined
+      (subst (λ (n : ℕ). HasLoop n (need_edges d)) (sym (ap (λ (ls : List Leaf). 2 * length ls) leaves))
+      (subst (λ (es : List Edge). HasLoop (2 * length c.leaves) es) (sym same_needs) looped))
+
+  pub needs_closed : (place : Option ℕ) → IsFirstColocation c place → has_need_loop d ≡ is_closed_by place count
+  needs_closed None free =
+      false_from_ne_true _ (λ h. needs_apart c (all_colocations c joined (needs_stay c joined count (length c.colocations) few (first_needs (loop_of_need d h)))) free)
+  needs_closed (Some place) closes =
+      same_test (has_need_loop d) (nat_lt place count) (λ h. early h (nat_lt place count) refl)
+      (λ h. need_of_loop d (needs_of_first (needs_stay c joined (place + 1) count (grind (arith, nat_tests)) closes.closed)))
+    where
+      early : has_need_loop d ≡ true → (b : Bool) → nat_lt place count ≡ b → nat_lt place count ≡ true
+      early h true e = e
+      early h false e =
+          let late : count ≤ place = grind (arith, nat_tests) in
+          absurd (needs_apart (with_colocations c place) (needs_stay c joined count place late (first_needs (loop_of_need d h))) closes.before)
+
+-- a cluster with the first so many orders of another
+module _ (c d : Cluster) (ordered : AllOrder c) (count : ℕ) (few : count ≤ length c.orders) (leaves : d.leaves ≡ c.leaves)
+    (orders : d.orders ≡ take count c.orders) where
+  same_steps : step_edges d ≡ step_edges (with_orders c count)
+  same_steps =
+      ap (λ (ls : List Leaf). step_edges record d { leaves = ls }) leaves
+      ∙ ap (λ (os : List Order). step_edges record d { leaves = c.leaves; orders = os }) orders
+
+  all_ordered : AllOrder d
+  all_ordered o h =
+      let s = first_ordered c ordered count o (rw orders at h) in
+      record { first = rw leaves s.first; later = rw leaves s.later; first_word = s.first_word; later_word = s.later_word }
+
+  first_steps : StepsHaveLoop d → StepsHaveLoop (with_orders c count)
+  first_steps l =
+      let looped : HasLoop (4 * length c.leaves) (step_edges (with_orders c count)) =
+      subst (λ (n : ℕ). HasLoop n (step_edges (with_orders c count))) (ap (λ (ls : List Leaf). 4 * length ls) leaves)
+      (subst (λ (es : List Edge). HasLoop (4 * length d.leaves) es) same_steps (loop_of_steps d all_ordered l)) in
+      steps_loop (with_orders c count) (first_ordered c ordered count) looped
+
+  steps_of_first : StepsHaveLoop (with_orders c count) → StepsHaveLoop d
+  steps_of_first l =
+      let looped : HasLoop (4 * length c.leaves) (step_edges (with_orders c count)) = loop_of_steps (with_orders c count) (first_ordered c ordered count) l in
+      steps_loop d all_ordered
+      (subst (λ (n : ℕ). HasLoop n (step_edges d)) (sym (ap (λ (ls : List Leaf). 4 * length ls) leaves))
+      (subst (λ (es : List Edge). HasLoop (4 * length c.leaves) es) (sym same_steps) looped))
+
+  pub steps_closed : (place : Option ℕ) → IsFirstOrder c place → has_step_loop d ≡ is_closed_by place count
+  steps_closed None free =
+      false_from_ne_true _ (λ h. steps_apart c (all_orders_loop c ordered (steps_stay c ordered count (length c.orders) few (first_steps (loop_of_step d h)))) free)
+  steps_closed (Some place) closes =
+      same_test (has_step_loop d) (nat_lt place count) (λ h. early h (nat_lt place count) refl)
+      (λ h. step_of_loop d (steps_of_first (steps_stay c ordered (place + 1) count (grind (arith, nat_tests)) closes.closed)))
+    where
+      early : has_step_loop d ≡ true → (b : Bool) → nat_lt place count ≡ b → nat_lt place count ≡ true
+      early h true e = e
+      early h false e =
+          let late : count ≤ place = grind (arith, nat_tests) in
+          absurd (steps_apart (with_orders c place) (steps_stay c ordered count place late (first_steps (loop_of_step d h))) closes.before)
+
+-- without rules there is no loop
+
+pub no_needs : (c : Cluster) → c.colocations ≡ [] → NeedsHaveNoLoop c
+no_needs c e =
+    let joined : AllJoin c = λ col h. absurd (in_none col (rw e at h)) in
+    let own = leaf_edges (length c.leaves) in
+    let same : need_edges c ≡ take (length own) own = ap (λ (cs : List Colocation). own ++ map colocation_edge cs) e ∙ append-nil own ∙ sym (take-length own) in
+    needs_free c joined
+    (subst (λ (es : List Edge). NoLoopOfEdges (2 * length c.leaves) es) (sym same) (leaves_free (2 * length c.leaves) (length own) (length c.leaves)))
+
+pub no_steps : (c : Cluster) → c.orders ≡ [] → HasNoLoop c
+no_steps c e =
+    let ordered : AllOrder c = λ o h. absurd (in_none o (rw e at h)) in
+    let same : step_edges c ≡ step_edges (with_orders c 0) = ap (λ (os : List Order). step_edges record c { orders = os }) e in
+    steps_free c ordered
+    (subst (λ (es : List Edge). NoLoopOfEdges (4 * length c.leaves) es) (sym same) (own_free c (4 * length c.leaves)))

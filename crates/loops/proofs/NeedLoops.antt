@@ -1,0 +1,139 @@
+-- Loops of needs are loops of their edges.
+use Rattle.std.proofs.Common.{arith, ◌≡◌, ◌<◌, ◌≤◌, ◌+◌, ◌-◌, ◌*◌, ℕ, map, length, take, refl, sym, ap, inl, inr, Contains}
+use Rattle.std.specs.List.{range_with_len}
+use Rattle.std.proofs.Math.Seq.{take-append-add}
+use Rattle.std.proofs.lemmas.Bool.{cases_lt}
+use Rattle.std.proofs.lemmas.List.{length-append, length-map, take-append-le, take-map}
+use Rattle.std.proofs.lemmas.List.Elements.{Contains-append_cases}
+use Rattle.std.proofs.lemmas.List.FromFn.{length-map-range_with_len}
+use Rattle.loops.specs.declared.edge.Edge.{Edge}
+use Rattle.loops.specs.Loops.{ClosesFirst, EndWithin, HasLoop, HasNoLoop}
+use Rattle.loops.proofs.Endings.{one_way}
+use Rattle.loops.proofs.Paths.{none_where_rising}
+use Rattle.loops.proofs.Relations.{FollowsItself, StandsFor, leads_of, nothing_follows_itself, one_follows_itself}
+use Rattle.cluster_types.specs.declared.cluster.Cluster.{Cluster}
+use Rattle.cluster_types.specs.declared.leaf.Role.{Role}
+use Rattle.cluster_types.specs.declared.leaf.Role.TheVariants.{Started, Promoted}
+use Rattle.cluster_types.specs.declared.placement.Decision.TheVariants.{Promote}
+use Rattle.cluster_types.specs.Decisions.{NeedsHaveNoLoop, all_decisions, decision_of, is_same_decision, needs, needs_through}
+use Rattle.loops.specs.Edges.{colocation_edge, decision_position, leaf_edge, leaf_edges, need_edges}
+use Rattle.loops.specs.FirstLoops.{AllJoin, ClosesNeeds, NeedsHaveLoop, with_colocations}
+use Rattle.lemmas.proofs.Members.{of_map, of_range, contains_first}
+use Rattle.loops.proofs.Needs.{alike, count_of_decisions, edge_for, way_for}
+
+module _ (c : Cluster) (joined : AllJoin c) where
+  stands : (e : Edge) → Contains (need_edges c) e → StandsFor decision_position e.before
+  stands e h = elim (Contains-append_cases (leaf_edges (length c.leaves)) (map colocation_edge c.colocations) e h) [
+    | inl l ↦
+        let m = of_map leaf_edge (range_with_len 0 (length c.leaves)) e l in
+        record { thing = Promote m.source; here = sym (ap (λ (x : Edge). x.before) m.gives) }
+    | inr r ↦
+        let m = of_map colocation_edge c.colocations e r in
+        record { thing = decision_of m.source.dependent m.source.dependent_role; here = sym (ap (λ (x : Edge). x.before) m.gives) }
+  ]
+
+  pub needs_free : HasNoLoop (2 * length c.leaves) (need_edges c) → NeedsHaveNoLoop c
+  needs_free free d =
+      let n = count_of_decisions c in
+      let f : HasNoLoop (length (all_decisions c)) (need_edges c) = rw n free in
+      nothing_follows_itself (λ w s. needs c s w) (λ d. d) is_same_decision (all_decisions c) (needs_through c (all_decisions c))
+      (λ _ _. refl) (λ _ _ _. refl)
+      (need_edges c) decision_position (λ w t _. alike w t) (edge_for c joined) (length (all_decisions c)) f d
+
+  pub needs_loop : HasLoop (2 * length c.leaves) (need_edges c) → NeedsHaveLoop c
+  needs_loop l =
+      let n = count_of_decisions c in
+      let f : HasLoop (length (all_decisions c)) (need_edges c) = rw n l in
+      let one : FollowsItself (needs_through c (all_decisions c)) (length (all_decisions c))
+      = one_follows_itself (λ w s. needs c s w) (λ d. d) is_same_decision (all_decisions c) (needs_through c (all_decisions c))
+      (λ _ _. refl) (λ _ _ _. refl)
+      (need_edges c) decision_position (λ w t _. alike w t) (way_for c joined) stands (length (all_decisions c)) f in
+      record { decision = one.thing; needed = one.follows }
+
+  pub loop_of_needs : NeedsHaveLoop c → HasLoop (2 * length c.leaves) (need_edges c)
+  loop_of_needs l =
+      let n = count_of_decisions c in
+      let led
+      = leads_of (λ w s. needs c s w) (λ d. d) is_same_decision (all_decisions c) (needs_through c (all_decisions c))
+      (λ _ _. refl) (λ _ _ _. refl)
+      (need_edges c) decision_position (λ w t _. alike w t) (edge_for c joined) (length (all_decisions c)) l.decision l.decision l.needed in
+      record { at = decision_position l.decision; leads = rw (← n) led }
+
+  role_within : (r : ℕ) (role : Role) (n : ℕ) → r < n → decision_position (decision_of r role) < 2 * n
+  role_within r Started n lt = omega arith
+  role_within r Promoted n lt = omega arith
+
+  pub needs_within : EndWithin (2 * length c.leaves) (need_edges c)
+  needs_within e h = elim (Contains-append_cases (leaf_edges (length c.leaves)) (map colocation_edge c.colocations) e h) [
+    | inl l ↦
+        let m = of_map leaf_edge (range_with_len 0 (length c.leaves)) e l in
+        let lt = of_range 0 (length c.leaves) m.source m.among in
+        rw (← m.gives) (omega arith, omega arith)
+    | inr r ↦
+        let m = of_map colocation_edge c.colocations e r in
+        let j = joined m.source m.among in
+        rw (← m.gives) (
+          role_within m.source.dependent m.source.dependent_role (length c.leaves) j.dependent,
+          role_within m.source.primary m.source.primary_role (length c.leaves) j.primary,
+        )
+  ]
+
+-- the leaves alone have no loop: each of their edges leads to a higher position
+leaves_rise : (k n : ℕ) (e : Edge) → Contains (take k (map leaf_edge (range_with_len 0 n))) e → e.before < e.after
+leaves_rise k n e h =
+    let m = of_map leaf_edge (range_with_len 0 n) e (contains_first k (map leaf_edge (range_with_len 0 n)) e h) in
+    rw (← m.gives) (omega arith)
+
+pub leaves_free : (positions k n : ℕ) → HasNoLoop positions (take k (map leaf_edge (range_with_len 0 n)))
+leaves_free positions k n = none_where_rising positions (take k (map leaf_edge (range_with_len 0 n))) (λ x. x) (leaves_rise k n)
+
+module _ (c : Cluster) (joined : AllJoin c) where
+  -- fewer edges than leaves are edges of leaves
+  few : (k : ℕ) → k ≤ length c.leaves → take k (need_edges c) ≡ take k (leaf_edges (length c.leaves))
+  few k le =
+      let l = length-map-range_with_len leaf_edge 0 (length c.leaves) in
+      take-append-le k (leaf_edges (length c.leaves)) (map colocation_edge c.colocations) (omega arith)
+
+  -- the edges of the first colocations are the first edges
+  pub first_edges : (k : ℕ) → take (length c.leaves + k) (need_edges c) ≡ need_edges (with_colocations c k)
+  first_edges k =
+      let l = length-map-range_with_len leaf_edge 0 (length c.leaves) in
+      let t = take-append-add (leaf_edges (length c.leaves)) (map colocation_edge c.colocations) k in
+      let m = take-map colocation_edge k c.colocations in
+      rw m at (rw l at t)
+
+  pub first_joined : (k : ℕ) → AllJoin (with_colocations c k)
+  first_joined k col h =
+      let j = joined col (contains_first k c.colocations col h) in
+      record { dependent = j.dependent; primary = j.primary }
+
+  pub behind_leaves : (place : ℕ) → ClosesFirst (2 * length c.leaves) (need_edges c) place → length c.leaves ≤ place
+  behind_leaves place f = elim (cases_lt place (length c.leaves)) [
+    | inl lt ↦
+        let free : HasNoLoop (2 * length c.leaves) (take (place + 1) (need_edges c))
+        = rw (few (place + 1) (omega arith)) (leaves_free (2 * length c.leaves) (place + 1) (length c.leaves)) in
+        absurd (one_way (2 * length c.leaves) (take (place + 1) (need_edges c)) f.closed free)
+    | inr ge ↦ ge
+  ]
+
+  pub closes_needs : (place : ℕ) → ClosesFirst (2 * length c.leaves) (need_edges c) place → ClosesNeeds c (place - length c.leaves)
+  closes_needs place f =
+      let ge = behind_leaves place f in
+      on (place - length c.leaves) (omega arith)
+    where
+      on : (k : ℕ) → place ≡ length c.leaves + k → ClosesNeeds c k
+      on k e =
+          let w = f.within in
+          let a = length-append (leaf_edges (length c.leaves)) (map colocation_edge c.colocations) in
+          let l = length-map-range_with_len leaf_edge 0 (length c.leaves) in
+          let m = length-map c.colocations colocation_edge in
+          let one : place + 1 ≡ length c.leaves + (k + 1) = omega arith in
+          let before : HasNoLoop (2 * length c.leaves) (need_edges (with_colocations c k))
+          = rw (first_edges k) at (rw e at f.before) in
+          let closed : HasLoop (2 * length c.leaves) (need_edges (with_colocations c (k + 1)))
+          = rw (first_edges (k + 1)) at (rw one at f.closed) in
+          record {
+            within = omega arith;
+            before = needs_free (with_colocations c k) (first_joined k) before;
+            closed = needs_loop (with_colocations c (k + 1)) (first_joined (k + 1)) closed;
+          }

@@ -1,5 +1,0 @@
-use Rattle.std.proofs.Common.{◌∙◌}
-use Rattle.rule_loops.proofs.placing.is_migrating.Goals as goal
-
-pub returns : goal.returns
-returns c = λ actions are. c.flag_at.ensures ∙ are c.args.leaf

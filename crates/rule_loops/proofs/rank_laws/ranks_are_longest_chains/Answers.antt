@@ -1,5 +1,0 @@
-use Rattle.rule_loops.proofs.OneRanking.{rank_ranks}
-use Rattle.rule_loops.proofs.rank_laws.ranks_are_longest_chains.Goals as goal
-
-pub returns : goal.returns
-returns c = rank_ranks

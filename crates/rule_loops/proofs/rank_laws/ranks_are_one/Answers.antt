@@ -1,5 +1,0 @@
-use Rattle.rule_loops.proofs.OneRanking.{one_ranking}
-use Rattle.rule_loops.proofs.rank_laws.ranks_are_one.Goals as goal
-
-pub returns : goal.returns
-returns c = one_ranking

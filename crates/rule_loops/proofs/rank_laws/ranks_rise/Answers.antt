@@ -1,5 +1,0 @@
-use Rattle.rule_loops.proofs.OneRanking.{rank_rises}
-use Rattle.rule_loops.proofs.rank_laws.ranks_rise.Goals as goal
-
-pub returns : goal.returns
-returns c = rank_rises

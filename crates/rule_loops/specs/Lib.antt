@@ -1,3 +1,0 @@
-pub mod FirstLoops
-pub mod Edges
-pub mod Ranks

@@ -1,3 +1,0 @@
-pub mod Ready
-pub mod Rows
-pub mod Clearing
