@@ -1,5 +1,4 @@
-//! Tests of the crates of plain values (`listed`, `score`, `lane_rows`, `date_rules`, `loops`) and of those that read and write
-//! texts (`crm_lex`, `crm_parse`, `crm_print`, `cluster_io`).
+//! Tests of the crates that read: of plain values, of texts, and of what a configuration and a history say.
 //!
 //! They stand in a crate of their own, since the tests of a crate are proved together with all of its code once more.
 #![tactic(auto)]
@@ -33,3 +32,17 @@ mod reading;
 mod statements;
 #[cfg(test)]
 mod streams;
+
+// Clusters and histories.
+#[cfg(test)]
+mod clusters;
+#[cfg(test)]
+mod histories;
+#[cfg(test)]
+mod leaves;
+#[cfg(test)]
+mod loops_of_rules;
+#[cfg(test)]
+mod resolved;
+#[cfg(test)]
+mod tables_and_graphs;

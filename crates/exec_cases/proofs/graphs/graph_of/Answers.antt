@@ -1,7 +1,0 @@
-use Rattle.std.proofs.Common.{arith, ◌≡◌, ◌∙◌, length, sym}
-use Rattle.exec_cases.proofs.RisingGraphs.{rising_is_graph}
-use Rattle.exec_cases.proofs.graphs.graph_of.Goals as goal
-
-pub new-requires : goal.new-requires
-new-requires g c =
-    rw c.from.ensures (rising_is_graph _ _ _ (omega arith) (rw c.as_slice.ensures.value at (sym c.all_rise.ensures ∙ c.if-not-all_rise.false)))
