@@ -7,7 +7,7 @@ ghost use Rattle.cluster_types.specs.Valid.{KeepsLimits};
 ghost use Rattle.agent_world.specs.Firsts.{Hears, IsSaidOf};
 
 use cluster_types::{Action, Cluster, Event, LeafId, NodeId, cell_place};
-use fail_counts::is_ignored;
+use state_unpack::is_ignored;
 use std::alloc::{AllocError, Global};
 
 /// From now on this is so of the cell, if there is such a cell.

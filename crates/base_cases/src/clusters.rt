@@ -1,8 +1,7 @@
 //! What `cluster_model` resolves, and which statement is at fault.
 
 use crate::resolved::{cluster, crm, shown};
-use clone_expand::expand;
-use cluster_model::{ModelCause, ModelFault, resolve};
+use cluster_model::{ModelCause, ModelFault, expand, resolve};
 use cluster_types::{Cluster, Colocation, Location, Node, Order, Role, RuleLocation};
 use std::alloc::{AllocError, Global};
 use std::process::Abort;

@@ -1,7 +1,7 @@
-//! What `clone_expand` makes of primitives, groups and clones, and which statement is at fault.
+//! What `expand` makes of primitives, groups and clones, and which statement is at fault.
 
 use crate::resolved::{crm, shown};
-use clone_expand::{ExpandCause, ExpandFault, Leaves, expand};
+use cluster_model::{ExpandCause, ExpandFault, Leaves, expand};
 use cluster_types::Leaf;
 use std::alloc::{AllocError, Global};
 use std::process::Abort;

@@ -1,7 +1,6 @@
 //! Clusters, statements and names of a text, for the tests that begin with them.
 
-use clone_expand::expand;
-use cluster_model::resolve;
+use cluster_model::{expand, resolve};
 use cluster_types::Cluster;
 use crm_lex::{Line, Name};
 use crm_parse::{Crm, parse};

@@ -9,7 +9,7 @@ use Rattle.cluster_model.specs.declared.directory.Directory.{Directory}
 use Rattle.cluster_model.specs.declared.directory.Ends.{Ends}
 use Rattle.cluster_model.specs.Chains.{pairs_after, successive}
 use Rattle.cluster_model.specs.Directories.{first_named, if_there, is_unknown, last_named}
-use Rattle.clone_expand.specs.Tables.{lookup}
+use Rattle.cluster_model.specs.Tables.{lookup}
 
 -- both ends of what is there are leaves
 record AreLeaves (d : Directory) (found : Option Ends) : Type 0 where

@@ -13,3 +13,10 @@ pub mod ReadNames
 pub mod LeavesValid
 pub mod ValidCluster
 pub mod SameCluster
+pub mod SameNames
+pub mod Rows
+pub mod LeafLaws
+pub mod NameLaws
+pub mod NodeNames
+pub mod Twice
+pub mod SameLeaves

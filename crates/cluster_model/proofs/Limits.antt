@@ -9,11 +9,11 @@ use Rattle.crm_parse.specs.declared.statement.Statement.{Statement}
 use Rattle.cluster_types.specs.declared.cluster.Cluster.{Cluster}
 use Rattle.cluster_types.specs.declared.leaf.Leaf.{Leaf}
 use Rattle.cluster_types.specs.Valid.{KeepsLimits}
-use Rattle.clone_expand.specs.declared.fault.ExpandCause.{ExpandCause}
-use Rattle.clone_expand.specs.declared.leaves.Leaves.{Leaves}
-use Rattle.clone_expand.specs.Expansion.{expansion_of, leaves_with_spans}
-use Rattle.clone_expand.specs.Faults.{fault_of}
-use Rattle.clone_expand.specs.Leaves.{leaf_in, leaves_of, surroundings_of}
+use Rattle.cluster_model.specs.declared.expand_fault.ExpandCause.{ExpandCause}
+use Rattle.cluster_model.specs.declared.leaves.Leaves.{Leaves}
+use Rattle.cluster_model.specs.Expansion.{expansion_of, leaves_with_spans}
+use Rattle.cluster_model.specs.Faults.{fault_of}
+use Rattle.cluster_model.specs.Leaves.{leaf_in, leaves_of, surroundings_of}
 use Rattle.cluster_model.specs.declared.checks.Checked.{Checked}
 use Rattle.cluster_model.specs.declared.counts.Counts.{Counts}
 use Rattle.cluster_model.specs.declared.directory.Directory.{Directory}

@@ -10,7 +10,7 @@ use Rattle.cluster_types.specs.Numbers.{HasNoLoop}
 use Rattle.loops.specs.FirstLoops.{has_need_loop, has_step_loop}
 use Rattle.loops.proofs.LoopTests.{need_of_none, no_needs, no_steps, step_of_none}
 use Rattle.crm_parse.specs.declared.statement.Statement.{Statement}
-use Rattle.clone_expand.specs.declared.leaves.Leaves.{Leaves}
+use Rattle.cluster_model.specs.declared.leaves.Leaves.{Leaves}
 use Rattle.cluster_model.specs.declared.directory.Directory.{Directory}
 use Rattle.cluster_model.specs.declared.fault.ModelCause.{ModelCause}
 use Rattle.cluster_model.specs.declared.fault.ModelCause.TheVariants.{ColocationLoop, OrderLoop}

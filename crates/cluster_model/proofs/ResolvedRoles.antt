@@ -9,7 +9,7 @@ use Rattle.cluster_types.specs.declared.rules.Order.{Order}
 use Rattle.cluster_types.specs.declared.rules.RuleLocation.{RuleLocation}
 use Rattle.cluster_types.specs.Valid.{MayHaveRole}
 use Rattle.crm_parse.specs.declared.statement.Statement.{Statement}
-use Rattle.clone_expand.specs.declared.leaves.Leaves.{Leaves}
+use Rattle.cluster_model.specs.declared.leaves.Leaves.{Leaves}
 use Rattle.lemmas.proofs.Members.{of_flat}
 use Rattle.cluster_model.specs.declared.checks.Checked.{Checked}
 use Rattle.cluster_model.specs.declared.directory.Directory.{Directory}

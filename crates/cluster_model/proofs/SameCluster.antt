@@ -4,9 +4,9 @@ use Rattle.std.specs.Option.{option_or}
 use Rattle.std.proofs.lemmas.List.{map-append}
 use Rattle.crm_parse.specs.declared.statement.Statement.{Statement}
 use Rattle.crm_parse.specs.Operations.{value_of}
-use Rattle.clone_expand.specs.declared.leaves.Leaves.{Leaves}
-use Rattle.clone_expand.specs.Settings.{nodes_in, properties_in}
-use Rattle.clone_expand.specs.Tables.{table_of, with_rows}
+use Rattle.cluster_model.specs.declared.leaves.Leaves.{Leaves}
+use Rattle.cluster_model.specs.Settings.{nodes_in, properties_in}
+use Rattle.cluster_model.specs.Tables.{table_of, with_rows}
 use Rattle.cluster_types.specs.declared.cluster.Cluster.{Cluster}
 use Rattle.cluster_types.specs.declared.leaf.Leaf.{Leaf}
 use Rattle.cluster_model.specs.declared.counts.Counts.{Counts}

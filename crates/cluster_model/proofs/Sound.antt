@@ -16,7 +16,7 @@ use Rattle.crm_parse.specs.declared.form.Form.TheVariants as form
 use Rattle.crm_parse.specs.declared.statement.Statement.{Statement}
 use Rattle.crm_parse.specs.declared.words.ActionWord.{ActionWord}
 use Rattle.crm_parse.specs.declared.words.ActionWord.TheVariants as action
-use Rattle.clone_expand.specs.declared.leaves.Leaves.{Leaves}
+use Rattle.cluster_model.specs.declared.leaves.Leaves.{Leaves}
 use Rattle.loops.specs.FirstLoops.{JoinsLeaves, OrdersSteps}
 use Rattle.lemmas.proofs.Members.{head_or_rest, in_none, of_flat, of_map}
 use Rattle.cluster_model.specs.declared.checks.Checked.{Checked}

@@ -16,13 +16,13 @@ use Rattle.crm_parse.specs.Statements.{statements_of}
 use Rattle.crm_parse.proofs.ReadForms.{statements-read}
 use Rattle.faults.specs.declared.fault.Fault.{Fault}
 use Rattle.faults.specs.Reading.{unless}
-use Rattle.clone_expand.specs.declared.fault.ExpandCause.{ExpandCause}
-use Rattle.clone_expand.specs.declared.leaves.Leaves.{Leaves}
-use Rattle.clone_expand.specs.Expansion.{expansion_of, leaves_with_spans}
-use Rattle.clone_expand.specs.Faults.{fault_of}
-use Rattle.clone_expand.specs.Leaves.{leaves_of}
-use Rattle.clone_expand.proofs.NameLaws.{names_differ}
-use Rattle.clone_expand.proofs.NodeNames.{node_names_differ}
+use Rattle.cluster_model.specs.declared.expand_fault.ExpandCause.{ExpandCause}
+use Rattle.cluster_model.specs.declared.leaves.Leaves.{Leaves}
+use Rattle.cluster_model.specs.Expansion.{expansion_of, leaves_with_spans}
+use Rattle.cluster_model.specs.Faults.{fault_of}
+use Rattle.cluster_model.specs.Leaves.{leaves_of}
+use Rattle.cluster_model.proofs.NameLaws.{names_differ}
+use Rattle.cluster_model.proofs.NodeNames.{node_names_differ}
 use Rattle.lemmas.proofs.Members.{of_flat}
 use Rattle.cluster_model.specs.declared.directory.Directory.{Directory}
 use Rattle.cluster_model.specs.Colocations.{colocations_of}

@@ -7,10 +7,10 @@ use Rattle.crm_parse.specs.declared.form.Form.{Form}
 use Rattle.crm_parse.specs.declared.form.Form.TheVariants as form
 use Rattle.crm_parse.specs.declared.statement.Statement.{Statement}
 use Rattle.cluster_types.specs.declared.leaf.Leaf.{Leaf}
-use Rattle.clone_expand.specs.declared.leaves.Leaves.{Leaves}
-use Rattle.clone_expand.specs.declared.leaves.Span.{Span}
-use Rattle.clone_expand.specs.Settings.{nodes_in}
-use Rattle.clone_expand.specs.Tables.{lookup, table_of, with_rows}
+use Rattle.cluster_model.specs.declared.leaves.Leaves.{Leaves}
+use Rattle.cluster_model.specs.declared.leaves.Span.{Span}
+use Rattle.cluster_model.specs.Settings.{nodes_in}
+use Rattle.cluster_model.specs.Tables.{lookup, table_of, with_rows}
 use Rattle.cluster_model.specs.declared.directory.Directory.{Directory}
 use Rattle.cluster_model.specs.declared.directory.Ends.{Ends}
 use Rattle.cluster_model.specs.declared.directory.Traits.{Traits}

@@ -10,3 +10,14 @@ pub mod Checks
 pub mod FirstFaults
 pub mod Resolution
 pub mod Search
+pub mod Tables
+pub mod Metas
+pub mod Operations
+pub mod Settings
+pub mod Clones
+pub mod Groups
+pub mod Leaves
+pub mod Spans
+pub mod Faults
+pub mod Expansion
+pub mod Laws

@@ -8,7 +8,7 @@ use Rattle.crm_parse.specs.declared.statement.Statement.{Statement}
 use Rattle.crm_parse.specs.Values.{bool_of}
 use Rattle.date_rules.specs.declared.rule.Pair.{Pair}
 use Rattle.cluster_types.specs.declared.node.Node.{Node}
-use Rattle.clone_expand.specs.Metas.{read_as}
+use Rattle.cluster_model.specs.Metas.{read_as}
 
 abbrev pub attribute_of : Kv → Pair
 attribute_of pair = record { name = pair.key; value = pair.value }

@@ -8,7 +8,7 @@ use Rattle.crm_parse.specs.Values.{bool_of, count_of}
 use Rattle.cluster_types.specs.declared.cluster.Policy.{Policy}
 use Rattle.cluster_types.specs.declared.cluster.Policy.TheVariants.{Stop, Ignore, Freeze}
 use Rattle.cluster_types.specs.declared.cluster.Properties.{Properties}
-use Rattle.clone_expand.specs.Settings.{properties_in}
+use Rattle.cluster_model.specs.Settings.{properties_in}
 
 -- what an option is set to, by the first statement that sets it
 abbrev pub setting_of : List ℕ → List Statement → Option (List ℕ)

@@ -1,10 +1,10 @@
 //! What the names in rules stand for.
 
 ghost use Rattle.std.specs.Prelude.{◌≡◌, map, slice_get, IfOk, OnOk};
-ghost use Rattle.clone_expand.specs.Tables.{with_rows};
+ghost use Rattle.cluster_model.specs.Tables.{with_rows};
 ghost use Rattle.cluster_model.specs.Directories.{are_there, directory_of, ends_named, ends_of, first_named, groups_of, is_local, is_one_group, is_unknown, is_unknown_node, joins_copies, last_named, may_promote, members_in, node_named, nodes_of, resources_of, traits_of};
 
-use clone_expand::{Leaves, NameTable, Span};
+use crate::{Leaves, NameTable, Span};
 use cluster_types::{Leaf, LeafId, NoMemory, NodeId};
 use crm_lex::Name;
 use crm_parse::{Form, Statement};

@@ -1,8 +1,8 @@
 //! What follows from the definitions of `specs/`, for every configuration.
 
 ghost use Rattle.std.specs.Prelude.{◌≡◌, List, Ok, Contains, true};
-ghost use Rattle.clone_expand.specs.declared.leaves.Leaves.{Leaves};
-ghost use Rattle.clone_expand.specs.Expansion.{expansion_of};
+ghost use Rattle.cluster_model.specs.declared.leaves.Leaves.{Leaves};
+ghost use Rattle.cluster_model.specs.Expansion.{expansion_of};
 ghost use Rattle.cluster_types.specs.declared.cluster.Cluster.{Cluster};
 ghost use Rattle.cluster_types.specs.declared.rules.Colocation.{Colocation};
 ghost use Rattle.cluster_types.specs.declared.rules.Location.{Location};

@@ -3,8 +3,8 @@
 ghost use Rattle.std.specs.Prelude.{◌≡◌, ◌++◌, map, IfOk, OnOk};
 ghost use Rattle.cluster_model.specs.Nodes.{attribute_of, is_standby, node_in, node_of, nodes_by};
 
+use crate::bool_at;
 use crate::copies::{copy_name, copy_text};
-use clone_expand::bool_at;
 use cluster_types::{NoMemory, Node};
 use crm_lex::Name;
 use crm_parse::{Form, Kv, Statement};

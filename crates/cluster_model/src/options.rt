@@ -4,11 +4,11 @@ ghost use Rattle.std.specs.Prelude.{◌≡◌, None, unwrap_or, codes};
 ghost use Rattle.std.specs.Option.{option_and_then, option_copied};
 ghost use Rattle.crm_lex.specs.Names.{is};
 ghost use Rattle.crm_parse.specs.Values.{count_of};
-ghost use Rattle.clone_expand.specs.Settings.{properties_in};
+ghost use Rattle.cluster_model.specs.Settings.{properties_in};
 ghost use Rattle.cluster_types.specs.declared.cluster.Policy.TheVariants.{Stop};
 ghost use Rattle.cluster_model.specs.Options.{flag_of, policy_of, properties_of, setting_of};
 
-use clone_expand::properties_in;
+use crate::properties_in;
 use cluster_types::{Policy, Properties};
 use crm_lex::is;
 use crm_parse::{Statement, bool_of, count_of, value_of};

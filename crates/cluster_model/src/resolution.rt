@@ -14,7 +14,6 @@ ghost use Rattle.cluster_model.specs.Nodes.{nodes_by};
 ghost use Rattle.cluster_model.specs.Orders.{orders_of};
 ghost use Rattle.cluster_model.specs.Resolution.{cluster_of, loop_cause, resolution_of};
 
-use crate::ModelFault;
 use crate::checks::first_fault;
 use crate::colocations::colocations_of;
 use crate::copies::copy_leaves;
@@ -24,8 +23,8 @@ use crate::loop_faults::loop_fault;
 use crate::nodes::nodes_by;
 use crate::options::properties_of;
 use crate::orders::orders_of;
+use crate::{Leaves, ModelFault};
 use carry::{done, with};
-use clone_expand::Leaves;
 use cluster_types::{Cluster, Colocation, Leaf, Location, NoMemory, Node, Order, RuleLocation};
 use crm_parse::{Crm, Statement};
 use listed::Listed;

@@ -10,7 +10,7 @@ ghost use Rattle.graph_exec.specs.Running.{going};
 
 use crate::course::Course;
 use cluster_types::{Action, Answer, LeafId, NodeId, NodeState, Op, Outcome};
-use fail_counts::{is_bad, is_ignored};
+use state_unpack::{is_bad, is_ignored};
 
 /// How many answers from outside a transition takes at most.
 const MOST_FROM_OUTSIDE: usize = 256;

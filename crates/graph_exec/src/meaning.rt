@@ -8,7 +8,7 @@ use cluster_types::exit_codes::{
     DEGRADED, DEGRADED_PROMOTED, NOT_RUNNING, RUNNING_PROMOTED, SUCCESS,
 };
 use cluster_types::{Action, Cluster, Event, NodeId, Op, Outcome, Role};
-use fail_counts::{is_among, is_ignored};
+use state_unpack::{is_among, is_ignored};
 
 /// The exit codes that are expected of the action.
 fn expected_codes(action: Action) -> &'static [u8]

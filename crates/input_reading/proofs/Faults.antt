@@ -22,11 +22,11 @@ use Rattle.crm_parse.specs.Marks as marks
 use Rattle.crm_parse.specs.Marks.{last_at, misplaced, sections_of, status_at}
 use Rattle.crm_parse.specs.Statements as statements
 use Rattle.crm_parse.specs.Statements.{draft_of, statements_of}
-use Rattle.clone_expand.specs.declared.fault.ExpandCause.{ExpandCause}
-use Rattle.clone_expand.specs.Expansion.{expansion_of, leaves_with_spans}
-use Rattle.clone_expand.specs.Faults as expanding
-use Rattle.clone_expand.specs.Faults.{fault_of, kinds_of, nothing_seen, seen_after}
-use Rattle.clone_expand.specs.declared.leaves.Leaves.{Leaves}
+use Rattle.cluster_model.specs.declared.expand_fault.ExpandCause.{ExpandCause}
+use Rattle.cluster_model.specs.Expansion.{expansion_of, leaves_with_spans}
+use Rattle.cluster_model.specs.Faults as expanding
+use Rattle.cluster_model.specs.Faults.{fault_of, kinds_of, nothing_seen, seen_after}
+use Rattle.cluster_model.specs.declared.leaves.Leaves.{Leaves}
 use Rattle.cluster_model.specs.declared.fault.ModelCause.{ModelCause}
 use Rattle.cluster_model.specs.Directories.{directory_of}
 use Rattle.cluster_model.specs.FirstFaults as modelling

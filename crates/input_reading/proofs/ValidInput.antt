@@ -6,10 +6,10 @@ use Rattle.crm_parse.specs.declared.fault.ParseCause.{ParseCause}
 use Rattle.crm_parse.specs.declared.marks.SectionMarks.{SectionMarks}
 use Rattle.crm_parse.specs.declared.statement.Crm.{Crm}
 use Rattle.crm_parse.specs.declared.statement.Statement.{Statement}
-use Rattle.clone_expand.specs.declared.leaves.Leaves.{Leaves}
+use Rattle.cluster_model.specs.declared.leaves.Leaves.{Leaves}
 use Rattle.crm_parse.specs.Marks.{sections_of}
 use Rattle.crm_parse.specs.Statements.{statements_of}
-use Rattle.clone_expand.specs.Expansion.{expansion_of}
+use Rattle.cluster_model.specs.Expansion.{expansion_of}
 use Rattle.cluster_model.specs.Resolution.{resolution_of}
 use Rattle.cluster_model.proofs.ValidCluster.{resolved_valid}
 use Rattle.cluster_types.specs.declared.cluster.Cluster.{Cluster}

@@ -2,8 +2,8 @@
 use Rattle.std.specs.Prelude.{ℕ, List, ◌++◌, codes, decimal}
 use Rattle.crm_parse.specs.declared.fault.ParseCause.{ParseCause}
 use Rattle.crm_parse.specs.declared.fault.ParseCause.TheVariants as parse
-use Rattle.clone_expand.specs.declared.fault.ExpandCause.{ExpandCause}
-use Rattle.clone_expand.specs.declared.fault.ExpandCause.TheVariants as expand
+use Rattle.cluster_model.specs.declared.expand_fault.ExpandCause.{ExpandCause}
+use Rattle.cluster_model.specs.declared.expand_fault.ExpandCause.TheVariants as expand
 use Rattle.cluster_model.specs.declared.fault.ModelCause.{ModelCause}
 use Rattle.cluster_model.specs.declared.fault.ModelCause.TheVariants as model
 use Rattle.op_history.specs.declared.fault.StatusCause.{StatusCause}

@@ -12,7 +12,7 @@ use Rattle.crm_parse.specs.declared.marks.SectionMarks.{SectionMarks}
 use Rattle.crm_parse.specs.declared.statement.Crm.{Crm}
 use Rattle.crm_parse.specs.Marks.{sections_of}
 use Rattle.crm_parse.specs.Statements.{statements_of}
-use Rattle.clone_expand.specs.Expansion.{expansion_of}
+use Rattle.cluster_model.specs.Expansion.{expansion_of}
 use Rattle.cluster_model.specs.Resolution.{resolution_of}
 use Rattle.cluster_types.specs.declared.cluster.Cluster.{Cluster}
 use Rattle.cluster_types.specs.Journals.{moment_of}

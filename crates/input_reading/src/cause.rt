@@ -3,8 +3,7 @@
 ghost use Rattle.std.specs.Prelude.{◌≡◌};
 ghost use Rattle.input_reading.specs.Causes.{cause_name, expand_name, model_name, parse_name, result_name, status_name, word_name};
 
-use clone_expand::ExpandCause;
-use cluster_model::ModelCause;
+use cluster_model::{ExpandCause, ModelCause};
 use crm_lex::{LexCause, lex_name};
 use crm_parse::ParseCause;
 use line_words::WordCause;

@@ -1,7 +1,7 @@
 //! What is read of a whole input, step by step.
 
 ghost use Rattle.std.specs.Prelude.{◌≡◌, ◌<◌, ◌≤◌, ◌^◌, IfOk, Ok, [], length};
-ghost use Rattle.clone_expand.specs.Expansion.{expansion_of};
+ghost use Rattle.cluster_model.specs.Expansion.{expansion_of};
 ghost use Rattle.cluster_types.specs.Journals.{Orderly, in_flight, moment_of};
 ghost use Rattle.cluster_types.specs.Safety.{IsAtRest};
 ghost use Rattle.cluster_types.specs.Valid.{IsValid, KeepsLimits};
@@ -18,8 +18,7 @@ ghost use Rattle.input_reading.specs.Sections.{sections_by};
 use crate::cause::InputCause;
 use crate::fault::InputFault;
 use crate::sections::{LastSection, lines_after, sections_in};
-use clone_expand::{Leaves, expand};
-use cluster_model::resolve;
+use cluster_model::{Leaves, expand, resolve};
 use cluster_types::{Cluster, Journal};
 use crm_lex::{Line, logical_lines};
 use crm_parse::{Crm, SectionMarks, parse};

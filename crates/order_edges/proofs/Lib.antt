@@ -42,3 +42,13 @@ pub mod FewEach
 pub mod IndexPlaces
 pub mod RuleBuilds
 pub mod IndexMore
+pub mod OneTarget
+pub mod ActionKinds
+pub mod ToldApart
+pub mod OwnPlaces
+pub mod PlaceOrder
+pub mod WeakOrder
+pub mod Sorted
+pub mod Few
+pub mod Pairs
+pub mod WholeOrder

@@ -9,3 +9,4 @@ pub mod Index
 pub mod Flags
 pub mod Serials
 pub mod Precede
+pub mod Planned

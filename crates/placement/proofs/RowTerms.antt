@@ -6,7 +6,7 @@ use Rattle.cluster_types.specs.declared.placement.Decision.{Decision}
 use Rattle.cluster_types.specs.declared.rules.Colocation.{Colocation}
 use Rattle.cluster_types.specs.Choice.{is_dependent, is_mandatory, is_separation}
 use Rattle.cluster_types.specs.Tables.{Targets, holds_role}
-use Rattle.colocation.specs.Tests.{counts}
+use Rattle.score_table.specs.Tests.{counts}
 use Rattle.score_table.specs.Rows.{few, IsRow, more_where}
 use Rattle.score_table.proofs.EachNode.{each-more}
 use Rattle.score_table.proofs.FewTerms.{few-kept}

@@ -7,8 +7,8 @@ ghost use Rattle.lane_rows.specs.NodeSet.{has};
 ghost use Rattle.placement.specs.Allowed as spec;
 
 use cluster_types::{Cluster, Colocation, Decision, NodeId, Table};
-use colocation::{has_primary, keeps_apart};
 use lane_rows::NodeSet;
+use score_table::{has_primary, keeps_apart};
 
 /// Whether the colocation may forbid the decision a node.
 fn is_strict(rule: &Colocation, decision: Decision) -> bool

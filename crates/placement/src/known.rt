@@ -11,8 +11,8 @@ ghost use Rattle.score_table.specs.Usable.{is_usable_by};
 
 use cluster_types::{Cluster, Rights, States};
 use lane_rows::NodeSet;
-use quorum_fence::rights;
 use score_table::{ScoreTable, usable_nodes};
+use state_unpack::rights;
 
 /// A cluster in some states, with what it may do, the nodes that may run resources, and the totals before colocations.
 #[derive(Drop)]

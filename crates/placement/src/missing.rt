@@ -21,7 +21,7 @@ use cluster_types::{
 };
 use crm_lex::Name;
 use listed::Listed;
-use quorum_fence::rights;
+use state_unpack::rights;
 use std::alloc::Global;
 
 /// The earliest node on which the leaf has a target.

@@ -2,3 +2,4 @@
 pub mod Sorting
 pub mod SomeNeeded
 pub mod SomePlan
+pub mod MoreLosses

@@ -9,10 +9,9 @@ ghost use Rattle.planner.specs.Planned.{AreTold, IsPlanned};
 use action_build::actions;
 use carry::with;
 use cluster_types::{Cluster, Journal, NoMemory, Plan, States};
-use graph_number::number;
+use order_edges::number;
 use placement::placement_of;
-use quorum_fence::rights;
-use state_unpack::{unpack, valid_clusters_have_few_monitors};
+use state_unpack::{rights, unpack, valid_clusters_have_few_monitors};
 use std::alloc::Global;
 
 /// The plan for a journal, by what it tells: the one that `plan` makes. So a journal that goes on need not be read anew. It asks for a valid cluster, and

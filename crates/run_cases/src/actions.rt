@@ -8,7 +8,7 @@ use crate::todos::{Todo, action};
 use action_build::actions;
 use cluster_types::{Action, Op, Pin, Placed, Role, Table, Target};
 use listed::Listed;
-use quorum_fence::rights;
+use state_unpack::rights;
 use std::alloc::Global;
 use std::process::Abort;
 

@@ -4,7 +4,7 @@ use crate::cases::{Case, check_all};
 use crate::plain::{Known, cluster_of, known_of};
 use cluster_types::{Action, Event, Journal, NodeId, Op, Outcome, Rights, Role};
 use listed::Listed;
-use quorum_fence::{rights, to_fence};
+use state_unpack::{rights, to_fence};
 use std::alloc::Global;
 use std::process::Abort;
 

@@ -9,10 +9,10 @@ use crate::plain::{Known, known_by};
 use crate::todos::{Todo, action};
 use action_build::actions;
 use cluster_types::{Graph, Op, Role};
-use graph_number::number;
+use order_edges::number;
 use placement::place;
-use quorum_fence::rights;
 use score_table::rows;
+use state_unpack::rights;
 use std::alloc::Global;
 use std::process::Abort;
 

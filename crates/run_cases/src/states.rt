@@ -3,8 +3,8 @@
 use crate::cases::{Case, check_all};
 use crate::plain::{Known, cluster_of, known_of};
 use cluster_types::{Action, Cell, CellState, Event, Journal, Op, Outcome, Role};
-use fail_counts::banned;
 use listed::Listed;
+use state_unpack::banned;
 use std::alloc::Global;
 use std::process::Abort;
 

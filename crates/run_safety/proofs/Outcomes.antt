@@ -19,7 +19,7 @@ use Rattle.cluster_types.specs.Outcomes.{is_among, is_bad, is_ignored}
 use Rattle.cluster_types.specs.Steps.{is_success, expected_codes}
 use Rattle.lemmas.proofs.Lasts.{last-more}
 use Rattle.lemmas.proofs.Booleans.{first_passes}
-use Rattle.fail_counts.proofs.MoreFailures.{outcomes-more}
+use Rattle.state_unpack.proofs.MoreFailures.{outcomes-more}
 
 -- an expected code is good
 expected_good : (a : Action) (o : Outcome) → is_among (expected_codes a) o ≡ true → is_bad a o ≡ false

@@ -19,3 +19,4 @@ pub mod Sizes
 pub mod TieMarks
 pub mod TieOrders
 pub mod TieSides
+pub mod Sums

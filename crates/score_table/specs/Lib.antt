@@ -7,3 +7,4 @@ pub mod Scores
 pub mod TieOrder
 pub mod Ties
 pub mod Usable
+pub mod Tests

@@ -13,8 +13,8 @@ use Rattle.crm_parse.proofs.NoSections.{statements-alone, whole_text}
 use Rattle.crm_print.specs.Again.{ReadsAs, has_short_lines}
 use Rattle.crm_print.specs.Text.{canonical_text}
 use Rattle.crm_print.proofs.ReadsAgain.{canonical-again, reads-again-commented}
-use Rattle.clone_expand.specs.declared.leaves.Leaves.{Leaves}
-use Rattle.clone_expand.specs.Expansion.{expansion_of}
+use Rattle.cluster_model.specs.declared.leaves.Leaves.{Leaves}
+use Rattle.cluster_model.specs.Expansion.{expansion_of}
 use Rattle.cluster_model.specs.Resolution.{resolution_of}
 use Rattle.cluster_types.specs.declared.cluster.Cluster.{Cluster}
 use Rattle.cluster_types.specs.declared.journal.Journal.{Journal}
@@ -33,7 +33,7 @@ use Rattle.input_reading.proofs.ValidInput.{IsStepped, cluster_valid, passed, pa
 use Rattle.sim_core.specs.Again.{IsReadAgain}
 use Rattle.sim_core.proofs.Comments.{counts, counts-comment}
 use Rattle.cluster_model.proofs.SameCluster.{same-resolution}
-use Rattle.clone_expand.proofs.SameLeaves.{same-expansion}
+use Rattle.cluster_model.proofs.SameLeaves.{same-expansion}
 
 -- the steps by which a text was read
 record Steps (text : List ℕ) (whole : Input) : Type 0 where

@@ -1,8 +1,8 @@
 -- What is written by the word `survive`.
 use Rattle.std.specs.Prelude.{◌≡◌, ℕ, List}
 use Rattle.input_reading.specs.declared.reading.Input.{Input}
-use Rattle.survive.specs.declared.report.Report.{Report}
-use Rattle.survive.specs.Losses.{IsReport}
+use Rattle.planner.specs.declared.report.Report.{Report}
+use Rattle.planner.specs.Losses.{IsReport}
 use Rattle.trace_text.specs.Losses.{survive_text}
 
 -- the text has what the loss of each node does that is online, by the cluster and the first journal that the input tells

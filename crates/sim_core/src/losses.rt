@@ -5,8 +5,8 @@ ghost use Rattle.sim_core.specs.Survive.{IsSurviveText};
 use crate::text_word::TextWord;
 use faults::NoMemory;
 use input_reading::Input;
+use planner::survive;
 use std::alloc::Global;
-use survive::survive;
 use trace_text::survive_text;
 
 /// The word `survive`.

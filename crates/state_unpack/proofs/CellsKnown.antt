@@ -19,7 +19,7 @@ use Rattle.cluster_types.specs.Journals.{NodeSign, joined, went_down, was_lost, 
 use Rattle.cluster_types.specs.NodeStates.{node_state, state_by, is_online_state, is_online_in, is_online, is_to_blame}
 use Rattle.cluster_types.specs.Unpacked.{cell_at}
 use Rattle.cluster_types.specs.Valid.{IsValid}
-use Rattle.fail_counts.specs.Tally.{tally_of, tally_counted, has_passed}
+use Rattle.state_unpack.specs.Tally.{tally_of, tally_counted, has_passed}
 use Rattle.state_unpack.specs.declared.facts.Facts.{Facts}
 use Rattle.state_unpack.specs.declared.signs.Sign.{Sign}
 use Rattle.state_unpack.specs.declared.signs.Sign.TheVariants as sign

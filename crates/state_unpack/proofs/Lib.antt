@@ -5,3 +5,5 @@ pub mod Told
 pub mod LastSigns
 pub mod CellsKnown
 pub mod JournalSoFar
+pub mod MoreFailures
+pub mod Fenced

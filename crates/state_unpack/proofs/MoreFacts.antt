@@ -13,7 +13,7 @@ use Rattle.cluster_types.specs.Failures.{outcomes, is_outcome}
 use Rattle.cluster_types.specs.Fields.{monitors}
 use Rattle.cluster_types.proofs.MayLaws.{may-last, promoted-last}
 use Rattle.lemmas.proofs.Lasts.{after_last-here, after_last-more, last-more}
-use Rattle.fail_counts.proofs.MoreFailures.{outcomes-reset, outcomes-more, in_force-after}
+use Rattle.state_unpack.proofs.MoreFailures.{outcomes-reset, outcomes-more, in_force-after}
 use Rattle.state_unpack.specs.Facts.{leaves_open, runs, answers, running_after, facts_of, facts_after}
 
 module _ (c : Cluster) (r n : ℕ) (es : List Event) (e : Event) where

@@ -11,8 +11,8 @@ use Rattle.cluster_types.specs.declared.states.Cell.{Cell}
 use Rattle.cluster_types.specs.declared.states.CellState.{CellState}
 use Rattle.cluster_types.specs.declared.states.CellState.TheVariants as cell
 use Rattle.cluster_types.specs.Fields.{is_promotable}
-use Rattle.fail_counts.specs.declared.tally.Tally.{Tally}
-use Rattle.fail_counts.specs.Tally.{tally_counted, bans}
+use Rattle.state_unpack.specs.declared.tally.Tally.{Tally}
+use Rattle.state_unpack.specs.Tally.{tally_counted, bans}
 use Rattle.cluster_types.specs.declared.states.NodeState.{NodeState}
 use Rattle.cluster_types.specs.declared.states.States.{States}
 use Rattle.state_unpack.specs.declared.facts.Facts.{Facts}

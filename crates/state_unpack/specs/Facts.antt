@@ -10,7 +10,7 @@ use Rattle.cluster_types.specs.CellStates.{last_outcome, is_sent_away, begins_se
 use Rattle.cluster_types.specs.Failures.{failures_in_force, is_outcome, is_failure}
 use Rattle.cluster_types.specs.Fields.{monitors}
 use Rattle.cluster_types.specs.May.{may, is_left_promoted, opens, closes, opens_promoted, closes_promoted}
-use Rattle.fail_counts.specs.Tally.{no_tally, tally_of, tally_after}
+use Rattle.state_unpack.specs.Tally.{no_tally, tally_of, tally_after}
 use Rattle.state_unpack.specs.declared.facts.Facts.{Facts}
 
 -- the event leaves it open what runs in the cell of which it is an outcome

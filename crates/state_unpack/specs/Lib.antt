@@ -5,3 +5,6 @@ pub mod Kept
 pub mod Signs
 pub mod CellsKept
 pub mod Known
+pub mod LeafFields
+pub mod Tally
+pub mod Unclean

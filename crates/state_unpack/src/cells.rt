@@ -3,9 +3,9 @@
 ghost use Rattle.std.specs.Prelude.{◌≡◌, ◌≤◌, if◌then◌else◌};
 ghost use Rattle.state_unpack.specs.CellsKept as spec;
 
+use crate::Tally;
 use crate::facts::Facts;
 use cluster_types::{Cell, CellState, Cluster, LeafId};
-use fail_counts::Tally;
 
 fn bit(on: bool, bit: u8) -> u8
     ensures value { result ≡ (if on then bit else 0) }

@@ -8,8 +8,8 @@ ghost use Rattle.state_unpack.specs.Facts as spec;
 use crate::opening::{closes, opens};
 use crate::promoting::{closes_promoted, opens_promoted};
 use crate::showing::{begins_sending_to, ends_monitors, is_end_of_monitor, is_sent_away};
+use crate::{Tally, is_failure, is_outcome};
 use cluster_types::{Cluster, Event, LeafId, NodeId};
-use fail_counts::{Tally, is_failure, is_outcome};
 
 /// What some events tell of a cell, as far as later ones can change it.
 #[derive(Clone, Copy)]

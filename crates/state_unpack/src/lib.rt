@@ -1,5 +1,14 @@
-//! What a journal tells of nodes and resources: their states, where resources may run, and what keeps them away.
+//! What a journal tells of nodes and resources: the failures, fail counts and bans, their states, where resources may
+//! run, what the cluster may do, and which nodes are to be fenced.
 #![tactic(auto)]
+
+// What an outcome means: whether it is a failure, and what follows.
+mod failing;
+mod outcomes;
+
+// What the failures of a cell come to.
+mod counts;
+mod tally;
 
 // What an event shows of a cell.
 mod opening;
@@ -22,9 +31,19 @@ mod states;
 mod known;
 mod unpacking;
 
+// What the cluster may do, and which nodes are to be fenced.
+mod acting;
+mod fencing;
+
 // What follows from the definitions.
 mod laws;
 
+pub use acting::rights;
+pub use counts::{banned, failures};
+pub use failing::{is_failure, is_outcome};
+pub use fencing::to_fence;
 pub use known::Known;
 pub use laws::valid_clusters_have_few_monitors;
+pub use outcomes::{effective_fail, is_among, is_bad, is_ignored};
+pub use tally::Tally;
 pub use unpacking::unpack;

@@ -5,10 +5,10 @@ ghost use Rattle.cluster_types.specs.May as may;
 ghost use Rattle.cluster_types.specs.declared.journal.Event.TheVariants.{Begin, Ended};
 ghost use Rattle.state_unpack.specs.Operations as operations;
 
+use crate::is_among;
 use crate::showing::{shows_nothing, takes_out};
 use cluster_types::exit_codes::{ERR_INSTALLED, NOT_RUNNING, SUCCESS};
 use cluster_types::{Action, Cluster, Event, LeafId, NodeId, Op, Outcome, is_same_cell};
-use fail_counts::is_among;
 
 /// Whether the leaf may run on the node once the action begins.
 fn opens_as_it_begins(leaf: LeafId, node: NodeId, action: Action) -> bool

@@ -5,13 +5,13 @@ ghost use Rattle.cluster_types.specs.May as may;
 ghost use Rattle.cluster_types.specs.declared.journal.Event.TheVariants.{Ended};
 ghost use Rattle.state_unpack.specs.Operations as operations;
 
+use crate::is_among;
 use crate::showing::{shows_nothing, takes_out};
 use cluster_types::exit_codes::{
     DEGRADED, DEGRADED_PROMOTED, ERR_INSTALLED, FAILED_PROMOTED, NOT_RUNNING, RUNNING_PROMOTED,
     SUCCESS,
 };
 use cluster_types::{Action, Cluster, Event, LeafId, NodeId, Op, Outcome, is_same_cell};
-use fail_counts::is_among;
 
 /// The exit codes of probes and monitors that find a resource promoted.
 const PROMOTED: &[u8] = &[RUNNING_PROMOTED, FAILED_PROMOTED, DEGRADED_PROMOTED];

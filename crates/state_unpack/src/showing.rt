@@ -4,9 +4,9 @@ ghost use Rattle.std.specs.Prelude.{◌≡◌};
 ghost use Rattle.cluster_types.specs.CellStates as cells;
 ghost use Rattle.cluster_types.specs.May as may;
 
+use crate::is_ignored;
 use cluster_types::exit_codes::SUCCESS;
 use cluster_types::{Action, Cluster, Event, LeafId, NodeId, Op, Outcome};
-use fail_counts::is_ignored;
 
 /// Whether the event shows an outcome that is ignored.
 pub fn shows_nothing(cluster: &Cluster, event: Event) -> bool

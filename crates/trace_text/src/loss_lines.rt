@@ -8,8 +8,8 @@ use crate::names::node_name;
 use crate::target_lines::push_targets;
 use cluster_types::Cluster;
 use faults::NoMemory;
+use planner::{Loss, Report};
 use std::alloc::Global;
-use survive::{Loss, Report};
 
 /// The node that is lost, and the target lines then.
 fn push_loss(text: &mut Vec<u8>, cluster: &Cluster, loss: &Loss) -> Result<(), NoMemory>

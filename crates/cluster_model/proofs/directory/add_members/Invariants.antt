@@ -1,5 +1,5 @@
 use Rattle.std.proofs.Common.{◌≡◌, drop, map}
-use Rattle.clone_expand.specs.Tables.{with_rows}
+use Rattle.cluster_model.specs.Tables.{with_rows}
 use Rattle.cluster_model.proofs.directory.add_members.Given as goal
 
 abbrev pub invariant-loop-member : goal.invariant-loop-member

@@ -1,7 +1,7 @@
 use Rattle.std.proofs.Common.{◌≡◌, drop}
 use Rattle.std.specs.List.{flat_map}
-use Rattle.clone_expand.specs.Settings.{nodes_in}
-use Rattle.clone_expand.specs.Tables.{with_rows}
+use Rattle.cluster_model.specs.Settings.{nodes_in}
+use Rattle.cluster_model.specs.Tables.{with_rows}
 use Rattle.cluster_model.specs.Directories.{nodes_of, numbered_from}
 use Rattle.cluster_model.proofs.directory.nodes_of.Given as goal
 

@@ -1,5 +1,5 @@
 use Rattle.std.proofs.Common.{◌≡◌, drop, map}
-use Rattle.clone_expand.specs.Tables.{with_rows}
+use Rattle.cluster_model.specs.Tables.{with_rows}
 use Rattle.cluster_model.specs.Directories.{ends_of, resources_of}
 use Rattle.cluster_model.proofs.directory.resources_of.Given as goal
 

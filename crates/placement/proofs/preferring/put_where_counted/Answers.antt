@@ -1,6 +1,6 @@
 use Rattle.std.proofs.Common.{◌&&◌, ℕ, Bool, nat_lt, refl, sym, subst, ◌∙◌, arith}
 use Rattle.cluster_types.specs.Tables.{targets_of}
-use Rattle.colocation.specs.Tests.{counts}
+use Rattle.score_table.specs.Tests.{counts}
 use Rattle.score_table.specs.Rows.{IsRoomy, more_where}
 use Rattle.score_table.proofs.EachNode.{each-all, each-none}
 use Rattle.placement.proofs.RowTerms.{one-node}

@@ -1,7 +1,0 @@
-pub mod SameNames
-pub mod Rows
-pub mod LeafLaws
-pub mod NameLaws
-pub mod NodeNames
-pub mod Twice
-pub mod SameLeaves

@@ -1,6 +1,0 @@
-use Rattle.std.proofs.Common.{◌≡◌, take}
-use Rattle.clone_expand.specs.Leaves.{leaves_in}
-use Rattle.clone_expand.proofs.leaf.leaves_in.Given as goal
-
-abbrev pub invariant-loop-statement : goal.invariant-loop-statement
-invariant-loop-statement l = l.leaves ≡ leaves_in l.surroundings (take l.statement-index l.statements)

@@ -1,0 +1,130 @@
+-- Which statements are at fault (crmsh manual, group, clone and ms; the causes and their order are rules of this project).
+use Rattle.std.specs.Prelude.{◌≡◌, ℕ, Bool, true, false, not, ◌&&◌, ◌||◌, if◌then◌else◌, List, [], ◌∷◌, ◌++◌, is_none, Option, Some, None}
+use Rattle.std.specs.List.{flat_map, list_any}
+use Rattle.std.specs.Option.{option_map_or}
+use Rattle.faults.specs.declared.fault.Fault.{Fault}
+use Rattle.faults.specs.Reading.{fault_at}
+use Rattle.crm_lex.specs.NameSets.{has}
+use Rattle.crm_parse.specs.declared.form.Form.{Form}
+use Rattle.crm_parse.specs.declared.form.Form.TheVariants as form
+use Rattle.crm_parse.specs.declared.statement.Statement.{Statement}
+use Rattle.crm_parse.specs.Statements.{is_promotable}
+use Rattle.cluster_model.specs.declared.expand_fault.ExpandCause.{ExpandCause}
+use Rattle.cluster_model.specs.declared.expand_fault.ExpandCause.TheVariants.{DuplicateName, UnknownName, NestedTwice}
+use Rattle.cluster_model.specs.declared.expand_fault.ExpandCause.TheVariants.{EmptyGroup, MemberTwice, UnsupportedMeta}
+use Rattle.cluster_model.specs.declared.kinds.Kind.{Kind}
+use Rattle.cluster_model.specs.declared.kinds.Kind.TheVariants as kind
+use Rattle.cluster_model.specs.declared.seen.Seen.{Seen}
+use Rattle.cluster_model.specs.Settings.{nodes_in}
+use Rattle.cluster_model.specs.Tables.{lookup, table_of}
+
+-- the resource of a statement, with its kind
+abbrev pub kind_in : Form → List (List ℕ × Kind)
+kind_in (form.Primitive id agent description params meta utilization operations ops) = (id, kind.Primitive) ∷ []
+kind_in (form.Group id members description params meta) = (id, kind.Group) ∷ []
+kind_in (form.Cloned id child ms description params meta) = (id, kind.Clone) ∷ []
+kind_in _ = []
+
+-- each resource with its kind; where an id is defined twice, the first counts
+abbrev pub kinds_of : List Statement → List (List ℕ × Kind)
+kinds_of statements = table_of (flat_map (λ s. kind_in s.form) statements)
+
+-- the id of a resource or of a rule, which share one space of names
+abbrev pub ids_in : Form → List (List ℕ)
+ids_in (form.Primitive id agent description params meta utilization operations ops) = id ∷ []
+ids_in (form.Group id members description params meta) = id ∷ []
+ids_in (form.Cloned id child ms description params meta) = id ∷ []
+ids_in (form.Location id resource role discovery score node) = id ∷ []
+ids_in (form.RuledLocation id resource role discovery rules) = id ∷ []
+ids_in (form.Colocation id score dependent primary) = id ∷ []
+ids_in (form.Order id kind steps symmetrical) = id ∷ []
+ids_in _ = []
+
+-- the members of a group, or the child of a clone
+abbrev pub parts_in : Form → List (List ℕ)
+parts_in (form.Group id members description params meta) = members
+parts_in (form.Cloned id child ms description params meta) = child ∷ []
+parts_in _ = []
+
+-- nothing stands before the first statement
+abbrev pub nothing_seen : Seen
+nothing_seen = record { nodes = []; ids = []; parts = [] }
+
+-- the names that statements use, after one more
+unfoldable pub seen_after : Seen → Form → Seen
+seen_after seen form = record {
+  nodes = seen.nodes ++ nodes_in form;
+  ids = seen.ids ++ ids_in form;
+  parts = seen.parts ++ parts_in form;
+}
+
+-- the sets have the same names
+abbrev pub HaveTheSame : List (List ℕ) → List (List ℕ) → Type 0
+HaveTheSame one other = (name : List ℕ) → has one name ≡ has other name
+
+-- they have seen the same names
+pub record AreAlike (one other : Seen) : Type 0 where
+  pub nodes : HaveTheSame one.nodes other.nodes
+  pub ids : HaveTheSame one.ids other.ids
+  pub parts : HaveTheSame one.parts other.parts
+
+-- a name is used by an earlier node, or an id by an earlier resource or rule
+abbrev pub is_duplicate : Seen → Form → Bool
+is_duplicate seen form = list_any (has seen.nodes) (nodes_in form) || list_any (has seen.ids) (ids_in form)
+
+-- a member or a child isn't there
+abbrev pub has_unknown : List (List ℕ × Kind) → Form → Bool
+has_unknown kinds form = list_any (λ part. is_none (lookup kinds part)) (parts_in form)
+
+-- a group has primitives, and a clone a primitive or a group
+abbrev pub may_hold : Form → Kind → Bool
+may_hold (form.Group id members description params meta) kind.Primitive = true
+may_hold (form.Group id members description params meta) kind.Group = false
+may_hold (form.Group id members description params meta) kind.Clone = false
+may_hold form kind.Primitive = true
+may_hold form kind.Group = true
+may_hold form kind.Clone = false
+
+abbrev pub nests : List (List ℕ × Kind) → Form → Bool
+nests kinds form = list_any (λ part. not (option_map_or (may_hold form) (lookup kinds part) true)) (parts_in form)
+
+-- a group without members
+abbrev pub is_empty_group : Form → Bool
+is_empty_group (form.Group id [] description params meta) = true
+is_empty_group _ = false
+
+-- some of the parts belongs to an earlier group or clone, or stands among those before it
+abbrev pub has_twice : List (List ℕ) → List (List ℕ) → Bool
+has_twice before [] = false
+has_twice before (part ∷ parts) = has before part || has_twice (before ++ part ∷ []) parts
+
+abbrev pub is_group : Kind → Bool
+is_group kind.Group = true
+is_group kind.Primitive = false
+is_group kind.Clone = false
+
+-- a promotable clone of a group
+abbrev pub promotes_group : List (List ℕ × Kind) → Form → Bool
+promotes_group kinds (form.Cloned id child ms description params meta) =
+    is_promotable ms meta && option_map_or is_group (lookup kinds child) false
+promotes_group kinds _ = false
+
+-- the cause of a statement that is at fault, after what was seen before it
+unfoldable pub cause_of : List (List ℕ × Kind) → Seen → Form → Option ExpandCause
+cause_of kinds seen form =
+    if is_duplicate seen form then Some DuplicateName
+    else if has_unknown kinds form then Some UnknownName
+    else if nests kinds form then Some NestedTwice
+    else if is_empty_group form then Some EmptyGroup
+    else if has_twice seen.parts (parts_in form) then Some MemberTwice
+    else if promotes_group kinds form then Some UnsupportedMeta
+    else None
+
+-- the fault of the first statement that is at fault
+abbrev pub first_fault : List (List ℕ × Kind) → Seen → List Statement → Option (Fault ExpandCause)
+first_fault kinds seen [] = None
+first_fault kinds seen (s ∷ statements) =
+    fault_at s.line (cause_of kinds seen s.form) (first_fault kinds (seen_after seen s.form) statements)
+
+unfoldable pub fault_of : List Statement → Option (Fault ExpandCause)
+fault_of statements = first_fault (kinds_of statements) nothing_seen statements

@@ -1,0 +1,28 @@
+-- The groups and their members (Pacemaker Explained, "Groups"; crmsh manual, group).
+use Rattle.std.specs.Prelude.{ℕ, Bool, false, true, List, [], ◌∷◌, map, Option}
+use Rattle.std.specs.List.{flat_map}
+use Rattle.crm_parse.specs.declared.form.Form.{Form}
+use Rattle.crm_parse.specs.declared.form.Form.TheVariants as form
+use Rattle.crm_parse.specs.declared.statement.Statement.{Statement}
+use Rattle.cluster_model.specs.declared.clones.InClone.{InClone}
+use Rattle.cluster_model.specs.declared.groups.InGroup.{InGroup}
+use Rattle.cluster_model.specs.declared.meta.Meta.{Meta}
+use Rattle.cluster_model.specs.Metas.{meta_of}
+use Rattle.cluster_model.specs.Tables.{lookup, table_of}
+
+-- what a group gives to a member; the members after the first are followers
+abbrev pub place_of : Meta → Option InClone → Bool → InGroup
+place_of meta clone follower = record { meta = meta; follower = follower; clone = clone }
+
+abbrev pub members_of : Meta → Option InClone → List (List ℕ) → List (List ℕ × InGroup)
+members_of meta clone [] = []
+members_of meta clone (first ∷ others) = (first, place_of meta clone false) ∷ map (λ other. (other, place_of meta clone true)) others
+
+-- the members of a group, each with what its group gives to it, where these are cloned
+abbrev pub grouped_in : List (List ℕ × InClone) → Form → List (List ℕ × InGroup)
+grouped_in cloned (form.Group id members description params meta) = members_of (meta_of meta) (lookup cloned id) members
+grouped_in cloned _ = []
+
+-- each member of a group
+abbrev pub grouped_by : List (List ℕ × InClone) → List Statement → List (List ℕ × InGroup)
+grouped_by cloned statements = table_of (flat_map (λ s. grouped_in cloned s.form) statements)

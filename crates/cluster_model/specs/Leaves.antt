@@ -1,0 +1,100 @@
+-- The leaves of a configuration: each primitive is one, in the order of the text (rule of this project).
+use Rattle.std.specs.Prelude.{ℕ, ℤ, pos, Bool, false, true, not, ◌&&◌, List, [], ◌∷◌, codes, is_some, unwrap_or}
+use Rattle.std.specs.List.{flat_map}
+use Rattle.score.specs.Total.{infinity}
+use Rattle.crm_parse.specs.declared.form.Form.{Form}
+use Rattle.crm_parse.specs.declared.form.Form.TheVariants as form
+use Rattle.crm_parse.specs.declared.pair.Kv.{Kv}
+use Rattle.crm_parse.specs.declared.pair.Operation.{Operation}
+use Rattle.crm_parse.specs.declared.statement.Statement.{Statement}
+use Rattle.crm_parse.specs.declared.values.RoleName.{RoleName}
+use Rattle.crm_parse.specs.declared.values.RoleName.TheVariants as named
+use Rattle.cluster_types.specs.declared.leaf.Leaf.{Leaf}
+use Rattle.cluster_types.specs.declared.leaf.OnFail.TheVariants.{Restart}
+use Rattle.cluster_types.specs.declared.leaf.TargetRole.{TargetRole}
+use Rattle.cluster_types.specs.declared.leaf.TargetRole.TheVariants as target
+use Rattle.cluster_model.specs.declared.clones.InClone.{InClone}
+use Rattle.cluster_model.specs.declared.groups.InGroup.{InGroup}
+use Rattle.cluster_model.specs.declared.meta.Meta.{Meta}
+use Rattle.cluster_model.specs.declared.surroundings.Surroundings.{Surroundings}
+use Rattle.cluster_model.specs.Clones.{cloned_by, uncloned}
+use Rattle.cluster_model.specs.Groups.{grouped_by}
+use Rattle.cluster_model.specs.Metas.{meta_of, no_meta, or_meta}
+use Rattle.cluster_model.specs.Operations.{after_a_stop, fail_of, monitors_of}
+use Rattle.cluster_model.specs.Settings.{count_nodes, defaults_of, option_of}
+use Rattle.cluster_model.specs.Tables.{lookup}
+
+-- what stands around the primitives of a configuration
+unfoldable pub surroundings_of : List Statement → Surroundings
+surroundings_of statements =
+    let cloned = cloned_by (count_nodes statements) statements in record {
+      fencing = option_of (codes "stonith-enabled") true statements;
+      maintenance = option_of (codes "maintenance-mode") false statements;
+      defaults = defaults_of statements;
+      cloned = cloned;
+      grouped = grouped_by cloned statements;
+    }
+
+-- the group of a primitive with its clone; a primitive outside of groups may be in a clone of its own
+abbrev pub around : Surroundings → List ℕ → InGroup
+around s id = unwrap_or (lookup s.grouped id) (record { meta = no_meta; follower = false; clone = lookup s.cloned id })
+
+-- a value is looked up in the primitive, its group, its clone, and the defaults (Pacemaker Explained, "Setting Global Defaults for Resource
+-- Meta-Attributes")
+abbrev pub meta_around : Surroundings → InGroup → InClone → List Kv → Meta
+meta_around s group clone pairs = or_meta (or_meta (or_meta (meta_of pairs) group.meta) clone.meta) s.defaults
+
+abbrev pub target_role_of : RoleName → TargetRole
+target_role_of named.Started = target.Started
+target_role_of named.Stopped = target.Stopped
+target_role_of named.Promoted = target.Promoted
+target_role_of named.Unpromoted = target.Unpromoted
+
+-- how much a resource wants to stay where nothing is said: a little where it is cloned (Pacemaker Explained, "resource-stickiness")
+abbrev pub plain_stickiness : Bool → ℤ
+plain_stickiness true = pos 1
+plain_stickiness false = pos 0
+
+-- the leaf of a primitive
+unfoldable pub leaf_of : Surroundings → List ℕ → List Kv → List Operation → Leaf
+leaf_of s id pairs ops =
+    let group = around s id in
+    let clone = unwrap_or group.clone uncloned in
+    let meta = meta_around s group clone pairs in
+    record {
+      name = id;
+      copies = clone.copies;
+      promoted_copies = clone.promoted_copies;
+      cloned = is_some group.clone;
+      interleave = clone.interleave;
+      promotable = clone.promotable;
+      follower = group.follower;
+      priority = unwrap_or meta.priority (pos 0);
+      stickiness = unwrap_or meta.stickiness (plain_stickiness (is_some group.clone));
+      threshold = unwrap_or meta.threshold infinity;
+      timeout_ms = unwrap_or meta.timeout_ms 0;
+      target_role = target_role_of (unwrap_or meta.target_role named.Started);
+      managed = unwrap_or meta.managed true && not s.maintenance;
+      migrates = unwrap_or meta.migrates false;
+      start_fail = unwrap_or (fail_of (codes "start") ops) Restart;
+      stop_fail = unwrap_or (fail_of (codes "stop") ops) (after_a_stop s.fencing);
+      promote_fail = unwrap_or (fail_of (codes "promote") ops) Restart;
+      demote_fail = unwrap_or (fail_of (codes "demote") ops) Restart;
+      monitors = monitors_of ops;
+    }
+
+abbrev pub leaf_in : Surroundings → Form → List Leaf
+leaf_in s (form.Primitive id agent description params meta utilization operations ops) = leaf_of s id meta ops ∷ []
+leaf_in s _ = []
+
+-- each primitive is one leaf
+abbrev pub leaves_in : Surroundings → List Statement → List Leaf
+leaves_in s statements = flat_map (λ statement. leaf_in s statement.form) statements
+
+unfoldable pub leaves_of : List Statement → List Leaf
+leaves_of statements = leaves_in (surroundings_of statements) statements
+
+-- the id of a primitive
+abbrev pub primitive_in : Form → List (List ℕ)
+primitive_in (form.Primitive id agent description params meta utilization operations ops) = id ∷ []
+primitive_in _ = []

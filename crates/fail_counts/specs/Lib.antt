@@ -1,2 +1,0 @@
-pub mod LeafFields
-pub mod Tally

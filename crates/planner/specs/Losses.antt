@@ -1,0 +1,30 @@
+-- What the loss of each node does (rule of this project).
+use Rattle.std.specs.Prelude.{◌≡◌, ℕ, List, [], ◌∷◌, ◌++◌, length, map, filter, Contains}
+use Rattle.std.specs.List.{range_with_len}
+use Rattle.cluster_types.specs.declared.cluster.Cluster.{Cluster}
+use Rattle.cluster_types.specs.declared.journal.Event.{Event}
+use Rattle.cluster_types.specs.declared.journal.Event.TheVariants.{Lost}
+use Rattle.cluster_types.specs.declared.journal.Promotion.{Promotion}
+use Rattle.cluster_types.specs.declared.placement.Placed.{Placed}
+use Rattle.cluster_types.specs.NodeStates.{is_online}
+use Rattle.cluster_types.specs.Plans.{IsPlaced}
+use Rattle.planner.specs.declared.report.Loss.{Loss}
+use Rattle.planner.specs.declared.report.Report.{Report}
+
+module _ (c : Cluster) (es : List Event) (promotions : List Promotion) where
+  -- the loss has the pins, the table and the reasons of the placement for the journal with the loss of its node behind it
+  pub record IsLoss (loss : Loss) : Type 0 where
+    pub placed : Placed
+    pub is : IsPlaced c (es ++ Lost loss.node ∷ []) promotions placed
+    pub pins : loss.pins ≡ placed.pins
+    pub table : loss.table ≡ placed.table
+    pub none : loss.none ≡ placed.none
+
+  -- the losses of the first so many nodes: one of each that is online, in the order of the nodes
+  pub record AreLosses (upto : ℕ) (losses : List Loss) : Type 0 where
+    pub nodes : map (λ (loss : Loss). loss.node) losses ≡ filter (λ n. is_online c n es) (range_with_len 0 upto)
+    pub each : (loss : Loss) → Contains losses loss → IsLoss loss
+
+  -- what the loss of each node does
+  abbrev pub IsReport : Report → Type 0
+  IsReport report = AreLosses (length c.nodes) report.losses
