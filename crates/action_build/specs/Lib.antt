@@ -4,3 +4,15 @@ pub mod ByNeeds
 pub mod Knowing
 pub mod Actions
 pub mod Works
+pub mod Joins
+pub mod Gates
+pub mod Groups
+pub mod Leaves
+pub mod Rooms
+pub mod Places
+pub mod Chains
+pub mod Index
+pub mod Flags
+pub mod Serials
+pub mod Precede
+pub mod Planned

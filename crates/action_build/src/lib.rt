@@ -1,4 +1,5 @@
-//! What has to be done: exactly the actions that bring a cluster to its targets.
+//! What has to be done: exactly the actions that bring a cluster to its targets, in the order of their numbers, and which
+//! of them comes before which: edges between positions, few of them.
 #![tactic(auto)]
 
 // What each cell needs.
@@ -21,8 +22,46 @@ mod work;
 mod building;
 mod listing;
 
+// By which cell an action stands on a side of a join, and the edges of joins.
+mod edge_building;
+mod gates;
+mod keys;
+mod sides;
+
+// Which leaves are sent, where the actions of each leaf stand, and what all rules read of them.
+mod index;
+mod known;
+mod migrating;
+
+// The edges of each rule.
+mod buckets;
+mod chains;
+mod colocations;
+mod orders;
+mod rules;
+mod serialize;
+mod serials;
+
+// All edges.
+mod whole;
+
+// The numbers of the actions.
+mod numbering;
+mod sorting;
+
 // What follows from the definitions.
+mod edge_laws;
 mod laws;
+mod number_laws;
 
 pub use building::actions;
+pub use edge_laws::{
+    chains_say_what_is_serialized, edges_lead_to_higher_numbers, joins_say_what_must_precede,
+    needed_actions_are_within,
+};
 pub use laws::{falling_orders_find_the_cycled, marks_of_orders_are_the_cycled};
+pub use migrating::migrating_flags;
+pub use number_laws::{needed_actions_have_places_of_their_own, plans_have_few_edges};
+pub use numbering::number;
+pub use sides::{Join, Side};
+pub use whole::edges;

@@ -17,7 +17,7 @@ use Rattle.agent_world.specs.declared.real.Real.{Real}
 use Rattle.agent_world.specs.declared.real.Real.TheVariants as real
 use Rattle.agent_world.specs.declared.real.Standing.{Standing}
 use Rattle.agent_world.specs.declared.real.Standing.TheVariants as standing
-use Rattle.case_gen.specs.Draws.{state_after}
+use Rattle.agent_world.specs.Draws.{state_after}
 use Rattle.agent_world.specs.Kept.{Holds, HoldsNodes, Shows, reality}
 use Rattle.agent_world.specs.RealWorlds.{Cells, first_real, first_world, is_rising, standing_by}
 use Rattle.agent_world.specs.Firsts.{IsFilled}

@@ -24,3 +24,6 @@ pub mod OneLife
 pub mod Together
 pub mod Transitions
 pub mod OneEnd
+pub mod LineLaws
+pub mod ShortLines
+pub mod DrawLaws

@@ -5,8 +5,8 @@ use Rattle.cluster_types.specs.declared.journal.Action.{Action}
 use Rattle.agent_world.specs.declared.real.Real.{Real}
 use Rattle.agent_world.specs.declared.real.Real.TheVariants as real
 use Rattle.agent_world.specs.declared.real.Standing.{Standing}
-use Rattle.case_gen.specs.Draws.{draw, next_state, state_after, taken_of}
-use Rattle.case_gen.proofs.DrawLaws.{state_more}
+use Rattle.agent_world.specs.Draws.{draw, next_state, state_after, taken_of}
+use Rattle.agent_world.proofs.DrawLaws.{state_more}
 use Rattle.agent_world.specs.Kept.{Holds, HoldsNodes, IsAlone, RealityOf, Shows, reality}
 use Rattle.agent_world.specs.Turns.{after_begin, calm, with_draws}
 use Rattle.agent_world.specs.RealWorlds.{Cells, World, begun, done, is_rising, risen, undone, without_node}

@@ -5,7 +5,7 @@ use Rattle.cluster_types.specs.declared.cluster.Cluster.{Cluster}
 use Rattle.agent_world.specs.declared.turn.Fate.{Fate}
 use Rattle.agent_world.specs.declared.turn.Turn.{Turn}
 use Rattle.agent_world.specs.declared.turn.Turn.TheVariants as turn
-use Rattle.case_gen.specs.Draws.{draw}
+use Rattle.agent_world.specs.Draws.{draw}
 use Rattle.agent_world.specs.Kept.{RealityOf, Shows}
 use Rattle.agent_world.specs.Turns.{IsOfNode, MayCome, calm, die, draws, draws_for_end, drawn_node, fate_by, is_fault, joins_now, leaves_now, node_turn, node_turn_from, turn_of, turned, with_draws}
 use Rattle.agent_world.specs.RealWorlds.{World}

@@ -5,7 +5,7 @@ use Rattle.cluster_types.specs.Valid.{KeepsLimits}
 use Rattle.agent_world.specs.declared.real.Real.{Real}
 use Rattle.agent_world.specs.declared.real.Real.TheVariants as real
 use Rattle.agent_world.specs.declared.real.Standing.{Standing}
-use Rattle.case_gen.specs.Draws.{state_after}
+use Rattle.agent_world.specs.Draws.{state_after}
 use Rattle.agent_world.specs.RealWorlds.{Cells, World}
 
 -- what is kept: of each node, of each cell, leaf by leaf and node by node, which cell comes up, the number, the state of its draws, and how many faults were

@@ -9,3 +9,5 @@ pub mod Kept
 pub mod WorldTexts
 pub mod Fitting
 pub mod LivesOn
+pub mod Case
+pub mod Draws

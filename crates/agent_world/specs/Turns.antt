@@ -12,7 +12,7 @@ use Rattle.agent_world.specs.declared.turn.Fate.{Fate}
 use Rattle.agent_world.specs.declared.turn.Fate.TheVariants as fate
 use Rattle.agent_world.specs.declared.turn.Turn.{Turn}
 use Rattle.agent_world.specs.declared.turn.Turn.TheVariants as turn
-use Rattle.case_gen.specs.Draws.{draw}
+use Rattle.agent_world.specs.Draws.{draw}
 use Rattle.agent_world.specs.RealWorlds.{Cells, World, begun, done, given_up, is_off, is_up, risen, true_code, undone, without_node}
 
 -- how many faults a simulated cluster is given at most

@@ -1,7 +1,18 @@
 //! A source of outcomes that simulates a cluster: its nodes come and go, and its agents do what they are for, or not. What
 //! really runs there is always among what may run. The text of its run, with what really runs at its end, is made here;
-//! and laws say that what is written of runs reads again, and that the run of a simulated cluster has one text.
+//! and laws say that what is written of runs reads again, and that the run of a simulated cluster has one text. Beside it
+//! a large case from a number, and the numbers that both draw, one after the other, by a linear congruential generator.
 #![tactic(auto)]
+
+// The numbers that are drawn.
+mod drawing;
+mod states;
+
+// A large case from a number: its configuration, its status and its results.
+mod case;
+mod resources;
+mod rules;
+mod state;
 
 // What there is to a simulated cluster.
 mod real;
@@ -42,6 +53,8 @@ mod read_again;
 mod lives;
 mod runs;
 
+pub use case::{generate, lost_node};
+pub use drawing::Draws;
 pub use laws::{
     each_moment_runs_what_may_run, no_start_really_makes_a_second_copy,
     worlds_that_agree_run_what_may_run,
@@ -51,6 +64,7 @@ pub use read_again::{runs_print_lines_of_their_cluster, texts_of_runs_read_again
 pub use real::{Real, Standing};
 pub use reality::Reality;
 pub use runs::{simulated_runs_are_one, world_texts_are_one};
+pub use states::{first_state, next_state, taken_of};
 pub use text::world_text;
 pub use text_laws::what_is_real_at_the_end_may_run;
 pub use turn::{Fate, Turn};

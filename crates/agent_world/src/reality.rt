@@ -2,7 +2,7 @@
 
 ghost use Rattle.std.specs.Prelude.{◌≡◌, ◌*◌, ◌+◌, ◌<◌, None, length};
 ghost use Rattle.cluster_types.specs.Valid.{KeepsLimits};
-ghost use Rattle.case_gen.specs.Draws as drawing;
+ghost use Rattle.agent_world.specs.Draws as drawing;
 ghost use Rattle.agent_world.specs.Kept.{IsOfSame, Shows, reality};
 ghost use Rattle.agent_world.specs.Turns.{after_begin, calm, with_draws};
 ghost use Rattle.agent_world.specs.RealWorlds as worlds;
@@ -12,7 +12,7 @@ use crate::acts::begin;
 use crate::cells::found_at;
 use crate::real::{Real, Standing};
 use crate::rising::raise;
-use case_gen::{first_state, next_state, taken_of};
+use crate::{first_state, next_state, taken_of};
 use cluster_types::{Action, Cluster, LeafId, NodeId};
 use std::marker::Model;
 

@@ -1,7 +1,7 @@
 //! What comes next is drawn.
 
 ghost use Rattle.std.specs.Prelude.{◌≡◌, ◌+◌, ◌<◌, nat_lt, if◌then◌else◌, None, IfSome, length};
-ghost use Rattle.case_gen.specs.Draws as drawing;
+ghost use Rattle.agent_world.specs.Draws as drawing;
 ghost use Rattle.agent_world.specs.Kept.{IsOfSame, Shows};
 ghost use Rattle.agent_world.specs.Turns as turns;
 ghost use Rattle.agent_world.specs.Turns.{IsOfNode, MayCome, die, node_turn_from, turn_of, turned, with_draws};

@@ -1,11 +1,11 @@
-//! What `crm_print` prints, and that it prints the same of what it printed.
+//! What `print` prints, and that it prints the same of what it printed.
 
 mod examples;
 mod forms;
 mod quoting;
 
 use crate::reading::crm;
-use crm_print::print;
+use crm_parse::print;
 use std::alloc::Global;
 use std::process::Abort;
 

@@ -1,14 +1,13 @@
-//! What `lane_rows` works out of rows, by lanes and in the plain form.
+//! What `score` works out of rows, by lanes and in the plain form.
 
 ghost use Rattle.std.specs.Prelude.{◌≡◌, ℕ, ◌+◌, ◌<◌, ◌≤◌, ◌≤ℤ◌, neg_ℤ, pos, true, length};
-ghost use Rattle.lane_rows.specs.NodeSet.{has};
-ghost use Rattle.lane_rows.specs.Small.{IsSmallRow};
+ghost use Rattle.score.specs.NodeSet.{has};
+ghost use Rattle.score.specs.Small.{IsSmallRow};
 
-use lane_rows::{
-    NodeSet, Row, add_row, add_row_plain, candidates, candidates_plain, greatest, greatest_plain,
-    totals, totals_plain,
+use score::{
+    NodeSet, Row, Score, add_row, add_row_plain, candidates, candidates_plain, greatest,
+    greatest_plain, totals, totals_plain,
 };
-use score::Score;
 use std::alloc::Global;
 use std::process::Abort;
 

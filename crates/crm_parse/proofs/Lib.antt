@@ -43,3 +43,14 @@ pub mod FewMonitors
 pub mod ReadForms
 pub mod NoSections
 pub mod SameForms
+pub mod WrittenText
+pub mod Lines
+pub mod FormLines
+pub mod FilledItems
+pub mod CleanWords
+pub mod CleanReading
+pub mod CleanTexts
+pub mod TextReads
+pub mod WrittenWords
+pub mod CleanItems
+pub mod ReadsAgain

@@ -21,3 +21,7 @@ pub mod Named
 pub mod Monitors
 pub mod ReadForms
 pub mod WordTexts
+pub mod Quoting
+pub mod Items
+pub mod Text
+pub mod Again

@@ -1,10 +1,9 @@
 ghost use Rattle.std.specs.Prelude.{◌≡◌, ℕ, pos, ◌<◌, ◌≤◌, ◌+ℤ◌, true, length, IfOk};
-ghost use Rattle.lane_rows.specs.NodeSet.{has};
-ghost use Rattle.lane_rows.specs.Small.{IsSmallRow};
+ghost use Rattle.score.specs.NodeSet.{has};
+ghost use Rattle.score.specs.Small.{IsSmallRow};
 ghost use Rattle.score.specs.Total.{IsScore};
 
-use lane_rows::{NoMemory, NodeSet, Row};
-use score::Score;
+use score::{NoMemory, NodeSet, Row, Score};
 use std::alloc::Global;
 
 /// How many nodes a row has.

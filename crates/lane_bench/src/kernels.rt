@@ -1,13 +1,12 @@
 ghost use Rattle.std.specs.Prelude.{◌≡◌, ℕ, ℤ, ◌<◌, ◌+ℤ◌, List, length, map};
-ghost use Rattle.lane_rows.specs.Row.{IsSumInRange, Stands, finite_at};
+ghost use Rattle.score.specs.Row.{IsSumInRange, Stands, finite_at};
 ghost use Rattle.score.specs.Total.{total_of};
 
 use crate::data::{NODES, above_least, most_nodes, row_of, score_of, scores_of, sum_of};
-use lane_rows::{
-    NoMemory, Row, add_row, add_row_plain, candidates, candidates_plain, greatest, greatest_plain,
-    totals, totals_plain,
+use score::{
+    NoMemory, Row, Score, add_row, add_row_plain, candidates, candidates_plain, greatest,
+    greatest_plain, totals, totals_plain,
 };
-use score::Score;
 use std::alloc::Global;
 
 /// How often each kernel is called in one pass.

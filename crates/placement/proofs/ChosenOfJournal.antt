@@ -6,10 +6,10 @@ use Rattle.std.specs.Ordering.{int_eq}
 use Rattle.std.proofs.lemmas.Int.{ints}
 use Rattle.std.proofs.lemmas.List.FromFn.{get_or-map-range_with_len, length-map-range_with_len}
 use Rattle.lemmas.proofs.Ranges.{count-same, map-same}
-use Rattle.lane_rows.specs.Choice.{GoesBefore, points_at}
-use Rattle.lane_rows.specs.Choice as lanes
-use Rattle.lane_rows.specs.NodeSet.{has}
-use Rattle.lane_rows.specs.declared.node_set.NodeSet.{NodeSet}
+use Rattle.score.specs.Choice.{GoesBefore, points_at}
+use Rattle.score.specs.Choice as lanes
+use Rattle.score.specs.NodeSet.{has}
+use Rattle.score.specs.declared.node_set.NodeSet.{NodeSet}
 use Rattle.score.specs.Total.{total_of}
 use Rattle.cluster_types.specs.declared.cluster.Cluster.{Cluster}
 use Rattle.cluster_types.specs.declared.journal.Event.{Event}

@@ -6,9 +6,9 @@ use Rattle.std.specs.List.{range_with_len}
 use Rattle.lemmas.proofs.Counts.{count_of_none}
 use Rattle.lemmas.proofs.Booleans.{number_itself}
 use Rattle.cluster_types.proofs.Loads.{one_more_counted}
-use Rattle.lane_rows.specs.Choice.{GoesBefore, IsGreatest}
-use Rattle.lane_rows.specs.NodeSet.{has}
-use Rattle.lane_rows.specs.declared.node_set.NodeSet.{NodeSet}
+use Rattle.score.specs.Choice.{GoesBefore, IsGreatest}
+use Rattle.score.specs.NodeSet.{has}
+use Rattle.score.specs.declared.node_set.NodeSet.{NodeSet}
 use Rattle.placement.specs.Picks.{ArePicked, size_of}
 
 -- so many were picked, and the others are left

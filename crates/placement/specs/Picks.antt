@@ -1,9 +1,9 @@
 -- The nodes that are picked among some, each the first of those that were left.
 use Rattle.std.specs.Prelude.{◌≡◌, ℕ, ◌≤◌, ℤ, true, false, List, length, count_by}
 use Rattle.std.specs.List.{range_with_len}
-use Rattle.lane_rows.specs.Choice.{GoesBefore}
-use Rattle.lane_rows.specs.NodeSet.{has}
-use Rattle.lane_rows.specs.declared.node_set.NodeSet.{NodeSet}
+use Rattle.score.specs.Choice.{GoesBefore}
+use Rattle.score.specs.NodeSet.{has}
+use Rattle.score.specs.declared.node_set.NodeSet.{NodeSet}
 
 -- how many nodes are in a set, of so many
 abbrev pub size_of : ℕ → NodeSet → ℕ

@@ -1,8 +1,8 @@
 -- What decisions choose and leave, of the journal and the promotion scores that are told.
 use Rattle.std.specs.Prelude.{◌≡◌, ℕ, ◌<◌, ℤ, List, length, map}
 use Rattle.std.specs.List.{range_with_len}
-use Rattle.lane_rows.specs.NodeSet.{has}
-use Rattle.lane_rows.specs.declared.node_set.NodeSet.{NodeSet}
+use Rattle.score.specs.NodeSet.{has}
+use Rattle.score.specs.declared.node_set.NodeSet.{NodeSet}
 use Rattle.cluster_types.specs.declared.cluster.Cluster.{Cluster}
 use Rattle.cluster_types.specs.declared.journal.Event.{Event}
 use Rattle.cluster_types.specs.declared.journal.Promotion.{Promotion}

@@ -3,11 +3,11 @@
 ghost use Rattle.std.specs.Prelude.{◌≡◌, ◌&&◌, ◌<◌, ◌≤◌, ℕ, true, length};
 ghost use Rattle.cluster_types.specs.Choice as choice;
 ghost use Rattle.cluster_types.specs.Tables.{targets_of};
-ghost use Rattle.lane_rows.specs.NodeSet.{has};
+ghost use Rattle.score.specs.NodeSet.{has};
 ghost use Rattle.placement.specs.Allowed as spec;
 
 use cluster_types::{Cluster, Colocation, Decision, NodeId, Table};
-use lane_rows::NodeSet;
+use score::NodeSet;
 use score_table::{has_primary, keeps_apart};
 
 /// Whether the colocation may forbid the decision a node.

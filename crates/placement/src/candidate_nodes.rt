@@ -2,15 +2,14 @@
 
 ghost use Rattle.std.specs.Prelude.{◌≡◌, ◌<◌, ℕ, true, length};
 ghost use Rattle.cluster_types.specs.Tables.{targets_of};
-ghost use Rattle.lane_rows.specs.NodeSet.{has};
+ghost use Rattle.score.specs.NodeSet.{has};
 ghost use Rattle.placement.specs.Reads as spec;
 
 use crate::allowing::allowed_nodes;
 use crate::known::Known;
 use crate::permitting::open_nodes;
 use cluster_types::{Decision, Table};
-use lane_rows::{NodeSet, candidates};
-use score::Score;
+use score::{NodeSet, Score, candidates};
 
 /// The nodes that the decision may choose, where these are its totals: usable ones on which it is permitted, that colocations allow and whose total is
 /// 0 or more.

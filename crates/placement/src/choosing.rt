@@ -1,11 +1,10 @@
 //! Which of the nodes that may be chosen are chosen.
 
 ghost use Rattle.std.specs.Prelude.{◌≡◌, ◌<◌, ◌≤◌, ℕ, true, length};
-ghost use Rattle.lane_rows.specs.NodeSet.{has};
+ghost use Rattle.score.specs.NodeSet.{has};
 ghost use Rattle.placement.specs.Picks.{ArePicked};
 
-use lane_rows::{NodeSet, greatest};
-use score::Score;
+use score::{NodeSet, Score, greatest};
 
 /// The first nodes of a set, up to the cap: those of the greatest totals, of these those with the smallest loads, of these the earliest (Pacemaker
 /// Explained, "Allocation Details"; the order among equals is a rule of this project).

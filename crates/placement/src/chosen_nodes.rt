@@ -15,8 +15,7 @@ use crate::known::Known;
 use crate::loaded_table::LoadedTable;
 use crate::totalling::totals_on;
 use cluster_types::{Decision, NoMemory};
-use lane_rows::NodeSet;
-use score::Score;
+use score::{NodeSet, Score};
 use std::alloc::Global;
 
 /// The total of a decision on each node, and the nodes that it chooses.

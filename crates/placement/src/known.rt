@@ -6,11 +6,11 @@ ghost use Rattle.cluster_types.specs.declared.journal.Promotion.{Promotion as Pr
 ghost use Rattle.cluster_types.specs.Rights.{rights_of};
 ghost use Rattle.cluster_types.specs.Unpacked.{states_of};
 ghost use Rattle.cluster_types.specs.Valid.{KeepsLimits};
-ghost use Rattle.lane_rows.specs.NodeSet.{has};
+ghost use Rattle.score.specs.NodeSet.{has};
 ghost use Rattle.score_table.specs.Usable.{is_usable_by};
 
 use cluster_types::{Cluster, Rights, States};
-use lane_rows::NodeSet;
+use score::NodeSet;
 use score_table::{ScoreTable, usable_nodes};
 use state_unpack::rights;
 

@@ -5,11 +5,11 @@ ghost use Rattle.std.specs.List.{range_with_len};
 ghost use Rattle.cluster_types.specs.Tables as tables;
 ghost use Rattle.cluster_types.specs.Tables.{targets_of};
 ghost use Rattle.cluster_types.specs.Valid.{KeepsLimits};
-ghost use Rattle.lane_rows.specs.NodeSet.{has};
+ghost use Rattle.score.specs.NodeSet.{has};
 ghost use Rattle.placement.specs.Loads.{IsLoaded};
 
 use cluster_types::{Cluster, LeafId, NodeId, Role, Table, Target};
-use lane_rows::NodeSet;
+use score::NodeSet;
 use std::alloc::{AllocError, Global};
 
 /// A table, and how many leaves have a target on each node.

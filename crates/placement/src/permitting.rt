@@ -3,14 +3,14 @@
 ghost use Rattle.std.specs.Prelude.{◌≡◌, ◌&&◌, ◌||◌, ◌<◌, ℕ, length};
 ghost use Rattle.cluster_types.specs.Choice as choice;
 ghost use Rattle.cluster_types.specs.Tables.{targets_of};
-ghost use Rattle.lane_rows.specs.NodeSet.{has};
+ghost use Rattle.score.specs.NodeSet.{has};
 ghost use Rattle.placement.specs.Reads as spec;
 ghost use Rattle.score_table.specs.Usable.{is_usable_by};
 
 use crate::cells::{active_count, is_kept};
 use crate::known::Known;
 use cluster_types::{Decision, LeafId, NodeId, Role, Table};
-use lane_rows::NodeSet;
+use score::NodeSet;
 
 /// Whether what runs of the leaf may stay, as far as the cluster and its copies are asked: it runs in no more cells than it has copies (rule of this
 /// project).

@@ -6,14 +6,13 @@ ghost use Rattle.cluster_types.specs.Choice as choice;
 ghost use Rattle.cluster_types.specs.Tables.{targets_of};
 ghost use Rattle.cluster_types.specs.Valid.{KeepsLimits};
 ghost use Rattle.score_table.specs.Tests.{counts};
-ghost use Rattle.lane_rows.specs.Row.{finite_at};
+ghost use Rattle.score.specs.Row.{finite_at};
 ghost use Rattle.placement.specs.Counted.{counted};
 ghost use Rattle.score.specs.Total.{total_of};
 ghost use Rattle.score_table.specs.Rows.{IsRow, IsRoomy, more_where};
 
 use cluster_types::{Cluster, Colocation, Decision, NoMemory, NodeId, Table};
-use lane_rows::Row;
-use score::Score;
+use score::{Row, Score};
 use score_table::{counts, put_if, totals_of};
 use std::alloc::Global;
 

@@ -6,10 +6,9 @@ ghost use Rattle.cluster_types.specs.Unpacked.{states_of};
 ghost use Rattle.cluster_types.specs.Valid.{IsValid};
 ghost use Rattle.planner.specs.Planned.{AreTold, IsPlanned};
 
-use action_build::actions;
+use action_build::{actions, number};
 use carry::with;
 use cluster_types::{Cluster, Journal, NoMemory, Plan, States};
-use order_edges::number;
 use placement::placement_of;
 use state_unpack::{rights, unpack, valid_clusters_have_few_monitors};
 use std::alloc::Global;

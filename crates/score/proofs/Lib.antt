@@ -1,2 +1,11 @@
 pub mod TextLemmas
 pub mod OrderLemmas
+pub mod Blocks
+pub mod ChoiceLaws
+pub mod RowPoints
+pub mod RowLaws
+pub mod SmallRows
+pub mod StoredTotals
+pub mod Tallies
+pub mod Words
+pub mod NodeSets

@@ -3,7 +3,7 @@ use Rattle.std.proofs.Common.{◌≡◌, ℕ, ◌+◌, ◌≤◌, ℤ, pos, neg_
 use Rattle.std.proofs.lemmas.List.{length-map, length-append}
 use Rattle.std.proofs.lemmas.List.Elements.{filter-append}
 use Rattle.std.proofs.lemmas.List.Sums.{length-filter, count_by-le-length}
-use Rattle.lane_rows.specs.Row.{is_finite}
+use Rattle.score.specs.Row.{is_finite}
 use Rattle.score_table.specs.Rows.{few, more_where}
 
 -- some of these terms are finite, at most all

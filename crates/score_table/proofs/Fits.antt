@@ -5,7 +5,7 @@ use Rattle.std.specs.List.{list_any, range_with_len}
 use Rattle.std.proofs.lemmas.List.FromFn.{get_or-map-range_with_len}
 use Rattle.lemmas.proofs.Ranges.{range-more}
 use Rattle.lemmas.proofs.Searches.{any-more}
-use Rattle.lane_rows.specs.Choice.{is_candidate}
+use Rattle.score.specs.Choice.{is_candidate}
 use Rattle.score.specs.Total.{total_of}
 
 -- one number more

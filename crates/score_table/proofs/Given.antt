@@ -7,7 +7,7 @@ use Rattle.std.proofs.lemmas.List.Sums.{count_by-le-length}
 use Rattle.std.proofs.lemmas.List.FromFn.{get_or-map-range_with_len, length-map-range_with_len}
 use Rattle.lemmas.proofs.Booleans.{first_of_three}
 use Rattle.lemmas.proofs.Counts.{count_more}
-use Rattle.lane_rows.specs.Row.{Tally, tally_of, Stands, finite_at}
+use Rattle.score.specs.Row.{Tally, tally_of, Stands, finite_at}
 use Rattle.cluster_types.specs.declared.cluster.Cluster.{Cluster}
 use Rattle.cluster_types.specs.declared.leaf.Role.{Role}
 use Rattle.cluster_types.specs.declared.rules.Location.{Location}

@@ -2,7 +2,7 @@
 use Rattle.std.proofs.Common.{◌≡◌, ℕ, ◌<◌, ◌≤◌, ℤ, ◌+ℤ◌, List, [], ◌∷◌, ◌++◌, length, map, refl, ap, ◌∙◌, arith}
 use Rattle.std.specs.List.{range_with_len}
 use Rattle.std.proofs.lemmas.Int.{ints}
-use Rattle.lane_rows.specs.Row.{IsSumInRange, Tally, tally_of, Stands, finite_at, together}
+use Rattle.score.specs.Row.{IsSumInRange, Tally, tally_of, Stands, finite_at, together}
 use Rattle.score_table.specs.Rows.{each_of, few, IsRow}
 use Rattle.score_table.proofs.FewTerms.{few-append}
 use Rattle.score_table.proofs.TermRows.{row-length}

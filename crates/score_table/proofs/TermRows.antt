@@ -7,7 +7,7 @@ use Rattle.std.proofs.lemmas.List.Elements.{filter-append}
 use Rattle.std.proofs.lemmas.List.FromFn.{get_or-map-range_with_len, length-map-range_with_len}
 use Rattle.lemmas.proofs.Ranges.{map-same, map-set-range}
 use Rattle.score.specs.Total.{IsScore}
-use Rattle.lane_rows.specs.Row.{Tally, tally_of, Stands, is_finite, finite_part, finite_at, with_term}
+use Rattle.score.specs.Row.{Tally, tally_of, Stands, is_finite, finite_part, finite_at, with_term}
 use Rattle.score_table.specs.Rows.{each_of, few, IsRow, IsRoomy, more_where}
 
 -- the same terms below the number of nodes

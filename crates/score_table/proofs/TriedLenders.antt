@@ -3,7 +3,7 @@ use Rattle.std.proofs.Common.{◌≡◌, ℕ, ℤ, Bool, ◌&&◌, not, List, []
 use Rattle.std.specs.Int.{is_negative}
 use Rattle.std.specs.List.{list_any, range_with_len}
 use Rattle.lemmas.proofs.Ranges.{any-same}
-use Rattle.lane_rows.specs.Row.{Tally}
+use Rattle.score.specs.Row.{Tally}
 use Rattle.score.specs.Total.{total_of}
 use Rattle.cluster_types.specs.declared.cluster.Cluster.{Cluster}
 use Rattle.cluster_types.specs.declared.states.States.{States}

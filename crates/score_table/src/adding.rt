@@ -1,10 +1,10 @@
 //! Rows that are added to rows.
 
 ghost use Rattle.std.specs.Prelude.{◌≡◌, ◌<◌, ◌≤◌, ◌+ℤ◌, ◌++◌, ℕ, ℤ, List, length, IfOk};
-ghost use Rattle.lane_rows.specs.Row.{IsSumInRange, finite_at};
+ghost use Rattle.score.specs.Row.{IsSumInRange, finite_at};
 ghost use Rattle.score_table.specs.Rows.{IsRow, IsRoomy};
 
-use lane_rows::{NoMemory, Row, add_row};
+use score::{NoMemory, Row, add_row};
 use std::alloc::Global;
 
 /// Adds the terms of a row to those of another.

@@ -3,12 +3,12 @@
 ghost use Rattle.std.specs.Prelude.{◌≡◌, ◌&&◌, ◌<◌, ◌≤◌, ℕ, ℤ, List, true, not, length, IfOk};
 ghost use Rattle.std.specs.Int.{is_negative};
 ghost use Rattle.std.specs.List.{list_any, range_with_len};
-ghost use Rattle.lane_rows.specs.NodeSet.{has};
+ghost use Rattle.score.specs.NodeSet.{has};
 ghost use Rattle.score.specs.Total.{total_of};
 ghost use Rattle.score_table.specs.Rows.{IsRow};
 
 use crate::row_totals::totals_of;
-use lane_rows::{NodeSet, Row, candidates};
+use score::{NodeSet, Row, candidates};
 use std::alloc::{AllocError, Global};
 
 /// Whether a node of so many is in the set.

@@ -12,7 +12,7 @@ use crate::fitting::leaves_a_node;
 use crate::own_rows::OwnRows;
 use crate::ties::{Tie, is_marked, tied};
 use cluster_types::LeafId;
-use lane_rows::{NoMemory, Row};
+use score::{NoMemory, Row};
 use std::alloc::Global;
 
 /// The row after one lender was tried: it joins, unless no usable node would be left.

@@ -2,15 +2,15 @@
 
 ghost use Rattle.std.specs.Prelude.{◌≡◌, ◌&&◌, ◌||◌, ◌==◌, ◌<◌, ◌≤◌, ℕ, ℤ, List, length, true, IfOk};
 ghost use Rattle.cluster_types.specs.Valid.{IsValid};
-ghost use Rattle.lane_rows.specs.NodeSet.{has};
-ghost use Rattle.lane_rows.specs.Row.{finite_at};
+ghost use Rattle.score.specs.NodeSet.{has};
+ghost use Rattle.score.specs.Row.{finite_at};
 ghost use Rattle.score_table.specs.Locations as spec;
 ghost use Rattle.score_table.specs.Rows.{IsRow, IsRoomy, more_where};
 
 use crate::putting::{put_each, put_if};
 use cluster_types::{Cluster, LeafId, Location, NodeId, Role, RuleLocation};
 use date_rules::holds;
-use lane_rows::{NoMemory, NodeSet, Row};
+use score::{NoMemory, NodeSet, Row};
 use std::alloc::Global;
 
 fn rule_holds(cluster: &Cluster, rule: &RuleLocation, node: NodeId, moment: u64) -> bool

@@ -2,15 +2,14 @@
 
 ghost use Rattle.std.specs.Prelude.{◌≡◌, ◌+◌, ◌*◌, ◌<◌, ◌≤◌, ℕ, length, slice_get, IfOk};
 ghost use Rattle.cluster_types.specs.Valid.{IsValid};
-ghost use Rattle.lane_rows.specs.NodeSet.{has};
+ghost use Rattle.score.specs.NodeSet.{has};
 ghost use Rattle.score_table.specs.OwnRows as spec;
 ghost use Rattle.score_table.specs.Rows.{IsRow};
 
 use crate::locations::{given_row, unnamed_nodes};
 use crate::putting::put_each;
 use cluster_types::{Cluster, LeafId, NodeId, Role, States, cell_place};
-use lane_rows::{NoMemory, NodeSet, Row};
-use score::Score;
+use score::{NoMemory, NodeSet, Row, Score};
 use std::alloc::Global;
 
 /// Whether the leaf is active on a node of the cluster, by what is known of its cell. Where nothing is known it isn't. It asks for at most 256 nodes.

@@ -2,14 +2,14 @@
 
 ghost use Rattle.std.specs.Prelude.{◌≡◌, ◌<◌, ◌≤◌, ℕ, length, IfOk};
 ghost use Rattle.cluster_types.specs.Valid.{IsValid, KeepsLimits};
-ghost use Rattle.lane_rows.specs.NodeSet.{has};
+ghost use Rattle.score.specs.NodeSet.{has};
 ghost use Rattle.score_table.specs.OwnRows.{AreOwnRows, own_by};
 ghost use Rattle.score_table.specs.Rows.{IsRow};
 ghost use Rattle.score_table.specs.Usable.{is_usable_by};
 
 use crate::own::own_row;
 use cluster_types::{Cluster, LeafId, NodeId, States};
-use lane_rows::{NoMemory, NodeSet, Row};
+use score::{NoMemory, NodeSet, Row};
 use std::alloc::{AllocError, Global};
 
 /// Of a cluster in some states: the rows of the own terms of all leaves, and the nodes that may run resources.

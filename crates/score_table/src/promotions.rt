@@ -10,9 +10,8 @@ ghost use Rattle.score_table.specs.Rows.{IsRow};
 use crate::locations::given_row;
 use crate::putting::put_if;
 use cluster_types::{Cluster, LeafId, NodeId, Promotion, Role, States, cell_place};
-use lane_rows::{NoMemory, Row};
 use listed::value_at;
-use score::Score;
+use score::{NoMemory, Row, Score};
 use std::alloc::{AllocError, Global};
 
 /// Whether nothing is kept at a place that is there.

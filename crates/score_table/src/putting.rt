@@ -1,13 +1,12 @@
 //! Terms that are put into a row.
 
 ghost use Rattle.std.specs.Prelude.{◌≡◌, ◌≢◌, ◌&&◌, ◌==◌, ◌<◌, ◌≤◌, ℕ, ℤ, List, length};
-ghost use Rattle.lane_rows.specs.NodeSet.{has};
-ghost use Rattle.lane_rows.specs.Row.{finite_at};
+ghost use Rattle.score.specs.NodeSet.{has};
+ghost use Rattle.score.specs.Row.{finite_at};
 ghost use Rattle.score_table.specs.Rows.{IsRow, IsRoomy, more_where};
 
 use cluster_types::NodeId;
-use lane_rows::{NodeSet, Row};
-use score::Score;
+use score::{NodeSet, Row, Score};
 
 /// Adds a term to those of a node, if it is wanted. It asks for a node of the row, and that its finite sum is from -9 * 10^11 to 9 * 10^11, so that
 /// there is room for one more.

@@ -5,8 +5,7 @@ ghost use Rattle.std.specs.List.{range_with_len};
 ghost use Rattle.score.specs.Total.{total_of};
 ghost use Rattle.score_table.specs.Rows.{IsRow};
 
-use lane_rows::{Row, totals};
-use score::Score;
+use score::{Row, Score, totals};
 use std::alloc::{AllocError, Global};
 
 /// The total of each of so many nodes, by the terms that the row stands for. Out of memory is the only other answer.

@@ -1,5 +1,5 @@
 use Rattle.std.proofs.Common.{rules}
-use Rattle.lane_rows.proofs.SmallRows.{small_put}
+use Rattle.score.proofs.SmallRows.{small_put}
 use Rattle.base_cases.proofs.rows.put_next.Goals as goal
 
 pub returns-clause-small : goal.returns-clause-small

@@ -1,5 +1,5 @@
 use Rattle.std.proofs.Common.{◌≡◌, ℕ, ◌<◌, true}
-use Rattle.lane_rows.specs.NodeSet.{has}
+use Rattle.score.specs.NodeSet.{has}
 use Rattle.base_cases.proofs.rows.set_of.Given as goal
 
 abbrev pub invariant-loop-node : goal.invariant-loop-node

@@ -1,5 +1,5 @@
 use Rattle.std.proofs.Common.{◌≡◌, ℕ, ◌<◌, true}
-use Rattle.lane_rows.specs.NodeSet.{has}
+use Rattle.score.specs.NodeSet.{has}
 use Rattle.lane_bench.proofs.data.most_nodes.Given as goal
 
 abbrev pub invariant-loop-node : goal.invariant-loop-node

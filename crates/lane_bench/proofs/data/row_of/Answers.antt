@@ -1,5 +1,5 @@
 use Rattle.std.proofs.Common.{◌∙◌}
-use Rattle.lane_rows.proofs.SmallRows.{small_put}
+use Rattle.score.proofs.SmallRows.{small_put}
 use Rattle.lane_bench.proofs.data.row_of.Goals as goal
 
 pub loop-node-preserved : goal.loop-node-preserved

@@ -1,7 +1,7 @@
 use Rattle.std.proofs.Common.{◌≡◌, ℕ, ◌+◌, ◌*◌, subst, ◌∙◌, arith}
 use Rattle.std.proofs.lemmas.Int.{ints}
-use Rattle.lane_rows.specs.Small.{IsSmallRow}
-use Rattle.lane_rows.proofs.SmallRows.{small_add}
+use Rattle.score.specs.Small.{IsSmallRow}
+use Rattle.score.proofs.SmallRows.{small_add}
 use Rattle.lane_bench.proofs.kernels.add_rows.Goals as goal
 
 pub add_by-requires-clause-room : goal.add_by-requires-clause-room

@@ -1,7 +1,7 @@
 use Rattle.std.proofs.Common.{◌≡◌, ℕ, ◌&&◌, take}
 use Rattle.std.specs.List.{list_all}
 use Rattle.cluster_types.specs.Tables.{targets_of}
-use Rattle.lane_rows.specs.NodeSet.{has}
+use Rattle.score.specs.NodeSet.{has}
 use Rattle.placement.specs.Allowed.{allows}
 use Rattle.placement.proofs.allowing.allowed_nodes.Given as goal
 

@@ -1,8 +1,8 @@
 use Rattle.std.proofs.Common.{rules, ◌≡◌, ℕ, Bool, ◌&&◌, false, sym, ap, ◌∙◌, arith}
 use Rattle.std.proofs.Math.Bool.{and-true}
 use Rattle.cluster_types.specs.Tables.{targets_of}
-use Rattle.lane_rows.specs.NodeSet.{has}
-use Rattle.lane_rows.proofs.NodeSets.{as_test, outside}
+use Rattle.score.specs.NodeSet.{has}
+use Rattle.score.proofs.NodeSets.{as_test, outside}
 use Rattle.placement.specs.Allowed.{allows}
 use Rattle.placement.proofs.AllowedBy.{free-allows}
 use Rattle.placement.proofs.allowing.cut.Goals as goal

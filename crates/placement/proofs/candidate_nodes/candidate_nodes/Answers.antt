@@ -2,8 +2,8 @@ use Rattle.std.proofs.Common.{◌&&◌, sym, ap, ◌∙◌, arith}
 use Rattle.lemmas.proofs.Booleans.{sooner}
 use Rattle.cluster_types.specs.Choice.{has_primaries, is_apart}
 use Rattle.cluster_types.specs.Tables.{targets_of}
-use Rattle.lane_rows.specs.Choice.{is_candidate}
-use Rattle.lane_rows.specs.NodeSet.{has}
+use Rattle.score.specs.Choice.{is_candidate}
+use Rattle.score.specs.NodeSet.{has}
 use Rattle.placement.proofs.Within.{open-within}
 use Rattle.placement.proofs.candidate_nodes.candidate_nodes.Goals as goal
 

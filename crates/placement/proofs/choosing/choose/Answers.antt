@@ -1,5 +1,5 @@
 use Rattle.std.proofs.Common.{rules, ◌≡◌, arith}
-use Rattle.lane_rows.specs.Choice.{IsGreatest}
+use Rattle.score.specs.Choice.{IsGreatest}
 use Rattle.placement.proofs.Picking.{all-picked, cap-picked, left-among, none-picked, one-more}
 use Rattle.placement.proofs.choosing.choose.Goals as goal
 

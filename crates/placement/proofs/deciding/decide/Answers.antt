@@ -3,7 +3,7 @@ use Rattle.cluster_types.specs.declared.placement.Decided.{Decided}
 use Rattle.cluster_types.specs.Choice.{after_decision, is_chosen, target_by}
 use Rattle.cluster_types.specs.Decisions.{leaf_of}
 use Rattle.cluster_types.specs.Tables.{is_somewhere, targets_of}
-use Rattle.lane_rows.specs.NodeSet.{has}
+use Rattle.score.specs.NodeSet.{has}
 use Rattle.plan_laws.proofs.TablesWithin.{whole}
 use Rattle.placement.proofs.CellsAfter.{cells-alike, gives}
 use Rattle.placement.proofs.deciding.decide.Goals as goal

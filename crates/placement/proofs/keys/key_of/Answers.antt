@@ -3,7 +3,7 @@ use Rattle.std.specs.List.{range_with_len}
 use Rattle.lemmas.proofs.Ranges.{filter-same}
 use Rattle.cluster_types.specs.Decisions.{greatest_of}
 use Rattle.cluster_types.specs.Fields.{priority}
-use Rattle.lane_rows.specs.NodeSet.{has}
+use Rattle.score.specs.NodeSet.{has}
 use Rattle.score_table.specs.Scores.{score_in}
 use Rattle.score_table.specs.Usable.{is_usable_by}
 use Rattle.placement.specs.DecisionLists.{is_active_by_cell}

@@ -1,7 +1,7 @@
 use Rattle.std.proofs.Common.{◌≡◌, ◌≤◌, ◌&&◌, ℕ, ℤ, List, length, nat_lt}
 use Rattle.cluster_types.specs.Tables.{targets_of}
 use Rattle.score_table.specs.Tests.{counts}
-use Rattle.lane_rows.specs.Row.{finite_at}
+use Rattle.score.specs.Row.{finite_at}
 use Rattle.score_table.specs.Rows.{IsRow, more_where}
 use Rattle.placement.proofs.preferring.put_where_counted.Given as goal
 

@@ -1,5 +1,5 @@
 use Rattle.std.proofs.Common.{rules, ◌≡◌, ◌||◌, true, false, sym, ap, ◌∙◌, arith}
-use Rattle.lane_rows.specs.NodeSet.{has}
+use Rattle.score.specs.NodeSet.{has}
 use Rattle.lemmas.proofs.Ranges.{some_in_range}
 use Rattle.score_table.proofs.Fits.{any-next}
 use Rattle.score_table.proofs.fitting.has_any.Goals as goal

@@ -1,8 +1,8 @@
 use Rattle.std.proofs.Common.{◌≡◌, ◌&&◌, not, ap, ◌∙◌, map}
 use Rattle.std.specs.Int.{is_negative}
 use Rattle.std.specs.List.{range_with_len}
-use Rattle.lane_rows.specs.Choice.{is_candidate}
-use Rattle.lane_rows.specs.NodeSet.{has}
+use Rattle.score.specs.Choice.{is_candidate}
+use Rattle.score.specs.NodeSet.{has}
 use Rattle.lemmas.proofs.Ranges.{any-same}
 use Rattle.score.specs.Total.{total_of}
 use Rattle.score_table.proofs.Fits.{candidate-is}

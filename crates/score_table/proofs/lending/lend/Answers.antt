@@ -1,5 +1,5 @@
 use Rattle.std.proofs.Common.{◌≡◌, ◌≤◌, ◌++◌, ◌∷◌, [], true, false, length, sym, ◌∙◌, arith}
-use Rattle.lane_rows.specs.NodeSet.{has}
+use Rattle.score.specs.NodeSet.{has}
 use Rattle.score_table.specs.Lending as spec
 use Rattle.score_table.specs.OwnRows.{own_by}
 use Rattle.score_table.proofs.Lenders.{few-joined}

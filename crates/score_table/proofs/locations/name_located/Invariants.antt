@@ -1,5 +1,5 @@
 use Rattle.std.proofs.Common.{◌≡◌, ◌||◌, ℕ, take}
-use Rattle.lane_rows.specs.NodeSet.{has}
+use Rattle.score.specs.NodeSet.{has}
 use Rattle.score_table.specs.Locations.{is_named}
 use Rattle.score_table.proofs.locations.name_located.Given as goal
 

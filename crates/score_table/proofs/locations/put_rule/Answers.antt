@@ -1,5 +1,5 @@
 use Rattle.std.proofs.Common.{rules, ◌≡◌, ◌==◌, ◌&&◌, ◌++◌, ◌∷◌, [], true, if◌then◌else◌, length, ap}
-use Rattle.lane_rows.specs.NodeSet.{has}
+use Rattle.score.specs.NodeSet.{has}
 use Rattle.score_table.specs.Locations.{is_role}
 use Rattle.score_table.specs.Rows.{more_where}
 use Rattle.score_table.proofs.TermRows.{row-same}

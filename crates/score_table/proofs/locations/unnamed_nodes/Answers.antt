@@ -1,5 +1,5 @@
 use Rattle.std.proofs.Common.{rules, ◌≡◌, not, false, ap, ◌∙◌, arith}
-use Rattle.lane_rows.specs.NodeSet.{has}
+use Rattle.score.specs.NodeSet.{has}
 use Rattle.cluster_types.specs.Fields.{is_follower}
 use Rattle.score_table.proofs.locations.unnamed_nodes.Goals as goal
 

@@ -1,5 +1,5 @@
 use Rattle.std.proofs.Common.{rules, ◌≡◌, ◌==◌, ◌&&◌, ◌||◌, true, ap, ◌∙◌, sym, arith}
-use Rattle.lane_rows.specs.NodeSet.{has}
+use Rattle.score.specs.NodeSet.{has}
 use Rattle.score_table.specs.Locations.{rule_holds_by}
 use Rattle.score_table.proofs.locations.with_rule.Goals as goal
 

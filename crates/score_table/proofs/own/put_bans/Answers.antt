@@ -1,6 +1,6 @@
 use Rattle.std.proofs.Common.{rules, length, refl, sym, ◌∙◌, arith}
 use Rattle.score.specs.Total.{minus_infinity}
-use Rattle.lane_rows.specs.NodeSet.{has}
+use Rattle.score.specs.NodeSet.{has}
 use Rattle.score_table.specs.OwnRows.{is_banned_by, sticky_by}
 use Rattle.score_table.proofs.EachNode.{put-each}
 use Rattle.score_table.proofs.OwnTerms.{few-sticky, small-own}

@@ -1,6 +1,6 @@
 use Rattle.std.proofs.Common.{length, refl, sym, ◌∙◌, arith}
 use Rattle.score.specs.Total.{minus_infinity}
-use Rattle.lane_rows.specs.NodeSet.{has}
+use Rattle.score.specs.NodeSet.{has}
 use Rattle.score_table.specs.OwnRows.{banned_by}
 use Rattle.score_table.specs.Locations.{is_unnamed}
 use Rattle.score_table.proofs.EachNode.{put-each}

@@ -1,5 +1,5 @@
 use Rattle.std.proofs.Common.{rules, length, sym, ◌∙◌, arith}
-use Rattle.lane_rows.specs.NodeSet.{has}
+use Rattle.score.specs.NodeSet.{has}
 use Rattle.score_table.specs.OwnRows.{given_by, is_active_by, stickiness_of}
 use Rattle.cluster_types.specs.Terms.{is_started}
 use Rattle.score_table.proofs.Given.{few-given}

@@ -1,5 +1,5 @@
 use Rattle.std.proofs.Common.{◌≡◌, ◌≤◌, ℕ, List, Some, length, slice_get, vec_capacity}
-use Rattle.lane_rows.specs.Row.{Tally}
+use Rattle.score.specs.Row.{Tally}
 use Rattle.score_table.specs.OwnRows.{own_by}
 use Rattle.score_table.specs.Rows.{IsRow}
 use Rattle.score_table.proofs.own_rows.all_rows.Given as goal

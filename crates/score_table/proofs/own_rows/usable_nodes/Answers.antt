@@ -1,8 +1,8 @@
 use Rattle.std.proofs.Common.{rules, length, refl, arith}
 use Rattle.std.proofs.lemmas.Bool.{le-ltb}
-use Rattle.lane_rows.specs.NodeSet.{has}
+use Rattle.score.specs.NodeSet.{has}
 use Rattle.score_table.specs.Usable.{is_usable_by}
-use Rattle.lane_rows.proofs.NodeSets.{as_test}
+use Rattle.score.proofs.NodeSets.{as_test}
 use Rattle.score_table.proofs.own_rows.usable_nodes.Goals as goal
 
 pub of-requires-clause-passes : goal.of-requires-clause-passes

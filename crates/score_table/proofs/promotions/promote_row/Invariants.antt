@@ -1,7 +1,7 @@
 use Rattle.std.proofs.Common.{◌≡◌, ◌≤◌, ◌++◌, ◌∷◌, [], if◌then◌else◌, nat_lt, ℕ, List, length}
 use Rattle.cluster_types.specs.declared.journal.Promotion.{Promotion}
 use Rattle.cluster_types.specs.Terms.{is_promoted, promotion_score}
-use Rattle.lane_rows.specs.Row.{finite_at}
+use Rattle.score.specs.Row.{finite_at}
 use Rattle.score_table.specs.Locations.{given}
 use Rattle.score_table.specs.Promotions.{AreSaid}
 use Rattle.score_table.specs.Rows.{IsRow, IsRoomy}

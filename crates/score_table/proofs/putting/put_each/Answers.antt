@@ -1,5 +1,5 @@
 use Rattle.std.proofs.Common.{◌∙◌, ◌&&◌, ◌==◌, sym, refl, ap, arith, nat_lt, subst}
-use Rattle.lane_rows.specs.NodeSet.{has}
+use Rattle.score.specs.NodeSet.{has}
 use Rattle.score_table.specs.Rows.{IsRoomy, more_where}
 use Rattle.score_table.proofs.EachNode.{each-more, each-none, each-all}
 use Rattle.score_table.proofs.TermRows.{row-same}

@@ -1,6 +1,6 @@
 use Rattle.std.proofs.Common.{◌≡◌, ◌+◌, Option, Some, None, ◌∙◌, arith}
 use Rattle.agent_world.specs.declared.turn.Turn.{Turn}
-use Rattle.case_gen.specs.Draws.{draw}
+use Rattle.agent_world.specs.Draws.{draw}
 use Rattle.agent_world.specs.Turns.{calm, die, node_turn, with_draws}
 use Rattle.agent_world.proofs.Turned.{ends_may, for_node, none_shows, none_turn, of_node_may, some_shows, some_turn}
 use Rattle.agent_world.proofs.reality.Reality.turn.Goals as goal

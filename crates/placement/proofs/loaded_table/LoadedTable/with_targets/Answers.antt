@@ -1,6 +1,6 @@
 use Rattle.std.proofs.Common.{rules, ◌≡◌, ◌==◌, ◌&&◌, nat_lt, if◌then◌else◌, length, sym, ap, ◌∙◌}
 use Rattle.cluster_types.specs.Tables.{targets_of}
-use Rattle.lane_rows.specs.NodeSet.{has}
+use Rattle.score.specs.NodeSet.{has}
 use Rattle.placement.proofs.CellsAfter.{cells-more, cells-none}
 use Rattle.placement.proofs.loaded_table.LoadedTable.with_targets.Goals as goal
 

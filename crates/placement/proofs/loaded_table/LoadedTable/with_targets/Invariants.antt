@@ -1,6 +1,6 @@
 use Rattle.std.proofs.Common.{◌≡◌, ℕ, ◌==◌, ◌&&◌, nat_lt, if◌then◌else◌}
 use Rattle.cluster_types.specs.Tables.{targets_of}
-use Rattle.lane_rows.specs.NodeSet.{has}
+use Rattle.score.specs.NodeSet.{has}
 use Rattle.placement.specs.Loads.{IsLoaded}
 use Rattle.placement.proofs.loaded_table.LoadedTable.with_targets.Given as goal
 

@@ -1,4 +1,0 @@
-pub mod Quoting
-pub mod Items
-pub mod Text
-pub mod Again

@@ -1,9 +1,0 @@
-pub mod Blocks
-pub mod ChoiceLaws
-pub mod Points
-pub mod RowLaws
-pub mod SmallRows
-pub mod StoredTotals
-pub mod Tallies
-pub mod Words
-pub mod NodeSets

@@ -1,5 +1,0 @@
-use Rattle.lane_rows.specs.Choice.{IsGreatestSoFar}
-use Rattle.lane_rows.proofs.greatest_node.greatest_from.Given as goal
-
-abbrev pub invariant-loop-node : goal.invariant-loop-node
-invariant-loop-node l = IsGreatestSoFar l.totals l.loads l.among l.node l.best

@@ -1,8 +1,0 @@
-use Rattle.std.proofs.Common.{rules, ℕ, nat_eq, ap, get_or, ◌/◌, ◌%◌}
-use Rattle.lane_rows.specs.NodeSet.{has}
-use Rattle.lane_rows.proofs.Words.{with_node}
-use Rattle.lane_rows.proofs.node_set.NodeSet.put.Goals as goal
-
-pub returns : goal.returns
-unfolding has
-returns c = with_node c.args.self.now.words c.args.node (search rules) c.requires

@@ -1,5 +1,0 @@
-pub mod Choice
-pub mod NodeSet
-pub mod Row
-pub mod Small
-pub mod Stored

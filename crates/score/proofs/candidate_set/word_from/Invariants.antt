@@ -1,0 +1,5 @@
+use Rattle.score.specs.Choice.{SaysEnough}
+use Rattle.score.proofs.candidate_set.word_from.Given as goal
+
+abbrev pub invariant-loop-node : goal.invariant-loop-node
+invariant-loop-node l = SaysEnough l.totals l.first l.node l.word

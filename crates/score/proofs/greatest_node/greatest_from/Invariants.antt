@@ -1,0 +1,5 @@
+use Rattle.score.specs.Choice.{IsGreatestSoFar}
+use Rattle.score.proofs.greatest_node.greatest_from.Given as goal
+
+abbrev pub invariant-loop-node : goal.invariant-loop-node
+invariant-loop-node l = IsGreatestSoFar l.totals l.loads l.among l.node l.best

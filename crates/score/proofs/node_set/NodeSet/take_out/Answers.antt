@@ -1,0 +1,8 @@
+use Rattle.std.proofs.Common.{rules, ℕ, nat_eq, ap, get_or, ◌/◌, ◌%◌}
+use Rattle.score.specs.NodeSet.{has}
+use Rattle.score.proofs.Words.{without_node}
+use Rattle.score.proofs.node_set.NodeSet.take_out.Goals as goal
+
+pub returns : goal.returns
+unfolding has
+returns c = without_node c.args.self.now.words c.args.node (search rules) c.requires

@@ -1,0 +1,13 @@
+use Rattle.std.proofs.Common.{◌≡◌, ℕ, ◌+◌, ◌-◌, ◌<◌, ◌≤◌, length, slice_index}
+use Rattle.score.specs.Stored.{bias}
+use Rattle.score.proofs.sums.add_by_lanes.Given as goal
+
+abbrev pub invariant-loop-at : goal.invariant-loop-at
+invariant-loop-at l = record {
+  within : l.at ≤ length l.into;
+  below : (k : ℕ) → k < l.at → slice_index l.into k + bias ≡ slice_index l.fn.into k + slice_index l.other k;
+  above : (k : ℕ) → l.at ≤ k → slice_index l.into k ≡ slice_index l.fn.into k;
+}
+
+abbrev pub decreases-loop-at : goal.decreases-loop-at
+decreases-loop-at l = l.count - l.at
