@@ -5,7 +5,7 @@
 
 mod points;
 mod text;
-mod totals;
+mod totalling;
 
 // Sets of nodes, and rows of scores.
 mod candidate_set;
@@ -29,4 +29,4 @@ pub use node_set::NodeSet;
 pub use points::Score;
 pub use row::{Row, add_row, add_row_plain};
 pub use row_totals::{totals, totals_plain};
-pub use totals::{cut, total};
+pub use totalling::{cut, total};

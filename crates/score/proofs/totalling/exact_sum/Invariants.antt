@@ -1,6 +1,6 @@
 use Rattle.std.proofs.Common.{◌≡◌, ◌*◌, take, pos, neg_ℤ, ◌≤ℤ◌}
 use Rattle.score.specs.Total.{sum_of}
-use Rattle.score.proofs.totals.exact_sum.Given as goal
+use Rattle.score.proofs.totalling.exact_sum.Given as goal
 
 abbrev pub invariant-loop-term : goal.invariant-loop-term
 invariant-loop-term l = record {
