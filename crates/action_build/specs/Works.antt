@@ -1,5 +1,5 @@
 -- What a list of what cells need says of each, with the marks of those that are cycled (rule of this project).
-use Rattle.std.specs.Prelude.{◌≡◌, ◌↔◌, ℕ, true, length}
+use Rattle.std.specs.Prelude.{◌≡◌, ◌↔◌, ℕ, true, List, length}
 use Rattle.cluster_types.specs.declared.cluster.Cluster.{Cluster}
 use Rattle.cluster_types.specs.declared.journal.Event.{Event}
 use Rattle.cluster_types.specs.Needed.{Cycled}
