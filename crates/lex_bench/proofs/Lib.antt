@@ -1,1 +1,2 @@
 pub mod FewWords
+pub mod Printed
