@@ -9,8 +9,8 @@ use Rattle.cluster_types.specs.Numbers.{is_earlier, place_of}
 use Rattle.cluster_types.specs.Plans.{IsPlan}
 use Rattle.cluster_types.specs.Valid.{IsValid}
 use Rattle.cluster_types.proofs.NumberLaws.{not_both}
-use Rattle.action_build.specs.Planned.{ArePlanned}
-use Rattle.action_build.proofs.Few.{few_edges}
+use Rattle.planner.specs.PlannedActions.{ArePlanned}
+use Rattle.planner.proofs.Few.{few_edges}
 
 -- in the order of their numbers no action comes twice
 each_once : (c : Cluster) (actions : List Action) → AllPairs (λ x y. is_earlier c actions x y ≡ true) actions → AllPairs (λ x y. x ≢ y) actions

@@ -8,7 +8,7 @@ use Rattle.cluster_types.specs.declared.journal.Promotion.{Promotion}
 use Rattle.cluster_types.specs.declared.run.Run.{Run}
 use Rattle.cluster_types.specs.Runs.{Standing, due, amid, idle, Runs, IsOver, journal_at}
 use Rattle.cluster_types.specs.Texts.{run_lines}
-use Rattle.replan.specs.Kept.{IsKeptWhole, KeepsPlans}
+use Rattle.graph_exec.specs.Kept.{IsKeptWhole, KeepsPlans}
 use Rattle.run_safety.proofs.Along.{journals_grow}
 use Rattle.agent_world.specs.Lives.{Lives}
 use Rattle.agent_world.specs.Worlds.{Agrees, IsOfOne, WorldOf}

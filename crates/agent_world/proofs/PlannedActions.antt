@@ -17,7 +17,7 @@ use Rattle.cluster_types.specs.Fields.{monitors}
 use Rattle.cluster_types.specs.Needed.{FirstSet, Migrates, Needed, fence, kept, monitor, probe, sent, step, taken_in}
 use Rattle.cluster_types.specs.Tables.{Targets}
 use Rattle.cluster_types.specs.Valid.{IsValid}
-use Rattle.action_build.proofs.ActionKinds.{AreApart}
+use Rattle.planner.proofs.ActionKinds.{AreApart}
 use Rattle.plan_laws.proofs.CellSteps.{is_step}
 use Rattle.agent_world.specs.Fitting.{IntervalsFit}
 use Rattle.input_reading.specs.Written.{IsActionOf, IsCellOf, IsNumber}

@@ -23,7 +23,7 @@ use Rattle.cluster_types.specs.Tables.{Targets, targets_of}
 use Rattle.cluster_types.specs.Texts.{goal_line, lacking_lines, leaf_lines, pin_lines, target_lines}
 use Rattle.cluster_types.specs.Valid.{IsValid}
 use Rattle.input_reading.specs.Written.{IsLineOf}
-use Rattle.replan.proofs.Named.{first_in}
+use Rattle.graph_exec.proofs.Named.{first_in}
 use Rattle.agent_world.proofs.Each.{all_in_range}
 
 module _ (c : Cluster) (valid : IsValid c) where

@@ -10,7 +10,7 @@ ghost use Rattle.agent_world.specs.WorldTexts.{HasLived};
 use crate::World;
 use cluster_types::{Cluster, Journal, Run};
 use faults::NoMemory;
-use replan::{ReplayEnd, replay};
+use graph_exec::{ReplayEnd, replay};
 use std::alloc::Global;
 
 /// How many transitions are made at most.

@@ -7,11 +7,11 @@ ghost use Rattle.cluster_types.specs.Valid.{KeepsLimits};
 use crate::resolved::cluster;
 use cluster_types::{Answer, Cluster, Journal};
 use crm_lex::{Line, WordBuf, lex_one, logical_lines};
-use listed::Listed;
-use op_history::{
+use input_reading::{
     Recovery, ResultCause, ResultFault, ResultLine, StatusFault, class_of, read_result,
     read_results, read_status,
 };
+use listed::Listed;
 use std::alloc::{AllocError, Global};
 use std::process::Abort;
 

@@ -20,3 +20,16 @@ pub mod Told
 pub mod NeverStuck
 pub mod Agreeing
 pub mod Promised
+pub mod Joined
+pub mod Named
+pub mod Steps
+pub mod Ready
+pub mod Served
+pub mod Closings
+pub mod ComingNext
+pub mod Quiet
+pub mod Rests
+pub mod Whole
+pub mod KeptPlans
+pub mod KeptEnds
+pub mod KeptTurns

@@ -9,3 +9,7 @@ pub mod Watching
 pub mod Transitions
 pub mod Promises
 pub mod Rounds
+pub mod Replays
+pub mod Kept
+pub mod Turns
+pub mod Keeping

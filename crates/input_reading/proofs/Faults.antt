@@ -34,18 +34,18 @@ use Rattle.cluster_model.specs.Resolution.{cause_after, cluster_of, resolution_o
 use Rattle.cluster_types.specs.declared.cluster.Cluster.{Cluster}
 use Rattle.cluster_types.specs.declared.run.RunLine.{RunLine}
 use Rattle.cluster_types.specs.Journals.{moment_of}
-use Rattle.line_words.specs.declared.cause.WordCause.{WordCause}
+use Rattle.input_reading.specs.declared.word_cause.WordCause.{WordCause}
 use Rattle.input_reading.specs.declared.text.RunTextLine.{RunTextLine}
 use Rattle.input_reading.specs.RunReading as runs
 use Rattle.input_reading.specs.RunReading.{line_of_words, lines_of, text_line}
-use Rattle.op_history.specs.declared.fault.ResultCause.TheVariants.{TooManyResults}
-use Rattle.op_history.specs.declared.fault.StatusCause.TheVariants.{Repeated}
-use Rattle.op_history.specs.Causes.{result_cause, status_cause}
-use Rattle.op_history.specs.FirstJournal as journals
-use Rattle.op_history.specs.FirstJournal.{is_repeated, status_of}
-use Rattle.op_history.specs.Results as answers
-use Rattle.op_history.specs.Results.{answer_of, moment_after, most_results, results_of}
-use Rattle.op_history.specs.Status.{told_of}
+use Rattle.input_reading.specs.declared.history_fault.ResultCause.TheVariants.{TooManyResults}
+use Rattle.input_reading.specs.declared.history_fault.StatusCause.TheVariants.{Repeated}
+use Rattle.input_reading.specs.HistoryCauses.{result_cause, status_cause}
+use Rattle.input_reading.specs.FirstJournal as journals
+use Rattle.input_reading.specs.FirstJournal.{is_repeated, status_of}
+use Rattle.input_reading.specs.Results as answers
+use Rattle.input_reading.specs.Results.{answer_of, moment_after, most_results, results_of}
+use Rattle.input_reading.specs.Status.{told_of}
 use Rattle.faults.specs.declared.fault.Fault.TheVariants.{At, NoMemory}
 use Rattle.input_reading.specs.declared.cause.InputCause.{InputCause}
 use Rattle.input_reading.specs.declared.cause.InputCause.TheVariants as cause

@@ -9,11 +9,11 @@ use Rattle.faults.specs.declared.fault.Fault.{Fault}
 use Rattle.faults.specs.declared.fault.Fault.TheVariants.{At}
 use Rattle.faults.specs.Reading.{faulting, on_line}
 use Rattle.faults.proofs.Steps.{bind-ok}
-use Rattle.op_history.specs.declared.fault.ResultCause.{ResultCause}
-use Rattle.op_history.specs.declared.fault.ResultCause.TheVariants.{TooManyResults}
-use Rattle.op_history.specs.declared.results.ResultLine.{ResultLine}
-use Rattle.op_history.specs.Causes.{result_cause}
-use Rattle.op_history.specs.Results.{answer_of, moment_after, result_of, results_of, with_result, with_results}
+use Rattle.input_reading.specs.declared.history_fault.ResultCause.{ResultCause}
+use Rattle.input_reading.specs.declared.history_fault.ResultCause.TheVariants.{TooManyResults}
+use Rattle.input_reading.specs.declared.results.ResultLine.{ResultLine}
+use Rattle.input_reading.specs.HistoryCauses.{result_cause}
+use Rattle.input_reading.specs.Results.{answer_of, moment_after, result_of, results_of, with_result, with_results}
 
 -- a line that is read stands after fewer
 fewer_if : (test : Bool) (line : ℕ) (read : Result Answer (Fault ResultCause)) (given : Answer)

@@ -12,3 +12,13 @@ pub mod WordsOfLines
 pub mod LinesAgain
 pub mod TextAgain
 pub mod NamedLines
+pub mod Steps
+pub mod Bounds
+pub mod Kept
+pub mod ResultsSoFar
+pub mod Leaving
+pub mod FirstJournals
+pub mod LinesSoFar
+pub mod FirstWords
+pub mod Repeats
+pub mod StatusJournals

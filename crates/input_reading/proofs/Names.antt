@@ -14,7 +14,7 @@ use Rattle.cluster_types.specs.Texts.{node_name}
 use Rattle.cluster_types.specs.Valid.{IsValid}
 use Rattle.crm_lex.specs.Names.{is, is_name}
 use Rattle.crm_parse.proofs.Binds.{is-true, is-same}
-use Rattle.line_words.specs.Names.{leaf_of, node_of, place_of}
+use Rattle.input_reading.specs.Names.{leaf_of, node_of, place_of}
 
 -- what stands at a place
 found_at : {X : Type 0} (xs : List X) (n : ℕ) → n < length xs → (x : X) × (slice_get xs n ≡ Some x)

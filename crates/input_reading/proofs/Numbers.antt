@@ -10,7 +10,7 @@ use Rattle.std.proofs.lemmas.Fmt.{decimal_nonempty, digits_decimal, digits_value
 use Rattle.crm_lex.specs.Names.{is_name, is_name_byte}
 use Rattle.faults.specs.Digits.{number_up_to}
 use Rattle.faults.proofs.Numbers.{digits, is_number-true}
-use Rattle.line_words.specs.Numbers.{above_0, code_of, number_of, seconds_of}
+use Rattle.input_reading.specs.Numbers.{above_0, code_of, number_of, seconds_of}
 use Rattle.input_reading.specs.Written.{IsNumber}
 
 up_to_again : (most n : ℕ) → n ≤ most → n < 2 ^ 64 → number_up_to most (decimal n) ≡ Some n

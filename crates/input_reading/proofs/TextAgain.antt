@@ -25,7 +25,7 @@ use Rattle.crm_parse.specs.Quoting.{Item, begins_with_hash, is_plain, item_word,
 use Rattle.crm_parse.proofs.Lines.{is_filled}
 use Rattle.crm_parse.proofs.TextReads.{Readable, ended_lines, text-reads}
 use Rattle.crm_parse.proofs.TextReads as text
-use Rattle.line_words.specs.Places.{Words}
+use Rattle.input_reading.specs.Places.{Words}
 use Rattle.input_reading.specs.declared.text.RunTextLine.{RunTextLine}
 use Rattle.input_reading.specs.RunReading.{text_line, with_lines}
 use Rattle.input_reading.specs.Written.{IsActionOf, IsAnswerOf, IsLineOf, IsNumber, ReadsAgain, numbered}

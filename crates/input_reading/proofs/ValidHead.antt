@@ -6,7 +6,7 @@ use Rattle.cluster_model.proofs.ValidCluster.{resolved_valid}
 use Rattle.cluster_types.specs.declared.cluster.Cluster.{Cluster}
 use Rattle.cluster_types.specs.Safety.{IsAtRest}
 use Rattle.cluster_types.specs.Valid.{IsValid}
-use Rattle.op_history.proofs.StatusJournals.{journal_idle, journal_orderly}
+use Rattle.input_reading.proofs.StatusJournals.{journal_idle, journal_orderly}
 use Rattle.faults.specs.declared.fault.Fault.{Fault}
 use Rattle.faults.specs.Reading.{Gives}
 use Rattle.lemmas.proofs.Results.{by_result}

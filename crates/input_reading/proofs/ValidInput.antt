@@ -15,9 +15,9 @@ use Rattle.cluster_model.proofs.ValidCluster.{resolved_valid}
 use Rattle.cluster_types.specs.declared.cluster.Cluster.{Cluster}
 use Rattle.cluster_types.specs.Journals.{Orderly, in_flight, moment_of}
 use Rattle.cluster_types.specs.Valid.{IsValid}
-use Rattle.op_history.specs.FirstJournal.{status_of}
-use Rattle.op_history.specs.Results.{most_results, results_of}
-use Rattle.op_history.proofs.StatusJournals.{journal_idle, journal_orderly}
+use Rattle.input_reading.specs.FirstJournal.{status_of}
+use Rattle.input_reading.specs.Results.{most_results, results_of}
+use Rattle.input_reading.proofs.StatusJournals.{journal_idle, journal_orderly}
 use Rattle.faults.specs.declared.fault.Fault.{Fault}
 use Rattle.faults.specs.Reading.{Gives, faulting, ◌>>=◌}
 use Rattle.faults.proofs.Steps.{faulting-ok}

@@ -6,13 +6,13 @@ use Rattle.cluster_model.specs.declared.expand_fault.ExpandCause.{ExpandCause}
 use Rattle.cluster_model.specs.declared.expand_fault.ExpandCause.TheVariants as expand
 use Rattle.cluster_model.specs.declared.fault.ModelCause.{ModelCause}
 use Rattle.cluster_model.specs.declared.fault.ModelCause.TheVariants as model
-use Rattle.op_history.specs.declared.fault.StatusCause.{StatusCause}
-use Rattle.op_history.specs.declared.fault.StatusCause.TheVariants as status
+use Rattle.input_reading.specs.declared.history_fault.StatusCause.{StatusCause}
+use Rattle.input_reading.specs.declared.history_fault.StatusCause.TheVariants as status
 use Rattle.crm_lex.specs.Causes.{lex_name}
-use Rattle.op_history.specs.declared.fault.ResultCause.{ResultCause}
-use Rattle.op_history.specs.declared.fault.ResultCause.TheVariants as result
-use Rattle.line_words.specs.declared.cause.WordCause.{WordCause}
-use Rattle.line_words.specs.declared.cause.WordCause.TheVariants as word
+use Rattle.input_reading.specs.declared.history_fault.ResultCause.{ResultCause}
+use Rattle.input_reading.specs.declared.history_fault.ResultCause.TheVariants as result
+use Rattle.input_reading.specs.declared.word_cause.WordCause.{WordCause}
+use Rattle.input_reading.specs.declared.word_cause.WordCause.TheVariants as word
 use Rattle.input_reading.specs.declared.cause.InputCause.{InputCause}
 use Rattle.input_reading.specs.declared.cause.InputCause.TheVariants.{Words, Statements, Leaves, Cluster, Status, Results, Run}
 

@@ -6,3 +6,12 @@ pub mod LineWords
 pub mod RunReading
 pub mod Said
 pub mod Written
+pub mod Numbers
+pub mod Names
+pub mod Places
+pub mod HistoryCauses
+pub mod Recovery
+pub mod Results
+pub mod Status
+pub mod FirstJournal
+pub mod Repeats

@@ -10,9 +10,9 @@ use Rattle.cluster_types.specs.declared.placement.Target.{Target}
 use Rattle.cluster_types.specs.declared.placement.Target.TheVariants as target
 use Rattle.crm_lex.specs.Names.{is, is_name}
 use Rattle.faults.specs.Reading.{◌>>=◌}
-use Rattle.line_words.specs.declared.cause.WordCause.{WordCause}
-use Rattle.line_words.specs.declared.cause.WordCause.TheVariants.{BadValue}
-use Rattle.line_words.specs.Places.{Words, word_at}
+use Rattle.input_reading.specs.declared.word_cause.WordCause.{WordCause}
+use Rattle.input_reading.specs.declared.word_cause.WordCause.TheVariants.{BadValue}
+use Rattle.input_reading.specs.Places.{Words, word_at}
 use Rattle.input_reading.specs.declared.words.ActionWord.{ActionWord}
 use Rattle.input_reading.specs.declared.words.ActionWord.TheVariants as action
 use Rattle.input_reading.specs.declared.words.LineWord.{LineWord}

@@ -16,8 +16,8 @@ use Rattle.cluster_model.specs.Expansion.{expansion_of}
 use Rattle.cluster_model.specs.Resolution.{resolution_of}
 use Rattle.cluster_types.specs.declared.cluster.Cluster.{Cluster}
 use Rattle.cluster_types.specs.Journals.{moment_of}
-use Rattle.op_history.specs.FirstJournal.{status_of}
-use Rattle.op_history.specs.Results.{results_of}
+use Rattle.input_reading.specs.FirstJournal.{status_of}
+use Rattle.input_reading.specs.Results.{results_of}
 use Rattle.input_reading.specs.declared.cause.InputCause.{InputCause}
 use Rattle.input_reading.specs.declared.cause.InputCause.TheVariants as cause
 use Rattle.input_reading.specs.declared.reading.Configuration.{Configuration}

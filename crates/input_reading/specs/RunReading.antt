@@ -14,10 +14,10 @@ use Rattle.cluster_types.specs.Answering.{monitor_action}
 use Rattle.crm_lex.specs.declared.line.Line.{Line}
 use Rattle.faults.specs.declared.fault.Fault.{Fault}
 use Rattle.faults.specs.Reading.{◌>>=◌, on_line}
-use Rattle.line_words.specs.declared.cause.WordCause.{WordCause}
-use Rattle.line_words.specs.declared.cause.WordCause.TheVariants.{BadValue}
-use Rattle.line_words.specs.Places.{Words, end_at, leaf_at, node_at, number_at, word_at}
-use Rattle.op_history.specs.Results.{answer_of}
+use Rattle.input_reading.specs.declared.word_cause.WordCause.{WordCause}
+use Rattle.input_reading.specs.declared.word_cause.WordCause.TheVariants.{BadValue}
+use Rattle.input_reading.specs.Places.{Words, end_at, leaf_at, node_at, number_at, word_at}
+use Rattle.input_reading.specs.Results.{answer_of}
 use Rattle.input_reading.specs.declared.text.RunTextLine.{RunTextLine}
 use Rattle.input_reading.specs.declared.words.ActionWord.{ActionWord}
 use Rattle.input_reading.specs.declared.words.ActionWord.TheVariants as action

@@ -6,8 +6,8 @@ ghost use Rattle.cluster_types.specs.Valid.{KeepsLimits};
 ghost use Rattle.input_reading.specs.RunReading.{action_as, fence_at_end, migrate_from_at_end, migrate_to_at_end, monitor_at_end, operation_at_end, probe_at_end};
 
 use crate::words::ActionWord;
+use crate::{WordCause, Words, end_at, leaf_at, node_at, number_at};
 use cluster_types::{Action, Cluster, LeafId, NodeId, Op, Role};
-use line_words::{WordCause, Words, end_at, leaf_at, node_at, number_at};
 
 #[tactic(auto, unfolding(crate::specs::RunReading::fence_at_end))]
 fn fence_at_end<W: Words>(cluster: &Cluster, words: &W) -> Result<Action, WordCause>

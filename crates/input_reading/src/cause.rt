@@ -3,11 +3,10 @@
 ghost use Rattle.std.specs.Prelude.{◌≡◌};
 ghost use Rattle.input_reading.specs.Causes.{cause_name, expand_name, model_name, parse_name, result_name, status_name, word_name};
 
+use crate::{ResultCause, StatusCause, WordCause};
 use cluster_model::{ExpandCause, ModelCause};
 use crm_lex::{LexCause, lex_name};
 use crm_parse::ParseCause;
-use line_words::WordCause;
-use op_history::{ResultCause, StatusCause};
 
 /// Why an input is refused, by the step of reading that finds it.
 #[derive(Clone, Copy, Debug, PartialEq, Eq)]

@@ -8,10 +8,9 @@ ghost use Rattle.input_reading.specs.Said.{said_of};
 
 use crate::actions::action_as;
 use crate::words::{LineWord, action_word_at, id_at, line_word, pin_at, reason_of, target_at};
+use crate::{WordCause, Words, answer_of, end_at, leaf_at, node_at, number_at, word_at};
 use cluster_types::{Cluster, LeafId, RunLine};
 use crm_lex::is;
-use line_words::{WordCause, Words, end_at, leaf_at, node_at, number_at, word_at};
-use op_history::answer_of;
 
 /// What a line says, without memory: the id of a rule is lent.
 pub(crate) enum Said<'w> {

@@ -8,8 +8,8 @@ ghost use Rattle.cluster_types.specs.Valid.{IsValid, KeepsLimits};
 ghost use Rattle.cluster_model.specs.Resolution.{resolution_of};
 ghost use Rattle.crm_lex.specs.Reading.{reads};
 ghost use Rattle.crm_parse.specs.Statements.{statements_of};
-ghost use Rattle.op_history.specs.FirstJournal.{status_of};
-ghost use Rattle.op_history.specs.Results.{most_results, results_of};
+ghost use Rattle.input_reading.specs.FirstJournal.{status_of};
+ghost use Rattle.input_reading.specs.Results.{most_results, results_of};
 ghost use Rattle.faults.specs.Reading.{Gives, faulting};
 ghost use Rattle.input_reading.specs.declared.cause.InputCause.TheVariants as cause;
 ghost use Rattle.input_reading.specs.Reading.{configuration_of, head_of, input_of, line_behind, most_bytes, nothing_yet, start_of, with_cluster, with_results};
@@ -18,12 +18,12 @@ ghost use Rattle.input_reading.specs.Sections.{sections_by};
 use crate::cause::InputCause;
 use crate::fault::InputFault;
 use crate::sections::{LastSection, lines_after, sections_in};
+use crate::{ResultLine, read_results, read_status};
 use cluster_model::{Leaves, expand, resolve};
 use cluster_types::{Cluster, Journal};
 use crm_lex::{Line, logical_lines};
 use crm_parse::{Crm, SectionMarks, parse};
 use listed::Listed;
-use op_history::{ResultLine, read_results, read_status};
 use std::alloc::Global;
 
 /// The most bytes that an input may have: 16 MiB (rule of this project).

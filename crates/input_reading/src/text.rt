@@ -1,6 +1,6 @@
+use crate::WordCause;
 use cluster_types::RunLine;
 use faults::Fault;
-use line_words::WordCause;
 use listed::Listed;
 
 /// A line of a run that was read, and where it stands.

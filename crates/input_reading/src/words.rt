@@ -4,10 +4,10 @@ ghost use Rattle.std.specs.Prelude.{◌≡◌};
 ghost use Rattle.faults.specs.Reading.{Reads};
 ghost use Rattle.input_reading.specs.LineWords.{action_word, action_word_at, id_at, line_word, pin_at, pin_of, reason_of, target_at, target_of};
 
+use crate::{WordCause, Words, word_at};
 use cluster_types::{NoReason, Op, Pin, Target};
 use crm_lex::is;
 use crm_parse::is_name;
-use line_words::{WordCause, Words, word_at};
 
 /// The forms of the lines of a run.
 #[derive(Clone, Copy)]

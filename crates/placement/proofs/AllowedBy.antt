@@ -7,7 +7,7 @@ use Rattle.cluster_types.specs.declared.placement.Decision.{Decision}
 use Rattle.cluster_types.specs.declared.rules.Colocation.{Colocation}
 use Rattle.cluster_types.specs.Choice.{is_dependent, is_mandatory, is_primary, is_separation}
 use Rattle.cluster_types.specs.Tables.{Targets, holds_role}
-use Rattle.score_table.specs.Tests.{has_primary, keeps_apart}
+use Rattle.placement.specs.Tests.{has_primary, keeps_apart}
 use Rattle.placement.specs.Allowed.{allows, is_strict}
 
 free : (m s d p h k : Bool) → (m && d || s && (d || p)) ≡ false → ((not (m && d) || h) && (not s || not (d && h) && not (p && k))) ≡ true

@@ -23,9 +23,9 @@ use Rattle.cluster_types.specs.Tables.{Targets, load_of}
 use Rattle.cluster_types.specs.Unpacked.{states_of}
 use Rattle.plan_laws.proofs.Picked.{picked_are_first}
 use Rattle.plan_laws.proofs.FewChosen.{chosen_one_way}
-use Rattle.score_table.specs.Scores.{scores_of}
-use Rattle.score_table.proofs.OwnOfStates.{from-zero}
-use Rattle.score_table.proofs.TableOfStates.{total-is}
+use Rattle.placement.specs.Scores.{scores_of}
+use Rattle.placement.proofs.OwnOfStates.{from-zero}
+use Rattle.placement.proofs.TableOfStates.{total-is}
 use Rattle.placement.specs.Picks.{ArePicked}
 use Rattle.placement.specs.Reads.{is_candidate_in, total_in}
 use Rattle.placement.specs.Steps.{Chooses}

@@ -16,10 +16,10 @@ use Rattle.cluster_types.specs.NodeStates.{is_usable}
 use Rattle.cluster_types.specs.Terms.{base}
 use Rattle.cluster_types.specs.Unpacked.{states_of}
 use Rattle.cluster_types.proofs.StatesKept.{cell_kept}
-use Rattle.score_table.specs.Scores.{score_in, scores_of}
-use Rattle.score_table.specs.Usable.{is_usable_by}
-use Rattle.score_table.proofs.OwnOfStates.{usable-is}
-use Rattle.score_table.proofs.TableOfStates.{total-is}
+use Rattle.placement.specs.Scores.{score_in, scores_of}
+use Rattle.placement.specs.Usable.{is_usable_by}
+use Rattle.placement.proofs.OwnOfStates.{usable-is}
+use Rattle.placement.proofs.TableOfStates.{total-is}
 use Rattle.placement.specs.DecisionLists.{is_active_by_cell, key_by, totals_where_by}
 use Rattle.placement.specs.Effective.{effective_in}
 use Rattle.placement.proofs.Alike.{map-on}

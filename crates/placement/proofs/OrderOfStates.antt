@@ -15,8 +15,8 @@ use Rattle.plan_laws.proofs.MadeOnes.{never_both, there}
 use Rattle.plan_laws.proofs.Reaches as reached
 use Rattle.plan_laws.proofs.Reaches.{Reaches, all_of_reached}
 use Rattle.plan_laws.proofs.Ready.{ready_is_one}
-use Rattle.score_table.specs.declared.table.ScoreTable.{ScoreTable}
-use Rattle.score_table.specs.Scores.{scores_of}
+use Rattle.placement.specs.declared.table.ScoreTable.{ScoreTable}
+use Rattle.placement.specs.Scores.{scores_of}
 use Rattle.placement.specs.DecisionLists.{decisions_in, key_by}
 use Rattle.placement.specs.Effective.{effective_in}
 use Rattle.placement.specs.Turns as turns

@@ -6,12 +6,12 @@ use Rattle.cluster_types.specs.declared.placement.Decision.{Decision}
 use Rattle.cluster_types.specs.declared.rules.Colocation.{Colocation}
 use Rattle.cluster_types.specs.Choice.{is_dependent, is_mandatory, is_separation}
 use Rattle.cluster_types.specs.Tables.{Targets, holds_role}
-use Rattle.score_table.specs.Tests.{counts}
-use Rattle.score_table.specs.Rows.{few, IsRow, more_where}
-use Rattle.score_table.proofs.EachNode.{each-more}
-use Rattle.score_table.proofs.FewTerms.{few-kept}
-use Rattle.score_table.proofs.Given.{taken, kept-more}
-use Rattle.score_table.proofs.TermRows.{row-same}
+use Rattle.placement.specs.Tests.{counts}
+use Rattle.placement.specs.Rows.{few, IsRow, more_where}
+use Rattle.placement.proofs.EachNode.{each-more}
+use Rattle.placement.proofs.FewTerms.{few-kept}
+use Rattle.placement.proofs.Given.{taken, kept-more}
+use Rattle.placement.proofs.TermRows.{row-same}
 use Rattle.placement.specs.Counted.{counted}
 
 -- one more node of those that pass

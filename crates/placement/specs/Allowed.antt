@@ -4,7 +4,7 @@ use Rattle.cluster_types.specs.declared.placement.Decision.{Decision}
 use Rattle.cluster_types.specs.declared.rules.Colocation.{Colocation}
 use Rattle.cluster_types.specs.Choice.{is_dependent, is_mandatory, is_primary, is_separation}
 use Rattle.cluster_types.specs.Tables.{Targets}
-use Rattle.score_table.specs.Tests.{has_primary, keeps_apart}
+use Rattle.placement.specs.Tests.{has_primary, keeps_apart}
 
 -- it allows the decision there
 abbrev pub allows : Targets → Decision → ℕ → Colocation → Bool

@@ -3,7 +3,7 @@ use Rattle.std.specs.Prelude.{ℕ, ℤ, List, map, filter}
 use Rattle.cluster_types.specs.declared.placement.Decision.{Decision}
 use Rattle.cluster_types.specs.declared.rules.Colocation.{Colocation}
 use Rattle.cluster_types.specs.Tables.{Targets}
-use Rattle.score_table.specs.Tests.{counts}
+use Rattle.placement.specs.Tests.{counts}
 
 abbrev pub counted : Targets → Decision → List Colocation → ℕ → List ℤ
 counted table d cols n = map (λ (col : Colocation). col.score) (filter (counts table d n) cols)

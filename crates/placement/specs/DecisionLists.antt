@@ -11,10 +11,10 @@ use Rattle.cluster_types.specs.declared.states.States.{States}
 use Rattle.cluster_types.specs.Decisions.{Key, greatest_of, is_active_for, leaf_of}
 use Rattle.cluster_types.specs.Fields.{is_promotable, priority}
 use Rattle.cluster_types.specs.Pins.{is_pinned_in}
-use Rattle.score_table.specs.declared.table.ScoreTable.{ScoreTable}
-use Rattle.score_table.specs.OwnRows.{cell_by}
-use Rattle.score_table.specs.Scores.{score_in}
-use Rattle.score_table.specs.Usable.{is_usable_by}
+use Rattle.placement.specs.declared.table.ScoreTable.{ScoreTable}
+use Rattle.placement.specs.OwnRows.{cell_by}
+use Rattle.placement.specs.Scores.{score_in}
+use Rattle.placement.specs.Usable.{is_usable_by}
 
 module _ (c : Cluster) (pins : List (Option Pin)) where
   -- what is decided of a leaf

@@ -17,3 +17,13 @@ pub mod Lending
 pub mod Dependencies
 pub mod Taking
 pub mod Reasoning
+pub mod LendingRows
+pub mod Locations
+pub mod OwnRows
+pub mod Promotions
+pub mod Rows
+pub mod Scores
+pub mod TieOrder
+pub mod Ties
+pub mod Usable
+pub mod Tests

@@ -12,7 +12,7 @@ use Rattle.cluster_types.specs.declared.states.States.{States}
 use Rattle.cluster_types.specs.Fields.{is_managed}
 use Rattle.cluster_types.specs.NodeStates.{is_online_in}
 use Rattle.cluster_types.specs.Pins.{is_blocked_state, is_pinned_in, is_unprobed_state}
-use Rattle.score_table.specs.OwnRows.{cell_by}
+use Rattle.placement.specs.OwnRows.{cell_by}
 
 -- the leaf may be left in the cell: it may run there, and the cell was probed
 abbrev pub may_stay : Cell → Bool

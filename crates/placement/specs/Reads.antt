@@ -16,10 +16,10 @@ use Rattle.cluster_types.specs.Choice.{has_primaries, is_apart, is_kept_by, is_p
 use Rattle.cluster_types.specs.Decisions.{leaf_of}
 use Rattle.cluster_types.specs.Fields.{copies, promoted_copies, target_role_of}
 use Rattle.cluster_types.specs.Tables.{Targets}
-use Rattle.score_table.specs.declared.table.ScoreTable.{ScoreTable}
-use Rattle.score_table.specs.OwnRows.{is_active_by}
-use Rattle.score_table.specs.Scores.{score_in}
-use Rattle.score_table.specs.Usable.{is_usable_by}
+use Rattle.placement.specs.declared.table.ScoreTable.{ScoreTable}
+use Rattle.placement.specs.OwnRows.{is_active_by}
+use Rattle.placement.specs.Scores.{score_in}
+use Rattle.placement.specs.Usable.{is_usable_by}
 
 -- on how many nodes a leaf is promoted at most
 abbrev pub promote_cap_of : Cluster → ℕ → ℕ

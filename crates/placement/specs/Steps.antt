@@ -13,8 +13,8 @@ use Rattle.cluster_types.specs.Choice.{after_decision, after_decisions, is_chose
 use Rattle.cluster_types.specs.Plans.{with_totals}
 use Rattle.cluster_types.specs.Tables.{Targets}
 use Rattle.cluster_types.specs.Unpacked.{states_of}
-use Rattle.score_table.specs.declared.table.ScoreTable.{ScoreTable}
-use Rattle.score_table.specs.Scores.{scores_of}
+use Rattle.placement.specs.declared.table.ScoreTable.{ScoreTable}
+use Rattle.placement.specs.Scores.{scores_of}
 
 module _ (c : Cluster) (es : List Event) (promotions : List Promotion) where
   -- these are the states and the totals that the journal and the promotion scores tell

@@ -6,9 +6,9 @@ ghost use Rattle.cluster_types.specs.Tables.{targets_of};
 ghost use Rattle.score.specs.NodeSet.{has};
 ghost use Rattle.placement.specs.Allowed as spec;
 
+use crate::{has_primary, keeps_apart};
 use cluster_types::{Cluster, Colocation, Decision, NodeId, Table};
 use score::NodeSet;
-use score_table::{has_primary, keeps_apart};
 
 /// Whether the colocation may forbid the decision a node.
 fn is_strict(rule: &Colocation, decision: Decision) -> bool

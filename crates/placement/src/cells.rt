@@ -4,8 +4,8 @@ ghost use Rattle.std.specs.Prelude.{◌≡◌, ◌≤◌, length};
 ghost use Rattle.cluster_types.specs.Choice as choice;
 ghost use Rattle.placement.specs.Reads as spec;
 
+use crate::is_active;
 use cluster_types::{CellState, Cluster, Decision, LeafId, NodeId, States, cell_place};
-use score_table::is_active;
 
 /// The state of a cell, if it is known.
 fn state_of(cluster: &Cluster, states: &States, leaf: LeafId, node: NodeId) -> Option<CellState>

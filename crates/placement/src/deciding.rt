@@ -12,14 +12,14 @@ ghost use Rattle.cluster_types.specs.Unpacked.{states_of};
 ghost use Rattle.cluster_types.specs.Valid.{KeepsLimits};
 ghost use Rattle.placement.specs.Loads.{IsLoaded};
 ghost use Rattle.placement.specs.Steps.{AreMade, IsMade, Tell};
-ghost use Rattle.score_table.specs.Scores.{scores_of};
+ghost use Rattle.placement.specs.Scores.{scores_of};
 
+use crate::ScoreTable;
 use crate::chosen_nodes::chosen_nodes;
 use crate::known::Known;
 use crate::loaded_table::LoadedTable;
 use cluster_types::{Cluster, Decided, Decision, NoMemory, States, Table, Target};
 use listed::Listed;
-use score_table::ScoreTable;
 use std::alloc::Global;
 
 /// What some decisions chose.

@@ -5,14 +5,14 @@ ghost use Rattle.std.specs.Int.{int_max};
 ghost use Rattle.std.specs.List.{range_with_len};
 ghost use Rattle.cluster_types.specs.Decisions as decisions;
 ghost use Rattle.score.specs.NodeSet.{has};
-ghost use Rattle.score_table.specs.Scores.{score_in};
-ghost use Rattle.score_table.specs.Usable.{is_usable_by};
+ghost use Rattle.placement.specs.Scores.{score_in};
+ghost use Rattle.placement.specs.Usable.{is_usable_by};
 ghost use Rattle.placement.specs.DecisionLists as spec;
 
 use crate::decision_set::DecisionSet;
+use crate::{ScoreTable, usable_nodes};
 use cluster_types::{CellState, Cluster, Decision, NodeId, States, cell_place};
 use score::{NodeSet, Score};
-use score_table::{ScoreTable, usable_nodes};
 use std::alloc::{AllocError, Global};
 use std::marker::Model;
 

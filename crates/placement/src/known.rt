@@ -7,11 +7,11 @@ ghost use Rattle.cluster_types.specs.Rights.{rights_of};
 ghost use Rattle.cluster_types.specs.Unpacked.{states_of};
 ghost use Rattle.cluster_types.specs.Valid.{KeepsLimits};
 ghost use Rattle.score.specs.NodeSet.{has};
-ghost use Rattle.score_table.specs.Usable.{is_usable_by};
+ghost use Rattle.placement.specs.Usable.{is_usable_by};
 
+use crate::{ScoreTable, usable_nodes};
 use cluster_types::{Cluster, Rights, States};
 use score::NodeSet;
-use score_table::{ScoreTable, usable_nodes};
 use state_unpack::rights;
 
 /// A cluster in some states, with what it may do, the nodes that may run resources, and the totals before colocations.

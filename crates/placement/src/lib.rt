@@ -1,6 +1,33 @@
-//! Where everything goes, and why: what is left as it is, what is decided in which order, which nodes each decision
-//! chooses, and which chosen cells are held back.
+//! Where everything goes, and why: the total of each decision on each node, what is left as it is, what is decided in
+//! which order, which nodes each decision chooses, and which chosen cells are held back.
 #![tactic(auto)]
+
+// Rows of the terms that each node has.
+mod adding;
+mod fitting;
+mod putting;
+mod row_totals;
+
+// What a leaf has of its own.
+mod locations;
+mod own;
+mod own_rows;
+
+// What others lend to it.
+mod lending_rows;
+mod tie_order;
+mod ties;
+
+// How much it wants to be promoted.
+mod promotions;
+
+// The totals of all decisions, before colocations.
+mod laws;
+mod table;
+
+// What colocations say of a decision: on which nodes it is allowed, and how much it prefers them.
+mod preferences;
+mod testing;
 
 // What is left as it is.
 mod pinned;
@@ -65,8 +92,16 @@ mod placing;
 
 pub use deciding::{Choices, decide_all};
 pub use final_targets::targets;
+pub use laws::scores_are_totals;
 pub use making::decisions_in_order;
 pub use missing::reasons;
+pub use own::is_active;
+pub use own_rows::usable_nodes;
 pub use pinned::pinned_table;
 pub use pinning::pins;
 pub use placing::{place, placement_of};
+pub use preferences::{counts, preference};
+pub use putting::put_if;
+pub use row_totals::totals_of;
+pub use table::{ScoreTable, rows};
+pub use testing::{allowed, has_primary, keeps_apart};

@@ -9,11 +9,12 @@ ghost use Rattle.cluster_types.specs.Decisions.{Decides, leaf_of};
 ghost use Rattle.cluster_types.specs.Pins.{pin_of};
 ghost use Rattle.cluster_types.specs.Unpacked.{states_of};
 ghost use Rattle.cluster_types.specs.Valid.{IsValid};
-ghost use Rattle.score_table.specs.Scores.{scores_of};
+ghost use Rattle.placement.specs.Scores.{scores_of};
 ghost use Rattle.placement.specs.DecisionLists.{decisions_in, key_by};
 ghost use Rattle.placement.specs.Effective.{effective_in};
 ghost use Rattle.placement.specs.Turns.{AreInOrder};
 
+use crate::ScoreTable;
 use crate::decision_set::DecisionSet;
 use crate::effective::effective_keys;
 use crate::keys::{Key, all_keys};
@@ -21,7 +22,6 @@ use crate::ordering::in_order;
 use crate::ranked::all_sorted;
 use carry::with;
 use cluster_types::{Cluster, Decision, NoMemory, Pin, States};
-use score_table::ScoreTable;
 use std::alloc::{AllocError, Global};
 
 /// The effective key of each decision of the set.

@@ -5,7 +5,7 @@ ghost use Rattle.cluster_types.specs.Choice as choice;
 ghost use Rattle.cluster_types.specs.Tables.{targets_of};
 ghost use Rattle.score.specs.NodeSet.{has};
 ghost use Rattle.placement.specs.Reads as spec;
-ghost use Rattle.score_table.specs.Usable.{is_usable_by};
+ghost use Rattle.placement.specs.Usable.{is_usable_by};
 
 use crate::cells::{active_count, is_kept};
 use crate::known::Known;

@@ -9,7 +9,7 @@ ghost use Rattle.cluster_types.specs.Pins.{pin_of, pinned_targets};
 ghost use Rattle.cluster_types.specs.Tables.{targets_of};
 ghost use Rattle.cluster_types.specs.Unpacked.{states_of};
 ghost use Rattle.cluster_types.specs.Valid.{KeepsLimits};
-ghost use Rattle.score_table.specs.Scores.{cells_of};
+ghost use Rattle.placement.specs.Scores.{cells_of};
 ghost use Rattle.placement.specs.Pins as spec;
 
 use cluster_types::{

@@ -9,12 +9,13 @@ ghost use Rattle.cluster_types.specs.Plans.{IsPlaced};
 ghost use Rattle.cluster_types.specs.Unpacked.{states_of};
 ghost use Rattle.cluster_types.specs.Valid.{IsValid};
 ghost use Rattle.placement.specs.Chosen.{AreChosen};
-ghost use Rattle.score_table.specs.Scores.{scores_of};
+ghost use Rattle.placement.specs.Scores.{scores_of};
 
-use crate::{Choices, decide_all, decisions_in_order, pinned_table, pins, reasons, targets};
+use crate::{
+    Choices, ScoreTable, decide_all, decisions_in_order, pinned_table, pins, reasons, rows, targets,
+};
 use carry::with;
 use cluster_types::{Cluster, NoMemory, Pin, Placed, States};
-use score_table::{ScoreTable, rows};
 use std::alloc::Global;
 
 /// What is chosen for the leaves that aren't pinned, each decision at its turn.

@@ -5,15 +5,15 @@ ghost use Rattle.std.specs.List.{range_with_len};
 ghost use Rattle.cluster_types.specs.Choice as choice;
 ghost use Rattle.cluster_types.specs.Tables.{targets_of};
 ghost use Rattle.cluster_types.specs.Valid.{KeepsLimits};
-ghost use Rattle.score_table.specs.Tests.{counts};
+ghost use Rattle.placement.specs.Tests.{counts};
 ghost use Rattle.score.specs.Row.{finite_at};
 ghost use Rattle.placement.specs.Counted.{counted};
 ghost use Rattle.score.specs.Total.{total_of};
-ghost use Rattle.score_table.specs.Rows.{IsRow, IsRoomy, more_where};
+ghost use Rattle.placement.specs.Rows.{IsRow, IsRoomy, more_where};
 
+use crate::{counts, put_if, totals_of};
 use cluster_types::{Cluster, Colocation, Decision, NoMemory, NodeId, Table};
 use score::{Row, Score};
-use score_table::{counts, put_if, totals_of};
 use std::alloc::Global;
 
 /// Adds the score of the colocation on each node where it counts for the decision.

@@ -17,12 +17,12 @@ use Rattle.cluster_types.specs.Unpacked.{states_of}
 use Rattle.cluster_types.specs.Valid.{IsValid}
 use Rattle.loops.proofs.FromValid.{valid_order}
 use Rattle.loops.proofs.OneRanking.{rank_bounded}
-use Rattle.action_build.specs.Actions.{all_fences, is_free, is_touched, leaves_actions}
-use Rattle.action_build.specs.Cycling.{Marks, first_marks, with_orders}
-use Rattle.action_build.specs.Levels.{below_level, need_at}
-use Rattle.action_build.proofs.Found.{found}
-use Rattle.action_build.proofs.StepsGot.{Tells}
-use Rattle.action_build.proofs.WholeList.{whole_list}
+use Rattle.planner.specs.Actions.{all_fences, is_free, is_touched, leaves_actions}
+use Rattle.planner.specs.Cycling.{Marks, first_marks, with_orders}
+use Rattle.planner.specs.Levels.{below_level, need_at}
+use Rattle.planner.proofs.Found.{found}
+use Rattle.planner.proofs.StepsGot.{Tells}
+use Rattle.planner.proofs.WholeList.{whole_list}
 
 module _ (c : Cluster) (valid : IsValid c) (es : List Event) (ps : List Promotion) (targets : Targets) where
   below_top : (o : Order) → Contains c.orders o → rank c (step_of Stop o.first) < suc (4 * length c.leaves)

@@ -12,8 +12,8 @@ use Rattle.cluster_types.specs.Plans.{IsPlan}
 use Rattle.cluster_types.specs.Tables.{Targets, targets_of}
 use Rattle.cluster_types.specs.Valid.{IsValid}
 use Rattle.cluster_types.proofs.NumberLaws.{not_both, same_place}
-use Rattle.action_build.proofs.OwnPlaces.{own_place}
-use Rattle.action_build.proofs.WeakOrder.{chain_places, one_first}
+use Rattle.planner.proofs.OwnPlaces.{own_place}
+use Rattle.planner.proofs.WeakOrder.{chain_places, one_first}
 use Rattle.plan_laws.proofs.SomePlacement.{is_placed, placed}
 use Rattle.planner.proofs.SomeNeeded.{are_needed, needed_list}
 use Rattle.planner.proofs.Sorting.{is_there, sorted, sorted_pairs, was_there}

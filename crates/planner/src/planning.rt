@@ -6,7 +6,7 @@ ghost use Rattle.cluster_types.specs.Unpacked.{states_of};
 ghost use Rattle.cluster_types.specs.Valid.{IsValid};
 ghost use Rattle.planner.specs.Planned.{AreTold, IsPlanned};
 
-use action_build::{actions, number};
+use crate::{actions, number};
 use carry::with;
 use cluster_types::{Cluster, Journal, NoMemory, Plan, States};
 use placement::placement_of;

@@ -6,8 +6,7 @@ use crate::cases::{Case, check_all};
 use crate::plain::{Known, known_by};
 use crate::tables::have_points;
 use cluster_types::{Decided, Pin, Target};
-use placement::{Choices, decide_all, decisions_in_order, pinned_table, pins};
-use score_table::rows;
+use placement::{Choices, decide_all, decisions_in_order, pinned_table, pins, rows};
 use std::alloc::Global;
 use std::process::Abort;
 

@@ -5,8 +5,7 @@ ghost use Rattle.cluster_types.specs.Valid.{IsValid};
 use crate::cases::{Case, check_all};
 use crate::plain::{Known, known_by};
 use cluster_types::{Decision, Pin, Table, Target};
-use placement::{decisions_in_order, pinned_table, pins};
-use score_table::rows;
+use placement::{decisions_in_order, pinned_table, pins, rows};
 use std::alloc::Global;
 use std::process::Abort;
 

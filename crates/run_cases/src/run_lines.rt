@@ -5,8 +5,7 @@ ghost use Rattle.cluster_types.specs.Valid.{KeepsLimits};
 use crate::starts::{CONFIGURATION, cluster_of};
 use cluster_types::{Action, Answer, Cluster, NoReason, Op, Pin, Role, RunLine, Target};
 use crm_lex::{Name, logical_lines};
-use input_reading::{RunText, RunTextLine, TraceFault, read_run};
-use line_words::WordCause;
+use input_reading::{RunText, RunTextLine, TraceFault, WordCause, read_run};
 use std::alloc::Global;
 use std::process::Abort;
 

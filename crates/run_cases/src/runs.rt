@@ -4,8 +4,7 @@ use crate::starts::{TWO, start_of};
 use crate::transitions::script_of;
 use crate::watching::{Follower, Line};
 use cluster_types::{Answer, Journal};
-use graph_exec::{Failing, Outcomes};
-use replan::{ReplayStop, replay_watched};
+use graph_exec::{Failing, Outcomes, ReplayStop, replay_watched};
 use std::alloc::Global;
 use std::process::Abort;
 

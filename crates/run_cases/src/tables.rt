@@ -3,8 +3,8 @@
 use crate::cases::{Case, check_all};
 use crate::plain::{Known, known_by};
 use cluster_types::{Decision, NodeId};
+use placement::{ScoreTable, rows};
 use score::Score;
-use score_table::{ScoreTable, rows};
 use std::alloc::Global;
 use std::process::Abort;
 

@@ -9,9 +9,9 @@ use Rattle.input_reading.specs.declared.trace.Trace.{Trace}
 use Rattle.input_reading.proofs.OneReading.{not_both_of_a_trace, one_trace}
 use Rattle.input_reading.proofs.ValidTrace.{cluster_valid, run_named}
 use Rattle.input_reading.specs.Written.{IsNamed}
-use Rattle.live_run.specs.declared.verdict.Clause.{Clause}
-use Rattle.live_run.specs.Lawful.{IsFaulty, IsLawful, said}
-use Rattle.live_run.proofs.Verdicts.{said_named}
+use Rattle.sim_core.specs.declared.verdict.Clause.{Clause}
+use Rattle.sim_core.specs.Lawful.{IsFaulty, IsLawful, said}
+use Rattle.sim_core.proofs.Verdicts.{said_named}
 use Rattle.sim_core.specs.declared.status.Status.{Status}
 use Rattle.sim_core.specs.declared.status.Status.TheVariants.{Done, NotLawful, Refused}
 use Rattle.sim_core.specs.Audit.{IsAuditOutput, IsLawfulTrace, IsTraceRefusal, IsUnlawfulTrace}

@@ -22,7 +22,7 @@ use Rattle.cluster_types.specs.Journals.{moment_of}
 use Rattle.cluster_types.specs.Valid.{IsValid, KeepsLimits}
 use Rattle.faults.specs.declared.fault.Fault.{Fault}
 use Rattle.faults.specs.Reading.{faulting, ◌>>=◌}
-use Rattle.op_history.specs.FirstJournal.{journal_of, status_of}
+use Rattle.input_reading.specs.FirstJournal.{journal_of, status_of}
 use Rattle.input_reading.specs.declared.cause.InputCause.{InputCause}
 use Rattle.input_reading.specs.declared.cause.InputCause.TheVariants as cause
 use Rattle.input_reading.specs.declared.reading.Head.{Head}

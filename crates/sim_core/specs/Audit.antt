@@ -4,9 +4,9 @@ use Rattle.input_reading.specs.declared.cause.InputCause.{InputCause}
 use Rattle.input_reading.specs.declared.trace.Trace.{Trace}
 use Rattle.input_reading.specs.Causes.{refusal_text}
 use Rattle.input_reading.specs.Traces.{IsTraceRefused, ReadsTrace}
-use Rattle.live_run.specs.declared.verdict.Clause.{Clause}
-use Rattle.live_run.specs.declared.verdict.Clause.TheVariants as due
-use Rattle.live_run.specs.Lawful.{IsFaultyLine, IsLawful, said}
+use Rattle.sim_core.specs.declared.verdict.Clause.{Clause}
+use Rattle.sim_core.specs.declared.verdict.Clause.TheVariants as due
+use Rattle.sim_core.specs.Lawful.{IsFaultyLine, IsLawful, said}
 use Rattle.sim_core.specs.declared.status.Status.{Status}
 use Rattle.sim_core.specs.declared.status.Status.TheVariants.{Done, NotLawful, Refused}
 

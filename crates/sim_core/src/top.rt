@@ -6,7 +6,7 @@ ghost use Rattle.input_reading.specs.Reading.{most_bytes};
 ghost use Rattle.sim_core.specs.Table.{intake, nothing, whole};
 ghost use Rattle.sim_core.specs.Words.{command_of};
 
-use crate::audit::AuditWord;
+use crate::audit_word::AuditWord;
 use crate::check::CheckWord;
 use crate::generated::with_case;
 use crate::graph::GraphWord;
@@ -20,8 +20,8 @@ use crate::status::Status;
 use crate::text_word::Reading;
 use crate::words::{Command, command_of};
 use crate::world::WorldWord;
+use crate::{ends_are_one, faulty_runs_are_not_lawful};
 use cluster_io::{Sink, Source};
-use live_run::{ends_are_one, faulty_runs_are_not_lawful};
 use std::alloc::Global;
 
 /// Carries out a word. The clauses are those of `run` for the words that ask for it.

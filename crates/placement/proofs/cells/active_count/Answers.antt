@@ -1,6 +1,6 @@
 use Rattle.std.proofs.Common.{◌≡◌, true, false, sym, ◌∙◌, arith}
 use Rattle.lemmas.proofs.Ranges.{count-no, count-yes}
-use Rattle.score_table.specs.OwnRows.{is_active_by}
+use Rattle.placement.specs.OwnRows.{is_active_by}
 use Rattle.placement.proofs.cells.active_count.Goals as goal
 
 pub loop-node-preserved-then-not-is_active : goal.loop-node-preserved-then-not-is_active

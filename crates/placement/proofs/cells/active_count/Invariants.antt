@@ -1,6 +1,6 @@
 use Rattle.std.proofs.Common.{◌≡◌, ◌≤◌, count_by}
 use Rattle.std.specs.List.{range_with_len}
-use Rattle.score_table.specs.OwnRows.{is_active_by}
+use Rattle.placement.specs.OwnRows.{is_active_by}
 use Rattle.placement.proofs.cells.active_count.Given as goal
 
 abbrev pub invariant-loop-node : goal.invariant-loop-node

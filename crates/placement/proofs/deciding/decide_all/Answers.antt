@@ -3,7 +3,7 @@ use Rattle.cluster_types.specs.Choice.{after_decisions}
 use Rattle.cluster_types.specs.Plans.{with_totals}
 use Rattle.cluster_types.specs.Tables.{targets_of}
 use Rattle.cluster_types.specs.Unpacked.{states_of}
-use Rattle.score_table.specs.Scores.{scores_of}
+use Rattle.placement.specs.Scores.{scores_of}
 use Rattle.placement.specs.Loads.{IsLoaded}
 use Rattle.placement.specs.Steps.{Tell}
 use Rattle.placement.proofs.deciding.decide_all.Goals as goal

@@ -1,7 +1,7 @@
 use Rattle.std.proofs.Common.{rules, ◌≡◌, if◌then◌else◌, refl, sym, ap, ◌∙◌}
 use Rattle.std.specs.Int.{int_max}
 use Rattle.score.specs.NodeSet.{has}
-use Rattle.score_table.specs.Scores.{score_in}
+use Rattle.placement.specs.Scores.{score_in}
 use Rattle.placement.proofs.Greatest.{greatest-more}
 use Rattle.placement.proofs.keys.greatest_among.Goals as goal
 

@@ -4,8 +4,8 @@ use Rattle.lemmas.proofs.Ranges.{filter-same}
 use Rattle.cluster_types.specs.Decisions.{greatest_of}
 use Rattle.cluster_types.specs.Fields.{priority}
 use Rattle.score.specs.NodeSet.{has}
-use Rattle.score_table.specs.Scores.{score_in}
-use Rattle.score_table.specs.Usable.{is_usable_by}
+use Rattle.placement.specs.Scores.{score_in}
+use Rattle.placement.specs.Usable.{is_usable_by}
 use Rattle.placement.specs.DecisionLists.{is_active_by_cell}
 use Rattle.placement.proofs.keys.key_of.Goals as goal
 

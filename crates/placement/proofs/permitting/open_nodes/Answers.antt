@@ -4,7 +4,7 @@ use Rattle.cluster_types.specs.Choice.{is_placed_for}
 use Rattle.cluster_types.specs.Tables.{targets_of}
 use Rattle.score.specs.NodeSet.{has}
 use Rattle.score.proofs.NodeSets.{as_test}
-use Rattle.score_table.specs.Usable.{is_usable_by}
+use Rattle.placement.specs.Usable.{is_usable_by}
 use Rattle.placement.specs.Reads.{is_kept_in, is_open_in, may_stay_in}
 use Rattle.placement.proofs.permitting.open_nodes.Goals as goal
 

@@ -1,4 +1,4 @@
-use Rattle.score_table.proofs.Given.{zero-row}
+use Rattle.placement.proofs.Given.{zero-row}
 use Rattle.placement.proofs.preferring.empty_row.Goals as goal
 
 pub returns : goal.returns

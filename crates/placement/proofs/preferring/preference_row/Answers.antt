@@ -1,8 +1,8 @@
 use Rattle.std.proofs.Common.{◌≡◌, ◌+◌, length, take, sym, ap, subst, ◌∙◌, arith}
 use Rattle.std.proofs.lemmas.List.{take_all}
 use Rattle.cluster_types.specs.Tables.{targets_of}
-use Rattle.score_table.specs.Rows.{IsRow}
-use Rattle.score_table.proofs.TermRows.{row-length, row-room, row-same}
+use Rattle.placement.specs.Rows.{IsRow}
+use Rattle.placement.proofs.TermRows.{row-length, row-room, row-same}
 use Rattle.placement.specs.Counted.{counted}
 use Rattle.placement.proofs.RowTerms.{counted-more, few-counted}
 use Rattle.placement.proofs.preferring.preference_row.Goals as goal

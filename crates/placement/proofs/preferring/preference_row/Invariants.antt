@@ -1,6 +1,6 @@
 use Rattle.std.proofs.Common.{take}
 use Rattle.cluster_types.specs.Tables.{targets_of}
-use Rattle.score_table.specs.Rows.{IsRow}
+use Rattle.placement.specs.Rows.{IsRow}
 use Rattle.placement.specs.Counted.{counted}
 use Rattle.placement.proofs.preferring.preference_row.Given as goal
 

@@ -2,8 +2,8 @@ use Rattle.std.proofs.Common.{rules, length, map, sym, ap, subst, ◌∙◌}
 use Rattle.std.specs.List.{range_with_len}
 use Rattle.cluster_types.specs.Choice.{preference}
 use Rattle.cluster_types.specs.Tables.{targets_of}
-use Rattle.score_table.specs.Rows.{IsRow}
-use Rattle.score_table.proofs.TermRows.{row-length}
+use Rattle.placement.specs.Rows.{IsRow}
+use Rattle.placement.proofs.TermRows.{row-length}
 use Rattle.placement.specs.Counted.{counted}
 use Rattle.placement.proofs.preferring.preferences.Goals as goal
 

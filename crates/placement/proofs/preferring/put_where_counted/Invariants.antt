@@ -1,8 +1,8 @@
 use Rattle.std.proofs.Common.{◌≡◌, ◌≤◌, ◌&&◌, ℕ, ℤ, List, length, nat_lt}
 use Rattle.cluster_types.specs.Tables.{targets_of}
-use Rattle.score_table.specs.Tests.{counts}
+use Rattle.placement.specs.Tests.{counts}
 use Rattle.score.specs.Row.{finite_at}
-use Rattle.score_table.specs.Rows.{IsRow, more_where}
+use Rattle.placement.specs.Rows.{IsRow, more_where}
 use Rattle.placement.proofs.preferring.put_where_counted.Given as goal
 
 abbrev pub invariant-loop-node : goal.invariant-loop-node

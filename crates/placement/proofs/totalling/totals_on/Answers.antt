@@ -5,7 +5,7 @@ use Rattle.lemmas.proofs.Ranges.{map-more}
 use Rattle.score.specs.Total.{total_of}
 use Rattle.cluster_types.specs.Choice.{preference}
 use Rattle.cluster_types.specs.Tables.{targets_of}
-use Rattle.score_table.specs.Scores.{score_in}
+use Rattle.placement.specs.Scores.{score_in}
 use Rattle.placement.specs.Reads.{total_in}
 use Rattle.placement.proofs.totalling.totals_on.Goals as goal
 

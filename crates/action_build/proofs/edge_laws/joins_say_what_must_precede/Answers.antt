@@ -1,5 +1,0 @@
-use Rattle.action_build.proofs.JoinsSay.{joins-say}
-use Rattle.action_build.proofs.edge_laws.joins_say_what_must_precede.Goals as goal
-
-pub returns : goal.returns
-returns c = joins-say

@@ -1,5 +1,0 @@
-use Rattle.action_build.proofs.NeededWithin.{needed_within}
-use Rattle.action_build.proofs.edge_laws.needed_actions_are_within.Goals as goal
-
-pub returns : goal.returns
-returns c = needed_within

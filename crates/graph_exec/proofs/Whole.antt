@@ -1,0 +1,138 @@
+-- A run from its beginning, by how it ended.
+use Rattle.std.proofs.Common.{◌≡◌, ◌≤◌, ℕ, ◌+◌, Bool, false, List, [], ◌++◌, append-nil, refl, sym, ap, subst}
+use Rattle.std.specs.Prelude.{Option, Result, Ok, Err}
+use Rattle.cluster_types.specs.declared.cluster.Cluster.{Cluster}
+use Rattle.cluster_types.specs.declared.journal.Answer.{Answer}
+use Rattle.cluster_types.specs.declared.journal.Event.{Event}
+use Rattle.cluster_types.specs.declared.journal.Journal.{Journal}
+use Rattle.cluster_types.specs.declared.journal.Promotion.{Promotion}
+use Rattle.cluster_types.specs.declared.run.RunLine.{RunLine}
+use Rattle.cluster_types.specs.Journals.{Orderly}
+use Rattle.cluster_types.specs.Runs.{Standing, due, amid, idle, Runs, here, IsAsking, not_yet}
+use Rattle.cluster_types.specs.Safety.{IsAtRest, IsSafeRun}
+use Rattle.graph_exec.specs.Logs.{JournalOf}
+use Rattle.graph_exec.specs.Saying.{TakesAnswers}
+use Rattle.graph_exec.proofs.Carrying.{rose_since}
+use Rattle.graph_exec.proofs.Told.{adds_nothing}
+use Rattle.run_safety.proofs.Rests.{at_rest, in_order}
+use Rattle.run_safety.proofs.SoFar.{runs_more}
+use Rattle.graph_exec.specs.declared.stop.ReplayStop.{ReplayStop}
+use Rattle.graph_exec.specs.declared.stop.ReplayStop.TheVariants as stop
+use Rattle.graph_exec.specs.Replays.{Setting, Sight, HasCause, IsBetweenTwo, IsKept, IsUpTo, OfJournal, ReplaysAs, setting}
+use Rattle.graph_exec.specs.Turns.{Came, CameTo, EndsAs, journal_of}
+use Rattle.graph_exec.proofs.Joined.{came_nowhere}
+
+pub asks_still : (c : Cluster) (promotions : List Promotion) (one other : Bool) (at : Standing) → IsAsking c promotions one at → IsAsking c promotions other at
+asks_still c promotions one other (due k es) h = h
+asks_still c promotions one other (amid k t since) h = h
+asks_still c promotions one other (idle k es) h = h
+
+abbrev pub events_in : Journal → List Event
+events_in j = j.events
+
+module _ (s : Setting) (es : List Event) (a b : Sight) where
+  pub replays : (most : ℕ) (end : Result Journal ReplayStop) → EndsAs s (due 1 es) a b end → ReplaysAs s es a b most end
+  replays most (Ok journal) w = record {
+    lines = w.lines;
+    run = record { last = w.last; behind = b.rest; steps = w.runs; over = w.over; leaves = ap events_in w.leaves };
+    told = w.told;
+    unread = refl;
+  }
+  replays most (Err (stop.Unexpected journal given)) w = record {
+    lines = w.lines;
+    run = record { last = w.last; unread = w.unread; steps = w.runs; cut = w.cut; leaves = ap events_in w.leaves };
+    told = w.told;
+  }
+  replays most (Err (stop.SourceFault journal)) w = record {
+    lines = w.lines;
+    run = record { last = w.last; steps = w.runs; asking = w.asking; leaves = ap events_in w.leaves };
+    told = w.told;
+    said = λ steady. record {
+      answers = (w.said steady).answers ++ [];
+      taken = subst (λ (x : List Answer). TakesAnswers a.rest x b.rest) (sym (append-nil (w.said steady).answers)) (w.said steady).taken;
+      run = record {
+        last = w.last;
+        steps = (w.said steady).runs [];
+        asking = asks_still s.cluster s.promotions s.whole false w.last w.asking;
+        leaves = ap events_in w.leaves;
+      };
+    };
+  }
+  replays most (Err (stop.Stopped journal)) w = record {
+    lines = w.lines;
+    call = w.call;
+    closing = [];
+    text = w.text;
+    run = record {
+      before = w.before;
+      next = w.next;
+      last = w.next;
+      middle = w.middle;
+      steps = w.runs;
+      stopped = w.stopped;
+      closes = not_yet w.next;
+      leaves = ap events_in w.leaves;
+    };
+    told = w.told;
+    front = w.front;
+  }
+  replays most (Err (stop.Most journal)) w = absurd w
+  replays most (Err stop.NoMemory) w = record { lines = w.lines; at = w.at; run = w.runs; between = w.between; told = w.told }
+
+  pub up_to : (most : ℕ) (journal : Journal) (left : List Event) → journal.events ≡ left → Came s (due 1 es) a b (due (most + 1) left) → IsUpTo s es a b most journal
+  up_to most journal left is w = record {
+    lines = w.lines;
+    run = subst (λ (x : List Event). Runs s.cluster s.promotions s.whole (due 1 es) a.rest w.lines (due (most + 1) x) b.rest) (sym is) w.runs;
+    told = w.told;
+  }
+
+  module _ (safe : IsSafeRun s.cluster s.promotions s.whole es a.rest) where
+    pub rests : (k : ℕ) (left : List Event) → Came s (due 1 es) a b (due k left) → IsAtRest left
+    rests k left w = at_rest s.cluster s.promotions s.whole es (due k left) a.rest b.rest w.lines safe w.runs tt
+
+    kept_at : (at : Standing) (left : Option (List Answer)) (lines : List RunLine) → Runs s.cluster s.promotions s.whole (due 1 es) a.rest lines at left
+        → (journal : Journal) → journal ≡ journal_of s at → IsKept s.promotions journal
+    kept_at at left lines runs journal is = record {
+      in_order = subst Orderly (sym (ap events_in is)) (in_order s.cluster s.promotions s.whole es at a.rest left lines safe runs);
+      promotions_stay = ap (λ (j : Journal). j.promotions) is;
+    }
+
+    pub kept : (end : Result Journal ReplayStop) → EndsAs s (due 1 es) a b end → OfJournal (IsKept s.promotions) end
+    kept (Ok journal) w = kept_at w.last b.rest w.lines w.runs journal w.leaves
+    kept (Err (stop.Unexpected journal given)) w = kept_at w.last w.unread w.lines w.runs journal w.leaves
+    kept (Err (stop.SourceFault journal)) w = kept_at w.last b.rest w.lines w.runs journal w.leaves
+    kept (Err (stop.Stopped journal)) w =
+        kept_at w.next b.rest (w.lines ++ w.call)
+        (runs_more s.cluster s.promotions s.whole (due 1 es) w.before w.next a.rest w.middle b.rest w.lines w.call w.runs w.stopped) journal w.leaves
+    kept (Err (stop.Most journal)) w = absurd w
+    kept (Err stop.NoMemory) w = tt
+
+    pub kept_due : (k : ℕ) (journal : Journal) (left : List Event) → journal.events ≡ left → journal.promotions ≡ s.promotions → Came s (due 1 es) a b (due k left)
+        → IsKept s.promotions journal
+    kept_due k journal left is same w = record {
+      in_order = subst Orderly (sym is) (in_order s.cluster s.promotions s.whole es (due k left) a.rest b.rest w.lines safe w.runs);
+      promotions_stay = same;
+    }
+
+-- no memory is left before the first transition
+pub nothing_made : (s : Setting) (es : List Event) (a : Sight) → IsBetweenTwo s es a a
+nothing_made s es a = record { lines = []; at = due 1 es; run = here (due 1 es) a.rest; between = tt; told = adds_nothing s.names a.text }
+
+-- the count that rose later rose since
+pub cause_since : (f f' f'' v v' v'' : ℕ) → f ≤ f' → v ≤ v' → (end : Result Journal ReplayStop) → HasCause f' f'' v' v'' end → HasCause f f'' v v'' end
+cause_since f f' f'' v v' v'' faults stops (Ok journal) h = tt
+cause_since f f' f'' v v' v'' faults stops (Err (stop.Unexpected journal given)) h = tt
+cause_since f f' f'' v v' v'' faults stops (Err (stop.SourceFault journal)) h = rose_since f f' f'' faults h
+cause_since f f' f'' v v' v'' faults stops (Err (stop.Stopped journal)) h = rose_since v v' v'' stops h
+cause_since f f' f'' v v' v'' faults stops (Err (stop.Most journal)) h = tt
+cause_since f f' f'' v v' v'' faults stops (Err stop.NoMemory) h = tt
+
+-- the run begins
+pub starts : (c : Cluster) (promotions : List Promotion) (whole steady : Bool) (names : Option Cluster) (es : List Event) (a : Sight) (j : JournalOf)
+    → j ≡ record { cluster = c; events = es; promotions = promotions } → CameTo (setting c promotions whole steady names) (due 1 es) a a (due 1) j
+starts c promotions whole steady names es a j is = record {
+  cluster_stays = ap (λ (x : JournalOf). x.cluster) is;
+  promotions_stay = ap (λ (x : JournalOf). x.promotions) is;
+  came = subst (λ (x : List Event). Came (setting c promotions whole steady names) (due 1 es) a a (due 1 x)) (sym (ap (λ (x : JournalOf). x.events) is))
+      (came_nowhere (setting c promotions whole steady names) (due 1 es) a);
+}

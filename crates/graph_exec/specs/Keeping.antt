@@ -1,0 +1,138 @@
+-- A run that is kept, transition by transition. No public clause cites this module (rule of this project).
+use Rattle.std.specs.Prelude.{◌≡◌, ℕ, ◌+◌, Bool, true, false, Option, Some, None, Result, Ok, Err, List, length}
+use Rattle.std.specs.List.{AllByRecursion}
+use Rattle.cluster_io.specs.Streams.{Rose}
+use Rattle.cluster_types.specs.declared.journal.Answer.{Answer}
+use Rattle.cluster_types.specs.declared.journal.Event.{Event}
+use Rattle.cluster_types.specs.declared.journal.Journal.{Journal}
+use Rattle.cluster_types.specs.declared.run.Passed.{Passed}
+use Rattle.cluster_types.specs.declared.run.PassedEnd.{PassedEnd}
+use Rattle.cluster_types.specs.declared.run.PassedEnd.TheVariants as passed_as
+use Rattle.cluster_types.specs.declared.run.Run.{Run}
+use Rattle.cluster_types.specs.Runs.{Standing, due, Runs, IsAsking, IsCut, IsOver, journal_at}
+use Rattle.cluster_types.specs.Sources.{Says}
+use Rattle.cluster_types.specs.Texts.{all_passed_lines}
+use Rattle.graph_exec.specs.declared.ends.End.{End}
+use Rattle.graph_exec.specs.declared.ends.End.TheVariants as end
+use Rattle.graph_exec.specs.declared.outcomes.Next.{Next}
+use Rattle.graph_exec.specs.declared.outcomes.Next.TheVariants as next
+use Rattle.graph_exec.specs.Logs.{JournalOf}
+use Rattle.graph_exec.specs.Resting.{IsRefusedResting, TookResting}
+use Rattle.graph_exec.specs.declared.run_ending.RunEnd.{RunEnd}
+use Rattle.graph_exec.specs.declared.run_ending.RunEnd.TheVariants as run
+use Rattle.graph_exec.specs.declared.idling.Taken.{Taken}
+use Rattle.graph_exec.specs.declared.stop.ReplayEnd.{ReplayEnd}
+use Rattle.graph_exec.specs.declared.stop.ReplayEnd.TheVariants as kept
+use Rattle.graph_exec.specs.declared.stop.ReplayStop.{ReplayStop}
+use Rattle.graph_exec.specs.declared.stop.ReplayStop.TheVariants as stop
+use Rattle.graph_exec.specs.Kept.{IsOfPlan}
+use Rattle.graph_exec.specs.Replays.{Setting}
+use Rattle.graph_exec.specs.Turns.{IsSaid, journal_of, plain_of}
+
+-- as the end of a run that was watched
+abbrev pub watched_end : RunEnd → Result Journal ReplayStop
+watched_end (run.Whole journal) = Ok journal
+watched_end (run.Unexpected journal given) = Err (stop.Unexpected journal given)
+watched_end (run.SourceFault journal) = Err (stop.SourceFault journal)
+watched_end run.NoMemory = Err stop.NoMemory
+
+abbrev pub with_journal : List Passed → Journal → Run
+with_journal passed journal = record { passed = passed; journal = journal }
+
+-- as the end of a run of which these transitions are kept
+abbrev pub kept_end : List Passed → RunEnd → Result Run ReplayEnd
+kept_end passed (run.Whole journal) = Ok (with_journal passed journal)
+kept_end passed (run.Unexpected journal given) = Err (kept.Unexpected (with_journal passed journal) given)
+kept_end passed (run.SourceFault journal) = Err (kept.SourceFault (with_journal passed journal))
+kept_end passed run.NoMemory = Err kept.NoMemory
+
+-- how a transition ended, as it is kept
+abbrev pub passed_end : End → PassedEnd
+passed_end end.Complete = passed_as.Complete
+passed_end (end.Aborted event) = passed_as.Aborted
+passed_end (end.Unexpected given) = passed_as.Cut
+passed_end end.SourceFault = passed_as.Cut
+
+-- another journal of the same cluster, with the same promotion scores
+pub record StaysOf (j later : JournalOf) : Type 0 where
+  pub cluster_stays : later.cluster ≡ j.cluster
+  pub promotions_stay : later.promotions ≡ j.promotions
+
+-- the source failed only where its count of faults rose
+abbrev pub EndsWithCause : ℕ → ℕ → RunEnd → Type 0
+EndsWithCause faults faults_now (run.SourceFault journal) = Rose faults faults_now
+EndsWithCause faults faults_now _ = Unit {0}
+
+-- what the source said last
+abbrev pub EndsCome : (Next → Type 0) → RunEnd → Type 0
+EndsCome Said (run.Whole journal) = Said next.Silent
+EndsCome Said (run.Unexpected journal given) = Said (next.Answer given)
+EndsCome Said (run.SourceFault journal) = Said next.Failed
+EndsCome Said run.NoMemory = Unit {0}
+
+-- what comes of a question while nothing is to be done
+module _ (whole : Bool) (j : JournalOf) (rest left : Option (List Answer)) where
+  -- an answer that applies came, and is entered
+  pub record IsAnswered (taken : Taken) : Type 0 where
+    pub said : Says whole rest (Some taken.answer) left
+    pub took : TookResting j taken.journal taken.answer
+
+  pub record IsSilent (journal : Journal) : Type 0 where
+    pub said : Says whole rest None left
+    pub leaves : journal ≡ plain_of j
+
+  pub record IsRefused (journal : Journal) (given : Answer) : Type 0 where
+    pub said : Says whole rest (Some given) left
+    pub back : JournalOf
+    pub refused : IsRefusedResting j back given
+    pub leaves : journal ≡ plain_of back
+
+  pub record HasFailed (over : Bool) (journal : Journal) : Type 0 where
+    pub left_is : left ≡ rest
+    pub not_over : over ≡ false
+    pub leaves : journal ≡ plain_of j
+
+  abbrev pub IsUnanswered : Bool → RunEnd → Type 0
+  IsUnanswered over (run.Whole journal) = IsSilent journal
+  IsUnanswered over (run.Unexpected journal given) = IsRefused journal given
+  IsUnanswered over (run.SourceFault journal) = HasFailed over journal
+  IsUnanswered over run.NoMemory = left ≡ rest
+
+module _ (s : Setting) (es : List Event) (first : Option (List Answer)) where
+  -- the run was made up to here, with these answers left to come, and its lines are those of the transitions that are kept. While a steady source isn't
+  -- over, each of its answers was said
+  pub record Keeps (rest : Option (List Answer)) (over : Bool) (passed : List Passed) (at : Standing) : Type 0 where
+    pub runs : Runs s.cluster s.promotions s.whole (due 1 es) first (all_passed_lines s.cluster (journal_at at) 1 passed) at rest
+    pub said : s.steady ≡ true → over ≡ false → IsSaid s (due 1 es) at (all_passed_lines s.cluster (journal_at at) 1 passed) first rest
+    pub each : AllByRecursion (IsOfPlan s.cluster s.promotions (journal_at at)) passed
+
+  -- so it was kept up to where the next transition is due
+  abbrev pub KeepsTo : Option (List Answer) → Bool → List Passed → JournalOf → Type 0
+  KeepsTo rest over passed j = Keeps rest over passed (due (1 + length passed) j.events)
+
+  module _ (left : Option (List Answer)) (passed : List Passed) (journal : Journal) where
+    pub record KeepsWhole : Type 0 where
+      pub last : Standing
+      pub keeps : Keeps left true passed last
+      pub over : IsOver s.cluster s.promotions s.whole last left
+      pub leaves : journal ≡ journal_of s last
+
+    pub record KeepsCut (given : Answer) : Type 0 where
+      pub last : Standing
+      pub unread : Option (List Answer)
+      pub keeps : Keeps unread true passed last
+      pub cut : IsCut s.cluster s.promotions s.whole last unread given left
+      pub leaves : journal ≡ journal_of s last
+
+    pub record KeepsSoFar : Type 0 where
+      pub last : Standing
+      pub keeps : Keeps left false passed last
+      pub asking : IsAsking s.cluster s.promotions s.whole last
+      pub leaves : journal ≡ journal_of s last
+
+  -- how it ended on the way
+  abbrev pub KeepsEnd : Option (List Answer) → List Passed → RunEnd → Type 0
+  KeepsEnd left passed (run.Whole journal) = KeepsWhole left passed journal
+  KeepsEnd left passed (run.Unexpected journal given) = KeepsCut left passed journal given
+  KeepsEnd left passed (run.SourceFault journal) = KeepsSoFar left passed journal
+  KeepsEnd left passed run.NoMemory = Unit {0}

@@ -1,0 +1,99 @@
+-- A run that is kept: its transitions, each with the plan for the journal up to it, their places in the journal, and how they ended (Pacemaker
+-- Administration, "Transitions"; when a run ends is a rule of this project).
+use Rattle.std.specs.Prelude.{◌≡◌, ◌≤◌, ℕ, Bool, true, false, Option, Some, Result, Ok, Err, List, [], length, take}
+use Rattle.std.specs.List.{AllByRecursion}
+use Rattle.cluster_io.specs.Streams.{Rose}
+use Rattle.cluster_types.specs.declared.cluster.Cluster.{Cluster}
+use Rattle.cluster_types.specs.declared.journal.Action.{Action}
+use Rattle.cluster_types.specs.declared.journal.Answer.{Answer}
+use Rattle.cluster_types.specs.declared.journal.Event.{Event}
+use Rattle.cluster_types.specs.declared.journal.Promotion.{Promotion}
+use Rattle.cluster_types.specs.declared.placement.Placed.{Placed}
+use Rattle.cluster_types.specs.declared.run.Passed.{Passed}
+use Rattle.cluster_types.specs.declared.run.PassedEnd.{PassedEnd}
+use Rattle.cluster_types.specs.declared.run.PassedEnd.TheVariants.{Complete, Aborted, Cut}
+use Rattle.cluster_types.specs.declared.run.Run.{Run}
+use Rattle.cluster_types.specs.Plans.{IsPlan, transition_of}
+use Rattle.cluster_types.specs.Runs.{IsCutRun, IsRunSoFar, IsRunUpTo, IsWholeRun}
+use Rattle.cluster_types.specs.Steps.{Transition, HasEnded, IsWaiting, has_aborted}
+use Rattle.cluster_types.specs.Texts.{Fits, between, run_lines}
+use Rattle.graph_exec.specs.declared.outcomes.Next.{Next}
+use Rattle.graph_exec.specs.declared.outcomes.Next.TheVariants as next
+use Rattle.graph_exec.specs.Saying.{TakesAnswers}
+use Rattle.graph_exec.specs.declared.stop.ReplayEnd.{ReplayEnd}
+use Rattle.graph_exec.specs.declared.stop.ReplayEnd.TheVariants as end
+
+-- how a transition stands after these events: it has ended with all done, or aborted; or it is cut where it waits for an answer
+abbrev pub StandsSo : Transition → List Event → PassedEnd → Type 0
+StandsSo t since Complete = HasEnded t since × (has_aborted t since ≡ false)
+StandsSo t since Aborted = HasEnded t since × (has_aborted t since ≡ true)
+StandsSo t since Cut = IsWaiting t since
+
+module _ (c : Cluster) (promotions : List Promotion) where
+  -- what is kept of a transition is what was planned for the journal up to its first event, and how it stands after its last
+  pub record IsOfPlan (es : List Event) (p : Passed) : Type 0 where
+    pub placed : Placed
+    pub actions : List Action
+    pub plan : IsPlan c (take p.begins_at es) promotions placed actions
+    pub pins : p.pins ≡ placed.pins
+    pub table : p.table ≡ placed.table
+    pub reasons : p.none ≡ placed.none
+    pub stands : StandsSo (transition_of c (take p.begins_at es) actions) (between p.begins_at p.ends_at es) p.end
+    pub fits : Fits c es p
+
+  -- each transition that is kept is that of its plan, and there are no more of them than were allowed
+  pub record KeepsPlans (most : ℕ) (run : Run) : Type 0 where
+    pub each : AllByRecursion (IsOfPlan run.journal.events) run.passed
+    pub few : length run.passed ≤ most
+
+  module _ (whole steady : Bool) (es : List Event) (rest left : Option (List Answer)) where
+    -- the whole run is kept, and all answers that were to come were taken
+    pub record IsKeptWhole (run : Run) : Type 0 where
+      pub is : IsWholeRun c promotions whole es rest (run_lines c run) run.journal.events
+      pub unread : left ≡ is.behind
+
+    -- the run up to a step at which an answer is asked for is that of these answers, each of which was said: they are those that were taken, where the
+    -- answers to come are told
+    pub record IsKeptOfAnswers (run : Run) : Type 0 where
+      pub answers : List Answer
+      pub taken : TakesAnswers rest answers left
+      pub is : IsRunSoFar c promotions false es (Some answers) (run_lines c run) run.journal.events (Some [])
+
+    -- the run is kept up to a step at which the source failed. A steady source has let no action end silently
+    pub record IsKeptSoFar (run : Run) : Type 0 where
+      pub is : IsRunSoFar c promotions whole es rest (run_lines c run) run.journal.events left
+      pub said : steady ≡ true → IsKeptOfAnswers run
+
+    -- what is kept, by how the run ended, where so many transitions were allowed
+    abbrev pub KeepsAs : ℕ → Result Run ReplayEnd → Type 0
+    KeepsAs most (Ok run) = IsKeptWhole run
+    KeepsAs most (Err (end.Unexpected run given)) = IsCutRun c promotions whole es rest (run_lines c run) run.journal.events given left
+    KeepsAs most (Err (end.SourceFault run)) = IsKeptSoFar run
+    KeepsAs most (Err (end.Most run)) = IsRunUpTo c promotions whole most es rest (run_lines c run) run.journal.events left
+    KeepsAs most (Err end.NoMemory) = Unit {0}
+
+-- the fact holds of the run that is handed back. Out of memory, none is
+abbrev pub OfRun : (Run → Type 0) → Result Run ReplayEnd → Type 0
+OfRun P (Ok run) = P run
+OfRun P (Err (end.Unexpected run given)) = P run
+OfRun P (Err (end.SourceFault run)) = P run
+OfRun P (Err (end.Most run)) = P run
+OfRun P (Err end.NoMemory) = Unit {0}
+
+-- the source failed only where its count of faults rose
+abbrev pub FailsWithCause : ℕ → ℕ → Result Run ReplayEnd → Type 0
+FailsWithCause faults faults_now (Err (end.SourceFault run)) = Rose faults faults_now
+FailsWithCause faults faults_now _ = Unit {0}
+
+-- no answer came that doesn't apply
+abbrev pub IsExpectedRun : Result Run ReplayEnd → Type 0
+IsExpectedRun (Err (end.Unexpected run given)) = ⊥
+IsExpectedRun _ = Unit {0}
+
+-- what the source has come to, by how the run ended: nothing more, an answer that doesn't apply or a failure was said last; else no question failed
+abbrev pub RunHasCome : Type 0 → (Next → Type 0) → Result Run ReplayEnd → Type 0
+RunHasCome Follows Said (Ok run) = Said next.Silent
+RunHasCome Follows Said (Err (end.Unexpected run given)) = Said (next.Answer given)
+RunHasCome Follows Said (Err (end.SourceFault run)) = Said next.Failed
+RunHasCome Follows Said (Err (end.Most run)) = Follows
+RunHasCome Follows Said (Err end.NoMemory) = Unit {0}

@@ -1,0 +1,151 @@
+-- What a replay makes: a run from a journal on, of which a watcher is told the lines (Pacemaker Administration, "Transitions"; when a run ends is a
+-- rule of this project).
+use Rattle.std.specs.Prelude.{◌≡◌, ℕ, Bool, true, false, Option, Some, IfSome, Result, Ok, Err, List, []}
+use Rattle.cluster_io.specs.Streams.{Adds, AddsPrefix, Rose}
+use Rattle.cluster_types.specs.declared.cluster.Cluster.{Cluster}
+use Rattle.cluster_types.specs.declared.journal.Answer.{Answer}
+use Rattle.cluster_types.specs.declared.journal.Event.{Event}
+use Rattle.cluster_types.specs.declared.journal.Journal.{Journal}
+use Rattle.cluster_types.specs.declared.journal.Promotion.{Promotion}
+use Rattle.cluster_types.specs.declared.run.RunLine.{RunLine}
+use Rattle.cluster_types.specs.Journals.{Orderly}
+use Rattle.cluster_types.specs.Runs.{Standing, due, Runs, IsBetween, IsCutRun, IsRunSoFar, IsRunUpTo, IsStoppedRun, IsWholeRun}
+use Rattle.graph_exec.specs.Saying.{TakesAnswers}
+use Rattle.graph_exec.specs.Telling.{text_of}
+use Rattle.graph_exec.specs.declared.outcomes.Next.{Next}
+use Rattle.graph_exec.specs.declared.outcomes.Next.TheVariants as next
+use Rattle.graph_exec.specs.declared.stop.ReplayStop.{ReplayStop}
+use Rattle.graph_exec.specs.declared.stop.ReplayStop.TheVariants as stop
+
+-- what is the same all along a run: the cluster, the promotion scores of the status, whether the answers to come are known to be all, whether the source
+-- never fails once it has nothing more to say, and by whose names the lines are written
+pub record Setting : Type 0 where
+  pub cluster : Cluster
+  pub promotions : List Promotion
+  pub whole : Bool
+  pub steady : Bool
+  pub names : Option Cluster
+
+abbrev pub setting : Cluster → List Promotion → Bool → Bool → Option Cluster → Setting
+setting c promotions whole steady names = record { cluster = c; promotions = promotions; whole = whole; steady = steady; names = names }
+
+-- the source and the watcher at a moment of it: the answers to come, whether nothing more is said, and the text that was told so far
+pub record Sight : Type 0 where
+  pub rest : Option (List Answer)
+  pub over : Bool
+  pub text : Option (List ℕ)
+
+abbrev pub sight : Option (List Answer) → Bool → Option (List ℕ) → Sight
+sight rest over text = record { rest = rest; over = over; text = text }
+
+-- a watcher that writes by names writes by those of the cluster
+abbrev pub WritesNamesOf : Cluster → Option Cluster → Type 0
+WritesNamesOf c names = IfSome names (λ (d : Cluster). d ≡ c)
+
+module _ (s : Setting) (es : List Event) (old new : Sight) where
+  -- the whole run was made, each of its lines was told, and all answers that were to come were taken
+  pub record IsWhole (journal : Journal) : Type 0 where
+    pub lines : List RunLine
+    pub run : IsWholeRun s.cluster s.promotions s.whole es old.rest lines journal.events
+    pub told : Adds old.text (text_of s.names lines) new.text
+    pub unread : new.rest ≡ run.behind
+
+  -- the run was made up to the answer that doesn't apply, and each line up to there was told
+  pub record IsCutOffBy (journal : Journal) (given : Answer) : Type 0 where
+    pub lines : List RunLine
+    pub run : IsCutRun s.cluster s.promotions s.whole es old.rest lines journal.events given new.rest
+    pub told : Adds old.text (text_of s.names lines) new.text
+
+  -- the run up to a step at which an answer is asked for is that of these answers, each of which was said: they are those that were taken, where the answers
+  -- to come are told
+  pub record IsOfAnswers (journal : Journal) (lines : List RunLine) : Type 0 where
+    pub answers : List Answer
+    pub taken : TakesAnswers old.rest answers new.rest
+    pub run : IsRunSoFar s.cluster s.promotions false es (Some answers) lines journal.events (Some [])
+
+  -- the run was made up to a step at which the source failed, and each line up to there was told. A steady source has let no action end silently
+  pub record IsBrokenOff (journal : Journal) : Type 0 where
+    pub lines : List RunLine
+    pub run : IsRunSoFar s.cluster s.promotions s.whole es old.rest lines journal.events new.rest
+    pub told : Adds old.text (text_of s.names lines) new.text
+    pub said : s.steady ≡ true → IsOfAnswers journal lines
+
+  -- the run was made up to where the watcher stopped: each line before its last call was told, and a front of the lines of that call
+  pub record IsStopped (journal : Journal) : Type 0 where
+    pub lines : List RunLine
+    pub call : List RunLine
+    pub closing : List RunLine
+    pub text : Option (List ℕ)
+    pub run : IsStoppedRun s.cluster s.promotions s.whole es old.rest lines call closing journal.events new.rest
+    pub told : Adds old.text (text_of s.names lines) text
+    pub front : AddsPrefix (text_of s.names call) text new.text
+
+  -- so many transitions were made, another is due, and each line up to there was told
+  pub record IsUpTo (most : ℕ) (journal : Journal) : Type 0 where
+    pub lines : List RunLine
+    pub run : IsRunUpTo s.cluster s.promotions s.whole most es old.rest lines journal.events new.rest
+    pub told : Adds old.text (text_of s.names lines) new.text
+
+  -- the run was made up to a place between two transitions, and each line up to there was told
+  pub record IsBetweenTwo : Type 0 where
+    pub lines : List RunLine
+    pub at : Standing
+    pub run : Runs s.cluster s.promotions s.whole (due 1 es) old.rest lines at new.rest
+    pub between : IsBetween s.cluster s.promotions s.whole at
+    pub told : Adds old.text (text_of s.names lines) new.text
+
+  -- what was made of the journal, by how the run ended, where so many transitions were allowed
+  abbrev pub ReplaysAs : ℕ → Result Journal ReplayStop → Type 0
+  ReplaysAs most (Ok journal) = IsWhole journal
+  ReplaysAs most (Err (stop.Unexpected journal given)) = IsCutOffBy journal given
+  ReplaysAs most (Err (stop.SourceFault journal)) = IsBrokenOff journal
+  ReplaysAs most (Err (stop.Stopped journal)) = IsStopped journal
+  ReplaysAs most (Err (stop.Most journal)) = IsUpTo most journal
+  ReplaysAs most (Err stop.NoMemory) = IsBetweenTwo
+
+-- the fact holds of the journal that is handed back. Out of memory, none is
+abbrev pub OfJournal : (Journal → Type 0) → Result Journal ReplayStop → Type 0
+OfJournal P (Ok journal) = P journal
+OfJournal P (Err (stop.Unexpected journal given)) = P journal
+OfJournal P (Err (stop.SourceFault journal)) = P journal
+OfJournal P (Err (stop.Stopped journal)) = P journal
+OfJournal P (Err (stop.Most journal)) = P journal
+OfJournal P (Err stop.NoMemory) = Unit {0}
+
+-- the journal is in order and has the promotion scores of the first
+pub record IsKept (promotions : List Promotion) (journal : Journal) : Type 0 where
+  pub in_order : Orderly journal.events
+  pub promotions_stay : journal.promotions ≡ promotions
+
+-- the source agrees with the journal
+abbrev pub AgreesWith : (Cluster → List Event → ℕ → Type 0) → Cluster → Journal → Type 0
+AgreesWith agrees c journal = agrees c journal.events 0
+
+-- no answer came that doesn't apply
+abbrev pub IsExpected : Result Journal ReplayStop → Type 0
+IsExpected (Err (stop.Unexpected journal given)) = ⊥
+IsExpected _ = Unit {0}
+
+-- the source failed only where its count of faults rose, and the watcher stopped only where its count of stops did
+abbrev pub HasCause : ℕ → ℕ → ℕ → ℕ → Result Journal ReplayStop → Type 0
+HasCause faults faults_now stops stops_now (Err (stop.SourceFault journal)) = Rose faults faults_now
+HasCause faults faults_now stops stops_now (Err (stop.Stopped journal)) = Rose stops stops_now
+HasCause faults faults_now stops stops_now _ = Unit {0}
+
+-- what the source has come to, by how the run ended: nothing more, an answer that doesn't apply or a failure was said last; else no question failed
+abbrev pub HasCome : Type 0 → (Next → Type 0) → Result Journal ReplayStop → Type 0
+HasCome Follows Said (Ok journal) = Said next.Silent
+HasCome Follows Said (Err (stop.Unexpected journal given)) = Said (next.Answer given)
+HasCome Follows Said (Err (stop.SourceFault journal)) = Said next.Failed
+HasCome Follows Said (Err (stop.Stopped journal)) = Follows
+HasCome Follows Said (Err (stop.Most journal)) = Follows
+HasCome Follows Said (Err stop.NoMemory) = Follows
+
+-- what the watcher has come to: it went on each time, or has stopped the run
+abbrev pub HasHeard : Type 0 → Type 0 → Result Journal ReplayStop → Type 0
+HasHeard Follows Stopped (Ok journal) = Follows
+HasHeard Follows Stopped (Err (stop.Unexpected journal given)) = Follows
+HasHeard Follows Stopped (Err (stop.SourceFault journal)) = Follows
+HasHeard Follows Stopped (Err (stop.Stopped journal)) = Stopped
+HasHeard Follows Stopped (Err (stop.Most journal)) = Follows
+HasHeard Follows Stopped (Err stop.NoMemory) = Follows

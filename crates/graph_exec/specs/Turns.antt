@@ -1,0 +1,149 @@
+-- One transition of a replay, and what comes right after it. No public clause cites this module (rule of this project).
+use Rattle.std.specs.Prelude.{◌≡◌, ℕ, ◌+◌, Bool, true, false, Option, Some, Result, Ok, Err, List, [], ◌++◌}
+use Rattle.cluster_io.specs.Streams.{Adds, AddsPrefix}
+use Rattle.cluster_types.specs.declared.cluster.Cluster.{Cluster}
+use Rattle.cluster_types.specs.declared.journal.Answer.{Answer}
+use Rattle.cluster_types.specs.declared.journal.Event.{Event}
+use Rattle.cluster_types.specs.declared.journal.Journal.{Journal}
+use Rattle.cluster_types.specs.declared.journal.Promotion.{Promotion}
+use Rattle.cluster_types.specs.declared.placement.Placed.{Placed}
+use Rattle.cluster_types.specs.declared.run.RunLine.{RunLine}
+use Rattle.cluster_types.specs.declared.states.States.{States}
+use Rattle.cluster_types.specs.Runs.{Standing, due, idle, Runs, RunsOn, IsAsking, IsBetween, IsCut, IsOver, journal_at}
+use Rattle.cluster_types.specs.Graphs.{GraphOf}
+use Rattle.cluster_types.specs.Plans.{CarriesOut}
+use Rattle.cluster_types.specs.Unpacked.{states_of}
+use Rattle.graph_exec.specs.Logs.{JournalOf}
+use Rattle.graph_exec.specs.Promises.{IsPlanned}
+use Rattle.graph_exec.specs.Running.{Running}
+use Rattle.graph_exec.specs.Saying.{TakesAnswers}
+use Rattle.graph_exec.specs.Telling.{ReasonsHaveNames, text_of}
+use Rattle.graph_exec.specs.declared.planning.KeptPlan.{KeptPlan}
+use Rattle.graph_exec.specs.declared.planning.Planned.{Planned}
+use Rattle.graph_exec.specs.declared.stop.ReplayStop.{ReplayStop}
+use Rattle.graph_exec.specs.declared.stop.ReplayStop.TheVariants as stop
+use Rattle.graph_exec.specs.Replays.{Setting, Sight}
+
+-- the journal that is handed back where a run stands
+abbrev pub journal_of : Setting → Standing → Journal
+journal_of s at = record { events = journal_at at; promotions = s.promotions }
+
+-- a journal without what it tells
+abbrev pub plain_of : JournalOf → Journal
+plain_of j = record { events = j.events; promotions = j.promotions }
+
+-- the journal that a transition leaves, without what it tells
+abbrev pub left_of : Running → Journal
+left_of r = record { events = r.planned_at ++ r.since; promotions = r.promotions }
+
+-- the run from a standing on prints these lines up to another, and each of its answers was said: they are those that were taken, where the answers to come
+-- are told
+pub record IsSaid (s : Setting) (from at : Standing) (lines : List RunLine) (rest left : Option (List Answer)) : Type 0 where
+  pub answers : List Answer
+  pub runs : (more : List Answer) → Runs s.cluster s.promotions false from (Some (answers ++ more)) lines at (Some more)
+  pub taken : TakesAnswers rest answers left
+
+module _ (s : Setting) (from : Standing) (old new : Sight) where
+  -- the run went on to here, and its lines were told. While a steady source isn't over, each of its answers was said
+  pub record Came (at : Standing) : Type 0 where
+    pub lines : List RunLine
+    pub runs : Runs s.cluster s.promotions s.whole from old.rest lines at new.rest
+    pub told : Adds old.text (text_of s.names lines) new.text
+    pub said : s.steady ≡ true → new.over ≡ false → IsSaid s from at lines old.rest new.rest
+
+  -- the same, where the journal is kept with what it tells
+  pub record CameTo (at : List Event → Standing) (journal : JournalOf) : Type 0 where
+    pub cluster_stays : journal.cluster ≡ s.cluster
+    pub promotions_stay : journal.promotions ≡ s.promotions
+    pub came : Came (at journal.events)
+
+  pub record EndsWhole (journal : Journal) : Type 0 where
+    pub last : Standing
+    pub lines : List RunLine
+    pub runs : Runs s.cluster s.promotions s.whole from old.rest lines last new.rest
+    pub told : Adds old.text (text_of s.names lines) new.text
+    pub over : IsOver s.cluster s.promotions s.whole last new.rest
+    pub leaves : journal ≡ journal_of s last
+
+  pub record EndsCut (journal : Journal) (given : Answer) : Type 0 where
+    pub last : Standing
+    pub unread : Option (List Answer)
+    pub lines : List RunLine
+    pub runs : Runs s.cluster s.promotions s.whole from old.rest lines last unread
+    pub told : Adds old.text (text_of s.names lines) new.text
+    pub cut : IsCut s.cluster s.promotions s.whole last unread given new.rest
+    pub leaves : journal ≡ journal_of s last
+
+  pub record EndsBroken (journal : Journal) : Type 0 where
+    pub last : Standing
+    pub lines : List RunLine
+    pub runs : Runs s.cluster s.promotions s.whole from old.rest lines last new.rest
+    pub told : Adds old.text (text_of s.names lines) new.text
+    pub asking : IsAsking s.cluster s.promotions s.whole last
+    pub said : s.steady ≡ true → IsSaid s from last lines old.rest new.rest
+    pub not_over : s.steady ≡ true → old.over ≡ false
+    pub leaves : journal ≡ journal_of s last
+
+  pub record EndsStopped (journal : Journal) : Type 0 where
+    pub before : Standing
+    pub next : Standing
+    pub middle : Option (List Answer)
+    pub text : Option (List ℕ)
+    pub lines : List RunLine
+    pub call : List RunLine
+    pub runs : Runs s.cluster s.promotions s.whole from old.rest lines before middle
+    pub told : Adds old.text (text_of s.names lines) text
+    pub stopped : RunsOn s.cluster s.promotions s.whole before middle call next new.rest
+    pub front : AddsPrefix (text_of s.names call) text new.text
+    pub leaves : journal ≡ journal_of s next
+
+  pub record EndsBetween : Type 0 where
+    pub at : Standing
+    pub lines : List RunLine
+    pub runs : Runs s.cluster s.promotions s.whole from old.rest lines at new.rest
+    pub told : Adds old.text (text_of s.names lines) new.text
+    pub between : IsBetween s.cluster s.promotions s.whole at
+
+  -- how it ended on the way
+  abbrev pub EndsAs : Result Journal ReplayStop → Type 0
+  EndsAs (Ok journal) = EndsWhole journal
+  EndsAs (Err (stop.Unexpected journal given)) = EndsCut journal given
+  EndsAs (Err (stop.SourceFault journal)) = EndsBroken journal
+  EndsAs (Err (stop.Stopped journal)) = EndsStopped journal
+  EndsAs (Err (stop.Most journal)) = ⊥
+  EndsAs (Err stop.NoMemory) = EndsBetween
+
+-- nothing of the graph has begun
+abbrev pub fresh_on : JournalOf → GraphOf → Running
+fresh_on j g = record { cluster = j.cluster; graph = g; planned_at = j.events; since = []; promotions = j.promotions }
+
+-- the transition that is planned for a journal, of which nothing has begun
+pub record IsReady (journal : JournalOf) (p : Planned) : Type 0 where
+  pub fresh : p.executor ≡ record {
+    cluster = journal.cluster;
+    graph = p.executor.graph;
+    planned_at = journal.events;
+    since = [];
+    promotions = journal.promotions;
+  }
+  pub plan : IsPlanned p.executor p.placed
+  pub names : ReasonsHaveNames p.placed
+
+-- for each journal that tells the states that a plan was made for, its graph carries it out
+abbrev pub Serves : Cluster → KeptPlan → Type 0
+Serves c plan =
+    (es : List Event) (promotions : List Promotion) → plan.states ≡ states_of c es promotions → CarriesOut c es promotions plan.placed plan.graph
+
+-- a plan that is being carried out serves again
+abbrev pub ServesAgain : Cluster → States → Planned → Type 0
+ServesAgain c states p = Serves c (record { states = states; placed = p.placed; graph = p.executor.graph })
+
+-- its graph carries out a plan
+pub record HasPlan (r : Running) : Type 0 where
+  pub placed : Placed
+  pub planned : IsPlanned r placed
+
+-- where a run stands behind a transition, by whether it is complete
+abbrev pub closed_at : ℕ → Bool → (List Event → Standing)
+closed_at number true = idle number
+closed_at number false = due (number + 1)

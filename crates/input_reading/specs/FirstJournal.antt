@@ -1,0 +1,120 @@
+-- The first journal: what a status tells as a whole (Pacemaker Explained, operation history; the form of a journal is a rule of this project).
+use Rattle.std.specs.Prelude.{ℕ, ◌^◌, nat_lt, ◌==◌, ◌&&◌, not, Bool, true, false, if◌then◌else◌, List, [], ◌∷◌, ◌++◌, length, map, Option, Some, None, unwrap_or, Result, Ok, Err}
+use Rattle.std.specs.List.{enumerate_from, filter_map, flat_map, list_any, range_with_len}
+use Rattle.crm_lex.specs.declared.line.Line.{Line}
+use Rattle.cluster_types.specs.declared.cluster.Cluster.{Cluster}
+use Rattle.cluster_types.specs.declared.journal.Event.{Event}
+use Rattle.cluster_types.specs.declared.journal.Journal.{Journal}
+use Rattle.cluster_types.specs.declared.journal.Promotion.{Promotion}
+use Rattle.cluster_types.specs.Journals as journals
+use Rattle.cluster_types.specs.Journals.{first_events, is_reported}
+use Rattle.faults.specs.declared.fault.Fault.{Fault}
+use Rattle.faults.specs.declared.fault.Fault.TheVariants.{At}
+use Rattle.faults.specs.Reading.{◌>>=◌, faulting, on_line}
+use Rattle.input_reading.specs.declared.history_fault.StatusCause.{StatusCause}
+use Rattle.input_reading.specs.declared.history_fault.StatusCause.TheVariants.{Repeated}
+use Rattle.input_reading.specs.declared.told.NodeWord.{NodeWord}
+use Rattle.input_reading.specs.declared.told.NodeWord.TheVariants as said
+use Rattle.input_reading.specs.declared.told.Told.{Told}
+use Rattle.input_reading.specs.declared.told.Told.TheVariants.{Now, Quorum, Node, Past, Promoting}
+use Rattle.input_reading.specs.HistoryCauses.{status_cause}
+use Rattle.input_reading.specs.Status.{told_of}
+
+abbrev pub is_same_cell : Promotion → Promotion → Bool
+is_same_cell one other = one.leaf == other.leaf && one.node == other.node
+
+-- the second line says again what may be said once: the moment, quorum, the state of a node, the promotion score of a cell
+abbrev pub is_again : Told → Told → Bool
+is_again (Now before) (Now seconds) = true
+is_again (Quorum before) (Quorum now) = true
+is_again (Node before state) (Node node word) = before == node
+is_again (Promoting before) (Promoting promotion) = is_same_cell before promotion
+is_again _ _ = false
+
+abbrev pub is_repeated : List Told → Told → Bool
+is_repeated before told = list_any (λ earlier. is_again earlier told) before
+
+-- what some lines tell, and what one more line tells
+abbrev pub with_told : List Told → ℕ → Told → Result (List Told) (Fault StatusCause)
+with_told before line told = if is_repeated before told then Err (At line Repeated) else Ok (before ++ told ∷ [])
+
+abbrev pub with_line : Cluster → List Told → Line → Result (List Told) (Fault StatusCause)
+with_line c before line = faulting status_cause (on_line line.line (told_of c line.words)) >>= with_told before line.line
+
+-- what some lines tell, and what further lines do; the first line that is at fault counts
+abbrev pub with_lines : Cluster → List Told → List Line → Result (List Told) (Fault StatusCause)
+with_lines c before [] = Ok before
+with_lines c before (line ∷ lines) = with_line c before line >>= (λ more. with_lines c more lines)
+
+-- the first that is said of something
+abbrev pub first_said : {X : Type 0} → (Told → Option X) → List Told → Option X
+first_said says [] = None
+first_said says (told ∷ more) = elim (says told) [ None ↦ first_said says more | Some x ↦ Some x ]
+
+abbrev pub now_in : Told → Option ℕ
+now_in (Now seconds) = Some seconds
+now_in _ = None
+
+abbrev pub quorum_in : Told → Option Bool
+quorum_in (Quorum now) = Some now
+quorum_in _ = None
+
+abbrev pub word_in : ℕ → Told → Option NodeWord
+word_in n (Node node word) = if node == n then Some word else None
+word_in n _ = None
+
+abbrev pub past_in : Told → Option Event
+past_in (Past event) = Some event
+past_in _ = None
+
+abbrev pub promotion_in : Told → Option Promotion
+promotion_in (Promoting promotion) = Some promotion
+promotion_in _ = None
+
+-- the moment is 0 where none is said
+abbrev pub now_of : List Told → ℕ
+now_of told = unwrap_or (first_said now_in told) 0
+
+-- there is no quorum where none is said
+abbrev pub quorum_of : List Told → Bool
+quorum_of told = unwrap_or (first_said quorum_in told) false
+
+-- the word on a node
+abbrev pub word_as : Option NodeWord → journals.NodeWord
+word_as (Some said.Online) = journals.online
+word_as (Some said.Offline) = journals.offline
+word_as (Some said.Unclean) = journals.unclean
+word_as None = journals.unsaid
+
+abbrev pub word_of : List Told → ℕ → journals.NodeWord
+word_of told n = word_as (first_said (word_in n) told)
+
+-- the operations that ended and the cells that were cleaned up, in the order of the lines
+abbrev pub history_of : List Told → List Event
+history_of told = filter_map past_in told
+
+-- the first journal: each node joins, then comes the history, then leave those that aren't online, then the word on quorum and the moment
+abbrev pub events_of : Cluster → List Told → List Event
+events_of c told = first_events c (history_of told) (map (word_of told) (range_with_len 0 (length c.nodes))) (quorum_of told) (now_of told)
+
+abbrev pub journal_of : Cluster → List Told → Journal
+journal_of c told = record { events = events_of c told; promotions = filter_map promotion_in told }
+
+-- the first journal of the lines of a status, or their first fault
+abbrev pub status_of : Cluster → List Line → Result Journal (Fault StatusCause)
+status_of c lines = with_lines c [] lines >>= (λ told. Ok (journal_of c told))
+
+-- the line tells of a node of the cluster, and of seconds below 2^40, where it tells of some that count
+abbrev pub is_known : ℕ → Told → Bool
+is_known nodes (Now seconds) = nat_lt seconds (2 ^ 40)
+is_known nodes (Past event) = is_reported nodes event
+is_known nodes _ = true
+
+-- how the nodes leave, in their order
+abbrev pub leavings : Cluster → List Told → List Event
+leavings c told = flat_map (journals.leaving c) (enumerate_from 0 (map (word_of told) (range_with_len 0 (length c.nodes))))
+
+-- no line says again what one before it said
+abbrev pub all_differ : List Told → Bool
+all_differ [] = true
+all_differ (told ∷ more) = not (list_any (is_again told) more) && all_differ more

@@ -1,8 +1,0 @@
-use Rattle.std.proofs.Common.{◌≡◌, ◌++◌, take}
-use Rattle.std.specs.List.{flat_map}
-use Rattle.input_reading.specs.declared.text.RunTextLine.{RunTextLine}
-use Rattle.live_run.specs.Lawful.{answer_in}
-use Rattle.live_run.proofs.answers.add_answers.Given as goal
-
-abbrev pub invariant-loop-line : goal.invariant-loop-line
-invariant-loop-line l = l.answers.items ≡ l.fn.answers.items ++ flat_map (λ (x : RunTextLine). answer_in x.what) (take l.line-index l.lines)

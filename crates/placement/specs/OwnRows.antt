@@ -1,0 +1,64 @@
+-- The own terms of a leaf on a node, by the states of the cluster (follows from the definition of own terms).
+use Rattle.std.specs.Prelude.{ℕ, ◌+◌, ◌*◌, ◌==◌, ◌≡◌, Bool, false, ℤ, pos, Option, Some, List, count_by, length, slice_get, sum_by}
+use Rattle.std.specs.List.{flat_map, range_with_len}
+use Rattle.std.specs.Option.{option_map_or}
+use Rattle.score.specs.Total.{minus_infinity}
+use Rattle.score.specs.Row.{Tally}
+use Rattle.cluster_types.specs.declared.cluster.Cluster.{Cluster}
+use Rattle.cluster_types.specs.declared.leaf.Leaf.{Leaf}
+use Rattle.cluster_types.specs.declared.rules.Location.{Location}
+use Rattle.cluster_types.specs.declared.rules.RuleLocation.{RuleLocation}
+use Rattle.cluster_types.specs.declared.states.Cell.{Cell}
+use Rattle.cluster_types.specs.declared.states.States.{States}
+use Rattle.cluster_types.specs.Terms.{is_active, is_started}
+use Rattle.placement.specs.Locations.{given, is_unnamed}
+use Rattle.placement.specs.Rows.{IsRow, more_where}
+
+-- how much the leaf wants to stay
+abbrev pub stickiness_of : Cluster → ℕ → ℤ
+stickiness_of c r = option_map_or (λ (leaf : Leaf). leaf.stickiness) (slice_get c.leaves r) (pos 0)
+
+module _ (c : Cluster) (states : States) where
+  -- what is known of the leaf on the node
+  abbrev pub cell_by : ℕ → ℕ → Option Cell
+  cell_by r n = slice_get states.cells (r * length c.nodes + n)
+
+  abbrev pub is_active_by : ℕ → ℕ → Bool
+  is_active_by r n = option_map_or (λ (cell : Cell). is_active cell.state) (cell_by r n) false
+
+  abbrev pub is_banned_by : ℕ → ℕ → Bool
+  is_banned_by r n = option_map_or (λ (cell : Cell). cell.banned) (cell_by r n) false
+
+  -- what its locations give it
+  abbrev pub given_by : ℕ → ℕ → List ℤ
+  given_by r = given c states.moment is_started r c.locations c.rule_locations
+
+  -- and then its stickiness, where it is active
+  abbrev pub sticky_by : ℕ → ℕ → List ℤ
+  sticky_by r = more_where (is_active_by r) (stickiness_of c r) (given_by r)
+
+  -- and -INFINITY where it is banned
+  abbrev pub banned_by : ℕ → ℕ → List ℤ
+  banned_by r = more_where (is_banned_by r) minus_infinity (sticky_by r)
+
+  -- and -INFINITY where a location must name it, and none does: the own terms of the leaf on each node
+  abbrev pub own_by : ℕ → ℕ → List ℤ
+  own_by r = more_where (is_unnamed c states.moment r) minus_infinity (banned_by r)
+
+  -- the own terms of some leaves on a node
+  abbrev pub terms_by : List ℕ → ℕ → List ℤ
+  terms_by leaves n = flat_map (λ r. own_by r n) leaves
+
+  -- a row of own terms for each leaf
+  pub record AreOwnRows (rows : List (List Tally)) : Type 0 where
+    pub size : length rows ≡ length c.leaves
+    pub each : (r : ℕ) (row : List Tally) → slice_get rows r ≡ Some row → IsRow (length c.nodes) (own_by r) row
+
+module _ (c : Cluster) where
+  -- at most so many of the own terms of a leaf on a node are finite
+  abbrev pub own_size : ℕ → ℕ
+  own_size r = count_by (λ (l : Location). l.leaf == r) c.locations + count_by (λ (rl : RuleLocation). rl.leaf == r) c.rule_locations + 1
+
+  -- and so many of those of all leaves below one
+  abbrev pub size_below : ℕ → ℕ
+  size_below s = sum_by own_size (range_with_len 0 s)

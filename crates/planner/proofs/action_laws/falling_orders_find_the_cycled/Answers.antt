@@ -1,0 +1,15 @@
+use Rattle.std.proofs.Common.{◌≡◌, true}
+use Rattle.cluster_types.proofs.LeastSets.{cycled-least}
+use Rattle.planner.specs.Cycling.{first_marks, with_orders}
+use Rattle.planner.proofs.FallingOrders.{none_comes_back}
+use Rattle.planner.proofs.MarksClosed.{last_closed}
+use Rattle.planner.proofs.MarksDerived.{first_cycled, orders_cycled}
+use Rattle.planner.proofs.action_laws.falling_orders_find_the_cycled.Goals as goal
+
+pub returns : goal.returns
+returns call =
+    λ c ordered free es targets os are falls r n. (
+      orders_cycled c es targets os are.1 (first_marks c es targets) (first_cycled c es targets) r n,
+      cycled-least c es targets (λ x n. with_orders c es targets (first_marks c es targets) os x n ≡ true)
+          (last_closed c es targets os are.0 (none_comes_back c ordered free os are.1 falls)) r n,
+    )

@@ -1,0 +1,45 @@
+-- Of which leaf an action is.
+use Rattle.std.specs.Prelude.{ℕ, Bool, if◌then◌else◌, Option, None, []}
+use Rattle.cluster_types.specs.declared.cluster.Cluster.{Cluster}
+use Rattle.cluster_types.specs.declared.journal.Action.{Action}
+use Rattle.cluster_types.specs.declared.journal.Action.TheVariants.{Fence, Probe, Cell, MigrateTo, MigrateFrom}
+use Rattle.cluster_types.specs.declared.leaf.Op.{Op}
+use Rattle.cluster_types.specs.declared.leaf.Op.TheVariants as op
+use Rattle.planner.specs.declared.sides.Side.{Side}
+use Rattle.planner.specs.declared.sides.Side.TheVariants as side
+use Rattle.cluster_types.specs.Precedence.{CellOf, cell_of, op_cell, start_cell}
+use Rattle.planner.specs.Joins.{in_leaf, key_of}
+
+-- the leaf of an action, and 0 for a fence, which has none
+abbrev pub leaf_of : Action → ℕ
+leaf_of (Fence n) = 0
+leaf_of (Probe r n) = r
+leaf_of (Cell o r n interval role) = r
+leaf_of (MigrateTo r source target) = r
+leaf_of (MigrateFrom r source target) = r
+
+-- the later of a pair, where it is known whether the leaf of the action migrates
+abbrev pub later_stop : Bool → Action → Option CellOf
+later_stop migrates (MigrateTo r source target) = cell_of r source
+later_stop migrates (Cell op.Stop r n interval role) = if migrates then None else cell_of r n
+later_stop migrates _ = None
+
+abbrev pub later_by : Bool → Op → Action → Option CellOf
+later_by migrates op.Start a = start_cell a
+later_by migrates op.Stop a = later_stop migrates a
+later_by migrates o a = op_cell o a
+
+abbrev pub later_demote_by : Bool → Action → Option CellOf
+later_demote_by migrates (Cell op.Demote r n interval role) = cell_of r n
+later_demote_by migrates a = later_stop migrates a
+
+abbrev pub later_taker_by : Bool → Op → Action → Option CellOf
+later_taker_by migrates op.Start a = later_stop migrates a
+later_taker_by migrates op.Promote a = later_demote_by migrates a
+later_taker_by migrates _ a = None
+
+-- by which cell an action stands on a side. The other sides don't ask whether its leaf migrates
+abbrev pub key_by : Cluster → Bool → Side → Action → Option CellOf
+key_by c migrates (side.Later r word local) a = in_leaf r local (later_by migrates word a)
+key_by c migrates (side.LaterTakers r word local) a = in_leaf r local (later_taker_by migrates word a)
+key_by c migrates other a = key_of c [] other a

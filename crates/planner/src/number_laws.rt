@@ -1,0 +1,27 @@
+//! Laws of the actions of plans. Each is a function that does nothing, and whose contract is the law.
+
+ghost use Rattle.std.specs.Prelude.{◌≡◌, ◌↔◌, ◌≤◌, List, Contains};
+ghost use Rattle.cluster_types.specs.declared.cluster.Cluster.{Cluster as ClusterOf};
+ghost use Rattle.cluster_types.specs.declared.journal.Action.{Action as ActionOf};
+ghost use Rattle.cluster_types.specs.declared.journal.Event.{Event as EventOf};
+ghost use Rattle.cluster_types.specs.declared.journal.Promotion.{Promotion as PromotionOf};
+ghost use Rattle.cluster_types.specs.declared.placement.Placed.{Placed as PlacedOf};
+ghost use Rattle.cluster_types.specs.Needed.{Needed};
+ghost use Rattle.cluster_types.specs.Numbers.{place_of};
+ghost use Rattle.cluster_types.specs.Plans.{IsPlaced, most_edges};
+ghost use Rattle.cluster_types.specs.Tables.{targets_of};
+ghost use Rattle.cluster_types.specs.Valid.{IsValid};
+ghost use Rattle.planner.specs.PlannedActions.{ArePlanned};
+
+/// No two needed actions have one place in the order of numbers. So of each plan there is one order of numbers.
+pub fn needed_actions_have_places_of_their_own()
+    ensures { (c : ClusterOf) (events : List EventOf) (promotions : List PromotionOf) (placed : PlacedOf) (actions : List ActionOf) (x y : ActionOf)
+        → IsValid c → IsPlaced c events promotions placed
+        → ((a : ActionOf) → Contains actions a ↔ Needed c events (targets_of placed.table) a)
+        → Contains actions x → Contains actions y → place_of c actions x ≡ place_of c actions y → x ≡ y }
+{}
+
+/// The graph of a plan of a valid cluster, however large, has at most a hundred million edges.
+pub fn plans_have_few_edges()
+    ensures { (c : ClusterOf) (actions : List ActionOf) → IsValid c → ArePlanned c actions → most_edges c actions ≤ 100000000 }
+{}

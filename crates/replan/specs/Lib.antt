@@ -1,4 +1,0 @@
-pub mod Replays
-pub mod Kept
-pub mod Turns
-pub mod Keeping

@@ -1,0 +1,105 @@
+-- When the lines of a written run are those of the run of their own answers, and which line is the first that isn't (rule of this project).
+use Rattle.std.specs.Prelude.{◌≡◌, ◌≢◌, ◌⊎◌, ℕ, ◌<◌, ◌≤◌, true, Option, Some, List, [], ◌∷◌, length, map, take, slice_get}
+use Rattle.std.specs.List.{AllByRecursion, flat_map}
+use Rattle.std.specs.Option.{option_map_or}
+use Rattle.cluster_types.specs.declared.cluster.Cluster.{Cluster}
+use Rattle.cluster_types.specs.declared.journal.Answer.{Answer}
+use Rattle.cluster_types.specs.declared.journal.Event.{Event}
+use Rattle.cluster_types.specs.declared.journal.Journal.{Journal}
+use Rattle.cluster_types.specs.declared.placement.NoReason.{NoReason}
+use Rattle.cluster_types.specs.declared.placement.NoReason.TheVariants.{Held}
+use Rattle.cluster_types.specs.declared.run.RunLine.{RunLine}
+use Rattle.cluster_types.specs.declared.run.RunLine.TheVariants as line
+use Rattle.cluster_types.specs.Runs.{Standing, due, Runs, IsCutRun, IsWholeRun}
+use Rattle.cluster_types.specs.Texts.{run_line}
+use Rattle.crm_lex.specs.Names.{is_name}
+use Rattle.input_reading.specs.declared.text.RunTextLine.{RunTextLine}
+use Rattle.sim_core.specs.declared.verdict.Clause.{Clause}
+use Rattle.sim_core.specs.declared.verdict.Clause.TheVariants as clause
+use Rattle.sim_core.specs.declared.verdict.Verdict.{Verdict}
+use Rattle.sim_core.specs.declared.verdict.Verdict.TheVariants.{Yes, No}
+
+-- the answers among some lines, in their order
+abbrev pub answer_in : RunLine → List Answer
+answer_in (line.Taken given) = given ∷ []
+answer_in _ = []
+
+abbrev pub answers_in : List RunLine → List Answer
+answers_in lines = flat_map answer_in lines
+
+-- what kind of line is due where a run prints this one
+abbrev pub clause_of : RunLine → Clause
+clause_of (line.Transition k) = clause.Transition
+clause_of (line.Pinned r pin) = clause.Targets
+clause_of (line.Goal r n target) = clause.Targets
+clause_of (line.Lacking r reason) = clause.Targets
+clause_of (line.Begin k action) = clause.Begin
+clause_of (line.Complete k) = clause.Close
+clause_of (line.Aborted k) = clause.Close
+clause_of _ = clause.Answer
+
+-- what some written lines say
+abbrev pub said : List RunTextLine → List RunLine
+said lines = map (λ (l : RunTextLine). l.what) lines
+
+-- of the lines of a written run, from a journal on
+module _ (c : Cluster) (journal : Journal) (lines : List RunLine) where
+  -- the whole run of their answers prints these lines
+  abbrev pub IsWhole : List RunLine → List Event → Type 0
+  IsWhole printed left = IsWholeRun c journal.promotions true journal.events (Some (answers_in lines)) printed left
+
+  -- the run of their answers prints these lines, and is cut by an answer that doesn't apply
+  abbrev pub IsCut : List RunLine → List Event → Answer → Option (List Answer) → Type 0
+  IsCut printed left given behind = IsCutRun c journal.promotions true journal.events (Some (answers_in lines)) printed left given behind
+
+  -- the run of their answers prints these lines so far
+  pub record IsSoFar (printed : List RunLine) : Type 0 where
+    pub at : Standing
+    pub behind : Option (List Answer)
+    pub runs : Runs c journal.promotions true (due 1 journal.events) (Some (answers_in lines)) printed at behind
+
+  -- they are lawful: their text is that of the whole run of their answers
+  pub record IsLawful : Type 0 where
+    pub printed : List RunLine
+    pub left : List Event
+    pub whole : IsWhole printed left
+    pub same : flat_map (run_line c) printed ≡ flat_map (run_line c) lines
+
+  -- the run prints another line at this place than they have there, if any, and up to there the same
+  pub record IsOther (place : ℕ) (kind : Clause) : Type 0 where
+    pub printed : List RunLine
+    pub so_far : IsSoFar printed
+    pub due : RunLine
+    pub due_there : slice_get printed place ≡ Some due
+    pub kind_is : kind ≡ clause_of due
+    pub within : place ≤ length lines
+    pub same : map (run_line c) (take place printed) ≡ map (run_line c) (take place lines)
+    pub other : (l : RunLine) → slice_get lines place ≡ Some l → run_line c l ≢ run_line c due
+
+  -- up to this place they have the lines that the run prints, and there it is cut, or it is over and they have one line more
+  pub record IsUndue (place : ℕ) : Type 0 where
+    pub printed : List RunLine
+    pub left : List Event
+    pub within : place ≤ length lines
+    pub same : map (run_line c) printed ≡ map (run_line c) (take place lines)
+    pub ends : (IsWhole printed left × (place < length lines)) ⊎ ((given : Answer) × (behind : Option (List Answer)) × IsCut printed left given behind)
+
+  -- the first line that isn't the due one stands at this place, and this kind is due there
+  pub data IsFaulty (place : ℕ) : Clause → Type 0 where
+    other : (kind : Clause) → IsOther place kind → IsFaulty place kind
+    undue : IsUndue place → IsFaulty place clause.Answer
+
+-- the number of the line at a place of a written run; behind its last line, this one
+abbrev pub number_at : List RunTextLine → ℕ → ℕ → ℕ
+number_at lines place after = option_map_or (λ (l : RunTextLine). l.line) (slice_get lines place) after
+
+-- the first line at fault, if one is, has this number
+pub record IsFaultyLine (c : Cluster) (journal : Journal) (lines : List RunTextLine) (after number : ℕ) (kind : Clause) : Type 0 where
+  pub place : ℕ
+  pub fault : IsFaulty c journal (said lines) place kind
+  pub number_is : number ≡ number_at lines place after
+
+-- what a verdict says
+abbrev pub Judges : Cluster → Journal → List RunTextLine → ℕ → Verdict → Type 0
+Judges c journal lines after Yes = IsLawful c journal (said lines)
+Judges c journal lines after (No number kind) = IsFaultyLine c journal lines after number kind

@@ -1,0 +1,23 @@
+//! What follows from the definitions of `specs/`, for every valid cluster.
+
+ghost use Rattle.std.specs.Prelude.{◌≡◌, ℕ, List};
+ghost use Rattle.std.specs.List.{AllByRecursion};
+ghost use Rattle.cluster_types.specs.declared.cluster.Cluster.{Cluster as ClusterOf};
+ghost use Rattle.cluster_types.specs.declared.journal.Journal.{Journal as JournalOf};
+ghost use Rattle.cluster_types.specs.declared.run.RunLine.{RunLine as LineOf};
+ghost use Rattle.cluster_types.specs.Valid.{IsValid};
+ghost use Rattle.input_reading.specs.Written.{IsNamed};
+ghost use Rattle.sim_core.specs.declared.verdict.Clause.{Clause as ClauseOf};
+ghost use Rattle.sim_core.specs.Lawful.{IsFaulty, IsLawful};
+
+/// A run with a line that isn't the due one isn't lawful.
+pub fn faulty_runs_are_not_lawful()
+    ensures { (c : ClusterOf) (journal : JournalOf) (lines : List LineOf) (place : ℕ) (kind : ClauseOf)
+        → IsValid c → AllByRecursion IsNamed lines → IsFaulty c journal lines place kind → ¬ IsLawful c journal lines }
+{}
+
+/// A run has at most one first line that isn't the due one.
+pub fn faulty_lines_are_one()
+    ensures { (c : ClusterOf) (journal : JournalOf) (lines : List LineOf) (one other : ℕ) (kind sort : ClauseOf)
+        → IsFaulty c journal lines one kind → IsFaulty c journal lines other sort → (one ≡ other) × (kind ≡ sort) }
+{}
