@@ -1,4 +1,4 @@
-//! What `op_history` reads of status and result lines.
+//! What is read of status and result lines.
 
 ghost use Rattle.std.specs.Prelude.{◌≡◌, ◌<◌, ◌^◌};
 ghost use Rattle.cluster_types.specs.Journals.{moment_of};

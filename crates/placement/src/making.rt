@@ -75,7 +75,7 @@ fn order_by(
 /// All that is decided of the leaves that aren't left as they are, in the order in which it is decided. Next is always
 /// the one of the greatest effective key of those that are ready, which need none that isn't made yet; of equal keys
 /// that of the earlier leaf, and `Place` before `Promote` (Pacemaker Explained, "priority" and "Colocation"; the keys,
-/// and who lends its key, are rules of this project). The scores are those that `score_table` gives of these states,
+/// and who lends its key, are rules of this project). The scores are those that `rows` gives of these states,
 /// and the pins those that `pins` gives. Each is of a leaf that the cluster has. It asks for a valid cluster. Out of
 /// memory is the only other answer.
 pub fn decisions_in_order(
