@@ -7,7 +7,6 @@ ghost use Rattle.std.specs.Hash as fed;
 ghost use Rattle.std.proofs.Common.{rules};
 
 use faults::NoMemory;
-use smallvec::SmallVec;
 use std::alloc::Global;
 use std::cmp::Ordering;
 use std::fmt;
@@ -16,11 +15,9 @@ use std::hash::{Hash, Hasher};
 use std::marker::Model;
 
 /// A word of a configuration, as a name or a value. Contracts see it as its bytes.
-///
-/// Up to sixteen bytes stand in the value itself, as those of nearly all words do, so that large inputs need little memory.
 #[derive(Drop)]
 pub struct Name {
-    bytes: SmallVec<u8, 16>,
+    bytes: Vec<u8>,
 }
 
 impl Model for Name {
@@ -37,7 +34,7 @@ impl Name {
         ensures { IfOk result (λ name. name ≡ bytes.now) }
     {
         Ok(Name {
-            bytes: SmallVec::from_slice(alloc, bytes)?,
+            bytes: Vec::from_slice(alloc, bytes)?,
         })
     }
 
