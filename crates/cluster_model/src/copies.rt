@@ -4,7 +4,7 @@ ghost use Rattle.std.specs.Prelude.{◌≡◌, IfOk};
 
 use cluster_types::{Leaf, Monitor, NoMemory};
 use crm_lex::Name;
-use date_rules::{Rule, Test, Text};
+use date_rules::{Rule, Test};
 use listed::Listed;
 use std::alloc::Global;
 
@@ -12,13 +12,6 @@ pub fn copy_name(alloc: Global, name: &Name) -> Result<Name, NoMemory>
     ensures { IfOk result (λ copy. copy ≡ name.now) }
 {
     Ok(Name::from_bytes(alloc, name.bytes())?)
-}
-
-/// The same bytes as a text.
-pub fn copy_text(alloc: Global, bytes: &[u8]) -> Result<Text, NoMemory>
-    ensures { IfOk result (λ copy. copy ≡ bytes.now) }
-{
-    Ok(Text::from_bytes(alloc, bytes)?)
 }
 
 fn copy_test(alloc: Global, test: &Test) -> Result<Test, NoMemory>
@@ -31,16 +24,16 @@ fn copy_test(alloc: Global, test: &Test) -> Result<Test, NoMemory>
             kind,
             value,
         } => Test::Attribute {
-            name: copy_text(alloc, name.bytes())?,
+            name: copy_name(alloc, name)?,
             compare: *compare,
             kind: *kind,
-            value: copy_text(alloc, value.bytes())?,
+            value: copy_name(alloc, value)?,
         },
         Test::Defined { name } => Test::Defined {
-            name: copy_text(alloc, name.bytes())?,
+            name: copy_name(alloc, name)?,
         },
         Test::NotDefined { name } => Test::NotDefined {
-            name: copy_text(alloc, name.bytes())?,
+            name: copy_name(alloc, name)?,
         },
         Test::Before { at } => Test::Before { at: *at },
         Test::After { at } => Test::After { at: *at },

@@ -4,7 +4,7 @@ ghost use Rattle.std.specs.Prelude.{◌≡◌, ◌++◌, map, IfOk, OnOk};
 ghost use Rattle.cluster_model.specs.Nodes.{attribute_of, is_standby, node_in, node_of, nodes_by};
 
 use crate::bool_at;
-use crate::copies::{copy_name, copy_text};
+use crate::copies::copy_name;
 use cluster_types::{NoMemory, Node};
 use crm_lex::Name;
 use crm_parse::{Form, Kv, Statement};
@@ -16,8 +16,8 @@ fn attribute_of(alloc: Global, pair: &Kv) -> Result<Pair, NoMemory>
     ensures { IfOk result (λ attribute. attribute ≡ attribute_of pair.now) }
 {
     Ok(Pair {
-        name: copy_text(alloc, pair.key.bytes())?,
-        value: copy_text(alloc, pair.value.bytes())?,
+        name: copy_name(alloc, &pair.key)?,
+        value: copy_name(alloc, &pair.value)?,
     })
 }
 

@@ -24,9 +24,9 @@ use crate::nodes::nodes_by;
 use crate::options::properties_of;
 use crate::orders::orders_of;
 use crate::{Leaves, ModelFault};
-use carry::{done, with};
 use cluster_types::{Cluster, Colocation, Leaf, Location, NoMemory, Node, Order, RuleLocation};
 use crm_parse::{Crm, Statement};
+use faults::{done, with};
 use listed::Listed;
 use std::alloc::Global;
 

@@ -6,10 +6,10 @@ use crate::groups::{InGroup, grouped_by};
 use crate::meta::{Meta, meta_of, no_meta, or_meta};
 use crate::name_table::NameTable;
 use crate::settings::{count_nodes, defaults_of, option_of};
-use carry::with;
 use cluster_types::NoMemory;
 use crm_lex::Name;
 use crm_parse::{Kv, Statement};
+use faults::with;
 use std::alloc::Global;
 
 /// What stands around the primitives of a configuration.

@@ -8,9 +8,9 @@ use crate::ParseCause;
 use crate::accept::when;
 use crate::fault::Stop;
 use crate::reading::{after, cut_at, place_of, word_at};
-use carry::with;
 use crm_lex::{Name, is};
-use date_rules::{Compare, Kind, Test, Text, instant, whole_number};
+use date_rules::{Compare, Kind, Test, instant, whole_number};
+use faults::with;
 use listed::Listed;
 use std::alloc::Global;
 
@@ -138,10 +138,10 @@ fn attribute_at<'a>(
     let (value, rest) = noted_at(alloc, noted, rest)?;
     comparable(kind, value.bytes())?;
     let test = Test::Attribute {
-        name: Text::from_bytes(alloc, name)?,
+        name: Name::from_bytes(alloc, name)?,
         compare,
         kind,
-        value: Text::from_bytes(alloc, value.bytes())?,
+        value: Name::from_bytes(alloc, value.bytes())?,
     };
     Ok((test, rest))
 }
@@ -159,7 +159,7 @@ fn defined_at<'a>(
 {
     let (name, rest) = noted_at(alloc, noted, words)?;
     filled(name.bytes())?;
-    let name = Text::from_bytes(alloc, name.bytes())?;
+    let name = Name::from_bytes(alloc, name.bytes())?;
     if defined {
         Ok((Test::Defined { name }, rest))
     } else {

@@ -9,8 +9,8 @@ use crate::fault::Stop;
 use crate::owner::Owner;
 use crate::reading::{given_at, name_at};
 use crate::section::sections_at;
-use carry::with;
 use crm_lex::Name;
+use faults::with;
 use std::alloc::Global;
 
 /// Reads the words after `node`.

@@ -12,8 +12,8 @@ use crate::owner::{Owner, SectionWord};
 use crate::pairs::add_section;
 use crate::place::Place;
 use crate::{Kv, Operation, ParseCause};
-use carry::done;
 use crm_lex::{Name, is};
+use faults::done;
 use listed::Listed;
 use std::alloc::Global;
 

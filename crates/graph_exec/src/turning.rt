@@ -13,7 +13,7 @@ use crate::idling::take_idle;
 use crate::planning::{KeptPlan, plan_next};
 use crate::stop::{Ended, ReplayStop};
 use crate::{Executor, Heard, KnownJournal, Outcomes, Watcher};
-use carry::with;
+use faults::with;
 use std::alloc::Global;
 
 /// The journal for which the next transition is due, and the last plan.

@@ -8,9 +8,8 @@ ghost use Rattle.cluster_types.specs.declared.journal.Event.TheVariants as event
 ghost use Rattle.input_reading.specs.FirstJournal.{events_of, first_said, history_of, journal_of, leavings, now_of, promotion_in, quorum_of, word_as, word_in};
 
 use crate::told::{NodeWord, Told};
-use carry::done;
 use cluster_types::{Cluster, Event, Journal, NodeId, Promotion};
-use faults::NoMemory;
+use faults::{NoMemory, done};
 use listed::Listed;
 use std::alloc::Global;
 

@@ -13,9 +13,9 @@ use crate::status_lines::told_of;
 use crate::told::Told;
 use crate::told_lines::ToldLines;
 use crate::{StatusCause, StatusFault};
-use carry::with;
 use cluster_types::{Cluster, Journal};
 use crm_lex::Line;
+use faults::with;
 use std::alloc::Global;
 
 /// What one more line tells; `Repeated` where a line before it told what may be told once.

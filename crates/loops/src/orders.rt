@@ -7,8 +7,8 @@ ghost use Rattle.loops.specs.FirstLoops.{AllOrder, IsFirstOrder, OrdersSteps};
 
 use crate::pushing::{push_leaf, push_order};
 use crate::{Edge, first_loop};
-use carry::done;
 use cluster_types::{Cluster, NoMemory, Op, Order};
+use faults::done;
 use std::alloc::{AllocError, Global};
 
 /// Whether an order is of steps of these leaves.

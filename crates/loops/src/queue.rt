@@ -7,8 +7,8 @@ ghost use Rattle.loops.specs.Rows.{AreRows};
 use crate::roots::first_free;
 use crate::rows::Rows;
 use crate::side::{Side, count_ends};
-use carry::with;
 use cluster_types::Graph;
+use faults::with;
 use listed::{NumberSet, none_set};
 use std::alloc::{AllocError, Global};
 

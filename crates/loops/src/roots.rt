@@ -1,7 +1,7 @@
 ghost use Rattle.std.specs.Prelude.{◌≡◌, ◌<◌, ◌≤◌, ◌-◌, ◌==◌, ℕ, false, IfOk, length, filter, slice_index_or, vec_capacity};
 ghost use Rattle.std.specs.List.{range_with_len};
 
-use carry::with;
+use faults::with;
 use listed::NumberSet;
 use std::alloc::{AllocError, Global};
 

@@ -20,8 +20,8 @@ use crate::effective::effective_keys;
 use crate::keys::{Key, all_keys};
 use crate::ordering::in_order;
 use crate::ranked::all_sorted;
-use carry::with;
 use cluster_types::{Cluster, Decision, NoMemory, Pin, States};
+use faults::with;
 use std::alloc::{AllocError, Global};
 
 /// The effective key of each decision of the set.

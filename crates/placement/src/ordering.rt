@@ -13,8 +13,8 @@ use crate::decision_set::DecisionSet;
 use crate::links::links_of;
 use crate::queue::Queue;
 use crate::ranked::{Ranked, slots_of};
-use carry::with;
 use cluster_types::Decision;
+use faults::with;
 use std::alloc::{AllocError, Global};
 
 /// The decision at the place.

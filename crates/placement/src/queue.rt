@@ -7,8 +7,8 @@ ghost use Rattle.cluster_types.specs.Graphs.{EndWithin};
 ghost use Rattle.placement.specs.Queueing as spec;
 ghost use Rattle.loops.specs.Rows.{AreRows, edges_at};
 
-use carry::with;
 use cluster_types::Edge;
+use faults::with;
 use listed::NumberSet;
 use loops::{Rows, Side, count_ends};
 use std::alloc::{AllocError, Global};

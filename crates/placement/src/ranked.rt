@@ -12,8 +12,8 @@ use crate::decision_set::DecisionSet;
 use crate::flags::slot_of;
 use crate::keys::Key;
 use crate::turns::goes_before;
-use carry::done;
 use cluster_types::Decision;
+use faults::done;
 use std::alloc::{AllocError, Global};
 use std::cmp::Ordering;
 

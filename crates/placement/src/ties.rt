@@ -11,8 +11,8 @@ ghost use Rattle.placement.specs.TieOrder.{AreInOrder, edge_of};
 ghost use Rattle.placement.specs.Ties as spec;
 
 use crate::tie_order::put_in_order;
-use carry::done;
 use cluster_types::{Cluster, Colocation, LeafId, Role};
+use faults::done;
 use listed::flag_at;
 use std::alloc::{AllocError, Global};
 

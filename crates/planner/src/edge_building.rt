@@ -11,8 +11,8 @@ ghost use Rattle.planner.specs.Rooms.{Builds};
 use crate::gates::add_join;
 use crate::known::Known;
 use crate::sides::{Join, Side};
-use carry::done;
 use cluster_types::{Cluster, Edge};
+use faults::done;
 use std::alloc::{AllocError, Global};
 
 /// The edges that were built so far, and the first gate that none of them has.

@@ -15,8 +15,8 @@ use crate::index::leaf_index;
 use crate::known::Known;
 use crate::migrating::migrating_flags;
 use crate::rules::{add_colocations, add_orders, add_serials};
-use carry::with;
 use cluster_types::{Action, Cluster, Edges, NoMemory};
+use faults::with;
 use listed::Listed;
 use std::alloc::{AllocError, Global};
 

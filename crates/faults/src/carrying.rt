@@ -1,7 +1,5 @@
 //! Values that are carried past a step that may fail: on to what follows where it doesn't, and let go where it does.
-#![tactic(auto)]
-
-ghost use Rattle.carry.specs.Carry.{IsDone, IsWith};
+ghost use Rattle.faults.specs.Carry.{IsDone, IsWith};
 
 /// A value beside what the next step gives. Where that step failed, the value is let go here, so that its caller has nothing
 /// to let go.
