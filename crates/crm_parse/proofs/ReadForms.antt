@@ -35,12 +35,12 @@ use Rattle.crm_parse.specs.Settings.{set_at, settings_at, settings_pairs}
 use Rattle.crm_parse.specs.Statements.{draft_after, draft_of, finished, keyword_of, order, statements_of, whole, with_actions}
 use Rattle.crm_parse.proofs.Binds.{name_at-ok}
 use Rattle.faults.proofs.Steps.{bind-ok}
-use Rattle.crm_parse.proofs.ColocationAgain.{side_at-ok}
+use Rattle.crm_parse.proofs.ColocationRead.{side_at-ok}
 use Rattle.crm_parse.proofs.FewMonitors.{few-kept}
-use Rattle.crm_parse.proofs.GroupAgain.{IsMember, members_from-read}
+use Rattle.crm_parse.proofs.GroupRead.{IsMember, members_from-read}
 use Rattle.crm_parse.proofs.LineForms.{DraftHas, statements-have}
-use Rattle.crm_parse.proofs.LocationAgain.{place_at-ok, resource_at-ok}
-use Rattle.crm_parse.proofs.OrderAgain.{IsOrder, Named, NamedDraft, actions-named, order_at-ok}
+use Rattle.crm_parse.proofs.LocationRead.{place_at-ok, resource_at-ok}
+use Rattle.crm_parse.proofs.OrderRead.{IsOrder, Named, NamedDraft, actions-named, order_at-ok}
 use Rattle.crm_parse.proofs.ResourceNames.{IsResource}
 use Rattle.crm_parse.proofs.SectionsKept.{sections_at-kept}
 

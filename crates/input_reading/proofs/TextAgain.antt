@@ -19,12 +19,12 @@ use Rattle.cluster_types.specs.Texts.{run_line}
 use Rattle.cluster_types.specs.Valid.{IsValid}
 use Rattle.crm_lex.specs.Names.{is_name, is_name_byte}
 use Rattle.crm_lex.specs.Reading.{reads}
-use Rattle.crm_parse.proofs.Clean.{EachClean, clean-name}
-use Rattle.crm_parse.specs.Items.{word}
-use Rattle.crm_parse.specs.Quoting.{Item, begins_with_hash, is_plain, item_word, line_of, needs_quotes, quoted, spaced}
-use Rattle.crm_parse.proofs.Lines.{is_filled}
-use Rattle.crm_parse.proofs.TextReads.{Readable, ended_lines, text-reads}
-use Rattle.crm_parse.proofs.TextReads as text
+use Rattle.crm_print.proofs.Clean.{EachClean, clean-name}
+use Rattle.crm_print.specs.Items.{word}
+use Rattle.crm_print.specs.Quoting.{Item, begins_with_hash, is_plain, item_word, line_of, needs_quotes, quoted, spaced}
+use Rattle.crm_print.proofs.Lines.{is_filled}
+use Rattle.crm_print.proofs.TextReads.{Readable, ended_lines, text-reads}
+use Rattle.crm_print.proofs.TextReads as text
 use Rattle.input_reading.specs.Places.{Words}
 use Rattle.input_reading.specs.declared.text.RunTextLine.{RunTextLine}
 use Rattle.input_reading.specs.RunReading.{text_line, with_lines}

@@ -9,10 +9,10 @@ use Rattle.crm_lex.specs.Reading.{reads}
 use Rattle.crm_parse.specs.declared.statement.Crm.{Crm}
 use Rattle.crm_parse.specs.Marks.{sections_of}
 use Rattle.crm_parse.specs.Statements.{statements_of}
-use Rattle.crm_parse.proofs.NoSections.{statements-alone, whole_text}
-use Rattle.crm_parse.specs.Again.{ReadsAs, has_short_lines}
-use Rattle.crm_parse.specs.Text.{canonical_text}
-use Rattle.crm_parse.proofs.ReadsAgain.{canonical-again, reads-again-commented}
+use Rattle.crm_print.proofs.NoSections.{statements-alone, whole_text}
+use Rattle.crm_print.specs.Again.{ReadsAs, has_short_lines}
+use Rattle.crm_print.specs.Text.{canonical_text}
+use Rattle.crm_print.proofs.ReadsAgain.{canonical-again, reads-again-commented}
 use Rattle.cluster_model.specs.declared.leaves.Leaves.{Leaves}
 use Rattle.cluster_model.specs.Expansion.{expansion_of}
 use Rattle.cluster_model.specs.Resolution.{resolution_of}

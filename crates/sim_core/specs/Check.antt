@@ -1,6 +1,6 @@
 -- What is written by the word `check`.
 use Rattle.std.specs.Prelude.{◌≡◌, ℕ, ◌+◌, List, ◌++◌, length, codes, decimal}
-use Rattle.crm_parse.specs.Text.{canonical_text}
+use Rattle.crm_print.specs.Text.{canonical_text}
 use Rattle.cluster_types.specs.declared.cluster.Cluster.{Cluster}
 use Rattle.input_reading.specs.declared.reading.Input.{Input}
 

@@ -1,7 +1,7 @@
 //! Laws of the definitions. Each is a function that does nothing, and whose contract is the law.
 
 ghost use Rattle.std.specs.Prelude.{◌≡◌, ℕ, List, true};
-ghost use Rattle.crm_parse.specs.Again.{has_short_lines};
+ghost use Rattle.crm_print.specs.Again.{has_short_lines};
 ghost use Rattle.input_reading.specs.Reading.{Reads};
 ghost use Rattle.input_reading.specs.declared.reading.Input.{Input as InputOf};
 ghost use Rattle.sim_core.specs.Again.{IsReadAgain};
