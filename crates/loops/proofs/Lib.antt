@@ -29,8 +29,3 @@ pub mod OneRanking
 pub mod RankLists
 pub mod Counted
 pub mod Filled
-pub mod Passing
-pub mod Beyond
-pub mod QueueSteps
-pub mod Free
-pub mod Moves

@@ -4,6 +4,4 @@ pub mod Longest
 pub mod FirstLoops
 pub mod Edges
 pub mod Ranks
-pub mod Ready
 pub mod Rows
-pub mod Freed

@@ -1,5 +1,4 @@
-//! Edges, and what follows from where they lead: loops, the longest ways, the ranks of a cluster's steps, and what may
-//! begin as others succeed.
+//! Edges, and what follows from where they lead: loops, the longest ways, and the ranks of a cluster's steps.
 #![tactic(auto)]
 
 mod edge;
@@ -25,12 +24,9 @@ mod place;
 mod placing;
 mod ranking;
 
-// Which actions of a graph may begin, as others succeed.
-mod queue;
-mod roots;
+// Where the edges of a graph lead, side by side.
 mod rows;
 mod side;
-mod waiting;
 
 // What follows from the definitions.
 mod laws;
@@ -55,4 +51,3 @@ pub use rule_laws::{
     first_colocation_is_one, first_order_is_one, first_rules_have_the_loop, tests_find_loops,
 };
 pub use side::{Side, count_ends};
-pub use waiting::Waiting;

@@ -9,13 +9,13 @@ use Rattle.cluster_types.specs.declared.edges.Edge.{Edge}
 use Rattle.cluster_types.specs.Graphs.{GraphOf, IsGraph, Leads, direct, through, is_before}
 use Rattle.cluster_types.proofs.Paths.{before-computed, before-from_computed}
 use Rattle.listed.specs.Sets.{is_member, members}
-use Rattle.loops.specs.Freed.{Clears, edges_held}
-use Rattle.loops.specs.Ready.{is_free, startable}
+use Rattle.graph_exec.specs.Freed.{Clears, edges_held}
+use Rattle.graph_exec.specs.Ready.{is_free, startable}
 use Rattle.lemmas.proofs.Booleans.{unless, sooner, later}
 use Rattle.lemmas.proofs.Counts.{count_none, count_some}
 use Rattle.lemmas.proofs.Ranges.{all_in_range, filter-alike}
 use Rattle.loops.specs.Clearing.{has}
-use Rattle.loops.proofs.Beyond.{beyond}
+use Rattle.graph_exec.proofs.Beyond.{beyond}
 
 -- a way goes on by an edge from a gate
 leads_on : (actions : ℕ) (edges : List Edge) (x y : ℕ) → Leads actions edges x y → actions ≤ y → (e : Edge) → Contains edges e → e.before ≡ y

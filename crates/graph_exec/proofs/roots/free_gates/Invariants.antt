@@ -1,6 +1,6 @@
 use Rattle.std.proofs.Common.{◌≡◌, ◌==◌, ◌≤◌, ◌-◌, filter, slice_index_or, length, vec_capacity}
 use Rattle.std.specs.List.{range_with_len}
-use Rattle.loops.proofs.roots.free_gates.Given as goal
+use Rattle.graph_exec.proofs.roots.free_gates.Given as goal
 
 abbrev pub invariant-loop-position : goal.invariant-loop-position
 invariant-loop-position l = record {

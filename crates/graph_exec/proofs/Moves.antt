@@ -7,18 +7,18 @@ use Rattle.std.proofs.lemmas.Map.Keys.{IsDistinct-push}
 use Rattle.std.proofs.lemmas.Option.{slice_get_within, get_or_from_slice_get}
 use Rattle.cluster_types.specs.Graphs.{GraphOf, IsGraph}
 use Rattle.listed.specs.Sets.{is_member, members}
-use Rattle.loops.specs.Freed.{Clears, Rests}
+use Rattle.graph_exec.specs.Freed.{Clears, Rests}
 use Rattle.loops.specs.declared.side.Side.TheVariants.{After}
 use Rattle.loops.specs.Rows.{edges_at}
-use Rattle.loops.specs.Ready.{startable}
+use Rattle.graph_exec.specs.Ready.{startable}
 use Rattle.std.proofs.Math.Bool.{and-true, or-false}
 use Rattle.lemmas.proofs.Booleans.{sooner, later}
 use Rattle.lemmas.proofs.Counts.{count_agree}
 use Rattle.loops.specs.Clearing.{has}
 use Rattle.loops.proofs.Members.{equal_laws, has_push, has_at}
 use Rattle.loops.proofs.Beginnings.{in_range, of_range, has_filter, distinct_filter}
-use Rattle.loops.proofs.Free.{are_startable}
-use Rattle.loops.proofs.QueueSteps.{few_cleared}
+use Rattle.graph_exec.proofs.Free.{are_startable}
+use Rattle.graph_exec.proofs.QueueSteps.{few_cleared}
 
 -- Nothing has begun.
 

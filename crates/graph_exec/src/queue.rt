@@ -1,15 +1,14 @@
 ghost use Rattle.std.specs.Prelude.{◌≡◌, ◌<◌, ◌≤◌, ◌+◌, ◌-◌, ◌++◌, ◌∷◌, [], ℕ, true, false, IfOk, length, replicate, slice_index_or, slice_set, vec_len, vec_capacity};
 ghost use Rattle.cluster_types.specs.Graphs.{IsGraph};
 ghost use Rattle.loops.specs.Clearing.{less_one};
-ghost use Rattle.loops.specs.Freed.{Clears, cleared_then, ready_then};
+ghost use Rattle.graph_exec.specs.Freed.{Clears, cleared_then, ready_then};
 ghost use Rattle.loops.specs.Rows.{AreRows};
 
 use crate::roots::first_free;
-use crate::rows::Rows;
-use crate::side::{Side, count_ends};
 use carry::with;
 use cluster_types::Graph;
 use listed::{NumberSet, none_set};
+use loops::{Rows, Side, count_ends};
 use std::alloc::{AllocError, Global};
 
 /// Which positions of a graph are cleared, and which actions may begin.

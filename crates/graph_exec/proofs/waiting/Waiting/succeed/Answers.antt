@@ -1,6 +1,6 @@
 use Rattle.std.proofs.Common.{arith, vec_capacity, ◌≡◌, length}
-use Rattle.loops.proofs.Moves.{success_clears, success_room}
-use Rattle.loops.proofs.waiting.Waiting.succeed.Goals as goal
+use Rattle.graph_exec.proofs.Moves.{success_clears, success_room}
+use Rattle.graph_exec.proofs.waiting.Waiting.succeed.Goals as goal
 
 pub succeed-requires-clause-room : goal.succeed-requires-clause-room
 succeed-requires-clause-room c =

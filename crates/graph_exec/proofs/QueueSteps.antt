@@ -8,7 +8,7 @@ use Rattle.std.proofs.lemmas.Map.Keys.{IsDistinct-push}
 use Rattle.std.proofs.lemmas.Map.Steps.{length-le_from_distinct_below}
 use Rattle.cluster_types.specs.declared.edges.Edge.{Edge}
 use Rattle.cluster_types.specs.Graphs.{GraphOf, IsGraph}
-use Rattle.loops.specs.Freed.{Clears, cleared_then, ready_then, edges_held}
+use Rattle.graph_exec.specs.Freed.{Clears, cleared_then, ready_then, edges_held}
 use Rattle.loops.specs.Rows.{targets_of}
 use Rattle.std.proofs.Math.Bool.{or-false}
 use Rattle.lemmas.proofs.Booleans.{sooner}
@@ -16,7 +16,7 @@ use Rattle.lemmas.proofs.Counts.{count-is, count_some}
 use Rattle.loops.specs.Clearing.{has, less_one}
 use Rattle.loops.proofs.Members.{equal_laws, has_push, not_before}
 use Rattle.loops.proofs.Steps.{after_take, left_elsewhere}
-use Rattle.loops.proofs.Beyond.{beyond, beyond_more}
+use Rattle.graph_exec.proofs.Beyond.{beyond, beyond_more}
 
 -- A position is taken: the edges from it are to be counted off.
 

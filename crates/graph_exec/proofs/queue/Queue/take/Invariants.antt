@@ -1,6 +1,6 @@
 use Rattle.std.proofs.Common.{◌≡◌, ◌+◌, drop, vec_capacity}
-use Rattle.loops.specs.Freed.{Clears}
-use Rattle.loops.proofs.queue.Queue.take.Given as goal
+use Rattle.graph_exec.specs.Freed.{Clears}
+use Rattle.graph_exec.proofs.queue.Queue.take.Given as goal
 
 abbrev pub invariant-loop-target : goal.invariant-loop-target
 invariant-loop-target l = record {

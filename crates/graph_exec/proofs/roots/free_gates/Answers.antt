@@ -1,8 +1,8 @@
 use Rattle.std.proofs.Common.{arith, ◌≡◌, ◌==◌, ◌≤◌, ◌∙◌, true, false, slice_index_or}
 use Rattle.std.proofs.lemmas.Bool.{ne_eqb, eq-eqb}
 use Rattle.std.proofs.lemmas.List.{length_push}
-use Rattle.loops.proofs.Passing.{passed_by, taken_in}
-use Rattle.loops.proofs.roots.free_gates.Goals as goal
+use Rattle.graph_exec.proofs.Passing.{passed_by, taken_in}
+use Rattle.graph_exec.proofs.roots.free_gates.Goals as goal
 
 pub loop-position-preserved-then-counts-position-gt0 : goal.loop-position-preserved-then-counts-position-gt0
 loop-position-preserved-then-counts-position-gt0 c =

@@ -1,6 +1,6 @@
 use Rattle.std.proofs.Common.{arith, length, ◌≤◌, []}
-use Rattle.loops.proofs.QueueSteps.{few_cleared}
-use Rattle.loops.proofs.queue.Queue.drain.Goals as goal
+use Rattle.graph_exec.proofs.QueueSteps.{few_cleared}
+use Rattle.graph_exec.proofs.queue.Queue.drain.Goals as goal
 
 pub loop-taken-smaller : goal.loop-taken-smaller
 loop-taken-smaller c =

@@ -2,8 +2,8 @@ use Rattle.std.proofs.Common.{rules, ◌≡◌, ◌<◌, ◌≤◌, ◌∙◌, a
 use Rattle.std.proofs.lemmas.Result.{IfOk-at_ok}
 use Rattle.loops.specs.declared.side.Side.TheVariants.{After}
 use Rattle.loops.specs.Rows.{edges_at}
-use Rattle.loops.proofs.Moves.{clears_first}
-use Rattle.loops.proofs.queue.Queue.new.Goals as goal
+use Rattle.graph_exec.proofs.Moves.{clears_first}
+use Rattle.graph_exec.proofs.queue.Queue.new.Goals as goal
 
 pub count_ends-requires : goal.count_ends-requires
 count_ends-requires c = rw (c.as_slice.ensures, c.edges-edges.ensures.edges) c.edges-edges.ensures.graph.within

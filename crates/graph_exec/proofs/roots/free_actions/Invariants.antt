@@ -1,5 +1,5 @@
 use Rattle.std.proofs.Common.{◌≡◌, ◌==◌, ◌<◌, ◌≤◌, ℕ, false, slice_index_or, length}
-use Rattle.loops.proofs.roots.free_actions.Given as goal
+use Rattle.graph_exec.proofs.roots.free_actions.Given as goal
 
 abbrev pub invariant-loop-position : goal.invariant-loop-position
 invariant-loop-position l = record {

@@ -1,6 +1,6 @@
 use Rattle.std.proofs.Common.{arith, vec_capacity}
-use Rattle.loops.proofs.Moves.{startable_found, begun_rests, sizes}
-use Rattle.loops.proofs.waiting.Waiting.begin.Goals as goal
+use Rattle.graph_exec.proofs.Moves.{startable_found, begun_rests, sizes}
+use Rattle.graph_exec.proofs.waiting.Waiting.begin.Goals as goal
 
 pub begin-requires-clause-from_one : goal.begin-requires-clause-from_one
 begin-requires-clause-from_one c =

@@ -1,6 +1,6 @@
 use Rattle.std.proofs.Common.{◌≡◌, ◌-◌, [], vec_capacity}
-use Rattle.loops.specs.Freed.{Clears}
-use Rattle.loops.proofs.queue.Queue.drain.Given as goal
+use Rattle.graph_exec.specs.Freed.{Clears}
+use Rattle.graph_exec.proofs.queue.Queue.drain.Given as goal
 
 abbrev pub invariant-loop-taken : goal.invariant-loop-taken
 invariant-loop-taken l = record {

@@ -1,10 +1,10 @@
 ghost use Rattle.std.specs.Prelude.{◌≡◌, ◌<◌, ◌≤◌, ◌-◌, true, false, Option, Some, None, IfOk, IfErr, length, slice_get, slice_set, replicate};
 ghost use Rattle.listed.specs.Sets.{is_member};
-ghost use Rattle.loops.specs.Ready.{Progress, none_begun, startable};
+ghost use Rattle.graph_exec.specs.Ready.{Progress, none_begun, startable};
 
 use crate::queue::Queue;
-use crate::rows::Rows;
 use cluster_types::Graph;
+use loops::Rows;
 use std::alloc::{AllocError, Global};
 use std::marker::Model;
 
@@ -20,8 +20,8 @@ pub struct Waiting {
 
 impl Model for Waiting {
     ghost use Rattle.std.specs.Prelude.{vec_capacity};
-    ghost use Rattle.loops.specs.Freed.{Rests};
-    ghost use Rattle.loops.specs.Ready.{Progress};
+    ghost use Rattle.graph_exec.specs.Freed.{Rests};
+    ghost use Rattle.graph_exec.specs.Ready.{Progress};
 
     ghost Value = { Progress };
 

@@ -1,6 +1,6 @@
 use Rattle.std.proofs.Common.{◌∙◌, ap, slice_get, ℕ, List}
-use Rattle.loops.proofs.Free.{are_startable}
-use Rattle.loops.proofs.waiting.Waiting.next.Goals as goal
+use Rattle.graph_exec.proofs.Free.{are_startable}
+use Rattle.graph_exec.proofs.waiting.Waiting.next.Goals as goal
 
 pub returns : goal.returns
 returns c =
