@@ -14,7 +14,7 @@ use Rattle.graph_exec.specs.Ready.{is_free, startable}
 use Rattle.lemmas.proofs.Booleans.{unless, sooner, later}
 use Rattle.lemmas.proofs.Counts.{count_none, count_some}
 use Rattle.lemmas.proofs.Ranges.{all_in_range, filter-alike}
-use Rattle.loops.specs.Clearing.{has}
+use Rattle.edges.specs.Clearing.{has}
 use Rattle.graph_exec.proofs.Beyond.{beyond}
 
 -- a way goes on by an edge from a gate

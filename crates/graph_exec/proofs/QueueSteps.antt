@@ -13,9 +13,9 @@ use Rattle.loops.specs.Rows.{targets_of}
 use Rattle.std.proofs.Math.Bool.{or-false}
 use Rattle.lemmas.proofs.Booleans.{sooner}
 use Rattle.lemmas.proofs.Counts.{count-is, count_some}
-use Rattle.loops.specs.Clearing.{has, less_one}
-use Rattle.loops.proofs.Members.{equal_laws, has_push, not_before}
-use Rattle.loops.proofs.Steps.{after_take, left_elsewhere}
+use Rattle.edges.specs.Clearing.{has, less_one}
+use Rattle.edges.proofs.Members.{equal_laws, has_push, not_before}
+use Rattle.edges.proofs.Steps.{after_take, left_elsewhere}
 use Rattle.graph_exec.proofs.Beyond.{beyond, beyond_more}
 
 -- A position is taken: the edges from it are to be counted off.

@@ -4,7 +4,7 @@ use Rattle.std.specs.Prelude.{◌≡◌, ◌<◌, ◌≤◌, ◌+◌, ℕ, ◌==
 use Rattle.std.specs.List.{IsDistinct}
 use Rattle.cluster_types.specs.declared.edges.Edge.{Edge}
 use Rattle.cluster_types.specs.Graphs.{GraphOf, IsGraph}
-use Rattle.loops.specs.Clearing.{has}
+use Rattle.edges.specs.Clearing.{has}
 use Rattle.loops.specs.Rows.{AreRows}
 
 -- how many edges lead to a position from others than these

@@ -10,8 +10,8 @@ ghost use Rattle.placement.specs.Links.{links_in};
 use crate::decision_set::DecisionSet;
 use crate::links::links_of;
 use cluster_types::Edge;
+use edges::{Edge as Way, longest_ways_if_free};
 use listed::number_at;
-use loops::{Edge as Way, longest_ways_if_free};
 use std::alloc::{AllocError, Global};
 
 /// The way of keys along each link, from what needs to what is needed.

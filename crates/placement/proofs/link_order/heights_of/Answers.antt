@@ -3,9 +3,9 @@ use Rattle.std.proofs.lemmas.Result.{IfOk-weaker}
 use Rattle.lemmas.proofs.Members.{of_map}
 use Rattle.cluster_types.specs.declared.edges.Edge.{Edge}
 use Rattle.cluster_types.specs.Graphs as links
-use Rattle.loops.specs.declared.edge.Edge.{Edge as Way}
-use Rattle.loops.specs.Longest.{longest}
-use Rattle.loops.specs.Loops as ways
+use Rattle.edges.specs.declared.edge.Edge.{Edge as Way}
+use Rattle.edges.specs.Longest.{longest}
+use Rattle.edges.specs.Loops as ways
 use Rattle.placement.specs.LinkOrder.{way_of}
 use Rattle.placement.proofs.link_order.heights_of.Goals as goal
 

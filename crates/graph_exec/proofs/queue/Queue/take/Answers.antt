@@ -1,7 +1,7 @@
 use Rattle.std.proofs.Common.{arith, ◌≡◌, ◌<◌, ◌+◌, ◌∷◌, length, drop, slice_index_or, ◌∙◌}
 use Rattle.std.proofs.lemmas.List.{get_or_read, drop_more}
 use Rattle.loops.specs.Rows.{targets_of}
-use Rattle.loops.proofs.Members.{has_at}
+use Rattle.edges.proofs.Members.{has_at}
 use Rattle.loops.proofs.Filled.{row_is, row_order, row_room}
 use Rattle.graph_exec.proofs.QueueSteps.{taken_next, counted_off, p_room}
 use Rattle.graph_exec.proofs.queue.Queue.take.Goals as goal

@@ -1,0 +1,17 @@
+pub mod Booleans
+pub mod Members
+pub mod Leading
+pub mod Walks
+pub mod Rising
+pub mod Counts
+pub mod Steps
+pub mod Beginnings
+pub mod Endings
+pub mod SourceRows
+pub mod Fronts
+pub mod Paths
+pub mod Relations
+pub mod Heights
+pub mod Entering
+pub mod Longest
+pub mod BackwardSteps
