@@ -4,10 +4,10 @@
 mod befores;
 mod cells;
 mod cluster;
-mod edges;
 pub mod exit_codes;
 mod fields;
 mod graph;
+mod graph_edges;
 mod journal;
 mod laws;
 mod leaf;
@@ -21,9 +21,10 @@ mod states;
 
 pub use cells::{cell_place, is_same_cell};
 pub use cluster::{Cluster, Policy, Properties};
-pub use edges::{Edge, Edges};
+pub use edges::Edge;
 pub use faults::NoMemory;
 pub use graph::Graph;
+pub use graph_edges::Edges;
 pub use journal::{Action, Answer, Event, Journal, Outcome, Promotion};
 pub use laws::{
     cycled_is_the_least_set, each_has_its_state, first_journal_has_nothing_in_flight,

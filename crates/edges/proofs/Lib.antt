@@ -15,3 +15,5 @@ pub mod Heights
 pub mod Entering
 pub mod Longest
 pub mod BackwardSteps
+pub mod Counted
+pub mod Filled

@@ -14,6 +14,10 @@ mod first;
 // How many edges the longest way to each position has.
 mod measuring;
 
+// Edges by their ends, and where those from each position lead, side by side.
+mod rows;
+mod side;
+
 // What follows from the definitions.
 mod laws;
 
@@ -25,3 +29,5 @@ pub use laws::{
     loops_or_none, loops_stay, ways_are_short,
 };
 pub use measuring::{longest_ways, longest_ways_if_free};
+pub use rows::Rows;
+pub use side::{Side, count_ends};

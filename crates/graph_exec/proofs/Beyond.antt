@@ -1,8 +1,8 @@
 -- How many edges lead to a position from others than those that are taken, one position more.
 use Rattle.std.proofs.Common.{◌≡◌, ◌+◌, ◌==◌, ◌&&◌, ◌||◌, not, ℕ, Bool, false, List, count_by}
 use Rattle.lemmas.proofs.Counts.{beyond_by_more}
-use Rattle.cluster_types.specs.declared.edges.Edge.{Edge}
-use Rattle.loops.specs.Rows.{targets_of}
+use Rattle.edges.specs.declared.edge.Edge.{Edge}
+use Rattle.edges.specs.Rows.{targets_of}
 
 abbrev pub beyond : ℕ → (ℕ → Bool) → Edge → Bool
 beyond x taken e = x == e.after && not (taken e.before)

@@ -8,8 +8,8 @@ use Rattle.std.proofs.lemmas.Option.{slice_get_within, get_or_from_slice_get}
 use Rattle.cluster_types.specs.Graphs.{GraphOf, IsGraph}
 use Rattle.listed.specs.Sets.{is_member, members}
 use Rattle.graph_exec.specs.Freed.{Clears, Rests}
-use Rattle.loops.specs.declared.side.Side.TheVariants.{After}
-use Rattle.loops.specs.Rows.{edges_at}
+use Rattle.edges.specs.declared.side.Side.TheVariants.{After}
+use Rattle.edges.specs.Rows.{edges_at}
 use Rattle.graph_exec.specs.Ready.{startable}
 use Rattle.std.proofs.Math.Bool.{and-true, or-false}
 use Rattle.lemmas.proofs.Booleans.{sooner, later}

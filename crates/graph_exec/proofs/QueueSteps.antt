@@ -6,10 +6,10 @@ use Rattle.std.proofs.lemmas.List.{get_or-set_same, get_or-set_other, get_or_pas
 use Rattle.std.proofs.lemmas.List.Folds.{Any-from_list_any}
 use Rattle.std.proofs.lemmas.Map.Keys.{IsDistinct-push}
 use Rattle.std.proofs.lemmas.Map.Steps.{length-le_from_distinct_below}
-use Rattle.cluster_types.specs.declared.edges.Edge.{Edge}
+use Rattle.edges.specs.declared.edge.Edge.{Edge}
 use Rattle.cluster_types.specs.Graphs.{GraphOf, IsGraph}
 use Rattle.graph_exec.specs.Freed.{Clears, cleared_then, ready_then, edges_held}
-use Rattle.loops.specs.Rows.{targets_of}
+use Rattle.edges.specs.Rows.{targets_of}
 use Rattle.std.proofs.Math.Bool.{or-false}
 use Rattle.lemmas.proofs.Booleans.{sooner}
 use Rattle.lemmas.proofs.Counts.{count-is, count_some}

@@ -2,10 +2,10 @@
 -- this project).
 use Rattle.std.specs.Prelude.{◌≡◌, ◌<◌, ◌≤◌, ◌+◌, ℕ, ◌==◌, ◌&&◌, Bool, true, false, not, nat_lt, if◌then◌else◌, List, [], ◌∷◌, ◌++◌, length, take, count_by, slice_index_or, slice_set}
 use Rattle.std.specs.List.{IsDistinct}
-use Rattle.cluster_types.specs.declared.edges.Edge.{Edge}
+use Rattle.edges.specs.declared.edge.Edge.{Edge}
 use Rattle.cluster_types.specs.Graphs.{GraphOf, IsGraph}
 use Rattle.edges.specs.Clearing.{has}
-use Rattle.loops.specs.Rows.{AreRows}
+use Rattle.edges.specs.Rows.{AreRows}
 
 -- how many edges lead to a position from others than these
 abbrev pub edges_held : List Edge → List ℕ → ℕ → ℕ

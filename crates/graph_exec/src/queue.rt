@@ -2,13 +2,13 @@ ghost use Rattle.std.specs.Prelude.{◌≡◌, ◌<◌, ◌≤◌, ◌+◌, ◌-
 ghost use Rattle.cluster_types.specs.Graphs.{IsGraph};
 ghost use Rattle.edges.specs.Clearing.{less_one};
 ghost use Rattle.graph_exec.specs.Freed.{Clears, cleared_then, ready_then};
-ghost use Rattle.loops.specs.Rows.{AreRows};
+ghost use Rattle.edges.specs.Rows.{AreRows};
 
 use crate::roots::first_free;
 use carry::with;
 use cluster_types::Graph;
+use edges::{Rows, Side, count_ends};
 use listed::{NumberSet, none_set};
-use loops::{Rows, Side, count_ends};
 use std::alloc::{AllocError, Global};
 
 /// Which positions of a graph are cleared, and which actions may begin.

@@ -4,7 +4,7 @@ ghost use Rattle.graph_exec.specs.Ready.{Progress, none_begun, startable};
 
 use crate::queue::Queue;
 use cluster_types::Graph;
-use loops::Rows;
+use edges::Rows;
 use std::alloc::{AllocError, Global};
 use std::marker::Model;
 

@@ -10,5 +10,3 @@ pub mod LoopTests
 pub mod ChainWays
 pub mod OneRanking
 pub mod RankLists
-pub mod Counted
-pub mod Filled

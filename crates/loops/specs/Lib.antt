@@ -1,4 +1,3 @@
 pub mod FirstLoops
 pub mod Edges
 pub mod Ranks
-pub mod Rows

@@ -12,10 +12,6 @@ mod place;
 mod placing;
 mod ranking;
 
-// Where the edges of a graph lead, side by side.
-mod rows;
-mod side;
-
 // What follows from the definitions.
 mod rank_laws;
 mod rule_laws;
@@ -25,8 +21,6 @@ pub use orders::{link_edges, order_loop, orders_steps};
 pub use place::Place;
 pub use rank_laws::{ranks_are_longest_chains, ranks_are_one, ranks_rise};
 pub use ranking::{StepRanks, ranks};
-pub use rows::Rows;
 pub use rule_laws::{
     first_colocation_is_one, first_order_is_one, first_rules_have_the_loop, tests_find_loops,
 };
-pub use side::{Side, count_ends};

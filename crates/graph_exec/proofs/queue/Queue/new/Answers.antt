@@ -1,7 +1,7 @@
 use Rattle.std.proofs.Common.{rules, ◌≡◌, ◌<◌, ◌≤◌, ◌∙◌, ap, subst, sym, ℕ, false, length, replicate, slice_index_or, vec_capacity}
 use Rattle.std.proofs.lemmas.Result.{IfOk-at_ok}
-use Rattle.loops.specs.declared.side.Side.TheVariants.{After}
-use Rattle.loops.specs.Rows.{edges_at}
+use Rattle.edges.specs.declared.side.Side.TheVariants.{After}
+use Rattle.edges.specs.Rows.{edges_at}
 use Rattle.graph_exec.proofs.Moves.{clears_first}
 use Rattle.graph_exec.proofs.queue.Queue.new.Goals as goal
 

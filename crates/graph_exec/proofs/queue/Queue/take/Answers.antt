@@ -1,8 +1,8 @@
 use Rattle.std.proofs.Common.{arith, ◌≡◌, ◌<◌, ◌+◌, ◌∷◌, length, drop, slice_index_or, ◌∙◌}
 use Rattle.std.proofs.lemmas.List.{get_or_read, drop_more}
-use Rattle.loops.specs.Rows.{targets_of}
+use Rattle.edges.specs.Rows.{targets_of}
 use Rattle.edges.proofs.Members.{has_at}
-use Rattle.loops.proofs.Filled.{row_is, row_order, row_room}
+use Rattle.edges.proofs.Filled.{row_is, row_order, row_room}
 use Rattle.graph_exec.proofs.QueueSteps.{taken_next, counted_off, p_room}
 use Rattle.graph_exec.proofs.queue.Queue.take.Goals as goal
 

@@ -1,9 +1,13 @@
 -- Edges by their ends, and where those from each position lead, side by side in one list (rule of this project).
 use Rattle.std.specs.Prelude.{◌≡◌, ◌<◌, ◌+◌, ℕ, ◌==◌, nat_lt, List, ◌∷◌, length, map, filter, count_by, slice_index_or}
 use Rattle.std.specs.List.{slice_range}
-use Rattle.cluster_types.specs.declared.edges.Edge.{Edge}
-use Rattle.loops.specs.declared.side.Side.{Side}
-use Rattle.loops.specs.declared.side.Side.TheVariants.{Before, After}
+use Rattle.edges.specs.declared.edge.Edge.{Edge}
+use Rattle.edges.specs.declared.side.Side.{Side}
+use Rattle.edges.specs.declared.side.Side.TheVariants.{Before, After}
+
+-- what is read where no edge is
+abbrev pub no_edge : Edge
+no_edge = record { before = 0; after = 0 }
 
 -- the position at this end of an edge
 abbrev pub end_of : Side → Edge → ℕ

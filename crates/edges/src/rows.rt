@@ -1,9 +1,9 @@
 ghost use Rattle.std.specs.Prelude.{◌≡◌, ◌<◌, ◌≤◌, ◌∷◌, ℕ, IfOk, length, slice_index_or};
-ghost use Rattle.cluster_types.specs.Graphs.{EndWithin};
-ghost use Rattle.loops.specs.Rows.{AreRows, edges_below, row_of};
+ghost use Rattle.edges.specs.Loops.{EndWithin};
+ghost use Rattle.edges.specs.Rows.{AreRows, edges_below, row_of};
 
+use crate::edge::Edge;
 use crate::side::{Side, count_ends};
-use cluster_types::Edge;
 use std::alloc::{AllocError, Global};
 
 /// Where the edges from each position lead.

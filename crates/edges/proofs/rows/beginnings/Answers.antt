@@ -1,7 +1,7 @@
 use Rattle.std.proofs.Common.{arith, ◌≡◌, slice_index_or, length, ◌<◌}
 use Rattle.std.proofs.lemmas.List.{get_or_read}
-use Rattle.loops.proofs.Filled.{begins_first, begins_next, below_fits}
-use Rattle.loops.proofs.rows.beginnings.Goals as goal
+use Rattle.edges.proofs.Filled.{begins_first, begins_next, below_fits}
+use Rattle.edges.proofs.rows.beginnings.Goals as goal
 
 pub loop-position-init : goal.loop-position-init
 loop-position-init c = begins_first c.args.positions c.args.edges.now c.in_ok-begins.begins.items c.in_ok-begins.ensures.size c.in_ok-begins.ensures.counted

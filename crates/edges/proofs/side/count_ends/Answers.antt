@@ -1,9 +1,8 @@
 use Rattle.std.proofs.Common.{arith, ◌≡◌, ◌<◌, ◌+◌, length, slice_index_or, ◌∙◌}
 use Rattle.std.proofs.lemmas.List.{get_or_read, length-set}
-use Rattle.cluster_types.specs.Walks.{no_edge}
-use Rattle.loops.specs.Rows.{end_of}
-use Rattle.loops.proofs.Counted.{end_within, few_at, counted_more}
-use Rattle.loops.proofs.side.count_ends.Goals as goal
+use Rattle.edges.specs.Rows.{end_of, no_edge}
+use Rattle.edges.proofs.Counted.{end_within, few_at, counted_more}
+use Rattle.edges.proofs.side.count_ends.Goals as goal
 
 pub index_mut-requires : goal.index_mut-requires
 index_mut-requires c =

@@ -1,8 +1,8 @@
 ghost use Rattle.std.specs.Prelude.{◌≡◌, ◌<◌, ℕ, IfOk, length, slice_index_or};
-ghost use Rattle.cluster_types.specs.Graphs.{EndWithin};
-ghost use Rattle.loops.specs.Rows.{edges_at, end_of};
+ghost use Rattle.edges.specs.Loops.{EndWithin};
+ghost use Rattle.edges.specs.Rows.{edges_at, end_of};
 
-use cluster_types::Edge;
+use crate::edge::Edge;
 use std::alloc::{AllocError, Global};
 
 /// An end of an edge.

@@ -4,11 +4,11 @@ use Rattle.std.proofs.lemmas.Bool.{cases_eq, ne_eqb, eq-eqb}
 use Rattle.std.proofs.lemmas.List.{get_or-set_same, get_or-set_other, length-take}
 use Rattle.std.proofs.lemmas.List.Elements.{Contains-get_or}
 use Rattle.std.proofs.lemmas.List.Sums.{count_by-le-length, count_by_more_yes, count_by_more_no}
-use Rattle.cluster_types.specs.declared.edges.Edge.{Edge}
-use Rattle.cluster_types.specs.Graphs.{EndWithin}
-use Rattle.loops.specs.declared.side.Side.{Side}
-use Rattle.loops.specs.declared.side.Side.TheVariants.{Before, After}
-use Rattle.loops.specs.Rows.{edges_at, end_of}
+use Rattle.edges.specs.declared.edge.Edge.{Edge}
+use Rattle.edges.specs.Loops.{EndWithin}
+use Rattle.edges.specs.declared.side.Side.{Side}
+use Rattle.edges.specs.declared.side.Side.TheVariants.{Before, After}
+use Rattle.edges.specs.Rows.{edges_at, end_of}
 
 pub end_within : (side : Side) (positions : ℕ) (edges : List Edge) (i : ℕ) (d : Edge) → EndWithin positions edges → i < length edges
     → end_of side (slice_index_or edges i d) < positions

@@ -1,6 +1,6 @@
 use Rattle.std.proofs.Common.{◌≡◌, ◌<◌, ℕ, length, slice_index_or, take}
-use Rattle.loops.specs.Rows.{edges_at}
-use Rattle.loops.proofs.side.count_ends.Given as goal
+use Rattle.edges.specs.Rows.{edges_at}
+use Rattle.edges.proofs.side.count_ends.Given as goal
 
 abbrev pub invariant-loop-edge : goal.invariant-loop-edge
 invariant-loop-edge l = record {

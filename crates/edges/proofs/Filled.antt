@@ -5,10 +5,10 @@ use Rattle.std.proofs.lemmas.List.{get_or-set_same, get_or-set_other, length-set
 use Rattle.std.proofs.lemmas.List.Elements.{filter_more}
 use Rattle.std.proofs.lemmas.List.Sums.{count_by-le-length, length-filter, sum_by-take-drop}
 use Rattle.lemmas.proofs.Counts.{count-cons, count-is, count_agree, count_more}
-use Rattle.cluster_types.specs.declared.edges.Edge.{Edge}
-use Rattle.loops.specs.declared.side.Side.TheVariants.{Before}
-use Rattle.loops.specs.Rows.{AreRows, edges_at, edges_below, targets_of, row_of}
-use Rattle.loops.proofs.Counted.{at_more, at_same}
+use Rattle.edges.specs.declared.edge.Edge.{Edge}
+use Rattle.edges.specs.declared.side.Side.TheVariants.{Before}
+use Rattle.edges.specs.Rows.{AreRows, edges_at, edges_below, targets_of, row_of}
+use Rattle.edges.proofs.Counted.{at_more, at_same}
 
 -- the edges below a position, and those from it, are those below the next
 next_on : (e : Edge) (x : ℕ) (lower here lower_next : Bool) → nat_lt e.before x ≡ lower → (x == e.before) ≡ here → nat_lt e.before (x + 1) ≡ lower_next

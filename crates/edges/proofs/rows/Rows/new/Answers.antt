@@ -1,13 +1,12 @@
 use Rattle.std.proofs.Common.{arith, ◌≡◌, ◌<◌, ◌+◌, List, length, slice_index_or, ◌∙◌, ℕ, take, refl}
 use Rattle.std.proofs.lemmas.List.{get_or_read}
-use Rattle.cluster_types.specs.declared.edges.Edge.{Edge}
-use Rattle.cluster_types.specs.Graphs.{EndWithin}
-use Rattle.cluster_types.specs.Walks.{no_edge}
-use Rattle.loops.specs.declared.side.Side.TheVariants.{Before}
-use Rattle.loops.specs.Rows.{AreRows, edges_at, edges_below}
-use Rattle.loops.proofs.Counted.{end_within}
-use Rattle.loops.proofs.Filled.{is_place, place_within, one_filled}
-use Rattle.loops.proofs.rows.Rows.new.Goals as goal
+use Rattle.edges.specs.declared.edge.Edge.{Edge}
+use Rattle.edges.specs.Loops.{EndWithin}
+use Rattle.edges.specs.declared.side.Side.TheVariants.{Before}
+use Rattle.edges.specs.Rows.{AreRows, edges_at, edges_below, no_edge}
+use Rattle.edges.proofs.Counted.{end_within}
+use Rattle.edges.proofs.Filled.{is_place, place_within, one_filled}
+use Rattle.edges.proofs.rows.Rows.new.Goals as goal
 
 -- what is known of the place that an edge's target takes
 record Places (positions : ℕ) (edges : List Edge) (i : ℕ) (ends targets : List ℕ) (at : ℕ) : Type 0 where
