@@ -1,4 +1,5 @@
-use cluster_types::{NoReason, NodeId, Pin, Table};
+use crate::node::NodeId;
+use crate::placement::{NoReason, Pin, Table};
 use listed::Listed;
 
 /// Where everything goes once a node is lost, and why.
