@@ -5,8 +5,9 @@ use Rattle.std.proofs.lemmas.List.Folds.{Any-from_list_any, list_any_at, list_an
 use Rattle.std.proofs.lemmas.Bool.{and_from}
 use Rattle.lemmas.proofs.Booleans.{sooner, later}
 use Rattle.lemmas.proofs.Searches.{passes_by}
-use Rattle.cluster_types.specs.declared.edges.Edge.{Edge}
-use Rattle.cluster_types.specs.Graphs.{GraphOf, IsGraph, IsBefore, is_before, is_number, EndWithin, LeadUpward, Leads, direct, through, leads_within, leads_by}
+use Rattle.edges.specs.declared.edge.Edge.{Edge}
+use Rattle.cluster_types.specs.Graphs.{GraphOf, IsGraph, IsBefore, is_before, is_number, LeadUpward, Leads, direct, through, leads_within, leads_by}
+use Rattle.edges.specs.Loops.{EndWithin}
 
 pub leads_by_one : (most actions : ℕ) (edges : List Edge) (x y : ℕ) → most ≢ 0
     → leads_within most actions edges x y ≡ list_any (leads_by (most - 1) actions edges x y) edges

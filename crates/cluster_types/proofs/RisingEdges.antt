@@ -1,7 +1,8 @@
 -- Edges along which a height rises make a graph, where the heights of actions are in the order of their numbers.
 use Rattle.std.proofs.Common.{arith, ◌<◌, ◌≤◌, ℕ, List, length, Contains}
-use Rattle.cluster_types.specs.declared.edges.Edge.{Edge}
-use Rattle.cluster_types.specs.Graphs.{GraphOf, IsGraph, EndWithin, LeadUpward, Leads, direct, through}
+use Rattle.edges.specs.declared.edge.Edge.{Edge}
+use Rattle.cluster_types.specs.Graphs.{GraphOf, IsGraph, LeadUpward, Leads, direct, through}
+use Rattle.edges.specs.Loops.{EndWithin}
 
 module _ (actions : ℕ) (edges : List Edge) (height : ℕ → ℕ) (rises : (e : Edge) → Contains edges e → height e.before < height e.after) where
   leads-rise : (x y : ℕ) → Leads actions edges x y → height x < height y

@@ -10,9 +10,10 @@ use Rattle.std.proofs.lemmas.List.FromFn.{filter_of_map_range_with_len_more}
 use Rattle.lemmas.proofs.Booleans.{sooner, later, same_test}
 use Rattle.lemmas.proofs.Searches.{passes_by}
 use Rattle.lemmas.proofs.Ranges.{filter-alike}
-use Rattle.cluster_types.specs.declared.edges.Edge.{Edge}
-use Rattle.cluster_types.specs.declared.edges.Edges.{Edges}
-use Rattle.cluster_types.specs.Graphs.{GraphOf, IsGraph, EndWithin, LeadUpward, Leads, direct, through, is_before, is_number}
+use Rattle.edges.specs.declared.edge.Edge.{Edge}
+use Rattle.cluster_types.specs.declared.graph_edges.Edges.{Edges}
+use Rattle.cluster_types.specs.Graphs.{GraphOf, IsGraph, LeadUpward, Leads, direct, through, is_before, is_number}
+use Rattle.edges.specs.Loops.{EndWithin}
 use Rattle.listed.specs.Flags.{is_marked}
 use Rattle.cluster_types.specs.Walks.{AreMarked, joins}
 use Rattle.cluster_types.proofs.Paths.{before-from_computed, before-computed}

@@ -1,8 +1,9 @@
 -- Which action of a graph comes before which, by edges and gates (how edges are kept few is a rule of this project).
 use Rattle.std.specs.Prelude.{◌≡◌, nat_lt, ℕ, suc, zero, ◌-◌, ◌<◌, ◌≤◌, nat_le, ◌==◌, ◌&&◌, ◌||◌, Bool, true, false, List, length, Contains}
 use Rattle.std.specs.List.{list_any}
-use Rattle.cluster_types.specs.declared.edges.Edge.{Edge}
-use Rattle.cluster_types.specs.declared.edges.Edges.{Edges}
+use Rattle.edges.specs.declared.edge.Edge.{Edge}
+use Rattle.edges.specs.Loops.{EndWithin}
+use Rattle.cluster_types.specs.declared.graph_edges.Edges.{Edges}
 use Rattle.cluster_types.specs.declared.journal.Action.{Action}
 
 -- the actions in the order of their numbers, and edges between positions: those of the actions from 0, and then gates
@@ -37,10 +38,6 @@ pub record IsBefore (g : GraphOf) (x y : ℕ) : Type 0 where
   pub earlier : is_number g x ≡ true
   pub later : is_number g y ≡ true
   pub leads : Leads (length g.actions) g.edges.list (x - 1) (y - 1)
-
--- the ends of edges are positions
-abbrev pub EndWithin : ℕ → List Edge → Type 0
-EndWithin positions edges = (e : Edge) → Contains edges e → (e.before < positions) × (e.after < positions)
 
 -- an edge to a gate leads upward
 abbrev pub LeadUpward : ℕ → List Edge → Type 0

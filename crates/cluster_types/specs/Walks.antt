@@ -2,12 +2,8 @@
 -- is marked (rule of this project). No public clause cites this module.
 use Rattle.std.specs.Prelude.{◌≡◌, ◌≤◌, ◌==◌, ◌&&◌, ℕ, Bool, true, List, Contains}
 use Rattle.listed.specs.Flags.{is_marked}
-use Rattle.cluster_types.specs.declared.edges.Edge.{Edge}
+use Rattle.edges.specs.declared.edge.Edge.{Edge}
 use Rattle.cluster_types.specs.Graphs.{Leads}
-
--- what is read where no edge is
-abbrev pub no_edge : Edge
-no_edge = record { before = 0; after = 0 }
 
 -- the edge leads from x to y
 abbrev pub joins : ℕ → ℕ → Edge → Bool

@@ -2,12 +2,14 @@
 
 ghost use Rattle.std.specs.Prelude.{◌≡◌, ◌≤◌, ◌<◌, ◌-◌, ◌||◌, ℕ, IfOk, length, filter};
 ghost use Rattle.std.specs.List.{list_any, range_with_len};
-ghost use Rattle.cluster_types.specs.Graphs.{EndWithin, LeadUpward, is_before};
+ghost use Rattle.cluster_types.specs.Graphs.{LeadUpward, is_before};
+ghost use Rattle.edges.specs.Loops.{EndWithin};
 ghost use Rattle.cluster_types.specs.Walks.{AreMarked, joins};
 ghost use Rattle.listed.specs.Flags.{is_marked};
 
-use crate::edges::{Edge, Edges};
 use crate::graph::Graph;
+use crate::graph_edges::Edges;
+use edges::Edge;
 use faults::NoMemory;
 use std::alloc::{AllocError, Global};
 

@@ -15,12 +15,13 @@ ghost use Rattle.cluster_types.specs.NodeStates.{node_state};
 ghost use Rattle.cluster_types.specs.Unpacked.{cell_at, states_of};
 ghost use Rattle.cluster_types.specs.declared.placement.Target.{Target as TargetOf};
 ghost use Rattle.cluster_types.specs.Journals.{NodeWord, Orderly, first_events, in_flight, is_reported, moment_of};
-ghost use Rattle.cluster_types.specs.Graphs.{EndWithin, GraphOf, IsBefore, IsGraph, LeadUpward, is_before};
+ghost use Rattle.cluster_types.specs.Graphs.{GraphOf, IsBefore, IsGraph, LeadUpward, is_before};
+ghost use Rattle.edges.specs.Loops.{EndWithin};
 ghost use Rattle.cluster_types.specs.May.{closes, closes_promoted, is_left_promoted, may, may_promoted, opens, opens_promoted};
 
 use crate::cluster::Cluster;
-use crate::edges::Edge;
 use crate::journal::{Action, Answer, Event, Promotion};
+use edges::Edge;
 
 /// After one more event a leaf may run where the event opens the cell, and where it might before and the event doesn't close it.
 pub fn may_after_one_more()

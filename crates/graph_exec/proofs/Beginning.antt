@@ -12,7 +12,7 @@ use Rattle.cluster_types.specs.Graphs.{is_before}
 use Rattle.cluster_types.specs.Steps as steps
 use Rattle.cluster_types.specs.Steps.{Begins, numbers, may_begin, is_settled, has_begun, has_succeeded, has_aborted, has_room, flight, flying, is_in_flight_number, aborts}
 use Rattle.listed.specs.Sets.{is_member, members}
-use Rattle.loops.specs.Ready.{is_free, startable}
+use Rattle.graph_exec.specs.Ready.{is_free, startable}
 use Rattle.graph_exec.specs.Flights.{FlightOf, pairs, paired}
 use Rattle.graph_exec.specs.Logs.{LogOf}
 use Rattle.graph_exec.specs.Running.{Running, Follows, going, running}

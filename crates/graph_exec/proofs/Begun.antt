@@ -9,7 +9,7 @@ use Rattle.cluster_types.specs.declared.journal.Action.{Action}
 use Rattle.cluster_types.specs.declared.journal.Event.TheVariants.{Begin}
 use Rattle.cluster_types.specs.Steps as steps
 use Rattle.listed.specs.Sets.{is_member}
-use Rattle.loops.specs.Ready.{startable}
+use Rattle.graph_exec.specs.Ready.{startable}
 use Rattle.graph_exec.specs.Flights.{FlightOf, with_begun}
 use Rattle.graph_exec.specs.Logs.{LogOf}
 use Rattle.graph_exec.specs.Running.{Running, Follows, going, running}

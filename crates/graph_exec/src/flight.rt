@@ -4,12 +4,12 @@ ghost use Rattle.std.specs.Prelude.{◌≡◌, ◌<◌, ◌≤◌, ◌-◌, true
 ghost use Rattle.std.specs.List.{list_any};
 ghost use Rattle.cluster_types.specs.Answering.{is_number_of};
 ghost use Rattle.listed.specs.Sets.{is_member};
-ghost use Rattle.loops.specs.Ready.{none_begun, startable};
+ghost use Rattle.graph_exec.specs.Ready.{none_begun, startable};
 ghost use Rattle.graph_exec.specs.Flights.{is_about, is_busy, pairs, with_begun, with_ended};
 
+use crate::waiting::Waiting;
 use cluster_types::{Action, Graph, LeafId, NodeId};
 use listed::NumberSet;
-use loops::Waiting;
 use std::alloc::Global;
 use std::marker::Model;
 

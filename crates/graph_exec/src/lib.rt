@@ -6,6 +6,11 @@
 // What an event means for a transition.
 mod meaning;
 
+// Which actions of a graph may begin, as others succeed.
+mod queue;
+mod roots;
+mod waiting;
+
 // What is kept of a transition: its journal, and which actions are in flight.
 mod flight;
 mod known_journal;
@@ -62,5 +67,6 @@ pub use script::Script;
 pub use stop::{ReplayEnd, ReplayStop};
 pub use taking::Unexpected;
 pub use transition::{run_transition, run_watched};
+pub use waiting::Waiting;
 pub use watched::replay_watched;
 pub use watcher::{Heard, Unwatched, Watcher};

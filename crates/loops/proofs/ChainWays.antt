@@ -1,9 +1,9 @@
 -- Chains of links are ways along their edges.
 use Rattle.std.proofs.Common.{◌≡◌, ◌+◌, ◌*◌, ◌==◌, ℕ, suc, zero, Bool, true, false, List, [], ◌∷◌, length, map, filter, cond, fold, max, refl, sym, ◌∙◌, ap, inl, inr, Contains}
-use Rattle.loops.specs.declared.edge.Edge.{Edge}
-use Rattle.loops.specs.Loops.{HasNoLoop as NoLoopOfEdges}
-use Rattle.loops.specs.Longest.{longest, longest_within}
-use Rattle.loops.proofs.Paths.{loop_or_none}
+use Rattle.edges.specs.declared.edge.Edge.{Edge}
+use Rattle.edges.specs.Loops.{HasNoLoop as NoLoopOfEdges}
+use Rattle.edges.specs.Longest.{longest, longest_within}
+use Rattle.edges.proofs.Paths.{loop_or_none}
 use Rattle.cluster_types.specs.declared.cluster.Cluster.{Cluster}
 use Rattle.cluster_types.specs.Numbers.{HasNoLoop, Link, StepOf, chain_within, is_same_step, links, rank}
 use Rattle.loops.specs.Edges.{link_edge, step_edges, step_position}

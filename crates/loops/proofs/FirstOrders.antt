@@ -8,11 +8,11 @@ use Rattle.std.proofs.lemmas.List.{append_assoc, take-append-drop}
 use Rattle.std.proofs.lemmas.List.Elements.{Contains-append_cases}
 use Rattle.std.proofs.lemmas.List.FromFn.{get_or-map-range_with_len, length-map-range_with_len}
 use Rattle.std.proofs.lemmas.List.Quantifiers.{position-Some}
-use Rattle.loops.specs.declared.edge.Edge.{Edge}
-use Rattle.loops.specs.Loops.{ClosesFirst, HasLoop, HasNoLoop as NoLoopOfEdges, leads_within}
-use Rattle.loops.proofs.Endings.{one_way}
-use Rattle.loops.proofs.Fronts.{leads_with_more, loop_with_more}
-use Rattle.loops.proofs.Paths.{none_where_rising}
+use Rattle.edges.specs.declared.edge.Edge.{Edge}
+use Rattle.edges.specs.Loops.{ClosesFirst, HasLoop, HasNoLoop as NoLoopOfEdges, leads_within}
+use Rattle.edges.proofs.Endings.{one_way}
+use Rattle.edges.proofs.Fronts.{leads_with_more, loop_with_more}
+use Rattle.edges.proofs.Paths.{none_where_rising}
 use Rattle.cluster_types.specs.declared.cluster.Cluster.{Cluster}
 use Rattle.cluster_types.specs.declared.leaf.Op.TheVariants.{Start, Stop, Promote, Demote}
 use Rattle.cluster_types.specs.declared.rules.Order.{Order}

@@ -6,7 +6,7 @@ use Rattle.std.proofs.lemmas.List.{take_more, append_assoc, append-nil, map-appe
 use Rattle.std.proofs.lemmas.List.FromFn.{map-range_with_len_more}
 use Rattle.std.proofs.lemmas.List.Elements.{filter-append}
 use Rattle.lemmas.proofs.Ranges.{range-more}
-use Rattle.loops.specs.declared.edge.Edge.{Edge}
+use Rattle.edges.specs.declared.edge.Edge.{Edge}
 use Rattle.cluster_types.specs.declared.cluster.Cluster.{Cluster}
 use Rattle.cluster_types.specs.declared.rules.Order.{Order}
 use Rattle.cluster_types.specs.Numbers.{Link, leaf_links, order_links}

@@ -2,9 +2,9 @@
 use Rattle.std.proofs.Common.{arith, ◌≡◌, ◌≢◌, ◌<◌, ◌*◌, ◌==◌, ◌&&◌, ℕ, Bool, true, false, [], ◌∷◌, ◌++◌, cond, map, length, refl, sym, ◌∙◌, ap, inl, inr, Contains}
 use Rattle.std.specs.List.{flat_map, range_with_len}
 use Rattle.std.proofs.lemmas.List.Elements.{Contains-append_cases}
-use Rattle.loops.specs.declared.edge.Edge.{Edge}
-use Rattle.loops.specs.Loops.{EndWithin, HasLoop, HasNoLoop as NoLoopOfEdges}
-use Rattle.loops.proofs.Relations.{EdgeFor, FollowsItself, StandsFor, WayFor, leads_of, nothing_follows_itself, one_follows_itself}
+use Rattle.edges.specs.declared.edge.Edge.{Edge}
+use Rattle.edges.specs.Loops.{EndWithin, HasLoop, HasNoLoop as NoLoopOfEdges}
+use Rattle.edges.proofs.Relations.{EdgeFor, FollowsItself, StandsFor, WayFor, leads_of, nothing_follows_itself, one_follows_itself}
 use Rattle.cluster_types.specs.declared.cluster.Cluster.{Cluster}
 use Rattle.cluster_types.specs.declared.leaf.Op.{Op}
 use Rattle.cluster_types.specs.declared.leaf.Op.TheVariants.{Start, Stop, Promote, Demote, Monitor}

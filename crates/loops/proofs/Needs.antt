@@ -7,8 +7,8 @@ use Rattle.std.proofs.lemmas.List.Folds.{Any-from_list_any}
 use Rattle.std.proofs.lemmas.List.FromFn.{map-range_with_len_more}
 use Rattle.lemmas.proofs.Booleans.{sooner, later}
 use Rattle.lemmas.proofs.Searches.{passes_by}
-use Rattle.loops.specs.declared.edge.Edge.{Edge}
-use Rattle.loops.proofs.Relations.{EdgeFor, WayFor}
+use Rattle.edges.specs.declared.edge.Edge.{Edge}
+use Rattle.edges.proofs.Relations.{EdgeFor, WayFor}
 use Rattle.cluster_types.specs.declared.cluster.Cluster.{Cluster}
 use Rattle.cluster_types.specs.declared.leaf.Role.{Role}
 use Rattle.cluster_types.specs.declared.leaf.Role.TheVariants.{Started, Promoted}

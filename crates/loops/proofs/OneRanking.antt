@@ -1,6 +1,6 @@
 -- The ranks are made up of those before them, and nothing else is.
 use Rattle.std.proofs.Common.{arith, ◌≡◌, ◌<◌, ◌≤◌, ◌+◌, ◌*◌, ℕ, suc, zero, List, [], ◌∷◌, length, map, fold, max, refl, sym, ◌∙◌, ap, Contains}
-use Rattle.loops.proofs.Longest.{fold_each, longest_are_heights, longest_bounded, map_alike}
+use Rattle.edges.proofs.Longest.{fold_each, longest_are_heights, longest_bounded, map_alike}
 use Rattle.cluster_types.specs.declared.cluster.Cluster.{Cluster}
 use Rattle.cluster_types.specs.Numbers.{HasNoLoop, Link, StepOf, is_same_step, links, rank}
 use Rattle.cluster_types.specs.Valid.{IsValid}

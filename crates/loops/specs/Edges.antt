@@ -1,7 +1,7 @@
 -- The needs and the links of a cluster as edges between positions (rule of this project).
 use Rattle.std.specs.Prelude.{ℕ, ◌+◌, ◌*◌, ◌&&◌, Bool, List, length, map, filter, ◌++◌}
 use Rattle.std.specs.List.{range_with_len}
-use Rattle.loops.specs.declared.edge.Edge.{Edge}
+use Rattle.edges.specs.declared.edge.Edge.{Edge}
 use Rattle.cluster_types.specs.declared.cluster.Cluster.{Cluster}
 use Rattle.cluster_types.specs.declared.leaf.Op.{Op}
 use Rattle.cluster_types.specs.declared.leaf.Op.TheVariants as op

@@ -2,8 +2,8 @@ ghost use Rattle.std.specs.Prelude.{◌≡◌, ◌<◌, ◌++◌, ◌∷◌, [],
 ghost use Rattle.cluster_types.specs.Numbers.{is_step, link, step_of};
 ghost use Rattle.loops.specs.Edges.{counts, edges_of, op_number, step_position};
 
-use crate::Edge;
 use cluster_types::{Cluster, LeafId, Op};
+use edges::Edge;
 use std::alloc::AllocError;
 
 /// An operation that changes a leaf, on whatever node.

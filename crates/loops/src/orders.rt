@@ -6,8 +6,8 @@ ghost use Rattle.loops.specs.Edges.{edges_of, order_ends, step_edges};
 ghost use Rattle.loops.specs.FirstLoops.{AllOrder, IsFirstOrder, OrdersSteps};
 
 use crate::pushing::{push_leaf, push_order};
-use crate::{Edge, first_loop};
 use cluster_types::{Cluster, NoMemory, Op, Order};
+use edges::{Edge, first_loop};
 use faults::done;
 use std::alloc::{AllocError, Global};
 

@@ -8,10 +8,10 @@ use Rattle.std.proofs.lemmas.List.Folds.{Any-from_list_any}
 use Rattle.lemmas.proofs.Booleans.{sooner}
 use Rattle.lemmas.proofs.Counts.{count-is, count-none, count_agree}
 use Rattle.lemmas.proofs.Members.{of_filter, of_map}
-use Rattle.cluster_types.specs.declared.edges.Edge.{Edge}
-use Rattle.cluster_types.specs.Graphs.{EndWithin}
-use Rattle.loops.specs.declared.side.Side.TheVariants.{After}
-use Rattle.loops.specs.Rows.{edges_at, targets_of}
+use Rattle.edges.specs.declared.edge.Edge.{Edge}
+use Rattle.edges.specs.Loops.{EndWithin}
+use Rattle.edges.specs.declared.side.Side.TheVariants.{After}
+use Rattle.edges.specs.Rows.{edges_at, targets_of}
 use Rattle.placement.specs.Queueing.{held}
 
 -- each target stands at the end of an edge

@@ -11,12 +11,12 @@ use Rattle.lemmas.proofs.Members.{Flat, at_head, head_or_rest, in_flat, in_none,
 use Rattle.lemmas.proofs.Searches.{passes_by}
 use Rattle.loops.proofs.Needs.{is_itself, same_decision}
 use Rattle.cluster_types.specs.declared.cluster.Cluster.{Cluster}
-use Rattle.cluster_types.specs.declared.edges.Edge.{Edge}
+use Rattle.edges.specs.declared.edge.Edge.{Edge}
 use Rattle.cluster_types.specs.declared.placement.Decision.{Decision}
 use Rattle.cluster_types.specs.declared.placement.Decision.TheVariants.{Place, Promote}
 use Rattle.cluster_types.specs.declared.rules.Colocation.{Colocation}
 use Rattle.cluster_types.specs.Decisions.{decision_of, is_among, is_place, is_same_decision, joins, leaf_of, needs}
-use Rattle.cluster_types.specs.Graphs.{EndWithin}
+use Rattle.edges.specs.Loops.{EndWithin}
 use Rattle.cluster_types.specs.Valid.{IsValid}
 use Rattle.plan_laws.proofs.Ready.{needs_place}
 use Rattle.plan_laws.proofs.MadeOnes.{stands_among}

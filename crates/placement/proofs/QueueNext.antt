@@ -1,9 +1,9 @@
 -- The position of the first place that is ready, in a queue.
 use Rattle.std.proofs.Common.{arith, ◌≡◌, ℕ, ◌<◌, ◌≤◌, ◌==◌, ◌∷◌, false, List, length, count_by, slice_index_or, Contains}
 use Rattle.std.proofs.lemmas.List.Elements.{Contains-get_or}
-use Rattle.cluster_types.specs.declared.edges.Edge.{Edge}
-use Rattle.loops.specs.Rows.{row_of, targets_of}
-use Rattle.loops.proofs.Filled.{row_is, row_order, row_room}
+use Rattle.edges.specs.declared.edge.Edge.{Edge}
+use Rattle.edges.specs.Rows.{row_of, targets_of}
+use Rattle.edges.proofs.Filled.{row_is, row_order, row_room}
 use Rattle.placement.specs.declared.queue.Queue.{Queue}
 use Rattle.placement.specs.Queueing.{IsFirstPlace, IsQueue}
 use Rattle.placement.proofs.HeldCounts.{row-few, target-within}

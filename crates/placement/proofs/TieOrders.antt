@@ -5,9 +5,9 @@ use Rattle.std.proofs.lemmas.Bool.{cases_lt}
 use Rattle.std.proofs.lemmas.List.{get_or_default}
 use Rattle.std.proofs.lemmas.List.Sorted.{Contains-permutation, IsPermutation-sym}
 use Rattle.lemmas.proofs.Members.{in_map}
-use Rattle.loops.specs.Loops.{HasNoLoop}
-use Rattle.loops.specs.Longest.{longest}
-use Rattle.loops.proofs.Longest.{heights_rise, longest_are_heights}
+use Rattle.edges.specs.Loops.{HasNoLoop}
+use Rattle.edges.specs.Longest.{longest}
+use Rattle.edges.proofs.Longest.{heights_rise, longest_are_heights}
 use Rattle.placement.specs.declared.ties.Tie.{Tie}
 use Rattle.placement.specs.TieOrder.{AreHeightsOf, AreInOrder, EndAtLeaves, edge_of}
 use Rattle.placement.proofs.TieSides.{edges-within}

@@ -1,7 +1,7 @@
 -- What decisions lend to those that they need: their keys, step by step (follows from the definition of effective keys).
 use Rattle.std.specs.Prelude.{◌≡◌, ℕ, ◌*◌, ◌<◌, Bool, false, if◌then◌else◌, Option, Some, None, List, length, map, filter, fold, slice_get, slice_set, unwrap_or}
 use Rattle.cluster_types.specs.declared.cluster.Cluster.{Cluster}
-use Rattle.cluster_types.specs.declared.edges.Edge.{Edge}
+use Rattle.edges.specs.declared.edge.Edge.{Edge}
 use Rattle.cluster_types.specs.declared.placement.Decision.{Decision}
 use Rattle.cluster_types.specs.Decisions.{Key, greater_key, is_among, is_less, leaf_of, needs_through}
 use Rattle.placement.specs.Flags.{slot_of}

@@ -1,13 +1,12 @@
 -- The order in which keys are lent along links (rule of this project).
 use Rattle.std.specs.Prelude.{◌≡◌, ◌<◌, ℕ, List, map, slice_index_or}
 use Rattle.std.specs.List.Sorted.{IsNonDecreasingBy}
-use Rattle.cluster_types.specs.declared.edges.Edge.{Edge}
-use Rattle.loops.specs.declared.edge.Edge.{Edge as Way}
-use Rattle.loops.specs.Longest.{longest}
-use Rattle.loops.specs.Loops.{HasNoLoop}
+use Rattle.edges.specs.declared.edge.Edge.{Edge}
+use Rattle.edges.specs.Longest.{longest}
+use Rattle.edges.specs.Loops.{HasNoLoop}
 
 -- from what needs to what is needed
-abbrev pub way_of : Edge → Way
+abbrev pub way_of : Edge → Edge
 way_of link = record { before = link.after; after = link.before }
 
 abbrev pub height_in : List ℕ → ℕ → ℕ

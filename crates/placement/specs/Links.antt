@@ -2,7 +2,7 @@
 use Rattle.std.specs.Prelude.{if◌then◌else◌, List, [], ◌∷◌, ◌++◌}
 use Rattle.std.specs.List.{flat_map}
 use Rattle.cluster_types.specs.declared.cluster.Cluster.{Cluster}
-use Rattle.cluster_types.specs.declared.edges.Edge.{Edge}
+use Rattle.edges.specs.declared.edge.Edge.{Edge}
 use Rattle.cluster_types.specs.declared.placement.Decision.{Decision}
 use Rattle.cluster_types.specs.declared.placement.Decision.TheVariants.{Promote}
 use Rattle.cluster_types.specs.declared.rules.Colocation.{Colocation}

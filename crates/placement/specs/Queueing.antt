@@ -2,9 +2,9 @@
 -- project).
 use Rattle.std.specs.Prelude.{◌≡◌, ℕ, ◌<◌, ◌==◌, ◌&&◌, Bool, true, false, not, Option, Some, None, MatchOption, List, length, count_by, slice_index_or, Contains}
 use Rattle.std.specs.Option.{option_map_or}
-use Rattle.cluster_types.specs.declared.edges.Edge.{Edge}
-use Rattle.cluster_types.specs.Graphs.{EndWithin}
-use Rattle.loops.specs.Rows.{AreRows}
+use Rattle.edges.specs.declared.edge.Edge.{Edge}
+use Rattle.edges.specs.Loops.{EndWithin}
+use Rattle.edges.specs.Rows.{AreRows}
 use Rattle.placement.specs.declared.queue.Queue.{Queue}
 
 -- how many edges lead to the position from others than were taken

@@ -1,8 +1,8 @@
 -- The order in which ties are followed (rule of this project).
 use Rattle.std.specs.Prelude.{◌≡◌, ◌<◌, ℕ, List, length, map, slice_index_or, Contains}
-use Rattle.loops.specs.declared.edge.Edge.{Edge}
-use Rattle.loops.specs.Longest.{longest}
-use Rattle.loops.specs.Loops.{HasNoLoop}
+use Rattle.edges.specs.declared.edge.Edge.{Edge}
+use Rattle.edges.specs.Longest.{longest}
+use Rattle.edges.specs.Loops.{HasNoLoop}
 use Rattle.placement.specs.declared.ties.Tie.{Tie}
 
 -- from the primary of a tie to its dependent

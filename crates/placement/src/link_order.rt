@@ -2,25 +2,24 @@
 
 ghost use Rattle.std.specs.Prelude.{◌≡◌, ◌≤◌, map, length, IfOk, OnOk};
 ghost use Rattle.std.specs.List.Sorted.{IsPermutation};
-ghost use Rattle.cluster_types.specs.Graphs.{EndWithin};
+ghost use Rattle.edges.specs.Loops.{EndWithin};
 ghost use Rattle.cluster_types.specs.Valid.{IsValid};
 ghost use Rattle.placement.specs.LinkOrder as spec;
 ghost use Rattle.placement.specs.Links.{links_in};
 
 use crate::decision_set::DecisionSet;
 use crate::links::links_of;
-use cluster_types::Edge;
+use edges::{Edge, longest_ways_if_free};
 use listed::number_at;
-use loops::{Edge as Way, longest_ways_if_free};
 use std::alloc::{AllocError, Global};
 
 /// The way of keys along each link, from what needs to what is needed.
-fn ways_of(alloc: Global, links: &[Edge]) -> Result<Vec<Way>, AllocError>
+fn ways_of(alloc: Global, links: &[Edge]) -> Result<Vec<Edge>, AllocError>
     ensures { IfOk result (λ ways. ways.items ≡ map spec.way_of links.now) }
 {
     let mut ways = Vec::with_capacity(alloc, links.len())?;
     for link in links {
-        ways.push_reserved(Way {
+        ways.push_reserved(Edge {
             before: link.after,
             after: link.before,
         });

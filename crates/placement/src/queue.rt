@@ -2,15 +2,14 @@
 
 ghost use Rattle.std.specs.Prelude.{◌≡◌, ◌<◌, ◌≤◌, ◌+◌, ◌==◌, ◌&&◌, ◌||◌, ℕ, true, false, if◌then◌else◌, Option, Some, None, MatchOption, IfOk, List, Contains, length, count_by, replicate, slice_index_or, slice_set};
 ghost use Rattle.std.specs.List.{list_any};
-ghost use Rattle.cluster_types.specs.declared.edges.Edge.{Edge as EdgeOf};
-ghost use Rattle.cluster_types.specs.Graphs.{EndWithin};
+ghost use Rattle.edges.specs.declared.edge.Edge.{Edge as EdgeOf};
+ghost use Rattle.edges.specs.Loops.{EndWithin};
 ghost use Rattle.placement.specs.Queueing as spec;
-ghost use Rattle.loops.specs.Rows.{AreRows, edges_at};
+ghost use Rattle.edges.specs.Rows.{AreRows, edges_at};
 
-use cluster_types::Edge;
+use edges::{Edge, Rows, Side, count_ends};
 use faults::with;
 use listed::NumberSet;
-use loops::{Rows, Side, count_ends};
 use std::alloc::{AllocError, Global};
 
 /// Positions, of which some were taken. The first to be taken is that of the least place.

@@ -2,13 +2,13 @@
 
 ghost use Rattle.std.specs.Prelude.{◌≡◌, ◌≤◌, length, map, Contains, IfOk, OnOk, slice_index_or};
 ghost use Rattle.std.specs.List.Sorted.{IsNonDecreasingBy, IsPermutation};
-ghost use Rattle.loops.specs.Loops.{HasNoLoop};
+ghost use Rattle.edges.specs.Loops.{HasNoLoop};
 ghost use Rattle.placement.specs.declared.ties.Tie.{Tie as TieOf};
 ghost use Rattle.placement.specs.TieOrder as spec;
 
 use crate::ties::Tie;
+use edges::{Edge, longest_ways_if_free};
 use listed::number_at;
-use loops::{Edge, longest_ways_if_free};
 use std::alloc::{AllocError, Global};
 
 /// An edge for each tie, from its primary to its dependent.

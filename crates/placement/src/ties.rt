@@ -6,7 +6,7 @@ ghost use Rattle.cluster_types.specs.Terms as terms;
 ghost use Rattle.cluster_types.specs.Valid.{IsValid};
 ghost use Rattle.placement.specs.declared.ties.Tie.{Tie as TieOf};
 ghost use Rattle.listed.specs.Flags.{is_marked};
-ghost use Rattle.loops.specs.Loops.{HasNoLoop};
+ghost use Rattle.edges.specs.Loops.{HasNoLoop};
 ghost use Rattle.placement.specs.TieOrder.{AreInOrder, edge_of};
 ghost use Rattle.placement.specs.Ties as spec;
 

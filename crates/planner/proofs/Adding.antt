@@ -1,7 +1,7 @@
 -- Groups of edges that are added one after the other.
 use Rattle.std.proofs.Common.{arith, ◌<◌, ◌≤◌, ◌+◌, ◌++◌, ◌⊎◌, ℕ, List, [], sym, ap, ◌∙◌}
 use Rattle.std.proofs.lemmas.List.{append-nil, append_assoc, length-append}
-use Rattle.cluster_types.specs.declared.edges.Edge.{Edge}
+use Rattle.edges.specs.declared.edge.Edge.{Edge}
 use Rattle.planner.specs.Groups.{Adds}
 use Rattle.planner.proofs.Groups.{group_after, group_says, no_group}
 

@@ -7,7 +7,7 @@ use Rattle.std.proofs.lemmas.List.Sums.{sum_by-cons, sum_by-le}
 use Rattle.std.proofs.lemmas.List.{append-nil, append_assoc, length-append}
 use Rattle.std.proofs.lemmas.List.FromFn.{length-range_with_len}
 use Rattle.cluster_types.specs.declared.cluster.Cluster.{Cluster}
-use Rattle.cluster_types.specs.declared.edges.Edge.{Edge}
+use Rattle.edges.specs.declared.edge.Edge.{Edge}
 use Rattle.cluster_types.specs.declared.journal.Action.{Action}
 use Rattle.cluster_types.specs.Precedence.{CellOf}
 use Rattle.planner.specs.declared.sides.Join.{Join}

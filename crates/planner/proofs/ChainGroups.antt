@@ -1,7 +1,7 @@
 -- A chain leads from each of its first kind to each of its other kind behind it, and nowhere else.
 use Rattle.std.proofs.Common.{arith, ◌≡◌, ◌<◌, ◌≤◌, ◌+◌, ◌⊎◌, inl, inr, ℕ, Bool, true, List, [], ◌∷◌, ◌++◌, Contains, refl, sym, subst}
 use Rattle.std.proofs.lemmas.List.Elements.{Contains-append_cases}
-use Rattle.cluster_types.specs.declared.edges.Edge.{Edge}
+use Rattle.edges.specs.declared.edge.Edge.{Edge}
 use Rattle.cluster_types.specs.Graphs.{Leads}
 use Rattle.planner.specs.Gates.{InChain, StandsBefore, here, later, chain_edges, chain_step, last_gate, next_gate, then_step}
 use Rattle.lemmas.proofs.Members.{head_or_rest, in_rest}

@@ -1,7 +1,7 @@
 -- Where a chain leads from its first gate and from an action, with one position more in front.
 use Rattle.std.proofs.Common.{arith, ◌≡◌, ◌<◌, ◌≤◌, ◌+◌, inl, inr, ℕ, Bool, true, false, List, ◌++◌, Contains, refl, sym, subst}
 use Rattle.std.proofs.lemmas.List.Elements.{Contains-append_cases, Contains-append_left, Contains-append_right}
-use Rattle.cluster_types.specs.declared.edges.Edge.{Edge}
+use Rattle.edges.specs.declared.edge.Edge.{Edge}
 use Rattle.cluster_types.specs.Graphs.{Leads, direct, through}
 use Rattle.cluster_types.proofs.GateGroups.{more_edges, own_gate}
 use Rattle.planner.specs.Gates.{chain_edges, chain_step, edge, next_gate, then_step}

@@ -1,7 +1,7 @@
 -- Groups of edges, each with gates of its own and a relation that it says of the actions.
 use Rattle.std.proofs.Common.{arith, ◌<◌, ◌≤◌, ◌⊎◌, inl, inr, ℕ, List, [], ◌++◌, Contains}
 use Rattle.std.proofs.lemmas.List.Elements.{Contains-append_cases}
-use Rattle.cluster_types.specs.declared.edges.Edge.{Edge}
+use Rattle.edges.specs.declared.edge.Edge.{Edge}
 use Rattle.cluster_types.specs.Graphs.{Leads, direct, through}
 use Rattle.planner.specs.Groups.{IsGroup, IsOwnEnd}
 use Rattle.cluster_types.proofs.GateGroups.{IsOwn, action, gate, one_group, of_old, of_more}

@@ -1,9 +1,10 @@
 -- Edges that say what must precede what.
 use Rattle.std.specs.Prelude.{◌≡◌, ◌↔◌, ◌<◌, ◌≤◌, ℕ, Bool, true, List, Some, length, slice_get}
 use Rattle.cluster_types.specs.declared.cluster.Cluster.{Cluster}
-use Rattle.cluster_types.specs.declared.edges.Edges.{Edges}
+use Rattle.cluster_types.specs.declared.graph_edges.Edges.{Edges}
 use Rattle.cluster_types.specs.declared.journal.Action.{Action}
-use Rattle.cluster_types.specs.Graphs.{EndWithin, GraphOf, LeadUpward, Leads}
+use Rattle.cluster_types.specs.Graphs.{GraphOf, LeadUpward, Leads}
+use Rattle.edges.specs.Loops.{EndWithin}
 use Rattle.cluster_types.specs.Plans.{most_edges}
 use Rattle.cluster_types.specs.Precedence.{must_precede}
 

@@ -3,7 +3,7 @@
 ghost use Rattle.std.specs.Prelude.{◌≡◌, ◌↔◌, ◌||◌, ◌<◌, ℕ, Bool, true, List, Some, Contains, length, slice_get};
 ghost use Rattle.std.specs.List.{list_any};
 ghost use Rattle.cluster_types.specs.declared.cluster.Cluster.{Cluster as ClusterOf};
-ghost use Rattle.cluster_types.specs.declared.edges.Edges.{Edges as EdgesOf};
+ghost use Rattle.cluster_types.specs.declared.graph_edges.Edges.{Edges as EdgesOf};
 ghost use Rattle.cluster_types.specs.declared.journal.Action.{Action as ActionOf};
 ghost use Rattle.cluster_types.specs.declared.journal.Event.{Event as EventOf};
 ghost use Rattle.cluster_types.specs.declared.leaf.Role.TheVariants as role;

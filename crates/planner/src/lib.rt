@@ -57,7 +57,6 @@ mod planning;
 
 // What the loss of each node does.
 mod losing;
-mod report;
 
 // What follows from the definitions.
 mod action_laws;
@@ -77,6 +76,5 @@ pub use migrating::migrating_flags;
 pub use number_laws::{needed_actions_have_places_of_their_own, plans_have_few_edges};
 pub use numbering::number;
 pub use planning::{plan, plan_of};
-pub use report::{Loss, Report};
 pub use sides::{Join, Side};
 pub use whole::edges;

@@ -7,8 +7,7 @@ ghost use Rattle.cluster_types.specs.Valid.{IsValid};
 ghost use Rattle.state_unpack.specs.Known.{Knows};
 ghost use Rattle.planner.specs.Losses.{IsLoss, IsReport};
 
-use crate::report::{Loss, Report};
-use cluster_types::{Cluster, Event, Journal, NoMemory, NodeId, NodeState, States};
+use cluster_types::{Cluster, Event, Journal, Loss, NoMemory, NodeId, NodeState, Report, States};
 use faults::with;
 use listed::Listed;
 use placement::placement_of;

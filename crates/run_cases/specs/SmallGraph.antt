@@ -1,6 +1,6 @@
 -- Three actions and a gate, through which the first two come before the third (rule of this project).
 use Rattle.std.specs.Prelude.{ℕ, [], ◌∷◌}
-use Rattle.cluster_types.specs.declared.edges.Edge.{Edge}
+use Rattle.edges.specs.declared.edge.Edge.{Edge}
 use Rattle.cluster_types.specs.declared.journal.Action.TheVariants.{Probe}
 use Rattle.cluster_types.specs.Graphs.{GraphOf}
 

@@ -4,8 +4,9 @@ use Rattle.std.specs.Prelude.{Contains}
 use Rattle.std.specs.List.{list_any}
 use Rattle.std.proofs.lemmas.Bool.{cases_eq, ne_eqb, or_cases, or_left, or_right}
 use Rattle.lemmas.proofs.Booleans.{sooner}
-use Rattle.cluster_types.specs.declared.edges.Edge.{Edge}
-use Rattle.cluster_types.specs.Graphs.{EndWithin, LeadUpward, Leads, direct, through}
+use Rattle.edges.specs.declared.edge.Edge.{Edge}
+use Rattle.cluster_types.specs.Graphs.{LeadUpward, Leads, direct, through}
+use Rattle.edges.specs.Loops.{EndWithin}
 use Rattle.cluster_types.specs.Walks.{joins}
 use Rattle.cluster_types.proofs.Walks.{by_edge, joined}
 use Rattle.trace_text.specs.Backward.{IsOnTheWay, LeadsToFound}

@@ -5,8 +5,9 @@ use Rattle.std.specs.List.{list_any}
 use Rattle.std.proofs.lemmas.Bool.{both_ways, or_cases, ltb-true, ltb-false}
 use Rattle.std.proofs.lemmas.Option.{get_or_from_slice_get}
 use Rattle.lemmas.proofs.Booleans.{sooner, later}
-use Rattle.cluster_types.specs.declared.edges.Edge.{Edge}
-use Rattle.cluster_types.specs.Graphs.{EndWithin, LeadUpward}
+use Rattle.edges.specs.declared.edge.Edge.{Edge}
+use Rattle.cluster_types.specs.Graphs.{LeadUpward}
+use Rattle.edges.specs.Loops.{EndWithin}
 use Rattle.cluster_types.specs.Walks.{joins}
 use Rattle.listed.specs.Sets.{is_member, members}
 use Rattle.trace_text.specs.declared.found.Found.{Found}

@@ -1,6 +1,6 @@
 -- Going back from a position: what was found on the way through gates (rule of this project).
 use Rattle.std.specs.Prelude.{◌≡◌, ◌<◌, ◌≤◌, ◌⊎◌, ℕ, Bool, true, List}
-use Rattle.cluster_types.specs.declared.edges.Edge.{Edge}
+use Rattle.edges.specs.declared.edge.Edge.{Edge}
 use Rattle.cluster_types.specs.Graphs.{Leads}
 
 -- an action leads to a gate that was found

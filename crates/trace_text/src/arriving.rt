@@ -1,5 +1,5 @@
 ghost use Rattle.std.specs.Prelude.{IfOk, length};
-ghost use Rattle.cluster_types.specs.Graphs.{EndWithin};
+ghost use Rattle.edges.specs.Loops.{EndWithin};
 ghost use Rattle.trace_text.specs.Arriving.{AreLinked};
 
 use cluster_types::Edge;

@@ -1,7 +1,8 @@
 ghost use Rattle.std.specs.Prelude.{◌≡◌, ◌≤◌, ◌<◌, ◌+◌, ◌-◌, ◌==◌, ◌||◌, ◌&&◌, ℕ, [], not, false, length, IfOk, replicate, slice_index_or};
 ghost use Rattle.std.specs.List.{list_any};
-ghost use Rattle.cluster_types.specs.declared.edges.Edge.{Edge as EdgeOf};
-ghost use Rattle.cluster_types.specs.Graphs.{EndWithin, LeadUpward, Leads};
+ghost use Rattle.edges.specs.declared.edge.Edge.{Edge as EdgeOf};
+ghost use Rattle.cluster_types.specs.Graphs.{LeadUpward, Leads};
+ghost use Rattle.edges.specs.Loops.{EndWithin};
 ghost use Rattle.cluster_types.specs.Walks.{joins};
 ghost use Rattle.listed.specs.Sets.{members};
 ghost use Rattle.trace_text.specs.Arriving.{AreLinked};

@@ -1,20 +1,18 @@
 use Rattle.std.proofs.Common.{rules, ◌≡◌, ◌<◌, ℕ, List, map, slice_index_or, sym, subst, ◌∙◌}
 use Rattle.std.proofs.lemmas.Result.{IfOk-weaker}
 use Rattle.lemmas.proofs.Members.{of_map}
-use Rattle.cluster_types.specs.declared.edges.Edge.{Edge}
-use Rattle.cluster_types.specs.Graphs as links
-use Rattle.loops.specs.declared.edge.Edge.{Edge as Way}
-use Rattle.loops.specs.Longest.{longest}
-use Rattle.loops.specs.Loops as ways
+use Rattle.edges.specs.declared.edge.Edge.{Edge}
+use Rattle.edges.specs.Longest.{longest}
+use Rattle.edges.specs.Loops as ways
 use Rattle.placement.specs.LinkOrder.{way_of}
 use Rattle.placement.proofs.link_order.heights_of.Goals as goal
 
 -- ways have the ends of their links
-ways-within : (slots : ℕ) (ls : List Edge) → links.EndWithin slots ls → ways.EndWithin slots (map way_of ls)
+ways-within : (slots : ℕ) (ls : List Edge) → ways.EndWithin slots ls → ways.EndWithin slots (map way_of ls)
 ways-within slots ls within way among =
     let m = of_map way_of ls way among in
     let ends = within m.source m.among in
-    (subst (λ (w : Way). w.before < slots) m.gives ends.1, subst (λ (w : Way). w.after < slots) m.gives ends.0)
+    (subst (λ (w : Edge). w.before < slots) m.gives ends.1, subst (λ (w : Edge). w.after < slots) m.gives ends.0)
 
 pub longest_ways_if_free-requires-clause-within : goal.longest_ways_if_free-requires-clause-within
 longest_ways_if_free-requires-clause-within c =
@@ -26,5 +24,5 @@ returns c =
     let made : c.in_ok-ways.ways.items ≡ map way_of c.args.links.now = search rules in
     IfOk-weaker c.longest_ways_if_free.result _ _
     (λ heights are. subst
-    (λ (es : List Way). ways.HasNoLoop c.args.slots es → (x : ℕ) → x < c.args.slots → slice_index_or heights.items x 0 ≡ longest c.args.slots es x)
+    (λ (es : List Edge). ways.HasNoLoop c.args.slots es → (x : ℕ) → x < c.args.slots → slice_index_or heights.items x 0 ≡ longest c.args.slots es x)
     (c.deref.ensures.value ∙ made) are) c.longest_ways_if_free.ensures.longest

@@ -1,6 +1,6 @@
 use Rattle.std.proofs.Common.{rules, slice_index_or}
 use Rattle.std.proofs.lemmas.List.Sorted.{IsNonDecreasingBy-from_sort_by_key}
-use Rattle.cluster_types.specs.declared.edges.Edge.{Edge}
+use Rattle.edges.specs.declared.edge.Edge.{Edge}
 use Rattle.placement.proofs.link_order.sort_by_height.Goals as goal
 
 pub returns-clause-sorted : goal.returns-clause-sorted

@@ -2,8 +2,8 @@ use Rattle.std.proofs.Common.{arith, ◌≡◌, ◌*◌, ℕ, List, Result, Ok, 
 use Rattle.std.proofs.lemmas.List.{length-map}
 use Rattle.std.proofs.lemmas.Result.{IfOk-at_ok, IfOk-weaker}
 use Rattle.lemmas.proofs.Members.{of_map}
-use Rattle.cluster_types.specs.declared.edges.Edge.{Edge}
-use Rattle.cluster_types.specs.Graphs.{EndWithin}
+use Rattle.edges.specs.declared.edge.Edge.{Edge}
+use Rattle.edges.specs.Loops.{EndWithin}
 use Rattle.placement.specs.declared.queue.Queue.{Queue}
 use Rattle.placement.specs.declared.ranked.Ranked.{Ranked}
 use Rattle.placement.specs.Flags.{slot_of}

@@ -1,8 +1,8 @@
 use Rattle.std.proofs.Common.{rules, ◌≡◌, ◌<◌, ℕ, List, map, slice_index_or, sym, subst, ◌∙◌}
 use Rattle.std.proofs.lemmas.Result.{IfOk-weaker}
-use Rattle.loops.specs.declared.edge.Edge.{Edge}
-use Rattle.loops.specs.Longest.{longest}
-use Rattle.loops.specs.Loops.{EndWithin, HasNoLoop}
+use Rattle.edges.specs.declared.edge.Edge.{Edge}
+use Rattle.edges.specs.Longest.{longest}
+use Rattle.edges.specs.Loops.{EndWithin, HasNoLoop}
 use Rattle.placement.specs.TieOrder.{edge_of}
 use Rattle.placement.proofs.TieSides.{edges-within}
 use Rattle.placement.proofs.tie_order.heights_of.Goals as goal

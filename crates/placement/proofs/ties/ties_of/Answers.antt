@@ -1,7 +1,7 @@
 use Rattle.std.proofs.Common.{rules, ◌≡◌, ℕ, List, Result, Ok, Err, IfOk, OnOk, length, map, sym, subst}
 use Rattle.std.proofs.lemmas.Result.{on_ok_weaker}
 use Rattle.faults.specs.Carry.{IsDone}
-use Rattle.loops.specs.Loops.{HasNoLoop}
+use Rattle.edges.specs.Loops.{HasNoLoop}
 use Rattle.std.specs.List.Sorted.{IsPermutation}
 use Rattle.placement.specs.declared.ties.Tie.{Tie}
 use Rattle.placement.specs.Ties as spec

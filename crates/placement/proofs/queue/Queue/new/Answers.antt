@@ -2,7 +2,7 @@ use Rattle.std.proofs.Common.{rules, arith, ◌≡◌, ◌<◌, ◌&&◌, ◌||�
 use Rattle.std.specs.List.{list_any}
 use Rattle.std.proofs.lemmas.List.{length-replicate}
 use Rattle.std.proofs.lemmas.Result.{IfOk-at_ok}
-use Rattle.loops.specs.Rows.{AreRows}
+use Rattle.edges.specs.Rows.{AreRows}
 use Rattle.placement.specs.Queueing.{ArePlaces, Waits, held, is_at, is_free}
 use Rattle.placement.proofs.HeldCounts.{counted-first, none-ready}
 use Rattle.placement.proofs.QueueSteps.{all-ready}

@@ -1,7 +1,7 @@
 use Rattle.std.proofs.Common.{arith, ◌≡◌, ◌<◌, ◌≤◌, ◌==◌, ◌+◌, ◌-◌, ◌&&◌, ◌||◌, ℕ, Bool, Option, List, ◌∷◌, None, false, true, length, count_by, slice_index_or, slice_set, Contains, sym, ap, subst, ◌∙◌}
 use Rattle.std.specs.List.{list_any}
 use Rattle.std.proofs.lemmas.List.{get_or_read, length-set}
-use Rattle.loops.specs.Rows.{row_of, targets_of}
+use Rattle.edges.specs.Rows.{row_of, targets_of}
 use Rattle.placement.specs.Queueing.{Waits, is_at, is_free}
 use Rattle.placement.proofs.QueueNext.{few, in-made, in-order, in-place, in-rows, open-yet, row-is, row-low, with-room}
 use Rattle.placement.proofs.HeldCounts.{counted-next}

@@ -1,7 +1,7 @@
 use Rattle.std.proofs.Common.{◌≡◌, ◌-◌, ◌∙◌, ap, subst, List, length, refl}
-use Rattle.cluster_types.specs.declared.edges.Edge.{Edge}
-use Rattle.cluster_types.specs.declared.edges.Edges.{Edges}
-use Rattle.cluster_types.specs.Graphs.{EndWithin}
+use Rattle.edges.specs.declared.edge.Edge.{Edge}
+use Rattle.cluster_types.specs.declared.graph_edges.Edges.{Edges}
+use Rattle.edges.specs.Loops.{EndWithin}
 use Rattle.listed.specs.Sets.{members}
 use Rattle.trace_text.specs.Backward.{IsOnTheWay}
 use Rattle.trace_text.specs.Found.{is_found}
