@@ -7,11 +7,11 @@ use Rattle.crm_lex.specs.RawLines.{raw_lines}
 use Rattle.faults.specs.declared.fault.Fault.{Fault}
 use Rattle.faults.specs.declared.fault.Fault.TheVariants.{At}
 use Rattle.faults.specs.Reading.{UnlessMemory}
-use Rattle.sim_core.specs.Followed.{bytes_of, count_lines}
-use Rattle.sim_core.specs.Heads as heads
-use Rattle.sim_core.specs.Heads.{CanGoOn, IsStopOf, KeepsBytes, head_behind, progress, taken}
-use Rattle.sim_core.specs.declared.head.HeadStop.{HeadStop}
-use Rattle.sim_core.specs.declared.head.HeadStop.TheVariants as why
+use Rattle.live_run.specs.Followed.{bytes_of, count_lines}
+use Rattle.live_run.specs.Heads as heads
+use Rattle.live_run.specs.Heads.{CanGoOn, IsStopOf, KeepsBytes, head_behind, progress, taken}
+use Rattle.live_run.specs.declared.head.HeadStop.{HeadStop}
+use Rattle.live_run.specs.declared.head.HeadStop.TheVariants as why
 use Rattle.sim_core.specs.declared.beginning.HeadEnd.TheVariants as stop
 use Rattle.input_reading.specs.declared.cause.InputCause.{InputCause}
 use Rattle.input_reading.specs.declared.reading.Head.{Head}

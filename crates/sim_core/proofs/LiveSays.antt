@@ -9,15 +9,15 @@ use Rattle.cluster_types.specs.declared.cluster.Cluster.{Cluster}
 use Rattle.cluster_types.specs.declared.journal.Journal.{Journal}
 use Rattle.cluster_types.specs.Journals.{moment_of}
 use Rattle.crm_lex.specs.RawLines.{raw_lines}
-use Rattle.sim_core.specs.Coming.{Coming, coming}
-use Rattle.sim_core.specs.Heads as heads
-use Rattle.sim_core.specs.declared.place.Place.{Place}
-use Rattle.sim_core.specs.declared.live_end.LiveEnd.{LiveEnd}
-use Rattle.sim_core.specs.declared.live_end.LiveEnd.TheVariants as end
-use Rattle.sim_core.specs.Ends.{Gets}
-use Rattle.sim_core.specs.Reached as run
-use Rattle.sim_core.specs.Reached.{Reaches, results_behind}
-use Rattle.sim_core.proofs.Written.{adds_none}
+use Rattle.live_run.specs.Coming.{Coming, coming}
+use Rattle.live_run.specs.Heads as heads
+use Rattle.live_run.specs.declared.place.Place.{Place}
+use Rattle.live_run.specs.declared.live_end.LiveEnd.{LiveEnd}
+use Rattle.live_run.specs.declared.live_end.LiveEnd.TheVariants as end
+use Rattle.live_run.specs.Ends.{Gets}
+use Rattle.live_run.specs.Reached as run
+use Rattle.live_run.specs.Reached.{Reaches, results_behind}
+use Rattle.live_run.proofs.Written.{adds_none}
 use Rattle.sim_core.specs.declared.beginning.HeadEnd.{HeadEnd}
 use Rattle.sim_core.specs.declared.beginning.HeadEnd.TheVariants as stop
 use Rattle.input_reading.specs.declared.cause.InputCause.{InputCause}

@@ -3,11 +3,11 @@ use Rattle.std.proofs.Common.{◌≡◌, ◌⊎◌, inl, inr, ℕ, List, Ok, Err
 use Rattle.cluster_types.specs.declared.cluster.Cluster.{Cluster}
 use Rattle.cluster_types.specs.declared.journal.Journal.{Journal}
 use Rattle.faults.specs.declared.fault.Fault.TheVariants.{At}
-use Rattle.sim_core.specs.Coming.{Coming}
-use Rattle.sim_core.specs.Heads as heads
-use Rattle.sim_core.specs.declared.live_end.LiveEnd.{LiveEnd}
-use Rattle.sim_core.specs.declared.live_end.LiveEnd.TheVariants as end
-use Rattle.sim_core.specs.Ends as ends
+use Rattle.live_run.specs.Coming.{Coming}
+use Rattle.live_run.specs.Heads as heads
+use Rattle.live_run.specs.declared.live_end.LiveEnd.{LiveEnd}
+use Rattle.live_run.specs.declared.live_end.LiveEnd.TheVariants as end
+use Rattle.live_run.specs.Ends as ends
 use Rattle.input_reading.specs.declared.cause.InputCause.{InputCause}
 use Rattle.input_reading.specs.declared.reading.Head.{Head}
 use Rattle.sim_core.specs.declared.status.Status.{Status}

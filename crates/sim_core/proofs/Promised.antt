@@ -5,8 +5,8 @@ use Rattle.cluster_types.specs.declared.journal.Event.{Event}
 use Rattle.cluster_types.specs.declared.journal.Promotion.{Promotion}
 use Rattle.cluster_types.specs.Valid.{IsValid}
 use Rattle.input_reading.proofs.ValidHead.{cluster_valid, journal_at_rest}
-use Rattle.sim_core.specs.Courses.{answers_of}
-use Rattle.sim_core.specs.Ends.{IsWholeText}
+use Rattle.live_run.specs.Courses.{answers_of}
+use Rattle.live_run.specs.Ends.{IsWholeText}
 use Rattle.plan_laws.proofs.LawfulTable.{lawful}
 use Rattle.plan_laws.proofs.OnePlan.{one_list, one_placed}
 use Rattle.planner.proofs.SomePlan.{actions, goals, is_plan}

@@ -1,6 +1,6 @@
 -- The run that follows from the head of an input is safe.
 use Rattle.std.proofs.Common.{ℕ, Option, Some, None, IfSome, List, is_none}
-use Rattle.sim_core.specs.Courses.{answers_of}
+use Rattle.live_run.specs.Courses.{answers_of}
 use Rattle.run_safety.proofs.SafeRuns.{safe_run}
 use Rattle.sim_core.specs.Answers.{IsSafeReplay}
 use Rattle.sim_core.specs.Replay.{IsBegun, coming_behind}

@@ -5,7 +5,7 @@ use Rattle.sim_core.specs.declared.status.Status.{Status}
 use Rattle.sim_core.specs.declared.status.Status.TheVariants.{Done, NoMemory, Usage, ReadFault, WriteFault, Refused, Unexpected, TooLarge, NotLawful}
 use Rattle.sim_core.specs.declared.words.Command.{Command}
 use Rattle.cluster_types.specs.Safety.{IsSafeRun}
-use Rattle.sim_core.specs.Courses.{answers_of}
+use Rattle.live_run.specs.Courses.{answers_of}
 use Rattle.input_reading.specs.declared.reading.Head.{Head}
 use Rattle.sim_core.specs.Live.{SaysLive}
 use Rattle.input_reading.specs.Reading.{most_bytes}

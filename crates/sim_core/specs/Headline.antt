@@ -15,8 +15,8 @@ use Rattle.cluster_types.specs.Safety.{IsSafeRun}
 use Rattle.cluster_types.specs.Tables.{targets_of}
 use Rattle.cluster_types.specs.Valid.{IsValid}
 use Rattle.input_reading.specs.declared.reading.Head.{Head}
-use Rattle.sim_core.specs.Courses.{answers_of}
-use Rattle.sim_core.specs.Ends.{run_text}
+use Rattle.live_run.specs.Courses.{answers_of}
+use Rattle.live_run.specs.Ends.{run_text}
 use Rattle.sim_core.specs.Replay.{IsBegun, coming_behind}
 
 -- for a journal there is one plan, and its targets obey the mandatory rules. That each decision of it is the best that those before it left is part of what a

@@ -7,9 +7,9 @@ use Rattle.cluster_io.specs.Streams.{Adds, AddsPrefix}
 use Rattle.crm_lex.specs.RawLines.{raw_lines}
 use Rattle.cluster_types.specs.declared.cluster.Cluster.{Cluster}
 use Rattle.cluster_types.specs.declared.journal.Journal.{Journal}
-use Rattle.sim_core.specs.Followed.{bytes_of, count_lines}
-use Rattle.sim_core.specs.Heads as heads
-use Rattle.sim_core.specs.Reached.{HasNoMemory, IsBrokenOff, IsCutOff}
+use Rattle.live_run.specs.Followed.{bytes_of, count_lines}
+use Rattle.live_run.specs.Heads as heads
+use Rattle.live_run.specs.Reached.{HasNoMemory, IsBrokenOff, IsCutOff}
 use Rattle.input_reading.specs.declared.cause.InputCause.{InputCause}
 use Rattle.input_reading.specs.declared.reading.Head.{Head}
 use Rattle.sim_core.specs.declared.status.Status.{Status}

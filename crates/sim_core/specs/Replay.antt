@@ -7,9 +7,9 @@ use Rattle.faults.specs.declared.fault.Fault.TheVariants.{At}
 use Rattle.cluster_types.specs.declared.cluster.Cluster.{Cluster}
 use Rattle.cluster_types.specs.declared.journal.Journal.{Journal}
 use Rattle.cluster_types.specs.Journals.{moment_of}
-use Rattle.sim_core.specs.Coming.{Coming, coming}
-use Rattle.sim_core.specs.Heads as heads
-use Rattle.sim_core.specs.Ends.{IsBoundedText, IsCutText, IsRefusedText, IsWholeText}
+use Rattle.live_run.specs.Coming.{Coming, coming}
+use Rattle.live_run.specs.Heads as heads
+use Rattle.live_run.specs.Ends.{IsBoundedText, IsCutText, IsRefusedText, IsWholeText}
 use Rattle.input_reading.specs.declared.cause.InputCause.{InputCause}
 use Rattle.input_reading.specs.declared.cause.InputCause.TheVariants as cause
 use Rattle.input_reading.specs.declared.reading.Head.{Head}

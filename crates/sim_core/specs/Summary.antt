@@ -1,7 +1,7 @@
 -- The summary of the run of a generated case (rule of this project).
 use Rattle.std.specs.Prelude.{ℕ, ◌-◌, Bool, true, false, List, ◌++◌, codes, decimal, filter, length, slice_get}
 use Rattle.std.specs.Option.{option_map_or}
-use Rattle.agent_world.specs.Case.{lost_node}
+use Rattle.cases.specs.Case.{lost_node}
 use Rattle.cluster_types.specs.declared.cluster.Cluster.{Cluster}
 use Rattle.cluster_types.specs.declared.journal.Event.{Event}
 use Rattle.cluster_types.specs.declared.journal.Event.TheVariants.{Begin, Ended}

@@ -8,6 +8,7 @@ ghost use Rattle.sim_core.specs.Words.{command_of};
 
 use crate::audit_word::AuditWord;
 use crate::check::CheckWord;
+use crate::faulty_runs_are_not_lawful;
 use crate::generated::with_case;
 use crate::graph::GraphWord;
 use crate::help::{HELP, VERSION};
@@ -20,8 +21,8 @@ use crate::status::Status;
 use crate::text_word::Reading;
 use crate::words::{Command, command_of};
 use crate::world::WorldWord;
-use crate::{ends_are_one, faulty_runs_are_not_lawful};
 use cluster_io::{Sink, Source};
+use live_run::ends_are_one;
 use std::alloc::Global;
 
 /// Carries out a word. The clauses are those of `run` for the words that ask for it.

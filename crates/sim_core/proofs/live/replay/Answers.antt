@@ -1,5 +1,5 @@
 use Rattle.std.proofs.Common.{ap, rules}
-use Rattle.sim_core.specs.Courses.{Standing}
+use Rattle.live_run.specs.Courses.{Standing}
 use Rattle.sim_core.proofs.LiveSays.{run_told, stop_told}
 use Rattle.sim_core.proofs.live.replay.Goals as goal
 
