@@ -5,7 +5,7 @@ use Rattle.crm_parse.specs.declared.form.Form.{Form}
 use Rattle.crm_parse.specs.declared.form.Form.TheVariants as form
 use Rattle.crm_parse.specs.declared.statement.Statement.{Statement}
 use Rattle.cluster_types.specs.declared.leaf.Leaf.{Leaf}
-use Rattle.cluster_model.specs.declared.surroundings.Surroundings.{Surroundings}
+use Rattle.cluster_model.specs.declared.expansion.surroundings.Surroundings.{Surroundings}
 use Rattle.cluster_model.specs.Leaves.{leaf_in, leaf_of, leaves_in, leaves_of, primitive_in, surroundings_of}
 use Rattle.cluster_model.specs.Laws.{EachPrimitiveIsALeaf}
 

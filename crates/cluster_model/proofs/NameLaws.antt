@@ -10,13 +10,13 @@ use Rattle.crm_parse.specs.declared.form.Form.{Form}
 use Rattle.crm_parse.specs.declared.form.Form.TheVariants as form
 use Rattle.crm_parse.specs.declared.statement.Statement.{Statement}
 use Rattle.cluster_types.specs.declared.leaf.Leaf.{Leaf}
-use Rattle.cluster_model.specs.declared.expand_fault.ExpandCause.{ExpandCause}
-use Rattle.cluster_model.specs.declared.expand_fault.ExpandCause.TheVariants.{DuplicateName}
+use Rattle.cluster_model.specs.declared.expansion.expand_fault.ExpandCause.{ExpandCause}
+use Rattle.cluster_model.specs.declared.expansion.expand_fault.ExpandCause.TheVariants.{DuplicateName}
 use Rattle.faults.specs.declared.fault.Fault.{Fault}
 use Rattle.faults.specs.Reading.{fault_at}
-use Rattle.cluster_model.specs.declared.kinds.Kind.{Kind}
-use Rattle.cluster_model.specs.declared.seen.Seen.{Seen}
-use Rattle.cluster_model.specs.declared.surroundings.Surroundings.{Surroundings}
+use Rattle.cluster_model.specs.declared.expansion.kinds.Kind.{Kind}
+use Rattle.cluster_model.specs.declared.expansion.seen.Seen.{Seen}
+use Rattle.cluster_model.specs.declared.expansion.surroundings.Surroundings.{Surroundings}
 use Rattle.cluster_model.specs.Faults.{cause_of, fault_of, first_fault, ids_in, kinds_of, nothing_seen, seen_after}
 use Rattle.cluster_model.specs.Laws.{NamesDiffer}
 use Rattle.cluster_model.specs.Leaves.{leaf_in, leaf_of, leaves_in, leaves_of, surroundings_of}

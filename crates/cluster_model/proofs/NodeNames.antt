@@ -8,11 +8,11 @@ use Rattle.std.proofs.lemmas.List.Kept.{AllPairs-cons}
 use Rattle.crm_parse.specs.declared.form.Form.{Form}
 use Rattle.crm_parse.specs.declared.form.Form.TheVariants as form
 use Rattle.crm_parse.specs.declared.statement.Statement.{Statement}
-use Rattle.cluster_model.specs.declared.expand_fault.ExpandCause.{ExpandCause}
+use Rattle.cluster_model.specs.declared.expansion.expand_fault.ExpandCause.{ExpandCause}
 use Rattle.faults.specs.declared.fault.Fault.{Fault}
 use Rattle.faults.specs.Reading.{fault_at}
-use Rattle.cluster_model.specs.declared.kinds.Kind.{Kind}
-use Rattle.cluster_model.specs.declared.seen.Seen.{Seen}
+use Rattle.cluster_model.specs.declared.expansion.kinds.Kind.{Kind}
+use Rattle.cluster_model.specs.declared.expansion.seen.Seen.{Seen}
 use Rattle.cluster_model.specs.Faults.{cause_of, fault_of, first_fault, ids_in, kinds_of, nothing_seen, seen_after}
 use Rattle.cluster_model.specs.Settings.{nodes_in}
 use Rattle.crm_lex.specs.NameSets.{has}

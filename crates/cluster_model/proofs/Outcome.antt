@@ -10,10 +10,10 @@ use Rattle.cluster_types.specs.Numbers.{HasNoLoop}
 use Rattle.loops.specs.FirstLoops.{has_need_loop, has_step_loop}
 use Rattle.loops.proofs.LoopTests.{need_of_none, no_needs, no_steps, step_of_none}
 use Rattle.crm_parse.specs.declared.statement.Statement.{Statement}
-use Rattle.cluster_model.specs.declared.leaves.Leaves.{Leaves}
-use Rattle.cluster_model.specs.declared.directory.Directory.{Directory}
-use Rattle.cluster_model.specs.declared.fault.ModelCause.{ModelCause}
-use Rattle.cluster_model.specs.declared.fault.ModelCause.TheVariants.{ColocationLoop, OrderLoop}
+use Rattle.cluster_model.specs.declared.expansion.leaves.Leaves.{Leaves}
+use Rattle.cluster_model.specs.declared.resolution.directory.Directory.{Directory}
+use Rattle.cluster_model.specs.declared.resolution.fault.ModelCause.{ModelCause}
+use Rattle.cluster_model.specs.declared.resolution.fault.ModelCause.TheVariants.{ColocationLoop, OrderLoop}
 use Rattle.cluster_model.specs.Directories.{directory_of}
 use Rattle.cluster_model.specs.FirstFaults.{first_fault}
 use Rattle.cluster_model.specs.Resolution.{cause_after, cause_of_loops, cluster_of, loop_cause, own_cause, resolution_of}

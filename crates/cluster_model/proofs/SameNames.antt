@@ -8,9 +8,9 @@ use Rattle.std.proofs.Math.Bool.{or-false}
 use Rattle.crm_lex.specs.NameSets.{IsWith, has}
 use Rattle.crm_parse.specs.declared.form.Form.{Form}
 use Rattle.crm_parse.specs.declared.statement.Statement.{Statement}
-use Rattle.cluster_model.specs.declared.expand_fault.ExpandCause.{ExpandCause}
-use Rattle.cluster_model.specs.declared.kinds.Kind.{Kind}
-use Rattle.cluster_model.specs.declared.seen.Seen.{Seen}
+use Rattle.cluster_model.specs.declared.expansion.expand_fault.ExpandCause.{ExpandCause}
+use Rattle.cluster_model.specs.declared.expansion.kinds.Kind.{Kind}
+use Rattle.cluster_model.specs.declared.expansion.seen.Seen.{Seen}
 use Rattle.faults.specs.Reading.{fault_at}
 use Rattle.cluster_model.specs.Faults.{AreAlike, HaveTheSame, cause_of, first_fault, has_twice, ids_in, parts_in, seen_after}
 use Rattle.cluster_model.specs.Settings.{nodes_in}

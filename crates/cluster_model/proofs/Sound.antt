@@ -16,16 +16,16 @@ use Rattle.crm_parse.specs.declared.form.Form.TheVariants as form
 use Rattle.crm_parse.specs.declared.statement.Statement.{Statement}
 use Rattle.crm_parse.specs.declared.words.ActionWord.{ActionWord}
 use Rattle.crm_parse.specs.declared.words.ActionWord.TheVariants as action
-use Rattle.cluster_model.specs.declared.leaves.Leaves.{Leaves}
+use Rattle.cluster_model.specs.declared.expansion.leaves.Leaves.{Leaves}
 use Rattle.loops.specs.FirstLoops.{JoinsLeaves, OrdersSteps}
 use Rattle.lemmas.proofs.Members.{head_or_rest, in_none, of_flat, of_map}
-use Rattle.cluster_model.specs.declared.checks.Checked.{Checked}
-use Rattle.cluster_model.specs.declared.counts.Counts.{Counts}
-use Rattle.cluster_model.specs.declared.directory.Directory.{Directory}
+use Rattle.cluster_model.specs.declared.resolution.checks.Checked.{Checked}
+use Rattle.cluster_model.specs.declared.resolution.counts.Counts.{Counts}
+use Rattle.cluster_model.specs.declared.resolution.directory.Directory.{Directory}
 use Rattle.faults.specs.declared.fault.Fault.{Fault}
 use Rattle.faults.specs.declared.fault.Fault.TheVariants.{At, NoMemory}
-use Rattle.cluster_model.specs.declared.fault.ModelCause.{ModelCause}
-use Rattle.cluster_model.specs.declared.fault.ModelCause.TheVariants.{UnknownName, NotPromotable, UnsupportedOrder}
+use Rattle.cluster_model.specs.declared.resolution.fault.ModelCause.{ModelCause}
+use Rattle.cluster_model.specs.declared.resolution.fault.ModelCause.TheVariants.{UnknownName, NotPromotable, UnsupportedOrder}
 use Rattle.cluster_model.specs.Chains.{successive}
 use Rattle.cluster_model.specs.Checks.{cause_of, excess_of, has_unknown, has_unpromotable, is_unsupported}
 use Rattle.cluster_model.specs.Colocations.{colocation_of, colocations_in, colocations_of, dependent_at, member_colocation, primary_at}

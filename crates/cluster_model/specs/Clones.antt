@@ -8,7 +8,7 @@ use Rattle.crm_parse.specs.declared.pair.Kv.{Kv}
 use Rattle.crm_parse.specs.declared.statement.Statement.{Statement}
 use Rattle.crm_parse.specs.Statements.{is_promotable}
 use Rattle.crm_parse.specs.Values.{bool_of, count_of}
-use Rattle.cluster_model.specs.declared.clones.InClone.{InClone}
+use Rattle.cluster_model.specs.declared.expansion.clones.InClone.{InClone}
 use Rattle.cluster_model.specs.Metas.{meta_of, no_meta, read_as}
 use Rattle.cluster_model.specs.Tables.{table_of}
 

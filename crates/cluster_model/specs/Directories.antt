@@ -7,13 +7,13 @@ use Rattle.crm_parse.specs.declared.form.Form.{Form}
 use Rattle.crm_parse.specs.declared.form.Form.TheVariants as form
 use Rattle.crm_parse.specs.declared.statement.Statement.{Statement}
 use Rattle.cluster_types.specs.declared.leaf.Leaf.{Leaf}
-use Rattle.cluster_model.specs.declared.leaves.Leaves.{Leaves}
-use Rattle.cluster_model.specs.declared.leaves.Span.{Span}
+use Rattle.cluster_model.specs.declared.expansion.leaves.Leaves.{Leaves}
+use Rattle.cluster_model.specs.declared.expansion.leaves.Span.{Span}
 use Rattle.cluster_model.specs.Settings.{nodes_in}
 use Rattle.cluster_model.specs.Tables.{lookup, table_of, with_rows}
-use Rattle.cluster_model.specs.declared.directory.Directory.{Directory}
-use Rattle.cluster_model.specs.declared.directory.Ends.{Ends}
-use Rattle.cluster_model.specs.declared.directory.Traits.{Traits}
+use Rattle.cluster_model.specs.declared.resolution.directory.Directory.{Directory}
+use Rattle.cluster_model.specs.declared.resolution.directory.Ends.{Ends}
+use Rattle.cluster_model.specs.declared.resolution.directory.Traits.{Traits}
 
 -- names with their numbers, counted on from one
 abbrev pub numbered_from : ℕ → List (List ℕ) → List (List ℕ × ℕ)

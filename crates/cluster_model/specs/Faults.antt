@@ -9,12 +9,12 @@ use Rattle.crm_parse.specs.declared.form.Form.{Form}
 use Rattle.crm_parse.specs.declared.form.Form.TheVariants as form
 use Rattle.crm_parse.specs.declared.statement.Statement.{Statement}
 use Rattle.crm_parse.specs.Statements.{is_promotable}
-use Rattle.cluster_model.specs.declared.expand_fault.ExpandCause.{ExpandCause}
-use Rattle.cluster_model.specs.declared.expand_fault.ExpandCause.TheVariants.{DuplicateName, UnknownName, NestedTwice}
-use Rattle.cluster_model.specs.declared.expand_fault.ExpandCause.TheVariants.{EmptyGroup, MemberTwice, UnsupportedMeta}
-use Rattle.cluster_model.specs.declared.kinds.Kind.{Kind}
-use Rattle.cluster_model.specs.declared.kinds.Kind.TheVariants as kind
-use Rattle.cluster_model.specs.declared.seen.Seen.{Seen}
+use Rattle.cluster_model.specs.declared.expansion.expand_fault.ExpandCause.{ExpandCause}
+use Rattle.cluster_model.specs.declared.expansion.expand_fault.ExpandCause.TheVariants.{DuplicateName, UnknownName, NestedTwice}
+use Rattle.cluster_model.specs.declared.expansion.expand_fault.ExpandCause.TheVariants.{EmptyGroup, MemberTwice, UnsupportedMeta}
+use Rattle.cluster_model.specs.declared.expansion.kinds.Kind.{Kind}
+use Rattle.cluster_model.specs.declared.expansion.kinds.Kind.TheVariants as kind
+use Rattle.cluster_model.specs.declared.expansion.seen.Seen.{Seen}
 use Rattle.cluster_model.specs.Settings.{nodes_in}
 use Rattle.cluster_model.specs.Tables.{lookup, table_of}
 

@@ -4,9 +4,9 @@ use Rattle.std.specs.List.{flat_map}
 use Rattle.crm_parse.specs.declared.form.Form.{Form}
 use Rattle.crm_parse.specs.declared.form.Form.TheVariants as form
 use Rattle.crm_parse.specs.declared.statement.Statement.{Statement}
-use Rattle.cluster_model.specs.declared.clones.InClone.{InClone}
-use Rattle.cluster_model.specs.declared.groups.InGroup.{InGroup}
-use Rattle.cluster_model.specs.declared.meta.Meta.{Meta}
+use Rattle.cluster_model.specs.declared.expansion.clones.InClone.{InClone}
+use Rattle.cluster_model.specs.declared.expansion.groups.InGroup.{InGroup}
+use Rattle.cluster_model.specs.declared.expansion.meta.Meta.{Meta}
 use Rattle.cluster_model.specs.Metas.{meta_of}
 use Rattle.cluster_model.specs.Tables.{lookup, table_of}
 

@@ -13,10 +13,10 @@ use Rattle.cluster_types.specs.declared.leaf.Leaf.{Leaf}
 use Rattle.cluster_types.specs.declared.leaf.OnFail.TheVariants.{Restart}
 use Rattle.cluster_types.specs.declared.leaf.TargetRole.{TargetRole}
 use Rattle.cluster_types.specs.declared.leaf.TargetRole.TheVariants as target
-use Rattle.cluster_model.specs.declared.clones.InClone.{InClone}
-use Rattle.cluster_model.specs.declared.groups.InGroup.{InGroup}
-use Rattle.cluster_model.specs.declared.meta.Meta.{Meta}
-use Rattle.cluster_model.specs.declared.surroundings.Surroundings.{Surroundings}
+use Rattle.cluster_model.specs.declared.expansion.clones.InClone.{InClone}
+use Rattle.cluster_model.specs.declared.expansion.groups.InGroup.{InGroup}
+use Rattle.cluster_model.specs.declared.expansion.meta.Meta.{Meta}
+use Rattle.cluster_model.specs.declared.expansion.surroundings.Surroundings.{Surroundings}
 use Rattle.cluster_model.specs.Clones.{cloned_by, uncloned}
 use Rattle.cluster_model.specs.Groups.{grouped_by}
 use Rattle.cluster_model.specs.Metas.{meta_of, no_meta, or_meta}

@@ -7,8 +7,8 @@ use Rattle.crm_parse.specs.declared.form.Form.{Form}
 use Rattle.crm_parse.specs.declared.form.Form.TheVariants as form
 use Rattle.crm_parse.specs.declared.statement.Statement.{Statement}
 use Rattle.cluster_types.specs.declared.leaf.Leaf.{Leaf}
-use Rattle.cluster_model.specs.declared.leaves.Span.{Span}
-use Rattle.cluster_model.specs.declared.spans.Ends.{Ends}
+use Rattle.cluster_model.specs.declared.expansion.leaves.Span.{Span}
+use Rattle.cluster_model.specs.declared.expansion.spans.Ends.{Ends}
 use Rattle.cluster_model.specs.Tables.{lookup, table_of}
 
 -- the name of each leaf with its number, counted on from one

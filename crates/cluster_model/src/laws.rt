@@ -1,7 +1,7 @@
 //! What follows from the definitions of `specs/`, for every configuration.
 
 ghost use Rattle.std.specs.Prelude.{◌≡◌, List, Ok, Contains, true};
-ghost use Rattle.cluster_model.specs.declared.leaves.Leaves.{Leaves};
+ghost use Rattle.cluster_model.specs.declared.expansion.leaves.Leaves.{Leaves};
 ghost use Rattle.cluster_model.specs.Expansion.{expansion_of};
 ghost use Rattle.cluster_types.specs.declared.cluster.Cluster.{Cluster};
 ghost use Rattle.cluster_types.specs.declared.rules.Colocation.{Colocation};

@@ -13,8 +13,8 @@ use Rattle.cluster_types.specs.Answering.{is_number_of}
 use Rattle.cluster_types.specs.Steps.{Transition, StepsOn, begins, takes, is_silent, Goes, here, one_more, HasEnded, IsWaiting, ended, events_of, flight, flying, is_settled, silent_code}
 use Rattle.run_safety.proofs.InFlight.{among_flying}
 use Rattle.run_safety.proofs.Printed.{answer_line, end_line}
-use Rattle.graph_exec.specs.declared.ends.WatchedEnd.{WatchedEnd}
-use Rattle.graph_exec.specs.declared.ends.WatchedEnd.TheVariants as how
+use Rattle.graph_exec.specs.declared.transition.ends.WatchedEnd.{WatchedEnd}
+use Rattle.graph_exec.specs.declared.transition.ends.WatchedEnd.TheVariants as how
 use Rattle.graph_exec.specs.Rounds.{Advanced, Answered, Began, StopsAs, asks_left, begins_left}
 use Rattle.graph_exec.specs.Running.{Running, EndedSilently, Took, Went, going, later}
 use Rattle.graph_exec.specs.Transitions.{EndsAs, GoneTo, HasGoneToEnd, IsExpected}

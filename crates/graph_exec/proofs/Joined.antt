@@ -12,8 +12,8 @@ use Rattle.graph_exec.specs.Telling.{text_of}
 use Rattle.graph_exec.proofs.Said.{taken_none, taken_then}
 use Rattle.graph_exec.proofs.Told.{adds_nothing, text-append}
 use Rattle.run_safety.proofs.SoFar.{runs_joined, runs_once}
-use Rattle.graph_exec.specs.declared.stop.ReplayStop.{ReplayStop}
-use Rattle.graph_exec.specs.declared.stop.ReplayStop.TheVariants as stop
+use Rattle.graph_exec.specs.declared.run.stop.ReplayStop.{ReplayStop}
+use Rattle.graph_exec.specs.declared.run.stop.ReplayStop.TheVariants as stop
 use Rattle.graph_exec.specs.Replays.{Setting, Sight}
 use Rattle.graph_exec.specs.Turns.{Came, EndsAs, EndsBetween, IsSaid}
 

@@ -28,8 +28,8 @@ use Rattle.run_safety.proofs.Kept.{between_passed}
 use Rattle.run_safety.proofs.Printed.{answer_line}
 use Rattle.run_safety.proofs.Rests.{at_rest, in_order}
 use Rattle.run_safety.proofs.SoFar.{runs_joined, runs_once}
-use Rattle.graph_exec.specs.declared.run_ending.RunEnd.{RunEnd}
-use Rattle.graph_exec.specs.declared.run_ending.RunEnd.TheVariants as run
+use Rattle.graph_exec.specs.declared.run.run_ending.RunEnd.{RunEnd}
+use Rattle.graph_exec.specs.declared.run.run_ending.RunEnd.TheVariants as run
 use Rattle.graph_exec.specs.Keeping.{EndsWithCause, IsUnanswered, Keeps, KeepsEnd, KeepsTo, kept_end, watched_end}
 use Rattle.graph_exec.specs.Kept.{FailsWithCause, IsExpectedRun, IsOfPlan, KeepsAs, KeepsPlans, OfRun}
 use Rattle.graph_exec.specs.Replays.{Setting, AgreesWith, IsExpected, IsKept, OfJournal}

@@ -32,9 +32,9 @@ use Rattle.graph_exec.proofs.Beginning.{found_so}
 use Rattle.graph_exec.proofs.Said.{taken_none}
 use Rattle.run_safety.proofs.Kept.{one_passed_more}
 use Rattle.run_safety.proofs.SoFar.{runs_joined, runs_once}
-use Rattle.graph_exec.specs.declared.run_ending.RunEnd.{RunEnd}
-use Rattle.graph_exec.specs.declared.idling.Taken.{Taken}
-use Rattle.graph_exec.specs.declared.planning.Planned.{Planned}
+use Rattle.graph_exec.specs.declared.run.run_ending.RunEnd.{RunEnd}
+use Rattle.graph_exec.specs.declared.run.idling.Taken.{Taken}
+use Rattle.graph_exec.specs.declared.run.planning.Planned.{Planned}
 use Rattle.graph_exec.specs.Keeping.{IsAnswered, IsUnanswered, Keeps, KeepsCut, KeepsEnd, KeepsSoFar, KeepsTo}
 use Rattle.graph_exec.specs.Kept.{IsOfPlan, StandsSo}
 use Rattle.graph_exec.specs.Replays.{Setting, setting}

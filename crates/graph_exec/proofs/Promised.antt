@@ -11,8 +11,8 @@ use Rattle.cluster_types.proofs.StepLaws.{at_each_begin, no_begin, predecessors-
 use Rattle.run_safety.specs.OfPlans.{IsOfPlan}
 use Rattle.run_safety.proofs.Planned.{of_graph}
 use Rattle.run_safety.proofs.Safe.{is_safe, leaves_nothing, reaches_targets, stays_in_order}
-use Rattle.graph_exec.specs.declared.ends.WatchedEnd.{WatchedEnd}
-use Rattle.graph_exec.specs.declared.ends.WatchedEnd.TheVariants as how
+use Rattle.graph_exec.specs.declared.transition.ends.WatchedEnd.{WatchedEnd}
+use Rattle.graph_exec.specs.declared.transition.ends.WatchedEnd.TheVariants as how
 use Rattle.graph_exec.specs.Promises.{EndsWell, IsPlanned, KeepsBatchLimit, KeepsPromises}
 use Rattle.graph_exec.specs.Running.{Running, IsUnderWay, going}
 use Rattle.graph_exec.specs.Transitions.{EndsAs}

@@ -16,8 +16,8 @@ use Rattle.graph_exec.specs.Telling.{text_of}
 use Rattle.graph_exec.proofs.Said.{taken_one}
 use Rattle.graph_exec.proofs.Told.{adds_nothing}
 use Rattle.run_safety.proofs.SoFar.{runs_once}
-use Rattle.graph_exec.specs.declared.run_ending.RunEnd.{RunEnd}
-use Rattle.graph_exec.specs.declared.run_ending.RunEnd.TheVariants as run
+use Rattle.graph_exec.specs.declared.run.run_ending.RunEnd.{RunEnd}
+use Rattle.graph_exec.specs.declared.run.run_ending.RunEnd.TheVariants as run
 use Rattle.graph_exec.specs.Keeping.{EndsWithCause, HasFailed, IsAnswered, IsRefused, IsSilent, IsUnanswered, watched_end}
 use Rattle.graph_exec.specs.Replays.{Setting, HasCause, setting, sight}
 use Rattle.graph_exec.specs.Turns.{Came, CameTo, EndsAs, EndsBroken, EndsCut, EndsStopped, EndsWhole, IsSaid, plain_of}

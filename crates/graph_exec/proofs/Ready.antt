@@ -19,8 +19,8 @@ use Rattle.graph_exec.specs.Running.{Running, Went, going, known_of}
 use Rattle.graph_exec.specs.Telling.{plan_lines, text_of}
 use Rattle.graph_exec.specs.Transitions.{Accords}
 use Rattle.graph_exec.proofs.Told.{adds_nothing}
-use Rattle.graph_exec.specs.declared.planning.Planned.{Planned}
-use Rattle.graph_exec.specs.declared.stop.ReplayStop.{ReplayStop}
+use Rattle.graph_exec.specs.declared.run.planning.Planned.{Planned}
+use Rattle.graph_exec.specs.declared.run.stop.ReplayStop.{ReplayStop}
 use Rattle.graph_exec.specs.Replays.{Setting, Sight, WritesNamesOf, setting, sight}
 use Rattle.graph_exec.specs.Turns.{Came, CameTo, EndsAs, EndsStopped, HasPlan, IsReady, fresh_on, left_of}
 use Rattle.graph_exec.proofs.Joined.{came_on, ends_on}

@@ -11,10 +11,10 @@ use Rattle.cluster_types.specs.declared.run.RunLine.{RunLine}
 use Rattle.cluster_types.specs.declared.run.RunLine.TheVariants as line
 use Rattle.cluster_types.specs.Steps.{StepsOn, begins}
 use Rattle.cluster_types.specs.Texts.{event_lines, run_line}
-use Rattle.graph_exec.specs.declared.ends.WatchedEnd.{WatchedEnd}
-use Rattle.graph_exec.specs.declared.ends.WatchedEnd.TheVariants as how
-use Rattle.graph_exec.specs.declared.watcher.Heard.{Heard}
-use Rattle.graph_exec.specs.declared.watcher.Heard.TheVariants as heard
+use Rattle.graph_exec.specs.declared.transition.ends.WatchedEnd.{WatchedEnd}
+use Rattle.graph_exec.specs.declared.transition.ends.WatchedEnd.TheVariants as how
+use Rattle.graph_exec.specs.declared.transition.watcher.Heard.{Heard}
+use Rattle.graph_exec.specs.declared.transition.watcher.Heard.TheVariants as heard
 use Rattle.graph_exec.specs.Rounds.{Answered, StopsAs}
 use Rattle.graph_exec.specs.Running.{Running, BeginsNow, Went, going, later}
 use Rattle.graph_exec.specs.Telling.{Tells, text_of}

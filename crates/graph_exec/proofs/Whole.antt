@@ -16,8 +16,8 @@ use Rattle.graph_exec.proofs.Carrying.{rose_since}
 use Rattle.graph_exec.proofs.Told.{adds_nothing}
 use Rattle.run_safety.proofs.Rests.{at_rest, in_order}
 use Rattle.run_safety.proofs.SoFar.{runs_more}
-use Rattle.graph_exec.specs.declared.stop.ReplayStop.{ReplayStop}
-use Rattle.graph_exec.specs.declared.stop.ReplayStop.TheVariants as stop
+use Rattle.graph_exec.specs.declared.run.stop.ReplayStop.{ReplayStop}
+use Rattle.graph_exec.specs.declared.run.stop.ReplayStop.TheVariants as stop
 use Rattle.graph_exec.specs.Replays.{Setting, Sight, HasCause, IsBetweenTwo, IsKept, IsUpTo, OfJournal, ReplaysAs, setting}
 use Rattle.graph_exec.specs.Turns.{Came, CameTo, EndsAs, journal_of}
 use Rattle.graph_exec.proofs.Joined.{came_nowhere}

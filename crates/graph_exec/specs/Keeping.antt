@@ -12,19 +12,19 @@ use Rattle.cluster_types.specs.declared.run.Run.{Run}
 use Rattle.cluster_types.specs.Runs.{Standing, due, Runs, IsAsking, IsCut, IsOver, journal_at}
 use Rattle.cluster_types.specs.Sources.{Says}
 use Rattle.cluster_types.specs.Texts.{all_passed_lines}
-use Rattle.graph_exec.specs.declared.ends.End.{End}
-use Rattle.graph_exec.specs.declared.ends.End.TheVariants as end
-use Rattle.graph_exec.specs.declared.outcomes.Next.{Next}
-use Rattle.graph_exec.specs.declared.outcomes.Next.TheVariants as next
+use Rattle.graph_exec.specs.declared.transition.ends.End.{End}
+use Rattle.graph_exec.specs.declared.transition.ends.End.TheVariants as end
+use Rattle.graph_exec.specs.declared.transition.outcomes.Next.{Next}
+use Rattle.graph_exec.specs.declared.transition.outcomes.Next.TheVariants as next
 use Rattle.graph_exec.specs.Logs.{JournalOf}
 use Rattle.graph_exec.specs.Resting.{IsRefusedResting, TookResting}
-use Rattle.graph_exec.specs.declared.run_ending.RunEnd.{RunEnd}
-use Rattle.graph_exec.specs.declared.run_ending.RunEnd.TheVariants as run
-use Rattle.graph_exec.specs.declared.idling.Taken.{Taken}
-use Rattle.graph_exec.specs.declared.stop.ReplayEnd.{ReplayEnd}
-use Rattle.graph_exec.specs.declared.stop.ReplayEnd.TheVariants as kept
-use Rattle.graph_exec.specs.declared.stop.ReplayStop.{ReplayStop}
-use Rattle.graph_exec.specs.declared.stop.ReplayStop.TheVariants as stop
+use Rattle.graph_exec.specs.declared.run.run_ending.RunEnd.{RunEnd}
+use Rattle.graph_exec.specs.declared.run.run_ending.RunEnd.TheVariants as run
+use Rattle.graph_exec.specs.declared.run.idling.Taken.{Taken}
+use Rattle.graph_exec.specs.declared.run.stop.ReplayEnd.{ReplayEnd}
+use Rattle.graph_exec.specs.declared.run.stop.ReplayEnd.TheVariants as kept
+use Rattle.graph_exec.specs.declared.run.stop.ReplayStop.{ReplayStop}
+use Rattle.graph_exec.specs.declared.run.stop.ReplayStop.TheVariants as stop
 use Rattle.graph_exec.specs.Kept.{IsOfPlan}
 use Rattle.graph_exec.specs.Replays.{Setting}
 use Rattle.graph_exec.specs.Turns.{IsSaid, journal_of, plain_of}

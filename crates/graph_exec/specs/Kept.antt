@@ -17,11 +17,11 @@ use Rattle.cluster_types.specs.Plans.{IsPlan, transition_of}
 use Rattle.cluster_types.specs.Runs.{IsCutRun, IsRunSoFar, IsRunUpTo, IsWholeRun}
 use Rattle.cluster_types.specs.Steps.{Transition, HasEnded, IsWaiting, has_aborted}
 use Rattle.cluster_types.specs.Texts.{Fits, between, run_lines}
-use Rattle.graph_exec.specs.declared.outcomes.Next.{Next}
-use Rattle.graph_exec.specs.declared.outcomes.Next.TheVariants as next
+use Rattle.graph_exec.specs.declared.transition.outcomes.Next.{Next}
+use Rattle.graph_exec.specs.declared.transition.outcomes.Next.TheVariants as next
 use Rattle.graph_exec.specs.Saying.{TakesAnswers}
-use Rattle.graph_exec.specs.declared.stop.ReplayEnd.{ReplayEnd}
-use Rattle.graph_exec.specs.declared.stop.ReplayEnd.TheVariants as end
+use Rattle.graph_exec.specs.declared.run.stop.ReplayEnd.{ReplayEnd}
+use Rattle.graph_exec.specs.declared.run.stop.ReplayEnd.TheVariants as end
 
 -- how a transition stands after these events: it has ended with all done, or aborted; or it is cut where it waits for an answer
 abbrev pub StandsSo : Transition → List Event → PassedEnd → Type 0

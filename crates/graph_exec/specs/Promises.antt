@@ -8,8 +8,8 @@ use Rattle.cluster_types.specs.Safety.{AtEachBegin, EndsInTargets, IsAtRest, IsE
 use Rattle.cluster_types.specs.Steps.{Transition, has_room}
 use Rattle.cluster_types.specs.Tables.{targets_of}
 use Rattle.cluster_types.specs.Valid.{IsValid}
-use Rattle.graph_exec.specs.declared.ends.WatchedEnd.{WatchedEnd}
-use Rattle.graph_exec.specs.declared.ends.WatchedEnd.TheVariants as how
+use Rattle.graph_exec.specs.declared.transition.ends.WatchedEnd.{WatchedEnd}
+use Rattle.graph_exec.specs.declared.transition.ends.WatchedEnd.TheVariants as how
 use Rattle.graph_exec.specs.Running.{Running, going}
 
 -- the graph carries out the plan of a valid cluster, made for a journal in order with nothing in flight

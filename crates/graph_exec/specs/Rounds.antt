@@ -8,8 +8,8 @@ use Rattle.cluster_types.specs.Answering.{most_from_outside}
 use Rattle.cluster_types.specs.Sources.{Says}
 use Rattle.cluster_types.specs.Steps.{IsWaiting, StepsOn, has_begun, has_ended, numbers, outside}
 use Rattle.cluster_types.specs.Texts.{event_lines}
-use Rattle.graph_exec.specs.declared.ends.WatchedEnd.{WatchedEnd}
-use Rattle.graph_exec.specs.declared.ends.WatchedEnd.TheVariants as how
+use Rattle.graph_exec.specs.declared.transition.ends.WatchedEnd.{WatchedEnd}
+use Rattle.graph_exec.specs.declared.transition.ends.WatchedEnd.TheVariants as how
 use Rattle.graph_exec.specs.Running.{Running, BeginsNow, IsRefused, Went, going, later}
 
 -- how many actions may begin yet, how many may end, and how often an answer may be taken

@@ -11,8 +11,8 @@ use Rattle.cluster_types.specs.declared.run.RunLine.TheVariants as line
 use Rattle.cluster_types.specs.Tables.{targets_of}
 use Rattle.cluster_types.specs.Texts.{run_line, target_lines}
 use Rattle.crm_lex.specs.Names.{is_name}
-use Rattle.graph_exec.specs.declared.watcher.Heard.{Heard}
-use Rattle.graph_exec.specs.declared.watcher.Heard.TheVariants as heard
+use Rattle.graph_exec.specs.declared.transition.watcher.Heard.{Heard}
+use Rattle.graph_exec.specs.declared.transition.watcher.Heard.TheVariants as heard
 
 -- the text of some lines by the names of a cluster; without names they have none
 abbrev pub text_of : Option Cluster → List RunLine → List ℕ

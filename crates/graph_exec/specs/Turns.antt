@@ -18,10 +18,10 @@ use Rattle.graph_exec.specs.Promises.{IsPlanned}
 use Rattle.graph_exec.specs.Running.{Running}
 use Rattle.graph_exec.specs.Saying.{TakesAnswers}
 use Rattle.graph_exec.specs.Telling.{ReasonsHaveNames, text_of}
-use Rattle.graph_exec.specs.declared.planning.KeptPlan.{KeptPlan}
-use Rattle.graph_exec.specs.declared.planning.Planned.{Planned}
-use Rattle.graph_exec.specs.declared.stop.ReplayStop.{ReplayStop}
-use Rattle.graph_exec.specs.declared.stop.ReplayStop.TheVariants as stop
+use Rattle.graph_exec.specs.declared.run.planning.KeptPlan.{KeptPlan}
+use Rattle.graph_exec.specs.declared.run.planning.Planned.{Planned}
+use Rattle.graph_exec.specs.declared.run.stop.ReplayStop.{ReplayStop}
+use Rattle.graph_exec.specs.declared.run.stop.ReplayStop.TheVariants as stop
 use Rattle.graph_exec.specs.Replays.{Setting, Sight}
 
 -- the journal that is handed back where a run stands

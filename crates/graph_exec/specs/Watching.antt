@@ -7,12 +7,12 @@ use Rattle.cluster_types.specs.declared.journal.Answer.{Answer}
 use Rattle.cluster_types.specs.declared.journal.Event.{Event}
 use Rattle.cluster_types.specs.Steps.{StepsOn}
 use Rattle.cluster_types.specs.Texts.{event_lines}
-use Rattle.graph_exec.specs.declared.ends.End.{End}
-use Rattle.graph_exec.specs.declared.ends.End.TheVariants as plain
-use Rattle.graph_exec.specs.declared.ends.WatchedEnd.{WatchedEnd}
-use Rattle.graph_exec.specs.declared.ends.WatchedEnd.TheVariants as how
-use Rattle.graph_exec.specs.declared.watcher.Heard.{Heard}
-use Rattle.graph_exec.specs.declared.watcher.Heard.TheVariants as heard
+use Rattle.graph_exec.specs.declared.transition.ends.End.{End}
+use Rattle.graph_exec.specs.declared.transition.ends.End.TheVariants as plain
+use Rattle.graph_exec.specs.declared.transition.ends.WatchedEnd.{WatchedEnd}
+use Rattle.graph_exec.specs.declared.transition.ends.WatchedEnd.TheVariants as how
+use Rattle.graph_exec.specs.declared.transition.watcher.Heard.{Heard}
+use Rattle.graph_exec.specs.declared.transition.watcher.Heard.TheVariants as heard
 use Rattle.graph_exec.specs.Running.{Running, Went, going, later}
 use Rattle.graph_exec.specs.Telling.{text_of}
 

@@ -22,20 +22,20 @@ use Rattle.crm_parse.specs.Marks as marks
 use Rattle.crm_parse.specs.Marks.{last_at, misplaced, sections_of, status_at}
 use Rattle.crm_parse.specs.Statements as statements
 use Rattle.crm_parse.specs.Statements.{draft_of, statements_of}
-use Rattle.cluster_model.specs.declared.expand_fault.ExpandCause.{ExpandCause}
+use Rattle.cluster_model.specs.declared.expansion.expand_fault.ExpandCause.{ExpandCause}
 use Rattle.cluster_model.specs.Expansion.{expansion_of, leaves_with_spans}
 use Rattle.cluster_model.specs.Faults as expanding
 use Rattle.cluster_model.specs.Faults.{fault_of, kinds_of, nothing_seen, seen_after}
-use Rattle.cluster_model.specs.declared.leaves.Leaves.{Leaves}
-use Rattle.cluster_model.specs.declared.fault.ModelCause.{ModelCause}
+use Rattle.cluster_model.specs.declared.expansion.leaves.Leaves.{Leaves}
+use Rattle.cluster_model.specs.declared.resolution.fault.ModelCause.{ModelCause}
 use Rattle.cluster_model.specs.Directories.{directory_of}
 use Rattle.cluster_model.specs.FirstFaults as modelling
 use Rattle.cluster_model.specs.Resolution.{cause_after, cluster_of, resolution_of}
 use Rattle.cluster_types.specs.declared.cluster.Cluster.{Cluster}
 use Rattle.cluster_types.specs.declared.run.RunLine.{RunLine}
 use Rattle.cluster_types.specs.Journals.{moment_of}
-use Rattle.input_reading.specs.declared.word_cause.WordCause.{WordCause}
-use Rattle.input_reading.specs.declared.text.RunTextLine.{RunTextLine}
+use Rattle.input_reading.specs.declared.words.word_cause.WordCause.{WordCause}
+use Rattle.input_reading.specs.declared.run.text.RunTextLine.{RunTextLine}
 use Rattle.input_reading.specs.RunReading as runs
 use Rattle.input_reading.specs.RunReading.{line_of_words, lines_of, text_line}
 use Rattle.input_reading.specs.declared.history_fault.ResultCause.TheVariants.{TooManyResults}
@@ -47,13 +47,13 @@ use Rattle.input_reading.specs.Results as answers
 use Rattle.input_reading.specs.Results.{answer_of, moment_after, most_results, results_of}
 use Rattle.input_reading.specs.Status.{told_of}
 use Rattle.faults.specs.declared.fault.Fault.TheVariants.{At, NoMemory}
-use Rattle.input_reading.specs.declared.cause.InputCause.{InputCause}
-use Rattle.input_reading.specs.declared.cause.InputCause.TheVariants as cause
-use Rattle.input_reading.specs.declared.reading.Configuration.{Configuration}
-use Rattle.input_reading.specs.declared.reading.Head.{Head}
-use Rattle.input_reading.specs.declared.reading.Input.{Input}
+use Rattle.input_reading.specs.declared.input.cause.InputCause.{InputCause}
+use Rattle.input_reading.specs.declared.input.cause.InputCause.TheVariants as cause
+use Rattle.input_reading.specs.declared.input.reading.Configuration.{Configuration}
+use Rattle.input_reading.specs.declared.input.reading.Head.{Head}
+use Rattle.input_reading.specs.declared.input.reading.Input.{Input}
 use Rattle.input_reading.specs.Reading.{IsFaulty, IsReadable, configuration_lines, configuration_of, following_lines, head_of, input_of, line_behind, status_lines, with_cluster, with_results}
-use Rattle.input_reading.specs.declared.trace.Trace.{Trace}
+use Rattle.input_reading.specs.declared.input.trace.Trace.{Trace}
 use Rattle.input_reading.specs.Sections.{sections_with_trace}
 use Rattle.input_reading.specs.Traces.{IsFaultyTrace, IsReadableTrace, trace_of, with_run}
 

@@ -11,7 +11,7 @@ use Rattle.faults.specs.Reading.{faulting, on_line}
 use Rattle.faults.proofs.Steps.{bind-ok}
 use Rattle.input_reading.specs.declared.history_fault.ResultCause.{ResultCause}
 use Rattle.input_reading.specs.declared.history_fault.ResultCause.TheVariants.{TooManyResults}
-use Rattle.input_reading.specs.declared.results.ResultLine.{ResultLine}
+use Rattle.input_reading.specs.declared.results.result_lines.ResultLine.{ResultLine}
 use Rattle.input_reading.specs.HistoryCauses.{result_cause}
 use Rattle.input_reading.specs.Results.{answer_of, moment_after, result_of, results_of, with_result, with_results}
 

@@ -4,11 +4,11 @@ use Rattle.std.specs.List.{slice_get}
 use Rattle.cluster_types.specs.declared.cluster.Cluster.{Cluster}
 use Rattle.crm_lex.specs.Reading.{Kept, kept}
 use Rattle.faults.specs.Reading.{◌>>=◌}
-use Rattle.input_reading.specs.declared.word_cause.WordCause.{WordCause}
+use Rattle.input_reading.specs.declared.words.word_cause.WordCause.{WordCause}
 use Rattle.input_reading.specs.Places.{Words, code_at, end_at, leaf_at, node_at, number_at, seconds_at, word_at, yes_at}
 use Rattle.input_reading.proofs.Kept.{get_within}
-use Rattle.input_reading.specs.declared.answers.ResultWord.{ResultWord}
-use Rattle.input_reading.specs.declared.answers.ResultWord.TheVariants.{End, Timeout, Lost, Up, Quorum, Wait, Report}
+use Rattle.input_reading.specs.declared.results.answers.ResultWord.{ResultWord}
+use Rattle.input_reading.specs.declared.results.answers.ResultWord.TheVariants.{End, Timeout, Lost, Up, Quorum, Wait, Report}
 use Rattle.input_reading.specs.Results.{answer_as, answer_of, end_line, lost_line, quorum_line, report_line, result_of, result_word, timeout_line, up_line, wait_line}
 
 -- two lists of words say the same at the places that a result line has

@@ -8,10 +8,10 @@ use Rattle.crm_parse.specs.Marks.{audit_sections_of, begins_with, last_at, mispl
 use Rattle.faults.specs.declared.fault.Fault.{Fault}
 use Rattle.faults.specs.Reading.{Gives, faulting}
 use Rattle.faults.proofs.Steps.{bind-ok, faulting-ok}
-use Rattle.input_reading.specs.declared.cause.InputCause.{InputCause}
-use Rattle.input_reading.specs.declared.cause.InputCause.TheVariants as cause
-use Rattle.input_reading.specs.declared.sections.LastSection.{LastSection}
-use Rattle.input_reading.specs.declared.sections.LastSection.TheVariants.{Results, Trace}
+use Rattle.input_reading.specs.declared.input.cause.InputCause.{InputCause}
+use Rattle.input_reading.specs.declared.input.cause.InputCause.TheVariants as cause
+use Rattle.input_reading.specs.declared.input.sections.LastSection.{LastSection}
+use Rattle.input_reading.specs.declared.input.sections.LastSection.TheVariants.{Results, Trace}
 use Rattle.input_reading.specs.Sections.{sections_by}
 
 pub position_within : {X : Type 0} (p : X → Bool) (xs : List X) → position_or_len p xs ≤ length xs

@@ -1,8 +1,8 @@
 -- A text is read in one way: as one input, or with one fault.
 use Rattle.std.proofs.Common.{◌≡◌, ℕ, List, sym, ◌∙◌}
-use Rattle.input_reading.specs.declared.cause.InputCause.{InputCause}
-use Rattle.input_reading.specs.declared.reading.Input.{Input}
-use Rattle.input_reading.specs.declared.trace.Trace.{Trace}
+use Rattle.input_reading.specs.declared.input.cause.InputCause.{InputCause}
+use Rattle.input_reading.specs.declared.input.reading.Input.{Input}
+use Rattle.input_reading.specs.declared.input.trace.Trace.{Trace}
 use Rattle.input_reading.specs.Reading.{IsFaulty, IsReadable, IsRefused, Reads}
 use Rattle.input_reading.specs.Traces.{IsFaultyTrace, IsReadableTrace, IsTraceRefused, ReadsTrace}
 

@@ -4,8 +4,8 @@ use Rattle.std.proofs.Math.Bool.{or-false}
 use Rattle.std.specs.HashSet.{contains}
 use Rattle.lemmas.proofs.Booleans.{cond-or}
 use Rattle.cluster_types.specs.declared.journal.Promotion.{Promotion}
-use Rattle.input_reading.specs.declared.told.Told.TheVariants.{Now, Quorum, Node, Past, Promoting}
-use Rattle.input_reading.specs.declared.told_keys.ToldKeys.{ToldKeys}
+use Rattle.input_reading.specs.declared.status.told.Told.TheVariants.{Now, Quorum, Node, Past, Promoting}
+use Rattle.input_reading.specs.declared.status.told_keys.ToldKeys.{ToldKeys}
 use Rattle.input_reading.specs.Repeats.{is_same, Adds}
 
 -- one more cell adds what its line tells

@@ -26,7 +26,7 @@ use Rattle.crm_print.proofs.Lines.{is_filled}
 use Rattle.crm_print.proofs.TextReads.{Readable, ended_lines, text-reads}
 use Rattle.crm_print.proofs.TextReads as text
 use Rattle.input_reading.specs.Places.{Words}
-use Rattle.input_reading.specs.declared.text.RunTextLine.{RunTextLine}
+use Rattle.input_reading.specs.declared.run.text.RunTextLine.{RunTextLine}
 use Rattle.input_reading.specs.RunReading.{text_line, with_lines}
 use Rattle.input_reading.specs.Written.{IsActionOf, IsAnswerOf, IsLineOf, IsNumber, ReadsAgain, numbered}
 use Rattle.input_reading.proofs.LinesAgain.{line_again}

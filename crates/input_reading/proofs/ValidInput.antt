@@ -6,7 +6,7 @@ use Rattle.crm_parse.specs.declared.fault.ParseCause.{ParseCause}
 use Rattle.crm_parse.specs.declared.marks.SectionMarks.{SectionMarks}
 use Rattle.crm_parse.specs.declared.statement.Crm.{Crm}
 use Rattle.crm_parse.specs.declared.statement.Statement.{Statement}
-use Rattle.cluster_model.specs.declared.leaves.Leaves.{Leaves}
+use Rattle.cluster_model.specs.declared.expansion.leaves.Leaves.{Leaves}
 use Rattle.crm_parse.specs.Marks.{sections_of}
 use Rattle.crm_parse.specs.Statements.{statements_of}
 use Rattle.cluster_model.specs.Expansion.{expansion_of}
@@ -23,11 +23,11 @@ use Rattle.faults.specs.Reading.{Gives, faulting, ◌>>=◌}
 use Rattle.faults.proofs.Steps.{faulting-ok}
 use Rattle.lemmas.proofs.Results.{by_result}
 use Rattle.input_reading.proofs.FewResults.{few_results}
-use Rattle.input_reading.specs.declared.cause.InputCause.{InputCause}
-use Rattle.input_reading.specs.declared.cause.InputCause.TheVariants as cause
-use Rattle.input_reading.specs.declared.reading.Configuration.{Configuration}
-use Rattle.input_reading.specs.declared.reading.Head.{Head}
-use Rattle.input_reading.specs.declared.reading.Input.{Input}
+use Rattle.input_reading.specs.declared.input.cause.InputCause.{InputCause}
+use Rattle.input_reading.specs.declared.input.cause.InputCause.TheVariants as cause
+use Rattle.input_reading.specs.declared.input.reading.Configuration.{Configuration}
+use Rattle.input_reading.specs.declared.input.reading.Head.{Head}
+use Rattle.input_reading.specs.declared.input.reading.Input.{Input}
 use Rattle.input_reading.specs.Reading.{Reads, configuration_lines, configuration_of, following_lines, head_of, input_of, status_lines, with_cluster, with_results}
 
 -- a step that was passed: what it gave, and what the steps behind it give

@@ -13,11 +13,11 @@ use Rattle.lemmas.proofs.Results.{by_result}
 use Rattle.input_reading.specs.RunReading.{lines_of}
 use Rattle.input_reading.specs.Written.{AreNamed}
 use Rattle.input_reading.proofs.NamedLines.{read_named}
-use Rattle.input_reading.specs.declared.cause.InputCause.{InputCause}
-use Rattle.input_reading.specs.declared.cause.InputCause.TheVariants as cause
-use Rattle.input_reading.specs.declared.reading.Configuration.{Configuration}
-use Rattle.input_reading.specs.declared.reading.Head.{Head}
-use Rattle.input_reading.specs.declared.trace.Trace.{Trace}
+use Rattle.input_reading.specs.declared.input.cause.InputCause.{InputCause}
+use Rattle.input_reading.specs.declared.input.cause.InputCause.TheVariants as cause
+use Rattle.input_reading.specs.declared.input.reading.Configuration.{Configuration}
+use Rattle.input_reading.specs.declared.input.reading.Head.{Head}
+use Rattle.input_reading.specs.declared.input.trace.Trace.{Trace}
 use Rattle.input_reading.specs.Reading.{configuration_of, following_lines, head_of, line_behind, status_lines}
 use Rattle.input_reading.specs.Sections.{sections_with_trace}
 use Rattle.input_reading.specs.Traces.{ReadsTrace, trace_of, with_run}

@@ -13,10 +13,10 @@ use Rattle.faults.specs.declared.fault.Fault.TheVariants.{At}
 use Rattle.faults.specs.Reading.{◌>>=◌, faulting, on_line}
 use Rattle.input_reading.specs.declared.history_fault.StatusCause.{StatusCause}
 use Rattle.input_reading.specs.declared.history_fault.StatusCause.TheVariants.{Repeated}
-use Rattle.input_reading.specs.declared.told.NodeWord.{NodeWord}
-use Rattle.input_reading.specs.declared.told.NodeWord.TheVariants as said
-use Rattle.input_reading.specs.declared.told.Told.{Told}
-use Rattle.input_reading.specs.declared.told.Told.TheVariants.{Now, Quorum, Node, Past, Promoting}
+use Rattle.input_reading.specs.declared.status.told.NodeWord.{NodeWord}
+use Rattle.input_reading.specs.declared.status.told.NodeWord.TheVariants as said
+use Rattle.input_reading.specs.declared.status.told.Told.{Told}
+use Rattle.input_reading.specs.declared.status.told.Told.TheVariants.{Now, Quorum, Node, Past, Promoting}
 use Rattle.input_reading.specs.HistoryCauses.{status_cause}
 use Rattle.input_reading.specs.Status.{told_of}
 

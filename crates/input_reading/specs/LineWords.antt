@@ -10,13 +10,13 @@ use Rattle.cluster_types.specs.declared.placement.Target.{Target}
 use Rattle.cluster_types.specs.declared.placement.Target.TheVariants as target
 use Rattle.crm_lex.specs.Names.{is, is_name}
 use Rattle.faults.specs.Reading.{◌>>=◌}
-use Rattle.input_reading.specs.declared.word_cause.WordCause.{WordCause}
-use Rattle.input_reading.specs.declared.word_cause.WordCause.TheVariants.{BadValue}
+use Rattle.input_reading.specs.declared.words.word_cause.WordCause.{WordCause}
+use Rattle.input_reading.specs.declared.words.word_cause.WordCause.TheVariants.{BadValue}
 use Rattle.input_reading.specs.Places.{Words, word_at}
-use Rattle.input_reading.specs.declared.words.ActionWord.{ActionWord}
-use Rattle.input_reading.specs.declared.words.ActionWord.TheVariants as action
-use Rattle.input_reading.specs.declared.words.LineWord.{LineWord}
-use Rattle.input_reading.specs.declared.words.LineWord.TheVariants as word
+use Rattle.input_reading.specs.declared.run.words.ActionWord.{ActionWord}
+use Rattle.input_reading.specs.declared.run.words.ActionWord.TheVariants as action
+use Rattle.input_reading.specs.declared.run.words.LineWord.{LineWord}
+use Rattle.input_reading.specs.declared.run.words.LineWord.TheVariants as word
 
 -- what a first word begins. A line of none of these words may be an answer
 unfoldable pub line_word : List ℕ → LineWord

@@ -4,8 +4,8 @@ use Rattle.std.specs.Option.{ok_or}
 use Rattle.crm_lex.specs.Names.{is}
 use Rattle.cluster_types.specs.declared.cluster.Cluster.{Cluster}
 use Rattle.faults.specs.Reading.{◌>>=◌}
-use Rattle.input_reading.specs.declared.word_cause.WordCause.{WordCause}
-use Rattle.input_reading.specs.declared.word_cause.WordCause.TheVariants.{MissingWord, ExtraWord, BadValue, UnknownName}
+use Rattle.input_reading.specs.declared.words.word_cause.WordCause.{WordCause}
+use Rattle.input_reading.specs.declared.words.word_cause.WordCause.TheVariants.{MissingWord, ExtraWord, BadValue, UnknownName}
 use Rattle.input_reading.specs.Names.{leaf_of, node_of}
 use Rattle.input_reading.specs.Numbers.{code_of, number_of, seconds_of}
 

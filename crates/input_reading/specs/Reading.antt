@@ -18,11 +18,11 @@ use Rattle.cluster_types.specs.declared.cluster.Cluster.{Cluster}
 use Rattle.cluster_types.specs.Journals.{moment_of}
 use Rattle.input_reading.specs.FirstJournal.{status_of}
 use Rattle.input_reading.specs.Results.{results_of}
-use Rattle.input_reading.specs.declared.cause.InputCause.{InputCause}
-use Rattle.input_reading.specs.declared.cause.InputCause.TheVariants as cause
-use Rattle.input_reading.specs.declared.reading.Configuration.{Configuration}
-use Rattle.input_reading.specs.declared.reading.Head.{Head}
-use Rattle.input_reading.specs.declared.reading.Input.{Input}
+use Rattle.input_reading.specs.declared.input.cause.InputCause.{InputCause}
+use Rattle.input_reading.specs.declared.input.cause.InputCause.TheVariants as cause
+use Rattle.input_reading.specs.declared.input.reading.Configuration.{Configuration}
+use Rattle.input_reading.specs.declared.input.reading.Head.{Head}
+use Rattle.input_reading.specs.declared.input.reading.Input.{Input}
 
 -- the most bytes that an input may have: 16 MiB. And the most of a logical line of it, without line ends (rules of this project)
 abbrev pub most_bytes : ℕ

@@ -6,17 +6,17 @@ use Rattle.cluster_types.specs.declared.cluster.Cluster.{Cluster}
 use Rattle.cluster_types.specs.declared.journal.Answer.{Answer}
 use Rattle.cluster_types.specs.declared.journal.Answer.TheVariants as answer
 use Rattle.cluster_types.specs.Answering.{seconds_in}
-use Rattle.input_reading.specs.declared.answers.ResultWord.{ResultWord}
-use Rattle.input_reading.specs.declared.answers.ResultWord.TheVariants.{End, Timeout, Lost, Up, Quorum, Wait, Report}
+use Rattle.input_reading.specs.declared.results.answers.ResultWord.{ResultWord}
+use Rattle.input_reading.specs.declared.results.answers.ResultWord.TheVariants.{End, Timeout, Lost, Up, Quorum, Wait, Report}
 use Rattle.faults.specs.declared.fault.Fault.{Fault}
 use Rattle.faults.specs.declared.fault.Fault.TheVariants.{At}
 use Rattle.faults.specs.Reading.{◌>>=◌, faulting, on_line}
-use Rattle.input_reading.specs.declared.word_cause.WordCause.{WordCause}
-use Rattle.input_reading.specs.declared.word_cause.WordCause.TheVariants.{BadValue, UnknownStatement}
+use Rattle.input_reading.specs.declared.words.word_cause.WordCause.{WordCause}
+use Rattle.input_reading.specs.declared.words.word_cause.WordCause.TheVariants.{BadValue, UnknownStatement}
 use Rattle.input_reading.specs.Places.{Words, code_at, end_at, leaf_at, node_at, number_at, seconds_at, word_at, yes_at}
 use Rattle.input_reading.specs.declared.history_fault.ResultCause.{ResultCause}
 use Rattle.input_reading.specs.declared.history_fault.ResultCause.TheVariants.{TooManyResults}
-use Rattle.input_reading.specs.declared.results.ResultLine.{ResultLine}
+use Rattle.input_reading.specs.declared.results.result_lines.ResultLine.{ResultLine}
 use Rattle.input_reading.specs.HistoryCauses.{result_cause}
 
 -- what a first word begins

@@ -14,15 +14,15 @@ use Rattle.cluster_types.specs.Answering.{monitor_action}
 use Rattle.crm_lex.specs.declared.line.Line.{Line}
 use Rattle.faults.specs.declared.fault.Fault.{Fault}
 use Rattle.faults.specs.Reading.{◌>>=◌, on_line}
-use Rattle.input_reading.specs.declared.word_cause.WordCause.{WordCause}
-use Rattle.input_reading.specs.declared.word_cause.WordCause.TheVariants.{BadValue}
+use Rattle.input_reading.specs.declared.words.word_cause.WordCause.{WordCause}
+use Rattle.input_reading.specs.declared.words.word_cause.WordCause.TheVariants.{BadValue}
 use Rattle.input_reading.specs.Places.{Words, end_at, leaf_at, node_at, number_at, word_at}
 use Rattle.input_reading.specs.Results.{answer_of}
-use Rattle.input_reading.specs.declared.text.RunTextLine.{RunTextLine}
-use Rattle.input_reading.specs.declared.words.ActionWord.{ActionWord}
-use Rattle.input_reading.specs.declared.words.ActionWord.TheVariants as action
-use Rattle.input_reading.specs.declared.words.LineWord.{LineWord}
-use Rattle.input_reading.specs.declared.words.LineWord.TheVariants as word
+use Rattle.input_reading.specs.declared.run.text.RunTextLine.{RunTextLine}
+use Rattle.input_reading.specs.declared.run.words.ActionWord.{ActionWord}
+use Rattle.input_reading.specs.declared.run.words.ActionWord.TheVariants as action
+use Rattle.input_reading.specs.declared.run.words.LineWord.{LineWord}
+use Rattle.input_reading.specs.declared.run.words.LineWord.TheVariants as word
 use Rattle.input_reading.specs.LineWords.{action_word_at, id_at, line_word, pin_at, reason_of, target_at}
 
 -- a word and a number, and nothing more

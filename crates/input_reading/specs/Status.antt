@@ -16,16 +16,16 @@ use Rattle.cluster_types.specs.Fields.{is_promotable, monitors}
 use Rattle.cluster_types.specs.Answering.{role_of_interval}
 use Rattle.faults.specs.Digits.{number_up_to}
 use Rattle.faults.specs.Reading.{◌>>=◌}
-use Rattle.input_reading.specs.declared.word_cause.WordCause.{WordCause}
-use Rattle.input_reading.specs.declared.word_cause.WordCause.TheVariants.{BadValue, UnknownStatement}
+use Rattle.input_reading.specs.declared.words.word_cause.WordCause.{WordCause}
+use Rattle.input_reading.specs.declared.words.word_cause.WordCause.TheVariants.{BadValue, UnknownStatement}
 use Rattle.input_reading.specs.Numbers.{code_of, interval_of}
 use Rattle.input_reading.specs.Places.{Words, end_at, leaf_at, node_at, seconds_at, word_at, yes_at}
-use Rattle.input_reading.specs.declared.status_lines.StatusWord.{StatusWord}
-use Rattle.input_reading.specs.declared.status_lines.StatusWord.TheVariants as first
-use Rattle.input_reading.specs.declared.told.NodeWord.{NodeWord}
-use Rattle.input_reading.specs.declared.told.NodeWord.TheVariants.{Online, Offline, Unclean}
-use Rattle.input_reading.specs.declared.told.Told.{Told}
-use Rattle.input_reading.specs.declared.told.Told.TheVariants.{Now, Quorum, Node, Past, Promoting}
+use Rattle.input_reading.specs.declared.status.status_lines.StatusWord.{StatusWord}
+use Rattle.input_reading.specs.declared.status.status_lines.StatusWord.TheVariants as first
+use Rattle.input_reading.specs.declared.status.told.NodeWord.{NodeWord}
+use Rattle.input_reading.specs.declared.status.told.NodeWord.TheVariants.{Online, Offline, Unclean}
+use Rattle.input_reading.specs.declared.status.told.Told.{Told}
+use Rattle.input_reading.specs.declared.status.told.Told.TheVariants.{Now, Quorum, Node, Past, Promoting}
 
 -- what a first word begins
 unfoldable pub status_word : List ℕ → Result StatusWord WordCause

@@ -19,7 +19,7 @@ use Rattle.cluster_types.specs.Texts.{run_line}
 use Rattle.crm_lex.specs.declared.line.Line.{Line}
 use Rattle.crm_lex.specs.Names.{is_name}
 use Rattle.crm_lex.specs.Reading.{reads}
-use Rattle.input_reading.specs.declared.text.RunTextLine.{RunTextLine}
+use Rattle.input_reading.specs.declared.run.text.RunTextLine.{RunTextLine}
 use Rattle.input_reading.specs.RunReading.{lines_of}
 
 -- a number of a transition, of an action or of a line, or the milliseconds of a recurring monitor

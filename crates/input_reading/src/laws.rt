@@ -5,9 +5,9 @@ ghost use Rattle.cluster_types.specs.Journals.{Orderly, in_flight};
 ghost use Rattle.cluster_types.specs.Valid.{IsValid};
 ghost use Rattle.input_reading.specs.Reading.{IsFaulty, IsReadable, IsRefused, Reads};
 ghost use Rattle.input_reading.specs.Traces.{IsFaultyTrace, IsReadableTrace, IsTraceRefused, ReadsTrace};
-ghost use Rattle.input_reading.specs.declared.cause.InputCause.{InputCause as CauseOf};
-ghost use Rattle.input_reading.specs.declared.reading.Input.{Input as InputOf};
-ghost use Rattle.input_reading.specs.declared.trace.Trace.{Trace as TraceOf};
+ghost use Rattle.input_reading.specs.declared.input.cause.InputCause.{InputCause as CauseOf};
+ghost use Rattle.input_reading.specs.declared.input.reading.Input.{Input as InputOf};
+ghost use Rattle.input_reading.specs.declared.input.trace.Trace.{Trace as TraceOf};
 
 /// A text is read as one input, or it has one fault, and never both.
 pub fn one_reading()

@@ -5,9 +5,9 @@ use Rattle.cluster_io.specs.Streams.{Rose}
 use Rattle.cluster_types.specs.declared.journal.Answer.{Answer}
 use Rattle.cluster_types.specs.Sources.{Says, told, used_up, untold}
 use Rattle.graph_exec.specs.Saying.{Gives, IsOverBy}
-use Rattle.graph_exec.specs.declared.outcomes.Next.{Next}
-use Rattle.graph_exec.specs.declared.outcomes.Next.TheVariants as next
-use Rattle.input_reading.specs.declared.results.ResultLine.{ResultLine}
+use Rattle.graph_exec.specs.declared.transition.outcomes.Next.{Next}
+use Rattle.graph_exec.specs.declared.transition.outcomes.Next.TheVariants as next
+use Rattle.input_reading.specs.declared.results.result_lines.ResultLine.{ResultLine}
 use Rattle.live_run.specs.Coming.{Brings, Coming, coming_of, no_more, result_first, told_of}
 use Rattle.live_run.specs.Courses.{Answers, Standing, answers_of, has_ended, in_course, is_reading, rest_of, to_come, told_by, whole_of}
 use Rattle.live_run.specs.declared.came.Came.TheVariants as came

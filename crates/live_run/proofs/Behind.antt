@@ -9,7 +9,7 @@ use Rattle.cluster_types.specs.Runs.{Standing as Place, RunsOn, plans, goes, com
 use Rattle.cluster_types.specs.Sources.{Says, told, used_up, untold}
 use Rattle.cluster_types.specs.Steps.{Transition, StepsOn, begins, takes, is_silent}
 use Rattle.live_run.specs.Followed.{answers, last_line}
-use Rattle.input_reading.specs.declared.results.ResultLine.{ResultLine}
+use Rattle.input_reading.specs.declared.results.result_lines.ResultLine.{ResultLine}
 
 abbrev pub answer_in : ResultLine → Answer
 answer_in r = r.answer

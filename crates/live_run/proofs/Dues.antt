@@ -21,7 +21,7 @@ use Rattle.live_run.specs.declared.line_stop.LineStop.TheVariants as why
 use Rattle.live_run.specs.Ends.{AsksForMore, Gets, IsCut, IsWhole, run_text}
 use Rattle.live_run.specs.declared.live_end.LiveEnd.{LiveEnd}
 use Rattle.live_run.specs.declared.live_end.LiveEnd.TheVariants as end
-use Rattle.input_reading.specs.declared.results.ResultLine.{ResultLine}
+use Rattle.input_reading.specs.declared.results.result_lines.ResultLine.{ResultLine}
 use Rattle.run_safety.specs.Followed.{IsFront}
 use Rattle.run_safety.proofs.Beginnings.{begins_cut, begins_whole}
 use Rattle.run_safety.proofs.OneEnd.{before_stuck, cut_one, whole_one, whole_or_cut}

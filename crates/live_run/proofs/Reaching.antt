@@ -37,7 +37,7 @@ use Rattle.live_run.specs.declared.live_end.LiveEnd.{LiveEnd}
 use Rattle.live_run.specs.declared.live_end.LiveEnd.TheVariants as end
 use Rattle.live_run.proofs.Behind.{answer_in, runs_back, says_next, last_one, line_of_last, answers_size}
 use Rattle.live_run.proofs.Dues.{begins_due, one_end}
-use Rattle.input_reading.specs.declared.results.ResultLine.{ResultLine}
+use Rattle.input_reading.specs.declared.results.result_lines.ResultLine.{ResultLine}
 use Rattle.graph_exec.specs.Replays.{IsBetweenTwo, IsStopped, setting, sight}
 use Rattle.graph_exec.specs.Replays as replays
 use Rattle.run_safety.specs.Followed.{IsFront}

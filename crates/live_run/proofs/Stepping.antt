@@ -23,7 +23,7 @@ use Rattle.live_run.specs.declared.said.Said.TheVariants as said
 use Rattle.live_run.proofs.Bringing.{handed_answer, handed_cut, line_first, lines_at, longest_is, room_is, some_if}
 use Rattle.live_run.proofs.Cuts.{cut_of}
 use Rattle.live_run.proofs.Unfinished.{longer}
-use Rattle.input_reading.specs.declared.results.ResultLine.{ResultLine}
+use Rattle.input_reading.specs.declared.results.result_lines.ResultLine.{ResultLine}
 
 pub bytes_one : (raw : List ℕ) → bytes_of (physical_lines raw ∷ []) ≡ raw
 bytes_one raw = append-nil (concat (physical_lines raw)) ∙ concat-lines raw

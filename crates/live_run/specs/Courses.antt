@@ -4,9 +4,9 @@ use Rattle.std.specs.Option.{option_map_or}
 use Rattle.cluster_io.specs.Readings.{Reading}
 use Rattle.cluster_types.specs.declared.cluster.Cluster.{Cluster}
 use Rattle.cluster_types.specs.declared.journal.Answer.{Answer}
-use Rattle.graph_exec.specs.declared.outcomes.Next.{Next}
-use Rattle.graph_exec.specs.declared.outcomes.Next.TheVariants as next
-use Rattle.input_reading.specs.declared.results.ResultLine.{ResultLine}
+use Rattle.graph_exec.specs.declared.transition.outcomes.Next.{Next}
+use Rattle.graph_exec.specs.declared.transition.outcomes.Next.TheVariants as next
+use Rattle.input_reading.specs.declared.results.result_lines.ResultLine.{ResultLine}
 use Rattle.live_run.specs.Coming.{Coming, Lines, coming_of, no_more, result_first}
 use Rattle.live_run.specs.Saying.{is_last}
 use Rattle.live_run.specs.declared.course.Course.{Course}

@@ -6,9 +6,9 @@ use Rattle.cluster_io.specs.NextLine.{holds_line, IsUndecided}
 use Rattle.cluster_io.specs.Streams.{Rose, Takes}
 use Rattle.cluster_types.specs.declared.cluster.Cluster.{Cluster}
 use Rattle.crm_lex.specs.RawLines.{raw_lines}
-use Rattle.graph_exec.specs.declared.outcomes.Next.{Next}
-use Rattle.graph_exec.specs.declared.outcomes.Next.TheVariants as next
-use Rattle.input_reading.specs.declared.results.ResultLine.{ResultLine}
+use Rattle.graph_exec.specs.declared.transition.outcomes.Next.{Next}
+use Rattle.graph_exec.specs.declared.transition.outcomes.Next.TheVariants as next
+use Rattle.input_reading.specs.declared.results.result_lines.ResultLine.{ResultLine}
 use Rattle.live_run.specs.Coming.{Coming, Lines, coming}
 use Rattle.live_run.specs.Courses.{Standing, has_ended, is_reading, stop_of, told_by, to_come}
 use Rattle.live_run.specs.Saying.{is_last}

@@ -19,7 +19,7 @@ use Rattle.live_run.specs.Followed.{AreNear, EndsInOne, StandFirst, bytes_of, sa
 use Rattle.live_run.specs.declared.line_stop.LineCause.{LineCause}
 use Rattle.live_run.specs.declared.line_stop.LineStop.{LineStop}
 use Rattle.live_run.specs.declared.line_stop.LineStop.TheVariants as why
-use Rattle.input_reading.specs.declared.results.ResultLine.{ResultLine}
+use Rattle.input_reading.specs.declared.results.result_lines.ResultLine.{ResultLine}
 use Rattle.run_safety.specs.Followed.{EndsBetween}
 use Rattle.live_run.specs.Writing.{refusal_text}
 use Rattle.live_run.specs.Ends.{AsksForMore, Gets, IsCut, run_text}

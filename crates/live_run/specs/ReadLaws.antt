@@ -10,7 +10,7 @@ use Rattle.live_run.specs.Followed.{AreNear, EndsInOne, HasLast, HasPassed, HasR
 use Rattle.live_run.specs.declared.came.Came.{Came}
 use Rattle.live_run.specs.declared.came.Came.TheVariants as came
 use Rattle.live_run.specs.declared.line_stop.LineStop.{LineStop}
-use Rattle.input_reading.specs.declared.results.ResultLine.{ResultLine}
+use Rattle.input_reading.specs.declared.results.result_lines.ResultLine.{ResultLine}
 
 pub bytes_joined : (xs ys : List (List (List ℕ))) → bytes_of (xs ++ ys) ≡ bytes_of xs ++ bytes_of ys
 bytes_joined xs ys = flat_map-append concat xs ys

@@ -2,8 +2,8 @@
 use Rattle.std.specs.Prelude.{◌≡◌, ℕ, Bool, true, Option, Result, Ok, Err, List, ◌++◌, codes, decimal}
 use Rattle.cluster_io.specs.Streams.{Adds, AddsPrefix}
 use Rattle.cluster_io.specs.declared.sink.WriteFault.{WriteFault}
-use Rattle.graph_exec.specs.declared.watcher.Heard.{Heard}
-use Rattle.graph_exec.specs.declared.watcher.Heard.TheVariants as heard
+use Rattle.graph_exec.specs.declared.transition.watcher.Heard.{Heard}
+use Rattle.graph_exec.specs.declared.transition.watcher.Heard.TheVariants as heard
 use Rattle.live_run.specs.LineCauses.{line_cause_name}
 use Rattle.live_run.specs.declared.line_stop.LineCause.{LineCause}
 

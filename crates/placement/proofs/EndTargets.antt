@@ -22,7 +22,7 @@ use Rattle.cluster_types.proofs.LeastSets.{held-least}
 use Rattle.cluster_types.proofs.OpLaws.{gives_one, up_of}
 use Rattle.cluster_types.proofs.TableCells.{promoted_somewhere}
 use Rattle.plan_laws.proofs.MadeOnes.{never_both}
-use Rattle.placement.specs.declared.dependencies.Dependency.{Dependency}
+use Rattle.placement.specs.declared.held.dependencies.Dependency.{Dependency}
 use Rattle.placement.specs.Dependencies.{dependencies_by, from_colocation, from_order, may_hold}
 use Rattle.placement.specs.Taking.{IsSettled, has_primary}
 use Rattle.placement.proofs.Lacking.{lacked, not_both}

@@ -19,7 +19,7 @@ use Rattle.cluster_types.specs.Precedence.{is_mandatory_order, is_up, role_by}
 use Rattle.cluster_types.specs.Tables.{Targets, holds_role, is_in_scope}
 use Rattle.cluster_types.proofs.OpLaws.{gives_by, of_kind}
 use Rattle.plan_laws.proofs.MadeOnes.{never_both}
-use Rattle.placement.specs.declared.dependencies.Dependency.{Dependency}
+use Rattle.placement.specs.declared.held.dependencies.Dependency.{Dependency}
 use Rattle.placement.specs.Dependencies.{dependencies_by, from_colocation, from_order, may_hold}
 use Rattle.placement.specs.Taking.{Taken, has_primary, none_yet, one_more, takes, without}
 use Rattle.placement.proofs.Lacking.{lacking}

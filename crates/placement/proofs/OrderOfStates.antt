@@ -15,7 +15,7 @@ use Rattle.plan_laws.proofs.MadeOnes.{never_both, there}
 use Rattle.plan_laws.proofs.Reaches as reached
 use Rattle.plan_laws.proofs.Reaches.{Reaches, all_of_reached}
 use Rattle.plan_laws.proofs.Ready.{ready_is_one}
-use Rattle.placement.specs.declared.table.ScoreTable.{ScoreTable}
+use Rattle.placement.specs.declared.totals.table.ScoreTable.{ScoreTable}
 use Rattle.placement.specs.Scores.{scores_of}
 use Rattle.placement.specs.DecisionLists.{decisions_in, key_by}
 use Rattle.placement.specs.Effective.{effective_in}

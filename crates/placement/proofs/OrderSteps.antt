@@ -12,8 +12,8 @@ use Rattle.cluster_types.specs.declared.placement.Decision.TheVariants.{Place}
 use Rattle.cluster_types.specs.Decisions.{Key, is_among, leaf_of}
 use Rattle.cluster_types.specs.Valid.{IsValid}
 use Rattle.plan_laws.proofs.MadeBefore.{before_some_way}
-use Rattle.placement.specs.declared.queue.Queue.{Queue}
-use Rattle.placement.specs.declared.ranked.Ranked.{Ranked}
+use Rattle.placement.specs.declared.order.queue.Queue.{Queue}
+use Rattle.placement.specs.declared.order.ranked.Ranked.{Ranked}
 use Rattle.placement.specs.Effective.{goes_before}
 use Rattle.placement.specs.Flags.{AreFlags, slot_of}
 use Rattle.placement.specs.Links.{links_in}

@@ -16,7 +16,7 @@ use Rattle.cluster_types.specs.declared.rules.Colocation.{Colocation}
 use Rattle.cluster_types.specs.Terms.{is_tie, is_tied}
 use Rattle.cluster_types.specs.Valid.{IsValid}
 use Rattle.cluster_types.proofs.RuleLeaves.{role_leaf}
-use Rattle.placement.specs.declared.ties.Tie.{Tie}
+use Rattle.placement.specs.declared.totals.ties.Tie.{Tie}
 use Rattle.placement.specs.Ties.{AreTied, AreTies, lacks_mark, unmarked, mark_if, leads, is_missed, tie_of, tied_within}
 
 -- an element that passes

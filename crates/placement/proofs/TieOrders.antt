@@ -8,7 +8,7 @@ use Rattle.lemmas.proofs.Members.{in_map}
 use Rattle.edges.specs.Loops.{HasNoLoop}
 use Rattle.edges.specs.Longest.{longest}
 use Rattle.edges.proofs.Longest.{heights_rise, longest_are_heights}
-use Rattle.placement.specs.declared.ties.Tie.{Tie}
+use Rattle.placement.specs.declared.totals.ties.Tie.{Tie}
 use Rattle.placement.specs.TieOrder.{AreHeightsOf, AreInOrder, EndAtLeaves, edge_of}
 use Rattle.placement.proofs.TieSides.{edges-within}
 

@@ -9,7 +9,7 @@ use Rattle.cluster_types.specs.declared.leaf.Role.TheVariants as role
 use Rattle.cluster_types.specs.Terms.{is_tie}
 use Rattle.cluster_types.specs.Valid.{IsValid}
 use Rattle.cluster_types.proofs.RuleLeaves.{role_leaf}
-use Rattle.placement.specs.declared.ties.Tie.{Tie}
+use Rattle.placement.specs.declared.totals.ties.Tie.{Tie}
 use Rattle.placement.specs.TieOrder.{EndAtLeaves, edge_of}
 use Rattle.placement.specs.Ties.{AreTies, tie_of, ties_of}
 

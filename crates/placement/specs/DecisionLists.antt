@@ -11,7 +11,7 @@ use Rattle.cluster_types.specs.declared.states.States.{States}
 use Rattle.cluster_types.specs.Decisions.{Key, greatest_of, is_active_for, leaf_of}
 use Rattle.cluster_types.specs.Fields.{is_promotable, priority}
 use Rattle.cluster_types.specs.Pins.{is_pinned_in}
-use Rattle.placement.specs.declared.table.ScoreTable.{ScoreTable}
+use Rattle.placement.specs.declared.totals.table.ScoreTable.{ScoreTable}
 use Rattle.placement.specs.OwnRows.{cell_by}
 use Rattle.placement.specs.Scores.{score_in}
 use Rattle.placement.specs.Usable.{is_usable_by}

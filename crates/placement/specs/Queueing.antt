@@ -5,7 +5,7 @@ use Rattle.std.specs.Option.{option_map_or}
 use Rattle.edges.specs.declared.edge.Edge.{Edge}
 use Rattle.edges.specs.Loops.{EndWithin}
 use Rattle.edges.specs.Rows.{AreRows}
-use Rattle.placement.specs.declared.queue.Queue.{Queue}
+use Rattle.placement.specs.declared.order.queue.Queue.{Queue}
 
 -- how many edges lead to the position from others than were taken
 abbrev pub held : List Edge → List Bool → ℕ → ℕ

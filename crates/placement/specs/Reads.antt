@@ -16,7 +16,7 @@ use Rattle.cluster_types.specs.Choice.{has_primaries, is_apart, is_kept_by, is_p
 use Rattle.cluster_types.specs.Decisions.{leaf_of}
 use Rattle.cluster_types.specs.Fields.{copies, promoted_copies, target_role_of}
 use Rattle.cluster_types.specs.Tables.{Targets}
-use Rattle.placement.specs.declared.table.ScoreTable.{ScoreTable}
+use Rattle.placement.specs.declared.totals.table.ScoreTable.{ScoreTable}
 use Rattle.placement.specs.OwnRows.{is_active_by}
 use Rattle.placement.specs.Scores.{score_in}
 use Rattle.placement.specs.Usable.{is_usable_by}

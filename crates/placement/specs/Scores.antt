@@ -9,7 +9,7 @@ use Rattle.cluster_types.specs.declared.placement.Decision.TheVariants.{Place, P
 use Rattle.cluster_types.specs.declared.states.States.{States}
 use Rattle.cluster_types.specs.Terms.{base}
 use Rattle.score.specs.Total.{total_of}
-use Rattle.placement.specs.declared.table.ScoreTable.{ScoreTable}
+use Rattle.placement.specs.declared.totals.table.ScoreTable.{ScoreTable}
 use Rattle.placement.specs.LendingRows.{all_joined}
 use Rattle.placement.specs.OwnRows.{terms_by}
 use Rattle.placement.specs.Promotions.{wished_by}

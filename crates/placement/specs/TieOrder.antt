@@ -3,7 +3,7 @@ use Rattle.std.specs.Prelude.{◌≡◌, ◌<◌, ℕ, List, length, map, slice_
 use Rattle.edges.specs.declared.edge.Edge.{Edge}
 use Rattle.edges.specs.Longest.{longest}
 use Rattle.edges.specs.Loops.{HasNoLoop}
-use Rattle.placement.specs.declared.ties.Tie.{Tie}
+use Rattle.placement.specs.declared.totals.ties.Tie.{Tie}
 
 -- from the primary of a tie to its dependent
 abbrev pub edge_of : Tie → Edge

@@ -6,7 +6,7 @@ use Rattle.listed.specs.Flags.{is_marked}
 use Rattle.cluster_types.specs.declared.cluster.Cluster.{Cluster}
 use Rattle.cluster_types.specs.declared.rules.Colocation.{Colocation}
 use Rattle.cluster_types.specs.Terms.{is_tie, is_tied}
-use Rattle.placement.specs.declared.ties.Tie.{Tie}
+use Rattle.placement.specs.declared.totals.ties.Tie.{Tie}
 
 -- the tie that a colocation is
 abbrev pub tie_of : Colocation → Tie

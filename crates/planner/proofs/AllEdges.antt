@@ -12,7 +12,7 @@ use Rattle.cluster_types.specs.Numbers.{is_earlier}
 use Rattle.cluster_types.specs.Plans.{is_of_either, most_edges}
 use Rattle.cluster_types.specs.Graphs.{Leads}
 use Rattle.cluster_types.specs.Precedence.{is_serialize, is_serialized, must_precede}
-use Rattle.planner.specs.declared.sides.Join.{Join}
+use Rattle.planner.specs.declared.precedence.sides.Join.{Join}
 use Rattle.planner.specs.Chains.{serialized_at, serialized_of}
 use Rattle.planner.specs.Gates.{edges_of}
 use Rattle.planner.specs.Groups.{Adds}

@@ -8,8 +8,8 @@ use Rattle.cluster_types.specs.declared.journal.Action.{Action}
 use Rattle.cluster_types.specs.declared.rules.Order.{Order}
 use Rattle.cluster_types.specs.Graphs.{Leads}
 use Rattle.cluster_types.specs.Precedence.{both, is_one_cell, is_serialized, must_precede}
-use Rattle.planner.specs.declared.sides.Join.{Join}
-use Rattle.planner.specs.declared.sides.Side.{Side}
+use Rattle.planner.specs.declared.precedence.sides.Join.{Join}
+use Rattle.planner.specs.declared.precedence.sides.Side.{Side}
 use Rattle.planner.specs.Gates.{edges_of, gates_upto, join_edges, key_at}
 use Rattle.planner.specs.Joins.{is_joined, joins_of, key_of}
 use Rattle.planner.specs.Groups.{IsGroup}

@@ -25,7 +25,7 @@ use Rattle.loops.specs.FirstLoops.{AllJoin, AllOrder}
 use Rattle.loops.proofs.StepPlaces.{same_op}
 use Rattle.planner.specs.Actions.{cell_actions, free_leaf_actions, has_op, is_elsewhere, is_filled, is_free, leaves_actions, migrations_of, migrations_to, monitor_action, monitors_in, probes_in, source_of, stays_needed, step_action, steps_in, wanted}
 use Rattle.planner.specs.Cycling.{Marks}
-use Rattle.planner.specs.declared.steps.CellNeed.{CellNeed}
+use Rattle.planner.specs.declared.needed.steps.CellNeed.{CellNeed}
 use Rattle.planner.proofs.Conditions.{in_unless, of_if, of_one, of_unless}
 use Rattle.planner.proofs.Harmless.{free_of, is_free_where}
 use Rattle.planner.proofs.SentFrom.{is_sent_from, sent_from}

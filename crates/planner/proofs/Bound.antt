@@ -12,8 +12,8 @@ use Rattle.cluster_types.specs.declared.rules.Order.{Order}
 use Rattle.cluster_types.specs.Choice.{is_separation}
 use Rattle.cluster_types.specs.Plans.{is_of_either}
 use Rattle.cluster_types.specs.Precedence.{CellOf, inverse, is_serialize, is_up}
-use Rattle.planner.specs.declared.sides.Join.{Join}
-use Rattle.planner.specs.declared.sides.Side.TheVariants as side
+use Rattle.planner.specs.declared.precedence.sides.Join.{Join}
+use Rattle.planner.specs.declared.precedence.sides.Side.TheVariants as side
 use Rattle.planner.specs.Gates.{chain_edges, chain_step, edge, edge_in, edge_out, edges_at, edges_of, gates_upto, join_edges, key_at, next_gate, then_step}
 use Rattle.planner.specs.Joins.{colocation_joins, first_joins, inverse_join, join, joins_of, order_joins, own_join, stands}
 use Rattle.planner.specs.Places.{places_of}

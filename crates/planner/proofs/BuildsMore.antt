@@ -10,7 +10,7 @@ use Rattle.cluster_types.specs.declared.cluster.Cluster.{Cluster}
 use Rattle.edges.specs.declared.edge.Edge.{Edge}
 use Rattle.cluster_types.specs.declared.journal.Action.{Action}
 use Rattle.cluster_types.specs.Precedence.{CellOf}
-use Rattle.planner.specs.declared.sides.Join.{Join}
+use Rattle.planner.specs.declared.precedence.sides.Join.{Join}
 use Rattle.planner.specs.Gates.{edge_in, edge_out, edges_at, edges_of, gates_upto, join_edges, key_at}
 use Rattle.planner.specs.Joins.{first_joins, key_of, one_if, stands}
 use Rattle.planner.specs.Rooms.{Builds, rows_of, rows_of_join, width_of, width_of_join}

@@ -17,7 +17,7 @@ use Rattle.cluster_types.specs.Terms as terms
 use Rattle.planner.specs.ByNeeds as by_needs
 use Rattle.planner.specs.Cycling.{Marks, first_marks}
 use Rattle.planner.specs.Levels.{AreNeeds, need_in}
-use Rattle.planner.specs.declared.steps.CellNeed.{CellNeed}
+use Rattle.planner.specs.declared.needed.steps.CellNeed.{CellNeed}
 
 -- one leaf more
 pub row_more : (all : Marks) (k r n : ℕ) (now after here : Bool) → now ≡ (nat_lt r k && all r n) → after ≡ (now || r == k && here)

@@ -7,8 +7,8 @@ use Rattle.cluster_types.specs.declared.leaf.Op.{Op}
 use Rattle.cluster_types.specs.declared.leaf.Op.TheVariants as op
 use Rattle.cluster_types.specs.declared.leaf.Role.{Role}
 use Rattle.cluster_types.specs.declared.leaf.Role.TheVariants as role
-use Rattle.planner.specs.declared.sides.Side.{Side}
-use Rattle.planner.specs.declared.sides.Side.TheVariants as side
+use Rattle.planner.specs.declared.precedence.sides.Side.{Side}
+use Rattle.planner.specs.declared.precedence.sides.Side.TheVariants as side
 use Rattle.cluster_types.specs.Precedence.{as_earlier, as_later, cell_of, gives_any, gives_role, is_migrating, op_cell, probe_cell, takes_or_probes}
 use Rattle.planner.specs.Joins.{earlier_taker, key_of, later_demote, later_taker, take_cell}
 use Rattle.planner.specs.Rooms.{IsWithin, rows_of, width_of}

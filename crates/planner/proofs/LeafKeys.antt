@@ -10,8 +10,8 @@ use Rattle.cluster_types.specs.declared.leaf.Op.TheVariants as op
 use Rattle.cluster_types.specs.declared.leaf.Role.{Role}
 use Rattle.cluster_types.specs.declared.leaf.Role.TheVariants as role
 use Rattle.cluster_types.specs.Precedence.{CellOf, as_earlier, as_later, cell_of, gives_role, is_migrating, is_same_op, op_cell, start_cell, takes_or_probes}
-use Rattle.planner.specs.declared.sides.Side.{Side}
-use Rattle.planner.specs.declared.sides.Side.TheVariants as side
+use Rattle.planner.specs.declared.precedence.sides.Side.{Side}
+use Rattle.planner.specs.declared.precedence.sides.Side.TheVariants as side
 use Rattle.planner.specs.Joins.{earlier_taker, in_leaf, key_of, later_demote, later_taker, take_cell}
 use Rattle.planner.specs.Places.{is_of_leaf, side_leaf}
 

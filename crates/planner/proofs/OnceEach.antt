@@ -22,7 +22,7 @@ use Rattle.cluster_types.specs.Pins.{is_unprobed_state}
 use Rattle.planner.specs.Actions.{all_fences, cell_actions, fences_in, free_leaf_actions, has_op, is_elsewhere, is_filled, is_unclean_in, is_wanted, leaf_actions, leaves_actions, migrations_of, migrations_to, monitor_action, monitors_in, probes_in, source_of, stays_needed, step_action, steps_in, wanted}
 use Rattle.planner.specs.Cycling.{Marks}
 use Rattle.planner.specs.Levels.{steps_by}
-use Rattle.planner.specs.declared.steps.CellNeed.{CellNeed}
+use Rattle.planner.specs.declared.needed.steps.CellNeed.{CellNeed}
 use Rattle.planner.proofs.Conditions.{of_if, of_one}
 use Rattle.planner.proofs.PairsApart.{no_pairs, pair_more, pairs_if, pairs_joined, pairs_mapped, pairs_of_range, pairs_unless}
 

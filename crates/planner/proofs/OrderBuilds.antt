@@ -6,7 +6,7 @@ use Rattle.edges.specs.declared.edge.Edge.{Edge}
 use Rattle.cluster_types.specs.declared.journal.Action.{Action}
 use Rattle.cluster_types.specs.declared.rules.Order.{Order}
 use Rattle.cluster_types.specs.Precedence.{is_serialize, is_up}
-use Rattle.planner.specs.declared.sides.Join.{Join}
+use Rattle.planner.specs.declared.precedence.sides.Join.{Join}
 use Rattle.planner.specs.Gates.{join_edges, key_at}
 use Rattle.planner.specs.Index.{IsIndex, places_in}
 use Rattle.planner.specs.Joins.{inverse_join, order_joins, own_join, takers_join, turned_join}

@@ -21,7 +21,7 @@ use Rattle.cluster_types.proofs.TableCells.{by_target}
 use Rattle.planner.specs.ByNeeds as by_needs
 use Rattle.planner.specs.Cycling.{Marks, is_disturbed, is_marked_by, with_order}
 use Rattle.planner.specs.Levels.{AreNeeds, marks_in, steps_by}
-use Rattle.planner.specs.declared.steps.CellNeed.{CellNeed}
+use Rattle.planner.specs.declared.needed.steps.CellNeed.{CellNeed}
 
 any_flag : (p : ℕ → Bool) (xs : List ℕ) → list_any (λ b. b) (map p xs) ≡ list_any p xs
 any_flag p [] = refl

@@ -12,7 +12,7 @@ use Rattle.cluster_types.specs.declared.rules.Order.{Order}
 use Rattle.cluster_types.specs.Choice.{is_separation}
 use Rattle.cluster_types.specs.Precedence.{CellOf, as_earlier, as_later, both, cell_of, gives_role, inverse, is_inverse_pair, is_one_cell, is_ordered, is_pair, is_parted, is_serialize, is_taken_back, is_up, op_cell, parts_first, takers, takes_or_probes}
 use Rattle.cluster_types.specs.Tables.{is_in_scope}
-use Rattle.planner.specs.declared.sides.Side.TheVariants as side
+use Rattle.planner.specs.declared.precedence.sides.Side.TheVariants as side
 use Rattle.planner.specs.Joins.{join, colocation_joins, earlier_taker, in_leaf, inverse_join, is_joined, later_demote, later_taker, order_joins, take_cell}
 use Rattle.planner.proofs.Tests.{any_same}
 

@@ -20,7 +20,7 @@ use Rattle.cluster_types.specs.NodeStates.{is_online}
 use Rattle.cluster_types.specs.Tables.{Targets}
 use Rattle.planner.specs.Actions.{first_node, is_alone, is_on_state, is_source, may_be_sent, source_at, source_of, steps_in}
 use Rattle.planner.specs.Cycling.{Marks}
-use Rattle.planner.specs.declared.steps.CellNeed.{CellNeed}
+use Rattle.planner.specs.declared.needed.steps.CellNeed.{CellNeed}
 use Rattle.planner.proofs.StepTests.{found_is, has_it, it_is, only_found}
 use Rattle.planner.proofs.StepsGot.{Tells, gets, got}
 

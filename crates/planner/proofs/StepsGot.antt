@@ -12,7 +12,7 @@ use Rattle.cluster_types.specs.Tables.{Targets}
 use Rattle.planner.specs.Actions.{is_filled, is_touched, steps_in}
 use Rattle.planner.specs.Cycling.{Marks}
 use Rattle.planner.specs.Levels.{need_at, steps_by}
-use Rattle.planner.specs.declared.steps.CellNeed.{CellNeed}
+use Rattle.planner.specs.declared.needed.steps.CellNeed.{CellNeed}
 use Rattle.planner.proofs.StepTests.{filled, first_step, some_of}
 
 -- what cells need is told, and which of them are cycled

@@ -27,7 +27,7 @@ use Rattle.cluster_types.proofs.StatesKept.{node_kept}
 use Rattle.loops.proofs.FromValid.{valid_join, valid_order}
 use Rattle.planner.specs.Actions.{all_fences, fences_in, is_free, is_touched, is_unclean_in, leaves_actions}
 use Rattle.planner.specs.Cycling.{Marks}
-use Rattle.planner.specs.declared.steps.CellNeed.{CellNeed}
+use Rattle.planner.specs.declared.needed.steps.CellNeed.{CellNeed}
 use Rattle.planner.proofs.AllNeeded.{all_needed, there}
 use Rattle.planner.proofs.Conditions.{of_if, of_one}
 use Rattle.planner.proofs.OnceEach.{all_once}

@@ -23,7 +23,7 @@ use Rattle.cluster_types.specs.Pins.{is_unprobed_state}
 use Rattle.cluster_types.specs.Precedence.{is_same_op, is_serialize}
 use Rattle.planner.specs.Cycling.{Marks}
 use Rattle.planner.specs.Levels.{steps_by}
-use Rattle.planner.specs.declared.steps.CellNeed.{CellNeed}
+use Rattle.planner.specs.declared.needed.steps.CellNeed.{CellNeed}
 
 abbrev pub has_op : Op → List Op → Bool
 has_op o steps = list_any (is_same_op o) steps

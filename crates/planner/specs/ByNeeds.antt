@@ -8,7 +8,7 @@ use Rattle.cluster_types.specs.Tables.{target_holds}
 use Rattle.cluster_types.specs.Terms.{is_active}
 use Rattle.planner.specs.Cycling.{Marks}
 use Rattle.planner.specs.Levels.{need_in, steps_by}
-use Rattle.planner.specs.declared.steps.CellNeed.{CellNeed}
+use Rattle.planner.specs.declared.needed.steps.CellNeed.{CellNeed}
 
 -- the first of the order is disturbed on node m
 abbrev pub is_disturbed : ℕ → List CellNeed → Marks → Order → ℕ → Bool

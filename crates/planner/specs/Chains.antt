@@ -4,7 +4,7 @@ use Rattle.std.specs.Option.{option_map_or}
 use Rattle.cluster_types.specs.declared.journal.Action.{Action}
 use Rattle.cluster_types.specs.declared.rules.Order.{Order}
 use Rattle.cluster_types.specs.Precedence.{CellOf, change_cell, is_serialized}
-use Rattle.planner.specs.declared.chains.Changes.{Changes}
+use Rattle.planner.specs.declared.precedence.chains.Changes.{Changes}
 use Rattle.planner.specs.Gates.{InChain}
 use Rattle.planner.specs.Joins.{in_leaf}
 

@@ -5,8 +5,8 @@ use Rattle.cluster_types.specs.declared.journal.Action.{Action}
 use Rattle.cluster_types.specs.declared.journal.Action.TheVariants.{Fence, Probe, Cell, MigrateTo, MigrateFrom}
 use Rattle.cluster_types.specs.declared.leaf.Op.{Op}
 use Rattle.cluster_types.specs.declared.leaf.Op.TheVariants as op
-use Rattle.planner.specs.declared.sides.Side.{Side}
-use Rattle.planner.specs.declared.sides.Side.TheVariants as side
+use Rattle.planner.specs.declared.precedence.sides.Side.{Side}
+use Rattle.planner.specs.declared.precedence.sides.Side.TheVariants as side
 use Rattle.cluster_types.specs.Precedence.{CellOf, cell_of, op_cell, start_cell}
 use Rattle.planner.specs.Joins.{in_leaf, key_of}
 

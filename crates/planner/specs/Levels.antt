@@ -15,7 +15,7 @@ use Rattle.cluster_types.specs.Pins.{is_pinned}
 use Rattle.cluster_types.specs.Tables.{Targets}
 use Rattle.cluster_types.specs.Unpacked.{running_bits}
 use Rattle.planner.specs.Cycling.{Marks, is_cycling}
-use Rattle.planner.specs.declared.steps.CellNeed.{CellNeed}
+use Rattle.planner.specs.declared.needed.steps.CellNeed.{CellNeed}
 
 abbrev pub steps_by : CellNeed → Bool → List Op
 steps_by need cycled = if need.pinned then [] else steps_of need.state need.target cycled

@@ -6,9 +6,9 @@ use Rattle.cluster_types.specs.declared.journal.Action.{Action}
 use Rattle.cluster_types.specs.Precedence.{CellOf}
 use Rattle.edges.specs.declared.edge.Edge.{Edge}
 use Rattle.cluster_types.specs.declared.journal.Action.TheVariants.{Fence, Probe, Cell, MigrateTo, MigrateFrom}
-use Rattle.planner.specs.declared.sides.Join.{Join}
-use Rattle.planner.specs.declared.sides.Side.{Side}
-use Rattle.planner.specs.declared.sides.Side.TheVariants as side
+use Rattle.planner.specs.declared.precedence.sides.Join.{Join}
+use Rattle.planner.specs.declared.precedence.sides.Side.{Side}
+use Rattle.planner.specs.declared.precedence.sides.Side.TheVariants as side
 use Rattle.planner.specs.Gates.{edges_of, gate_of, gates_upto, key_at}
 
 -- each cell of a join has a gate whose number has 32 bits

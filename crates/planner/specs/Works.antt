@@ -6,8 +6,8 @@ use Rattle.cluster_types.specs.Needed.{Cycled}
 use Rattle.cluster_types.specs.Tables.{Targets}
 use Rattle.planner.specs.Cycling.{Marks}
 use Rattle.planner.specs.Levels.{AreNeeds, marks_in, need_in}
-use Rattle.planner.specs.declared.steps.CellNeed.{CellNeed}
-use Rattle.planner.specs.declared.work.CellWork.{CellWork}
+use Rattle.planner.specs.declared.needed.steps.CellNeed.{CellNeed}
+use Rattle.planner.specs.declared.needed.work.CellWork.{CellWork}
 
 abbrev pub needs_of : CellWork → ℕ → ℕ → CellNeed
 needs_of work = need_in work.marks.nodes work.needs.items

@@ -20,8 +20,8 @@ use Rattle.live_run.specs.Reached.{Reaches, results_behind}
 use Rattle.live_run.proofs.Written.{adds_none}
 use Rattle.sim_core.specs.declared.beginning.HeadEnd.{HeadEnd}
 use Rattle.sim_core.specs.declared.beginning.HeadEnd.TheVariants as stop
-use Rattle.input_reading.specs.declared.cause.InputCause.{InputCause}
-use Rattle.input_reading.specs.declared.reading.Head.{Head}
+use Rattle.input_reading.specs.declared.input.cause.InputCause.{InputCause}
+use Rattle.input_reading.specs.declared.input.reading.Head.{Head}
 use Rattle.sim_core.specs.declared.status.Status.{Status}
 use Rattle.sim_core.specs.declared.status.Status.TheVariants.{Done, NoMemory, Usage, ReadFault, WriteFault, Refused, Unexpected, TooLarge, NotLawful}
 use Rattle.sim_core.specs.Answers.{MayAnswer}

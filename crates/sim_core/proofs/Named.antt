@@ -1,6 +1,6 @@
 -- Each of some lines that are named is.
 use Rattle.std.proofs.Common.{arith, ◌<◌, ℕ, zero, suc, List, [], ◌∷◌, length, get_or}
-use Rattle.input_reading.specs.declared.text.RunTextLine.{RunTextLine}
+use Rattle.input_reading.specs.declared.run.text.RunTextLine.{RunTextLine}
 use Rattle.input_reading.specs.Written.{AreNamed, IsNamed}
 
 pub named_at : (lines : List RunTextLine) → AreNamed lines → (i : ℕ) (d : RunTextLine) → i < length lines → IsNamed (get_or lines i d).what

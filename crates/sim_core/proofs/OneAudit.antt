@@ -5,7 +5,7 @@ use Rattle.cluster_types.specs.declared.cluster.Cluster.{Cluster}
 use Rattle.cluster_types.specs.declared.journal.Journal.{Journal}
 use Rattle.cluster_types.specs.declared.run.RunLine.{RunLine}
 use Rattle.cluster_types.specs.Valid.{IsValid}
-use Rattle.input_reading.specs.declared.trace.Trace.{Trace}
+use Rattle.input_reading.specs.declared.input.trace.Trace.{Trace}
 use Rattle.input_reading.proofs.OneReading.{not_both_of_a_trace, one_trace}
 use Rattle.input_reading.proofs.ValidTrace.{cluster_valid, run_named}
 use Rattle.input_reading.specs.Written.{IsNamed}

@@ -13,7 +13,7 @@ use Rattle.crm_print.proofs.NoSections.{statements-alone, whole_text}
 use Rattle.crm_print.specs.Again.{ReadsAs, has_short_lines}
 use Rattle.crm_print.specs.Text.{canonical_text}
 use Rattle.crm_print.proofs.ReadsAgain.{canonical-again, reads-again-commented}
-use Rattle.cluster_model.specs.declared.leaves.Leaves.{Leaves}
+use Rattle.cluster_model.specs.declared.expansion.leaves.Leaves.{Leaves}
 use Rattle.cluster_model.specs.Expansion.{expansion_of}
 use Rattle.cluster_model.specs.Resolution.{resolution_of}
 use Rattle.cluster_types.specs.declared.cluster.Cluster.{Cluster}
@@ -23,10 +23,10 @@ use Rattle.cluster_types.specs.Valid.{IsValid, KeepsLimits}
 use Rattle.faults.specs.declared.fault.Fault.{Fault}
 use Rattle.faults.specs.Reading.{faulting, ◌>>=◌}
 use Rattle.input_reading.specs.FirstJournal.{journal_of, status_of}
-use Rattle.input_reading.specs.declared.cause.InputCause.{InputCause}
-use Rattle.input_reading.specs.declared.cause.InputCause.TheVariants as cause
-use Rattle.input_reading.specs.declared.reading.Head.{Head}
-use Rattle.input_reading.specs.declared.reading.Input.{Input}
+use Rattle.input_reading.specs.declared.input.cause.InputCause.{InputCause}
+use Rattle.input_reading.specs.declared.input.cause.InputCause.TheVariants as cause
+use Rattle.input_reading.specs.declared.input.reading.Head.{Head}
+use Rattle.input_reading.specs.declared.input.reading.Input.{Input}
 use Rattle.sim_core.specs.Check.{check_text, counts_line, rules_in}
 use Rattle.input_reading.specs.Reading.{Reads, configuration_lines, configuration_of, following_lines, head_of, input_of, status_lines, with_cluster, with_results}
 use Rattle.input_reading.proofs.ValidInput.{IsStepped, cluster_valid, passed, passed_on, results_keep_head, stepped}

@@ -1,7 +1,7 @@
 -- What `check` writes is read again (rule of this project).
 use Rattle.std.specs.Prelude.{◌≡◌, ℕ, List}
 use Rattle.crm_print.specs.Again.{forms_of}
-use Rattle.input_reading.specs.declared.reading.Input.{Input}
+use Rattle.input_reading.specs.declared.input.reading.Input.{Input}
 use Rattle.sim_core.specs.Check.{check_text}
 use Rattle.input_reading.specs.Reading.{Reads}
 

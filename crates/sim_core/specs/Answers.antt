@@ -6,7 +6,7 @@ use Rattle.sim_core.specs.declared.status.Status.TheVariants.{Done, NoMemory, Us
 use Rattle.sim_core.specs.declared.words.Command.{Command}
 use Rattle.cluster_types.specs.Safety.{IsSafeRun}
 use Rattle.live_run.specs.Courses.{answers_of}
-use Rattle.input_reading.specs.declared.reading.Head.{Head}
+use Rattle.input_reading.specs.declared.input.reading.Head.{Head}
 use Rattle.sim_core.specs.Live.{SaysLive}
 use Rattle.input_reading.specs.Reading.{most_bytes}
 use Rattle.sim_core.specs.Replay.{IsBegun, coming_behind}

@@ -8,7 +8,7 @@ use Rattle.cluster_types.specs.declared.journal.Journal.{Journal}
 use Rattle.cluster_types.specs.declared.run.RunLine.{RunLine}
 use Rattle.cluster_types.specs.Runs.{Standing, due, Runs, IsCutRun, IsWholeRun}
 use Rattle.cluster_types.specs.Texts.{run_line}
-use Rattle.input_reading.specs.declared.text.RunTextLine.{RunTextLine}
+use Rattle.input_reading.specs.declared.run.text.RunTextLine.{RunTextLine}
 use Rattle.sim_core.specs.declared.ended.Ended.{Ended}
 use Rattle.sim_core.specs.declared.ended.Ended.TheVariants as ended
 use Rattle.sim_core.specs.declared.verdict.Clause.{Clause}

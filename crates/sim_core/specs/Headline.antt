@@ -14,7 +14,7 @@ use Rattle.cluster_types.specs.Runs.{IsWholeRun}
 use Rattle.cluster_types.specs.Safety.{IsSafeRun}
 use Rattle.cluster_types.specs.Tables.{targets_of}
 use Rattle.cluster_types.specs.Valid.{IsValid}
-use Rattle.input_reading.specs.declared.reading.Head.{Head}
+use Rattle.input_reading.specs.declared.input.reading.Head.{Head}
 use Rattle.live_run.specs.Courses.{answers_of}
 use Rattle.live_run.specs.Ends.{run_text}
 use Rattle.sim_core.specs.Replay.{IsBegun, coming_behind}

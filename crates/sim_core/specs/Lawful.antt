@@ -13,7 +13,7 @@ use Rattle.cluster_types.specs.declared.run.RunLine.TheVariants as line
 use Rattle.cluster_types.specs.Runs.{Standing, due, Runs, IsCutRun, IsWholeRun}
 use Rattle.cluster_types.specs.Texts.{run_line}
 use Rattle.crm_lex.specs.Names.{is_name}
-use Rattle.input_reading.specs.declared.text.RunTextLine.{RunTextLine}
+use Rattle.input_reading.specs.declared.run.text.RunTextLine.{RunTextLine}
 use Rattle.sim_core.specs.declared.verdict.Clause.{Clause}
 use Rattle.sim_core.specs.declared.verdict.Clause.TheVariants as clause
 use Rattle.sim_core.specs.declared.verdict.Verdict.{Verdict}

@@ -1,7 +1,7 @@
 -- What is written by a word that reads an input: what the word says of it, or the fault of the input.
 use Rattle.std.specs.Prelude.{◌≡◌, ℕ, List}
-use Rattle.input_reading.specs.declared.cause.InputCause.{InputCause}
-use Rattle.input_reading.specs.declared.reading.Input.{Input}
+use Rattle.input_reading.specs.declared.input.cause.InputCause.{InputCause}
+use Rattle.input_reading.specs.declared.input.reading.Input.{Input}
 use Rattle.sim_core.specs.declared.status.Status.{Status}
 use Rattle.sim_core.specs.declared.status.Status.TheVariants.{Done, Refused}
 use Rattle.input_reading.specs.Causes.{refusal_text}

@@ -10,9 +10,9 @@ use Rattle.cluster_types.specs.Journals.{moment_of}
 use Rattle.live_run.specs.Coming.{Coming, coming}
 use Rattle.live_run.specs.Heads as heads
 use Rattle.live_run.specs.Ends.{IsBoundedText, IsCutText, IsRefusedText, IsWholeText}
-use Rattle.input_reading.specs.declared.cause.InputCause.{InputCause}
-use Rattle.input_reading.specs.declared.cause.InputCause.TheVariants as cause
-use Rattle.input_reading.specs.declared.reading.Head.{Head}
+use Rattle.input_reading.specs.declared.input.cause.InputCause.{InputCause}
+use Rattle.input_reading.specs.declared.input.cause.InputCause.TheVariants as cause
+use Rattle.input_reading.specs.declared.input.reading.Head.{Head}
 use Rattle.sim_core.specs.declared.status.Status.{Status}
 use Rattle.sim_core.specs.declared.status.Status.TheVariants.{Done, Refused, TooLarge, Unexpected}
 use Rattle.input_reading.specs.Causes.{refusal_text}

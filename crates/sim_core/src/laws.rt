@@ -3,7 +3,7 @@
 ghost use Rattle.std.specs.Prelude.{◌≡◌, ℕ, List, true};
 ghost use Rattle.crm_print.specs.Again.{has_short_lines};
 ghost use Rattle.input_reading.specs.Reading.{Reads};
-ghost use Rattle.input_reading.specs.declared.reading.Input.{Input as InputOf};
+ghost use Rattle.input_reading.specs.declared.input.reading.Input.{Input as InputOf};
 ghost use Rattle.sim_core.specs.Again.{IsReadAgain};
 ghost use Rattle.sim_core.specs.Check.{check_text};
 ghost use Rattle.sim_core.specs.Headline.{IsTextOfOneSafeRun};

@@ -1,5 +1,5 @@
 use Rattle.std.proofs.Common.{◌≡◌, sym, subst}
-use Rattle.input_reading.specs.declared.text.RunTextLine.{RunTextLine}
+use Rattle.input_reading.specs.declared.run.text.RunTextLine.{RunTextLine}
 use Rattle.input_reading.specs.Written.{IsNamed}
 use Rattle.sim_core.proofs.Named.{named_at}
 use Rattle.sim_core.proofs.text.add_lines.Goals as goal
