@@ -16,7 +16,7 @@ use std::alloc::Global;
 
 /// An expression as far as it was read.
 #[derive(Drop)]
-pub(crate) struct Expression {
+pub struct Expression {
     /// Whether the tests are joined by `and`, and not by `or`, where there are two or more.
     pub joined: Option<bool>,
     pub tests: Listed<Test>,
@@ -26,7 +26,7 @@ pub(crate) struct Expression {
 
 /// How a moment is tested.
 #[derive(Clone, Copy)]
-pub(crate) enum DateTest {
+pub enum DateTest {
     Lt,
     Gt,
     In,
