@@ -7,13 +7,13 @@ use crate::said::Said;
 
 /// The place of a result line.
 #[derive(Clone, Copy)]
-pub(crate) struct Place {
+pub struct Place {
     /// The moment, in seconds.
-    pub(crate) moment: u64,
+    pub moment: u64,
     /// How many result lines came before it.
-    pub(crate) before: u32,
+    pub before: u32,
     /// The number of its first physical line, counted from 1.
-    pub(crate) line: u64,
+    pub line: u64,
 }
 
 impl Place {
