@@ -4,7 +4,7 @@ use Rattle.std.specs.Fmt.{decimal}
 use Rattle.std.proofs.lemmas.Fmt.{length-decimal-le}
 use Rattle.std.proofs.lemmas.Nat.{mod_below}
 use Rattle.std.specs.List.{flat_map, range_with_len}
-use Rattle.cases.specs.Case.{case_text, colocation_line, group_line, kind_word, lines, location_line, lost_node, monitor_words, node_line, online_line, order_line, primitive_line, results_text, resources_text, rules_text, separation_line, status_text}
+use Rattle.cases.specs.Case.{case_text, colocation_line, group_line, kind_word, lines, location_line, lost_node, monitor_words, case_node_line, online_line, order_line, primitive_line, results_text, resources_text, rules_text, separation_line, status_text}
 use Rattle.cases.specs.Draws.{draw, state_after}
 
 short_number : (n : ℕ) → n < 10000 → length (decimal n) ≤ 4
@@ -38,7 +38,7 @@ short_if : (b : Bool) (x y : List ℕ) (most : ℕ) → length x ≤ most → le
 short_if true x y most first second = first
 short_if false x y most first second = second
 
-short_node : (i : ℕ) → i < 1000 → length (node_line i) ≤ 100
+short_node : (i : ℕ) → i < 1000 → length (case_node_line i) ≤ 100
 short_node i low = let d = short_number i (omega (arith, low)) in simp length-append (omega (arith, d))
 
 short_online : (i : ℕ) → i < 1000 → length (online_line i) ≤ 100
@@ -96,7 +96,7 @@ module _ (number : ℕ) where
 
   short_resources : length (resources_text number) ≤ 48000
   short_resources =
-      let a = short_lines node_line 1 61 (omega arith) (λ i below. short_node i (omega (arith, below))) in
+      let a = short_lines case_node_line 1 61 (omega arith) (λ i below. short_node i (omega (arith, below))) in
       let b = short_lines (primitive_line number) 1 401 (omega arith) (λ i below. short_primitive i (omega (arith, below))) in
       let c = short_lines group_line 1 21 (omega arith) (λ i below. short_group i (omega (arith, below))) in
       simp length-append (omega (arith, a, b, c))

@@ -7,8 +7,8 @@ use Rattle.cases.specs.Draws.{draw}
 unfoldable pub lines : (ℕ → List ℕ) → ℕ → ℕ → List ℕ
 lines line first below = flat_map line (range_with_len first (below - first))
 
-abbrev pub node_line : ℕ → List ℕ
-node_line i = concat (codes "node n" ∷ decimal i ∷ codes "\n" ∷ [])
+abbrev pub case_node_line : ℕ → List ℕ
+case_node_line i = concat (codes "node n" ∷ decimal i ∷ codes "\n" ∷ [])
 
 -- five members each
 abbrev pub group_line : ℕ → List ℕ
@@ -78,7 +78,7 @@ module _ (number : ℕ) where
 
   -- 60 nodes, 400 primitives and 20 groups
   abbrev pub resources_text : List ℕ
-  resources_text = lines node_line 1 61 ++ lines primitive_line 1 401 ++ lines group_line 1 21
+  resources_text = lines case_node_line 1 61 ++ lines primitive_line 1 401 ++ lines group_line 1 21
 
   -- 300 locations, 100 colocations, 50 separations and 100 orders
   abbrev pub rules_text : List ℕ

@@ -8,7 +8,7 @@ use crate::Draws;
 use std::alloc::AllocError;
 
 fn push_node(text: &mut String, number: u32) -> Result<(), AllocError>
-    ensures { OnOk result (string_bytes text.new ≡ string_bytes text.old ++ case.node_line number) }
+    ensures { OnOk result (string_bytes text.new ≡ string_bytes text.old ++ case.case_node_line number) }
 {
     writeln!(text, "node n{number}")
 }
@@ -16,7 +16,7 @@ fn push_node(text: &mut String, number: u32) -> Result<(), AllocError>
 /// `n1` to `n60`.
 #[tactic(auto, using(crate::proofs::LineLaws::lines_begin, crate::proofs::LineLaws::lines_more))]
 fn push_nodes(text: &mut String) -> Result<(), AllocError>
-    ensures { OnOk result (string_bytes text.new ≡ string_bytes text.old ++ case.lines case.node_line 1 61) }
+    ensures { OnOk result (string_bytes text.new ≡ string_bytes text.old ++ case.lines case.case_node_line 1 61) }
 {
     for number in 1..=60 {
         push_node(text, number)?;

@@ -6,7 +6,7 @@ use Rattle.faults.proofs.Steps.{unless-ok}
 use Rattle.cluster_types.specs.declared.cluster.Cluster.{Cluster}
 use Rattle.cluster_types.specs.declared.leaf.Leaf.{Leaf}
 use Rattle.cluster_types.specs.Decisions.{NeedsHaveNoLoop}
-use Rattle.cluster_types.specs.Numbers.{HasNoLoop}
+use Rattle.cluster_types.specs.Numbers.{StepsHaveNoLoop}
 use Rattle.loops.specs.FirstLoops.{has_need_loop, has_step_loop}
 use Rattle.loops.proofs.LoopTests.{need_of_none, no_needs, no_steps, step_of_none}
 use Rattle.crm_parse.specs.declared.statement.Statement.{Statement}
@@ -40,7 +40,7 @@ none-own d leaves statements c h = second-none _ _ (sym (split (own_cause d) (lo
 
 pub record IsLoopless (c : Cluster) : Type 0 where
   pub needs : NeedsHaveNoLoop c
-  pub steps : HasNoLoop c
+  pub steps : StepsHaveNoLoop c
 
 none-looped : (c : Cluster) → cause_of_loops c ≡ None → IsLoopless c
 none-looped c h = on (has_need_loop c) (has_step_loop c) refl refl h where

@@ -11,12 +11,12 @@ use Rattle.cluster_model.specs.Metas.{meta_of}
 use Rattle.cluster_model.specs.Tables.{lookup, table_of}
 
 -- what a group gives to a member; the members after the first are followers
-abbrev pub place_of : Meta → Option InClone → Bool → InGroup
-place_of meta clone follower = record { meta = meta; follower = follower; clone = clone }
+abbrev pub membership_of : Meta → Option InClone → Bool → InGroup
+membership_of meta clone follower = record { meta = meta; follower = follower; clone = clone }
 
 abbrev pub members_of : Meta → Option InClone → List (List ℕ) → List (List ℕ × InGroup)
 members_of meta clone [] = []
-members_of meta clone (first ∷ others) = (first, place_of meta clone false) ∷ map (λ other. (other, place_of meta clone true)) others
+members_of meta clone (first ∷ others) = (first, membership_of meta clone false) ∷ map (λ other. (other, membership_of meta clone true)) others
 
 -- the members of a group, each with what its group gives to it, where these are cloned
 abbrev pub grouped_in : List (List ℕ × InClone) → Form → List (List ℕ × InGroup)

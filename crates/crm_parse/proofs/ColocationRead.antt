@@ -4,7 +4,7 @@ use Rattle.crm_parse.specs.declared.form.Side.{Side}
 use Rattle.crm_parse.specs.declared.values.RoleName.{RoleName}
 use Rattle.crm_parse.specs.declared.words.RoleWord.TheVariants as role
 use Rattle.crm_parse.specs.Colocation.{no_attribute, side_at, side_in, side_of, side_started}
-use Rattle.crm_parse.specs.Reading.{Words, resource_of, supported, word_at}
+use Rattle.crm_parse.specs.Reading.{Words, resource_of, supported, next_word_in}
 use Rattle.crm_parse.specs.Texts.{cut_at}
 use Rattle.crm_parse.specs.Values.{role_of}
 use Rattle.faults.proofs.Steps.{bind-ok}
@@ -34,7 +34,7 @@ cut-case word (Some parts) s c e = let h : side_in parts.0 (role_of parts.1) ≡
 pub side_at-ok : (words : Words) (read : Side × Words) → side_at words ≡ Ok read → IsResource read.0.resource
 unfolding side_at
 side_at-ok words read e =
-    let (word, at, rest) = bind-ok (word_at words) _ read e in
+    let (word, at, rest) = bind-ok (next_word_in words) _ read e in
     let (fits, plain, after_fits) = bind-ok (no_attribute word.0) _ read rest in
     let (s, is_side, last) = bind-ok (side_of word.0) _ read after_fits in
     let whole : (s, word.1) ≡ read = cc in

@@ -11,8 +11,8 @@ use Rattle.crm_parse.specs.declared.form.OrderStep.{OrderStep}
 use Rattle.crm_parse.specs.declared.words.ActionWord.{ActionWord}
 use Rattle.crm_parse.specs.declared.words.KindWord.{KindWord}
 use Rattle.crm_parse.specs.declared.words.KindWord.TheVariants.{Mandatory, Optional, Serialize}
-use Rattle.crm_parse.specs.Order.{ends_steps, is_serialize, kind_at, order_at, step_of, step_parts, steps_at, symmetrical_as, symmetrical_in, with_step, with_steps, written_action}
-use Rattle.crm_parse.specs.Reading.{Words, end_at, name_at, prefixed_at, resource_of, word_at}
+use Rattle.crm_parse.specs.Order.{ends_steps, is_serialize_word, kind_at, order_at, read_order_step, step_parts, order_steps_at, symmetrical_as, symmetrical_in, with_step, with_steps, written_action}
+use Rattle.crm_parse.specs.Reading.{Words, end_at, name_at, prefixed_at, resource_of, next_word_in}
 use Rattle.faults.specs.Reading.{◌>>=◌}
 use Rattle.crm_parse.specs.Statements.{action_after, with_actions}
 use Rattle.crm_parse.specs.Values.{bool_of}
@@ -38,8 +38,8 @@ pub record IsOrder (order : OrderDraft) : Type 0 where
   pub others : AllByRecursion NamedDraft more
   pub fits : symmetrical_as order.kind order.symmetrical ≡ Ok order.symmetrical
 
-step_of-ok : (word : List ℕ) (step : StepDraft) → step_of word ≡ Ok step → NamedDraft step
-unfolding step_of
+step_of-ok : (word : List ℕ) (step : StepDraft) → read_order_step word ≡ Ok step → NamedDraft step
+unfolding read_order_step
 step_of-ok word step e =
     let (name, found, e1) = bind-ok (resource_of (step_parts word).0) _ step e in
     let (action, told, last) = bind-ok (written_action (step_parts word).1) _ step e1 in
@@ -55,8 +55,8 @@ record AddsStep (before after : List StepDraft) : Type 0 where
 with_step-ok : (before : List StepDraft) (words : Words) (read : List StepDraft × Words) → with_step before words ≡ Ok read → AddsStep before read.0
 unfolding with_step
 with_step-ok before words read e =
-    let (word, at, e1) = bind-ok (word_at words) _ read e in
-    let (step, is_step, last) = bind-ok (step_of word.0) _ read e1 in
+    let (word, at, e1) = bind-ok (next_word_in words) _ read e in
+    let (step, is_step, last) = bind-ok (read_order_step word.0) _ read e1 in
     let whole : (before ++ step ∷ [], word.1) ≡ read = cc in
     record { step = step; added = sym (ap (λ (r : List StepDraft × Words). r.0) whole); named = step_of-ok word.0 step is_step }
 
@@ -79,8 +79,8 @@ steps-case before word words true read d h e =
     let k : Ok (before, word ∷ words) ≡ Ok read = rw (d, with_steps) at e in
     steps-none before (word ∷ words) read (cc)
 steps-case before word words false read d h e =
-    let k : (step_of word >>= (λ step. with_steps (before ++ step ∷ []) words)) ≡ Ok read = rw (d, with_steps) at e in
-    let (step, is_step, rest) = bind-ok (step_of word) _ read k in
+    let k : (read_order_step word >>= (λ step. with_steps (before ++ step ∷ []) words)) ≡ Ok read = rw (d, with_steps) at e in
+    let (step, is_step, rest) = bind-ok (read_order_step word) _ read k in
     steps-more before read.0 step (step_of-ok word step is_step) (h step rest)
 
 with_steps-ok : (before : List StepDraft) (words : Words) (read : List StepDraft × Words) → with_steps before words ≡ Ok read → AddsSteps before read.0
@@ -109,8 +109,8 @@ two_added a b c f g h = record {
   others = h.named;
 }
 
-steps_at-ok : (words : Words) (read : List StepDraft × Words) → steps_at words ≡ Ok read → TwoSteps read.0
-unfolding steps_at
+steps_at-ok : (words : Words) (read : List StepDraft × Words) → order_steps_at words ≡ Ok read → TwoSteps read.0
+unfolding order_steps_at
 steps_at-ok words read e =
     let (a, first, e1) = bind-ok (with_step [] words) _ read e in
     let (b, second, e2) = bind-ok (with_step a.0 a.1) _ read e1 in
@@ -122,7 +122,7 @@ fits-case Serialize false read e = let s : false ≡ read = cc in subst (λ b. s
 fits-case Mandatory both read e = refl
 fits-case Optional both read e = refl
 
-fits-unsaid : (kind : KindWord) (read : Bool) → not (is_serialize kind) ≡ read → symmetrical_as kind read ≡ Ok read
+fits-unsaid : (kind : KindWord) (read : Bool) → not (is_serialize_word kind) ≡ read → symmetrical_as kind read ≡ Ok read
 fits-unsaid Serialize read e = subst (λ b. symmetrical_as Serialize b ≡ Ok b) e refl
 fits-unsaid Mandatory read e = refl
 fits-unsaid Optional read e = refl
@@ -139,7 +139,7 @@ unfolding order_at
 order_at-ok words order e =
     let (id, named, e1) = bind-ok (name_at words) _ order e in
     let (kind, is_kind, e2) = bind-ok (kind_at id.1) _ order e1 in
-    let (steps, are_steps, e3) = bind-ok (steps_at kind.1) _ order e2 in
+    let (steps, are_steps, e3) = bind-ok (order_steps_at kind.1) _ order e2 in
     let (both, is_both, e4) = bind-ok (symmetrical_in kind.0 (prefixed_at (codes "symmetrical=") steps.1).0) _ order e3 in
     let (end, at_end, last) = bind-ok (end_at (prefixed_at (codes "symmetrical=") steps.1).1) _ order e4 in
     let whole : record { id = id.0; kind = kind.0; steps = steps.0; symmetrical = both } ≡ order = cc in

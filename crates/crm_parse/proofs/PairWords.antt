@@ -7,7 +7,7 @@ use Rattle.crm_parse.specs.declared.pair.Kv.{Kv}
 use Rattle.crm_parse.specs.declared.place.Place.{Place}
 use Rattle.crm_parse.specs.Keys.{accepts, stray}
 use Rattle.crm_parse.specs.Pairs.{kv_of, pair_of}
-use Rattle.crm_parse.specs.Texts.{cut_at, place_of}
+use Rattle.crm_parse.specs.Texts.{cut_at, byte_place}
 use Rattle.crm_parse.proofs.Binds.{unless-ok}
 use Rattle.faults.proofs.Steps.{bind-ok}
 
@@ -63,7 +63,7 @@ pub record Joined (byte : ℕ) (word key value : List ℕ) : Type 0 where
 pub cut_at-some : (byte : ℕ) (word : List ℕ) (parts : List ℕ × List ℕ) → cut_at byte word ≡ Some parts → Joined byte word parts.0 parts.1
 cut_at-some byte word parts e =
     let test = λ (b : ℕ). b == byte in
-    let (place, found, same) = map-some (λ (place : ℕ). (take place word, drop (place + 1) word)) (place_of byte word) parts e in
+    let (place, found, same) = map-some (λ (place : ℕ). (take place word, drop (place + 1) word)) (byte_place byte word) parts e in
     let (there, below) = some-ok (ltb (position_or_len test word) (length word)) (position_or_len test word) place found in
     let c = cut_first test word (ltb-true _ _ below) in
     let at : c.at ≡ byte = eqb-true c.at byte c.passes in

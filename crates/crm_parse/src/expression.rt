@@ -2,7 +2,7 @@
 
 ghost use Rattle.std.specs.Prelude.{◌≡◌, ◌≤◌, ◌<◌, ◌++◌, ◌∷◌, [], length, not, IfOk};
 ghost use Rattle.faults.specs.Reading.{GivesInLine, Reads};
-ghost use Rattle.crm_parse.specs.Rules.{attribute_at, comparable, compare_of, comparison_of, date_at, date_test_at, date_test_of, date_test_text, dates_at, defined_at, end_at, end_text, expression_at, filled, is_number_kind, joined_alike, joiner_at, joiner_of, moment_of, noted_at, start_at, test_after, test_at, type_of, typed, untyped, with_all_tests, with_joined, with_test};
+ghost use Rattle.crm_parse.specs.Rules.{attribute_at, comparable, compare_of, comparison_of, date_at, date_test_at, date_test_of, date_test_text, dates_at, defined_at, end_date_at, end_text, expression_at, filled, is_number_kind, joined_alike, joiner_at, joiner_of, read_moment, noted_at, start_at, test_after, test_at, type_of, typed, untyped, with_all_tests, with_joined, with_test};
 
 use crate::ParseCause;
 use crate::accept::when;
@@ -194,7 +194,7 @@ fn date_test_text(test: DateTest) -> &'static [u8]
 }
 
 fn moment_of(text: &[u8]) -> Result<i64, ParseCause>
-    ensures { result ≡ moment_of text.now }
+    ensures { result ≡ read_moment text.now }
 {
     instant(text).ok_or(ParseCause::BadValue)
 }
@@ -246,13 +246,13 @@ fn end_text(word: &[u8]) -> Result<&[u8], ParseCause>
 }
 
 /// `end=DATE`
-#[tactic(auto, unfolding(crate::specs::Rules::end_at))]
+#[tactic(auto, unfolding(crate::specs::Rules::end_date_at))]
 fn end_at<'a>(
     alloc: Global,
     noted: &mut Listed<Name>,
     words: &'a [Name],
 ) -> Result<(i64, &'a [Name]), Stop>
-    ensures read { GivesInLine (λ read. (read.0, noted.new, read.1.now)) result (end_at noted.old words.now) }
+    ensures read { GivesInLine (λ read. (read.0, noted.new, read.1.now)) result (end_date_at noted.old words.now) }
     ensures shorter { IfOk result (λ read. length read.1.now ≤ length words.now) }
 {
     let (word, rest) = noted_at(alloc, noted, words)?;

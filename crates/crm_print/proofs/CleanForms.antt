@@ -7,9 +7,9 @@ use Rattle.crm_parse.specs.declared.owner.Owner.TheVariants as owner
 use Rattle.crm_parse.specs.declared.pair.Kv.{Kv}
 use Rattle.crm_parse.specs.declared.section.Sections.{Sections}
 use Rattle.crm_parse.specs.Groups.{clone_at, clone_owner, group_at, members_from}
-use Rattle.crm_parse.specs.Node.{node_at}
+use Rattle.crm_parse.specs.Node.{node_statement_at}
 use Rattle.crm_parse.specs.Primitive.{agent_of, colon_parts, primitive_at}
-use Rattle.crm_parse.specs.Reading.{Words, given_at, name_at, prefixed_at, word_at}
+use Rattle.crm_parse.specs.Reading.{Words, given_at, name_at, prefixed_at, next_word_in}
 use Rattle.crm_parse.specs.Sections.{sections_at}
 use Rattle.crm_print.specs.WordTexts.{clone_word}
 use Rattle.crm_print.proofs.Affixes.{colon_at-words, given_words, noted_words, prefixed_at-words}
@@ -50,8 +50,8 @@ clean-meta_words description params meta d p m =
     (all-append (section_words (codes "params") params) (section_words (codes "meta") meta)
     (clean-section_words (codes "params") params (clean-ascii (codes "params") refl) p) (clean-section_words (codes "meta") meta (clean-ascii (codes "meta") refl) m))
 
-pub node-clean : (words : Words) (read : Form) → AllClean words → node_at words ≡ Ok read → AllClean (written read)
-unfolding node_at
+pub node-clean : (words : Words) (read : Form) → AllClean words → node_statement_at words ≡ Ok read → AllClean (written read)
+unfolding node_statement_at
 node-clean words read w e =
     let (id, given, after_id) = bind-ok (given_at words) _ read e in
     let (name, named, after_name) = bind-ok (name_at id.1) _ read after_id in
@@ -84,7 +84,7 @@ pub primitive-clean : (words : Words) (read : Form) → AllClean words → primi
 unfolding primitive_at
 primitive-clean words read w e =
     let (id, named, after_id) = bind-ok (name_at words) _ read e in
-    let (word, is_there, after_word) = bind-ok (word_at id.1) _ read after_id in
+    let (word, is_there, after_word) = bind-ok (next_word_in id.1) _ read after_id in
     let (agent, is_one, after_agent) = bind-ok (agent_of word.0) _ read after_word in
     let description = prefixed_at label word.1 in
     let (sections, are, last) = bind-ok (sections_at owner.Primitive description.1) _ read after_agent in

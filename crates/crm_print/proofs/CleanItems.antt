@@ -17,7 +17,7 @@ use Rattle.crm_parse.specs.declared.words.KindWord.TheVariants.{Mandatory, Optio
 use Rattle.crm_parse.specs.declared.words.RoleWord.{RoleWord}
 use Rattle.crm_parse.specs.declared.words.RoleWord.TheVariants as role
 use Rattle.crm_parse.specs.Reading.{Words}
-use Rattle.crm_print.specs.WordTexts.{action_text, bool_text, kind_text, role_text, settings_text}
+use Rattle.crm_print.specs.WordTexts.{action_word_text, bool_text, kind_text, role_text, settings_text}
 use Rattle.crm_print.proofs.Affixes.{given_words, noted_words}
 use Rattle.crm_print.proofs.Clean.{AllClean, Clean, EachClean, clean-after, clean-ascii, clean-before, clean-behind, is_clean_byte}
 use Rattle.crm_print.proofs.CleanSections.{all-behind, all-front}
@@ -25,7 +25,7 @@ use Rattle.crm_print.proofs.CleanStatements.{settings-clean}
 use Rattle.crm_parse.proofs.PairLists.{pair_words}
 use Rattle.crm_parse.proofs.PairWords.{pair_word}
 use Rattle.crm_print.proofs.Written.{discovery_words, located_words, meta_words, operation_words, role_words, ruled_words, score_word, section_words, side_word, step_word, written}
-use Rattle.crm_print.specs.Items.{discovery, given, items_of, labelled, located, noted, noted_role, operation, pair, rule, section, side, step, with_colon, with_meta, word}
+use Rattle.crm_print.specs.Items.{discovery, given_id, items_of, labelled, location_items, noted, noted_role, operation_items, pair, rule, section, side, step, with_colon, with_meta, word}
 use Rattle.crm_print.specs.Quoting.{Item}
 
 pub each-append : (xs ys : List Item) → EachClean xs → EachClean ys → EachClean (xs ++ ys)
@@ -42,7 +42,7 @@ words-clean (first ∷ words) w = (word-clean first w.0, words-clean words w.1)
 pub colon-clean : (text : List ℕ) → Clean (text ++ codes ":") → AllClean (with_colon text)
 colon-clean text c = (clean-before text 58 [] (omega arith) c, (clean-ascii (codes ":") refl, tt))
 
-pub given-clean : (id : Option (List ℕ)) → AllClean (given_words id) → EachClean (given id)
+pub given-clean : (id : Option (List ℕ)) → AllClean (given_words id) → EachClean (given_id id)
 given-clean None w = tt
 given-clean (Some id) w = (colon-clean id w.0, tt)
 
@@ -61,13 +61,13 @@ pub section-clean : (name : List ℕ) (kvs : List Kv) → AllClean (section_word
 section-clean name [] w = tt
 section-clean name (kv ∷ kvs) w = (word-clean name w.0, pairs-clean (kv ∷ kvs) w.1)
 
-pub operation-clean : (op : Operation) → AllClean (operation_words op) → EachClean (operation op)
+pub operation-clean : (op : Operation) → AllClean (operation_words op) → EachClean (operation_items op)
 operation-clean op w = (word-clean (codes "op") w.0, (word-clean op.name w.1.0, pairs-clean op.pairs w.1.1))
 
-pub operations-clean : (ops : List Operation) → AllClean (flat_map operation_words ops) → EachClean (flat_map operation ops)
+pub operations-clean : (ops : List Operation) → AllClean (flat_map operation_words ops) → EachClean (flat_map operation_items ops)
 operations-clean [] w = tt
 operations-clean (op ∷ ops) w =
-    each-append (operation op) (flat_map operation ops) (operation-clean op (all-front (operation_words op) (flat_map operation_words ops) w))
+    each-append (operation_items op) (flat_map operation_items ops) (operation-clean op (all-front (operation_words op) (flat_map operation_words ops) w))
     (operations-clean ops (all-behind (operation_words op) (flat_map operation_words ops) w))
 
 -- two lists of words and of items, one behind the other
@@ -89,7 +89,7 @@ node_items-clean id name attributes utilization w =
     let x = section (codes "attributes") attributes in
     let y = section (codes "utilization") utilization in
     let two = both-clean a u x y (section-clean (codes "attributes") attributes) (section-clean (codes "utilization") utilization) in
-    (word-clean (codes "node") w.0, both-clean (given_words id) (name ∷ (a ++ u)) (given id) (word name ∷ (x ++ y)) (given-clean id) (λ v. (word-clean name v.0, two v.1)) w.1)
+    (word-clean (codes "node") w.0, both-clean (given_words id) (name ∷ (a ++ u)) (given_id id) (word name ∷ (x ++ y)) (given-clean id) (λ v. (word-clean name v.0, two v.1)) w.1)
 
 pub primitive_items-clean : (id agent : List ℕ) (description : Option (List ℕ)) (params meta utilization operations : List Kv) (ops : List Operation)
     → AllClean (written (form.Primitive id agent description params meta utilization operations ops))
@@ -100,7 +100,7 @@ primitive_items-clean id agent description params meta utilization operations op
     let p = flat_map operation_words ops in
     let x = section (codes "utilization") utilization in
     let y = section (codes "operations") operations in
-    let z = flat_map operation ops in
+    let z = flat_map operation_items ops in
     let last = both-clean o p y z (section-clean (codes "operations") operations) (operations-clean ops) in
     let sections = both-clean u (o ++ p) x (y ++ z) (section-clean (codes "utilization") utilization) last in (
       word-clean (codes "primitive") w.0,
@@ -139,7 +139,7 @@ kind-clean Mandatory = clean-ascii (codes "Mandatory") refl
 kind-clean Optional = clean-ascii (codes "Optional") refl
 kind-clean Serialize = clean-ascii (codes "Serialize") refl
 
-action-clean : (action : ActionWord) → Clean (action_text action)
+action-clean : (action : ActionWord) → Clean (action_word_text action)
 action-clean Start = clean-ascii (codes "start") refl
 action-clean Stop = clean-ascii (codes "stop") refl
 action-clean Promote = clean-ascii (codes "promote") refl
@@ -159,10 +159,10 @@ discovery-clean false = tt
 
 -- what stands in a location before its score or its rules, and what stands there
 located-clean : (id resource : List ℕ) (role : Option RoleWord) (everywhere : Bool) (rest : Words) (items : List Item) → (AllClean rest → EachClean items)
-    → AllClean (located_words id resource role everywhere rest) → EachClean (located id resource role everywhere ++ items)
+    → AllClean (located_words id resource role everywhere rest) → EachClean (location_items id resource role everywhere ++ items)
 located-clean id resource role everywhere rest items f w =
     let last = all-behind (discovery_words everywhere) rest (all-behind (role_words (codes "role=") role) (discovery_words everywhere ++ rest) w.1.1) in
-    each-append (located id resource role everywhere) items (
+    each-append (location_items id resource role everywhere) items (
       word-clean (codes "location") (clean-ascii (codes "location") refl),
       (
         word-clean id w.0,
@@ -199,7 +199,7 @@ side-clean : (s : Side) → Clean (side_word s) → AllClean (side s)
 side-clean s c = side-case s.resource s.role c
 
 step-clean : (s : OrderStep) → Clean (step_word s) → AllClean (step s)
-step-clean s c = (clean-before s.resource 58 (action_text s.action) (omega arith) c, (clean-ascii (codes ":") refl, (action-clean s.action, tt)))
+step-clean s c = (clean-before s.resource 58 (action_word_text s.action) (omega arith) c, (clean-ascii (codes ":") refl, (action-clean s.action, tt)))
 
 steps-clean : (steps : List OrderStep) → AllClean (map step_word steps) → EachClean (map step steps)
 steps-clean [] w = tt
@@ -239,5 +239,5 @@ items-clean (form.Order id kind steps symmetrical) w = (
   ),
 )
 items-clean (form.Settings what set pairs) w =
-    (word-clean (settings_text what) (settings-clean what), both-clean (given_words set) (pair_words pairs) (given set) (map pair pairs) (given-clean set) (pairs-clean pairs) w.1)
+    (word-clean (settings_text what) (settings-clean what), both-clean (given_words set) (pair_words pairs) (given_id set) (map pair pairs) (given-clean set) (pairs-clean pairs) w.1)
 items-clean (form.Kept words) w = words-clean words w

@@ -12,7 +12,7 @@ use Rattle.crm_parse.specs.declared.words.RoleWord.{RoleWord}
 use Rattle.crm_parse.specs.declared.words.RoleWord.TheVariants as role
 use Rattle.crm_parse.specs.Keys.{when}
 use Rattle.crm_parse.specs.Location.{begins_rule, discovery_at, discovery_in, either_at, location_at, place_at, plain_at, resource_at, role_at, rule_at, rule_id_at, rule_role_at, rule_score_of, ruled_at, some_role, with_rule, with_rules}
-use Rattle.crm_parse.specs.Reading.{Words, name_at, prefixed_at, resource_of, some_name, word_at}
+use Rattle.crm_parse.specs.Reading.{Words, name_at, prefixed_at, resource_of, some_name, next_word_in}
 use Rattle.crm_parse.specs.Rules.{expression_at}
 use Rattle.crm_print.proofs.Affixes.{noted_words, prefixed_at-words}
 use Rattle.crm_parse.proofs.Binds.{name_at-ok, some_name-ok, word_at-ok, ok-same}
@@ -47,7 +47,7 @@ either-case : (words : Words) (found : Option (List ℕ)) → (prefixed_at (code
 either-case words None f w = rw (either_at, f) (prefixed-left (codes "role=") words w)
 either-case words (Some text) f w = rw (either_at, f) (prefixed-left (codes "$role=") words w)
 
-word-left : (words : Words) (read : List ℕ × Words) → AllClean words → word_at words ≡ Ok read → AllClean (read.0 ∷ read.1)
+word-left : (words : Words) (read : List ℕ × Words) → AllClean words → next_word_in words ≡ Ok read → AllClean (read.0 ∷ read.1)
 word-left words read w e = subst AllClean (word_at-ok words read e) w
 
 -- what an id of a rule leaves
@@ -82,7 +82,7 @@ unfolding rule_at
 rule-clean words read w e =
     let (id, is_id, e1) = bind-ok (rule_id_at words) _ read e in
     let (r, is_role, e2) = bind-ok (rule_role_at id.1) _ read e1 in
-    let (word, at, e3) = bind-ok (word_at r.1) _ read e2 in
+    let (word, at, e3) = bind-ok (next_word_in r.1) _ read e2 in
     let (points, is_score, e4) = bind-ok (rule_score_of word.0) _ read e3 in
     let (got, is_read, last) = bind-ok (expression_at word.1) _ read e4 in
     let whole : (rule_of id.0 r.0 points got.0, got.1) ≡ read = ok-same _ read last in
@@ -111,7 +111,7 @@ record CleanMore (read : List RuleForm × Words) : Type 0 where
 with_rule-clean : (before : List RuleForm) (words : Words) (read : List RuleForm × Words) → CleanRules before → AllClean words → with_rule before words ≡ Ok read → CleanMore read
 unfolding with_rule
 with_rule-clean before words read b w e =
-    let (word, at, e1) = bind-ok (word_at words) _ read e in
+    let (word, at, e1) = bind-ok (next_word_in words) _ read e in
     let (taken, is_rule, e2) = bind-ok (when (is word.0 (codes "rule")) ExtraWord) _ read e1 in
     let (rule, is_one, last) = bind-ok (rule_at word.1) _ read e2 in
     let whole : (before ++ rule.0 ∷ [], rule.1) ≡ read = cc in
@@ -129,7 +129,7 @@ with_rules-clean (suc most) before (word ∷ words) all b w e =
 resource-left : (words : Words) (read : List ℕ × Words) → AllClean words → resource_at words ≡ Ok read → AllClean read.1
 unfolding resource_at
 resource-left words read w e =
-    let (word, at, e1) = bind-ok (word_at words) _ read e in
+    let (word, at, e1) = bind-ok (next_word_in words) _ read e in
     let (name, is_one, last) = bind-ok (resource_of word.0) _ read e1 in
     let whole : (name, word.1) ≡ read = cc in
     subst (λ (r : List ℕ × Words). AllClean r.1) whole (word-left words word w at).1

@@ -7,7 +7,7 @@ use Rattle.std.proofs.lemmas.Bool.{not-false}
 use Rattle.lemmas.proofs.Members.{all_append}
 use Rattle.crm_lex.specs.RawLines.{begins_comment, content, raw_lines}
 use Rattle.crm_lex.specs.LogicalLines.{all_byte_faults, byte_faults, content_length, fault_if, faults, is_control, joined_text, joint, line_text, with_joint}
-use Rattle.crm_lex.specs.Reading.{faults_from, first_fault, reads, row, rows_from}
+use Rattle.crm_lex.specs.Reading.{faults_from, first_lex_fault, reads, row, rows_from}
 use Rattle.faults.specs.Reading.{unless}
 use Rattle.crm_lex.specs.Words.{is_open, words_of}
 use Rattle.crm_lex.specs.declared.fault.LexCause.{LexCause}
@@ -116,7 +116,7 @@ clean_rows n (lines ∷ more) e =
 pub clean-reads : (text : List ℕ) (lines : List Line) → reads text ≡ Ok lines → AllByRecursion CleanLine lines
 clean-reads text lines e = split (faults_from 1 (raw_lines text)) refl e
   where
-    split : (faults : List (Fault LexCause)) → faults_from 1 (raw_lines text) ≡ faults → unless (first_fault faults) (rows_from 1 (raw_lines text)) ≡ Ok lines
+    split : (faults : List (Fault LexCause)) → faults_from 1 (raw_lines text) ≡ faults → unless (first_lex_fault faults) (rows_from 1 (raw_lines text)) ≡ Ok lines
         → AllByRecursion CleanLine lines
     split [] none e = let same : rows_from 1 (raw_lines text) ≡ lines = cc in subst (AllByRecursion CleanLine) same (clean_rows 1 (raw_lines text) none)
     split (fault ∷ faults) none e = cc

@@ -15,7 +15,7 @@ use Rattle.crm_parse.specs.declared.section.Sections.{Sections}
 use Rattle.crm_parse.specs.Operations.{operation_of}
 use Rattle.crm_parse.specs.Pairs.{with_pairs, with_section}
 use Rattle.crm_parse.specs.Reading.{Words}
-use Rattle.crm_parse.specs.Sections.{Part, cut, may_follow, no_sections, onto, place_of, section_of, sections_at, takes_name, with_cut, with_part, with_parts, with_words}
+use Rattle.crm_parse.specs.Sections.{Part, cut_into_sections, may_follow, no_sections, onto, place_of, section_of, sections_at, takes_name, with_cut, with_part, with_parts, with_words}
 use Rattle.crm_parse.proofs.Binds.{if-ok, unless-ok}
 use Rattle.faults.proofs.Steps.{bind-ok}
 use Rattle.crm_print.proofs.Clean.{AllClean, Clean, clean-ascii}
@@ -124,12 +124,12 @@ cut-onto : (section : Option SectionWord) (word : List ℕ) (parts : Words × Li
 cut-onto None word parts w c = ((w, c.0), c.1)
 cut-onto (Some section) word parts w c = (tt, (c.0, c.1))
 
-clean-cut : (owner : Owner) (is_name : Bool) (words : Words) → AllClean words → CleanCut (cut owner is_name words)
+clean-cut : (owner : Owner) (is_name : Bool) (words : Words) → AllClean words → CleanCut (cut_into_sections owner is_name words)
 clean-cut owner is_name [] w = (tt, tt)
-clean-cut owner true (word ∷ words) w = cut-onto None word (cut owner false words) w.0 (clean-cut owner false words w.1)
+clean-cut owner true (word ∷ words) w = cut-onto None word (cut_into_sections owner false words) w.0 (clean-cut owner false words w.1)
 clean-cut owner false (word ∷ words) w =
     let name = takes_name (section_of owner word) in
-    cut-onto (section_of owner word) word (cut owner name words) w.0 (clean-cut owner name words w.1)
+    cut-onto (section_of owner word) word (cut_into_sections owner name words) w.0 (clean-cut owner name words w.1)
 
 cut-sections : (owner : Owner) (parts : Words × List Part) (after : Sections) → CleanCut parts → with_cut owner no_sections parts ≡ Ok after → CleanSections after
 cut-sections owner ([], parts) after c e =
@@ -138,7 +138,7 @@ cut-sections owner (word ∷ words, parts) after c e = cc
 
 -- the sections of a statement
 pub clean-sections : (owner : Owner) (words : Words) (sections : Sections) → AllClean words → sections_at owner words ≡ Ok sections → CleanSections sections
-clean-sections owner words sections w e = cut-sections owner (cut owner false words) sections (clean-cut owner false words w) e
+clean-sections owner words sections w e = cut-sections owner (cut_into_sections owner false words) sections (clean-cut owner false words w) e
 
 -- as they are written
 pub clean-section_words : (name : List ℕ) (kvs : List Kv) → Clean name → AllClean (pair_words kvs) → AllClean (section_words name kvs)

@@ -23,13 +23,13 @@ use Rattle.crm_parse.specs.declared.words.SettingsWord.TheVariants.{Property, Rs
 use Rattle.crm_parse.specs.Colocation.{colocation_at, no_attribute, no_third, side_at}
 use Rattle.crm_parse.specs.Groups.{clone_at, group_at}
 use Rattle.crm_parse.specs.Location.{location_at}
-use Rattle.crm_parse.specs.Node.{node_at}
+use Rattle.crm_parse.specs.Node.{node_statement_at}
 use Rattle.crm_parse.specs.Order.{order_at}
 use Rattle.crm_parse.specs.Primitive.{primitive_at}
-use Rattle.crm_parse.specs.Reading.{Words, name_at, score_of, word_at}
+use Rattle.crm_parse.specs.Reading.{Words, name_at, score_of, next_word_in}
 use Rattle.crm_parse.specs.Settings.{settings_at}
 use Rattle.crm_parse.specs.Statements.{draft_after, draft_of, finished, keyword_of, order, whole, with_actions}
-use Rattle.crm_print.specs.WordTexts.{action_text, bool_text, kind_text, settings_text}
+use Rattle.crm_print.specs.WordTexts.{action_word_text, bool_text, kind_text, settings_text}
 use Rattle.crm_parse.proofs.Binds.{name_at-ok}
 use Rattle.faults.proofs.Steps.{bind-ok}
 use Rattle.crm_print.proofs.Clean.{AllClean, Clean, clean-append, clean-ascii, clean-name}
@@ -52,7 +52,7 @@ colocation-clean : (words : Words) (f : Form) → colocation_at words ≡ Ok f �
 unfolding colocation_at
 colocation-clean words f e =
     let (id, named, e1) = bind-ok (name_at words) _ f e in
-    let (word, at, e2) = bind-ok (word_at id.1) _ f e1 in
+    let (word, at, e2) = bind-ok (next_word_in id.1) _ f e1 in
     let (fits, plain, e3) = bind-ok (no_attribute word.0) _ f e2 in
     let (points, scored, e4) = bind-ok (score_of word.0) _ f e3 in
     let (dependent, first, e5) = bind-ok (side_at word.1) _ f e4 in
@@ -75,7 +75,7 @@ kind-clean Mandatory = clean-ascii (codes "Mandatory:") refl
 kind-clean Optional = clean-ascii (codes "Optional:") refl
 kind-clean Serialize = clean-ascii (codes "Serialize:") refl
 
-action-clean : (action : ActionWord) → Clean (58 ∷ action_text action)
+action-clean : (action : ActionWord) → Clean (58 ∷ action_word_text action)
 action-clean Start = clean-ascii (codes ":start") refl
 action-clean Stop = clean-ascii (codes ":stop") refl
 action-clean Promote = clean-ascii (codes ":promote") refl
@@ -88,7 +88,7 @@ symmetrical-clean false = clean-ascii (codes "symmetrical=false") refl
 steps-clean : (steps : List OrderStep) → AllByRecursion Named steps → AllClean (map step_word steps)
 steps-clean [] h = tt
 steps-clean (step ∷ steps) h =
-    (clean-append step.resource (58 ∷ action_text step.action) (clean-name step.resource h.0.named) (action-clean step.action), steps-clean steps h.1)
+    (clean-append step.resource (58 ∷ action_word_text step.action) (clean-name step.resource h.0.named) (action-clean step.action), steps-clean steps h.1)
 
 order-clean : (promotable : Words) (order : OrderDraft) → IsOrder order → AllClean (written (finished promotable (draft.Order order)))
 order-clean promotable order h =
@@ -128,7 +128,7 @@ order-draft promotable words d e =
 
 module _ (promotable : Words) (before : List DraftStatement) where
   keyword-clean : (begins : Keyword) (word : List ℕ) (words : Words) (d : Draft) → AllClean (word ∷ words) → draft_after begins before (word ∷ words) words ≡ Ok d → DraftClean promotable d
-  keyword-clean keyword.Node word words d w e = whole-clean promotable (node_at words) d (λ f h. node-clean words f w.1 h) e
+  keyword-clean keyword.Node word words d w e = whole-clean promotable (node_statement_at words) d (λ f h. node-clean words f w.1 h) e
   keyword-clean keyword.Primitive word words d w e = whole-clean promotable (primitive_at words) d (λ f h. primitive-clean words f w.1 h) e
   keyword-clean keyword.Group word words d w e = whole-clean promotable (group_at words) d (λ f h. group-clean words f w.1 h) e
   keyword-clean keyword.Clone word words d w e = whole-clean promotable (clone_at false words) d (λ f h. clone-clean false words f w.1 h) e

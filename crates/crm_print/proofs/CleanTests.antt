@@ -9,9 +9,9 @@ use Rattle.crm_parse.specs.declared.expression.DateTest.TheVariants as date
 use Rattle.crm_parse.specs.declared.expression.Expression.{Expression}
 use Rattle.crm_parse.specs.declared.fault.ParseCause.{ParseCause}
 use Rattle.crm_parse.specs.declared.fault.ParseCause.TheVariants.{BadValue}
-use Rattle.crm_parse.specs.Reading.{Words, word_at}
+use Rattle.crm_parse.specs.Reading.{Words, next_word_in}
 use Rattle.faults.specs.Reading.{◌>>=◌}
-use Rattle.crm_parse.specs.Rules.{attribute_at, comparable, comparison_of, date_at, date_test_at, date_test_of, date_test_text, dates_at, defined_at, end_at, end_text, expression_at, filled, joined_alike, joiner_at, moment_of, no_tests, noted_at, start_at, test_after, test_at, with_joined, with_test, with_tests}
+use Rattle.crm_parse.specs.Rules.{attribute_at, comparable, comparison_of, date_at, date_test_at, date_test_of, date_test_text, dates_at, defined_at, end_date_at, end_text, expression_at, filled, joined_alike, joiner_at, read_moment, no_tests, noted_at, start_at, test_after, test_at, with_joined, with_test, with_tests}
 use Rattle.crm_parse.specs.Texts.{after}
 use Rattle.crm_parse.proofs.Binds.{word_at-ok}
 use Rattle.faults.proofs.Steps.{bind-ok}
@@ -50,7 +50,7 @@ either false one other f g = g
 noted_at-keeps : Keeps noted_at
 unfolding noted_at
 noted_at-keeps noted words got n w e =
-    let (word, at, last) = bind-ok (word_at words) _ got e in
+    let (word, at, last) = bind-ok (next_word_in words) _ got e in
     let same : (word.0, noted ++ word.0 ∷ [], word.1) ≡ got = cc in
     let c : AllClean (word.0 ∷ word.1) = subst AllClean (word_at-ok words word at) w in
     subst Kept same (record { noted = all-append noted (word.0 ∷ []) n (c.0, tt); left = c.1 })
@@ -69,22 +69,22 @@ defined_at-keeps defined =
 
 date_at-keeps : Keeps date_at
 unfolding date_at
-date_at-keeps = seq noted_at _ noted_at-keeps (λ word. checked (moment_of word) _ (λ moment. done moment))
+date_at-keeps = seq noted_at _ noted_at-keeps (λ word. checked (read_moment word) _ (λ moment. done moment))
 
 start_at-keeps : Keeps start_at
 unfolding start_at
 start_at-keeps =
-    seq noted_at _ noted_at-keeps (λ word. checked (ok_or (after (codes "start=") word) BadValue) _ (λ text. checked (moment_of text) _ (λ moment. done moment)))
+    seq noted_at _ noted_at-keeps (λ word. checked (ok_or (after (codes "start=") word) BadValue) _ (λ text. checked (read_moment text) _ (λ moment. done moment)))
 
-end_at-keeps : Keeps end_at
-unfolding end_at
-end_at-keeps = seq noted_at _ noted_at-keeps (λ word. checked (end_text word) _ (λ text. checked (moment_of text) _ (λ moment. done moment)))
+end_at-keeps : Keeps end_date_at
+unfolding end_date_at
+end_at-keeps = seq noted_at _ noted_at-keeps (λ word. checked (end_text word) _ (λ text. checked (read_moment text) _ (λ moment. done moment)))
 
 dates_at-keeps : (test : DateTest) → Keeps (dates_at test)
 unfolding dates_at
 dates_at-keeps date.Lt = seq date_at _ date_at-keeps (λ moment. done (Before moment))
 dates_at-keeps date.Gt = seq date_at _ date_at-keeps (λ moment. done (After moment))
-dates_at-keeps date.In = seq start_at _ start_at-keeps (λ start. seq end_at _ end_at-keeps (λ end. done (Within start end)))
+dates_at-keeps date.In = seq start_at _ start_at-keeps (λ start. seq end_date_at _ end_at-keeps (λ end. done (Within start end)))
 
 date_test-clean : (test : DateTest) → Clean (date_test_text test)
 date_test-clean date.Lt = clean-ascii (codes "lt") refl
@@ -94,7 +94,7 @@ date_test-clean date.In = clean-ascii (codes "in") refl
 date_test_at-keeps : Keeps date_test_at
 unfolding date_test_at
 date_test_at-keeps noted words got n w e =
-    let (word, at, e1) = bind-ok (word_at words) _ got e in
+    let (word, at, e1) = bind-ok (next_word_in words) _ got e in
     let (test, is_test, rest) = bind-ok (date_test_of word.0) _ got e1 in
     let c : AllClean (word.0 ∷ word.1) = subst AllClean (word_at-ok words word at) w in
     dates_at-keeps test (noted ++ date_test_text test ∷ []) word.1 got (all-append noted (date_test_text test ∷ []) n (date_test-clean test, tt)) c.1 rest

@@ -3,7 +3,7 @@ use Rattle.std.proofs.Common.{◌≡◌, ℕ, ◌+◌, ◌<◌, Bool, true, fals
 use Rattle.std.specs.List.{flat_map, list_any, list_all}
 use Rattle.std.proofs.lemmas.Bool.{not-true, and_parts, or_parts}
 use Rattle.crm_lex.specs.RawLines.{begins_comment, ends_in_backslash, is_blank}
-use Rattle.crm_print.specs.Quoting.{Item, escaped, is_plain, item_text, line_of, needs_quotes, quoted, spaced}
+use Rattle.crm_print.specs.Quoting.{Item, escaped, is_plain, item_text, items_line, needs_quotes, quoted, spaced}
 use Rattle.crm_print.proofs.Clean.{AllClean, Clean, EachClean, clean-append, clean-ascii, clean-before, clean-behind, clean-nil, clean-one}
 use Rattle.crm_print.proofs.Lines.{is_filled}
 
@@ -44,7 +44,7 @@ clean_spaced [] h = clean-nil
 clean_spaced (item ∷ items) h =
     clean-append (spaced item) (flat_map spaced items) (clean-append (32 ∷ []) (item_text item) (clean-ascii (32 ∷ []) refl) (clean_item item h.0)) (clean_spaced items h.1)
 
-pub clean_line : (item : Item) (items : List Item) → EachClean (item ∷ items) → Clean (line_of (item ∷ items))
+pub clean_line : (item : Item) (items : List Item) → EachClean (item ∷ items) → Clean (items_line (item ∷ items))
 clean_line item items h = clean-append (item_text item) (flat_map spaced items) (clean_item item h.0) (clean_spaced items h.1)
 
 none_of : (a b c d : Bool) → (a || b || c || d) ≡ false → (a ≡ false) × (d ≡ false)
@@ -81,7 +81,7 @@ quoted_begins (b ∷ bs) rest = split (is_plain (b ∷ bs)) refl
     split true e = let f = plain_first b bs e in no_comment b (bs ++ rest) f.0 (needs_none b bs f.1).0
     split false e = refl
 
-pub line_begins : (item : Item) (items : List Item) → is_filled item ≡ true → begins_comment (line_of (item ∷ items)) ≡ false
+pub line_begins : (item : Item) (items : List Item) → is_filled item ≡ true → begins_comment (items_line (item ∷ items)) ≡ false
 line_begins [] items h = cc
 line_begins (part ∷ parts) items h =
     subst (λ text. begins_comment text ≡ false) (sym (append_assoc (quoted part) (item_text parts) (flat_map spaced items))) (quoted_begins part (item_text parts ++ flat_map spaced items))
@@ -116,8 +116,8 @@ item_closes [] h = cc
 item_closes (part ∷ []) h = subst Closes (sym (append-nil (quoted part))) (quoted_closes part)
 item_closes (part ∷ next ∷ parts) h = closes_behind (quoted part) (item_text (next ∷ parts)) (item_closes (next ∷ parts) refl)
 
-pub line_closes : (item : Item) (items : List Item) → list_all is_filled (item ∷ items) ≡ true → Closes (line_of (item ∷ items))
+pub line_closes : (item : Item) (items : List Item) → list_all is_filled (item ∷ items) ≡ true → Closes (items_line (item ∷ items))
 line_closes item [] h = subst Closes (sym (append-nil (item_text item))) (item_closes item (and_parts (is_filled item) true h).0)
 line_closes item (next ∷ items) h =
-    closes_behind (item_text item) (32 ∷ line_of (next ∷ items))
-    (closes_behind (32 ∷ []) (line_of (next ∷ items)) (line_closes next items (and_parts (is_filled item) (list_all is_filled (next ∷ items)) h).1))
+    closes_behind (item_text item) (32 ∷ items_line (next ∷ items))
+    (closes_behind (32 ∷ []) (items_line (next ∷ items)) (line_closes next items (and_parts (is_filled item) (list_all is_filled (next ∷ items)) h).1))

@@ -8,7 +8,7 @@ use Rattle.crm_parse.specs.declared.form.Side.{Side}
 use Rattle.crm_parse.specs.declared.words.RoleWord.{RoleWord}
 use Rattle.crm_parse.specs.declared.words.RoleWord.TheVariants as role
 use Rattle.crm_parse.specs.Colocation.{colocation_at, no_attribute, no_third, side_at, side_in, side_of, side_started}
-use Rattle.crm_parse.specs.Reading.{Words, name_at, score_of, word_at}
+use Rattle.crm_parse.specs.Reading.{Words, name_at, score_of, next_word_in}
 use Rattle.crm_parse.specs.Texts.{cut_at}
 use Rattle.crm_parse.proofs.Binds.{name_at-again, name_at-ok}
 use Rattle.faults.proofs.Steps.{bind-ok}
@@ -63,7 +63,7 @@ pub colocation-again : (words : Words) (f : Form) → colocation_at words ≡ Ok
 unfolding colocation_at
 colocation-again words f e =
     let (id, named, e1) = bind-ok (name_at words) _ f e in
-    let (word, at, e2) = bind-ok (word_at id.1) _ f e1 in
+    let (word, at, e2) = bind-ok (next_word_in id.1) _ f e1 in
     let (fits, plain, e3) = bind-ok (no_attribute word.0) _ f e2 in
     let (points, scored, e4) = bind-ok (score_of word.0) _ f e3 in
     let (dependent, first, e5) = bind-ok (side_at word.1) _ f e4 in

@@ -2,7 +2,7 @@
 use Rattle.std.proofs.Common.{◌≡◌, ℕ, List, [], ◌∷◌, ◌++◌, ap, sym, ◌∙◌, append-nil, append_assoc}
 use Rattle.std.proofs.lemmas.Grind.{flat_map-append}
 use Rattle.std.specs.List.{flat_map}
-use Rattle.crm_print.specs.Quoting.{Item, item_text, line_of, spaced}
+use Rattle.crm_print.specs.Quoting.{Item, item_text, items_line, spaced}
 
 pub spaced_append : (xs ys : List Item) → flat_map spaced (xs ++ ys) ≡ flat_map spaced xs ++ flat_map spaced ys
 spaced_append xs ys = flat_map-append spaced xs ys
@@ -12,7 +12,7 @@ spaced_last xs item = flat_map-append spaced xs (item ∷ []) ∙ ap (λ text. f
 
 -- a line of some items, before those of two lists
 pub line_before : (item : Item) (items first second : List Item)
-    → line_of (item ∷ items) ++ (flat_map spaced first ++ flat_map spaced second) ≡ line_of (item ∷ (items ++ (first ++ second)))
+    → items_line (item ∷ items) ++ (flat_map spaced first ++ flat_map spaced second) ≡ items_line (item ∷ (items ++ (first ++ second)))
 line_before item items first second =
     append_assoc (item_text item) (flat_map spaced items) (flat_map spaced first ++ flat_map spaced second)
     ∙ ap (λ text. item_text item ++ text) (ap (λ text. flat_map spaced items ++ text) (sym (spaced_append first second)) ∙ sym (spaced_append items (first ++ second)))

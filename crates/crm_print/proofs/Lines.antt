@@ -6,7 +6,7 @@ use Rattle.crm_lex.specs.Words.{has_pieces, is_gap, is_inside, is_open, letters,
 use Rattle.crm_lex.specs.declared.quoting.Piece.{Piece}
 use Rattle.crm_lex.specs.declared.quoting.Piece.TheVariants.{Gap, Mark, Letter}
 use Rattle.crm_lex.specs.declared.quoting.Place.TheVariants.{Outside}
-use Rattle.crm_print.specs.Quoting.{Item, escaped, is_plain, item_text, item_word, line_of, quoted, spaced}
+use Rattle.crm_print.specs.Quoting.{Item, escaped, is_plain, item_text, item_word, items_line, quoted, spaced}
 use Rattle.crm_print.proofs.WrittenText.{Spells, item-spells}
 
 -- an item has a part
@@ -78,13 +78,13 @@ word-alone text word s h =
     ∙ (ap spelled (append-nil s.spelled_by) ∙ (spelled_alone s.spelled_by s.gapless (some_pieces text word s h) ∙ ap (λ letters. letters ∷ []) s.letters_are))
 
 -- a line of items is read as their words
-pub line-words : (item : Item) (items : List Item) → list_all is_filled (item ∷ items) ≡ true → words_of (line_of (item ∷ items)) ≡ map item_word (item ∷ items)
+pub line-words : (item : Item) (items : List Item) → list_all is_filled (item ∷ items) ≡ true → words_of (items_line (item ∷ items)) ≡ map item_word (item ∷ items)
 line-words item [] h =
     let fits = and_parts (is_filled item) true h in
     word-alone (item_text item) (item_word item) (item-spells item) (some_item item fits.0)
 line-words item (next ∷ items) h =
     let fits = and_parts (is_filled item) (list_all is_filled (next ∷ items)) h in
-    word-before (item_text item) (item_word item) (line_of (next ∷ items)) (item-spells item) (some_item item fits.0)
+    word-before (item_text item) (item_word item) (items_line (next ∷ items)) (item-spells item) (some_item item fits.0)
     ∙ ap (λ words. item_word item ∷ words) (line-words next items fits.1)
 
 -- and no quote is open at its end
@@ -92,5 +92,5 @@ closed_behind : (items : List Item) → place_behind Outside (flat_map spaced it
 closed_behind [] = refl
 closed_behind (item ∷ items) = (item-spells item).place_is (flat_map spaced items) ∙ closed_behind items
 
-pub line-closed : (item : Item) (items : List Item) → is_open (line_of (item ∷ items)) ≡ false
+pub line-closed : (item : Item) (items : List Item) → is_open (items_line (item ∷ items)) ≡ false
 line-closed item items = ap is_inside ((item-spells item).place_is (flat_map spaced items) ∙ closed_behind items)

@@ -12,11 +12,11 @@ use Rattle.crm_parse.specs.declared.words.ActionWord.{ActionWord}
 use Rattle.crm_parse.specs.declared.words.ActionWord.TheVariants.{Start, Stop, Promote, Demote}
 use Rattle.crm_parse.specs.declared.words.KindWord.{KindWord}
 use Rattle.crm_parse.specs.declared.words.KindWord.TheVariants.{Mandatory, Optional, Serialize}
-use Rattle.crm_parse.specs.Order.{ends_steps, kind_at, kind_by_word, order_at, step_of, step_parts, steps_at, symmetrical_as, symmetrical_in, with_step, with_steps}
+use Rattle.crm_parse.specs.Order.{ends_steps, kind_at, kind_by_word, order_at, read_order_step, step_parts, order_steps_at, symmetrical_as, symmetrical_in, with_step, with_steps}
 use Rattle.crm_parse.specs.Reading.{Words, name_at}
 use Rattle.crm_parse.specs.Statements.{action_after, finished, with_actions}
 use Rattle.crm_parse.specs.Values.{action_of, bool_of}
-use Rattle.crm_print.specs.WordTexts.{action_text, bool_text, kind_text}
+use Rattle.crm_print.specs.WordTexts.{action_word_text, bool_text, kind_text}
 use Rattle.crm_parse.proofs.Binds.{name_at-again}
 use Rattle.crm_print.proofs.PairsAgain.{cut_at-again}
 use Rattle.crm_parse.proofs.PairWords.{has}
@@ -38,7 +38,7 @@ abbrev pub order_words : List ℕ → KindWord → List OrderStep → Bool → W
 order_words id kind steps symmetrical = id ∷ (kind_text kind ++ codes ":") ∷ (map step_word steps ++ (codes "symmetrical=" ++ bool_text symmetrical) ∷ [])
 
 -- an action is read again
-action_again : (action : ActionWord) → action_of (action_text action) ≡ Some action
+action_again : (action : ActionWord) → action_of (action_word_text action) ≡ Some action
 action_again Start = refl
 action_again Stop = refl
 action_again Promote = refl
@@ -54,21 +54,21 @@ bool_again : (b : Bool) → bool_of (bool_text b) ≡ Some b
 bool_again true = refl
 bool_again false = refl
 
-action_lacks : (action : ActionWord) → has 61 (58 ∷ action_text action) ≡ false
+action_lacks : (action : ActionWord) → has 61 (58 ∷ action_word_text action) ≡ false
 action_lacks Start = refl
 action_lacks Stop = refl
 action_lacks Promote = refl
 action_lacks Demote = refl
 
 -- a step is read again
-step_of-again : (step : OrderStep) → Named step → step_of (step_word step) ≡ Ok (done_step step)
-unfolding step_of
+step_of-again : (step : OrderStep) → Named step → read_order_step (step_word step) ≡ Ok (done_step step)
+unfolding read_order_step
 step_of-again step h =
-    rw (step_parts, cut_at-again 58 step.resource (action_text step.action) (name-lacks 58 step.resource refl h.named), h.read, action_again step.action) refl
+    rw (step_parts, cut_at-again 58 step.resource (action_word_text step.action) (name-lacks 58 step.resource refl h.named), h.read, action_again step.action) refl
 
 step_goes_on : (step : OrderStep) → Named step → ends_steps (step_word step) ≡ false
 step_goes_on step h =
-    rw (no_label 61 (codes "symmetrical") [] (step_word step) (has-append 61 step.resource (58 ∷ action_text step.action) (name-lacks 61 step.resource refl h.named) (action_lacks step.action))) refl
+    rw (no_label 61 (codes "symmetrical") [] (step_word step) (has-append 61 step.resource (58 ∷ action_word_text step.action) (name-lacks 61 step.resource refl h.named) (action_lacks step.action))) refl
 
 -- some steps are read again
 with_steps-again : (before : List StepDraft) (steps : List OrderStep) (both : Bool) → AllByRecursion Named steps
@@ -85,9 +85,9 @@ unfolding with_step
 with_step-again before step words h = rw (step_of-again step h) refl
 
 steps_at-again : (one two : OrderStep) (steps : List OrderStep) (both : Bool) → Named one → Named two → AllByRecursion Named steps
-    → steps_at (map step_word (one ∷ two ∷ steps) ++ (codes "symmetrical=" ++ bool_text both) ∷ [])
+    → order_steps_at (map step_word (one ∷ two ∷ steps) ++ (codes "symmetrical=" ++ bool_text both) ∷ [])
     ≡ Ok (map done_step (one ∷ two ∷ steps), (codes "symmetrical=" ++ bool_text both) ∷ [])
-unfolding steps_at
+unfolding order_steps_at
 steps_at-again one two steps both h k all =
     let end : Words = (codes "symmetrical=" ++ bool_text both) ∷ [] in
     rw (with_step-again [] one (step_word two ∷ (map step_word steps ++ end)) h, with_step-again (done_step one ∷ []) two (map step_word steps ++ end) k)

@@ -12,7 +12,7 @@ use Rattle.crm_parse.specs.declared.owner.SectionWord.TheVariants.{Meta, Operati
 use Rattle.crm_parse.specs.declared.pair.Kv.{Kv}
 use Rattle.crm_parse.specs.declared.pair.Operation.{Operation}
 use Rattle.crm_parse.specs.Primitive.{agent_of, colon_parts, is_agent, is_template, primitive_at, whole_agent}
-use Rattle.crm_parse.specs.Reading.{Words, name_at, prefixed_at, word_at}
+use Rattle.crm_parse.specs.Reading.{Words, name_at, prefixed_at, next_word_in}
 use Rattle.crm_parse.specs.Sections.{place_of, sections_at}
 use Rattle.crm_parse.proofs.Binds.{name_at-again, name_at-ok, test-ok, unless-ok}
 use Rattle.faults.proofs.Steps.{bind-ok}
@@ -59,7 +59,7 @@ pub primitive_at-again : (words : Words) (read : Form) â†’ primitive_at words â‰
 unfolding primitive_at
 primitive_at-again words read e =
     let (id, named, after_id) = bind-ok (name_at words) _ read e in
-    let (word, is_there, after_word) = bind-ok (word_at id.1) _ read after_id in
+    let (word, is_there, after_word) = bind-ok (next_word_in id.1) _ read after_id in
     let (agent, is_one, after_agent) = bind-ok (agent_of word.0) _ read after_word in
     let description = prefixed_at label word.1 in
     let (sections, are, last) = bind-ok (sections_at owner.Primitive description.1) _ read after_agent in

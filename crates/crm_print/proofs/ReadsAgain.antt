@@ -15,7 +15,7 @@ use Rattle.crm_print.proofs.LinesAgain.{statement_words, statements-again}
 use Rattle.crm_print.proofs.SomeWords.{HasWords, has_words, statements-words}
 use Rattle.crm_print.specs.Again.{IsComment, ReadsAs, forms_of, has_short_lines}
 use Rattle.crm_print.specs.Items.{items_of}
-use Rattle.crm_print.specs.Quoting.{Item, item_word, line_of}
+use Rattle.crm_print.specs.Quoting.{Item, item_word, items_line}
 use Rattle.crm_print.specs.Text.{canonical_line, canonical_text, ended_line}
 use Rattle.crm_print.proofs.CleanItems.{items-clean}
 use Rattle.crm_print.proofs.CleanReading.{clean-reads}
@@ -50,7 +50,7 @@ readable-one f c w s =
       are = are;
       filled = subst (λ items. list_all is_filled items ≡ true) are (filled-items f);
       clean = subst (AllByRecursion (λ item. AllByRecursion Clean item)) are (items-clean f c);
-      short = subst (λ items. nat_le (length (line_of items)) 1048576 ≡ true) are s;
+      short = subst (λ items. nat_le (length (items_line items)) 1048576 ≡ true) are s;
     }
 
 readable : (n : ℕ) (statements : List Statement) → AllByRecursion CleanStatement statements → AllByRecursion HasWords (numbered n (all_items statements))

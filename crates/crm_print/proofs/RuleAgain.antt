@@ -11,7 +11,7 @@ use Rattle.crm_parse.specs.declared.words.RoleWord.{RoleWord}
 use Rattle.crm_parse.specs.declared.words.RoleWord.TheVariants as role
 use Rattle.crm_parse.specs.Keys.{when}
 use Rattle.crm_parse.specs.Location.{all_of, either_at, rule_at, rule_id_at, rule_role_at, rule_score_of, with_rule, with_rules}
-use Rattle.crm_parse.specs.Reading.{Words, prefixed_at, rule_role_of, score_of, some_name, word_at}
+use Rattle.crm_parse.specs.Reading.{Words, prefixed_at, rule_role_of, score_of, some_name, next_word_in}
 use Rattle.crm_parse.specs.Rules.{expression_at, joiner_at}
 use Rattle.crm_parse.specs.Texts.{after}
 use Rattle.crm_print.specs.WordTexts.{role_text}
@@ -107,7 +107,7 @@ unfolding rule_at
 rule_at-ok words read e =
     let (id, is_id, e1) = bind-ok (rule_id_at words) _ read e in
     let (r, is_role, e2) = bind-ok (rule_role_at id.1) _ read e1 in
-    let (word, at, e3) = bind-ok (word_at r.1) _ read e2 in
+    let (word, at, e3) = bind-ok (next_word_in r.1) _ read e2 in
     let (points, is_score, e4) = bind-ok (rule_score_of word.0) _ read e3 in
     let (got, is_read, last) = bind-ok (expression_at word.1) _ read e4 in
     let whole : (rule_of id.0 r.0 points got.0, got.1) ≡ read = ok-same _ read last in
@@ -123,7 +123,7 @@ record AddsRule (before after : List RuleForm) : Type 0 where
 with_rule-ok : (before : List RuleForm) (words : Words) (read : List RuleForm × Words) → with_rule before words ≡ Ok read → AddsRule before read.0
 unfolding with_rule
 with_rule-ok before words read e =
-    let (word, at, e1) = bind-ok (word_at words) _ read e in
+    let (word, at, e1) = bind-ok (next_word_in words) _ read e in
     let (taken, is_rule, e2) = bind-ok (when (is word.0 (codes "rule")) ExtraWord) _ read e1 in
     let (rule, is_one, last) = bind-ok (rule_at word.1) _ read e2 in
     let whole : (before ++ rule.0 ∷ [], rule.1) ≡ read = cc in

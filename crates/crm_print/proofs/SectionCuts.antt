@@ -8,7 +8,7 @@ use Rattle.crm_parse.specs.declared.owner.SectionWord.TheVariants.{Op}
 use Rattle.crm_parse.specs.declared.pair.Kv.{Kv}
 use Rattle.crm_parse.specs.declared.pair.Operation.{Operation}
 use Rattle.crm_parse.specs.Reading.{Words}
-use Rattle.crm_parse.specs.Sections.{Part, cut, section_of, section_word, takes_name}
+use Rattle.crm_parse.specs.Sections.{Part, cut_into_sections, section_of, section_word, takes_name}
 use Rattle.crm_parse.proofs.OperationWords.{op_words}
 use Rattle.crm_parse.proofs.PairLists.{pair_words}
 use Rattle.crm_parse.proofs.PairWords.{pair_word}
@@ -39,21 +39,21 @@ module _ (owner : Owner) where
   unfolding section_of
   pair-no_section kv = rw (pair-no_section_word kv) refl
 
-  pub cut-pairs : (kvs : List Kv) (tail : Words) (parts : List Part) → cut owner false tail ≡ ([], parts) → cut owner false (pair_words kvs ++ tail) ≡ (pair_words kvs, parts)
+  pub cut-pairs : (kvs : List Kv) (tail : Words) (parts : List Part) → cut_into_sections owner false tail ≡ ([], parts) → cut_into_sections owner false (pair_words kvs ++ tail) ≡ (pair_words kvs, parts)
   cut-pairs [] tail parts e = e
   cut-pairs (kv ∷ kvs) tail parts e = rw (pair-no_section kv, cut-pairs kvs tail parts e) refl
 
   pub cut-section : (word : List ℕ) (section : SectionWord) (kvs : List Kv) (tail : Words) (parts : List Part) → section_of owner word ≡ Some section
-      → takes_name (Some section) ≡ false → cut owner false tail ≡ ([], parts) → cut owner false (section_words word kvs ++ tail) ≡ ([], section_parts section kvs ++ parts)
+      → takes_name (Some section) ≡ false → cut_into_sections owner false tail ≡ ([], parts) → cut_into_sections owner false (section_words word kvs ++ tail) ≡ ([], section_parts section kvs ++ parts)
   cut-section word section [] tail parts s n e = e
   cut-section word section (kv ∷ kvs) tail parts s n e = rw (s, n, cut-pairs (kv ∷ kvs) tail parts e) refl
 
   -- the last section
   pub cut-last : (word : List ℕ) (section : SectionWord) (kvs : List Kv) → section_of owner word ≡ Some section → takes_name (Some section) ≡ false
-      → cut owner false (section_words word kvs) ≡ ([], section_parts section kvs)
+      → cut_into_sections owner false (section_words word kvs) ≡ ([], section_parts section kvs)
   cut-last word section kvs s n = rw (append-nil (section_words word kvs), append-nil (section_parts section kvs)) at (cut-section word section kvs [] [] s n refl)
 
   -- operations, whose names are words of their own
-  pub cut-operations : (ops : List Operation) → section_of owner (codes "op") ≡ Some Op → cut owner false (flat_map operation_words ops) ≡ ([], map op_part ops)
+  pub cut-operations : (ops : List Operation) → section_of owner (codes "op") ≡ Some Op → cut_into_sections owner false (flat_map operation_words ops) ≡ ([], map op_part ops)
   cut-operations [] s = refl
   cut-operations (op ∷ ops) s = rw (s, cut-pairs op.pairs (flat_map operation_words ops) (map op_part ops) (cut-operations ops s)) refl

@@ -12,7 +12,7 @@ use Rattle.crm_parse.specs.declared.place.Place.{Place}
 use Rattle.crm_parse.specs.declared.section.Sections.{Sections}
 use Rattle.crm_parse.specs.Operations.{operation_of}
 use Rattle.crm_parse.specs.Reading.{Words}
-use Rattle.crm_parse.specs.Sections.{Part, cut, may_follow, no_sections, place_of, section_of, sections_at, takes_name, with_part, with_parts, with_words}
+use Rattle.crm_parse.specs.Sections.{Part, cut_into_sections, may_follow, no_sections, place_of, section_of, sections_at, takes_name, with_part, with_parts, with_words}
 use Rattle.faults.proofs.Steps.{bind-ok}
 use Rattle.crm_parse.proofs.OperationWords.{KeptOps, op_words, with_operations}
 use Rattle.crm_parse.proofs.PairLists.{Kept, pair_words}
@@ -97,8 +97,8 @@ pub record Follows (owner : Owner) : Type 0 where
   pub any : (s : Sections) (section : SectionWord) → may_follow owner s section ≡ true
 
 module _ (owner : Owner) (follows : Follows owner) where
-  cut-meta : (params meta : List Kv) (tail : Words) (parts : List Part) → cut owner false tail ≡ ([], parts)
-      → cut owner false (section_words (codes "params") params ++ (section_words (codes "meta") meta ++ tail))
+  cut-meta : (params meta : List Kv) (tail : Words) (parts : List Part) → cut_into_sections owner false tail ≡ ([], parts)
+      → cut_into_sections owner false (section_words (codes "params") params ++ (section_words (codes "meta") meta ++ tail))
       ≡ ([], section_parts Params params ++ (section_parts Meta meta ++ parts))
   cut-meta params meta tail parts e =
       cut-section owner (codes "params") Params params (section_words (codes "meta") meta ++ tail) (section_parts Meta meta ++ parts) follows.params refl

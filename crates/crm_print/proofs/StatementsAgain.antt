@@ -14,7 +14,7 @@ use Rattle.crm_parse.specs.declared.words.SettingsWord.TheVariants.{Property, Rs
 use Rattle.crm_parse.specs.Colocation.{colocation_at}
 use Rattle.crm_parse.specs.Groups.{clone_at, group_at}
 use Rattle.crm_parse.specs.Location.{location_at}
-use Rattle.crm_parse.specs.Node.{node_at}
+use Rattle.crm_parse.specs.Node.{node_statement_at}
 use Rattle.crm_parse.specs.Order.{order_at}
 use Rattle.crm_parse.specs.Primitive.{primitive_at}
 use Rattle.crm_parse.specs.Reading.{Words}
@@ -86,7 +86,7 @@ module _ (promotable : Words) (before after : List DraftStatement) (same : SameK
       → DraftAgain promotable after d
   unfolding draft_of keyword_of
   keyword-case keyword.Node word words d k e =
-      whole-case promotable after (node_at words) d (λ f h. whole-again node_at (codes "node") keyword.Node promotable after f refl (λ line ws. refl) (node_at-again words f h)) e
+      whole-case promotable after (node_statement_at words) d (λ f h. whole-again node_statement_at (codes "node") keyword.Node promotable after f refl (λ line ws. refl) (node_at-again words f h)) e
   keyword-case keyword.Primitive word words d k e =
       whole-case promotable after (primitive_at words) d (λ f h. whole-again primitive_at (codes "primitive") keyword.Primitive promotable after f refl (λ line ws. refl) (primitive_at-again words f h)) e
   keyword-case keyword.Group word words d k e =

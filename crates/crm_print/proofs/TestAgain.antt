@@ -9,9 +9,9 @@ use Rattle.crm_parse.specs.declared.expression.DateTest.{DateTest}
 use Rattle.crm_parse.specs.declared.expression.DateTest.TheVariants as date
 use Rattle.crm_parse.specs.declared.fault.ParseCause.{ParseCause}
 use Rattle.crm_parse.specs.declared.fault.ParseCause.TheVariants.{BadValue}
-use Rattle.crm_parse.specs.Reading.{Words, word_at}
+use Rattle.crm_parse.specs.Reading.{Words, next_word_in}
 use Rattle.faults.specs.Reading.{◌>>=◌}
-use Rattle.crm_parse.specs.Rules.{attribute_at, comparable, comparison_of, date_at, date_test_at, date_test_of, date_test_text, dates_at, defined_at, end_at, end_text, filled, moment_of, noted_at, start_at, test_after, test_at}
+use Rattle.crm_parse.specs.Rules.{attribute_at, comparable, comparison_of, date_at, date_test_at, date_test_of, date_test_text, dates_at, defined_at, end_date_at, end_text, filled, read_moment, noted_at, start_at, test_after, test_at}
 use Rattle.crm_parse.specs.Texts.{after}
 use Rattle.faults.proofs.Steps.{bind-ok}
 
@@ -75,7 +75,7 @@ either false one other f g = g
 noted_at-faithful : Faithful noted_at
 unfolding noted_at
 noted_at-faithful noted words got e =
-    let (word, at, last) = bind-ok (word_at words) _ got e in
+    let (word, at, last) = bind-ok (next_word_in words) _ got e in
     let same : (word.0, noted ++ word.0 ∷ [], word.1) ≡ got = cc in
     subst (Rereads noted_at noted) same (record { words = word.0 ∷ []; notes = refl; again = λ before more. refl })
 
@@ -93,22 +93,22 @@ defined_at-faithful defined =
 
 date_at-faithful : Faithful date_at
 unfolding date_at
-date_at-faithful = seq noted_at _ noted_at-faithful (λ word. checked (moment_of word) _ (λ moment. done moment))
+date_at-faithful = seq noted_at _ noted_at-faithful (λ word. checked (read_moment word) _ (λ moment. done moment))
 
 start_at-faithful : Faithful start_at
 unfolding start_at
 start_at-faithful =
-    seq noted_at _ noted_at-faithful (λ word. checked (ok_or (after (codes "start=") word) BadValue) _ (λ text. checked (moment_of text) _ (λ moment. done moment)))
+    seq noted_at _ noted_at-faithful (λ word. checked (ok_or (after (codes "start=") word) BadValue) _ (λ text. checked (read_moment text) _ (λ moment. done moment)))
 
-end_at-faithful : Faithful end_at
-unfolding end_at
-end_at-faithful = seq noted_at _ noted_at-faithful (λ word. checked (end_text word) _ (λ text. checked (moment_of text) _ (λ moment. done moment)))
+end_at-faithful : Faithful end_date_at
+unfolding end_date_at
+end_at-faithful = seq noted_at _ noted_at-faithful (λ word. checked (end_text word) _ (λ text. checked (read_moment text) _ (λ moment. done moment)))
 
 dates_at-faithful : (test : DateTest) → Faithful (dates_at test)
 unfolding dates_at
 dates_at-faithful date.Lt = seq date_at _ date_at-faithful (λ moment. done (Before moment))
 dates_at-faithful date.Gt = seq date_at _ date_at-faithful (λ moment. done (After moment))
-dates_at-faithful date.In = seq start_at _ start_at-faithful (λ start. seq end_at _ end_at-faithful (λ end. done (Within start end)))
+dates_at-faithful date.In = seq start_at _ start_at-faithful (λ start. seq end_date_at _ end_at-faithful (λ end. done (Within start end)))
 
 date_test-again : (test : DateTest) → date_test_of (date_test_text test) ≡ Ok test
 date_test-again date.Lt = refl
@@ -127,7 +127,7 @@ date_test-rereads test noted got h = record {
 date_test_at-faithful : Faithful date_test_at
 unfolding date_test_at
 date_test_at-faithful noted words got e =
-    let (word, at, e1) = bind-ok (word_at words) _ got e in
+    let (word, at, e1) = bind-ok (next_word_in words) _ got e in
     let (test, is_test, rest) = bind-ok (date_test_of word.0) _ got e1 in
     date_test-rereads test noted got (dates_at-faithful test (noted ++ date_test_text test ∷ []) word.1 got rest)
 

@@ -8,11 +8,11 @@ use Rattle.std.proofs.lemmas.Bool.{and_parts, or_parts}
 use Rattle.faults.specs.Reading.{unless}
 use Rattle.crm_lex.specs.RawLines.{begins_comment, content, ends_in_backslash, joined, physical_lines, raw_lines}
 use Rattle.crm_lex.specs.LogicalLines.{faults, is_control, line_text, with_joint}
-use Rattle.crm_lex.specs.Reading.{faults_from, first_fault, reads, row, rows_from}
+use Rattle.crm_lex.specs.Reading.{faults_from, first_lex_fault, reads, row, rows_from}
 use Rattle.crm_lex.specs.Words.{is_open, words_of}
 use Rattle.crm_lex.specs.declared.line.Line.{Line}
 use Rattle.crm_print.specs.Again.{IsComment}
-use Rattle.crm_print.specs.Quoting.{Item, item_word, line_of}
+use Rattle.crm_print.specs.Quoting.{Item, item_word, items_line}
 use Rattle.crm_print.proofs.Clean.{Clean, EachClean}
 use Rattle.crm_print.proofs.CleanTexts.{clean_line, line_begins, line_closes}
 use Rattle.crm_print.proofs.Lines.{is_filled, line-closed, line-words}
@@ -24,7 +24,7 @@ pub record Readable (items : List Item) : Type 0 where
   pub are : items ≡ first ∷ others
   pub filled : list_all is_filled (first ∷ others) ≡ true
   pub clean : EachClean (first ∷ others)
-  pub short : nat_le (length (line_of (first ∷ others))) 1048576 ≡ true
+  pub short : nat_le (length (items_line (first ∷ others))) 1048576 ≡ true
 
 -- a text that is one logical line without its line feed
 record Line1 (text : List ℕ) : Type 0 where
@@ -34,9 +34,9 @@ record Line1 (text : List ℕ) : Type 0 where
   closed : is_open text ≡ false
   short : nat_le (length text) 1048576 ≡ true
 
-line1 : (items : List Item) → Readable items → Line1 (line_of items)
+line1 : (items : List Item) → Readable items → Line1 (items_line items)
 line1 items r =
-    subst (λ items. Line1 (line_of items)) (sym r.are) (
+    subst (λ items. Line1 (items_line items)) (sym r.are) (
     record {
       clean = clean_line r.first r.others r.clean;
       begins = line_begins r.first r.others (and_parts (is_filled r.first) (list_all is_filled r.others) r.filled).0;
@@ -109,7 +109,7 @@ no_faults n text l =
 
 -- some lines with their line feeds
 abbrev pub ended_lines : List (List Item) → List ℕ
-ended_lines all = flat_map (λ items. line_of items ++ 10 ∷ []) all
+ended_lines all = flat_map (λ items. items_line items ++ 10 ∷ []) all
 
 -- the lines that are read, of which the first has this number
 abbrev pub numbered : ℕ → List (List Item) → List Line
@@ -118,7 +118,7 @@ numbered n (items ∷ more) = record { line = n; words = map item_word items } �
 
 -- the physical line of some items
 abbrev lone : List Item → List (List ℕ)
-lone items = (line_of items ++ 10 ∷ []) ∷ []
+lone items = (items_line items ++ 10 ∷ []) ∷ []
 
 -- the physical lines of the text, each of which is a logical line, before some text
 single_lines : (all : List (List Item)) (rest : List ℕ) → AllByRecursion Readable all
@@ -127,9 +127,9 @@ single_lines [] rest h = refl
 single_lines (items ∷ more) rest h =
     let l = line1 items h.0 in
     let later = single_lines more rest h.1 in
-    let text = append_assoc (line_of items ++ 10 ∷ []) (ended_lines more) rest ∙ append_assoc (line_of items) (10 ∷ []) (ended_lines more ++ rest) in
-    let fed = ap (joined false) (ap physical_lines text ∙ feed (line_of items) (ended_lines more ++ rest) l.clean.allowed) in
-    let same = content_is (line_of items) l.clean.allowed in
+    let text = append_assoc (items_line items ++ 10 ∷ []) (ended_lines more) rest ∙ append_assoc (items_line items) (10 ∷ []) (ended_lines more ++ rest) in
+    let fed = ap (joined false) (ap physical_lines text ∙ feed (items_line items) (ended_lines more ++ rest) l.clean.allowed) in
+    let same = content_is (items_line items) l.clean.allowed in
     let closes = l.closes in
     fed ∙ rw (same, closes) (ap (λ groups. lone items ∷ groups) later)
 
@@ -137,20 +137,20 @@ no_faults_before : (n : ℕ) (all : List (List Item)) (groups : List (List (List
     → ((m : ℕ) → faults_from m groups ≡ []) → faults_from n (map lone all ++ groups) ≡ []
 no_faults_before n [] groups h later = later n
 no_faults_before n (items ∷ more) groups h later =
-    let none = no_faults n (line_of items) (line1 items h.0) in
+    let none = no_faults n (items_line items) (line1 items h.0) in
     let rest = no_faults_before (n + 1) more groups h.1 later in
     rw (none, rest) refl
 
-row_of : (n : ℕ) (items : List Item) → Readable items → row n (words_of (line_of items)) ≡ record { line = n; words = map item_word items } ∷ []
+row_of : (n : ℕ) (items : List Item) → Readable items → row n (words_of (items_line items)) ≡ record { line = n; words = map item_word items } ∷ []
 row_of n items r =
-    subst (λ items. row n (words_of (line_of items)) ≡ record { line = n; words = map item_word items } ∷ []) (sym r.are)
+    subst (λ items. row n (words_of (items_line items)) ≡ record { line = n; words = map item_word items } ∷ []) (sym r.are)
     (ap (row n) (line-words r.first r.others r.filled))
 
 rows_before : (n : ℕ) (all : List (List Item)) (groups : List (List (List ℕ))) → AllByRecursion Readable all
     → ((m : ℕ) → rows_from m groups ≡ []) → rows_from n (map lone all ++ groups) ≡ numbered n all
 rows_before n [] groups h later = later n
 rows_before n (items ∷ more) groups h later =
-    let whole = text_is (line_of items) (line1 items h.0) in
+    let whole = text_is (items_line items) (line1 items h.0) in
     let one = row_of n items h.0 in
     let rest = rows_before (n + 1) more groups h.1 later in
     rw (whole, one, rest) refl
@@ -160,8 +160,8 @@ text-reads-before : (all : List (List Item)) (rest : List ℕ) → AllByRecursio
     → ((m : ℕ) → rows_from m (raw_lines rest) ≡ []) → reads (ended_lines all ++ rest) ≡ Ok (numbered 1 all)
 text-reads-before all rest h clean empty =
     let groups = map lone all ++ raw_lines rest in
-    ap (λ groups. unless (first_fault (faults_from 1 groups)) (rows_from 1 groups)) (single_lines all rest h)
-    ∙ (ap (λ faults. unless (first_fault faults) (rows_from 1 groups)) (no_faults_before 1 all (raw_lines rest) h clean)
+    ap (λ groups. unless (first_lex_fault (faults_from 1 groups)) (rows_from 1 groups)) (single_lines all rest h)
+    ∙ (ap (λ faults. unless (first_lex_fault faults) (rows_from 1 groups)) (no_faults_before 1 all (raw_lines rest) h clean)
     ∙ ap Ok (rows_before 1 all (raw_lines rest) h empty))
 
 -- a text of such lines alone

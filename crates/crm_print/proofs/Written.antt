@@ -13,7 +13,7 @@ use Rattle.crm_parse.specs.declared.rule_form.RuleForm.{RuleForm}
 use Rattle.crm_parse.specs.declared.words.RoleWord.{RoleWord}
 use Rattle.crm_parse.specs.declared.words.RoleWord.TheVariants as role
 use Rattle.crm_parse.specs.Reading.{Words}
-use Rattle.crm_print.specs.WordTexts.{action_text, bool_text, clone_word, kind_text, role_text, settings_text}
+use Rattle.crm_print.specs.WordTexts.{action_word_text, bool_text, clone_word, kind_text, role_text, settings_text}
 use Rattle.crm_print.proofs.Affixes.{given_words, noted_words}
 use Rattle.crm_parse.proofs.PairLists.{pair_words}
 
@@ -43,7 +43,7 @@ abbrev pub side_word : Side → List ℕ
 side_word s = elim s.role [ role.Started ↦ s.resource | role.Promoted ↦ s.resource ++ 58 ∷ codes "Promoted" ]
 
 abbrev pub step_word : OrderStep → List ℕ
-step_word s = s.resource ++ 58 ∷ action_text s.action
+step_word s = s.resource ++ 58 ∷ action_word_text s.action
 
 -- what stands behind the word `rule`
 abbrev pub rule_words : RuleForm → Words

@@ -20,13 +20,13 @@ use Rattle.crm_parse.specs.declared.words.RoleWord.TheVariants as role
 use Rattle.crm_parse.specs.declared.words.SettingsWord.{SettingsWord}
 use Rattle.crm_parse.specs.declared.words.SettingsWord.TheVariants.{Property, RscDefaults, OpDefaults}
 use Rattle.crm_parse.specs.Reading.{Words}
-use Rattle.crm_print.specs.WordTexts.{action_text, bool_text, kind_text, settings_text}
+use Rattle.crm_print.specs.WordTexts.{action_word_text, bool_text, kind_text, settings_text}
 use Rattle.crm_print.proofs.Affixes.{given_words, noted_words}
 use Rattle.crm_parse.proofs.OperationWords.{op_words}
 use Rattle.crm_parse.proofs.PairLists.{pair_words}
 use Rattle.crm_parse.proofs.PairWords.{pair_word}
 use Rattle.crm_print.proofs.Written.{discovery_words, located_words, meta_words, operation_words, role_words, ruled_words, score_word, section_words, side_word, step_word, written}
-use Rattle.crm_print.specs.Items.{discovery, given, in_role, items_of, labelled, located, noted, noted_role, operation, pair, parted, rule, section, side, step, with_colon, with_meta, word}
+use Rattle.crm_print.specs.Items.{discovery, given_id, in_role, items_of, labelled, location_items, noted, noted_role, operation_items, pair, parted, rule, section, side, step, with_colon, with_meta, word}
 use Rattle.crm_print.specs.Quoting.{Item, item_word}
 use Rattle.crm_print.specs.Text.{canonical_words}
 
@@ -66,7 +66,7 @@ words-spell : (words : Words) → Spells (map word words) words
 words-spell [] = nothing
 words-spell (first ∷ words) = cons (word first) (map word words) first words (word-is first) (words-spell words)
 
-given-spells : (id : Option (List ℕ)) → Spells (given id) (given_words id)
+given-spells : (id : Option (List ℕ)) → Spells (given_id id) (given_words id)
 given-spells None = nothing
 given-spells (Some id) = record { same = refl }
 
@@ -82,14 +82,14 @@ section-spells : (name : List ℕ) (kvs : List Kv) → Spells (section name kvs)
 section-spells name [] = nothing
 section-spells name (kv ∷ kvs) = cons (word name) (map pair (kv ∷ kvs)) name (pair_words (kv ∷ kvs)) (word-is name) (pairs-spell (kv ∷ kvs))
 
-operation-spells : (op : Operation) → Spells (operation op) (operation_words op)
+operation-spells : (op : Operation) → Spells (operation_items op) (operation_words op)
 operation-spells op =
     cons (word (codes "op")) (word op.name ∷ map pair op.pairs) (codes "op") (op_words op) refl
     (cons (word op.name) (map pair op.pairs) op.name (pair_words op.pairs) (word-is op.name) (pairs-spell op.pairs))
 
-operations-spell : (ops : List Operation) → Spells (flat_map operation ops) (flat_map operation_words ops)
+operations-spell : (ops : List Operation) → Spells (flat_map operation_items ops) (flat_map operation_words ops)
 operations-spell [] = nothing
-operations-spell (op ∷ ops) = join (operation op) (flat_map operation ops) (operation_words op) (flat_map operation_words ops) (operation-spells op) (operations-spell ops)
+operations-spell (op ∷ ops) = join (operation_items op) (flat_map operation_items ops) (operation_words op) (flat_map operation_words ops) (operation-spells op) (operations-spell ops)
 
 meta-spells : (description : Option (List ℕ)) (params meta : List Kv) → Spells (with_meta description params meta) (meta_words description params meta)
 meta-spells description params meta =
@@ -108,7 +108,7 @@ discovery-spells true = record { same = refl }
 discovery-spells false = nothing
 
 located-spells : (id resource : List ℕ) (r : Option RoleWord) (everywhere : Bool) (items : List Item) (words : Words) → Spells items words
-    → Spells (located id resource r everywhere ++ items) (codes "location" ∷ located_words id resource r everywhere words)
+    → Spells (location_items id resource r everywhere ++ items) (codes "location" ∷ located_words id resource r everywhere words)
 located-spells id resource r everywhere items words s =
     let rest = discovery everywhere ++ items in
     let last = join (noted_role (codes "role=") r) rest (role_words (codes "role=") r) (discovery_words everywhere ++ words) (role-spells (codes "role=") r)
@@ -138,7 +138,7 @@ side-case resource role.Promoted = refl
 side-is : (s : Side) → item_word (side s) ≡ side_word s
 side-is s = side-case s.resource s.role
 
-step-case : (resource : List ℕ) (action : ActionWord) → item_word (parted resource (action_text action)) ≡ step_word (record { resource = resource; action = action })
+step-case : (resource : List ℕ) (action : ActionWord) → item_word (parted resource (action_word_text action)) ≡ step_word (record { resource = resource; action = action })
 step-case resource Start = refl
 step-case resource Stop = refl
 step-case resource Promote = refl
@@ -171,11 +171,11 @@ form-spells (form.Node id name attributes utilization) =
     let u = section (codes "utilization") utilization in
     let tail = join a u _ _ (section-spells (codes "attributes") attributes) (section-spells (codes "utilization") utilization) in
     cons (word (codes "node")) _ (codes "node") _ refl
-    (join (given id) (word name ∷ (a ++ u)) _ _ (given-spells id) (cons (word name) (a ++ u) name _ (word-is name) tail))
+    (join (given_id id) (word name ∷ (a ++ u)) _ _ (given-spells id) (cons (word name) (a ++ u) name _ (word-is name) tail))
 form-spells (form.Primitive id agent description params meta utilization operations ops) =
     let u = section (codes "utilization") utilization in
     let o = section (codes "operations") operations in
-    let p = flat_map operation ops in
+    let p = flat_map operation_items ops in
     let last = join o p _ _ (section-spells (codes "operations") operations) (operations-spell ops) in
     let sections = join u (o ++ p) _ _ (section-spells (codes "utilization") utilization) last in
     cons (word (codes "primitive")) _ (codes "primitive") _ refl (cons (word id) _ id _ (word-is id) (cons (word agent) _ agent _ (word-is agent)
@@ -200,7 +200,7 @@ form-spells (form.Order id kind steps symmetrical) =
     cons (word (codes "order")) _ (codes "order") _ refl (cons (word id) _ id _ (word-is id) (cons (with_colon (kind_text kind)) _ (kind_text kind ++ codes ":") _ (kind-is kind)
     (join (map step steps) (labelled (codes "symmetrical=") (bool_text symmetrical) ∷ []) (map step_word steps) ((codes "symmetrical=" ++ bool_text symmetrical) ∷ []) (steps-spell steps) last)))
 form-spells (form.Settings what set pairs) =
-    cons (word (settings_text what)) _ (settings_text what) _ (settings-is what) (join (given set) (map pair pairs) _ _ (given-spells set) (pairs-spell pairs))
+    cons (word (settings_text what)) _ (settings_text what) _ (settings-is what) (join (given_id set) (map pair pairs) _ _ (given-spells set) (pairs-spell pairs))
 form-spells (form.Kept words) = words-spell words
 
 -- the canonical line of a statement is read as the words that it is written with

@@ -11,7 +11,7 @@ use Rattle.crm_parse.specs.declared.pair.Operation.{Operation}
 use Rattle.crm_parse.specs.declared.rule_form.RuleForm.{RuleForm}
 use Rattle.crm_parse.specs.declared.words.RoleWord.{RoleWord}
 use Rattle.crm_parse.specs.declared.words.RoleWord.TheVariants as role
-use Rattle.crm_print.specs.WordTexts.{action_text, bool_text, clone_word, kind_text, role_text, settings_text}
+use Rattle.crm_print.specs.WordTexts.{action_word_text, bool_text, clone_word, kind_text, role_text, settings_text}
 use Rattle.crm_print.specs.Quoting.{Item}
 
 -- a word alone
@@ -35,9 +35,9 @@ abbrev pub pair : Kv → Item
 pair kv = kv.key ∷ codes "=" ∷ kv.value ∷ []
 
 -- an id before its colon, where there is one
-abbrev pub given : Option (List ℕ) → List Item
-given None = []
-given (Some id) = with_colon id ∷ []
+abbrev pub given_id : Option (List ℕ) → List Item
+given_id None = []
+given_id (Some id) = with_colon id ∷ []
 
 -- a text behind its label, where there is one
 abbrev pub noted : List ℕ → Option (List ℕ) → List Item
@@ -55,8 +55,8 @@ section name [] = []
 section name (kv ∷ kvs) = word name ∷ map pair (kv ∷ kvs)
 
 -- an operation of a primitive
-abbrev pub operation : Operation → List Item
-operation op = word (codes "op") ∷ word op.name ∷ map pair op.pairs
+abbrev pub operation_items : Operation → List Item
+operation_items op = word (codes "op") ∷ word op.name ∷ map pair op.pairs
 
 -- what stands behind the members of a group or the child of a clone
 abbrev pub with_meta : Option (List ℕ) → List Kv → List Kv → List Item
@@ -73,7 +73,7 @@ side s = in_role s.resource s.role
 
 -- a resource of an order and its action
 abbrev pub step : OrderStep → Item
-step s = parted s.resource (action_text s.action)
+step s = parted s.resource (action_word_text s.action)
 
 -- a rule of a location
 abbrev pub rule : RuleForm → List Item
@@ -85,18 +85,18 @@ discovery true = word (codes "resource-discovery=always") ∷ []
 discovery false = []
 
 -- what a location says before its score or its rules
-abbrev pub located : List ℕ → List ℕ → Option RoleWord → Bool → List Item
-located id resource role everywhere =
+abbrev pub location_items : List ℕ → List ℕ → Option RoleWord → Bool → List Item
+location_items id resource role everywhere =
     word (codes "location") ∷ word id ∷ word resource ∷ (noted_role (codes "role=") role ++ discovery everywhere)
 
 -- the items of a statement
 abbrev pub items_of : Form → List Item
 items_of (form.Node id name attributes utilization) =
-    word (codes "node") ∷ (given id ++ word name ∷ (section (codes "attributes") attributes ++ section (codes "utilization") utilization))
+    word (codes "node") ∷ (given_id id ++ word name ∷ (section (codes "attributes") attributes ++ section (codes "utilization") utilization))
 items_of (form.Primitive id agent description params meta utilization operations ops) =
     word (codes "primitive") ∷ word id ∷ word agent ∷ (
     with_meta description params meta ++ (
-    section (codes "utilization") utilization ++ (section (codes "operations") operations ++ flat_map operation ops)
+    section (codes "utilization") utilization ++ (section (codes "operations") operations ++ flat_map operation_items ops)
     )
     )
 items_of (form.Group id members description params meta) =
@@ -104,11 +104,11 @@ items_of (form.Group id members description params meta) =
 items_of (form.Cloned id child ms description params meta) =
     word (clone_word ms) ∷ word id ∷ word child ∷ with_meta description params meta
 items_of (form.Location id resource role everywhere score node) =
-    located id resource role everywhere ++ with_colon (score_text score) ∷ word node ∷ []
-items_of (form.RuledLocation id resource role everywhere rules) = located id resource role everywhere ++ flat_map rule rules
+    location_items id resource role everywhere ++ with_colon (score_text score) ∷ word node ∷ []
+items_of (form.RuledLocation id resource role everywhere rules) = location_items id resource role everywhere ++ flat_map rule rules
 items_of (form.Colocation id score dependent primary) =
     word (codes "colocation") ∷ word id ∷ with_colon (score_text score) ∷ side dependent ∷ side primary ∷ []
 items_of (form.Order id kind steps symmetrical) =
     word (codes "order") ∷ word id ∷ with_colon (kind_text kind) ∷ (map step steps ++ labelled (codes "symmetrical=") (bool_text symmetrical) ∷ [])
-items_of (form.Settings what set pairs) = word (settings_text what) ∷ (given set ++ map pair pairs)
+items_of (form.Settings what set pairs) = word (settings_text what) ∷ (given_id set ++ map pair pairs)
 items_of (form.Kept words) = map word words

@@ -40,6 +40,6 @@ abbrev pub spaced : Item → List ℕ
 spaced item = 32 ∷ item_text item
 
 -- the line that has these items
-abbrev pub line_of : List Item → List ℕ
-line_of [] = []
-line_of (item ∷ items) = item_text item ++ flat_map spaced items
+abbrev pub items_line : List Item → List ℕ
+items_line [] = []
+items_line (item ∷ items) = item_text item ++ flat_map spaced items

@@ -5,7 +5,7 @@ use Rattle.crm_parse.specs.declared.form.Form.{Form}
 use Rattle.crm_parse.specs.declared.statement.Crm.{Crm}
 use Rattle.crm_parse.specs.declared.statement.Statement.{Statement}
 use Rattle.crm_print.specs.Items.{items_of}
-use Rattle.crm_print.specs.Quoting.{Item, item_word, line_of}
+use Rattle.crm_print.specs.Quoting.{Item, item_word, items_line}
 
 -- the words that the canonical line of a statement is read as
 abbrev pub canonical_words : Form → List (List ℕ)
@@ -13,7 +13,7 @@ canonical_words form = map item_word (items_of form)
 
 -- the canonical line of a statement
 abbrev pub canonical_line : Form → List ℕ
-canonical_line form = line_of (items_of form)
+canonical_line form = items_line (items_of form)
 
 -- the same with its line feed
 abbrev pub ended_line : Statement → List ℕ

@@ -18,11 +18,11 @@ kind_text Mandatory = codes "Mandatory"
 kind_text Optional = codes "Optional"
 kind_text Serialize = codes "Serialize"
 
-abbrev pub action_text : ActionWord → List ℕ
-action_text Start = codes "start"
-action_text Stop = codes "stop"
-action_text Promote = codes "promote"
-action_text Demote = codes "demote"
+abbrev pub action_word_text : ActionWord → List ℕ
+action_word_text Start = codes "start"
+action_word_text Stop = codes "stop"
+action_word_text Promote = codes "promote"
+action_word_text Demote = codes "demote"
 
 abbrev pub bool_text : Bool → List ℕ
 bool_text true = codes "true"

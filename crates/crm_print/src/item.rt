@@ -3,7 +3,7 @@
 ghost use Rattle.std.specs.Prelude.{◌≡◌, ◌++◌, ◌∷◌, [], OnOk, codes, map};
 ghost use Rattle.std.specs.List.{flat_map};
 ghost use Rattle.crm_print.specs.Quoting.{spaced};
-ghost use Rattle.crm_print.specs.Items.{given, labelled, noted, noted_role, operation, pair, section, with_colon, word};
+ghost use Rattle.crm_print.specs.Items.{given_id, labelled, noted, noted_role, operation_items, pair, section, with_colon, word};
 
 use crate::keyword::role_text;
 use crate::quoting::{push_byte, push_quoted};
@@ -71,7 +71,7 @@ pub(crate) fn push_section(text: &mut Vec<u8>, name: &[u8], pairs: &[Kv]) -> Res
 }
 
 fn push_operation(text: &mut Vec<u8>, op: &Operation) -> Result<(), NoMemory>
-    ensures { OnOk result (text.new.items ≡ text.old.items ++ flat_map spaced (operation op.now)) }
+    ensures { OnOk result (text.new.items ≡ text.old.items ++ flat_map spaced (operation_items op.now)) }
 {
     push_word(text, b"op")?;
     push_word(text, op.name.bytes())?;
@@ -79,7 +79,7 @@ fn push_operation(text: &mut Vec<u8>, op: &Operation) -> Result<(), NoMemory>
 }
 
 pub(crate) fn push_operations(text: &mut Vec<u8>, ops: &[Operation]) -> Result<(), NoMemory>
-    ensures { OnOk result (text.new.items ≡ text.old.items ++ flat_map spaced (flat_map operation ops.now)) }
+    ensures { OnOk result (text.new.items ≡ text.old.items ++ flat_map spaced (flat_map operation_items ops.now)) }
 {
     for op in ops {
         push_operation(text, op)?;
@@ -89,7 +89,7 @@ pub(crate) fn push_operations(text: &mut Vec<u8>, ops: &[Operation]) -> Result<(
 
 /// An id before its colon, where there is one.
 pub(crate) fn push_given(text: &mut Vec<u8>, id: &Option<Name>) -> Result<(), NoMemory>
-    ensures { OnOk result (text.new.items ≡ text.old.items ++ flat_map spaced (given id.now)) }
+    ensures { OnOk result (text.new.items ≡ text.old.items ++ flat_map spaced (given_id id.now)) }
 {
     match id {
         Some(id) => push_with_colon(text, id.bytes()),

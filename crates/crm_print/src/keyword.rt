@@ -1,7 +1,7 @@
 //! The words that are written for values of a few kinds.
 
 ghost use Rattle.std.specs.Prelude.{◌≡◌};
-ghost use Rattle.crm_print.specs.WordTexts.{action_text, bool_text, clone_word, kind_text, role_text, settings_text};
+ghost use Rattle.crm_print.specs.WordTexts.{action_word_text, bool_text, clone_word, kind_text, role_text, settings_text};
 
 use crm_parse::{ActionWord, KindWord, RoleWord, SettingsWord};
 
@@ -25,7 +25,7 @@ pub(crate) fn kind_text(kind: KindWord) -> &'static [u8]
 }
 
 pub(crate) fn action_text(action: ActionWord) -> &'static [u8]
-    ensures { result.now ≡ action_text action }
+    ensures { result.now ≡ action_word_text action }
 {
     match action {
         ActionWord::Start => b"start",

@@ -3,8 +3,8 @@
 ghost use Rattle.std.specs.Prelude.{◌≡◌, ◌++◌, ◌∷◌, [], OnOk, codes, map};
 ghost use Rattle.std.specs.List.{flat_map};
 ghost use Rattle.score.specs.ScoreText.{score_text};
-ghost use Rattle.crm_print.specs.Quoting.{spaced, line_of};
-ghost use Rattle.crm_print.specs.Items.{discovery, located, rule, with_colon};
+ghost use Rattle.crm_print.specs.Quoting.{spaced, items_line};
+ghost use Rattle.crm_print.specs.Items.{discovery, location_items, rule, with_colon};
 
 use crate::item::{push_noted, push_noted_role, push_with_colon, push_word, push_words};
 use crate::quoting::push_quoted;
@@ -59,7 +59,7 @@ pub(crate) fn push_located(
     role: Option<RoleWord>,
     discovery: bool,
 ) -> Result<(), NoMemory>
-    ensures { OnOk result (text.new.items ≡ text.old.items ++ line_of (located id.now resource.now role discovery)) }
+    ensures { OnOk result (text.new.items ≡ text.old.items ++ items_line (location_items id.now resource.now role discovery)) }
 {
     push_quoted(text, b"location")?;
     push_word(text, id.bytes())?;

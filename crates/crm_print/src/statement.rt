@@ -4,8 +4,8 @@ ghost use Rattle.std.specs.Prelude.{◌≡◌, ◌++◌, ◌∷◌, [], OnOk, co
 ghost use Rattle.std.specs.List.{flat_map};
 ghost use Rattle.crm_parse.specs.declared.form.Form.TheVariants as form;
 ghost use Rattle.crm_print.specs.WordTexts.{bool_text};
-ghost use Rattle.crm_print.specs.Quoting.{line_of, spaced};
-ghost use Rattle.crm_print.specs.Items.{labelled, operation, section, step, with_meta, word};
+ghost use Rattle.crm_print.specs.Quoting.{items_line, spaced};
+ghost use Rattle.crm_print.specs.Items.{labelled, operation_items, section, step, with_meta, word};
 ghost use Rattle.crm_print.specs.Text.{canonical_line};
 
 use crate::item::{
@@ -22,7 +22,7 @@ use score::Score;
 
 /// The first word of a line and two names.
 fn push_named(text: &mut Vec<u8>, keyword: &[u8], id: &Name, name: &Name) -> Result<(), NoMemory>
-    ensures { OnOk result (text.new.items ≡ text.old.items ++ line_of (word keyword.now ∷ word id.now ∷ word name.now ∷ [])) }
+    ensures { OnOk result (text.new.items ≡ text.old.items ++ items_line (word keyword.now ∷ word id.now ∷ word name.now ∷ [])) }
 {
     push_quoted(text, keyword)?;
     push_word(text, id.bytes())?;
@@ -71,7 +71,7 @@ fn push_works(
 ) -> Result<(), NoMemory>
     ensures { OnOk result (
         text.new.items ≡ text.old.items ++ flat_map spaced (
-        section (codes "utilization") utilization.now ++ (section (codes "operations") operations.now ++ flat_map operation ops.now))) }
+        section (codes "utilization") utilization.now ++ (section (codes "operations") operations.now ++ flat_map operation_items ops.now))) }
 {
     push_section(text, b"utilization", utilization)?;
     push_section(text, b"operations", operations)?;
@@ -79,7 +79,7 @@ fn push_works(
 }
 
 fn push_members(text: &mut Vec<u8>, id: &Name, members: &[Name]) -> Result<(), NoMemory>
-    ensures { OnOk result (text.new.items ≡ text.old.items ++ line_of (word (codes "group") ∷ word id.now ∷ map word members.now)) }
+    ensures { OnOk result (text.new.items ≡ text.old.items ++ items_line (word (codes "group") ∷ word id.now ∷ map word members.now)) }
 {
     push_quoted(text, b"group")?;
     push_word(text, id.bytes())?;

@@ -5,8 +5,8 @@ use Rattle.std.proofs.lemmas.List.{get_or-set_other, get_or-set_same, length-set
 use Rattle.std.proofs.lemmas.List.Sums.{fold-append}
 use Rattle.std.proofs.lemmas.Map.Keys.{apart_from_distinct}
 use Rattle.edges.specs.declared.edge.Edge.{Edge}
-use Rattle.edges.specs.Loops.{EndWithin, HasNoLoop}
-use Rattle.edges.specs.Clearing.{has, sources_of}
+use Rattle.edges.specs.Loops.{EndsWithin, HasNoLoop}
+use Rattle.edges.specs.Clearing.{is_in_list, sources_of}
 use Rattle.edges.specs.Longest.{AreCleared, IsBackward, above, longest}
 use Rattle.edges.proofs.Endings.{one_way}
 use Rattle.edges.proofs.Entering.{Enters, enters_of}
@@ -41,7 +41,7 @@ backward_of_free positions edges order free c = elim (cases_lt (length order) po
   | inr le ↦ c.all le
 ]
 
-module _ (positions : ℕ) (edges : List Edge) (ends : EndWithin positions edges) (free : HasNoLoop positions edges)
+module _ (positions : ℕ) (edges : List Edge) (ends : EndsWithin positions edges) (free : HasNoLoop positions edges)
     (order : List ℕ) (b : IsBackward positions edges order) where
   pub position_within : (j : ℕ) → j < positions → slice_index_or order j 0 < positions
   position_within j lt = let s = b.size in b.below (slice_index_or order j 0) (has_at order j (omega arith))
@@ -51,10 +51,10 @@ module _ (positions : ℕ) (edges : List Edge) (ends : EndWithin positions edges
       → e.after ≡ slice_index_or order k 0 → k < j
   stands_behind e c j k lj lk from to =
       let s = b.size in
-      let h : has (take j order) (slice_index_or order k 0) ≡ true = rw to at (b.back j e (omega arith) c from) in
+      let h : is_in_list (take j order) (slice_index_or order k 0) ≡ true = rw to at (b.back j e (omega arith) c from) in
       on h (cases_lt k j)
     where
-      on : has (take j order) (slice_index_or order k 0) ≡ true → (k < j) ⊎ (j ≤ k) → k < j
+      on : is_in_list (take j order) (slice_index_or order k 0) ≡ true → (k < j) ⊎ (j ≤ k) → k < j
       on h (inl lt) = lt
       on h (inr le) =
           let s = b.size in

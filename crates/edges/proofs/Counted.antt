@@ -5,12 +5,12 @@ use Rattle.std.proofs.lemmas.List.{get_or-set_same, get_or-set_other, length-tak
 use Rattle.std.proofs.lemmas.List.Elements.{Contains-get_or}
 use Rattle.std.proofs.lemmas.List.Sums.{count_by-le-length, count_by_more_yes, count_by_more_no}
 use Rattle.edges.specs.declared.edge.Edge.{Edge}
-use Rattle.edges.specs.Loops.{EndWithin}
+use Rattle.edges.specs.Loops.{EndsWithin}
 use Rattle.edges.specs.declared.side.Side.{Side}
 use Rattle.edges.specs.declared.side.Side.TheVariants.{Before, After}
 use Rattle.edges.specs.Rows.{edges_at, end_of}
 
-pub end_within : (side : Side) (positions : ℕ) (edges : List Edge) (i : ℕ) (d : Edge) → EndWithin positions edges → i < length edges
+pub end_within : (side : Side) (positions : ℕ) (edges : List Edge) (i : ℕ) (d : Edge) → EndsWithin positions edges → i < length edges
     → end_of side (slice_index_or edges i d) < positions
 end_within Before positions edges i d ends lt = (ends (slice_index_or edges i d) (Contains-get_or edges i d lt)).0
 end_within After positions edges i d ends lt = (ends (slice_index_or edges i d) (Contains-get_or edges i d lt)).1

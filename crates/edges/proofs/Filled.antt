@@ -7,7 +7,7 @@ use Rattle.std.proofs.lemmas.List.Sums.{count_by-le-length, length-filter, sum_b
 use Rattle.lemmas.proofs.Counts.{count-cons, count-is, count_agree, count_more}
 use Rattle.edges.specs.declared.edge.Edge.{Edge}
 use Rattle.edges.specs.declared.side.Side.TheVariants.{Before}
-use Rattle.edges.specs.Rows.{AreRows, edges_at, edges_below, targets_of, row_of}
+use Rattle.edges.specs.Rows.{AreRows, edges_at, edges_below, edge_targets_of, row_of}
 use Rattle.edges.proofs.Counted.{at_more, at_same}
 
 -- the edges below a position, and those from it, are those below the next
@@ -48,7 +48,7 @@ part_few : (edges : List Edge) (i x : ℕ) → edges_at Before (take i edges) x 
 part_few edges i x = let s = sum_by-take-drop (λ (e : Edge). cond (x == e.before) 1 0) edges i in omega arith
 
 -- as many as the edges from the position are the targets
-pub targets_many : (edges : List Edge) (x : ℕ) → length (targets_of edges x) ≡ edges_at Before edges x
+pub targets_many : (edges : List Edge) (x : ℕ) → length (edge_targets_of edges x) ≡ edges_at Before edges x
 targets_many edges x =
     length-map (filter (λ e. e.before == x) edges) (λ e. e.after) ∙ length-filter (λ e. e.before == x) edges
     ∙ count_agree (λ e. e.before == x) (λ e. x == e.before) (λ e. grind arith) edges
@@ -58,7 +58,7 @@ module _ (edges : List Edge) (i : ℕ) (d : Edge) (lt : i < length edges) where
   edge = slice_index_or edges i d
 
   targets_on : (x : ℕ) (b : Bool) → (edge.before == x) ≡ b
-      → targets_of (take (i + 1) edges) x ≡ targets_of (take i edges) x ++ cond b (edge.after ∷ []) []
+      → edge_targets_of (take (i + 1) edges) x ≡ edge_targets_of (take i edges) x ++ cond b (edge.after ∷ []) []
   targets_on x true e =
       ap (map (λ e. e.after)) (filter_more (λ e. e.before == x) edges i d lt ∙ ap (λ (b : Bool). filter (λ e. e.before == x) (take i edges) ++ cond b (edge ∷ []) []) e)
       ∙ map-append (λ e. e.after) (filter (λ e. e.before == x) (take i edges)) (edge ∷ [])
@@ -109,25 +109,25 @@ module _ (edges : List Edge) (i : ℕ) (d : Edge) (lt : i < length edges) where
           omega arith
 
       elsewhere : (x k : ℕ) → x < positions → x ≢ edge.before → k < edges_at Before (take (i + 1) edges) x
-          → slice_index_or (slice_set targets place y) (edges_below edges x + k) 0 ≡ slice_index_or (targets_of (take (i + 1) edges) x) k 0
+          → slice_index_or (slice_set targets place y) (edges_below edges x + k) 0 ≡ slice_index_or (edge_targets_of (take (i + 1) edges) x) k 0
       elsewhere x k low differ few =
           let m = at_same Before edges i d x lt differ in
-          let none : targets_of (take (i + 1) edges) x ≡ targets_of (take i edges) x
+          let none : edge_targets_of (take (i + 1) edges) x ≡ edge_targets_of (take i edges) x
           = targets_on x false (ne_eqb edge.before x (λ e. differ (sym e))) ∙ append-nil _ in
           get_or-set_other targets place (edges_below edges x + k) y 0 (other_place x k differ (omega arith))
           ∙ rows.filled x k low (omega arith) ∙ ap (λ (xs : List ℕ). slice_index_or xs k 0) (sym none)
 
       in_row : (k : ℕ) → k < edges_at Before (take (i + 1) edges) edge.before → (k ≡ edges_at Before (take i edges) edge.before) ⊎ (k ≢ edges_at Before (take i edges) edge.before)
           → slice_index_or (slice_set targets place y) (edges_below edges edge.before + k) 0
-          ≡ slice_index_or (targets_of (take (i + 1) edges) edge.before) k 0
+          ≡ slice_index_or (edge_targets_of (take (i + 1) edges) edge.before) k 0
       in_row k few (inl last) =
           let more = targets_on edge.before true (eq-eqb edge.before edge.before refl) in
           let many = targets_many (take i edges) edge.before in
-          let at : k ≡ length (targets_of (take i edges) edge.before) + 0 = omega arith in
-          let read = get_or-append-add (targets_of (take i edges) edge.before) (edge.after ∷ []) 0 0 in
+          let at : k ≡ length (edge_targets_of (take i edges) edge.before) + 0 = omega arith in
+          let read = get_or-append-add (edge_targets_of (take i edges) edge.before) (edge.after ∷ []) 0 0 in
           let set : slice_index_or (slice_set targets place y) (edges_below edges edge.before + k) 0 ≡ edge.after
           = rw last (get_or-set_same targets place y 0 place_within ∙ is) in
-          let got : slice_index_or (targets_of (take (i + 1) edges) edge.before) k 0 ≡ edge.after = rw (more, at) read in
+          let got : slice_index_or (edge_targets_of (take (i + 1) edges) edge.before) k 0 ≡ edge.after = rw (more, at) read in
           set ∙ sym got
       in_row k few (inr before) =
           let more = targets_on edge.before true (eq-eqb edge.before edge.before refl) in
@@ -136,10 +136,10 @@ module _ (edges : List Edge) (i : ℕ) (d : Edge) (lt : i < length edges) where
           let low : k < edges_at Before (take i edges) edge.before = omega arith in
           get_or-set_other targets place (edges_below edges edge.before + k) y 0 (λ e. before (omega arith))
           ∙ rows.filled edge.before k within low
-          ∙ sym (ap (λ (xs : List ℕ). slice_index_or xs k 0) more ∙ get_or_append_left (targets_of (take i edges) edge.before) (edge.after ∷ []) 0 k (omega arith))
+          ∙ sym (ap (λ (xs : List ℕ). slice_index_or xs k 0) more ∙ get_or_append_left (edge_targets_of (take i edges) edge.before) (edge.after ∷ []) 0 k (omega arith))
 
       filled_now : (x k : ℕ) → x < positions → (x ≡ edge.before) ⊎ (x ≢ edge.before) → k < edges_at Before (take (i + 1) edges) x
-          → slice_index_or (slice_set targets place y) (edges_below edges x + k) 0 ≡ slice_index_or (targets_of (take (i + 1) edges) x) k 0
+          → slice_index_or (slice_set targets place y) (edges_below edges x + k) 0 ≡ slice_index_or (edge_targets_of (take (i + 1) edges) x) k 0
       filled_now x k low (inl e) few =
           rw e (in_row k (rw e at few) (cases_eq k (edges_at Before (take i edges) edge.before)))
       filled_now x k low (inr differ) few = elsewhere x k low differ few
@@ -204,7 +204,7 @@ module _ (positions : ℕ) (edges : List Edge) (ends targets : List ℕ) (rows :
   pub row_room : slice_index_or ends x 0 ≤ length targets
   row_room = let e = row_end in let f = below_few edges (x + 1) in let r = rows.room in omega arith
 
-  row_long : length (row_of ends targets x) ≡ length (targets_of edges x)
+  row_long : length (row_of ends targets x) ≡ length (edge_targets_of edges x)
   row_long =
       let n = below_next edges x in
       let b = row_begin in
@@ -215,7 +215,7 @@ module _ (positions : ℕ) (edges : List Edge) (ends targets : List ℕ) (rows :
       let front = length-take (slice_index_or ends x 0 - slice_index_or (0 ∷ ends) x 0) (drop (slice_index_or (0 ∷ ends) x 0) targets) in
       omega arith
 
-  row_at : (k : ℕ) → k < length (row_of ends targets x) → slice_index_or (row_of ends targets x) k 0 ≡ slice_index_or (targets_of edges x) k 0
+  row_at : (k : ℕ) → k < length (row_of ends targets x) → slice_index_or (row_of ends targets x) k 0 ≡ slice_index_or (edge_targets_of edges x) k 0
   row_at k lt =
       let n = below_next edges x in
       let b = row_begin in
@@ -228,8 +228,8 @@ module _ (positions : ℕ) (edges : List Edge) (ends targets : List ℕ) (rows :
       ∙ rows.filled x k within (omega arith)
 
   -- the row of a position is where its edges lead
-  pub row_is : row_of ends targets x ≡ targets_of edges x
-  row_is = ext_get_or 0 (row_of ends targets x) (targets_of edges x) row_long row_at
+  pub row_is : row_of ends targets x ≡ edge_targets_of edges x
+  row_is = ext_get_or 0 (row_of ends targets x) (edge_targets_of edges x) row_long row_at
 
 -- no edge is filled in yet
 pub none_filled : (positions : ℕ) (edges : List Edge) (ends targets : List ℕ) → length ends ≡ positions → length targets ≡ length edges

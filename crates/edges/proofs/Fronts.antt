@@ -3,7 +3,7 @@ use Rattle.std.proofs.Common.{arith, ◌≡◌, ◌<◌, ◌≤◌, ◌+◌, ◌
 use Rattle.std.proofs.lemmas.Bool.{both_ways, cases_order}
 use Rattle.lemmas.proofs.Members.{contains_first, contains_shorter}
 use Rattle.edges.specs.declared.edge.Edge.{Edge}
-use Rattle.edges.specs.Loops.{ClosesFirst, EndWithin, HasLoop, HasNoLoop, IsFirstLoop, leads_within}
+use Rattle.edges.specs.Loops.{ClosesFirst, EndsWithin, HasLoop, HasNoLoop, IsFirstLoop, leads_within}
 use Rattle.edges.proofs.Booleans.{onward}
 use Rattle.edges.proofs.Endings.{one_way}
 use Rattle.edges.proofs.Leading.{Step, step_of, of_step}
@@ -16,7 +16,7 @@ pub some_edge : (positions : ℕ) (edges : List Edge) → HasLoop positions edge
 some_edge positions [] l = absurd (both_ways _ (none_without_edges positions l.at) l.leads)
 some_edge positions (e ∷ es) l = omega arith
 
-pub ends_front : (positions : ℕ) (edges : List Edge) → EndWithin positions edges → (n : ℕ) → EndWithin positions (take n edges)
+pub ends_front : (positions : ℕ) (edges : List Edge) → EndsWithin positions edges → (n : ℕ) → EndsWithin positions (take n edges)
 ends_front positions edges ends n e c = ends e (contains_first n edges e c)
 
 -- a list with all edges of another leads wherever that leads

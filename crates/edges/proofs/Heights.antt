@@ -7,8 +7,8 @@ use Rattle.std.proofs.lemmas.Map.Keys.{IsDistinct-cons}
 use Rattle.std.proofs.lemmas.Map.Steps.{length-le_from_distinct_below}
 use Rattle.lemmas.proofs.Counts.{count_one_more}
 use Rattle.edges.specs.declared.edge.Edge.{Edge}
-use Rattle.edges.specs.Loops.{EndWithin, HasNoLoop, Leads, direct, through, leads_within, RiseSomehow}
-use Rattle.edges.specs.Clearing.{has}
+use Rattle.edges.specs.Loops.{EndsWithin, HasNoLoop, Leads, direct, through, leads_within, RiseSomehow}
+use Rattle.edges.specs.Clearing.{is_in_list}
 use Rattle.edges.proofs.Endings.{begins_within}
 use Rattle.edges.proofs.Leading.{leads_directly, leads-from_computed, of_step}
 use Rattle.edges.proofs.Members.{none_all}
@@ -24,20 +24,20 @@ joined edges _ _ z (through e y c rest) next = through e z c (joined edges e.aft
 -- the way so far has met these, each of which leads to x
 record Met (positions : ℕ) (edges : List Edge) (seen : List ℕ) (x : ℕ) : Type 0 where
   pub distinct : IsDistinct ◌==◌ (x ∷ seen)
-  pub below : (y : ℕ) → has (x ∷ seen) y ≡ true → y < positions
-  pub led : (y : ℕ) → has seen y ≡ true → Leads edges y x
+  pub below : (y : ℕ) → is_in_list (x ∷ seen) y ≡ true → y < positions
+  pub led : (y : ℕ) → is_in_list seen y ≡ true → Leads edges y x
 
-module _ (positions : ℕ) (edges : List Edge) (ends : EndWithin positions edges) (free : HasNoLoop positions edges) where
+module _ (positions : ℕ) (edges : List Edge) (ends : EndsWithin positions edges) (free : HasNoLoop positions edges) where
   module _ (seen : List ℕ) (e : Edge) (c : Contains edges e) (m : Met positions edges seen e.before) where
-    led_on : (y : ℕ) (same : Bool) → (y == e.before) ≡ same → same || has seen y ≡ true → Leads edges y e.after
+    led_on : (y : ℕ) (same : Bool) → (y == e.before) ≡ same → same || is_in_list seen y ≡ true → Leads edges y e.after
     led_on y true at h = let back : y ≡ e.before = eqb-true y e.before at in rw back (direct e c)
     led_on y false at h = joined edges y e.before e.after (m.led y h) (direct e c)
 
-    new_on : (b : Bool) → has (e.before ∷ seen) e.after ≡ b → has (e.before ∷ seen) e.after ≡ false
+    new_on : (b : Bool) → is_in_list (e.before ∷ seen) e.after ≡ b → is_in_list (e.before ∷ seen) e.after ≡ false
     new_on true h = absurd (no_path positions edges ends free e.after (led_on e.after (e.after == e.before) refl h))
     new_on false h = h
 
-    below_on : (y : ℕ) (same : Bool) → (y == e.after) ≡ same → same || has (e.before ∷ seen) y ≡ true → y < positions
+    below_on : (y : ℕ) (same : Bool) → (y == e.after) ≡ same → same || is_in_list (e.before ∷ seen) y ≡ true → y < positions
     below_on y true at h = let back : y ≡ e.after = eqb-true y e.after at in rw back ((ends e c).1)
     below_on y false at h = m.below y h
 
@@ -45,7 +45,7 @@ module _ (positions : ℕ) (edges : List Edge) (ends : EndWithin positions edges
     met_more = record {
       distinct =
           IsDistinct-cons ◌==◌ e.after (e.before ∷ seen)
-          (none_all e.after (e.before ∷ seen) (new_on (has (e.before ∷ seen) e.after) refl)) m.distinct;
+          (none_all e.after (e.before ∷ seen) (new_on (is_in_list (e.before ∷ seen) e.after) refl)) m.distinct;
       below = λ y. below_on y (y == e.after) refl;
       led = λ y. led_on y (y == e.before) refl;
     }

@@ -5,7 +5,7 @@ use Rattle.std.proofs.Math.Nat.{le-max_left, le-max_right}
 use Rattle.std.proofs.lemmas.List.FromFn.{length-range_with_len}
 use Rattle.std.proofs.lemmas.List.Sums.{count_by-le-length}
 use Rattle.edges.specs.declared.edge.Edge.{Edge}
-use Rattle.edges.specs.Loops.{EndWithin, HasNoLoop, leads_within}
+use Rattle.edges.specs.Loops.{EndsWithin, HasNoLoop, leads_within}
 use Rattle.edges.specs.Clearing.{sources_of}
 use Rattle.edges.specs.Longest.{AreHeights, above, longest, longest_within}
 use Rattle.lemmas.proofs.Members.{at_head, head_or_rest, in_none, in_rest}
@@ -83,7 +83,7 @@ module _ (edges : List Edge) (g : ℕ → ℕ) (up : (e : Edge) → Contains edg
       let l = lower x s (enters_of edges x s c) in
       reached h are n s (omega arith))
 
-module _ (positions : ℕ) (edges : List Edge) (ends : EndWithin positions edges) (free : HasNoLoop positions edges) where
+module _ (positions : ℕ) (edges : List Edge) (ends : EndsWithin positions edges) (free : HasNoLoop positions edges) where
   bounded : (x : ℕ) → height positions edges ends free x ≤ positions
   bounded x =
       let c = count_by-le-length (λ y. leads_within positions edges y x) (range_with_len 0 positions) in
@@ -120,7 +120,7 @@ longest_bounded (suc n) edges x =
     (raised (longest_within n edges) n (λ s. longest_bounded n edges s) (sources_of edges x))
 
 -- no way leads past the last position
-pub longest_past : (positions : ℕ) (edges : List Edge) → EndWithin positions edges → (n x : ℕ) → positions ≤ x → longest_within n edges x ≡ 0
+pub longest_past : (positions : ℕ) (edges : List Edge) → EndsWithin positions edges → (n x : ℕ) → positions ≤ x → longest_within n edges x ≡ 0
 longest_past positions edges ends zero x le = refl
 longest_past positions edges ends (suc n) x le =
     ap (above (longest_within n edges)) (none (sources_of edges x) (enters_of edges x))

@@ -5,7 +5,7 @@ use Rattle.std.proofs.lemmas.Bool.{both_ways}
 use Rattle.std.proofs.lemmas.List.Folds.{Any-from_list_any, list_any_at}
 use Rattle.std.proofs.lemmas.List.FromFn.{length-range_with_len, get_or-range_with_len}
 use Rattle.edges.specs.declared.edge.Edge.{Edge}
-use Rattle.edges.specs.Loops.{EndWithin, HasLoop, HasNoLoop, Leads, direct, through, leads_within}
+use Rattle.edges.specs.Loops.{EndsWithin, HasLoop, HasNoLoop, Leads, direct, through, leads_within}
 use Rattle.edges.proofs.Endings.{begins_within, one_way}
 use Rattle.edges.proofs.Leading.{leads-from_computed}
 use Rattle.edges.proofs.Walks.{GoesOn, loop_of_set}
@@ -16,7 +16,7 @@ use Rattle.edges.proofs.Walks.{GoesOn, loop_of_set}
 data Toward (edges : List Edge) (x : ℕ) : ℕ → Type 0 where
   leads_there : (y : ℕ) → Leads edges y x → Toward edges x y
 
-module _ (positions : ℕ) (edges : List Edge) (ends : EndWithin positions edges) (x : ℕ) (led : Leads edges x x) where
+module _ (positions : ℕ) (edges : List Edge) (ends : EndsWithin positions edges) (x : ℕ) (led : Leads edges x x) where
   toward_within : (y : ℕ) → Toward edges x y → y < positions
   toward_within _ (leads_there y l) = begins_within positions edges ends y x l
 
@@ -33,7 +33,7 @@ module _ (positions : ℕ) (edges : List Edge) (ends : EndWithin positions edges
 pub path_of_loop : (positions : ℕ) (edges : List Edge) → (l : HasLoop positions edges) → Leads edges l.at l.at
 path_of_loop positions edges l = leads-from_computed positions edges l.at l.at l.leads
 
-pub no_path : (positions : ℕ) (edges : List Edge) → EndWithin positions edges → HasNoLoop positions edges → (x : ℕ) → Leads edges x x → ⊥
+pub no_path : (positions : ℕ) (edges : List Edge) → EndsWithin positions edges → HasNoLoop positions edges → (x : ℕ) → Leads edges x x → ⊥
 no_path positions edges ends none x led = one_way positions edges (loop_of_path positions edges ends x led) none
 
 pub none_of_no_path : (positions : ℕ) (edges : List Edge) → ((x : ℕ) → Leads edges x x → ⊥) → HasNoLoop positions edges
@@ -44,7 +44,7 @@ none_of_no_path positions edges none x = on (leads_within positions edges x x) r
 
 -- one of both
 
-within_of_loop : (positions : ℕ) (edges : List Edge) → EndWithin positions edges → (x : ℕ) → leads_within positions edges x x ≡ true
+within_of_loop : (positions : ℕ) (edges : List Edge) → EndsWithin positions edges → (x : ℕ) → leads_within positions edges x x ≡ true
     → x < positions
 within_of_loop positions edges ends x h = begins_within positions edges ends x x (leads-from_computed positions edges x x h)
 
@@ -52,7 +52,7 @@ found : (positions : ℕ) (edges : List Edge) → Any (λ x. leads_within positi
     → HasLoop positions edges
 found positions edges (k, x, lt, at, h) = record { at = x; leads = h }
 
-not_found : (positions : ℕ) (edges : List Edge) → EndWithin positions edges
+not_found : (positions : ℕ) (edges : List Edge) → EndsWithin positions edges
     → list_any (λ x. leads_within positions edges x x) (range_with_len 0 positions) ≡ false
     → HasNoLoop positions edges
 not_found positions edges ends none x = on (leads_within positions edges x x) refl where
@@ -65,7 +65,7 @@ not_found positions edges ends none x = on (leads_within positions edges x x) re
       (list_any_at (λ x. leads_within positions edges x x) (range_with_len 0 positions) x 0 (omega arith) (rw at h)))
   on false h = h
 
-pub loop_or_none : (positions : ℕ) (edges : List Edge) → EndWithin positions edges → HasLoop positions edges ⊎ HasNoLoop positions edges
+pub loop_or_none : (positions : ℕ) (edges : List Edge) → EndsWithin positions edges → HasLoop positions edges ⊎ HasNoLoop positions edges
 loop_or_none positions edges ends = on (list_any (λ x. leads_within positions edges x x) (range_with_len 0 positions)) refl where
   on : (b : Bool) → list_any (λ x. leads_within positions edges x x) (range_with_len 0 positions) ≡ b
       → HasLoop positions edges ⊎ HasNoLoop positions edges

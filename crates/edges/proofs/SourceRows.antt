@@ -7,10 +7,10 @@ use Rattle.std.proofs.lemmas.List.Elements.{Contains-get_or}
 use Rattle.std.proofs.lemmas.List.Sums.{count_by-le-length, count_by_more_yes, count_by_more_no}
 use Rattle.lemmas.proofs.Ranges.{filter-more}
 use Rattle.edges.specs.declared.edge.Edge.{Edge}
-use Rattle.edges.specs.Loops.{EndWithin}
+use Rattle.edges.specs.Loops.{EndsWithin}
 use Rattle.edges.specs.Clearing.{edges_from}
 
-pub ends_at : (positions : ℕ) (edges : List Edge) (i : ℕ) (d : Edge) → EndWithin positions edges → i < length edges
+pub ends_at : (positions : ℕ) (edges : List Edge) (i : ℕ) (d : Edge) → EndsWithin positions edges → i < length edges
     → ((slice_index_or edges i d).before < positions) × ((slice_index_or edges i d).after < positions)
 ends_at positions edges i d ends lt = ends (slice_index_or edges i d) (Contains-get_or edges i d lt)
 
@@ -56,5 +56,5 @@ filter_kept p n xs fails before =
 
 pub end_of : (positions : ℕ) (edges : List Edge) (d : Edge)
     → ((k : ℕ) → k < length edges → ((slice_index_or edges k d).before < positions) × ((slice_index_or edges k d).after < positions))
-    → EndWithin positions edges
+    → EndsWithin positions edges
 end_of positions edges d each e (k, lt, at) = rw (← at) (rw (get_or_default edges k e d lt) (each k lt))

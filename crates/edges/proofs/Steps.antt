@@ -8,15 +8,15 @@ use Rattle.std.proofs.Math.Bool.{or-false}
 use Rattle.lemmas.proofs.Booleans.{sooner, unless}
 use Rattle.lemmas.proofs.Counts.{count-is, count_none, count_some}
 use Rattle.edges.specs.declared.edge.Edge.{Edge}
-use Rattle.edges.specs.Loops.{EndWithin}
-use Rattle.edges.specs.Clearing.{Clears, LeadsBack, cleared_then, less_one, has, sources_of, edges_beyond}
+use Rattle.edges.specs.Loops.{EndsWithin}
+use Rattle.edges.specs.Clearing.{Clears, LeadsBack, cleared_then, less_one, is_in_list, sources_of, edges_beyond}
 use Rattle.edges.proofs.Counts.{beyond, beyond_more}
 use Rattle.edges.proofs.Members.{equal_laws, has_push, has_front, not_before}
 
 -- A position is taken: the edges into it are to be counted off.
 
 pub after_take : (cleared : List ℕ) (taken a : ℕ) → taken < length cleared
-    → has (take (taken + 1) cleared) a ≡ (has (take taken cleared) a || (a == slice_index_or cleared taken 0))
+    → is_in_list (take (taken + 1) cleared) a ≡ (is_in_list (take taken cleared) a || (a == slice_index_or cleared taken 0))
 after_take cleared taken a lt = rw (take_more cleared taken 0 lt) (has_push (take taken cleared) (slice_index_or cleared taken 0) a)
 
 pub taken_next : (positions : ℕ) (edges : List Edge) (taken : ℕ) (waiting cleared : List ℕ) → taken < length cleared
@@ -29,7 +29,7 @@ taken_next positions edges taken waiting cleared lt c = record {
   below = c.below;
   counted = λ x within.
       let old = c.counted x within in
-      let more = beyond_more x (slice_index_or cleared taken 0) (has (take taken cleared)) (has (take (taken + 1) cleared))
+      let more = beyond_more x (slice_index_or cleared taken 0) (is_in_list (take taken cleared)) (is_in_list (take (taken + 1) cleared))
       (λ a. after_take cleared taken a lt) (not_before cleared taken c.distinct lt) edges in
       omega arith;
   ready = c.ready;
@@ -54,7 +54,7 @@ module _ (positions : ℕ) (edges : List Edge) (taken p : ℕ) (pending waiting 
         let past : slice_index_or waiting p 0 ≡ 0 = get_or_past waiting p 0 (omega arith) in
         absurd (let f : ⊥ = omega arith in f)
 
-  p_waits : has cleared p ≡ false
+  p_waits : is_in_list cleared p ≡ false
   p_waits = let r = c.ready p p_within in grind arith
 
   left_there : slice_index_or (less_one waiting p) p 0 ≡ slice_index_or waiting p 0 - 1
@@ -83,7 +83,7 @@ module _ (positions : ℕ) (edges : List Edge) (taken p : ℕ) (pending waiting 
   size_left = length-set waiting p (slice_index_or waiting p 0 - 1) ∙ c.size
 
   -- an edge is left
-  ready_later : slice_index_or waiting p 0 ≢ 1 → (x : ℕ) → x < positions → has cleared x ≡ (slice_index_or (less_one waiting p) x 0 == 0)
+  ready_later : slice_index_or waiting p 0 ≢ 1 → (x : ℕ) → x < positions → is_in_list cleared x ≡ (slice_index_or (less_one waiting p) x 0 == 0)
   ready_later more x within = elim (cases_eq x p) [
     | inl e ↦ rw e (let l = left_there in let w = p_waits in grind arith)
     | inr differ ↦ rw (left_elsewhere waiting p x differ) (c.ready x within)
@@ -104,25 +104,25 @@ module _ (positions : ℕ) (edges : List Edge) (taken p : ℕ) (pending waiting 
   front : take taken (cleared ++ p ∷ []) ≡ take taken cleared
   front = let e = c.enough in take-append-le taken cleared (p ∷ []) (omega arith)
 
-  below_more : (x : ℕ) → has (cleared ++ p ∷ []) x ≡ true → x < positions
-  below_more x h = elim (or_cases (has cleared x) (x == p) (rw (has_push cleared p x) at h)) [
+  below_more : (x : ℕ) → is_in_list (cleared ++ p ∷ []) x ≡ true → x < positions
+  below_more x h = elim (or_cases (is_in_list cleared x) (x == p) (rw (has_push cleared p x) at h)) [
     | inl old ↦ c.below x old
     | inr e ↦ rw (eqb-true x p e) p_within
   ]
 
   ready_now : slice_index_or waiting p 0 ≡ 1 → (x : ℕ) → x < positions
-      → has (cleared ++ p ∷ []) x ≡ (slice_index_or (less_one waiting p) x 0 == 0)
+      → is_in_list (cleared ++ p ∷ []) x ≡ (slice_index_or (less_one waiting p) x 0 == 0)
   ready_now one x within = elim (cases_eq x p) [
     | inl e ↦ rw (e, has_push cleared p p) (let l = left_there in let w = p_waits in grind arith)
-    | inr differ ↦ rw (left_elsewhere waiting p x differ, has_push cleared p x, ne_eqb x p differ) (or-false (has cleared x) ∙ c.ready x within)
+    | inr differ ↦ rw (left_elsewhere waiting p x differ, has_push cleared p x, ne_eqb x p differ) (or-false (is_in_list cleared x) ∙ c.ready x within)
   ]
 
-  leads_to_taken : slice_index_or waiting p 0 ≡ 1 → (e : Edge) → Contains edges e → e.before ≡ p → has cleared e.after ≡ true
+  leads_to_taken : slice_index_or waiting p 0 ≡ 1 → (e : Edge) → Contains edges e → e.before ≡ p → is_in_list cleared e.after ≡ true
   leads_to_taken one e (k, lt, at) from =
       let l = left_there in
       let d = counted_there in
-      let none = count_none (beyond p (has (take taken cleared))) edges (omega arith) k e lt at in
-      has_front taken cleared e.after (unless (p == e.before) (has (take taken cleared) e.after) (eq-eqb p e.before (sym from)) none)
+      let none = count_none (beyond p (is_in_list (take taken cleared))) edges (omega arith) k e lt at in
+      has_front taken cleared e.after (unless (p == e.before) (is_in_list (take taken cleared) e.after) (eq-eqb p e.before (sym from)) none)
 
   back_more : slice_index_or waiting p 0 ≡ 1 → LeadsBack edges (cleared ++ p ∷ [])
   back_more one k e lt ce at = elim (cases_lt k (length cleared)) [
@@ -179,28 +179,28 @@ enough_off p pending waiting enough = (some, λ x. rest x (cases_eq x p)) where
       omega arith
 
 -- What is to be counted off of the position that is taken is counted.
-pub enough_next : (positions : ℕ) (edges : List Edge) → EndWithin positions edges → (taken : ℕ) (waiting cleared : List ℕ)
+pub enough_next : (positions : ℕ) (edges : List Edge) → EndsWithin positions edges → (taken : ℕ) (waiting cleared : List ℕ)
     → taken < length cleared
     → Clears positions edges taken [] waiting cleared → (x : ℕ)
     → count_by (◌==◌ x) (sources_of edges (slice_index_or cleared taken 0)) ≤ slice_index_or waiting x 0
 enough_next positions edges ends taken waiting cleared lt c x = on (cases_lt x positions) where
-  old : count_by (beyond x (has (take taken cleared))) edges ≡ count_by (beyond x (has (take (taken + 1) cleared))) edges + count_by
+  old : count_by (beyond x (is_in_list (take taken cleared))) edges ≡ count_by (beyond x (is_in_list (take (taken + 1) cleared))) edges + count_by
       (◌==◌ x) (sources_of edges (slice_index_or cleared taken 0))
-  old = beyond_more x (slice_index_or cleared taken 0) (has (take taken cleared)) (has (take (taken + 1) cleared))
+  old = beyond_more x (slice_index_or cleared taken 0) (is_in_list (take taken cleared)) (is_in_list (take (taken + 1) cleared))
       (λ a. after_take cleared taken a lt) (not_before cleared taken c.distinct lt) edges
 
-  stands : Any (λ e. beyond x (has (take taken cleared)) e ≡ true) edges → x < positions
-  stands (k, e, at_k, at, h) = rw (eqb-true x e.before (sooner _ (not (has (take taken cleared) e.after)) h)) ((ends e (k, at_k, at)).0)
+  stands : Any (λ e. beyond x (is_in_list (take taken cleared)) e ≡ true) edges → x < positions
+  stands (k, e, at_k, at, h) = rw (eqb-true x e.before (sooner _ (not (is_in_list (take taken cleared) e.after)) h)) ((ends e (k, at_k, at)).0)
 
-  counted : 0 < count_by (beyond x (has (take taken cleared))) edges → x < positions
+  counted : 0 < count_by (beyond x (is_in_list (take taken cleared))) edges → x < positions
   counted some =
-      stands (Any-from_list_any (beyond x (has (take taken cleared))) edges (count_some (beyond x (has (take taken cleared))) edges some))
+      stands (Any-from_list_any (beyond x (is_in_list (take taken cleared))) edges (count_some (beyond x (is_in_list (take taken cleared))) edges some))
 
   on : (x < positions) ⊎ (positions ≤ x)
       → count_by (◌==◌ x) (sources_of edges (slice_index_or cleared taken 0)) ≤ slice_index_or waiting x 0
   on (inl within) = let w = c.counted x within in let o = old in omega arith
-  on (inr past) = let o = old in neither (cases_lt 0 (count_by (beyond x (has (take taken cleared))) edges)) where
-    neither : (0 < count_by (beyond x (has (take taken cleared))) edges) ⊎ (count_by (beyond x (has (take taken cleared))) edges ≤ 0)
+  on (inr past) = let o = old in neither (cases_lt 0 (count_by (beyond x (is_in_list (take taken cleared))) edges)) where
+    neither : (0 < count_by (beyond x (is_in_list (take taken cleared))) edges) ⊎ (count_by (beyond x (is_in_list (take taken cleared))) edges ≤ 0)
         → count_by (◌==◌ x) (sources_of edges (slice_index_or cleared taken 0)) ≤ slice_index_or waiting x 0
     neither (inl some) = let w = counted some in absurd (let f : ⊥ = omega arith in f)
     neither (inr le) = let o = old in omega arith

@@ -6,7 +6,7 @@ use Rattle.std.proofs.lemmas.Map.Keys.{IsDistinct-cons}
 use Rattle.std.proofs.lemmas.Map.Steps.{length-le_from_distinct_below}
 use Rattle.edges.specs.declared.edge.Edge.{Edge}
 use Rattle.edges.specs.Loops.{HasLoop, leads_within}
-use Rattle.edges.specs.Clearing.{has}
+use Rattle.edges.specs.Clearing.{is_in_list}
 use Rattle.edges.proofs.Leading.{leads_directly, leads_further, leads_longer}
 use Rattle.edges.proofs.Members.{none_all}
 
@@ -20,8 +20,8 @@ pub record GoesOn (edges : List Edge) (S : ℕ → Type 0) (x : ℕ) : Type 0 wh
 -- a way through positions that differ, which has come to x
 pub record Walked (positions : ℕ) (edges : List Edge) (seen : List ℕ) (x : ℕ) : Type 0 where
   pub distinct : IsDistinct ◌==◌ (x ∷ seen)
-  pub below : (y : ℕ) → has (x ∷ seen) y ≡ true → y < positions
-  pub led : (y : ℕ) → has seen y ≡ true → leads_within (length seen) edges y x ≡ true
+  pub below : (y : ℕ) → is_in_list (x ∷ seen) y ≡ true → y < positions
+  pub led : (y : ℕ) → is_in_list seen y ≡ true → leads_within (length seen) edges y x ≡ true
 
 short : (positions : ℕ) (edges : List Edge) (seen : List ℕ) (x : ℕ) → Walked positions edges seen x → suc (length seen) ≤ positions
 short positions edges seen x w = length-le_from_distinct_below (x ∷ seen) positions w.distinct w.below
@@ -29,7 +29,7 @@ short positions edges seen x w = length-le_from_distinct_below (x ∷ seen) posi
 module _ (positions : ℕ) (edges : List Edge) (seen : List ℕ) (x : ℕ) (w : Walked positions edges seen x) (e : Edge)
     (c : Contains edges e) (from : e.before ≡ x) where
   -- the edge leads back to where the way has been
-  closes_on : (same : Bool) → (e.after == x) ≡ same → same || has seen e.after ≡ true → HasLoop positions edges
+  closes_on : (same : Bool) → (e.after == x) ≡ same → same || is_in_list seen e.after ≡ true → HasLoop positions edges
   closes_on true at h =
       let back : e.after ≡ x = grind arith in
       let le = short positions edges seen x w in
@@ -45,18 +45,18 @@ module _ (positions : ℕ) (edges : List Edge) (seen : List ℕ) (x : ℕ) (w : 
             (leads_further (length seen) edges e.after e c led);
       }
 
-  led_on : (y : ℕ) (same : Bool) → (y == x) ≡ same → same || has seen y ≡ true → leads_within (suc (length seen)) edges y e.after ≡ true
+  led_on : (y : ℕ) (same : Bool) → (y == x) ≡ same → same || is_in_list seen y ≡ true → leads_within (suc (length seen)) edges y e.after ≡ true
   led_on y true at h = let back : y ≡ e.before = grind arith in rw back (leads_directly (length seen) edges e c)
   led_on y false at h = leads_further (length seen) edges y e c (rw from (w.led y h))
 
   -- the edge leads to where the way hasn't been
-  goes_on : e.after < positions → has (x ∷ seen) e.after ≡ false → Walked positions edges (x ∷ seen) e.after
+  goes_on : e.after < positions → is_in_list (x ∷ seen) e.after ≡ false → Walked positions edges (x ∷ seen) e.after
   goes_on lt new = record {
     distinct = IsDistinct-cons ◌==◌ e.after (x ∷ seen) (none_all e.after (x ∷ seen) new) w.distinct;
     below = λ y. below_on y (y == e.after) refl;
     led = λ y. led_on y (y == x) refl;
   } where
-    below_on : (y : ℕ) (same : Bool) → (y == e.after) ≡ same → same || has (x ∷ seen) y ≡ true → y < positions
+    below_on : (y : ℕ) (same : Bool) → (y == e.after) ≡ same → same || is_in_list (x ∷ seen) y ≡ true → y < positions
     below_on y true at h = let back : y ≡ e.after = grind arith in rw back lt
     below_on y false at h = w.below y h
 
@@ -66,7 +66,7 @@ alone x = (tt, tt)
 
 module _ (positions : ℕ) (edges : List Edge) (S : ℕ → Type 0) (within : (x : ℕ) → S x → x < positions)
     (next : (x : ℕ) → S x → GoesOn edges S x) where
-  walk_on : (x : ℕ) (seen : List ℕ) → Walked positions edges seen x → (n : GoesOn edges S x) → (b : Bool) → has (x ∷ seen) n.edge.after ≡ b
+  walk_on : (x : ℕ) (seen : List ℕ) → Walked positions edges seen x → (n : GoesOn edges S x) → (b : Bool) → is_in_list (x ∷ seen) n.edge.after ≡ b
       → (S n.edge.after → Walked positions edges (x ∷ seen) n.edge.after → HasLoop positions edges) → HasLoop positions edges
   walk_on x seen w n true h further = closes_on positions edges seen x w n.edge n.among n.from (n.edge.after == x) refl h
   walk_on x seen w n false h further = further n.to (goes_on positions edges seen x w n.edge n.among n.from (within n.edge.after n.to) h)
@@ -76,7 +76,7 @@ module _ (positions : ℕ) (edges : List Edge) (S : ℕ → Type 0) (within : (x
   walk zero x seen s w more = let le = short positions edges seen x w in absurd (let f : ⊥ = omega arith in f)
   walk (suc fuel) x seen s w more =
       let n = next x s in
-      walk_on x seen w n (has (x ∷ seen) n.edge.after) refl (λ t v. walk fuel n.edge.after (x ∷ seen) t v (omega arith))
+      walk_on x seen w n (is_in_list (x ∷ seen) n.edge.after) refl (λ t v. walk fuel n.edge.after (x ∷ seen) t v (omega arith))
 
   begun_below : (x y : ℕ) → S x → (same : Bool) → (y == x) ≡ same → same || false ≡ true → y < positions
   begun_below x y s true at h = let e : y ≡ x = eqb-true y x at in rw e (within x s)

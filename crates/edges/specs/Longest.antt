@@ -3,7 +3,7 @@ use Rattle.std.specs.Prelude.{◌≡◌, ◌<◌, ◌≤◌, ◌+◌, ◌==◌, 
 use Rattle.std.specs.List.{IsDistinct}
 use Rattle.edges.specs.declared.edge.Edge.{Edge}
 use Rattle.edges.specs.Loops.{HasLoop, HasNoLoop}
-use Rattle.edges.specs.Clearing.{LeadsBack, has, sources_of}
+use Rattle.edges.specs.Clearing.{LeadsBack, is_in_list, sources_of}
 
 -- one more than the greatest of these heights, and 0 where there are none
 abbrev pub above : (ℕ → ℕ) → List ℕ → ℕ
@@ -26,8 +26,8 @@ AreHeights edges height = (x : ℕ) → height x ≡ above height (sources_of ed
 pub record IsBackward (positions : ℕ) (edges : List Edge) (order : List ℕ) : Type 0 where
   pub size : length order ≡ positions
   pub distinct : IsDistinct ◌==◌ order
-  pub below : (x : ℕ) → has order x ≡ true → x < positions
-  pub all : (x : ℕ) → x < positions → has order x ≡ true
+  pub below : (x : ℕ) → is_in_list order x ≡ true → x < positions
+  pub all : (x : ℕ) → x < positions → is_in_list order x ≡ true
   pub back : LeadsBack edges order
 
 -- as many positions as can be taken so: all of them when there is no loop, and only then

@@ -14,8 +14,8 @@ leads_within zero edges x y = false
 leads_within (suc most) edges x y = list_any (λ e. e.before == x && (e.after == y || leads_within most edges e.after y)) edges
 
 -- both ends of each edge are positions
-abbrev pub EndWithin : ℕ → List Edge → Type 0
-EndWithin positions edges = (e : Edge) → Contains edges e → (e.before < positions) × (e.after < positions)
+abbrev pub EndsWithin : ℕ → List Edge → Type 0
+EndsWithin positions edges = (e : Edge) → Contains edges e → (e.before < positions) × (e.after < positions)
 
 -- no edges lead from a position back to it. No loop needs more edges than there are positions
 abbrev pub HasNoLoop : ℕ → List Edge → Type 0

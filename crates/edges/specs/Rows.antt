@@ -23,8 +23,8 @@ abbrev pub edges_below : List Edge → ℕ → ℕ
 edges_below edges x = count_by (λ e. nat_lt e.before x) edges
 
 -- where the edges from a position lead
-abbrev pub targets_of : List Edge → ℕ → List ℕ
-targets_of edges x = map (λ e. e.after) (filter (λ e. e.before == x) edges)
+abbrev pub edge_targets_of : List Edge → ℕ → List ℕ
+edge_targets_of edges x = map (λ e. e.after) (filter (λ e. e.before == x) edges)
 
 -- the row of a position: it stands behind that of the position before it, up to where its own ends
 abbrev pub row_of : List ℕ → List ℕ → ℕ → List ℕ
@@ -36,4 +36,4 @@ pub record AreRows (positions : ℕ) (edges first : List Edge) (ends targets : L
   pub room : length targets ≡ length edges
   pub ends_at : (x : ℕ) → x < positions → slice_index_or ends x 0 ≡ edges_below edges x + edges_at Before first x
   pub filled : (x k : ℕ) → x < positions → k < edges_at Before first x
-      → slice_index_or targets (edges_below edges x + k) 0 ≡ slice_index_or (targets_of first x) k 0
+      → slice_index_or targets (edges_below edges x + k) 0 ≡ slice_index_or (edge_targets_of first x) k 0

@@ -1,6 +1,6 @@
 ghost use Rattle.std.specs.Prelude.{◌≡◌, ◌↔◌, ◌≤◌, ◌<◌, ◌-◌, ◌++◌, ◌∷◌, ◌==◌, [], ℕ, List, true, false, if◌then◌else◌, IfOk, OnOk, count_by, slice_index_or, slice_set};
 ghost use Rattle.edges.specs.declared.edge.Edge.{Edge};
-ghost use Rattle.edges.specs.Loops.{EndWithin, HasNoLoop, HasLoop};
+ghost use Rattle.edges.specs.Loops.{EndsWithin, HasNoLoop, HasLoop};
 ghost use Rattle.edges.specs.Clearing.{Clears, cleared_then, less_one};
 ghost use Rattle.edges.specs.Longest.{AreCleared};
 
@@ -20,7 +20,7 @@ struct Clearing {
 impl Clearing {
     /// The positions from which no edge leads are clear.
     fn new(alloc: Global, positions: u32, edges: &[Edge]) -> Result<Clearing, AllocError>
-        requires { EndWithin positions edges.now }
+        requires { EndsWithin positions edges.now }
         ensures { IfOk result (λ c. Clears positions edges.now 0 [] c.waiting.items c.cleared.items) }
     {
         let waiting = leaving(alloc, positions, edges)?;
@@ -60,7 +60,7 @@ impl Clearing {
 ///
 /// All can be taken when there is no loop, and only then. The time is linear in the positions and the edges.
 pub fn backward_order(alloc: Global, positions: u32, edges: &[Edge]) -> Result<Vec<u32>, AllocError>
-    requires { EndWithin positions edges.now }
+    requires { EndsWithin positions edges.now }
     ensures { IfOk result (λ order. AreCleared positions edges.now order.items) }
 {
     let sources = sources(alloc, positions, edges)?;
@@ -79,7 +79,7 @@ pub fn backward_order(alloc: Global, positions: u32, edges: &[Edge]) -> Result<V
 ///
 /// Both ends of each edge are positions. The time is linear in the positions and the edges.
 pub fn is_loop_free(alloc: Global, positions: u32, edges: &[Edge]) -> Result<bool, AllocError>
-    requires { EndWithin positions edges.now }
+    requires { EndsWithin positions edges.now }
     ensures free { IfOk result (λ free. free ≡ true ↔ HasNoLoop positions edges.now) }
     ensures loops { IfOk result (λ free. free ≡ false ↔ HasLoop positions edges.now) }
 {

@@ -1,5 +1,5 @@
 ghost use Rattle.std.specs.Prelude.{IfOk};
-ghost use Rattle.edges.specs.Loops.{EndWithin, IsFirstLoop};
+ghost use Rattle.edges.specs.Loops.{EndsWithin, IsFirstLoop};
 
 use crate::clearing::is_loop_free;
 use crate::edge::Edge;
@@ -13,7 +13,7 @@ pub fn first_loop(
     positions: u32,
     edges: &[Edge],
 ) -> Result<Option<usize>, AllocError>
-    requires { EndWithin positions edges.now }
+    requires { EndsWithin positions edges.now }
     ensures { IfOk result (λ place. IsFirstLoop positions edges.now place) }
 {
     if is_loop_free(alloc, positions, edges)? {

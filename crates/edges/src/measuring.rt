@@ -1,5 +1,5 @@
 ghost use Rattle.std.specs.Prelude.{◌≡◌, ◌≤◌, ◌<◌, ℕ, IfOk, [], length, slice_index_or, Contains};
-ghost use Rattle.edges.specs.Loops.{EndWithin, HasLoop, HasNoLoop};
+ghost use Rattle.edges.specs.Loops.{EndsWithin, HasLoop, HasNoLoop};
 ghost use Rattle.edges.specs.Longest as longest;
 
 use crate::clearing::{backward_order, is_loop_free};
@@ -25,7 +25,7 @@ fn above(ways: &[u32], places: &[u32]) -> u32
 /// It asks for at most 1,000,000,000 positions, for edges whose ends are positions, and that there is no loop. The time is linear in the positions and the edges.
 pub fn longest_ways(alloc: Global, positions: u32, edges: &[Edge]) -> Result<Vec<u32>, AllocError>
     requires few { positions ≤ 1000000000 }
-    requires ends { EndWithin positions edges.now }
+    requires ends { EndsWithin positions edges.now }
     requires free { HasNoLoop positions edges.now }
     ensures size { IfOk result (λ ways. length ways.items ≡ positions) }
     ensures longest { IfOk result (λ ways. (x : ℕ) → x < positions → slice_index_or ways.items x 0 ≡ longest.longest positions edges.now x) }
@@ -52,7 +52,7 @@ pub fn longest_ways_if_free(
     edges: &[Edge],
 ) -> Result<Vec<u32>, AllocError>
     requires few { positions ≤ 1000000000 }
-    requires within { EndWithin positions edges.now }
+    requires within { EndsWithin positions edges.now }
     ensures size { IfOk result (λ ways. HasNoLoop positions edges.now → length ways.items ≡ positions) }
     ensures longest { IfOk result (λ ways. HasNoLoop positions edges.now
         → (x : ℕ) → x < positions → slice_index_or ways.items x 0 ≡ longest.longest positions edges.now x) }

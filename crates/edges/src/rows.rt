@@ -1,5 +1,5 @@
 ghost use Rattle.std.specs.Prelude.{◌≡◌, ◌<◌, ◌≤◌, ◌∷◌, ℕ, IfOk, length, slice_index_or};
-ghost use Rattle.edges.specs.Loops.{EndWithin};
+ghost use Rattle.edges.specs.Loops.{EndsWithin};
 ghost use Rattle.edges.specs.Rows.{AreRows, edges_below, row_of};
 
 use crate::edge::Edge;
@@ -17,7 +17,7 @@ pub struct Rows {
 
 /// Of each position, where its row begins.
 fn beginnings(alloc: Global, positions: u32, edges: &[Edge]) -> Result<Vec<usize>, AllocError>
-    requires { EndWithin positions edges.now }
+    requires { EndsWithin positions edges.now }
     ensures size { IfOk result (λ begins. length begins.items ≡ positions) }
     ensures below { IfOk result (λ begins. (x : ℕ) → x < positions → slice_index_or begins.items x 0 ≡ edges_below edges.now x) }
 {
@@ -34,7 +34,7 @@ fn beginnings(alloc: Global, positions: u32, edges: &[Edge]) -> Result<Vec<usize
 impl Rows {
     /// The rows of the edges, by a counting sort.
     pub fn new(alloc: Global, positions: u32, edges: &[Edge]) -> Result<Rows, AllocError>
-        requires { EndWithin positions edges.now }
+        requires { EndsWithin positions edges.now }
         ensures { IfOk result (λ rows. AreRows positions edges.now edges.now rows.ends.items rows.targets.items) }
     {
         let mut ends = beginnings(alloc, positions, edges)?;

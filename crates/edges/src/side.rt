@@ -1,5 +1,5 @@
 ghost use Rattle.std.specs.Prelude.{◌≡◌, ◌<◌, ℕ, IfOk, length, slice_index_or};
-ghost use Rattle.edges.specs.Loops.{EndWithin};
+ghost use Rattle.edges.specs.Loops.{EndsWithin};
 ghost use Rattle.edges.specs.Rows.{edges_at, end_of};
 
 use crate::edge::Edge;
@@ -31,7 +31,7 @@ pub fn count_ends(
     edges: &[Edge],
     side: Side,
 ) -> Result<Vec<usize>, AllocError>
-    requires { EndWithin positions edges.now }
+    requires { EndsWithin positions edges.now }
     ensures size { IfOk result (λ counts. length counts.items ≡ positions) }
     ensures counted { IfOk result (λ counts. (x : ℕ) → x < positions → slice_index_or counts.items x 0 ≡ edges_at side edges.now x) }
 {

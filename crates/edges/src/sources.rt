@@ -1,6 +1,6 @@
 ghost use Rattle.std.specs.Prelude.{◌≡◌, ◌<◌, ◌==◌, [], ℕ, IfOk, length, filter, slice_index_or};
 ghost use Rattle.std.specs.List.{range_with_len};
-ghost use Rattle.edges.specs.Loops.{EndWithin};
+ghost use Rattle.edges.specs.Loops.{EndsWithin};
 ghost use Rattle.edges.specs.Clearing.{edges_from, sources_of};
 
 use crate::edge::Edge;
@@ -9,7 +9,7 @@ use std::alloc::{AllocError, Global};
 
 /// How many edges lead from each position.
 pub fn leaving(alloc: Global, positions: u32, edges: &[Edge]) -> Result<Vec<usize>, AllocError>
-    requires { EndWithin positions edges.now }
+    requires { EndsWithin positions edges.now }
     ensures size { IfOk result (λ counts. length counts.items ≡ positions) }
     ensures counted { IfOk result (λ counts. (x : ℕ) → x < positions → slice_index_or counts.items x 0 ≡ edges_from edges.now x) }
 {
@@ -42,7 +42,7 @@ pub fn sources(
     positions: u32,
     edges: &[Edge],
 ) -> Result<Vec<Listed<u32>>, AllocError>
-    requires { EndWithin positions edges.now }
+    requires { EndsWithin positions edges.now }
     ensures size { IfOk result (λ rows. length rows.items ≡ positions) }
     ensures sources { IfOk result (λ rows. (y : ℕ) → y < positions → slice_index_or rows.items y [] ≡ sources_of edges.now y) }
 {

@@ -6,26 +6,26 @@ use Rattle.std.proofs.lemmas.List.{take_all}
 use Rattle.std.proofs.lemmas.List.Folds.{Any-from_list_any, list_all_at}
 use Rattle.std.proofs.lemmas.List.FromFn.{get_or-range_with_len, length-range_with_len}
 use Rattle.edges.specs.declared.edge.Edge.{Edge}
-use Rattle.cluster_types.specs.Graphs.{GraphOf, IsGraph, Leads, direct, through, is_before}
+use Rattle.cluster_types.specs.Graphs.{GraphOf, IsGraph, LeadsByGates, direct, through, is_before}
 use Rattle.cluster_types.proofs.Paths.{before-computed, before-from_computed}
 use Rattle.listed.specs.Sets.{is_member, members}
-use Rattle.graph_exec.specs.Freed.{Clears, edges_held}
-use Rattle.graph_exec.specs.Ready.{is_free, startable}
+use Rattle.graph_exec.specs.Freed.{ClearsGates, edges_held}
+use Rattle.graph_exec.specs.Ready.{inputs_have_succeeded, startable}
 use Rattle.lemmas.proofs.Booleans.{unless, sooner, later}
 use Rattle.lemmas.proofs.Counts.{count_none, count_some}
 use Rattle.lemmas.proofs.Ranges.{all_in_range, filter-alike}
-use Rattle.edges.specs.Clearing.{has}
+use Rattle.edges.specs.Clearing.{is_in_list}
 use Rattle.graph_exec.proofs.Beyond.{beyond}
 
 -- a way goes on by an edge from a gate
-leads_on : (actions : ℕ) (edges : List Edge) (x y : ℕ) → Leads actions edges x y → actions ≤ y → (e : Edge) → Contains edges e → e.before ≡ y
-    → Leads actions edges x e.after
+leads_on : (actions : ℕ) (edges : List Edge) (x y : ℕ) → LeadsByGates actions edges x y → actions ≤ y → (e : Edge) → Contains edges e → e.before ≡ y
+    → LeadsByGates actions edges x e.after
 leads_on actions edges _ _ (direct d among) gate e c at =
-    through d e.after among gate (let n : Leads actions edges e.before e.after = direct e c in rw at at n)
+    through d e.after among gate (let n : LeadsByGates actions edges e.before e.after = direct e c in rw at at n)
 leads_on actions edges _ y (through d _ among up rest) gate e c at = through d e.after among up (leads_on actions edges d.after y rest gate e c at)
 
 module _ (g : GraphOf) (graph : IsGraph g) (begun succeeded ready : List Bool) (left cleared : List ℕ)
-    (c : Clears g begun succeeded ready (length cleared) [] left cleared) where
+    (c : ClearsGates g begun succeeded ready (length cleared) [] left cleared) where
   counted : (x : ℕ) → x < g.edges.positions → slice_index_or left x 0 ≡ edges_held g.edges.list cleared x
   counted x within =
       let e : slice_index_or left x 0 ≡ edges_held g.edges.list (take (length cleared) cleared) x + 0 = c.counted x within in
@@ -35,18 +35,18 @@ module _ (g : GraphOf) (graph : IsGraph g) (begun succeeded ready : List Bool) (
 
   -- with no edge left, each edge comes from a cleared position
   from_cleared : (x : ℕ) → x < g.edges.positions → slice_index_or left x 0 ≡ 0 → (e : Edge) → Contains g.edges.list e → x ≡ e.after
-      → has cleared e.before ≡ true
+      → is_in_list cleared e.before ≡ true
   from_cleared x within none e (k, lt, at) to =
       let n = counted x within in
-      unless (x == e.after) (has cleared e.before) (eq-eqb x e.after to)
-      (count_none (beyond x (has cleared)) g.edges.list (omega arith) k e lt at)
+      unless (x == e.after) (is_in_list cleared e.before) (eq-eqb x e.after to)
+      (count_none (beyond x (is_in_list cleared)) g.edges.list (omega arith) k e lt at)
 
-  cleared_before : (x y : ℕ) → Leads (length g.actions) g.edges.list x y → y < g.edges.positions → slice_index_or left y 0 ≡ 0
-      → has cleared x ≡ true
+  cleared_before : (x y : ℕ) → LeadsByGates (length g.actions) g.edges.list x y → y < g.edges.positions → slice_index_or left y 0 ≡ 0
+      → is_in_list cleared x ≡ true
   cleared_before _ _ (direct e among) within none = from_cleared e.after within none e among refl
   cleared_before _ y (through e _ among gate rest) within none =
       let w = graph.within e among in
-      let h : has cleared e.after ≡ true = cleared_before e.after y rest within none in
+      let h : is_in_list cleared e.after ≡ true = cleared_before e.after y rest within none in
       let z : slice_index_or left e.after 0 ≡ 0 = eqb-true _ 0 (sym (c.gates e.after gate w.1) ∙ h) in
       from_cleared e.after w.1 z e among refl
 
@@ -55,9 +55,9 @@ module _ (g : GraphOf) (graph : IsGraph g) (begun succeeded ready : List Bool) (
     pub by : ℕ
     pub action : by < length g.actions
     pub not_yet : slice_index_or succeeded by false ≡ false
-    pub leads : Leads (length g.actions) g.edges.list by y
+    pub leads : LeadsByGates (length g.actions) g.edges.list by y
 
-  from_open : (y : ℕ) (e : Edge) → Contains g.edges.list e → e.after ≡ y → has cleared e.before ≡ false → (before : ℕ) → e.before ≡ before
+  from_open : (y : ℕ) (e : Edge) → Contains g.edges.list e → e.after ≡ y → is_in_list cleared e.before ≡ false → (before : ℕ) → e.before ≡ before
       → (before < length g.actions) ⊎ (length g.actions ≤ before)
       → ((p : ℕ) → length g.actions ≤ p → p < g.edges.positions → slice_index_or left p 0 ≢ 0 → p ≡ before → IsBlocked p) → IsBlocked y
   from_open y e among to closed before at (inl action) further = record {
@@ -82,22 +82,22 @@ module _ (g : GraphOf) (graph : IsGraph g) (begun succeeded ready : List Bool) (
     pub edge : Edge
     pub among : Contains g.edges.list edge
     pub to : edge.after ≡ y
-    pub closed : has cleared edge.before ≡ false
+    pub closed : is_in_list cleared edge.before ≡ false
 
-  parted : (y : ℕ) (e : Edge) → Contains g.edges.list e → (b : Bool) → has cleared e.before ≡ b → (y == e.after && not b) ≡ true → IsHeld y
+  parted : (y : ℕ) (e : Edge) → Contains g.edges.list e → (b : Bool) → is_in_list cleared e.before ≡ b → (y == e.after && not b) ≡ true → IsHeld y
   parted y e among true is h = absurd (both y e (later (y == e.after) false h)) where
     both : (y : ℕ) (e : Edge) → false ≡ true → ⊥
     both y e f = cc
   parted y e among false is h = record { edge = e; among = among; to = sym (eqb-true y e.after (sooner (y == e.after) true h)); closed = is }
 
-  held_by : (y : ℕ) → Any (λ e. beyond y (has cleared) e ≡ true) g.edges.list → IsHeld y
-  held_by y (k, e, lt, at, h) = parted y e (k, lt, at) (has cleared e.before) refl h
+  held_by : (y : ℕ) → Any (λ e. beyond y (is_in_list cleared) e ≡ true) g.edges.list → IsHeld y
+  held_by y (k, e, lt, at, h) = parted y e (k, lt, at) (is_in_list cleared e.before) refl h
 
   held : (y : ℕ) → y < g.edges.positions → slice_index_or left y 0 ≢ 0 → IsHeld y
   held y within some =
       let n = counted y within in
-      held_by y (Any-from_list_any (beyond y (has cleared)) g.edges.list
-      (count_some (beyond y (has cleared)) g.edges.list (let s : 0 < edges_held g.edges.list cleared y = omega arith in s)))
+      held_by y (Any-from_list_any (beyond y (is_in_list cleared)) g.edges.list
+      (count_some (beyond y (is_in_list cleared)) g.edges.list (let s : 0 < edges_held g.edges.list cleared y = omega arith in s)))
 
   gate_blocked : (fuel p : ℕ) → p ≤ fuel → length g.actions ≤ p → p < g.edges.positions → slice_index_or left p 0 ≢ 0 → IsBlocked p
   gate_blocked zero p le gate within some =
@@ -132,7 +132,7 @@ module _ (g : GraphOf) (graph : IsGraph g) (begun succeeded ready : List Bool) (
   number_of : (x : ℕ) → x < length g.actions → (nat_lt 0 (x + 1) && nat_le (x + 1) (length g.actions)) ≡ true
   number_of x lt = grind arith
 
-  comes_before : (x k : ℕ) → x < length g.actions → 0 < k → k ≤ length g.actions → Leads (length g.actions) g.edges.list x (k - 1)
+  comes_before : (x k : ℕ) → x < length g.actions → 0 < k → k ≤ length g.actions → LeadsByGates (length g.actions) g.edges.list x (k - 1)
       → is_before g (x + 1) k ≡ true
   comes_before x k lt low high leads =
       before-computed g (x + 1) k graph (record {
@@ -144,7 +144,7 @@ module _ (g : GraphOf) (graph : IsGraph g) (begun succeeded ready : List Bool) (
   stays : (x : ℕ) → slice_index_or succeeded x false ≡ false → is_member succeeded (x + 1) ≡ false
   stays x f = let e : x + 1 - 1 ≡ x = omega arith in rw e f
 
-  pub free_none : (k : ℕ) → 0 < k → k ≤ length g.actions → (b : Bool) → (slice_index_or left (k - 1) 0 == 0) ≡ b → b ≡ is_free g succeeded k
+  pub free_none : (k : ℕ) → 0 < k → k ≤ length g.actions → (b : Bool) → (slice_index_or left (k - 1) 0 == 0) ≡ b → b ≡ inputs_have_succeeded g succeeded k
   free_none k some lt true e =
       sym (all_in_range (λ j. not (is_before g j k) || is_member succeeded j) 1 (length g.actions)
       (λ j low high. passes k j some lt (eqb-true _ 0 e) low high (is_before g j k) refl))
@@ -164,6 +164,6 @@ module _ (g : GraphOf) (graph : IsGraph g) (begun succeeded ready : List Bool) (
   are_startable =
       let s = c.ready_size in
       ap (λ n. filter (is_member ready) (range_with_len 1 n)) s
-      ∙ filter-alike (is_member ready) (λ k. is_free g succeeded k && not (is_member begun k)) 1 (length g.actions)
+      ∙ filter-alike (is_member ready) (λ k. inputs_have_succeeded g succeeded k && not (is_member begun k)) 1 (length g.actions)
       (λ k low high. c.may_begin (k - 1) (omega arith)
       ∙ ap (λ b. b && not (is_member begun k)) (free_none k (omega arith) (omega arith) (slice_index_or left (k - 1) 0 == 0) refl))

@@ -7,14 +7,14 @@ use Rattle.std.proofs.lemmas.Map.Keys.{IsDistinct-push}
 use Rattle.std.proofs.lemmas.Option.{slice_get_within, get_or_from_slice_get}
 use Rattle.cluster_types.specs.Graphs.{GraphOf, IsGraph}
 use Rattle.listed.specs.Sets.{is_member, members}
-use Rattle.graph_exec.specs.Freed.{Clears, Rests}
+use Rattle.graph_exec.specs.Freed.{ClearsGates, ClearingRests}
 use Rattle.edges.specs.declared.side.Side.TheVariants.{After}
 use Rattle.edges.specs.Rows.{edges_at}
 use Rattle.graph_exec.specs.Ready.{startable}
 use Rattle.std.proofs.Math.Bool.{and-true, or-false}
 use Rattle.lemmas.proofs.Booleans.{sooner, later}
 use Rattle.lemmas.proofs.Counts.{count_agree}
-use Rattle.edges.specs.Clearing.{has}
+use Rattle.edges.specs.Clearing.{is_in_list}
 use Rattle.edges.proofs.Members.{equal_laws, has_push, has_at}
 use Rattle.edges.proofs.Beginnings.{in_range, of_range, has_filter, distinct_filter}
 use Rattle.graph_exec.proofs.Free.{are_startable}
@@ -35,23 +35,23 @@ module _ (g : GraphOf) (graph : IsGraph g) (ready : List Bool) (left : List ℕ)
   abbrev first : List ℕ
   first = filter is_done (range_with_len (length g.actions) (g.edges.positions - length g.actions))
 
-  parts : (x : ℕ) → has first x ≡ true → has (range_with_len (length g.actions) (g.edges.positions - length g.actions)) x && is_done x ≡ true
+  parts : (x : ℕ) → is_in_list first x ≡ true → is_in_list (range_with_len (length g.actions) (g.edges.positions - length g.actions)) x && is_done x ≡ true
   parts x h = sym (has_filter is_done (range_with_len (length g.actions) (g.edges.positions - length g.actions)) x) ∙ h
 
-  bounds : (x : ℕ) → has first x ≡ true → (length g.actions ≤ x) × (x < g.edges.positions)
+  bounds : (x : ℕ) → is_in_list first x ≡ true → (length g.actions ≤ x) × (x < g.edges.positions)
   bounds x h =
       let r = of_range (length g.actions) (g.edges.positions - length g.actions) x (sooner _ (is_done x) (parts x h)) in
       let p = graph.positions in
       (r.0, omega arith)
 
-  no_action : (x : ℕ) → x < length g.actions → (b : Bool) → has first x ≡ b → b ≡ false
+  no_action : (x : ℕ) → x < length g.actions → (b : Bool) → is_in_list first x ≡ b → b ≡ false
   no_action x lt true h = let r = bounds x h in absurd (let f : ⊥ = omega arith in f)
   no_action x lt false h = refl
 
   unset : (x : ℕ) → x < length g.actions → slice_index_or none x false ≡ false
   unset x lt = get_or-replicate (length g.actions) x false false lt
 
-  pub clears_first : Clears g none none ready 0 [] left first
+  pub clears_first : ClearsGates g none none ready 0 [] left first
   clears_first = record {
     enough = omega arith;
     size = size;
@@ -66,7 +66,7 @@ module _ (g : GraphOf) (graph : IsGraph g) (ready : List Bool) (left : List ℕ)
     gates = λ x gate lt.
         has_filter is_done (range_with_len (length g.actions) (g.edges.positions - length g.actions)) x
         ∙ ap (λ b. b && is_done x) (in_range (length g.actions) (g.edges.positions - length g.actions) x gate (omega arith));
-    actions = λ x lt. no_action x lt (has first x) refl ∙ sym (unset x lt);
+    actions = λ x lt. no_action x lt (is_in_list first x) refl ∙ sym (unset x lt);
     may_begin = λ x lt. free x lt ∙ sym (and-true (slice_index_or left x 0 == 0)) ∙ ap (λ b. (slice_index_or left x 0 == 0) && not b) (sym (unset x lt));
     begun_free = λ x lt h. let u = unset x lt in cc;
     success_begun = λ x lt h. let u = unset x lt in cc;
@@ -82,15 +82,15 @@ pub member_found : (flags : List Bool) (k : ℕ) → slice_get (members flags) 0
 member_found flags k at =
     let lt = slice_get_within (members flags) 0 k at in
     let g : slice_index_or (members flags) 0 0 ≡ k = get_or_from_slice_get (members flags) 0 k 0 at in
-    let h : has (members flags) k ≡ true = rw g at (has_at (members flags) 0 lt) in
+    let h : is_in_list (members flags) k ≡ true = rw g at (has_at (members flags) 0 lt) in
     let p = sym (has_filter (is_member flags) (range_with_len 1 (length flags)) k) ∙ h in
     let r = of_range 1 (length flags) k (sooner _ (is_member flags k) p) in
-    record { low = omega arith; high = omega arith; is = later (has (range_with_len 1 (length flags)) k) (is_member flags k) p }
+    record { low = omega arith; high = omega arith; is = later (is_in_list (range_with_len 1 (length flags)) k) (is_member flags k) p }
 
 -- An action begins.
 
 module _ (g : GraphOf) (begun succeeded ready : List Bool) (taken p : ℕ) (left cleared : List ℕ)
-    (c : Clears g begun succeeded ready taken [] left cleared) (size : length begun ≡ length g.actions) (action : p < length g.actions)
+    (c : ClearsGates g begun succeeded ready taken [] left cleared) (size : length begun ≡ length g.actions) (action : p < length g.actions)
     (may : slice_index_or ready p false ≡ true) where
   both : (slice_index_or left p 0 == 0 && not (slice_index_or begun p false)) ≡ true
   both = sym (c.may_begin p action) ∙ may
@@ -98,7 +98,7 @@ module _ (g : GraphOf) (begun succeeded ready : List Bool) (taken p : ℕ) (left
   none_left : (slice_index_or left p 0 == 0) ≡ true
   none_left = sooner _ (not (slice_index_or begun p false)) both
 
-  pub clears_begun : Clears g (slice_set begun p true) succeeded (slice_set ready p false) taken [] left cleared
+  pub clears_begun : ClearsGates g (slice_set begun p true) succeeded (slice_set ready p false) taken [] left cleared
   clears_begun = record {
     enough = c.enough;
     size = c.size;
@@ -126,21 +126,21 @@ module _ (g : GraphOf) (begun succeeded ready : List Bool) (taken p : ℕ) (left
 -- An action succeeds.
 
 module _ (g : GraphOf) (graph : IsGraph g) (begun succeeded ready : List Bool) (p : ℕ) (left cleared : List ℕ)
-    (c : Clears g begun succeeded ready (length cleared) [] left cleared) (size : length succeeded ≡ length g.actions)
+    (c : ClearsGates g begun succeeded ready (length cleared) [] left cleared) (size : length succeeded ≡ length g.actions)
     (action : p < length g.actions) (runs : slice_index_or begun p false ≡ true) (not_yet : slice_index_or succeeded p false ≡ false) where
-  new : has cleared p ≡ false
+  new : is_in_list cleared p ≡ false
   new = c.actions p action ∙ not_yet
 
-  elsewhere : (x : ℕ) → x ≢ p → has (cleared ++ p ∷ []) x ≡ has cleared x
-  elsewhere x differ = has_push cleared p x ∙ ap (λ b. has cleared x || b) (ne_eqb x p differ) ∙ or-false (has cleared x)
+  elsewhere : (x : ℕ) → x ≢ p → is_in_list (cleared ++ p ∷ []) x ≡ is_in_list cleared x
+  elsewhere x differ = has_push cleared p x ∙ ap (λ b. is_in_list cleared x || b) (ne_eqb x p differ) ∙ or-false (is_in_list cleared x)
 
-  below_now : (x : ℕ) → has (cleared ++ p ∷ []) x ≡ true → x < g.edges.positions
-  below_now x h = elim (or_cases (has cleared x) (x == p) (rw (has_push cleared p x) at h)) [
+  below_now : (x : ℕ) → is_in_list (cleared ++ p ∷ []) x ≡ true → x < g.edges.positions
+  below_now x h = elim (or_cases (is_in_list cleared x) (x == p) (rw (has_push cleared p x) at h)) [
     | inl old ↦ c.below x old
     | inr e ↦ rw (eqb-true x p e) (let l = graph.positions in omega arith)
   ]
 
-  pub clears_success : Clears g begun (slice_set succeeded p true) ready (length cleared) [] left (cleared ++ p ∷ [])
+  pub clears_success : ClearsGates g begun (slice_set succeeded p true) ready (length cleared) [] left (cleared ++ p ∷ [])
   clears_success = record {
     enough = let l = length_push cleared p in omega arith;
     size = c.size;
@@ -165,7 +165,7 @@ module _ (g : GraphOf) (graph : IsGraph g) (begun succeeded ready : List Bool) (
 -- the same of all that is kept
 
 module _ (g : GraphOf) (ends targets : List ℕ) (begun succeeded ready : List Bool) (left cleared : List ℕ) (room : ℕ)
-    (r : Rests g ends targets begun succeeded ready left cleared room) where
+    (r : ClearingRests g ends targets begun succeeded ready left cleared room) where
   pub startable_found : (k : ℕ) → slice_get (startable (record { graph = g; begun = begun; succeeded = succeeded })) 0 ≡ Some k → IsMember ready k
   startable_found k at =
       member_found ready k (ap (λ (xs : List ℕ). slice_get xs 0) (are_startable g r.graph begun succeeded ready left cleared r.clears) ∙ at)
@@ -174,7 +174,7 @@ module _ (g : GraphOf) (ends targets : List ℕ) (begun succeeded ready : List B
   sizes = r.clears.ready_size ∙ sym r.begun_size
 
   pub begun_rests : (k : ℕ) → IsMember ready k
-      → Rests g ends targets (slice_set begun (k - 1) true) succeeded (slice_set ready (k - 1) false) left cleared room
+      → ClearingRests g ends targets (slice_set begun (k - 1) true) succeeded (slice_set ready (k - 1) false) left cleared room
   begun_rests k m =
       let low = m.low in
       let high = m.high in
@@ -189,7 +189,7 @@ module _ (g : GraphOf) (ends targets : List ℕ) (begun succeeded ready : List B
       }
 
   module _ (k : ℕ) (low : 0 < k) (high : k ≤ length g.actions) (runs : is_member begun k ≡ true) (not_yet : is_member succeeded k ≡ false) where
-    pub success_clears : Clears g begun (slice_set succeeded (k - 1) true) ready (length cleared) [] left (cleared ++ (k - 1) ∷ [])
+    pub success_clears : ClearsGates g begun (slice_set succeeded (k - 1) true) ready (length cleared) [] left (cleared ++ (k - 1) ∷ [])
     success_clears =
         clears_success g r.graph begun succeeded ready (k - 1) left cleared r.clears r.succeeded_size (omega arith) runs not_yet
 

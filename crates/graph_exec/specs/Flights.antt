@@ -39,7 +39,7 @@ with_ended f k success = record {
   flying = slice_set f.flying (k - 1) false;
 }
 
-pub record IsFlight (f : FlightOf) : Type 0 where
+pub record IsFlightFlags (f : FlightOf) : Type 0 where
   pub flags : length f.flying ≡ length f.progress.graph.actions
 
 -- the action is of the cell, or a migration to it

@@ -15,9 +15,9 @@ abbrev pub none_begun : GraphOf → Progress
 none_begun g = record { graph = g; begun = replicate (length g.actions) false; succeeded = replicate (length g.actions) false }
 
 -- each action that comes before this one has succeeded
-abbrev pub is_free : GraphOf → List Bool → ℕ → Bool
-is_free g succeeded k = list_all (λ j. not (is_before g j k) || is_member succeeded j) (range_with_len 1 (length g.actions))
+abbrev pub inputs_have_succeeded : GraphOf → List Bool → ℕ → Bool
+inputs_have_succeeded g succeeded k = list_all (λ j. not (is_before g j k) || is_member succeeded j) (range_with_len 1 (length g.actions))
 
 -- the numbers of the actions that haven't begun and before which none is left, ascending
 abbrev pub startable : Progress → List ℕ
-startable p = filter (λ k. is_free p.graph p.succeeded k && not (is_member p.begun k)) (range_with_len 1 (length p.graph.actions))
+startable p = filter (λ k. inputs_have_succeeded p.graph p.succeeded k && not (is_member p.begun k)) (range_with_len 1 (length p.graph.actions))

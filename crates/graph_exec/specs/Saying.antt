@@ -11,10 +11,10 @@ use Rattle.graph_exec.specs.declared.transition.outcomes.Next.{Next}
 use Rattle.graph_exec.specs.declared.transition.outcomes.Next.TheVariants as next
 
 -- from the answers to come before to those after: an answer is the first of them, nothing more is said where there are none, and a fault leaves them
-abbrev pub Gives : Bool → Option (List Answer) → Option (List Answer) → Next → Type 0
-Gives whole before after (next.Answer given) = Says whole before (Some given) after
-Gives whole before after next.Silent = Says whole before None after
-Gives whole before after next.Failed = after ≡ before
+abbrev pub GivesNext : Bool → Option (List Answer) → Option (List Answer) → Next → Type 0
+GivesNext whole before after (next.Answer given) = Says whole before (Some given) after
+GivesNext whole before after next.Silent = Says whole before None after
+GivesNext whole before after next.Failed = after ≡ before
 
 -- these answers were taken from the front of those to come, where these are told
 abbrev pub TakesAnswers : Option (List Answer) → List Answer → Option (List Answer) → Type 0

@@ -29,9 +29,9 @@ closing_line number true = line.Complete number
 closing_line number false = line.Aborted number
 
 -- what was told before and after some lines: all of their text where the watcher goes on, a front of it where it stops. It stays told or untold
-abbrev pub Tells : Option Cluster → List RunLine → Option (List ℕ) → Option (List ℕ) → Heard → Type 0
-Tells names lines before after heard.Go = Adds before (text_of names lines) after
-Tells names lines before after heard.Stop = AddsPrefix (text_of names lines) before after
+abbrev pub TellsLines : Option Cluster → List RunLine → Option (List ℕ) → Option (List ℕ) → Heard → Type 0
+TellsLines names lines before after heard.Go = Adds before (text_of names lines) after
+TellsLines names lines before after heard.Stop = AddsPrefix (text_of names lines) before after
 
 -- what holds a leaf back is a rule with a name, so that each line is short
 abbrev pub ReasonsHaveNames : Placed → Type 0

@@ -5,7 +5,7 @@ use Rattle.cluster_types.specs.declared.journal.Answer.{Answer}
 use Rattle.cluster_types.specs.declared.journal.Event.{Event}
 use Rattle.cluster_types.specs.declared.journal.Promotion.{Promotion}
 use Rattle.cluster_types.specs.declared.run.RunLine.{RunLine}
-use Rattle.cluster_types.specs.Runs.{Standing as Place, RunsOn, plans, goes, completes, aborts, answers as answers_come, Runs, here, one_more}
+use Rattle.cluster_types.specs.Runs.{RunStanding as Place, RunsOn, plans, goes, completes, aborts, answers as answers_come, Runs, here, one_more}
 use Rattle.cluster_types.specs.Sources.{Says, told, used_up, untold}
 use Rattle.cluster_types.specs.Steps.{Transition, StepsOn, begins, takes, is_silent}
 use Rattle.live_run.specs.Followed.{answers, last_line}

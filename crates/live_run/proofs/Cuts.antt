@@ -3,7 +3,7 @@ use Rattle.std.proofs.Common.{◌≡◌, ℕ, ◌<◌, Bool, true, false, if◌t
 use Rattle.std.specs.List.{concat}
 use Rattle.std.proofs.Math.Seq.{drop-append_seam}
 use Rattle.std.proofs.lemmas.List.Folds.{concat-append}
-use Rattle.cluster_io.specs.NextLine.{first_line, first_of}
+use Rattle.cluster_io.specs.NextLine.{first_line, first_line_of}
 use Rattle.crm_lex.specs.RawLines.{physical_lines, goes_on, onto_group, joined, raw_lines}
 use Rattle.crm_lex.proofs.PhysicalLines.{Whole, Whole-physical, Whole-front, Whole-back, lines-concat, concat-lines, some_lines}
 
@@ -83,7 +83,7 @@ pub record CutAt (text raw rest : List ℕ) : Type 0 where
 pub cut_at : (text raw rest : List ℕ) → text ≡ raw ++ rest → 0 < length text → first_line text ≡ physical_lines raw → CutAt text raw rest
 cut_at text raw rest parts some first =
     let k = cut_of text some in
-    let lines : physical_lines k.raw ≡ physical_lines raw = sym (ap first_of k.lines) ∙ first in
+    let lines : physical_lines k.raw ≡ physical_lines raw = sym (ap first_line_of k.lines) ∙ first in
     let same : k.raw ≡ raw = sym (concat-lines k.raw) ∙ (ap concat lines ∙ concat-lines raw) in
     let behind : k.rest ≡ rest
     = sym (drop-append_seam k.raw k.rest) ∙ (ap (drop (length k.raw)) (sym k.whole ∙ parts)

@@ -14,7 +14,7 @@ use Rattle.faults.specs.declared.fault.Fault.TheVariants.{At}
 use Rattle.faults.specs.Reading.{faulting, on_line}
 use Rattle.live_run.specs.Coming.{Lines, coming, said_first}
 use Rattle.live_run.specs.Followed.{said_by}
-use Rattle.live_run.specs.Saying.{answer_says, place_behind, read_says, says, sized_says}
+use Rattle.live_run.specs.Saying.{answer_says, place_behind_said, read_says, line_says_within, sized_says}
 use Rattle.live_run.specs.declared.line_stop.LineCause.TheVariants as cause
 use Rattle.live_run.specs.declared.line_stop.LineStop.TheVariants as why
 use Rattle.live_run.specs.declared.place.Place.{Place}
@@ -51,13 +51,13 @@ sized_few c at step.Failed lines given e = cc
 few : (c : Cluster) (longest : ℕ) (at : Place) (room : ℕ) (lines : List (List (List ℕ))) → at.before ≤ 10000 → at.before + length (coming c longest at room lines).results ≤ 10000
 few c longest at room [] low = omega (arith, low)
 few c longest at room (ls ∷ more) low =
-    by (says c longest at room ls) refl
-    (λ s h. few c longest (place_behind at s (length ls)) (room - length (concat ls)) more h)
+    by (line_says_within c longest at room ls) refl
+    (λ s h. few c longest (place_behind_said at s (length ls)) (room - length (concat ls)) more h)
   where
-    by : (s : Said) → says c longest at room ls ≡ s
-        → ((s : Said) → (place_behind at s (length ls)).before ≤ 10000
-        → (place_behind at s (length ls)).before + length (coming c longest (place_behind at s (length ls)) (room - length (concat ls)) more).results ≤ 10000)
-        → at.before + length (said_first at s (coming c longest (place_behind at s (length ls)) (room - length (concat ls)) more)).results ≤ 10000
+    by : (s : Said) → line_says_within c longest at room ls ≡ s
+        → ((s : Said) → (place_behind_said at s (length ls)).before ≤ 10000
+        → (place_behind_said at s (length ls)).before + length (coming c longest (place_behind_said at s (length ls)) (room - length (concat ls)) more).results ≤ 10000)
+        → at.before + length (said_first at s (coming c longest (place_behind_said at s (length ls)) (room - length (concat ls)) more)).results ≤ 10000
     by said.Nothing e later = later said.Nothing low
     by (said.Answer given) e later =
         let lower = sized_few c at (line_answer room longest ls) ls given e in

@@ -1,13 +1,13 @@
 -- Which logical lines of an input its head has taken, line by line.
 use Rattle.std.proofs.Common.{◌≡◌, ℕ, ◌+◌, Option, Some, None, Result, Ok, Err, List, [], ◌∷◌, ◌++◌, length, option_map, append_assoc, length-append, refl, ap, subst, sym, ◌∙◌, arith}
 use Rattle.std.proofs.lemmas.List.Sums.{sum_by-append}
-use Rattle.cluster_io.specs.Readings.{Answered, Reading}
+use Rattle.cluster_io.specs.Readings.{ReaderAnswered, Reading}
 use Rattle.cluster_io.specs.declared.line_step.LineStep.{LineStep}
 use Rattle.cluster_io.specs.declared.line_step.LineStep.TheVariants.{Line, Failed}
 use Rattle.crm_lex.specs.RawLines.{physical_lines, raw_lines}
 use Rattle.crm_lex.specs.Reading.{reads_line}
 use Rattle.live_run.specs.Followed.{bytes_of}
-use Rattle.live_run.specs.Heads.{HasGoneOn, HasTaken, Head, StillAmid, came_to, head_of, read_says, taken}
+use Rattle.live_run.specs.Heads.{HasHeadGoneOn, HasTaken, HeadVerdict, StillAmid, came_to, head_verdict, head_by_words, taken}
 use Rattle.live_run.specs.declared.head.HeadStop.{HeadStop}
 use Rattle.live_run.specs.declared.head.HeadStop.TheVariants as stop
 use Rattle.live_run.specs.ReadLaws.{bytes_joined, lines_joined}
@@ -20,14 +20,14 @@ pub none_taken : (reading : Reading) (left : Option (List ℕ)) → HasTaken rea
 none_taken reading None = record { lines = []; text_is = refl; cut = refl; number = omega arith; room = omega arith }
 none_taken reading (Some left) = record { lines = []; text_is = refl; cut = refl; number = omega arith; room = omega arith }
 
-pub none_gone : (reading : Reading) (left : Option (List ℕ)) → HasGoneOn reading reading [] left left
+pub none_gone : (reading : Reading) (left : Option (List ℕ)) → HasHeadGoneOn reading reading [] left left
 unfolding none_taken
 none_gone reading None = record { taken = none_taken reading None; goes_on = tt }
 none_gone reading (Some left) = record { taken = none_taken reading (Some left); goes_on = λ more. refl }
 
 module _ (first old new : Reading) (text : List ℕ) (given before after : Option (List ℕ)) (t : HasTaken first old text given before) where
   -- one more is handed out
-  pub line_taken : Answered Line old new before after → HasTaken first new (text ++ new.raw) given after
+  pub line_taken : ReaderAnswered Line old new before after → HasTaken first new (text ++ new.raw) given after
   line_taken a = record {
     lines = t.lines ++ line;
     text_is = ap (λ (x : List ℕ). x ++ new.raw) t.text_is
@@ -51,7 +51,7 @@ module _ (first old new : Reading) (text : List ℕ) (given before after : Optio
       line = physical_lines new.raw ∷ []
 
   -- none is handed out
-  pub still_taken : (step : LineStep) → Answered step old new before after → (step ≡ Line → ⊥) → HasTaken first new text given after
+  pub still_taken : (step : LineStep) → ReaderAnswered step old new before after → (step ≡ Line → ⊥) → HasTaken first new text given after
   still_taken step a other =
       let u = unmoved step old new before after a other in
       record {
@@ -71,32 +71,32 @@ module _ (first old new : Reading) (text : List ℕ) (given before after : Optio
 
 module _ (first old new : Reading) (text : List ℕ) (given : Option (List ℕ)) where
   -- behind one more the head goes on
-  pub line_gone : (before after : Option (List ℕ)) → HasGoneOn first old text given before → (a : Answered Line old new before after)
+  pub line_gone : (before after : Option (List ℕ)) → HasHeadGoneOn first old text given before → (a : ReaderAnswered Line old new before after)
       → (came : Option (Result (Unit {0}) HeadStop)) → came ≡ None
-      → ((others : Head) → came_to came (text ++ new.raw) new others ≡ read_says (reads_line old.next new.raw) (taken (text ++ new.raw) new.next new.room) others)
-      → HasGoneOn first new (text ++ new.raw) given after
+      → ((others : HeadVerdict) → came_to came (text ++ new.raw) new others ≡ head_by_words (reads_line old.next new.raw) (taken (text ++ new.raw) new.next new.room) others)
+      → HasHeadGoneOn first new (text ++ new.raw) given after
   unfolding line_taken
   line_gone before None h a came none says = record { taken = line_taken first old new text given before None h.taken a; goes_on = tt }
   line_gone None (Some left) h a came none says = let taken = a.taken in absurd (let f : ⊥ = cc in f)
   line_gone (Some bytes) (Some left) h a came none says = record {
     taken = line_taken first old new text given (Some bytes) (Some left) h.taken a;
     goes_on = λ more.
-        ap (head_of first.longest [] first.room first.next) (append_assoc h.taken.lines (physical_lines new.raw ∷ []) more)
+        ap (head_verdict first.longest [] first.room first.next) (append_assoc h.taken.lines (physical_lines new.raw ∷ []) more)
         ∙ (h.goes_on (physical_lines new.raw ∷ more)
         ∙ (line_then text old new (Some bytes) left a more
-        ∙ (sym (says (head_of new.longest (text ++ new.raw) new.room new.next more))
-        ∙ ap (λ (k : Option (Result (Unit {0}) HeadStop)). came_to k (text ++ new.raw) new (head_of new.longest (text ++ new.raw) new.room new.next more)) none)));
+        ∙ (sym (says (head_verdict new.longest (text ++ new.raw) new.room new.next more))
+        ∙ ap (λ (k : Option (Result (Unit {0}) HeadStop)). came_to k (text ++ new.raw) new (head_verdict new.longest (text ++ new.raw) new.room new.next more)) none)));
   }
 
   -- where the source fails, no more was taken
-  pub still_gone : (before after : Option (List ℕ)) → HasGoneOn first old text given before → (a : Answered Failed old new before after)
-      → HasGoneOn first new text given after
+  pub still_gone : (before after : Option (List ℕ)) → HasHeadGoneOn first old text given before → (a : ReaderAnswered Failed old new before after)
+      → HasHeadGoneOn first new text given after
   unfolding still_taken
   still_gone before None h a = record { taken = still_taken first old new text given before None h.taken Failed a (λ e. cc); goes_on = tt }
   still_gone None (Some left) h a = let none = a.taken in absurd (let f : ⊥ = cc in f)
   still_gone (Some bytes) (Some left) h a = record {
     taken = still_taken first old new text given (Some bytes) (Some left) h.taken Failed a (λ e. cc);
-    goes_on = λ more. h.goes_on more ∙ ap (λ (r : Reading). head_of r.longest text r.room r.next more) (sym a.leaves.0);
+    goes_on = λ more. h.goes_on more ∙ ap (λ (r : Reading). head_verdict r.longest text r.room r.next more) (sym a.leaves.0);
   }
 
 -- reading goes on, and then it goes on so

@@ -1,8 +1,8 @@
 -- What one answer of a reader of lines has read.
 use Rattle.std.proofs.Common.{◌≡◌, ◌⊎◌, inl, inr, ℕ, ◌+◌, ◌-◌, ◌<◌, true, Option, Some, None, List, [], ◌∷◌, ◌++◌, length, option_map, IfSome, append-nil, append_assoc, length-append, refl, ap, sym, subst, ◌∙◌, arith}
 use Rattle.std.specs.List.{concat}
-use Rattle.cluster_io.specs.NextLine.{first_line, first_of, holds_line, line_answer, IsUndecided}
-use Rattle.cluster_io.specs.Readings.{Answered, CameBy, Reading, nothing_came, more_came}
+use Rattle.cluster_io.specs.NextLine.{first_line, first_line_of, holds_line, line_answer, IsUndecided}
+use Rattle.cluster_io.specs.Readings.{ReaderAnswered, CameBy, Reading, nothing_came, more_came}
 use Rattle.cluster_io.specs.declared.line_step.LineStep.{LineStep}
 use Rattle.cluster_io.specs.declared.line_step.LineStep.TheVariants.{Line, End, TooLong, TooLarge, Failed}
 use Rattle.cluster_io.proofs.LineAnswers.{answer_some}
@@ -12,7 +12,7 @@ use Rattle.crm_lex.specs.declared.fault.LexCause.TheVariants.{LineTooLong}
 use Rattle.crm_lex.proofs.PhysicalLines.{concat-lines}
 use Rattle.live_run.specs.Coming.{Coming, Lines, coming, no_more, said_came, said_first}
 use Rattle.live_run.specs.Followed.{AreNear, HasLast, HasRead, IsStoppedBy, ReadUntil, StandFirst, bytes_of, count_said, results_first, said_by}
-use Rattle.live_run.specs.Saying.{line_says, place_behind, says, sized_says}
+use Rattle.live_run.specs.Saying.{line_says, place_behind_said, line_says_within, sized_says}
 use Rattle.live_run.specs.declared.came.Came.TheVariants as came
 use Rattle.live_run.specs.declared.line_stop.LineCause.TheVariants as cause
 use Rattle.live_run.specs.declared.line_stop.LineStop.{LineStop}
@@ -29,7 +29,7 @@ pub bytes_one : (raw : List ℕ) → bytes_of (physical_lines raw ∷ []) ≡ ra
 bytes_one raw = append-nil (concat (physical_lines raw)) ∙ concat-lines raw
 
 -- a line is handed out, which is the first of those to come
-pub line_cut : (old new : Reading) (before after : Option (List ℕ)) (a : Answered Line old new before after)
+pub line_cut : (old new : Reading) (before after : Option (List ℕ)) (a : ReaderAnswered Line old new before after)
     → option_map (λ left. raw_lines (old.held ++ left)) before ≡ option_map (λ left. (physical_lines new.raw ∷ []) ++ raw_lines (new.held ++ left)) after
 line_cut old new before after a = ap (option_map (λ left. raw_lines (old.held ++ left))) a.taken ∙ on after refl
   where
@@ -41,12 +41,12 @@ line_cut old new before after a = ap (option_map (λ left. raw_lines (old.held +
         ∙ (handed_cut old new before after a left (λ ended. subst (λ (o : Option (List ℕ)). IfSome o (λ (t : List ℕ). t ≡ [])) is (a.at_end ended))).lines)
 
 -- what comes of it
-module _ (c : Cluster) (at : Place) (old new : Reading) (before after : Option (List ℕ)) (a : Answered Line old new before after) where
+module _ (c : Cluster) (at : Place) (old new : Reading) (before after : Option (List ℕ)) (a : ReaderAnswered Line old new before after) where
   abbrev lines : List (List (List ℕ))
   lines = physical_lines new.raw ∷ []
 
   abbrev behind : Said → Lines
-  behind s = lines_at (place_behind at s (length (physical_lines new.raw))) new
+  behind s = lines_at (place_behind_said at s (length (physical_lines new.raw))) new
 
   line_parts : old.held ++ a.bytes ≡ bytes_of lines ++ new.held
   line_parts = a.leaves.parts ∙ ap (λ (t : List ℕ). t ++ new.held) (sym (bytes_one new.raw))
@@ -63,9 +63,9 @@ module _ (c : Cluster) (at : Place) (old new : Reading) (before after : Option (
   says_first s is others =
       line_first c old.longest at old.room new.raw others (handed_answer old new before after a [] (λ ended. refl))
       ∙ (ap (λ (r : ℕ). said_first at (line_says c at new.raw)
-      (coming c old.longest (place_behind at (line_says c at new.raw) (length (physical_lines new.raw))) r others)) (sym (room_is old new before after a))
+      (coming c old.longest (place_behind_said at (line_says c at new.raw) (length (physical_lines new.raw))) r others)) (sym (room_is old new before after a))
       ∙ (ap (λ (n : ℕ). said_first at (line_says c at new.raw)
-      (coming c n (place_behind at (line_says c at new.raw) (length (physical_lines new.raw))) new.room others)) (sym (longest_is old new before after a))
+      (coming c n (place_behind_said at (line_says c at new.raw) (length (physical_lines new.raw))) new.room others)) (sym (longest_is old new before after a))
       ∙ ap (λ (t : Said). said_first at t (said_by c (behind t) others)) is))
 
   line_read : (s : Said) (given : List ResultLine) → line_says c at new.raw ≡ s → ((others : Coming) → said_first at s others ≡ results_first given others)
@@ -84,8 +84,8 @@ module _ (c : Cluster) (at : Place) (old new : Reading) (before after : Option (
   }
 
   line_last : (s : Said) (whole : Coming) → line_says c at new.raw ≡ s → said_first at s (said_by c (behind s) []) ≡ whole → 0 < count_said whole → HasLast c (lines_at at old) lines
-  line_last s whole is says some =
-      let counted = ap count_said (says_first s is [] ∙ says) in
+  line_last s whole is line_says_within some =
+      let counted = ap count_said (says_first s is [] ∙ line_says_within) in
       record { front = []; last = physical_lines new.raw; joined = refl; fewer = omega (arith, counted, some) }
 
   by_said : (s : Said) → line_says c at new.raw ≡ s → ReadUntil c (said_came at.line s) (lines_at at old) (behind s) before after
@@ -120,7 +120,7 @@ module _ (c : Cluster) (at : Place) (old new : Reading) (before after : Option (
   line_until = by_said (line_says c at new.raw) refl
 
 -- no line is handed out
-pub unmoved : (step : LineStep) (old new : Reading) (before after : Option (List ℕ)) (a : Answered step old new before after) → (step ≡ Line → ⊥)
+pub unmoved : (step : LineStep) (old new : Reading) (before after : Option (List ℕ)) (a : ReaderAnswered step old new before after) → (step ≡ Line → ⊥)
     → (new.held ≡ old.held ++ a.bytes) × ((new.room ≡ old.room) × (new.longest ≡ old.longest))
 unmoved Line old new before after a other = absurd (other refl)
 unmoved End old new before after a other =
@@ -153,7 +153,7 @@ unmoved_read c at old new before after bytes taken held room longest = record {
   same_size = longest;
 }
 
-pub end_until : (c : Cluster) (at : Place) (old new : Reading) (before after : Option (List ℕ)) → Answered End old new before after
+pub end_until : (c : Cluster) (at : Place) (old new : Reading) (before after : Option (List ℕ)) → ReaderAnswered End old new before after
     → ReadUntil c (Some came.End) (lines_at at old) (lines_at at new) before after
 end_until c at old new before after a =
     let u = unmoved End old new before after a (λ e. cc) in
@@ -165,10 +165,10 @@ end_until c at old new before after a =
     }
 
 -- what is held gives no answer yet
-pub undecided_now : (old new : Reading) (before after : Option (List ℕ)) → Answered Failed old new before after → IsUndecided new.room new.longest new.held
+pub undecided_now : (old new : Reading) (before after : Option (List ℕ)) → ReaderAnswered Failed old new before after → IsUndecided new.room new.longest new.held
 undecided_now old new before after a = subst (λ (r : Reading). IsUndecided r.room r.longest r.held) (sym a.leaves.0) (a.undecided refl)
 
-pub fault_until : (c : Cluster) (at : Place) (old new : Reading) (before after : Option (List ℕ)) → Answered Failed old new before after
+pub fault_until : (c : Cluster) (at : Place) (old new : Reading) (before after : Option (List ℕ)) → ReaderAnswered Failed old new before after
     → ReadUntil c (Some came.Fault) (lines_at at old) (lines_at at new) before after
 fault_until c at old new before after a =
     let u = unmoved Failed old new before after a (λ e. cc) in
@@ -194,7 +194,7 @@ needed_near held bytes rest (more_came earlier last _ sooner unended some small 
     let line = ap (λ (t : List ℕ). length (concat (first_line t))) whole in
     inr (omega (arith, size, sum, past, line, small))
 
-module _ (c : Cluster) (at : Place) (old new : Reading) (before after : Option (List ℕ)) (step : LineStep) (w : LineStop) (a : Answered step old new before after)
+module _ (c : Cluster) (at : Place) (old new : Reading) (before after : Option (List ℕ)) (step : LineStep) (w : LineStop) (a : ReaderAnswered step old new before after)
     (sized : (lines : List (List ℕ)) → sized_says c at step lines ≡ said.Stop w) (other : step ≡ End → ⊥) (given : step ≡ Failed → ⊥) where
   stopped_at : (rest : List ℕ) → (a.ended ≡ true → rest ≡ []) → IfSome before (λ left. left ≡ a.bytes ++ rest)
       → IsStoppedBy c (lines_at at old) before after [] w
@@ -204,13 +204,13 @@ module _ (c : Cluster) (at : Place) (old new : Reading) (before after : Option (
       let some = some_if step old.room old.longest text other exact in
       let k = cut_of text some in
       let answer : line_answer old.room old.longest (physical_lines k.raw) ≡ step
-      = sym (exact ∙ (answer_some old.room old.longest text some ∙ ap (λ ls. line_answer old.room old.longest (first_of ls)) k.lines)) in
-      let says_is : says c old.longest at old.room (physical_lines k.raw) ≡ said.Stop w
+      = sym (exact ∙ (answer_some old.room old.longest text some ∙ ap (λ ls. line_answer old.room old.longest (first_line_of ls)) k.lines)) in
+      let says_is : line_says_within c old.longest at old.room (physical_lines k.raw) ≡ said.Stop w
       = ap (λ s. sized_says c at s (physical_lines k.raw)) answer ∙ sized (physical_lines k.raw) in
       let whole : said_by c (lines_at at old) (physical_lines k.raw ∷ []) ≡ no_more (Some w)
-      = ap (λ s. said_first at s (coming c old.longest (place_behind at s (length (physical_lines k.raw))) (old.room - length (concat (physical_lines k.raw))) [])) says_is in
+      = ap (λ s. said_first at s (coming c old.longest (place_behind_said at s (length (physical_lines k.raw))) (old.room - length (concat (physical_lines k.raw))) [])) says_is in
       let counted = ap count_said whole in
-      let first : first_line text ≡ physical_lines k.raw = ap first_of k.lines in
+      let first : first_line text ≡ physical_lines k.raw = ap first_line_of k.lines in
       record {
         lines = physical_lines k.raw ∷ [];
         first = stands before is k.rest k.raw k.lines;
@@ -247,11 +247,11 @@ module _ (c : Cluster) (at : Place) (old new : Reading) (before after : Option (
           all_told None e = tt
           all_told (Some t) e = cc
 
-pub too_long_until : (c : Cluster) (at : Place) (old new : Reading) (before after : Option (List ℕ)) → Answered TooLong old new before after
+pub too_long_until : (c : Cluster) (at : Place) (old new : Reading) (before after : Option (List ℕ)) → ReaderAnswered TooLong old new before after
     → ReadUntil c (Some (came.Stop (why.Refused at.line (cause.Words LineTooLong)))) (lines_at at old) (lines_at at new) before after
 too_long_until c at old new before after a =
     stop_until c at old new before after TooLong (why.Refused at.line (cause.Words LineTooLong)) a (λ lines. refl) (λ e. cc) (λ e. cc)
 
-pub too_large_until : (c : Cluster) (at : Place) (old new : Reading) (before after : Option (List ℕ)) → Answered TooLarge old new before after
+pub too_large_until : (c : Cluster) (at : Place) (old new : Reading) (before after : Option (List ℕ)) → ReaderAnswered TooLarge old new before after
     → ReadUntil c (Some (came.Stop why.TooLarge)) (lines_at at old) (lines_at at new) before after
 too_large_until c at old new before after a = stop_until c at old new before after TooLarge why.TooLarge a (λ lines. refl) (λ e. cc) (λ e. cc)

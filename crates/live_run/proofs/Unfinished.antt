@@ -2,7 +2,7 @@
 use Rattle.std.proofs.Common.{◌≡◌, ℕ, ◌+◌, ◌<◌, ◌==◌, ◌||◌, Bool, true, false, List, [], ◌∷◌, ◌++◌, length, length-append, refl, ap, sym, ◌∙◌, arith}
 use Rattle.std.specs.List.{concat, AllByRecursion}
 use Rattle.std.proofs.lemmas.Bool.{cond-true, cond-false, or_parts}
-use Rattle.cluster_io.specs.NextLine.{first_of, first_line, has_feed, holds_line, is_whole}
+use Rattle.cluster_io.specs.NextLine.{first_line_of, first_line, has_feed, holds_line, is_whole}
 use Rattle.cluster_io.proofs.PhysicalLines.{first_of-onto_group}
 use Rattle.crm_lex.specs.RawLines.{goes_on, joined, onto_first, onto_group, physical_lines}
 
@@ -125,33 +125,33 @@ begins (b ∷ back) rest none some =
 -- lines that are whole and go on, and then a line that goes past the open one
 goes_past : (continues : Bool) (front : List (List ℕ)) (back line : List ℕ) (lines : List (List ℕ)) → AllByRecursion (λ l. has_feed l ≡ true) front
     → is_whole continues (front ++ open_line back) ≡ false → length back < length line
-    → length (concat front) + length back < length (concat (first_of (joined continues (front ++ line ∷ lines))))
+    → length (concat front) + length back < length (concat (first_line_of (joined continues (front ++ line ∷ lines))))
 goes_past continues [] back line lines feeds unended long = let past = by (goes_on continues line) refl in omega (arith, past)
   where
-    by : (t : Bool) → goes_on continues line ≡ t → length back < length (concat (first_of (joined continues (line ∷ lines))))
+    by : (t : Bool) → goes_on continues line ≡ t → length back < length (concat (first_line_of (joined continues (line ∷ lines))))
     by true e =
-        let is : first_of (joined continues (line ∷ lines)) ≡ line ∷ first_of (joined true lines)
-        = ap first_of (cond-true (goes_on continues line) (onto_group line (joined true lines)) ((line ∷ []) ∷ joined false lines) e) ∙ first_of-onto_group line (joined true lines) in
+        let is : first_line_of (joined continues (line ∷ lines)) ≡ line ∷ first_line_of (joined true lines)
+        = ap first_line_of (cond-true (goes_on continues line) (onto_group line (joined true lines)) ((line ∷ []) ∷ joined false lines) e) ∙ first_of-onto_group line (joined true lines) in
         let size = ap (λ (t : List (List ℕ)). length (concat t)) is in
-        let both = length-append line (concat (first_of (joined true lines))) in
+        let both = length-append line (concat (first_line_of (joined true lines))) in
         omega (arith, size, both, long)
     by false e =
-        let is : first_of (joined continues (line ∷ lines)) ≡ line ∷ []
-        = ap first_of (cond-false (goes_on continues line) (onto_group line (joined true lines)) ((line ∷ []) ∷ joined false lines) e) in
+        let is : first_line_of (joined continues (line ∷ lines)) ≡ line ∷ []
+        = ap first_line_of (cond-false (goes_on continues line) (onto_group line (joined true lines)) ((line ∷ []) ∷ joined false lines) e) in
         let size = ap (λ (t : List (List ℕ)). length (concat t)) is in
         let both = length-append line [] in
         omega (arith, size, both, long)
 goes_past continues (l ∷ front) back line lines feeds unended long =
     by (λ still. goes_past true front back line lines feeds.1 still long) (goes_on continues l) refl
   where
-    by : (is_whole true (front ++ open_line back) ≡ false → length (concat front) + length back < length (concat (first_of (joined true (front ++ line ∷ lines)))))
-        → (t : Bool) → goes_on continues l ≡ t → length (l ++ concat front) + length back < length (concat (first_of (joined continues (l ∷ (front ++ line ∷ lines)))))
+    by : (is_whole true (front ++ open_line back) ≡ false → length (concat front) + length back < length (concat (first_line_of (joined true (front ++ line ∷ lines)))))
+        → (t : Bool) → goes_on continues l ≡ t → length (l ++ concat front) + length back < length (concat (first_line_of (joined continues (l ∷ (front ++ line ∷ lines)))))
     by later true e =
         let still = sym (cond-true (goes_on continues l) (is_whole true (front ++ open_line back)) (has_feed l) e) ∙ unended in
         let more = later still in
-        let rest = first_of (joined true (front ++ line ∷ lines)) in
-        let is : first_of (joined continues (l ∷ (front ++ line ∷ lines))) ≡ l ∷ rest
-        = ap first_of (cond-true (goes_on continues l) (onto_group l (joined true (front ++ line ∷ lines))) ((l ∷ []) ∷ joined false (front ++ line ∷ lines)) e)
+        let rest = first_line_of (joined true (front ++ line ∷ lines)) in
+        let is : first_line_of (joined continues (l ∷ (front ++ line ∷ lines))) ≡ l ∷ rest
+        = ap first_line_of (cond-true (goes_on continues l) (onto_group l (joined true (front ++ line ∷ lines))) ((l ∷ []) ∷ joined false (front ++ line ∷ lines)) e)
         ∙ first_of-onto_group l (joined true (front ++ line ∷ lines)) in
         let size = ap (λ (t : List (List ℕ)). length (concat t)) is in
         let both = length-append l (concat rest) in
@@ -169,6 +169,6 @@ longer text rest unended some =
     let b = begins s.back rest s.none some in
     let past = goes_past false s.front s.back b.line b.lines s.feeds (ap (is_whole false) (sym s.lines) ∙ unended) b.long in
     let lines : physical_lines (text ++ rest) ≡ s.front ++ b.line ∷ b.lines = s.more rest ∙ ap (λ (t : List (List ℕ)). s.front ++ t) b.is in
-    let size = ap (λ (t : List (List ℕ)). length (concat (first_of (joined false t)))) lines in
+    let size = ap (λ (t : List (List ℕ)). length (concat (first_line_of (joined false t)))) lines in
     let all = s.size in
     omega (arith, size, all, past)

@@ -9,7 +9,7 @@ use Rattle.cluster_io.proofs.Pieces.{Adds-then}
 use Rattle.cluster_types.specs.declared.cluster.Cluster.{Cluster}
 use Rattle.cluster_types.specs.declared.run.RunLine.{RunLine}
 use Rattle.cluster_types.specs.Texts.{run_line}
-use Rattle.graph_exec.specs.Telling.{Tells}
+use Rattle.graph_exec.specs.Telling.{TellsLines}
 use Rattle.lemmas.proofs.Ranges.{flat_map-more}
 use Rattle.live_run.specs.Writing.{Puts, heard_of}
 use Rattle.trace_text.proofs.MoreLines.{lines_of_lines, lines_of_three}
@@ -120,7 +120,7 @@ module _ {Y : Type 0} (text : Y → List ℕ) (first : List Y) (line : ℕ → L
 
 -- what was written of some lines is what the watcher was told
 pub tells : (c : Cluster) (lines : List RunLine) (r : Result (Unit {0}) WriteFault) (before after : Option (List ℕ)) → Puts r (flat_map (run_line c) lines) before after
-    → Tells (Some c) lines before after (heard_of r)
+    → TellsLines (Some c) lines before after (heard_of r)
 tells c lines (Ok done) before after p = p
 tells c lines (Err fault) before after p = p
 

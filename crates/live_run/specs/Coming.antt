@@ -5,7 +5,7 @@ use Rattle.cluster_io.specs.Readings.{Reading}
 use Rattle.cluster_types.specs.declared.cluster.Cluster.{Cluster}
 use Rattle.crm_lex.specs.RawLines.{raw_lines}
 use Rattle.input_reading.specs.declared.results.result_lines.ResultLine.{ResultLine}
-use Rattle.live_run.specs.Saying.{is_last, place_behind, says}
+use Rattle.live_run.specs.Saying.{is_last, place_behind_said, line_says_within}
 use Rattle.live_run.specs.declared.came.Came.{Came}
 use Rattle.live_run.specs.declared.came.Came.TheVariants as came
 use Rattle.live_run.specs.declared.line_stop.LineStop.{LineStop}
@@ -35,8 +35,8 @@ said_first at (said.Stop why) others = no_more (Some why)
 abbrev pub coming : Cluster → ℕ → Place → ℕ → List (List (List ℕ)) → Coming
 coming c longest at room [] = no_more None
 coming c longest at room (lines ∷ more) =
-    said_first at (says c longest at room lines)
-    (coming c longest (place_behind at (says c longest at room lines) (length lines)) (room - length (concat lines)) more)
+    said_first at (line_says_within c longest at room lines)
+    (coming c longest (place_behind_said at (line_says_within c longest at room lines) (length lines)) (room - length (concat lines)) more)
 
 -- lines that are read: the place of the next, and what their reader holds
 pub record Lines : Type 0 where
@@ -48,8 +48,8 @@ abbrev pub coming_of : Cluster → Lines → List ℕ → Coming
 coming_of c lines left = coming c lines.reading.longest lines.at lines.reading.room (raw_lines (lines.reading.held ++ left))
 
 -- the same, where the source tells what it has left
-abbrev pub told_of : Cluster → Lines → Option (List ℕ) → Option Coming
-told_of c lines left = option_map (coming_of c lines) left
+abbrev pub told_coming : Cluster → Lines → Option (List ℕ) → Option Coming
+told_coming c lines left = option_map (coming_of c lines) left
 
 -- what came of reading on, and then what is still to come
 abbrev pub came_first : Option Came → Coming → Coming
@@ -60,7 +60,7 @@ came_first _ others = others
 
 -- reading on brought this of what was to come
 abbrev pub Brings : Cluster → Option Came → Lines → Lines → Option (List ℕ) → Option (List ℕ) → Type 0
-Brings c came old new before after = told_of c old before ≡ option_map (λ left. came_first came (coming_of c new left)) after
+Brings c came old new before after = told_coming c old before ≡ option_map (λ left. came_first came (coming_of c new left)) after
 
 -- what came of a line with this number that says this
 abbrev pub said_came : ℕ → Said → Option Came
@@ -74,9 +74,9 @@ answers_in (Some (came.Answer result)) = 1
 answers_in _ = 0
 
 -- whether lines can still be read
-abbrev pub goes_on : Option Came → Bool
-goes_on (Some (came.Stop why)) = false
-goes_on _ = true
+abbrev pub reads_on : Option Came → Bool
+reads_on (Some (came.Stop why)) = false
+reads_on _ = true
 
 -- what stops the reading of lines is a line that is refused or goes past the limit
 abbrev pub is_stop_last : Option Came → Bool

@@ -16,7 +16,7 @@ use Rattle.live_run.specs.declared.line_stop.LineStop.TheVariants.{ReadFault}
 
 -- the cluster by whose names the lines are read, the lines to come, whether the source goes on, the line of its last answer, and whether its source of
 -- bytes has failed
-pub record Standing : Type 0 where
+pub record SourceState : Type 0 where
   pub cluster : Cluster
   pub lines : Lines
   pub course : Course
@@ -24,7 +24,7 @@ pub record Standing : Type 0 where
   pub failed : Bool
 
 -- no answer was given yet, and the next line is taken at a moment
-abbrev pub starting : Cluster → ℕ → Reading → Standing
+abbrev pub starting : Cluster → ℕ → Reading → SourceState
 starting c moment reading = record {
   cluster = c;
   lines = record { at = record { moment = moment; before = 0; line = reading.next }; reading = reading };
@@ -40,19 +40,19 @@ in_course course.Ended coming = no_more None
 in_course (course.Stopped why times) coming = no_more (Some why)
 
 -- what is to come, where so many bytes are left
-abbrev pub to_come : Standing → List ℕ → Coming
-to_come s left = in_course s.course (coming_of s.cluster s.lines left)
+abbrev pub coming_to : SourceState → List ℕ → Coming
+coming_to s left = in_course s.course (coming_of s.cluster s.lines left)
 
 -- the same, where the source of bytes tells what it has left
-abbrev pub told_by : Standing → Option (List ℕ) → Option Coming
-told_by s left = option_map (to_come s) left
+abbrev pub told_by : SourceState → Option (List ℕ) → Option Coming
+told_by s left = option_map (coming_to s) left
 
-abbrev pub answers_of : Coming → List Answer
-answers_of coming = map (λ (result : ResultLine). result.answer) coming.results
+abbrev pub answers_to_come : Coming → List Answer
+answers_to_come coming = map (λ (result : ResultLine). result.answer) coming.results
 
 -- the answers to come, where they are told
 abbrev pub rest_of : Option Coming → Option (List Answer)
-rest_of told = option_map answers_of told
+rest_of told = option_map answers_to_come told
 
 -- no line is told that is refused or goes past the limit
 abbrev pub whole_of : Option Coming → Bool
@@ -62,9 +62,9 @@ abbrev pub is_reading : Course → Bool
 is_reading course.Reading = true
 is_reading _ = false
 
-abbrev pub has_ended : Course → Bool
-has_ended course.Ended = true
-has_ended _ = false
+abbrev pub has_course_ended : Course → Bool
+has_course_ended course.Ended = true
+has_course_ended _ = false
 
 -- how often it has failed by a line that is refused or goes past the limit
 abbrev pub times_stopped : Course → ℕ
@@ -81,17 +81,17 @@ abbrev pub why_stopped : Course → Bool → Option LineStop
 why_stopped (course.Stopped why times) failed = Some why
 why_stopped _ failed = if failed then Some ReadFault else None
 
-abbrev pub stop_of : Standing → Option LineStop
+abbrev pub stop_of : SourceState → Option LineStop
 stop_of s = why_stopped s.course s.failed
 
 -- how often it has failed, where its source of bytes has failed so often
-abbrev pub faults_of : Standing → ℕ → ℕ
+abbrev pub faults_of : SourceState → ℕ → ℕ
 faults_of s faults = faults + times_stopped s.course
 
 -- what a question brings of what was to come. Silence comes at the end, and a failure leaves what is to come
-abbrev pub Answers : Next → Standing → Standing → Option (List ℕ) → Option (List ℕ) → Type 0
-Answers (next.Answer given) old new before after =
-    (told_by old before ≡ option_map (λ left. result_first (record { line = new.line; answer = given }) (to_come new left)) after)
+abbrev pub CourseAnswers : Next → SourceState → SourceState → Option (List ℕ) → Option (List ℕ) → Type 0
+CourseAnswers (next.Answer given) old new before after =
+    (told_by old before ≡ option_map (λ left. result_first (record { line = new.line; answer = given }) (coming_to new left)) after)
     × (is_reading old.course ≡ true)
-Answers next.Silent old new before after = (told_by old before ≡ told_by new after) × (has_ended new.course ≡ true)
-Answers next.Failed old new before after = (told_by old before ≡ told_by new after) × (has_ended old.course ≡ false)
+CourseAnswers next.Silent old new before after = (told_by old before ≡ told_by new after) × (has_course_ended new.course ≡ true)
+CourseAnswers next.Failed old new before after = (told_by old before ≡ told_by new after) × (has_course_ended old.course ≡ false)

@@ -3,14 +3,14 @@
 use Rattle.std.specs.Prelude.{◌≡◌, ◌⊎◌, ℕ, ◌+◌, ◌<◌, ◌≤◌, Bool, true, false, if◌then◌else◌, Option, Some, None, List, [], ◌∷◌, ◌++◌, length, is_some, option_map, sum_by, IfSome}
 use Rattle.std.specs.List.{concat, flat_map}
 use Rattle.cluster_io.specs.NextLine.{holds_line, IsUndecided}
-use Rattle.cluster_io.specs.Streams.{Rose, Takes}
+use Rattle.cluster_io.specs.Streams.{Rose, TakesBytes}
 use Rattle.cluster_types.specs.declared.cluster.Cluster.{Cluster}
 use Rattle.crm_lex.specs.RawLines.{raw_lines}
 use Rattle.graph_exec.specs.declared.transition.outcomes.Next.{Next}
 use Rattle.graph_exec.specs.declared.transition.outcomes.Next.TheVariants as next
 use Rattle.input_reading.specs.declared.results.result_lines.ResultLine.{ResultLine}
 use Rattle.live_run.specs.Coming.{Coming, Lines, coming}
-use Rattle.live_run.specs.Courses.{Standing, has_ended, is_reading, stop_of, told_by, to_come}
+use Rattle.live_run.specs.Courses.{SourceState, has_course_ended, is_reading, stop_of, told_by, coming_to}
 use Rattle.live_run.specs.Saying.{is_last}
 use Rattle.live_run.specs.declared.came.Came.{Came}
 use Rattle.live_run.specs.declared.came.Came.TheVariants as came
@@ -63,7 +63,7 @@ EndsInOne c from lines = (lines ≡ []) ⊎ HasLast c from lines
 -- these logical lines were read and answered so, and the bytes that were taken for them are theirs and those that are held now. Each byte of theirs leaves
 -- less room
 pub record HasRead (c : Cluster) (old new : Lines) (before after : Option (List ℕ)) (lines : List (List (List ℕ))) (given : List ResultLine) (bytes : List ℕ) : Type 0 where
-  pub taken : Takes before bytes after
+  pub taken : TakesBytes before bytes after
   pub parts : old.reading.held ++ bytes ≡ bytes_of lines ++ new.reading.held
   pub cut : option_map (λ left. raw_lines (old.reading.held ++ left)) before ≡ option_map (λ left. lines ++ raw_lines (new.reading.held ++ left)) after
   pub answered : (others : List (List (List ℕ))) → said_by c old (lines ++ others) ≡ results_first given (said_by c new others)
@@ -86,7 +86,7 @@ pub record IsStoppedBy (c : Cluster) (old : Lines) (before after : Option (List 
   pub said : said_by c old lines ≡ record { results = given; stop = Some why }
   pub ends : HasLast c old lines
   pub bytes : List ℕ
-  pub taken : Takes before bytes after
+  pub taken : TakesBytes before bytes after
   pub near : AreNear old lines bytes
 
 -- lines without words were passed over
@@ -105,7 +105,7 @@ pub record HasGiven (c : Cluster) (old new : Lines) (before after : Option (List
   pub ends : HasLast c old lines
 
 -- the end came
-pub record HasEnded (c : Cluster) (old new : Lines) (before after : Option (List ℕ)) : Type 0 where
+pub record HasReachedEnd (c : Cluster) (old new : Lines) (before after : Option (List ℕ)) : Type 0 where
   pub lines : List (List (List ℕ))
   pub bytes : List ℕ
   pub read : HasRead c old new before after lines [] bytes
@@ -123,45 +123,45 @@ pub record HasFaltered (c : Cluster) (old new : Lines) (before after : Option (L
 abbrev pub ReadUntil : Cluster → Option Came → Lines → Lines → Option (List ℕ) → Option (List ℕ) → Type 0
 ReadUntil c None old new before after = HasPassed c old new before after
 ReadUntil c (Some (came.Answer result)) old new before after = HasGiven c old new before after result
-ReadUntil c (Some came.End) old new before after = HasEnded c old new before after
+ReadUntil c (Some came.End) old new before after = HasReachedEnd c old new before after
 ReadUntil c (Some (came.Stop why)) old new before after = IsStoppedBy c old before after [] why
 ReadUntil c (Some came.Fault) old new before after = HasFaltered c old new before after
 
 -- it goes on reading behind a line that says something, or all is read
-abbrev pub RestsBehind : Standing → Standing → Option (List ℕ) → List (List (List ℕ)) → List ℕ → Course → Type 0
+abbrev pub RestsBehind : SourceState → SourceState → Option (List ℕ) → List (List (List ℕ)) → List ℕ → Course → Type 0
 RestsBehind old new after lines bytes course.Reading = EndsInOne old.cluster old.lines lines × AreNear old.lines lines bytes
 RestsBehind old new after lines bytes course.Ended = AllIsRead new.lines after
 RestsBehind old new after lines bytes (course.Stopped why times) = ⊥
 
 -- some questions were answered
-pub record HasAnswered (old new : Standing) (before after : Option (List ℕ)) : Type 0 where
+pub record HasAnswered (old new : SourceState) (before after : Option (List ℕ)) : Type 0 where
   pub cluster_stays : new.cluster ≡ old.cluster
   pub lines : List (List (List ℕ))
   pub given : List ResultLine
   pub bytes : List ℕ
   pub read : HasRead old.cluster old.lines new.lines before after lines given bytes
-  pub told : told_by old before ≡ option_map (λ left. results_first given (to_come new left)) after
+  pub told : told_by old before ≡ option_map (λ left. results_first given (coming_to new left)) after
   pub line : new.line ≡ last_line old.line given
   pub rests : RestsBehind old new after lines bytes new.course
 
 -- no question failed: nothing was read, or some questions were answered
-pub data Follows (old new : Standing) (before after : Option (List ℕ)) : Type 0 where
-  stays : new ≡ old → after ≡ before → Follows old new before after
-  answers : is_reading old.course ≡ true → HasAnswered old new before after → Follows old new before after
+pub data SourceFollows (old new : SourceState) (before after : Option (List ℕ)) : Type 0 where
+  stays : new ≡ old → after ≡ before → SourceFollows old new before after
+  answers : is_reading old.course ≡ true → HasAnswered old new before after → SourceFollows old new before after
 
 -- the source of bytes failed: all lines that were taken whole were read, and what is held behind them gives no answer yet
-pub record HasBroken (old new : Standing) (before after : Option (List ℕ)) : Type 0 where
+pub record HasBroken (old new : SourceState) (before after : Option (List ℕ)) : Type 0 where
   pub lines : List (List (List ℕ))
   pub given : List ResultLine
   pub bytes : List ℕ
   pub read : HasRead old.cluster old.lines new.lines before after lines given bytes
-  pub told : told_by old before ≡ option_map (λ left. results_first given (to_come new left)) after
+  pub told : told_by old before ≡ option_map (λ left. results_first given (coming_to new left)) after
   pub unfinished : holds_line new.lines.reading.held ≡ false
   pub undecided : IsUndecided new.lines.reading.room new.lines.reading.longest new.lines.reading.held
   pub why : stop_of new ≡ Some ReadFault
 
 -- a line was refused, or goes past the limit: it stands behind those that were answered
-pub record HasStopped (old new : Standing) (before after : Option (List ℕ)) : Type 0 where
+pub record HasStopped (old new : SourceState) (before after : Option (List ℕ)) : Type 0 where
   pub why : LineStop
   pub last : is_last why ≡ true
   pub stop : stop_of new ≡ Some why
@@ -171,7 +171,7 @@ pub record HasStopped (old new : Standing) (before after : Option (List ℕ)) : 
 
 -- a source of answers at a moment: where it stands, what its source of bytes has left and how often that has failed, and the name of its loan
 pub record View : Type 0 where
-  pub standing : Standing
+  pub standing : SourceState
   pub left : Option (List ℕ)
   pub faults : ℕ
   pub loan : ℕ
@@ -184,16 +184,16 @@ pub record HasNotFailed (exact : Bool) (old new : View) : Type 0 where
 
 -- no question failed
 pub record HasFollowed (exact : Bool) (old new : View) : Type 0 where
-  pub follows : Follows old.standing new.standing old.left new.left
+  pub follows : SourceFollows old.standing new.standing old.left new.left
   pub counts : HasNotFailed exact old new
 
 -- the last question failed: by the source of bytes, which has counted it, or by a line
-pub data HasFailed (exact : Bool) (old new : View) : Type 0 where
-  by_source : HasBroken old.standing new.standing old.left new.left → Rose old.faults new.faults → new.loan ≡ old.loan → HasFailed exact old new
-  by_line : HasStopped old.standing new.standing old.left new.left → HasNotFailed exact old new → HasFailed exact old new
+pub data HasQuestionFailed (exact : Bool) (old new : View) : Type 0 where
+  by_source : HasBroken old.standing new.standing old.left new.left → Rose old.faults new.faults → new.loan ≡ old.loan → HasQuestionFailed exact old new
+  by_line : HasStopped old.standing new.standing old.left new.left → HasNotFailed exact old new → HasQuestionFailed exact old new
 
 -- what the last question brought. After the end of the input none fails, and after a line that stops the reading each does
 abbrev pub HasSaid : Bool → View → View → Next → Type 0
 HasSaid exact old new (next.Answer given) = HasFollowed exact old new
-HasSaid exact old new next.Silent = HasFollowed exact old new × (has_ended new.standing.course ≡ true)
-HasSaid exact old new next.Failed = (has_ended old.standing.course ≡ false) × (is_reading old.standing.course ≡ true → HasFailed exact old new)
+HasSaid exact old new next.Silent = HasFollowed exact old new × (has_course_ended new.standing.course ≡ true)
+HasSaid exact old new next.Failed = (has_course_ended old.standing.course ≡ false) × (is_reading old.standing.course ≡ true → HasQuestionFailed exact old new)

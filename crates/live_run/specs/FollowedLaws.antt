@@ -5,9 +5,9 @@ use Rattle.graph_exec.specs.declared.transition.outcomes.Next.{Next}
 use Rattle.graph_exec.specs.declared.transition.outcomes.Next.TheVariants as next
 use Rattle.input_reading.specs.declared.results.result_lines.ResultLine.{ResultLine}
 use Rattle.live_run.specs.Coming.{Coming}
-use Rattle.live_run.specs.Courses.{Standing, has_ended, is_reading, to_come}
-use Rattle.live_run.specs.Followed.{EndsInOne, Follows, HasAnswered, HasBroken, HasFailed, HasFollowed, HasNotFailed, HasRead, HasSaid, HasStopped, IsStoppedBy, RestsBehind, View, answers, by_line, by_source, last_line, results_first, stays}
-use Rattle.live_run.specs.Writing.{HasGoneOn, IsSameSink}
+use Rattle.live_run.specs.Courses.{SourceState, has_course_ended, is_reading, coming_to}
+use Rattle.live_run.specs.Followed.{EndsInOne, SourceFollows, HasAnswered, HasBroken, HasQuestionFailed, HasFollowed, HasNotFailed, HasRead, HasSaid, HasStopped, IsStoppedBy, RestsBehind, View, answers, by_line, by_source, last_line, results_first, stays}
+use Rattle.live_run.specs.Writing.{HasWritingGoneOn, IsSameSink}
 use Rattle.live_run.specs.declared.course.Course.{Course}
 use Rattle.live_run.specs.declared.course.Course.TheVariants as course
 use Rattle.live_run.specs.ReadLaws.{ends_then, near_then, read_then, stopped_then, told_joined}
@@ -17,7 +17,7 @@ reading_is course.Reading h = refl
 reading_is course.Ended h = cc
 reading_is (course.Stopped why times) h = cc
 
-pub reading_not_ended : (k : Course) → is_reading k ≡ true → has_ended k ≡ false
+pub reading_not_ended : (k : Course) → is_reading k ≡ true → has_course_ended k ≡ false
 reading_not_ended course.Reading h = refl
 reading_not_ended course.Ended h = cc
 reading_not_ended (course.Stopped why times) h = refl
@@ -34,7 +34,7 @@ told_then given f g (Some u) None e = cc
 told_then given f g (Some u) (Some v) e = ap (option_map (results_first given)) e
 
 -- questions that were answered, and what comes behind them while it reads
-module _ (a b d : Standing) (x y z : Option (List ℕ)) (p : HasAnswered a b x y) (reading : is_reading b.course ≡ true) where
+module _ (a b d : SourceState) (x y z : Option (List ℕ)) (p : HasAnswered a b x y) (reading : is_reading b.course ≡ true) where
   rested : RestsBehind a b y p.lines p.bytes course.Reading
   rested = subst (λ (k : Course). RestsBehind a b y p.lines p.bytes k) (reading_is b.course reading) p.rests
 
@@ -46,7 +46,7 @@ module _ (a b d : Standing) (x y z : Option (List ℕ)) (p : HasAnswered a b x y
     bytes = p.bytes ++ q.bytes;
     read = read_then a.cluster a.lines b.lines x y p.lines p.given p.bytes p.read d.lines z q.lines q.given q.bytes
         (subst (λ (c : Cluster). HasRead c b.lines d.lines y z q.lines q.given q.bytes) p.cluster_stays q.read);
-    told = p.told ∙ told_joined p.given q.given (to_come b) (to_come d) y z q.told;
+    told = p.told ∙ told_joined p.given q.given (coming_to b) (coming_to d) y z q.told;
     line = q.line ∙ (ap (λ (n : ℕ). last_line n q.given) p.line ∙ sym (last_joined a.line p.given q.given));
     rests = by d.course q.rests;
   }
@@ -67,7 +67,7 @@ module _ (a b d : Standing) (x y z : Option (List ℕ)) (p : HasAnswered a b x y
     bytes = p.bytes ++ q.bytes;
     read = read_then a.cluster a.lines b.lines x y p.lines p.given p.bytes p.read d.lines z q.lines q.given q.bytes
         (subst (λ (c : Cluster). HasRead c b.lines d.lines y z q.lines q.given q.bytes) p.cluster_stays q.read);
-    told = p.told ∙ told_joined p.given q.given (to_come b) (to_come d) y z q.told;
+    told = p.told ∙ told_joined p.given q.given (coming_to b) (coming_to d) y z q.told;
     unfinished = q.unfinished;
     undecided = q.undecided;
     why = q.why;
@@ -79,14 +79,14 @@ module _ (a b d : Standing) (x y z : Option (List ℕ)) (p : HasAnswered a b x y
     last = q.last;
     stop = q.stop;
     given = p.given ++ q.given;
-    told = p.told ∙ told_then p.given (to_come b) (record { results = q.given; stop = Some q.why }) y z q.told;
+    told = p.told ∙ told_then p.given (coming_to b) (record { results = q.given; stop = Some q.why }) y z q.told;
     by = stopped_then a.cluster a.lines b.lines x y p.lines p.given p.bytes p.read z q.given q.why rested.1
         (subst (λ (c : Cluster). IsStoppedBy c b.lines y z q.given q.why) p.cluster_stays q.by);
   }
 
-follows_then : (a b d : Standing) (x y z : Option (List ℕ)) → Follows a b x y → Follows b d y z → Follows a d x z
-follows_then a b d x y z (stays e f) q = subst (λ (s : Standing). Follows s d x z) e (subst (λ (o : Option (List ℕ)). Follows b d o z) f q)
-follows_then a b d x y z (answers r p) (stays e f) = subst (λ (s : Standing). Follows a s x z) (sym e) (subst (λ (o : Option (List ℕ)). Follows a b x o) (sym f) (answers r p))
+follows_then : (a b d : SourceState) (x y z : Option (List ℕ)) → SourceFollows a b x y → SourceFollows b d y z → SourceFollows a d x z
+follows_then a b d x y z (stays e f) q = subst (λ (s : SourceState). SourceFollows s d x z) e (subst (λ (o : Option (List ℕ)). SourceFollows b d o z) f q)
+follows_then a b d x y z (answers r p) (stays e f) = subst (λ (s : SourceState). SourceFollows a s x z) (sym e) (subst (λ (o : Option (List ℕ)). SourceFollows a b x o) (sym f) (answers r p))
 follows_then a b d x y z (answers r p) (answers s q) = answers r (answered_then a b d x y z p s q)
 
 module _ (exact : Bool) where
@@ -111,8 +111,8 @@ module _ (exact : Bool) where
   followed_said a b next.Silent other s = s.0
   followed_said a b next.Failed other s = absurd (other refl)
 
-  failed_then : (a b d : View) → HasAnswered a.standing b.standing a.left b.left → HasNotFailed exact a b → is_reading b.standing.course ≡ true → HasFailed exact b d
-      → HasFailed exact a d
+  failed_then : (a b d : View) → HasAnswered a.standing b.standing a.left b.left → HasNotFailed exact a b → is_reading b.standing.course ≡ true → HasQuestionFailed exact b d
+      → HasQuestionFailed exact a d
   failed_then a b d p n reading (by_source h rose loan) =
       by_source (broken_then a.standing b.standing d.standing a.left b.left d.left p reading h)
       (let m = n.count in omega (arith, m, rose)) (loan ∙ n.same_source)
@@ -120,23 +120,23 @@ module _ (exact : Bool) where
       by_line (stops_then a.standing b.standing d.standing a.left b.left d.left p reading h) (not_failed_then a b d n m)
 
   -- where it stands after questions that were answered, it reads or has ended
-  reads_or_ends : (a b : Standing) (after : Option (List ℕ)) (lines : List (List (List ℕ))) (bytes : List ℕ) (k : Course) → RestsBehind a b after lines bytes k → has_ended k ≡ false → is_reading k ≡ true
+  reads_or_ends : (a b : SourceState) (after : Option (List ℕ)) (lines : List (List (List ℕ))) (bytes : List ℕ) (k : Course) → RestsBehind a b after lines bytes k → has_course_ended k ≡ false → is_reading k ≡ true
   reads_or_ends a b after lines bytes course.Reading r h = refl
   reads_or_ends a b after lines bytes course.Ended r h = cc
   reads_or_ends a b after lines bytes (course.Stopped w times) r h = absurd r
 
-  failed_later : (a b d : View) → (f : Follows a.standing b.standing a.left b.left) → HasNotFailed exact a b → HasSaid exact b d next.Failed → HasSaid exact a d next.Failed
+  failed_later : (a b d : View) → (f : SourceFollows a.standing b.standing a.left b.left) → HasNotFailed exact a b → HasSaid exact b d next.Failed → HasSaid exact a d next.Failed
   failed_later a b d (stays e f) n s = (
-    subst (λ (t : Standing). has_ended t.course ≡ false) e s.0,
-    λ reading. same_failed (s.1 (subst (λ (t : Standing). is_reading t.course ≡ true) (sym e) reading)),
+    subst (λ (t : SourceState). has_course_ended t.course ≡ false) e s.0,
+    λ reading. same_failed (s.1 (subst (λ (t : SourceState). is_reading t.course ≡ true) (sym e) reading)),
   )
     where
-      same_failed : HasFailed exact b d → HasFailed exact a d
+      same_failed : HasQuestionFailed exact b d → HasQuestionFailed exact a d
       same_failed (by_source h rose loan) =
-          by_source (subst (λ (t : Standing). HasBroken t d.standing a.left d.left) e (subst (λ (o : Option (List ℕ)). HasBroken b.standing d.standing o d.left) f h))
+          by_source (subst (λ (t : SourceState). HasBroken t d.standing a.left d.left) e (subst (λ (o : Option (List ℕ)). HasBroken b.standing d.standing o d.left) f h))
           (let m = n.count in omega (arith, m, rose)) (loan ∙ n.same_source)
       same_failed (by_line h m) =
-          by_line (subst (λ (t : Standing). HasStopped t d.standing a.left d.left) e (subst (λ (o : Option (List ℕ)). HasStopped b.standing d.standing o d.left) f h))
+          by_line (subst (λ (t : SourceState). HasStopped t d.standing a.left d.left) e (subst (λ (o : Option (List ℕ)). HasStopped b.standing d.standing o d.left) f h))
           (not_failed_then a b d n m)
   failed_later a b d (answers r p) n s = (
     reading_not_ended a.standing.course r,
@@ -151,11 +151,11 @@ module _ (exact : Bool) where
   said_behind a b d next.Failed f s = failed_later a b d f.follows f.counts s
 
 -- how a writer has gone on
-pub gone_itself : (exact : Bool) (faults loan : ℕ) → HasGoneOn exact faults faults loan loan
+pub gone_itself : (exact : Bool) (faults loan : ℕ) → HasWritingGoneOn exact faults faults loan loan
 gone_itself exact faults loan = record { no_failure = λ e. refl; same_sink = refl }
 
-pub gone_then : (exact : Bool) (f g h l m n : ℕ) → HasGoneOn exact f g l m → HasGoneOn exact g h m n → HasGoneOn exact f h l n
+pub gone_then : (exact : Bool) (f g h l m n : ℕ) → HasWritingGoneOn exact f g l m → HasWritingGoneOn exact g h m n → HasWritingGoneOn exact f h l n
 gone_then exact f g h l m n a b = record { no_failure = λ e. b.no_failure e ∙ a.no_failure e; same_sink = b.same_sink ∙ a.same_sink }
 
-pub gone_stopped : (exact : Bool) (f g l m n : ℕ) → HasGoneOn exact f g l m → IsSameSink m n → IsSameSink l n
+pub gone_stopped : (exact : Bool) (f g l m n : ℕ) → HasWritingGoneOn exact f g l m → IsSameSink m n → IsSameSink l n
 gone_stopped exact f g l m n a b = b ∙ a.same_sink

@@ -18,10 +18,10 @@ use Rattle.live_run.specs.declared.head.HeadStop.TheVariants as stop
 
 -- what a source gives as the head: its bytes, with the number of the line behind it and how many bytes lie within the limit there; the first line that
 -- can't be cut into words, and why; or a line that goes past the limit
-pub data Head : Type 0 where
-  taken : (text : List ℕ) (next room : ℕ) → Head
-  refused : (line : ℕ) (why : LexCause) → Head
-  too_large : Head
+pub data HeadVerdict : Type 0 where
+  taken : (text : List ℕ) (next room : ℕ) → HeadVerdict
+  refused : (line : ℕ) (why : LexCause) → HeadVerdict
+  too_large : HeadVerdict
 
 -- the line of these words begins the results
 abbrev pub begins_results : List (List ℕ) → Bool
@@ -29,32 +29,32 @@ begins_results [] = false
 begins_results (word ∷ words) = is word (codes "%results")
 
 -- by what was read of a line, the head ends with it or goes on behind it
-abbrev pub read_says : Result (List (List ℕ)) (Fault LexCause) → Head → Head → Head
-read_says (Ok words) ends goes_on = if begins_results words then ends else goes_on
-read_says (Err (At line why)) ends goes_on = refused line why
-read_says (Err NoMemory) ends goes_on = too_large
+abbrev pub head_by_words : Result (List (List ℕ)) (Fault LexCause) → HeadVerdict → HeadVerdict → HeadVerdict
+head_by_words (Ok words) ends goes_on = if begins_results words then ends else goes_on
+head_by_words (Err (At line why)) ends goes_on = refused line why
+head_by_words (Err NoMemory) ends goes_on = too_large
 
 -- the same, by the size of the line, the number of its first physical line and its bytes
-abbrev pub sized_says : LineStep → ℕ → List ℕ → Head → Head → Head
-sized_says step.Line n raw ends goes_on = read_says (reads_line n raw) ends goes_on
-sized_says step.TooLong n raw ends goes_on = refused n LineTooLong
-sized_says _ n raw ends goes_on = too_large
+abbrev pub head_by_size : LineStep → ℕ → List ℕ → HeadVerdict → HeadVerdict → HeadVerdict
+head_by_size step.Line n raw ends goes_on = head_by_words (reads_line n raw) ends goes_on
+head_by_size step.TooLong n raw ends goes_on = refused n LineTooLong
+head_by_size _ n raw ends goes_on = too_large
 
 -- the head of a text and some logical lines behind it, each given by its physical lines, of which the first has this number. So many bytes of them lie
 -- within the limit, and a line may have so many without line ends
-abbrev pub head_of : ℕ → List ℕ → ℕ → ℕ → List (List (List ℕ)) → Head
-head_of longest before room n [] = taken before n room
-head_of longest before room n (lines ∷ more) =
-    sized_says (line_answer room longest lines) n (concat lines) (taken (before ++ concat lines) (n + length lines) (room - length (concat lines)))
-    (head_of longest (before ++ concat lines) (room - length (concat lines)) (n + length lines) more)
+abbrev pub head_verdict : ℕ → List ℕ → ℕ → ℕ → List (List (List ℕ)) → HeadVerdict
+head_verdict longest before room n [] = taken before n room
+head_verdict longest before room n (lines ∷ more) =
+    head_by_size (line_answer room longest lines) n (concat lines) (taken (before ++ concat lines) (n + length lines) (room - length (concat lines)))
+    (head_verdict longest (before ++ concat lines) (room - length (concat lines)) (n + length lines) more)
 
 -- the head of a text and of all bytes to come: those that a reader holds, and those that its source has left
-abbrev pub head_behind : List ℕ → Reading → List ℕ → Head
-head_behind before reading left = head_of reading.longest before reading.room reading.next (raw_lines (reading.held ++ left))
+abbrev pub head_behind : List ℕ → Reading → List ℕ → HeadVerdict
+head_behind before reading left = head_verdict reading.longest before reading.room reading.next (raw_lines (reading.held ++ left))
 
 -- the head where reading came to its end or stopped, with this text behind it and the reader there. Before that, and where the source or memory
 -- failed, it is what is still to come
-abbrev pub came_to : Option (Result (Unit {0}) HeadStop) → List ℕ → Reading → Head → Head
+abbrev pub came_to : Option (Result (Unit {0}) HeadStop) → List ℕ → Reading → HeadVerdict → HeadVerdict
 came_to (Some (Ok end)) text reading others = taken text reading.next reading.room
 came_to (Some (Err (stop.Refused line why))) text reading others = refused line why
 came_to (Some (Err stop.TooLarge)) text reading others = too_large
@@ -66,21 +66,21 @@ lacks_memory (Some (Err stop.NoMemory)) = true
 lacks_memory _ = false
 
 -- a text and the lines of a reader behind it
-pub record Progress : Type 0 where
+pub record ReaderProgress : Type 0 where
   pub text : List ℕ
   pub reading : Reading
 
-abbrev pub progress : List ℕ → Reading → Progress
+abbrev pub progress : List ℕ → Reading → ReaderProgress
 progress text reading = record { text = text; reading = reading }
 
 -- reading on brought this of the head that was to come, where the source tells its bytes
-abbrev pub BringsHead : Option (Result (Unit {0}) HeadStop) → Progress → Progress → Option (List ℕ) → Option (List ℕ) → Type 0
+abbrev pub BringsHead : Option (Result (Unit {0}) HeadStop) → ReaderProgress → ReaderProgress → Option (List ℕ) → Option (List ℕ) → Type 0
 BringsHead came old new before after = lacks_memory came ≡ false
     → option_map (head_behind old.text old.reading) before
     ≡ option_map (λ left. came_to came new.text new.reading (head_behind new.text new.reading left)) after
 
 -- all bytes, those of the text and those to come, are as before
-abbrev pub KeepsBytes : Progress → Progress → Option (List ℕ) → Option (List ℕ) → Type 0
+abbrev pub KeepsBytes : ReaderProgress → ReaderProgress → Option (List ℕ) → Option (List ℕ) → Type 0
 KeepsBytes old new before after =
     option_map (λ (left : List ℕ). old.text ++ (old.reading.held ++ left)) before ≡ option_map (λ (left : List ℕ). new.text ++ (new.reading.held ++ left)) after
 
@@ -95,7 +95,7 @@ stop_for (At line why) = stop.Refused line why
 stop_for NoMemory = stop.TooLarge
 
 -- the head of which no text is given: a line is refused, or goes past the limit. Nothing is said where the source or memory failed
-abbrev pub IsStopOf : Head → HeadStop → Type 0
+abbrev pub IsStopOf : HeadVerdict → HeadStop → Type 0
 IsStopOf head (stop.Refused line why) = head ≡ refused line why
 IsStopOf head stop.TooLarge = head ≡ too_large
 IsStopOf head _ = Unit {0}
@@ -111,10 +111,10 @@ pub record HasTaken (old new : Reading) (text : List ℕ) (before after : Option
 -- behind some lines, whatever lines follow, the head is still to come: each of them is a line behind which it goes on. A reader has this text of them
 abbrev pub GoesOnBehind : List (List (List ℕ)) → Reading → Reading → List ℕ → Type 0
 GoesOnBehind lines old new text =
-    (more : List (List (List ℕ))) → head_of old.longest [] old.room old.next (lines ++ more) ≡ head_of new.longest text new.room new.next more
+    (more : List (List (List ℕ))) → head_verdict old.longest [] old.room old.next (lines ++ more) ≡ head_verdict new.longest text new.room new.next more
 
 -- the same of the lines that were taken, where the source tells its bytes
-pub record HasGoneOn (old new : Reading) (text : List ℕ) (before after : Option (List ℕ)) : Type 0 where
+pub record HasHeadGoneOn (old new : Reading) (text : List ℕ) (before after : Option (List ℕ)) : Type 0 where
   pub taken : HasTaken old new text before after
   pub goes_on : IfSome after (λ left. GoesOnBehind taken.lines old new text)
 
@@ -129,7 +129,7 @@ StillAmid _ P = Unit {0}
 pub record IsAmid (old new : Reading) (before after : Option (List ℕ)) : Type 0 where
   pub text : List ℕ
   pub keeps : KeepsBytes (progress [] old) (progress text new) before after
-  pub gone_on : HasGoneOn old new text before after
+  pub gone_on : HasHeadGoneOn old new text before after
   pub none_whole : holds_line new.held ≡ false
   pub undecided : IsUndecided new.room new.longest new.held
   pub same_size : new.longest ≡ old.longest

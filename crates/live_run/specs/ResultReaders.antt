@@ -4,8 +4,8 @@ use Rattle.cluster_io.specs.LineReaders.{loan_of, reading_of, source_of}
 use Rattle.live_run.specs.Coming.{Lines}
 use Rattle.live_run.specs.declared.result_reader.ResultReader.{ResultReader}
 
-abbrev pub lines_of : {S : Type 0} → ResultReader S → Lines
-lines_of reader = record { at = reader.at; reading = reading_of reader.lines }
+abbrev pub reader_lines : {S : Type 0} → ResultReader S → Lines
+reader_lines reader = record { at = reader.at; reading = reading_of reader.lines }
 
 -- its source, and the name of the loan by which it has it
 abbrev pub source_in : {S : Type 0} → ResultReader S → S

@@ -52,13 +52,13 @@ sized_says c at step.TooLong lines = said.Stop (Refused at.line (cause.Words Lin
 sized_says c at _ lines = said.Stop TooLarge
 
 -- the same, where so many of the bytes to come lie within the limit, and a line may have so many without line ends
-abbrev pub says : Cluster → ℕ → Place → ℕ → List (List ℕ) → Said
-says c longest at room lines = sized_says c at (line_answer room longest lines) lines
+abbrev pub line_says_within : Cluster → ℕ → Place → ℕ → List (List ℕ) → Said
+line_says_within c longest at room lines = sized_says c at (line_answer room longest lines) lines
 
 -- the place behind a line that says this and has so many physical lines
-abbrev pub place_behind : Place → Said → ℕ → Place
-place_behind at (said.Answer given) lines = record { moment = at.moment + seconds_in given; before = at.before + 1; line = at.line + lines }
-place_behind at _ lines = record { moment = at.moment; before = at.before; line = at.line + lines }
+abbrev pub place_behind_said : Place → Said → ℕ → Place
+place_behind_said at (said.Answer given) lines = record { moment = at.moment + seconds_in given; before = at.before + 1; line = at.line + lines }
+place_behind_said at _ lines = record { moment = at.moment; before = at.before; line = at.line + lines }
 
 -- no line is read behind this one: it is refused, or goes past the limit
 abbrev pub is_last : LineStop → Bool
@@ -66,7 +66,7 @@ is_last ReadFault = false
 is_last _ = true
 
 -- a line at a place may say this: an answer is in time and among the first 10,000 result lines
-abbrev pub Fits : Place → Said → Type 0
-Fits at said.Nothing = Unit {0}
-Fits at (said.Answer given) = (at.before < 10000) × (at.moment + seconds_in given < 2 ^ 40)
-Fits at (said.Stop why) = is_last why ≡ true
+abbrev pub SaidFits : Place → Said → Type 0
+SaidFits at said.Nothing = Unit {0}
+SaidFits at (said.Answer given) = (at.before < 10000) × (at.moment + seconds_in given < 2 ^ 40)
+SaidFits at (said.Stop why) = is_last why ≡ true

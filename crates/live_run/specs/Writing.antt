@@ -18,14 +18,14 @@ heard_of (Ok done) = heard.Go
 heard_of (Err fault) = heard.Stop
 
 -- `refused LINE CAUSE`
-abbrev pub refusal_text : ℕ → LineCause → List ℕ
-refusal_text line cause = codes "refused " ++ decimal line ++ codes " " ++ line_cause_name cause ++ codes "\n"
+abbrev pub line_refusal_text : ℕ → LineCause → List ℕ
+line_refusal_text line cause = codes "refused " ++ decimal line ++ codes " " ++ line_cause_name cause ++ codes "\n"
 
 -- a writer has the loan of its sink that it had
 abbrev pub IsSameSink : ℕ → ℕ → Type 0
 IsSameSink loan loan_now = loan_now ≡ loan
 
 -- each line was written whole: a sink that counts its failures alone has counted none
-pub record HasGoneOn (exact : Bool) (faults faults_now loan loan_now : ℕ) : Type 0 where
+pub record HasWritingGoneOn (exact : Bool) (faults faults_now loan loan_now : ℕ) : Type 0 where
   pub no_failure : exact ≡ true → faults_now ≡ faults
   pub same_sink : IsSameSink loan loan_now

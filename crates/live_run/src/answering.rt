@@ -7,16 +7,16 @@ use graph_exec::{InFlight, Next, Outcomes};
 
 impl<'c, 's, S: Source> Outcomes for LineOutcomes<'c, 's, S> {
     ghost use Rattle.std.specs.Prelude.{true, false};
-    ghost use Rattle.live_run.specs.Courses.{faults_of, has_ended, rest_of, told_by, whole_of};
+    ghost use Rattle.live_run.specs.Courses.{faults_of, has_course_ended, rest_of, told_by, whole_of};
     ghost use Rattle.live_run.specs.Followed.{HasFollowed, HasSaid};
-    ghost use Rattle.live_run.specs.LineSources.{source_in, standing_of, view_of};
+    ghost use Rattle.live_run.specs.LineSources.{outcomes_source, standing_of, view_of};
     ghost use Rattle.live_run.specs.FollowedLaws.{followed_itself, followed_said, followed_then, said_behind};
 
-    ghost rest = { λ o. rest_of (told_by (standing_of o) (S.left (source_in o))) };
+    ghost rest = { λ o. rest_of (told_by (standing_of o) (S.left (outcomes_source o))) };
 
-    ghost whole = { λ o. whole_of (told_by (standing_of o) (S.left (source_in o))) };
+    ghost whole = { λ o. whole_of (told_by (standing_of o) (S.left (outcomes_source o))) };
 
-    ghost faults = { λ o. faults_of (standing_of o) (S.faults (source_in o)) };
+    ghost faults = { λ o. faults_of (standing_of o) (S.faults (outcomes_source o)) };
 
     ghost asked = { λ o. (standing_of o).lines.at.before };
 
@@ -24,7 +24,7 @@ impl<'c, 's, S: Source> Outcomes for LineOutcomes<'c, 's, S> {
 
     ghost steady = { λ _. true };
 
-    ghost over = { λ o. has_ended (standing_of o).course };
+    ghost over = { λ o. has_course_ended (standing_of o).course };
 
     ghost agrees = { λ _ _ _ _. Unit {0} };
 

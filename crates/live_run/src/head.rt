@@ -8,7 +8,7 @@ ghost use Rattle.crm_lex.specs.RawLines.{physical_lines};
 ghost use Rattle.cluster_io.specs.Readings.{Reading};
 ghost use Rattle.crm_lex.specs.Reading.{kept, reads_line};
 ghost use Rattle.faults.specs.declared.fault.Fault.TheVariants as found;
-ghost use Rattle.live_run.specs.Heads.{BringsHead, CanGoOn, HasGoneOn, Head, IsAmid, IsStopOf, KeepsBytes, StillAmid, WhileWell, begins_results, came_to, head_behind, lacks_memory, progress, read_says, stop_for, taken};
+ghost use Rattle.live_run.specs.Heads.{BringsHead, CanGoOn, HasHeadGoneOn, HeadVerdict, IsAmid, IsStopOf, KeepsBytes, StillAmid, WhileWell, begins_results, came_to, head_behind, lacks_memory, progress, head_by_words, stop_for, taken};
 
 use cluster_io::{LineReader, LineStep, Source};
 use crm_lex::{LexCause, LexFault, NoMemory, WordBuf, lex_one, line_count};
@@ -71,8 +71,8 @@ fn line_says<S: Source>(
     words: &mut WordBuf,
 ) -> Option<Result<(), HeadStop>>
     requires { (reading_of reader.now).number + length (physical_lines (reading_of reader.now).raw) ≤ 2 ^ 32 }
-    ensures says { (text : List ℕ) (reading : Reading) (others : Head) → came_to result text reading others
-        ≡ read_says (reads_line (reading_of reader.now).number (reading_of reader.now).raw) (taken text reading.next reading.room) others }
+    ensures says { (text : List ℕ) (reading : Reading) (others : HeadVerdict) → came_to result text reading others
+        ≡ head_by_words (reads_line (reading_of reader.now).number (reading_of reader.now).raw) (taken text reading.next reading.room) others }
     ensures fault { result ≢ Some (Err HeadStop.ReadFault) }
     ensures memory { lacks_memory result ≡ false }
 {
@@ -96,8 +96,8 @@ fn take_line<S: Source>(
 ) -> Option<Result<(), HeadStop>>
     requires numbers { (reading_of reader.now).number + length (physical_lines (reading_of reader.now).raw) ≤ 2 ^ 32 }
     requires next { head.old.next ≡ (reading_of reader.now).number }
-    ensures says { lacks_memory result ≡ false → (text : List ℕ) (reading : Reading) (others : Head) → came_to result text reading others
-        ≡ read_says (reads_line (reading_of reader.now).number (reading_of reader.now).raw) (taken text reading.next reading.room) others }
+    ensures says { lacks_memory result ≡ false → (text : List ℕ) (reading : Reading) (others : HeadVerdict) → came_to result text reading others
+        ≡ head_by_words (reads_line (reading_of reader.now).number (reading_of reader.now).raw) (taken text reading.next reading.room) others }
     ensures text { lacks_memory result ≡ false → head.new.text.items ≡ head.old.text.items ++ (reading_of reader.now).raw }
     ensures next { head.new.next ≡ head.old.next + length (physical_lines (reading_of reader.now).raw) }
     ensures fault { result ≢ Some (Err HeadStop.ReadFault) }
@@ -127,8 +127,8 @@ fn step<S: Source>(
     ensures fewer { result ≡ None → (reading_of reader.new).room < (reading_of reader.old).room }
     ensures within { WhileWell result (length head.new.text.items + (reading_of reader.new).room ≡ length head.old.text.items + (reading_of reader.old).room) }
     ensures gone_on { StillAmid result ((first : Reading) (given : Option (List ℕ))
-        → HasGoneOn first (reading_of reader.old) head.old.text.items given (S.left (source_of reader.old))
-        → HasGoneOn first (reading_of reader.new) head.new.text.items given (S.left (source_of reader.new))) }
+        → HasHeadGoneOn first (reading_of reader.old) head.old.text.items given (S.left (source_of reader.old))
+        → HasHeadGoneOn first (reading_of reader.new) head.new.text.items given (S.left (source_of reader.new))) }
     ensures amid { result ≡ Some (Err HeadStop.ReadFault) → holds_line (reading_of reader.new).held ≡ false }
     ensures undecided { result ≡ Some (Err HeadStop.ReadFault)
         → IsUndecided (reading_of reader.new).room (reading_of reader.new).longest (reading_of reader.new).held }

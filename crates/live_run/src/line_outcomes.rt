@@ -5,10 +5,10 @@ ghost use Rattle.cluster_io.specs.LineReaders.{loan_of, reading_of, source_of};
 ghost use Rattle.cluster_io.specs.Streams.{Rose};
 ghost use Rattle.cluster_types.specs.Valid.{KeepsLimits};
 ghost use Rattle.live_run.specs.Coming.{AreReady};
-ghost use Rattle.live_run.specs.Courses.{Answers, faults_of, has_ended, is_reading, starting, stop_of, stops_last};
+ghost use Rattle.live_run.specs.Courses.{CourseAnswers, faults_of, has_course_ended, is_reading, starting, stop_of, stops_last};
 ghost use Rattle.live_run.specs.Followed.{HasSaid};
 ghost use Rattle.live_run.specs.Heads.{CanGoOn};
-ghost use Rattle.live_run.specs.ResultReaders.{lines_of};
+ghost use Rattle.live_run.specs.ResultReaders.{reader_lines};
 
 use crate::came::Came;
 use crate::course::Course;
@@ -35,13 +35,13 @@ pub struct LineOutcomes<'c, 's, S: Source> {
     line: u32,
     failed: bool,
     ghost limits: { KeepsLimits cluster.now },
-    ghost ready: { AreReady (lines_of reader) },
-    ghost going: { is_reading course ≡ true → is_none (lines_of reader).reading.stop ≡ true },
+    ghost ready: { AreReady (reader_lines reader) },
+    ghost going: { is_reading course ≡ true → is_none (reader_lines reader).reading.stop ≡ true },
     ghost last: { stops_last course ≡ true },
 }
 
 impl<'c, 's, S: Source> LineOutcomes<'c, 's, S> {
-    ghost use Rattle.live_run.specs.LineSources.{loan_in, source_in, standing_of, view_of};
+    ghost use Rattle.live_run.specs.LineSources.{outcomes_loan, outcomes_source, standing_of, view_of};
 
     /// A source of the answers that the lines of a reader give, of which the first is taken at the moment, in seconds
     /// below 2^40, and has this number: 1 of a new reader, and behind a head the one that `HeadText` gives. The reader was
@@ -58,8 +58,8 @@ impl<'c, 's, S: Source> LineOutcomes<'c, 's, S> {
         requires next { next ≡ (reading_of reader).next }
         requires reader { CanGoOn (reading_of reader) }
         ensures standing { IfOk result (λ o. standing_of o ≡ starting cluster.now moment (reading_of reader.entry)) }
-        ensures source { IfOk result (λ o. source_in o ≡ source_of reader.entry) }
-        ensures same_source { IfOk result (λ o. loan_in o ≡ loan_of reader.entry) }
+        ensures source { IfOk result (λ o. outcomes_source o ≡ source_of reader.entry) }
+        ensures same_source { IfOk result (λ o. outcomes_loan o ≡ loan_of reader.entry) }
     {
         let words = WordBuf::new(alloc)?;
         Ok(LineOutcomes::over(cluster, moment, next, reader, words))
@@ -79,8 +79,8 @@ impl<'c, 's, S: Source> LineOutcomes<'c, 's, S> {
         requires next { next ≡ (reading_of reader).next }
         requires reader { CanGoOn (reading_of reader) }
         ensures standing { standing_of result ≡ starting cluster.now moment (reading_of reader.entry) }
-        ensures source { source_in result ≡ source_of reader.entry }
-        ensures same_source { loan_in result ≡ loan_of reader.entry }
+        ensures source { outcomes_source result ≡ source_of reader.entry }
+        ensures same_source { outcomes_loan result ≡ loan_of reader.entry }
     {
         let at = Place {
             moment,
@@ -102,8 +102,8 @@ impl<'c, 's, S: Source> LineOutcomes<'c, 's, S> {
 
     /// Gives the source of bytes back, as it is now. The bytes that are held are lost.
     pub fn into_source(self) -> &'s mut S
-        ensures source { result.now ≡ source_in self.entry }
-        ensures same_source { result.ghost_name ≡ loan_in self.entry }
+        ensures source { result.now ≡ outcomes_source self.entry }
+        ensures same_source { result.ghost_name ≡ outcomes_loan self.entry }
     {
         let LineOutcomes {
             cluster: _,
@@ -146,19 +146,19 @@ impl<'c, 's, S: Source> LineOutcomes<'c, 's, S> {
     /// Reads on to the next answer, or to what comes in its place.
     fn read_on(&mut self) -> Next
         requires { is_reading (standing_of self.old).course ≡ true }
-        ensures answers { Answers result (standing_of self.old) (standing_of self.new)
-            (S.left (source_in self.old)) (S.left (source_in self.new)) }
+        ensures answers { CourseAnswers result (standing_of self.old) (standing_of self.new)
+            (S.left (outcomes_source self.old)) (S.left (outcomes_source self.new)) }
         ensures said { HasSaid S.counts_only_failures (view_of S.left S.faults self.old) (view_of S.left S.faults self.new) result }
         ensures asked { (standing_of self.new).lines.at.before ≤ (standing_of self.old).lines.at.before + 1 }
         ensures stop { result ≡ Next.Failed → is_some (stop_of (standing_of self.new)) ≡ true }
-        ensures count { S.faults (source_in self.old) ≤ S.faults (source_in self.new) }
-        ensures cause { result ≡ Next.Failed → Rose (faults_of (standing_of self.old) (S.faults (source_in self.old)))
-            (faults_of (standing_of self.new) (S.faults (source_in self.new))) }
+        ensures count { S.faults (outcomes_source self.old) ≤ S.faults (outcomes_source self.new) }
+        ensures cause { result ≡ Next.Failed → Rose (faults_of (standing_of self.old) (S.faults (outcomes_source self.old)))
+            (faults_of (standing_of self.new) (S.faults (outcomes_source self.new))) }
         ensures fault { result ≡ Next.Failed → stop_of (standing_of self.new) ≡ Some LineStop.ReadFault →
-            Rose (S.faults (source_in self.old)) (S.faults (source_in self.new)) }
+            Rose (S.faults (outcomes_source self.old)) (S.faults (outcomes_source self.new)) }
         ensures no_failure { S.counts_only_failures ≡ true → result ≢ Next.Failed →
-            S.faults (source_in self.new) ≡ S.faults (source_in self.old) }
-        ensures same_source { loan_in self.new ≡ loan_in self.old }
+            S.faults (outcomes_source self.new) ≡ S.faults (outcomes_source self.old) }
+        ensures same_source { outcomes_loan self.new ≡ outcomes_loan self.old }
     {
         match self.reader.read_on(self.cluster) {
             Came::Answer(result) => {
@@ -184,24 +184,24 @@ impl<'c, 's, S: Source> LineOutcomes<'c, 's, S> {
     /// `Failed` where the source of bytes failed in this call, and where the next line is refused or goes past the
     /// limit; `stop` then says which.
     pub fn ask(&mut self) -> Next
-        ensures answers { Answers result (standing_of self.old) (standing_of self.new)
-            (S.left (source_in self.old)) (S.left (source_in self.new)) }
+        ensures answers { CourseAnswers result (standing_of self.old) (standing_of self.new)
+            (S.left (outcomes_source self.old)) (S.left (outcomes_source self.new)) }
         ensures said { HasSaid S.counts_only_failures (view_of S.left S.faults self.old) (view_of S.left S.faults self.new) result }
         ensures asked { (standing_of self.new).lines.at.before ≤ (standing_of self.old).lines.at.before + 1 }
         ensures stop { result ≡ Next.Failed → is_some (stop_of (standing_of self.new)) ≡ true }
-        ensures over { has_ended (standing_of self.old).course ≡ true → has_ended (standing_of self.new).course ≡ true }
+        ensures over { has_course_ended (standing_of self.old).course ≡ true → has_course_ended (standing_of self.new).course ≡ true }
 
         // How often it and its source have failed.
-        ensures count { S.faults (source_in self.old) ≤ S.faults (source_in self.new) }
-        ensures failures { faults_of (standing_of self.old) (S.faults (source_in self.old))
-            ≤ faults_of (standing_of self.new) (S.faults (source_in self.new)) }
-        ensures cause { result ≡ Next.Failed → Rose (faults_of (standing_of self.old) (S.faults (source_in self.old)))
-            (faults_of (standing_of self.new) (S.faults (source_in self.new))) }
+        ensures count { S.faults (outcomes_source self.old) ≤ S.faults (outcomes_source self.new) }
+        ensures failures { faults_of (standing_of self.old) (S.faults (outcomes_source self.old))
+            ≤ faults_of (standing_of self.new) (S.faults (outcomes_source self.new)) }
+        ensures cause { result ≡ Next.Failed → Rose (faults_of (standing_of self.old) (S.faults (outcomes_source self.old)))
+            (faults_of (standing_of self.new) (S.faults (outcomes_source self.new))) }
         ensures fault { result ≡ Next.Failed → stop_of (standing_of self.new) ≡ Some LineStop.ReadFault →
-            Rose (S.faults (source_in self.old)) (S.faults (source_in self.new)) }
+            Rose (S.faults (outcomes_source self.old)) (S.faults (outcomes_source self.new)) }
         ensures no_failure { S.counts_only_failures ≡ true → result ≢ Next.Failed →
-            S.faults (source_in self.new) ≡ S.faults (source_in self.old) }
-        ensures same_source { loan_in self.new ≡ loan_in self.old }
+            S.faults (outcomes_source self.new) ≡ S.faults (outcomes_source self.old) }
+        ensures same_source { outcomes_loan self.new ≡ outcomes_loan self.old }
     {
         match self.course {
             Course::Reading => self.read_on(),

@@ -5,7 +5,7 @@ ghost use Rattle.cluster_types.specs.Valid.{KeepsLimits};
 ghost use Rattle.crm_lex.specs.RawLines.{physical_lines};
 ghost use Rattle.crm_lex.specs.Reading.{kept};
 ghost use Rattle.faults.specs.declared.fault.Fault.TheVariants as found;
-ghost use Rattle.live_run.specs.Saying.{Fits, answer_says, line_says, refused_for, words_say};
+ghost use Rattle.live_run.specs.Saying.{SaidFits, answer_says, line_says, refused_for, words_say};
 ghost use Rattle.live_run.specs.declared.line_stop.LineCause.TheVariants as of_line;
 
 use crate::line_stop::{LineCause, LineStop};
@@ -60,7 +60,7 @@ fn words_say(cluster: &Cluster, place: Place, line: u32, words: &WordBuf) -> Sai
     requires moment { place.moment < 2 ^ 40 }
     requires line { place.line ≡ line }
     ensures says { (all : List (List ℕ)) → words.now ≡ kept all → result ≡ words_say cluster.now place all }
-    ensures fits { Fits place result }
+    ensures fits { SaidFits place result }
 {
     if words.count() == 0 {
         return Said::Nothing;
@@ -82,7 +82,7 @@ pub(crate) fn line_says(
     requires line { place.line ≡ line }
     requires numbers { line + length (physical_lines raw.now) ≤ 2 ^ 32 }
     ensures says { result ≡ line_says cluster.now place raw.now }
-    ensures fits { Fits place result }
+    ensures fits { SaidFits place result }
 {
     match lex_one(line, raw, words) {
         Ok(()) => words_say(cluster, place, line, words),

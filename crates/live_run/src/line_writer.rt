@@ -5,7 +5,7 @@ ghost use Rattle.cluster_io.specs.Streams.{Rose};
 ghost use Rattle.cluster_types.specs.declared.run.RunLine.TheVariants as told;
 ghost use Rattle.cluster_types.specs.Texts as texts;
 ghost use Rattle.cluster_types.specs.Valid.{IsValid, KeepsLimits};
-ghost use Rattle.live_run.specs.Writing.{IsSameSink, Puts, heard_of, refusal_text};
+ghost use Rattle.live_run.specs.Writing.{IsSameSink, Puts, heard_of, line_refusal_text};
 ghost use Rattle.trace_text.specs.RunLines.{HasShortNames};
 
 use crate::line_stop::LineCause;
@@ -61,7 +61,7 @@ fn put_place<W: Sink>(sink: &mut W, line: u32) -> Result<(), WriteFault>
 
 /// `refused LINE CAUSE`.
 fn put_refusal<W: Sink>(sink: &mut W, line: u32, cause: LineCause) -> Result<(), WriteFault>
-    ensures text { Puts result (refusal_text line cause) (W.written sink.old) (W.written sink.new) }
+    ensures text { Puts result (line_refusal_text line cause) (W.written sink.old) (W.written sink.new) }
     ensures count { W.faults sink.old ≤ W.faults sink.new }
     ensures fault { OnErr result (Rose (W.faults sink.old) (W.faults sink.new)) }
     ensures no_failure { OnOk result (W.counts_only_failures ≡ true → W.faults sink.new ≡ W.faults sink.old) }
@@ -71,14 +71,14 @@ fn put_refusal<W: Sink>(sink: &mut W, line: u32, cause: LineCause) -> Result<(),
 }
 
 impl<'c, 's, W: Sink> LineWriter<'c, 's, W> {
-    ghost use Rattle.live_run.specs.LineWriters.{cluster_of, loan_of, sink_of};
+    ghost use Rattle.live_run.specs.LineWriters.{writer_cluster, writer_loan, sink_of};
 
     /// A writer that writes to the sink, by the names of a valid cluster.
     pub fn new(cluster: &'c Cluster, sink: &'s mut W) -> LineWriter<'c, 's, W>
         requires { IsValid cluster.now }
-        ensures cluster { cluster_of result ≡ cluster.now }
+        ensures cluster { writer_cluster result ≡ cluster.now }
         ensures sink { sink_of result ≡ sink.old }
-        ensures same_sink { loan_of result ≡ sink.entry.ghost_name }
+        ensures same_sink { writer_loan result ≡ sink.entry.ghost_name }
     {
         valid_clusters_have_short_names();
         LineWriter { cluster, sink }
@@ -86,23 +86,23 @@ impl<'c, 's, W: Sink> LineWriter<'c, 's, W> {
 
     /// Writes `unexpected LINE`: the last line of a run that is cut by an answer at this line which doesn't apply.
     pub fn unexpected(&mut self, line: u32) -> Result<(), WriteFault>
-        ensures text { Puts result (texts.run_line (cluster_of self.old) (told.Unexpected line))
+        ensures text { Puts result (texts.run_line (writer_cluster self.old) (told.Unexpected line))
             (W.written (sink_of self.old)) (W.written (sink_of self.new)) }
         ensures count { W.faults (sink_of self.old) ≤ W.faults (sink_of self.new) }
         ensures fault { OnErr result (Rose (W.faults (sink_of self.old)) (W.faults (sink_of self.new))) }
         ensures no_failure { OnOk result (W.counts_only_failures ≡ true → W.faults (sink_of self.new) ≡ W.faults (sink_of self.old)) }
-        ensures same_sink { IsSameSink (loan_of self.old) (loan_of self.new) }
+        ensures same_sink { IsSameSink (writer_loan self.old) (writer_loan self.new) }
     {
         put(self.cluster, self.sink, &RunLineRef::Unexpected(line))
     }
 
     /// Writes `refused LINE CAUSE`: the last line of a run that asks for a line which isn't read.
     pub fn refused(&mut self, line: u32, cause: LineCause) -> Result<(), WriteFault>
-        ensures text { Puts result (refusal_text line cause) (W.written (sink_of self.old)) (W.written (sink_of self.new)) }
+        ensures text { Puts result (line_refusal_text line cause) (W.written (sink_of self.old)) (W.written (sink_of self.new)) }
         ensures count { W.faults (sink_of self.old) ≤ W.faults (sink_of self.new) }
         ensures fault { OnErr result (Rose (W.faults (sink_of self.old)) (W.faults (sink_of self.new))) }
         ensures no_failure { OnOk result (W.counts_only_failures ≡ true → W.faults (sink_of self.new) ≡ W.faults (sink_of self.old)) }
-        ensures same_sink { IsSameSink (loan_of self.old) (loan_of self.new) }
+        ensures same_sink { IsSameSink (writer_loan self.old) (writer_loan self.new) }
     {
         put_refusal(self.sink, line, cause)
     }

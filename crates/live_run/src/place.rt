@@ -1,7 +1,7 @@
 //! The place of a result line among the others.
 
 ghost use Rattle.std.specs.Prelude.{◌≡◌, ◌+◌, ◌<◌, ◌≤◌, ◌^◌};
-ghost use Rattle.live_run.specs.Saying.{Fits, place_behind};
+ghost use Rattle.live_run.specs.Saying.{SaidFits, place_behind_said};
 
 use crate::said::Said;
 
@@ -19,9 +19,9 @@ pub struct Place {
 impl Place {
     /// The place behind a line that says this and has so many physical lines.
     pub(crate) fn behind(self, said: Said, lines: usize) -> Place
-        requires fits { Fits self said }
+        requires fits { SaidFits self said }
         requires line { self.line + lines ≤ 2 ^ 32 }
-        ensures { result ≡ place_behind self said lines }
+        ensures { result ≡ place_behind_said self said lines }
     {
         let line = self.line + lines as u64;
         match said {

@@ -5,9 +5,9 @@ ghost use Rattle.cluster_io.specs.LineReaders.{reading_of};
 ghost use Rattle.cluster_io.specs.Streams.{Rose};
 ghost use Rattle.cluster_types.specs.Valid.{KeepsLimits};
 ghost use Rattle.crm_lex.specs.RawLines.{physical_lines};
-ghost use Rattle.live_run.specs.Coming.{AreReady, Brings, answers_in, goes_on, is_stop_last, said_came};
+ghost use Rattle.live_run.specs.Coming.{AreReady, Brings, answers_in, reads_on, is_stop_last, said_came};
 ghost use Rattle.live_run.specs.Followed.{ReadUntil};
-ghost use Rattle.live_run.specs.Saying.{Fits, line_says, place_behind};
+ghost use Rattle.live_run.specs.Saying.{SaidFits, line_says, place_behind_said};
 
 use crate::came::Came;
 use crate::line_saying::line_says;
@@ -40,7 +40,7 @@ fn said_came(said: Said, line: u32) -> Option<Came>
 }
 
 impl<'s, S: Source> ResultReader<'s, S> {
-    ghost use Rattle.live_run.specs.ResultReaders.{lines_of, loan_in, source_in};
+    ghost use Rattle.live_run.specs.ResultReaders.{reader_lines, loan_in, source_in};
 
     /// What the line says that was just handed out. The next place is that behind it.
     fn take_line(&mut self, cluster: &Cluster) -> Option<Came>
@@ -51,10 +51,10 @@ impl<'s, S: Source> ResultReader<'s, S> {
         requires numbers { self.old.at.line + length (physical_lines (reading_of self.old.lines).raw) ≤ 2 ^ 32 }
         ensures came { result ≡ said_came self.old.at.line
             (line_says cluster.now self.old.at (reading_of self.old.lines).raw) }
-        ensures place { self.new.at ≡ place_behind self.old.at
+        ensures place { self.new.at ≡ place_behind_said self.old.at
             (line_says cluster.now self.old.at (reading_of self.old.lines).raw)
             (length (physical_lines (reading_of self.old.lines).raw)) }
-        ensures fits { Fits self.old.at (line_says cluster.now self.old.at (reading_of self.old.lines).raw) }
+        ensures fits { SaidFits self.old.at (line_says cluster.now self.old.at (reading_of self.old.lines).raw) }
         ensures lines { self.new.lines ≡ self.old.lines }
     {
         let line = self.lines.number();
@@ -68,17 +68,17 @@ impl<'s, S: Source> ResultReader<'s, S> {
     /// What comes of the next logical line; None where it has no words.
     fn step(&mut self, cluster: &Cluster) -> Option<Came>
         requires limits { KeepsLimits cluster.now }
-        requires ready { AreReady (lines_of self.old) }
-        requires going { (lines_of self.old).reading.stop ≡ None }
-        ensures brings { Brings cluster.now result (lines_of self.old) (lines_of self.new)
+        requires ready { AreReady (reader_lines self.old) }
+        requires going { (reader_lines self.old).reading.stop ≡ None }
+        ensures brings { Brings cluster.now result (reader_lines self.old) (reader_lines self.new)
             (S.left (source_in self.old)) (S.left (source_in self.new)) }
-        ensures until { ReadUntil cluster.now result (lines_of self.old) (lines_of self.new)
+        ensures until { ReadUntil cluster.now result (reader_lines self.old) (reader_lines self.new)
             (S.left (source_in self.old)) (S.left (source_in self.new)) }
-        ensures ready { AreReady (lines_of self.new) }
-        ensures going { goes_on result ≡ true → (lines_of self.new).reading.stop ≡ None }
+        ensures ready { AreReady (reader_lines self.new) }
+        ensures going { reads_on result ≡ true → (reader_lines self.new).reading.stop ≡ None }
         ensures last { is_stop_last result ≡ true }
-        ensures fewer { result ≡ None → (lines_of self.new).reading.room < (lines_of self.old).reading.room }
-        ensures counted { (lines_of self.new).at.before ≡ (lines_of self.old).at.before + answers_in result }
+        ensures fewer { result ≡ None → (reader_lines self.new).reading.room < (reader_lines self.old).reading.room }
+        ensures counted { (reader_lines self.new).at.before ≡ (reader_lines self.old).at.before + answers_in result }
 
         ensures count { S.faults (source_in self.old) ≤ S.faults (source_in self.new) }
         ensures cause { result ≡ Some Came.Fault →
@@ -102,16 +102,16 @@ impl<'s, S: Source> ResultReader<'s, S> {
     /// What comes next, past all lines without words. A line that is refused or goes past the limit is the last.
     pub(crate) fn read_on(&mut self, cluster: &Cluster) -> Came
         requires limits { KeepsLimits cluster.now }
-        requires ready { AreReady (lines_of self.old) }
-        requires going { (lines_of self.old).reading.stop ≡ None }
-        ensures brings { Brings cluster.now (Some result) (lines_of self.old) (lines_of self.new)
+        requires ready { AreReady (reader_lines self.old) }
+        requires going { (reader_lines self.old).reading.stop ≡ None }
+        ensures brings { Brings cluster.now (Some result) (reader_lines self.old) (reader_lines self.new)
             (S.left (source_in self.old)) (S.left (source_in self.new)) }
-        ensures until { ReadUntil cluster.now (Some result) (lines_of self.old) (lines_of self.new)
+        ensures until { ReadUntil cluster.now (Some result) (reader_lines self.old) (reader_lines self.new)
             (S.left (source_in self.old)) (S.left (source_in self.new)) }
-        ensures ready { AreReady (lines_of self.new) }
-        ensures going { goes_on (Some result) ≡ true → (lines_of self.new).reading.stop ≡ None }
+        ensures ready { AreReady (reader_lines self.new) }
+        ensures going { reads_on (Some result) ≡ true → (reader_lines self.new).reading.stop ≡ None }
         ensures last { is_stop_last (Some result) ≡ true }
-        ensures counted { (lines_of self.new).at.before ≡ (lines_of self.old).at.before + answers_in (Some result) }
+        ensures counted { (reader_lines self.new).at.before ≡ (reader_lines self.old).at.before + answers_in (Some result) }
 
         ensures count { S.faults (source_in self.old) ≤ S.faults (source_in self.new) }
         ensures cause { result ≡ Came.Fault → Rose (S.faults (source_in self.old)) (S.faults (source_in self.new)) }

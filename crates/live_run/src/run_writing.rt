@@ -11,7 +11,7 @@ ghost use Rattle.cluster_types.specs.Valid.{KeepsLimits};
 ghost use Rattle.crm_lex.specs.Names.{is_name};
 ghost use Rattle.graph_exec.specs.Telling.{ReasonsHaveNames};
 ghost use Rattle.live_run.specs.Writing.{Puts};
-ghost use Rattle.trace_text.specs.RunLines.{HasName, HasShortNames, line_of};
+ghost use Rattle.trace_text.specs.RunLines.{HasName, HasShortNames, lent_line};
 
 use cluster_io::{Sink, WriteFault, write_text};
 use cluster_types::{Cluster, LeafId, NoReason, NodeId, Pin, Placed, Table, Target, pin_of};
@@ -25,7 +25,7 @@ pub(crate) fn put<W: Sink>(
 ) -> Result<(), WriteFault>
     requires names { HasShortNames cluster.now }
     requires reason { HasName line.now }
-    ensures text { Puts result (texts.run_line cluster.now (line_of line.now))
+    ensures text { Puts result (texts.run_line cluster.now (lent_line line.now))
         (W.written sink.old) (W.written sink.new) }
     ensures count { W.faults sink.old ≤ W.faults sink.new }
     ensures fault { OnErr result (Rose (W.faults sink.old) (W.faults sink.new)) }

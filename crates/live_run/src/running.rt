@@ -8,10 +8,10 @@ ghost use Rattle.cluster_types.specs.Safety.{IsAtRest};
 ghost use Rattle.cluster_types.specs.Texts.{run_line};
 ghost use Rattle.cluster_types.specs.Valid.{IsValid};
 ghost use Rattle.live_run.specs.Courses.{starting, stop_of};
-ghost use Rattle.live_run.specs.LineSources.{loan_in, source_in, standing_of};
+ghost use Rattle.live_run.specs.LineSources.{outcomes_loan, outcomes_source, standing_of};
 ghost use Rattle.live_run.specs.declared.live_end.LiveEnd.{LiveEnd as LiveEndOf};
-ghost use Rattle.live_run.specs.Ends.{IsDue};
-ghost use Rattle.live_run.specs.LineWriters.{cluster_of, loan_of, sink_of};
+ghost use Rattle.live_run.specs.Ends.{IsDueText};
+ghost use Rattle.live_run.specs.LineWriters.{writer_cluster, writer_loan, sink_of};
 ghost use Rattle.live_run.specs.Writing.{IsSameSink};
 ghost use Rattle.live_run.specs.Reached.{EndsCut, EndsLines, Reaches, results_behind};
 
@@ -30,12 +30,12 @@ fn end_of_cut<S: Source, W: Sink>(
     outcomes: &LineOutcomes<'_, '_, S>,
     writer: &mut LineWriter<'_, '_, W>,
 ) -> LiveEnd
-    ensures text { EndsCut (run_line (cluster_of writer.old) (told.Unexpected (standing_of outcomes.now).line)) result
+    ensures text { EndsCut (run_line (writer_cluster writer.old) (told.Unexpected (standing_of outcomes.now).line)) result
         (W.written (sink_of writer.old)) (W.written (sink_of writer.new)) }
     ensures count { W.faults (sink_of writer.old) ≤ W.faults (sink_of writer.new) }
     ensures fault { result ≡ LiveEnd.WriteFault → Rose (W.faults (sink_of writer.old)) (W.faults (sink_of writer.new)) }
     ensures no_failure { W.counts_only_failures ≡ true → result ≢ LiveEnd.WriteFault → W.faults (sink_of writer.new) ≡ W.faults (sink_of writer.old) }
-    ensures same_sink { IsSameSink (loan_of writer.old) (loan_of writer.new) }
+    ensures same_sink { IsSameSink (writer_loan writer.old) (writer_loan writer.new) }
 {
     match writer.unexpected(outcomes.line()) {
         Ok(()) => LiveEnd::Unexpected,
@@ -53,7 +53,7 @@ fn end_of_lines<S: Source, W: Sink>(
     ensures count { W.faults (sink_of writer.old) ≤ W.faults (sink_of writer.new) }
     ensures fault { result ≡ LiveEnd.WriteFault → Rose (W.faults (sink_of writer.old)) (W.faults (sink_of writer.new)) }
     ensures no_failure { W.counts_only_failures ≡ true → result ≢ LiveEnd.WriteFault → W.faults (sink_of writer.new) ≡ W.faults (sink_of writer.old) }
-    ensures same_sink { IsSameSink (loan_of writer.old) (loan_of writer.new) }
+    ensures same_sink { IsSameSink (writer_loan writer.old) (writer_loan writer.new) }
 {
     match outcomes.stop() {
         Some(LineStop::Refused { line, cause }) => match writer.refused(line, cause) {
@@ -78,20 +78,20 @@ fn run_to_end<S: Source, W: Sink>(
     requires moment { moment_of journal.events < 2 ^ 40 }
     requires fresh { standing_of outcomes.old
         ≡ starting cluster.now (moment_of journal.events) (standing_of outcomes.old).lines.reading }
-    requires names { cluster_of writer.old ≡ cluster.now }
-    ensures reaches { IfSome (S.left (source_in outcomes.old)) (λ left. Reaches cluster.now journal (standing_of outcomes.old).lines.reading left
-        (S.left (source_in outcomes.new)) (W.written (sink_of writer.old)) (W.written (sink_of writer.new)) result) }
-    ensures at_end { result ≡ LiveEnd.Done → IfSome (S.left (source_in outcomes.new)) (λ left. left ≡ []) }
-    ensures read_fault { result ≡ LiveEnd.ReadFault → Rose (S.faults (source_in outcomes.old)) (S.faults (source_in outcomes.new)) }
+    requires names { writer_cluster writer.old ≡ cluster.now }
+    ensures reaches { IfSome (S.left (outcomes_source outcomes.old)) (λ left. Reaches cluster.now journal (standing_of outcomes.old).lines.reading left
+        (S.left (outcomes_source outcomes.new)) (W.written (sink_of writer.old)) (W.written (sink_of writer.new)) result) }
+    ensures at_end { result ≡ LiveEnd.Done → IfSome (S.left (outcomes_source outcomes.new)) (λ left. left ≡ []) }
+    ensures read_fault { result ≡ LiveEnd.ReadFault → Rose (S.faults (outcomes_source outcomes.old)) (S.faults (outcomes_source outcomes.new)) }
     ensures write_fault { result ≡ LiveEnd.WriteFault → Rose (W.faults (sink_of writer.old)) (W.faults (sink_of writer.new)) }
-    ensures read_count { S.faults (source_in outcomes.old) ≤ S.faults (source_in outcomes.new) }
+    ensures read_count { S.faults (outcomes_source outcomes.old) ≤ S.faults (outcomes_source outcomes.new) }
     ensures write_count { W.faults (sink_of writer.old) ≤ W.faults (sink_of writer.new) }
     ensures no_read_failure { S.counts_only_failures ≡ true → result ≢ LiveEnd.ReadFault
-        → S.faults (source_in outcomes.new) ≡ S.faults (source_in outcomes.old) }
+        → S.faults (outcomes_source outcomes.new) ≡ S.faults (outcomes_source outcomes.old) }
     ensures no_write_failure { W.counts_only_failures ≡ true → result ≢ LiveEnd.WriteFault
         → W.faults (sink_of writer.new) ≡ W.faults (sink_of writer.old) }
-    ensures same_source { loan_in outcomes.new ≡ loan_in outcomes.old }
-    ensures same_sink { IsSameSink (loan_of writer.old) (loan_of writer.new) }
+    ensures same_source { outcomes_loan outcomes.new ≡ outcomes_loan outcomes.old }
+    ensures same_sink { IsSameSink (writer_loan writer.old) (writer_loan writer.new) }
 {
     // Each arm drops its journal by name: left to the arm's end, that takes the checker twice as long.
     match replay_watched(alloc, cluster, journal, outcomes, writer, MOST_TRANSITIONS) {
@@ -141,23 +141,23 @@ pub fn run_live<S: Source, W: Sink>(
 
     // Where the source of bytes tells what it has left: what each end says of the text, of what was written and of what was read; and which end it is,
     // unless memory, a read or a write failed.
-    ensures reaches { IfSome (S.left (source_in outcomes.old)) (λ left. Reaches cluster.now journal (standing_of outcomes.old).lines.reading left
-        (S.left (source_in outcomes.new)) (W.written out.old) (W.written out.new) result) }
-    ensures complete { IfSome (S.left (source_in outcomes.old)) (λ left. ¬ Rose (S.faults (source_in outcomes.old)) (S.faults (source_in outcomes.new))
+    ensures reaches { IfSome (S.left (outcomes_source outcomes.old)) (λ left. Reaches cluster.now journal (standing_of outcomes.old).lines.reading left
+        (S.left (outcomes_source outcomes.new)) (W.written out.old) (W.written out.new) result) }
+    ensures complete { IfSome (S.left (outcomes_source outcomes.old)) (λ left. ¬ Rose (S.faults (outcomes_source outcomes.old)) (S.faults (outcomes_source outcomes.new))
         → ¬ Rose (W.faults out.old) (W.faults out.new) → result ≢ LiveEnd.NoMemory
-        → (due : LiveEndOf) → (result ≡ due) ↔ IsDue cluster.now journal (results_behind cluster.now journal (standing_of outcomes.old).lines.reading left) due) }
-    ensures at_end { result ≡ LiveEnd.Done → IfSome (S.left (source_in outcomes.new)) (λ left. left ≡ []) }
+        → (due : LiveEndOf) → (result ≡ due) ↔ IsDueText cluster.now journal (results_behind cluster.now journal (standing_of outcomes.old).lines.reading left) due) }
+    ensures at_end { result ≡ LiveEnd.Done → IfSome (S.left (outcomes_source outcomes.new)) (λ left. left ≡ []) }
 
     // A fault comes only where its count rose, and the first failure ends the call: no other end lets a count rise that rises with failures alone.
-    ensures read_fault { result ≡ LiveEnd.ReadFault → Rose (S.faults (source_in outcomes.old)) (S.faults (source_in outcomes.new)) }
+    ensures read_fault { result ≡ LiveEnd.ReadFault → Rose (S.faults (outcomes_source outcomes.old)) (S.faults (outcomes_source outcomes.new)) }
     ensures write_fault { result ≡ LiveEnd.WriteFault → Rose (W.faults out.old) (W.faults out.new) }
-    ensures read_count { S.faults (source_in outcomes.old) ≤ S.faults (source_in outcomes.new) }
+    ensures read_count { S.faults (outcomes_source outcomes.old) ≤ S.faults (outcomes_source outcomes.new) }
     ensures write_count { W.faults out.old ≤ W.faults out.new }
     ensures no_read_failure { S.counts_only_failures ≡ true → result ≢ LiveEnd.ReadFault
-        → S.faults (source_in outcomes.new) ≡ S.faults (source_in outcomes.old) }
+        → S.faults (outcomes_source outcomes.new) ≡ S.faults (outcomes_source outcomes.old) }
     ensures no_write_failure { W.counts_only_failures ≡ true → result ≢ LiveEnd.WriteFault
         → W.faults out.new ≡ W.faults out.old }
-    ensures same_source { loan_in outcomes.new ≡ loan_in outcomes.old }
+    ensures same_source { outcomes_loan outcomes.new ≡ outcomes_loan outcomes.old }
 {
     let mut writer = LineWriter::new(cluster, out);
     run_to_end(alloc, cluster, journal, outcomes, &mut writer)

@@ -19,8 +19,8 @@ mod rule_laws;
 pub use colocations::{colocation_loop, joins_leaves};
 pub use orders::{link_edges, order_loop, orders_steps};
 pub use place::Place;
-pub use rank_laws::{ranks_are_longest_chains, ranks_are_one, ranks_rise};
+pub use rank_laws::{ranks_are_longest_chains, ranks_are_unique, ranks_rise};
 pub use ranking::{StepRanks, ranks};
 pub use rule_laws::{
-    first_colocation_is_one, first_order_is_one, first_rules_have_the_loop, tests_find_loops,
+    first_colocation_is_unique, first_order_is_unique, first_rules_have_the_loop, tests_find_loops,
 };

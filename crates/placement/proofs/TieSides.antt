@@ -3,7 +3,7 @@ use Rattle.std.proofs.Common.{◌<◌, ℕ, List, length, map, filter, subst}
 use Rattle.std.specs.List.Sorted.{IsPermutation}
 use Rattle.std.proofs.lemmas.List.Sorted.{Contains-permutation, IsPermutation-sym}
 use Rattle.lemmas.proofs.Members.{of_map, of_filter}
-use Rattle.edges.specs.Loops.{EndWithin}
+use Rattle.edges.specs.Loops.{EndsWithin}
 use Rattle.cluster_types.specs.declared.cluster.Cluster.{Cluster}
 use Rattle.cluster_types.specs.declared.leaf.Role.TheVariants as role
 use Rattle.cluster_types.specs.Terms.{is_tie}
@@ -23,7 +23,7 @@ end-at-leaves c valid tie among =
       subst (λ (t : Tie). t.primary < length c.leaves) of_colocation.gives (role_leaf c col.primary col.primary_role known.primary),
     )
 
-pub edges-within : (leaves : ℕ) (ties : List Tie) → EndAtLeaves leaves ties → EndWithin leaves (map edge_of ties)
+pub edges-within : (leaves : ℕ) (ties : List Tie) → EndAtLeaves leaves ties → EndsWithin leaves (map edge_of ties)
 edges-within leaves ties within e among =
     let of_tie = of_map edge_of ties e among in
     let ends = within of_tie.source of_tie.among in

@@ -33,8 +33,8 @@ module _ (c : Cluster) (states : States) (scores : ScoreTable) where
   abbrev pub totals_where_by : (ℕ → Bool) → Decision → List ℤ
   totals_where_by passes d = map (score_in scores d) (filter passes (range_with_len 0 (length c.nodes)))
 
-  abbrev pub key_by : Decision → Key
-  key_by d = record {
+  abbrev pub compared_key : Decision → Key
+  compared_key d = record {
     rank = priority c (leaf_of d);
     active = greatest_of (totals_where_by (is_active_by_cell c states d) d);
     usable = greatest_of (totals_where_by (is_usable_by c states) d);

@@ -15,8 +15,8 @@ pub record AreKeys (leaves : ℕ) (kept : Decision → Option Key) (slots : List
 abbrev pub key_in : List (Option Key) → ℕ → Option Key
 key_in slots x = unwrap_or (slice_get slots x) None
 
-abbrev pub key_at : List (Option Key) → Decision → Option Key
-key_at slots d = key_in slots (slot_of d)
+abbrev pub slot_key_at : List (Option Key) → Decision → Option Key
+slot_key_at slots d = key_in slots (slot_of d)
 
 -- the greater of its own and a lent key, its own of equal ones
 abbrev pub greater_by : Key → Option Key → Key

@@ -19,6 +19,6 @@ AreHeightsOf leaves ties heights =
     HasNoLoop leaves (map edge_of ties) → (r : ℕ) → r < leaves → slice_index_or heights r 0 ≡ longest leaves (map edge_of ties) r
 
 -- each tie stands behind those of its primary
-abbrev pub AreInOrder : List Tie → Type 0
-AreInOrder ties =
+abbrev pub AreTiesInOrder : List Tie → Type 0
+AreTiesInOrder ties =
     (i j : ℕ) (d : Tie) → i < length ties → j < length ties → (slice_index_or ties i d).dependent ≡ (slice_index_or ties j d).primary → i < j

@@ -29,8 +29,8 @@ abbrev pub unmarked : List Bool → ℕ
 unmarked marks = count_by not marks
 
 -- these marks, with one more where `more`
-abbrev pub mark_if : List Bool → ℕ → Bool → List Bool
-mark_if marks s more = if more then slice_set marks s true else marks
+abbrev pub with_mark_if : List Bool → ℕ → Bool → List Bool
+with_mark_if marks s more = if more then slice_set marks s true else marks
 
 -- the tie ties its dependent to r, or to a leaf that has a mark
 abbrev pub leads : ℕ → List Bool → Tie → Bool

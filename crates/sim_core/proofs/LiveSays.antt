@@ -14,7 +14,7 @@ use Rattle.live_run.specs.Heads as heads
 use Rattle.live_run.specs.declared.place.Place.{Place}
 use Rattle.live_run.specs.declared.live_end.LiveEnd.{LiveEnd}
 use Rattle.live_run.specs.declared.live_end.LiveEnd.TheVariants as end
-use Rattle.live_run.specs.Ends.{Gets}
+use Rattle.live_run.specs.Ends.{EndGets}
 use Rattle.live_run.specs.Reached as run
 use Rattle.live_run.specs.Reached.{Reaches, results_behind}
 use Rattle.live_run.proofs.Written.{adds_none}
@@ -78,15 +78,15 @@ module _ (input : List ℕ) (head : Head) (reading : Reading) (from left before 
       ap (λ (n : ℕ). coming head.cluster n at reading.room (raw_lines (reading.held ++ k.unread))) k.longest
       ∙ ap (λ (t : List ℕ). coming head.cluster 1048576 at reading.room (raw_lines t)) bytes
 
-  text_of_run : (how : LiveEnd) (text : List ℕ) → Gets head.cluster head.journal (results_behind head.cluster head.journal reading k.unread) how text
-      → IsTextOfRun (λ c journal all. Gets c journal all how) input text
+  text_of_run : (how : LiveEnd) (text : List ℕ) → EndGets head.cluster head.journal (results_behind head.cluster head.journal reading k.unread) how text
+      → IsTextOfRun (λ c journal all. EndGets c journal all how) input text
   text_of_run how text gets = record {
     bytes = k.bytes;
     head = head;
     next = reading.next;
     room = reading.room;
     begun = k.begun;
-    says = subst (λ (all : Coming). Gets head.cluster head.journal all how text) same_coming gets;
+    says = subst (λ (all : Coming). EndGets head.cluster head.journal all how text) same_coming gets;
   }
 
   behind_the_head : (Became : Cluster → Journal → Reading → List ℕ → Option (List ℕ) → Option (List ℕ) → Option (List ℕ) → Type 0)

@@ -27,23 +27,23 @@ pub record IsAmidHead (input : List ℕ) (left : Option (List ℕ)) : Type 0 whe
   pub left_is : left ≡ Some unread
   pub parts : input ≡ bytes_of lines ++ (held ++ unread)
   pub cut : raw_lines input ≡ lines ++ raw_lines (held ++ unread)
-  pub goes_on : (more : List (List (List ℕ))) → heads.head_of longest_line [] most_bytes 1 (lines ++ more)
-      ≡ heads.head_of longest_line (bytes_of lines) (most_bytes - length (bytes_of lines)) (1 + count_lines lines) more
+  pub goes_on : (more : List (List (List ℕ))) → heads.head_verdict longest_line [] most_bytes 1 (lines ++ more)
+      ≡ heads.head_verdict longest_line (bytes_of lines) (most_bytes - length (bytes_of lines)) (1 + count_lines lines) more
   pub unfinished : holds_line held ≡ false
   pub undecided : IsUndecided (most_bytes - length (bytes_of lines)) longest_line held
 
 -- what the sink holds before and after
 module _ (input : List ℕ) (left before after : Option (List ℕ)) where
   -- the whole text was written that comes with this status
-  pub record HasWritten (status : Status) : Type 0 where
+  pub record HasWrittenReplay (status : Status) : Type 0 where
     pub text : List ℕ
     pub due : IsReplayOutput input status text
     pub added : Adds before text after
 
   -- the input was read to its end, and its whole run was written
-  pub record IsDone : Type 0 where
+  pub record IsReplayDone : Type 0 where
     pub at_end : IfSome left (λ bytes. bytes ≡ [])
-    pub written : HasWritten Done
+    pub written : HasWrittenReplay Done
 
   -- the head was taken whole, and this became of the run that follows from it. The source had these bytes left behind the head, and fewer than 4,096 more
   -- were taken with it
@@ -82,12 +82,12 @@ module _ (input : List ℕ) (left before after : Option (List ℕ)) where
 
   -- what each status says
   abbrev pub SaysLive : Status → Type 0
-  SaysLive Done = IsDone
+  SaysLive Done = IsReplayDone
   SaysLive NoMemory = HasNoMemoryLeft
   SaysLive ReadFault = HasReadFault
   SaysLive WriteFault = HasWriteFault
-  SaysLive Refused = HasWritten Refused
-  SaysLive Unexpected = HasWritten Unexpected
-  SaysLive TooLarge = HasWritten TooLarge
+  SaysLive Refused = HasWrittenReplay Refused
+  SaysLive Unexpected = HasWrittenReplay Unexpected
+  SaysLive TooLarge = HasWrittenReplay TooLarge
   SaysLive Usage = ⊥
   SaysLive NotLawful = ⊥

@@ -41,11 +41,11 @@ StopsBy input left stop.ReadFault = IsAmidHead input left
 StopsBy input left stop.NoMemory = Unit {0}
 
 -- why the run isn't begun, by why the head isn't read
-abbrev pub end_of : HeadStop → HeadEnd
-end_of (found.Refused line why) = stop.Refused line (Words why)
-end_of found.TooLarge = stop.TooLarge
-end_of found.ReadFault = stop.ReadFault
-end_of found.NoMemory = stop.NoMemory
+abbrev pub head_end_of : HeadStop → HeadEnd
+head_end_of (found.Refused line why) = stop.Refused line (Words why)
+head_end_of found.TooLarge = stop.TooLarge
+head_end_of found.ReadFault = stop.ReadFault
+head_end_of found.NoMemory = stop.NoMemory
 
 -- what was written of a fault of the head
 abbrev pub WritesFault : ℕ → InputCause → Option (List ℕ) → Option (List ℕ) → Status → Type 0

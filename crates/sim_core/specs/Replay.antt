@@ -19,8 +19,8 @@ use Rattle.input_reading.specs.Causes.{refusal_text}
 use Rattle.input_reading.specs.Reading.{longest_line, most_bytes, start_of}
 
 -- the head of an input: its logical lines up to the one that begins the results, or all where none does
-abbrev pub head_in : List ℕ → heads.Head
-head_in input = heads.head_of longest_line [] most_bytes 1 (raw_lines input)
+abbrev pub head_in : List ℕ → heads.HeadVerdict
+head_in input = heads.head_verdict longest_line [] most_bytes 1 (raw_lines input)
 
 -- the head of an input is read: it has these bytes, and says this. The line behind it has this number, and so many of the bytes behind it lie within the
 -- limit

@@ -36,10 +36,10 @@ module _ (c : Cluster) where
       ++ count_line (codes "leaves") (length c.leaves)
 
   -- its run: how many transitions, begins and successes it has, and how many targets at last
-  abbrev pub run_lines : Run → List ℕ
-  run_lines run =
+  abbrev pub summary_lines : Run → List ℕ
+  summary_lines run =
       count_line (codes "transitions") (length run.passed) ++ count_line (codes "begun") (length (filter is_begin run.journal.events))
       ++ count_line (codes "succeeded") (length (filter (is_good_end c) run.journal.events)) ++ count_line (codes "targets") (last_targets run.passed)
 
   abbrev pub summary_text : ℕ → Run → List ℕ
-  summary_text number run = case_lines number ++ run_lines run
+  summary_text number run = case_lines number ++ summary_lines run

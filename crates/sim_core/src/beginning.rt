@@ -7,7 +7,7 @@ ghost use Rattle.cluster_types.specs.Journals.{moment_of};
 ghost use Rattle.cluster_types.specs.Safety.{IsAtRest};
 ghost use Rattle.cluster_types.specs.Valid.{IsValid};
 ghost use Rattle.live_run.specs.Heads.{CanGoOn};
-ghost use Rattle.sim_core.specs.LiveSteps.{IsBehind, StopsBy, end_of, fresh};
+ghost use Rattle.sim_core.specs.LiveSteps.{IsBehind, StopsBy, head_end_of, fresh};
 
 use cluster_io::{LineReader, Source};
 use crm_lex::WordBuf;
@@ -36,7 +36,7 @@ pub(crate) enum HeadEnd {
 }
 
 fn head_end(stop: HeadStop) -> HeadEnd
-    ensures { result ≡ end_of stop }
+    ensures { result ≡ head_end_of stop }
 {
     match stop {
         HeadStop::Refused { line, cause } => HeadEnd::Refused {

@@ -49,7 +49,7 @@ mod world;
 mod audit_laws;
 mod laws;
 
-pub use audit_laws::{faulty_lines_are_one, faulty_runs_are_not_lawful};
+pub use audit_laws::{faulty_lines_are_unique, faulty_runs_are_not_lawful};
 pub use auditing::audit;
 pub use help::{HELP, VERSION};
 pub use laws::{what_check_writes_is_read_again, what_replay_writes_is_one_safe_run};

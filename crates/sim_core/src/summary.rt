@@ -38,7 +38,7 @@ fn push_case(text: &mut String, cluster: &Cluster, number: u32) -> Result<(), Al
 
 /// Its run.
 fn push_run(text: &mut String, cluster: &Cluster, run: &Run) -> Result<(), AllocError>
-    ensures { OnOk result (string_bytes text.new ≡ string_bytes text.old ++ summary.run_lines cluster.now run.now) }
+    ensures { OnOk result (string_bytes text.new ≡ string_bytes text.old ++ summary.summary_lines cluster.now run.now) }
 {
     let events = run.journal.events.as_slice();
     push_count(text, "transitions", run.passed.len())?;

@@ -21,9 +21,9 @@ use Rattle.listed.specs.Sets.{members}
 use Rattle.simulated.specs.declared.turn.Fate.{Fate}
 use Rattle.simulated.specs.declared.turn.Turn.{Turn}
 use Rattle.simulated.specs.declared.turn.Turn.TheVariants as turn
-use Rattle.simulated.specs.Kept.{IsOfSame, RealityOf, Shows}
-use Rattle.simulated.specs.Lives.{IsWithin, Lives, begins_here, starts, leaves, joins, ends}
-use Rattle.simulated.specs.Turns.{after_begin, after_end, after_joining, after_leaving, answer_of, is_fault, turn_of, turned}
+use Rattle.simulated.specs.Kept.{IsOfSame, RealityOf, ShowsWorld}
+use Rattle.simulated.specs.Lives.{IsWorldWithin, Lives, begins_here, starts, leaves, joins, ends}
+use Rattle.simulated.specs.Turns.{after_begin, after_end, after_joining, after_leaving, answer_by_fate, is_fault, turn_of, turned}
 use Rattle.simulated.specs.RealWorlds.{World, first_world, is_cell}
 use Rattle.simulated.proofs.Applying.{ends_apply, joins_apply, leaves_apply}
 use Rattle.simulated.proofs.Counting.{AreNumbers, none_ended, one_joined, one_left}
@@ -50,7 +50,7 @@ all_numbers f p there =
     on k false e h = alone k (slice_get f.progress.graph.actions (k - 1)) e h
 
 -- two simulated clusters for which the same is kept stand alike
-module _ (k : RealityOf) (v w : World) (one : Shows k v) (other : Shows k w) where
+module _ (k : RealityOf) (v w : World) (one : ShowsWorld k v) (other : ShowsWorld k w) where
   same_node : (n : ℕ) → n < length k.cluster.nodes → v.nodes n ≡ w.nodes n
   same_node n l = let a = one.nodes n l in let b = other.nodes n l in cc
 
@@ -66,7 +66,7 @@ module _ (k : RealityOf) (v w : World) (one : Shows k v) (other : Shows k w) whe
       cc
 
 -- so what is kept of one that agrees with a journal runs only what may run by it
-pub shown_within : (k : WorldOf) (c : Cluster) (es : List Event) (taken : ℕ) (w : World) → Agrees k c es taken → Shows k.reality w → RunsWithin c es w
+pub shown_within : (k : WorldOf) (c : Cluster) (es : List Event) (taken : ℕ) (w : World) → Agrees k c es taken → ShowsWorld k.reality w → RunsWithin c es w
 shown_within k c es taken w a shown =
     let of = always c k.reality.number a.first es a.world a.lives in
     record {
@@ -78,7 +78,7 @@ shown_within k c es taken w a shown =
     }
 
 -- at first it agrees with the journal with which it began
-pub first_agrees : (k : WorldOf) (c : Cluster) (es : List Event) → k.reality.cluster ≡ c → length es ≡ k.since → Shows k.reality (first_world c es) → Agrees k c es 0
+pub first_agrees : (k : WorldOf) (c : Cluster) (es : List Event) → k.reality.cluster ≡ c → length es ≡ k.since → ShowsWorld k.reality (first_world c es) → Agrees k c es 0
 first_agrees k c es of since shows =
     record { of_cluster = of; first = es; began = since; world = first_world c es; lives = begins_here; shows = shows; few = omega arith }
 
@@ -89,7 +89,7 @@ silent_agrees k c es taken flight a none = record { ends = λ busy. absurd (let 
 
 module _ (k : WorldOf) (c : Cluster) (es : List Event) (taken : ℕ) (a : Agrees k c es taken) (new : WorldOf) (of : IsOfOne k new) where
   -- it goes on to a world that it lives
-  goes_to : (later : List Event) (more : ℕ) (w : World) → Lives c k.reality.number a.first later w → Shows new.reality w → more ≤ w.given → Agrees new c later more
+  goes_to : (later : List Event) (more : ℕ) (w : World) → Lives c k.reality.number a.first later w → ShowsWorld new.reality w → more ≤ w.given → Agrees new c later more
   goes_to later more w lives shows few = record {
     of_cluster = of.same.cluster ∙ a.of_cluster;
     first = a.first;
@@ -100,28 +100,28 @@ module _ (k : WorldOf) (c : Cluster) (es : List Event) (taken : ℕ) (a : Agrees
     few = few;
   }
 
-  pub begun_agrees : (number : ℕ) (action : Action) → ((w : World) → Shows k.reality w → Shows new.reality (after_begin k.reality.cluster w action))
+  pub begun_agrees : (number : ℕ) (action : Action) → ((w : World) → ShowsWorld k.reality w → ShowsWorld new.reality (after_begin k.reality.cluster w action))
       → Agrees new c (es ++ Begin number action ∷ []) taken
   begun_agrees number action shows =
       goes_to (es ++ Begin number action ∷ []) taken (after_begin c a.world action) (starts es a.world number action a.lives)
-      (subst (λ d. Shows new.reality (after_begin d a.world action)) a.of_cluster (shows a.world a.shows)) a.few
+      (subst (λ d. ShowsWorld new.reality (after_begin d a.world action)) a.of_cluster (shows a.world a.shows)) a.few
 
   -- what comes next, with these actions in flight
   module _ (flight : List (ℕ × Action)) (is : IsFlight es flight) (numbers : AreNumbers flight) (count : ℕ) (count_is : count ≡ length flight) (some : 0 < count)
       (mid : RealityOf) (turns : IsOfSame k.reality mid) (came : Turn)
-      (drawn : (w : World) → Shows k.reality w → came ≡ turn_of k.reality.cluster k.reality.number w count)
-      (shown : (w : World) → Shows k.reality w → Shows mid (turned k.reality.cluster k.reality.number w)) where
+      (drawn : (w : World) → ShowsWorld k.reality w → came ≡ turn_of k.reality.cluster k.reality.number w count)
+      (shown : (w : World) → ShowsWorld k.reality w → ShowsWorld mid (turned k.reality.cluster k.reality.number w)) where
     abbrev now : World
     now = turned c k.reality.number a.world
 
-    within : IsWithin c es a.world
+    within : IsWorldWithin c es a.world
     within = always c k.reality.number a.first es a.world a.lives
 
     busy : 0 < length flight
     busy = subst (λ n. 0 < n) count_is some
 
-    mid_shows : Shows mid now
-    mid_shows = subst (λ d. Shows mid (turned d k.reality.number a.world)) a.of_cluster (shown a.world a.shows)
+    mid_shows : ShowsWorld mid now
+    mid_shows = subst (λ d. ShowsWorld mid (turned d k.reality.number a.world)) a.of_cluster (shown a.world a.shows)
 
     mid_cluster : mid.cluster ≡ c
     mid_cluster = turns.cluster ∙ a.of_cluster
@@ -134,13 +134,13 @@ module _ (k : WorldOf) (c : Cluster) (es : List Event) (taken : ℕ) (a : Agrees
     pub left_applies : (node : ℕ) → came ≡ turn.Leaves node → applies_after c es flight taken (answer.Lost node) ≡ true
     left_applies node e = leaves_apply c k.reality.number es a.world flight taken within a.few node (sym came_is ∙ e)
 
-    pub left_agrees : (node : ℕ) → came ≡ turn.Leaves node → ((w : World) → Shows mid w → Shows new.reality (after_leaving mid.cluster w node))
+    pub left_agrees : (node : ℕ) → came ≡ turn.Leaves node → ((w : World) → ShowsWorld mid w → ShowsWorld new.reality (after_leaving mid.cluster w node))
         → AgreesOn (Agrees new) c es taken flight (answer.Lost node)
     left_agrees node e left = record {
       taken_on = λ applies.
           goes_to (es ++ added_by c es flight (answer.Lost node)) (taken + count_by is_from_outside (added_by c es flight (answer.Lost node)))
           (after_leaving c now node) (leaves es a.world flight node a.lives is busy (sym came_is ∙ e))
-          (subst (λ d. Shows new.reality (after_leaving d now node)) mid_cluster (left now mid_shows))
+          (subst (λ d. ShowsWorld new.reality (after_leaving d now node)) mid_cluster (left now mid_shows))
           (let one = one_left c es flight node numbers in let few = a.few in omega arith);
       refused = λ no. absurd (let yes = left_applies node e in let f : ⊥ = cc in f);
     }
@@ -148,21 +148,21 @@ module _ (k : WorldOf) (c : Cluster) (es : List Event) (taken : ℕ) (a : Agrees
     pub joined_applies : (node : ℕ) → came ≡ turn.Joins node → applies_after c es flight taken (answer.Up node) ≡ true
     joined_applies node e = joins_apply c k.reality.number es a.world flight taken within a.few node (sym came_is ∙ e)
 
-    pub joined_agrees : (node : ℕ) → came ≡ turn.Joins node → ((w : World) → Shows mid w → Shows new.reality (after_joining mid.cluster w node))
+    pub joined_agrees : (node : ℕ) → came ≡ turn.Joins node → ((w : World) → ShowsWorld mid w → ShowsWorld new.reality (after_joining mid.cluster w node))
         → AgreesOn (Agrees new) c es taken flight (answer.Up node)
     joined_agrees node e joined = record {
       taken_on = λ applies.
           goes_to (es ++ added_by c es flight (answer.Up node)) (taken + count_by is_from_outside (added_by c es flight (answer.Up node)))
           (after_joining c now node) (joins es a.world flight node a.lives is busy (sym came_is ∙ e))
-          (subst (λ d. Shows new.reality (after_joining d now node)) mid_cluster (joined now mid_shows))
+          (subst (λ d. ShowsWorld new.reality (after_joining d now node)) mid_cluster (joined now mid_shows))
           (let one = one_joined c es flight node in let few = a.few in omega arith);
       refused = λ no. absurd (let yes = joined_applies node e in let f : ⊥ = cc in f);
     }
 
     module _ (place : ℕ) (f : Fate) (number : ℕ) (action : Action) (e : came ≡ turn.Ends place f) (found : slice_get flight place ≡ Some (number, action)) (given : Answer)
-        (said : (w : World) → Shows mid w → given ≡ answer_of mid.cluster w f number action) where
-      given_is : given ≡ answer_of c now f number action
-      given_is = subst (λ d. given ≡ answer_of d now f number action) mid_cluster (said now mid_shows)
+        (said : (w : World) → ShowsWorld mid w → given ≡ answer_by_fate mid.cluster w f number action) where
+      given_is : given ≡ answer_by_fate c now f number action
+      given_is = subst (λ d. given ≡ answer_by_fate d now f number action) mid_cluster (said now mid_shows)
 
       pub ended_applies : applies_after c es flight taken given ≡ true
       ended_applies = subst (λ g. applies_after c es flight taken g ≡ true) (sym given_is) (ends_apply c es now flight taken place number f action found)
@@ -176,13 +176,13 @@ module _ (k : WorldOf) (c : Cluster) (es : List Event) (taken : ℕ) (a : Agrees
       few true = let few = a.few in omega arith
       few false = let few = a.few in omega arith
 
-      pub ended_agrees : ((w : World) → Shows mid w → Shows new.reality (after_end mid.cluster w f action)) → AgreesOn (Agrees new) c es taken flight given
+      pub ended_agrees : ((w : World) → ShowsWorld mid w → ShowsWorld new.reality (after_end mid.cluster w f action)) → AgreesOn (Agrees new) c es taken flight given
       ended_agrees ended = subst (λ g. AgreesOn (Agrees new) c es taken flight g) (sym given_is) (record {
         taken_on = λ applies.
-            let last = answer_of c now f number action in
+            let last = answer_by_fate c now f number action in
             goes_to (es ++ added_by c es flight last) (taken + count_by is_from_outside (added_by c es flight last)) (after_end c now f action)
             (ends es a.world flight place f number action a.lives is (sym came_is ∙ e) found)
-            (subst (λ d. Shows new.reality (after_end d now f action)) mid_cluster (ended now mid_shows))
+            (subst (λ d. ShowsWorld new.reality (after_end d now f action)) mid_cluster (ended now mid_shows))
             (subst (λ n. taken + n ≤ (after_end c now f action).given) (sym (none_ended c es flight now place number action f from_one is found)) (few (is_fault f)));
         refused = λ no. absurd (let yes = ends_apply c es now flight taken place number f action found in let g : ⊥ = cc in g);
       })

@@ -15,7 +15,7 @@ use Rattle.std.proofs.lemmas.Bool.Decides.{nat_tests}
 use Rattle.std.proofs.Math.Bool.{or-true}
 use Rattle.cluster_types.specs.declared.journal.Action.{Action}
 use Rattle.cluster_types.specs.declared.journal.Event.{Event}
-use Rattle.cluster_types.specs.Answering.{applies_after, is_joined, is_number_of, is_offline_state}
+use Rattle.cluster_types.specs.Answering.{applies_after, is_joined_sign, is_number_of, is_offline_state}
 use Rattle.cluster_types.specs.May.{may}
 use Rattle.cluster_types.specs.Precedence.{CellOf, op_cell}
 use Rattle.cluster_types.specs.Fields.{copies}
@@ -23,11 +23,11 @@ use Rattle.cluster_types.specs.Safety.{AddsNoCopy, NoSecondCopy, count_of_others
 use Rattle.cluster_types.specs.Steps.{Transition, journal}
 use Rattle.simulated.specs.declared.turn.Fate.{Fate}
 use Rattle.simulated.specs.declared.turn.Fate.TheVariants as fate
-use Rattle.simulated.specs.Lives.{IsWithin, NoSecondCopyReally, ReallyAddsNoCopy}
+use Rattle.simulated.specs.Lives.{IsWorldWithin, NoSecondCopyReally, ReallyAddsNoCopy}
 use Rattle.simulated.proofs.Within.{always}
 use Rattle.cluster_types.specs.declared.leaf.Op.TheVariants as op
-use Rattle.simulated.specs.Turns.{answer_of, turn_of}
-use Rattle.simulated.specs.RealWorlds.{World, found_at, is_cell, is_off, is_there, is_up, standing_by}
+use Rattle.simulated.specs.Turns.{answer_by_fate, turn_of}
+use Rattle.simulated.specs.RealWorlds.{World, found_at, is_cell, is_node_off, is_there, is_node_up, standing_by}
 
 flies : (flight : List (ℕ × Action)) (place k : ℕ) (a : Action) → slice_get flight place ≡ Some (k, a) → list_any (is_number_of k) flight ≡ true
 flies [] place k a at = cc
@@ -35,13 +35,13 @@ flies (p ∷ ps) zero k a at = let is : p ≡ (k, a) = cc in let same : (k == k)
 flies (p ∷ ps) (suc place) k a at = rw (flies ps place k a at) (or-true (p.0 == k))
 
 pub ends_apply : (c : Cluster) (es : List Event) (w : World) (flight : List (ℕ × Action)) (taken place k : ℕ) (f : Fate) (a : Action)
-    → slice_get flight place ≡ Some (k, a) → applies_after c es flight taken (answer_of c w f k a) ≡ true
+    → slice_get flight place ≡ Some (k, a) → applies_after c es flight taken (answer_by_fate c w f k a) ≡ true
 ends_apply c es w flight taken place k fate.True a at = flies flight place k a at
 ends_apply c es w flight taken place k fate.DoneBadly a at = flies flight place k a at
 ends_apply c es w flight taken place k fate.Undone a at = flies flight place k a at
 ends_apply c es w flight taken place k fate.TimedOut a at = flies flight place k a at
 
-module _ (t : Transition) (before : List Event) (w : World) (within : IsWithin t.cluster (journal t before) w) where
+module _ (t : Transition) (before : List Event) (w : World) (within : IsWorldWithin t.cluster (journal t before) w) where
   found_may : (r m : ℕ) → is_there (found_at t.cluster w.cells r m) ≡ true → may t.cluster r m (journal t before) ≡ true
   found_may r m h = on (is_cell t.cluster r m) refl h where
     on : (b : Bool) → is_cell t.cluster r m ≡ b → is_there (found_at t.cluster w.cells r m) ≡ true → may t.cluster r m (journal t before) ≡ true
@@ -63,18 +63,18 @@ none_second number first t events safe before after k a at = on (op_cell op.Star
     on None h = tt
     on (Some cell) h = λ w life. fewer t before w (always t.cluster number first (journal t before) w life) cell h
 
-module _ (c : Cluster) (number : ℕ) (es : List Event) (w : World) (flight : List (ℕ × Action)) (taken : ℕ) (within : IsWithin c es w) (few : taken ≤ w.given) where
+module _ (c : Cluster) (number : ℕ) (es : List Event) (w : World) (flight : List (ℕ × Action)) (taken : ℕ) (within : IsWorldWithin c es w) (few : taken ≤ w.given) where
   room : w.given < 16 → nat_lt taken 256 ≡ true
   room early = grind (arith, nat_tests)
 
-  up_joined : (s : Option NodeSign) → is_up (standing_by c s) ≡ true → is_joined s ≡ true
+  up_joined : (s : Option NodeSign) → is_node_up (standing_by c s) ≡ true → is_joined_sign s ≡ true
   up_joined None h = cc
   up_joined (Some joined) h = refl
   up_joined (Some went_down) h = cc
   up_joined (Some was_fenced) h = cc
   up_joined (Some was_lost) h = on c.properties.fencing h
     where
-      on : (t : Bool) → is_up (if t then standing.Lost else standing.Off) ≡ true → is_joined (Some was_lost) ≡ true
+      on : (t : Bool) → is_node_up (if t then standing.Lost else standing.Off) ≡ true → is_joined_sign (Some was_lost) ≡ true
       on true i = cc
       on false i = cc
 
@@ -82,17 +82,17 @@ module _ (c : Cluster) (number : ℕ) (es : List Event) (w : World) (flight : Li
   leaves_apply node e =
       let so = leaving c number w (length flight) node e in
       let there : nat_lt node (length c.nodes) ≡ true = let low = so.within in grind (arith, nat_tests) in
-      let up : is_joined (last_sign node es) ≡ true = up_joined (last_sign node es) (ap is_up (sym (within.stands node)) ∙ so.is_so) in
+      let up : is_joined_sign (last_sign node es) ≡ true = up_joined (last_sign node es) (ap is_node_up (sym (within.stands node)) ∙ so.is_so) in
       rw (room so.early, there, up) refl
 
-  off_offline : (node : ℕ) (s : Option NodeSign) → is_off (standing_by c s) ≡ true → is_offline_state (state_by c node es s) ≡ true
+  off_offline : (node : ℕ) (s : Option NodeSign) → is_node_off (standing_by c s) ≡ true → is_offline_state (state_by c node es s) ≡ true
   off_offline node None h = refl
   off_offline node (Some joined) h = cc
   off_offline node (Some went_down) h = refl
   off_offline node (Some was_fenced) h = refl
   off_offline node (Some was_lost) h = on c.properties.fencing h
     where
-      on : (t : Bool) → is_off (if t then standing.Lost else standing.Off) ≡ true → is_offline_state (if t then state.Unclean else state.Offline) ≡ true
+      on : (t : Bool) → is_node_off (if t then standing.Lost else standing.Off) ≡ true → is_offline_state (if t then state.Unclean else state.Offline) ≡ true
       on true i = cc
       on false i = refl
 
@@ -100,5 +100,5 @@ module _ (c : Cluster) (number : ℕ) (es : List Event) (w : World) (flight : Li
   joins_apply node e =
       let so = joining c number w (length flight) node e in
       let there : nat_lt node (length c.nodes) ≡ true = let low = so.within in grind (arith, nat_tests) in
-      let off : is_offline_state (node_state c node es) ≡ true = off_offline node (last_sign node es) (ap is_off (sym (within.stands node)) ∙ so.is_so) in
+      let off : is_offline_state (node_state c node es) ≡ true = off_offline node (last_sign node es) (ap is_node_off (sym (within.stands node)) ∙ so.is_so) in
       rw (room so.early, there, off) refl

@@ -11,7 +11,7 @@ use Rattle.cluster_types.specs.declared.journal.Event.{Event}
 use Rattle.cluster_types.specs.declared.journal.Event.TheVariants.{Up, Lost, Begin}
 use Rattle.cluster_types.specs.declared.journal.Outcome.{Outcome}
 use Rattle.cluster_types.specs.declared.journal.Outcome.TheVariants.{Code, TimedOut, Gone}
-use Rattle.cluster_types.specs.Answering.{added_by, applies_after, end_of, is_flying, is_number_of}
+use Rattle.cluster_types.specs.Answering.{added_by, applies_after, end_event, is_flying, is_number_of}
 use Rattle.cluster_types.specs.Journals.{is_on}
 use Rattle.cluster_types.specs.Safety.{is_gone}
 
@@ -53,19 +53,19 @@ module _ (c : Cluster) (es : List Event) (flight : List (ℕ × Action)) where
   of_flight taken (answer.Report n r interval code) h = tt
 
   gone_first : (n : ℕ) (ps : List (ℕ × Action)) (more : List Event)
-      → first_of ((map (end_of c es flight Gone) ps ++ Lost n ∷ []) ++ more) ≡ map (end_of c es flight Gone) ps ++ Lost n ∷ []
+      → first_of ((map (end_event c es flight Gone) ps ++ Lost n ∷ []) ++ more) ≡ map (end_event c es flight Gone) ps ++ Lost n ∷ []
   gone_first n [] more = refl
-  gone_first n (p ∷ ps) more = ap (λ l. end_of c es flight Gone p ∷ l) (gone_first n ps more)
+  gone_first n (p ∷ ps) more = ap (λ l. end_event c es flight Gone p ∷ l) (gone_first n ps more)
 
-  gone_begins_none : (n : ℕ) (ps : List (ℕ × Action)) → begins_one (map (end_of c es flight Gone) ps ++ Lost n ∷ []) ≡ false
+  gone_begins_none : (n : ℕ) (ps : List (ℕ × Action)) → begins_one (map (end_event c es flight Gone) ps ++ Lost n ∷ []) ≡ false
   gone_begins_none n [] = refl
   gone_begins_none n (p ∷ ps) = refl
 
   module _ (o : Outcome) where
     abbrev ended_by : Option (ℕ × Action) → List Event
-    ended_by found = option_map_or (λ (p : ℕ × Action). end_of c es flight o p ∷ []) found []
+    ended_by found = option_map_or (λ (p : ℕ × Action). end_event c es flight o p ∷ []) found []
 
-    end_first : ((p : ℕ × Action) → is_gone (end_of c es flight o p) ≡ false) → (k : ℕ) (ps : List (ℕ × Action)) → list_any (is_number_of k) ps ≡ true
+    end_first : ((p : ℕ × Action) → is_gone (end_event c es flight o p) ≡ false) → (k : ℕ) (ps : List (ℕ × Action)) → list_any (is_number_of k) ps ≡ true
         → (more : List Event) → first_of (ended_by (find (is_number_of k) ps) ++ more) ≡ ended_by (find (is_number_of k) ps)
     end_first other k [] h more = absurd (let f : ⊥ = cc in f)
     end_first other k (p ∷ ps) h more = by (is_number_of k p) h (λ g. end_first other k ps g more)

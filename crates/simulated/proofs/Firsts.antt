@@ -7,7 +7,7 @@ use Rattle.lemmas.proofs.Members.{slice_get_left}
 use Rattle.cluster_types.specs.declared.cluster.Cluster.{Cluster}
 use Rattle.cluster_types.specs.declared.journal.Event.{Event}
 use Rattle.cluster_types.specs.declared.states.NodeState.TheVariants.{Online, Offline, Unclean}
-use Rattle.cluster_types.specs.Answering.{is_joined}
+use Rattle.cluster_types.specs.Answering.{is_joined_sign}
 use Rattle.cluster_types.specs.CellStates.{last_outcome}
 use Rattle.cluster_types.specs.Journals.{NodeSign, joined, went_down, was_lost, was_fenced, last_sign}
 use Rattle.cluster_types.specs.May.{may, may_promoted}
@@ -18,7 +18,7 @@ use Rattle.simulated.specs.declared.real.Real.TheVariants as real
 use Rattle.simulated.specs.declared.real.Standing.{Standing}
 use Rattle.simulated.specs.declared.real.Standing.TheVariants as standing
 use Rattle.cases.specs.Draws.{state_after}
-use Rattle.simulated.specs.Kept.{Holds, HoldsNodes, Shows, reality}
+use Rattle.simulated.specs.Kept.{Holds, HoldsNodes, ShowsWorld, reality}
 use Rattle.simulated.specs.RealWorlds.{Cells, first_real, first_world, is_rising, standing_by}
 use Rattle.simulated.specs.Firsts.{IsFilled}
 use Rattle.simulated.proofs.Hearing.{place_within}
@@ -52,7 +52,7 @@ module _ (c : Cluster) where
   holds-filled kept cells full f = record { full = full; each = λ r n l m. f.each r n l m (place_within c (length kept) r n full l m) }
 
   -- how a node stands, by the last that is shown of it
-  pub not_joined_lost : (n : ℕ) (es : List Event) (s : Option NodeSign) → is_joined s ≡ false → state_by c n es s ≡ Unclean → standing.Lost ≡ standing_by c s
+  pub not_joined_lost : (n : ℕ) (es : List Event) (s : Option NodeSign) → is_joined_sign s ≡ false → state_by c n es s ≡ Unclean → standing.Lost ≡ standing_by c s
   not_joined_lost n es None h e = cc
   not_joined_lost n es (Some joined) h e = cc
   not_joined_lost n es (Some went_down) h e = cc
@@ -63,7 +63,7 @@ module _ (c : Cluster) where
       on true i = refl
       on false i = cc
 
-  pub not_joined_offline : (n : ℕ) (es : List Event) (s : Option NodeSign) → is_joined s ≡ false → state_by c n es s ≡ Offline → standing.Off ≡ standing_by c s
+  pub not_joined_offline : (n : ℕ) (es : List Event) (s : Option NodeSign) → is_joined_sign s ≡ false → state_by c n es s ≡ Offline → standing.Off ≡ standing_by c s
   not_joined_offline n es None h e = refl
   not_joined_offline n es (Some joined) h e = cc
   not_joined_offline n es (Some went_down) h e = refl
@@ -74,7 +74,7 @@ module _ (c : Cluster) where
       on true i = cc
       on false i = refl
 
-  pub not_joined_online : (n : ℕ) (es : List Event) (s : Option NodeSign) → is_joined s ≡ false → state_by c n es s ≡ Online → standing.Off ≡ standing_by c s
+  pub not_joined_online : (n : ℕ) (es : List Event) (s : Option NodeSign) → is_joined_sign s ≡ false → state_by c n es s ≡ Online → standing.Off ≡ standing_by c s
   not_joined_online n es None h e = cc
   not_joined_online n es (Some joined) h e = cc
   not_joined_online n es (Some went_down) h e = cc
@@ -85,7 +85,7 @@ module _ (c : Cluster) where
       on true i = cc
       on false i = cc
 
-  pub has_joined : (s : Option NodeSign) → is_joined s ≡ true → standing.Up ≡ standing_by c s
+  pub has_joined : (s : Option NodeSign) → is_joined_sign s ≡ true → standing.Up ≡ standing_by c s
   has_joined None h = cc
   has_joined (Some joined) h = refl
   has_joined (Some went_down) h = cc
@@ -122,7 +122,7 @@ never_rising c es r n = on (is_none (last_outcome c r n es)) (may_promoted c r n
 
 pub first_shows : (c : Cluster) (es : List Event) (nodes : List Standing) (cells : List Real) (number : ℕ)
     → HoldsNodes (length c.nodes) nodes (λ n. standing_by c (last_sign n es)) → Holds c cells (first_real c es)
-    → Shows (reality c nodes cells None number (state_after number 0) 0) (first_world c es)
+    → ShowsWorld (reality c nodes cells None number (state_after number 0) 0) (first_world c es)
 first_shows c es nodes cells number n h = record {
   nodes = n;
   cells = h;

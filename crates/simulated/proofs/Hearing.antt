@@ -10,7 +10,7 @@ use Rattle.cluster_types.specs.CellStates.{last_outcome}
 use Rattle.cluster_types.specs.Failures.{is_outcome}
 use Rattle.cluster_types.proofs.TableCells.{ordered, same_place, get-at, same_cell}
 use Rattle.state_unpack.proofs.MoreFacts.{seen-after}
-use Rattle.simulated.specs.Firsts.{Hears, IsSaidOf}
+use Rattle.simulated.specs.Firsts.{HearsOutcomes, IsSaidOf}
 
 module _ (c : Cluster) where
   -- the place of a cell that is there
@@ -73,7 +73,7 @@ module _ (c : Cluster) where
 
   pub hears-said : (es : List Event) (e : Event) (touched : ℕ → ℕ → Bool) (x : Bool) (old new : List Bool) → IsSaidOf c touched x old new
       → ((r n : ℕ) (was : Bool) → (if touched r n then x else was) ≡ (not (is_reset r n e) && (was || is_outcome c r n e)))
-      → Hears c es old → Hears c (es ++ e ∷ []) new
+      → HearsOutcomes c es old → HearsOutcomes c (es ++ e ∷ []) new
   hears-said es e touched x old new s is h = record { full = s.len ∙ h.full; each = λ r n l m. s.each r n l m ∙ split r n l m (touched r n) refl }
     where
       split : (r n : ℕ) → r < length c.leaves → n < length c.nodes → (t : Bool) → touched r n ≡ t
@@ -87,13 +87,13 @@ module _ (c : Cluster) where
 
   -- an event that is no outcome, and after which all that was heard still counts
   pub hears-still : (es : List Event) (e : Event) (heard : List Bool) → ((r n : ℕ) → is_reset r n e ≡ false) → ((r n : ℕ) → is_outcome c r n e ≡ false)
-      → Hears c es heard → Hears c (es ++ e ∷ []) heard
+      → HearsOutcomes c es heard → HearsOutcomes c (es ++ e ∷ []) heard
   hears-still es e heard no_reset no_outcome h =
       hears-said es e (λ r n. false) false heard heard (said-none (λ r n. false) false heard (λ r n l m. refl)) (λ r n was. rw (no_reset r n, no_outcome r n) (sym (or-false was)))
       h
 
   -- before the first event nothing was heard
-  pub hears-nothing : (heard : List Bool) → heard ≡ replicate (length c.leaves * length c.nodes) false → Hears c [] heard
+  pub hears-nothing : (heard : List Bool) → heard ≡ replicate (length c.leaves * length c.nodes) false → HearsOutcomes c [] heard
   hears-nothing heard is = record {
     full = ap length is ∙ length-replicate (length c.leaves * length c.nodes) false;
     each = λ r n l m.

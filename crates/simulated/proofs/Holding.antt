@@ -19,7 +19,7 @@ use Rattle.simulated.specs.declared.real.Real.TheVariants as real
 use Rattle.simulated.specs.declared.real.Standing.{Standing}
 use Rattle.simulated.specs.Turns.{with_node}
 use Rattle.simulated.specs.Kept.{Holds, HoldsNodes, IsAlone}
-use Rattle.simulated.specs.RealWorlds.{Cells, after_op, begun, demoted, done, found_at, is_promoted, is_rising, is_there, risen, rising_from, undone, with_cell, without_node}
+use Rattle.simulated.specs.RealWorlds.{Cells, after_op, begun, demoted, done, found_at, is_really_promoted, is_rising, is_there, risen, rising_from, undone, with_changed_cell, without_node}
 
 module _ (c : Cluster) where
   -- the place of a cell that is there
@@ -33,7 +33,7 @@ module _ (c : Cluster) where
   holds_as kept one other h same = record { full = h.full; each = λ r n l m. h.each r n l m ∙ ap Some (same r n l m) }
 
   pub holds_set : (kept : List Real) (leaf node : ℕ) (x : Real) (held : Cells) → leaf < length c.leaves → node < length c.nodes → Holds c kept held
-      → Holds c (set kept (leaf * length c.nodes + node) x) (with_cell leaf node (λ y. x) held)
+      → Holds c (set kept (leaf * length c.nodes + node) x) (with_changed_cell leaf node (λ y. x) held)
   holds_set kept leaf node x held has_leaf has_node h = let at = leaf * length c.nodes + node in record {
     full = length-set kept at x ∙ h.full;
     each = λ r n l m.
@@ -67,7 +67,7 @@ so_far node leaf held r n = if nat_lt r leaf && node == n then real.Off else hel
 pub none_yet : (node : ℕ) (held : Cells) (r n : ℕ) → held r n ≡ so_far node 0 held r n
 none_yet node held r n = let none : nat_lt r 0 ≡ false = grind (arith, nat_tests) in rw none refl
 
-pub one_more : (node leaf : ℕ) (held : Cells) (r n : ℕ) → with_cell leaf node (λ x. real.Off) (so_far node leaf held) r n ≡ so_far node (leaf + 1) held r n
+pub one_more : (node leaf : ℕ) (held : Cells) (r n : ℕ) → with_changed_cell leaf node (λ x. real.Off) (so_far node leaf held) r n ≡ so_far node (leaf + 1) held r n
 one_more node leaf held r n = on (node == n) (leaf == r) (nat_lt r leaf) refl refl refl
   where
     on : (t here before : Bool) → (node == n) ≡ t → (leaf == r) ≡ here → nat_lt r leaf ≡ before
@@ -98,7 +98,7 @@ module _ (c : Cluster) (leaf node : ℕ) (held : Cells) where
 
   -- a cell that changes, by what is found there
   pub changed_to : (x : Real) (change : Real → Real) → x ≡ change (found_at c held leaf node) → (r n : ℕ) → r < length c.leaves → n < length c.nodes
-      → with_cell leaf node (λ y. x) held r n ≡ with_cell leaf node change held r n
+      → with_changed_cell leaf node (λ y. x) held r n ≡ with_changed_cell leaf node change held r n
   changed_to x change is r n l m = on (is_same_cell r n leaf node) refl
     where
       on : (t : Bool) → is_same_cell r n leaf node ≡ t → (if t then x else held r n) ≡ (if t then change (held r n) else held r n)
@@ -106,7 +106,7 @@ module _ (c : Cluster) (leaf node : ℕ) (held : Cells) where
       on false s = refl
 
   pub not_changed : (change : Real → Real) → found_at c held leaf node ≡ change (found_at c held leaf node) → (r n : ℕ) → r < length c.leaves → n < length c.nodes
-      → held r n ≡ with_cell leaf node change held r n
+      → held r n ≡ with_changed_cell leaf node change held r n
   not_changed change is r n l m = on (is_same_cell r n leaf node) refl
     where
       on : (t : Bool) → is_same_cell r n leaf node ≡ t → held r n ≡ (if t then change (held r n) else held r n)
@@ -115,7 +115,7 @@ module _ (c : Cluster) (leaf node : ℕ) (held : Cells) where
 
   -- all that comes up has come up, where one cell alone did
   pub one_risen : IsAlone c (Some (leaf, node)) held → found_at c held leaf node ≡ real.Rising → (r n : ℕ) → r < length c.leaves → n < length c.nodes
-      → with_cell leaf node (λ y. real.Started) held r n ≡ risen (held r n)
+      → with_changed_cell leaf node (λ y. real.Started) held r n ≡ risen (held r n)
   one_risen alone is r n l m = on (is_same_cell r n leaf node) refl
     where
       other : (x : Real) → (x ≡ real.Rising → ⊥) → x ≡ risen x
@@ -161,13 +161,13 @@ all_calm c held alone r n l m = other (held r n) refl
     other real.Started e = refl
     other real.Promoted e = refl
 
-pub is_promoted_found : (x : Real) → is_promoted x ≡ true → real.Started ≡ demoted x
+pub is_promoted_found : (x : Real) → is_really_promoted x ≡ true → real.Started ≡ demoted x
 is_promoted_found real.Off h = cc
 is_promoted_found real.Rising h = cc
 is_promoted_found real.Started h = cc
 is_promoted_found real.Promoted h = refl
 
-pub not_promoted_found : (x : Real) → is_promoted x ≡ false → x ≡ demoted x
+pub not_promoted_found : (x : Real) → is_really_promoted x ≡ false → x ≡ demoted x
 not_promoted_found real.Off h = refl
 not_promoted_found real.Rising h = refl
 not_promoted_found real.Started h = refl
@@ -192,7 +192,7 @@ something_found real.Started h = refl
 something_found real.Promoted h = refl
 
 -- a change to the same leaves a cell
-pub same_cell_stays : (leaf node : ℕ) (held : Cells) (r n : ℕ) → held r n ≡ with_cell leaf node (λ x. x) held r n
+pub same_cell_stays : (leaf node : ℕ) (held : Cells) (r n : ℕ) → held r n ≡ with_changed_cell leaf node (λ x. x) held r n
 same_cell_stays leaf node held r n = on (is_same_cell r n leaf node)
   where
     on : (t : Bool) → held r n ≡ (if t then held r n else held r n)
@@ -201,7 +201,7 @@ same_cell_stays leaf node held r n = on (is_same_cell r n leaf node)
 
 -- what an action makes of the cells lets none come up
 module _ (c : Cluster) (held : Cells) (r n : ℕ) where
-  set_rising : (leaf node : ℕ) (some : Bool) (x : Real) → is_rising x ≡ false → (if some then with_cell leaf node (λ y. x) held else held) r n ≡ real.Rising
+  set_rising : (leaf node : ℕ) (some : Bool) (x : Real) → is_rising x ≡ false → (if some then with_changed_cell leaf node (λ y. x) held else held) r n ≡ real.Rising
       → held r n ≡ real.Rising
   set_rising leaf node false x isnt e = e
   set_rising leaf node true x isnt e = on (is_same_cell r n leaf node) e

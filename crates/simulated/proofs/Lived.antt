@@ -6,7 +6,7 @@ use Rattle.cluster_types.specs.declared.journal.Answer.{Answer}
 use Rattle.cluster_types.specs.declared.journal.Journal.{Journal}
 use Rattle.cluster_types.specs.declared.journal.Promotion.{Promotion}
 use Rattle.cluster_types.specs.declared.run.Run.{Run}
-use Rattle.cluster_types.specs.Runs.{Standing, due, amid, idle, Runs, IsOver, journal_at}
+use Rattle.cluster_types.specs.Runs.{RunStanding, due, amid, idle, Runs, IsOver, journal_at}
 use Rattle.cluster_types.specs.Texts.{run_lines}
 use Rattle.graph_exec.specs.Kept.{IsKeptWhole, KeepsPlans}
 use Rattle.run_safety.proofs.Along.{journals_grow}
@@ -23,7 +23,7 @@ same_front (x ∷ xs) [] a b e l = absurd (let f : ⊥ = omega arith in f)
 same_front (x ∷ xs) (y ∷ ys) a b e l =
     let head : x ≡ y = cc in let tail : xs ++ a ≡ ys ++ b = cc in let rest = same_front xs ys a b tail (omega arith) in cc
 
-over_at : (c : Cluster) (promotions : List Promotion) (at : Standing) (rest : Option (List Answer)) → IsOver c promotions true at rest → IsAtEnd true at
+over_at : (c : Cluster) (promotions : List Promotion) (at : RunStanding) (rest : Option (List Answer)) → IsOver c promotions true at rest → IsAtEnd true at
 over_at c promotions (due k es) rest o = absurd o
 over_at c promotions (amid k t since) rest o = absurd o
 over_at c promotions (idle k es) rest o = over k es
@@ -31,7 +31,7 @@ over_at c promotions (idle k es) rest o = over k es
 module _ (c : Cluster) (journal : Journal) (old new : WorldOf) (since : old.since ≡ length journal.events) (one : IsOfOne old new) (run : Run)
     (few : KeepsPlans c journal.promotions most_transitions run) (agreed : Agrees new c run.journal.events 0) where
   -- the run stands where the simulated cluster does, which has lived from the first journal on
-  lived_to : (ended : Bool) (at : Standing) → Runs c journal.promotions true (due 1 journal.events) None (run_lines c run) at None → run.journal.events ≡ journal_at at
+  lived_to : (ended : Bool) (at : RunStanding) → Runs c journal.promotions true (due 1 journal.events) None (run_lines c run) at None → run.journal.events ≡ journal_at at
       → IsAtEnd ended at → HasLived c journal old.reality.number new (record { run = run; over = ended })
   lived_to ended at steps left end =
       let front = grown c new.reality.number agreed.first run.journal.events agreed.world agreed.lives in

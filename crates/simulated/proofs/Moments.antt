@@ -13,15 +13,15 @@ use Rattle.cluster_types.specs.declared.journal.Outcome.{Outcome}
 use Rattle.cluster_types.specs.declared.journal.Outcome.TheVariants.{Code, TimedOut, Gone}
 use Rattle.cluster_types.specs.declared.journal.Promotion.{Promotion}
 use Rattle.cluster_types.specs.declared.run.RunLine.{RunLine}
-use Rattle.cluster_types.specs.Answering.{added_by, end_of, is_number_of, monitor_action}
+use Rattle.cluster_types.specs.Answering.{added_by, end_event, is_number_of, monitor_action}
 use Rattle.cluster_types.specs.Journals.{is_on, moment_of}
-use Rattle.cluster_types.specs.Runs.{Standing, due, RunsOn, plans, goes, completes, aborts, answers, Runs, journal_at}
+use Rattle.cluster_types.specs.Runs.{RunStanding, due, RunsOn, plans, goes, completes, aborts, answers, Runs, journal_at}
 use Rattle.cluster_types.specs.Safety.{is_gone}
-use Rattle.cluster_types.specs.Steps.{StepsOn, begins, takes, is_silent, Transition, ended, events_of, flying, journal, resting, silent_code}
+use Rattle.cluster_types.specs.Steps.{StepsOn, begins, takes, is_silent, Transition, ended, answer_events, flying, journal, resting, silent_code}
 use Rattle.run_safety.specs.Followed.{IsFront}
 use Rattle.run_safety.proofs.Along.{along, journals_grow}
 use Rattle.simulated.specs.Lives.{Lives, begins_here, starts, leaves, joins, ends}
-use Rattle.simulated.specs.Turns.{after_begin, after_end, after_joining, after_leaving, answer_of, turned}
+use Rattle.simulated.specs.Turns.{after_begin, after_end, after_joining, after_leaving, answer_by_fate, turned}
 use Rattle.simulated.specs.RealWorlds.{World, first_world}
 use Rattle.simulated.proofs.Within.{always}
 use Rattle.simulated.specs.Moments.{IsLivedWithin}
@@ -78,12 +78,12 @@ record IsBatch (batch : List Event) : Type 0 where
 one_batch : (batch : List Event) → length batch ≤ 1 → IsBatch batch
 one_batch batch few = record { gone = []; tail = batch; all = refl; few = few; is = refl }
 
-all_gone : (c : Cluster) (es : List Event) (flight ps : List (ℕ × Action)) → list_all is_gone (map (end_of c es flight Gone) ps) ≡ true
+all_gone : (c : Cluster) (es : List Event) (flight ps : List (ℕ × Action)) → list_all is_gone (map (end_event c es flight Gone) ps) ≡ true
 all_gone c es flight [] = refl
 all_gone c es flight (p ∷ ps) = all_gone c es flight ps
 
 module _ (c : Cluster) (es : List Event) (flight : List (ℕ × Action)) where
-  at_most_one : (o : Outcome) (found : Option (ℕ × Action)) → length (option_map_or (λ (p : ℕ × Action). end_of c es flight o p ∷ []) found []) ≤ 1
+  at_most_one : (o : Outcome) (found : Option (ℕ × Action)) → length (option_map_or (λ (p : ℕ × Action). end_event c es flight o p ∷ []) found []) ≤ 1
   at_most_one o None = omega arith
   at_most_one o (Some p) = omega arith
 
@@ -91,7 +91,7 @@ module _ (c : Cluster) (es : List Event) (flight : List (ℕ × Action)) where
   batch_of (answer.End k code) = one_batch _ (at_most_one (Code code) (find (is_number_of k) flight))
   batch_of (answer.Timeout k) = one_batch _ (at_most_one TimedOut (find (is_number_of k) flight))
   batch_of (answer.Lost n) = record {
-    gone = map (end_of c es flight Gone) (filter (λ (p : ℕ × Action). is_on n p.1) flight);
+    gone = map (end_event c es flight Gone) (filter (λ (p : ℕ × Action). is_on n p.1) flight);
     tail = Lost n ∷ [];
     all = all_gone c es flight (filter (λ (p : ℕ × Action). is_on n p.1) flight);
     few = omega arith;
@@ -116,7 +116,7 @@ module _ (c : Cluster) (number : ℕ) (first : List Event) where
   grown _ _ (starts es w k a life) = further es (Begin k a ∷ []) (grown es w life)
   grown _ _ (leaves es w flight node life is busy e) = further es (added_by c es flight (answer.Lost node)) (grown es w life)
   grown _ _ (joins es w flight node life is busy e) = further es (added_by c es flight (answer.Up node)) (grown es w life)
-  grown _ _ (ends es w flight place f k a life is e at) = further es (added_by c es flight (answer_of c (turned c number w) f k a)) (grown es w life)
+  grown _ _ (ends es w flight place f k a life is e at) = further es (added_by c es flight (answer_by_fate c (turned c number w) f k a)) (grown es w life)
 
   found : (es : List Event) (w : World) → Lives c number first es w → IsLivedWithin c number first es
   found es w life = record { world = w; lives = life; within = always c number first es w life }
@@ -160,7 +160,7 @@ module _ (c : Cluster) (number : ℕ) (first : List Event) where
       back es (added_by c es flight (answer.Up node)) xs more (after_joining c (turned c number w) node) (grown es w life) (batch_of c es flight (answer.Up node)) moment is
       (joins es w flight node life i busy e) (λ rest f. lived es w life xs rest f front moment)
   lived _ _ (ends es w flight place f k a life i e at) xs more is front moment =
-      let given = answer_of c (turned c number w) f k a in
+      let given = answer_by_fate c (turned c number w) f k a in
       back es (added_by c es flight given) xs more (after_end c (turned c number w) f a) (grown es w life) (batch_of c es flight given) moment is
       (ends es w flight place f k a life i e at) (λ rest g. lived es w life xs rest g front moment)
 
@@ -170,18 +170,18 @@ data EndsHere : List Event → Type 0 where
   with_one : (front : List Event) (e : Event) → is_gone e ≡ false → EndsHere (front ++ e ∷ [])
 
 module _ (c : Cluster) (es : List Event) (flight : List (ℕ × Action)) where
-  code_here : (code : ℕ) (found : Option (ℕ × Action)) → EndsHere (option_map_or (λ (p : ℕ × Action). end_of c es flight (Code code) p ∷ []) found [])
+  code_here : (code : ℕ) (found : Option (ℕ × Action)) → EndsHere (option_map_or (λ (p : ℕ × Action). end_event c es flight (Code code) p ∷ []) found [])
   code_here code None = nothing
-  code_here code (Some p) = with_one [] (end_of c es flight (Code code) p) refl
+  code_here code (Some p) = with_one [] (end_event c es flight (Code code) p) refl
 
-  timeout_here : (found : Option (ℕ × Action)) → EndsHere (option_map_or (λ (p : ℕ × Action). end_of c es flight TimedOut p ∷ []) found [])
+  timeout_here : (found : Option (ℕ × Action)) → EndsHere (option_map_or (λ (p : ℕ × Action). end_event c es flight TimedOut p ∷ []) found [])
   timeout_here None = nothing
-  timeout_here (Some p) = with_one [] (end_of c es flight TimedOut p) refl
+  timeout_here (Some p) = with_one [] (end_event c es flight TimedOut p) refl
 
   answer_here : (given : Answer) → EndsHere (added_by c es flight given)
   answer_here (answer.End k code) = code_here code (find (is_number_of k) flight)
   answer_here (answer.Timeout k) = timeout_here (find (is_number_of k) flight)
-  answer_here (answer.Lost n) = with_one (map (end_of c es flight Gone) (filter (λ (p : ℕ × Action). is_on n p.1) flight)) (Lost n) refl
+  answer_here (answer.Lost n) = with_one (map (end_event c es flight Gone) (filter (λ (p : ℕ × Action). is_on n p.1) flight)) (Lost n) refl
   answer_here (answer.Up n) = with_one [] (Up n) refl
   answer_here (answer.Quorum now) = with_one [] (Quorum now) refl
   answer_here (answer.Wait seconds) = with_one [] (Wait seconds) refl
@@ -200,7 +200,7 @@ module _ (first : List Event) where
       inr (ap ends_gone (sym (append_assoc xs front (e ∷ []))) ∙ (behind (xs ++ front) e [] ∙ last))
 
   module _ (c : Cluster) (promotions : List Promotion) (whole : Bool) where
-    keeps : (at next : Standing) (rest left : Option (List Answer)) (lines : List RunLine) → RunsOn c promotions whole at rest lines next left
+    keeps : (at next : RunStanding) (rest left : Option (List Answer)) (lines : List RunLine) → RunsOn c promotions whole at rest lines next left
         → IsMoment first (journal_at at) → IsMoment first (journal_at next)
     keeps _ _ rest _ _ (plans k es _ placed actions plan) moment = still es [] nothing moment
     keeps _ _ rest left _ (goes k t since events _ _ step) moment =
@@ -208,16 +208,16 @@ module _ (first : List Event) where
     keeps _ _ rest _ _ (completes k t since _ ended unaborted) moment = moment
     keeps _ _ rest _ _ (aborts k t since _ ended aborted) moment = moment
     keeps _ _ rest left _ (answers k es _ _ given said applies) moment =
-        let t = resting c es in still es (events_of t [] given) (answer_here c (journal t []) (flying t []) given) moment
+        let t = resting c es in still es (answer_events t [] given) (answer_here c (journal t []) (flying t []) given) moment
 
-    moments : (at : Standing) (rest left : Option (List Answer)) (lines : List RunLine) → Runs c promotions whole (due 1 first) rest lines at left
+    moments : (at : RunStanding) (rest left : Option (List Answer)) (lines : List RunLine) → Runs c promotions whole (due 1 first) rest lines at left
         → IsMoment first (journal_at at)
     moments at rest left lines runs =
         along c promotions whole (λ p _ _. IsMoment first (journal_at p)) (λ p q middle after before more step h. keeps p q middle after more step h) (due 1 first) at rest left []
         lines runs (inl refl)
 
 -- so where a run stood, from which it came to where the simulated cluster has lived, that has lived too
-pub each_moment : (c : Cluster) (promotions : List Promotion) (number : ℕ) (whole : Bool) (es : List Event) (rest middle left : Option (List Answer)) (at later : Standing)
+pub each_moment : (c : Cluster) (promotions : List Promotion) (number : ℕ) (whole : Bool) (es : List Event) (rest middle left : Option (List Answer)) (at later : RunStanding)
     (lines more : List RunLine) (w : World) → Runs c promotions whole (due 1 es) rest lines at middle → Runs c promotions whole at middle more later left
     → Lives c number es (journal_at later) w → IsLivedWithin c number es (journal_at at)
 each_moment c promotions number whole es rest middle left at later lines more w runs further life =

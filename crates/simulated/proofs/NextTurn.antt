@@ -8,7 +8,7 @@ use Rattle.simulated.specs.declared.turn.Turn.{Turn}
 use Rattle.simulated.specs.declared.turn.Turn.TheVariants as turn
 use Rattle.cases.specs.Draws.{draw}
 use Rattle.simulated.specs.Turns.{die, draws_for_end, drawn_node, fate_by, is_fault, joins_now, leaves_now, turn_of}
-use Rattle.simulated.specs.RealWorlds.{World, is_off, is_up}
+use Rattle.simulated.specs.RealWorlds.{World, is_node_off, is_node_up}
 
 module _ (c : Cluster) (number : ℕ) (w : World) where
   -- a node that stands so, where a fault may be given yet
@@ -24,15 +24,15 @@ module _ (c : Cluster) (number : ℕ) (w : World) where
   is_early : (low : ℕ) → low < 19 → die c number w ≡ low → w.given < 16
   is_early low small e = early_by low small (nat_lt w.given 16) refl e
 
-  pub leaving : (count node : ℕ) → turn_of c number w count ≡ turn.Leaves node → IsNodeSo (is_up (w.nodes node)) node
+  pub leaving : (count node : ℕ) → turn_of c number w count ≡ turn.Leaves node → IsNodeSo (is_node_up (w.nodes node)) node
   leaving count node e = on (leaves_now c number w) (joins_now c number w) refl e where
     last : Turn
     last = turn.Ends (draw number (w.drawn + draws_for_end c number w) count) (fate_by (die c number w))
 
-    so : leaves_now c number w ≡ true → drawn_node c number w ≡ node → IsNodeSo (is_up (w.nodes node)) node
+    so : leaves_now c number w ≡ true → drawn_node c number w ≡ node → IsNodeSo (is_node_up (w.nodes node)) node
     so h same =
-        let parts = and_parts (die c number w == 0) (nat_lt (drawn_node c number w) (length c.nodes) && is_up (w.nodes (drawn_node c number w))) h in
-        let more = and_parts (nat_lt (drawn_node c number w) (length c.nodes)) (is_up (w.nodes (drawn_node c number w))) parts.1 in
+        let parts = and_parts (die c number w == 0) (nat_lt (drawn_node c number w) (length c.nodes) && is_node_up (w.nodes (drawn_node c number w))) h in
+        let more = and_parts (nat_lt (drawn_node c number w) (length c.nodes)) (is_node_up (w.nodes (drawn_node c number w))) parts.1 in
         record {
           early = is_early 0 (omega arith) (eqb-true (die c number w) 0 parts.0);
           within = let t = rw same at more.0 in grind (arith, nat_tests);
@@ -41,20 +41,20 @@ module _ (c : Cluster) (number : ℕ) (w : World) where
 
     on : (leaves joins : Bool) → leaves_now c number w ≡ leaves
         → (if leaves then turn.Leaves (drawn_node c number w) else (if joins then turn.Joins (drawn_node c number w) else last)) ≡ turn.Leaves node
-        → IsNodeSo (is_up (w.nodes node)) node
+        → IsNodeSo (is_node_up (w.nodes node)) node
     on true joins h i = so h (let same : drawn_node c number w ≡ node = cc in same)
     on false true h i = cc
     on false false h i = cc
 
-  pub joining : (count node : ℕ) → turn_of c number w count ≡ turn.Joins node → IsNodeSo (is_off (w.nodes node)) node
+  pub joining : (count node : ℕ) → turn_of c number w count ≡ turn.Joins node → IsNodeSo (is_node_off (w.nodes node)) node
   joining count node e = on (leaves_now c number w) (joins_now c number w) refl e where
     last : Turn
     last = turn.Ends (draw number (w.drawn + draws_for_end c number w) count) (fate_by (die c number w))
 
-    so : joins_now c number w ≡ true → drawn_node c number w ≡ node → IsNodeSo (is_off (w.nodes node)) node
+    so : joins_now c number w ≡ true → drawn_node c number w ≡ node → IsNodeSo (is_node_off (w.nodes node)) node
     so h same =
-        let parts = and_parts (die c number w == 1) (nat_lt (drawn_node c number w) (length c.nodes) && is_off (w.nodes (drawn_node c number w))) h in
-        let more = and_parts (nat_lt (drawn_node c number w) (length c.nodes)) (is_off (w.nodes (drawn_node c number w))) parts.1 in
+        let parts = and_parts (die c number w == 1) (nat_lt (drawn_node c number w) (length c.nodes) && is_node_off (w.nodes (drawn_node c number w))) h in
+        let more = and_parts (nat_lt (drawn_node c number w) (length c.nodes)) (is_node_off (w.nodes (drawn_node c number w))) parts.1 in
         record {
           early = is_early 1 (omega arith) (eqb-true (die c number w) 1 parts.0);
           within = let t = rw same at more.0 in grind (arith, nat_tests);
@@ -63,7 +63,7 @@ module _ (c : Cluster) (number : ℕ) (w : World) where
 
     on : (leaves joins : Bool) → joins_now c number w ≡ joins
         → (if leaves then turn.Leaves (drawn_node c number w) else (if joins then turn.Joins (drawn_node c number w) else last)) ≡ turn.Joins node
-        → IsNodeSo (is_off (w.nodes node)) node
+        → IsNodeSo (is_node_off (w.nodes node)) node
     on true joins h i = cc
     on false true h i = so h (let same : drawn_node c number w ≡ node = cc in same)
     on false false h i = cc

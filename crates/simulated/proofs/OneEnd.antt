@@ -11,8 +11,8 @@ use Rattle.cluster_types.specs.declared.run.Run.{Run}
 use Rattle.cluster_types.specs.declared.run.RunLine.{RunLine}
 use Rattle.cluster_types.specs.Journals.{in_flight}
 use Rattle.cluster_types.specs.Plans.{transition_of}
-use Rattle.cluster_types.specs.Runs.{Standing, due, amid, idle, RunsOn, plans, answers, Runs, here, one_more, IsBetween, journal_at}
-use Rattle.cluster_types.specs.Steps.{events_of, resting}
+use Rattle.cluster_types.specs.Runs.{RunStanding, due, amid, idle, RunsOn, plans, answers, Runs, here, one_more, IsBetween, journal_at}
+use Rattle.cluster_types.specs.Steps.{answer_events, resting}
 use Rattle.cluster_types.specs.Texts.{run_line, run_lines}
 use Rattle.run_safety.proofs.Along.{journals_grow}
 use Rattle.run_safety.proofs.PlansAreOne.{plans_one}
@@ -28,43 +28,43 @@ use Rattle.simulated.proofs.Transitions.{next_number, passed_counted, runs_count
 
 module _ (c : Cluster) (promotions : List Promotion) (number : ℕ) (first : List Event) (none : in_flight first ≡ []) where
   -- a run has come here
-  record HasCome (at : Standing) (rest : Option (List Answer)) : Type 0 where
+  record HasCome (at : RunStanding) (rest : Option (List Answer)) : Type 0 where
     from : Option (List Answer)
     lines : List RunLine
     runs : Runs c promotions true (due 1 first) from lines at rest
 
   -- a run ends here, with at most so many transitions
-  record IsLast (at : Standing) : Type 0 where
+  record IsLast (at : RunStanding) : Type 0 where
     ended : Bool
     is : IsAtEnd ended at
     few : next_number c at ≤ most_transitions + 1
 
-  rests : (at : Standing) (rest : Option (List Answer)) → HasCome at rest → IsBetween c promotions true at → in_flight (journal_at at) ≡ []
+  rests : (at : RunStanding) (rest : Option (List Answer)) → HasCome at rest → IsBetween c promotions true at → in_flight (journal_at at) ≡ []
   rests at rest come = none_flies c promotions true first at come.from rest come.lines none come.runs
 
-  further : (at next : Standing) (rest left : Option (List Answer)) (lines : List RunLine) → HasCome at rest → RunsOn c promotions true at rest lines next left → HasCome next left
+  further : (at next : RunStanding) (rest left : Option (List Answer)) (lines : List RunLine) → HasCome at rest → RunsOn c promotions true at rest lines next left → HasCome next left
   further at next rest left lines come step =
       record { from = come.from; lines = come.lines ++ lines; runs = runs_more c promotions true (due 1 first) at next come.from rest left come.lines lines come.runs step }
 
   -- where a run ends, none goes on
-  no_more : {R : Type 0} (at next later : Standing) (rest middle left : Option (List Answer)) (lines more : List RunLine) (w last : World) (ended : Bool)
+  no_more : {R : Type 0} (at next later : RunStanding) (rest middle left : Option (List Answer)) (lines more : List RunLine) (w last : World) (ended : Bool)
       → HasCome at rest → IsAtEnd ended at → RunsOn c promotions true at rest lines next middle → Runs c promotions true next middle more later left → IsLast later
       → LivesOn c number (journal_at at) w (journal_at later) last → R
   no_more _ _ later rest _ left _ more w last _ come (over _ _) (answers k es _ middle given said applies) runs end life =
       no_answer c number es (journal_at later) w last given (rests (idle k es) rest come tt) applies
-      (journals_grow c promotions true (due (k + 1) (es ++ events_of (resting c es) [] given)) later middle left more runs) life
+      (journals_grow c promotions true (due (k + 1) (es ++ answer_events (resting c es) [] given)) later middle left more runs) life
   no_more _ _ later rest _ left _ more w last _ come (more_due es) (plans _ _ _ placed actions plan) runs end life =
       let counted = runs_counted c promotions true (amid (most_transitions + 1) (transition_of c es actions) []) later rest left more runs in
       let few = end.few in
       absurd (let f : ⊥ = omega arith in f)
 
   -- they end at one place, with one list of lines and one world
-  record AreOne (p q : Standing) (last final : World) (lines others : List RunLine) : Type 0 where
+  record AreOne (p q : RunStanding) (last final : World) (lines others : List RunLine) : Type 0 where
     at : p ≡ q
     lines_same : lines ≡ others
     worlds : last ≡ final
 
-  go_together : (at p q : Standing) (rest other left right : Option (List Answer)) (lines others : List RunLine) (w last final : World) → IsLast p → IsLast q
+  go_together : (at p q : RunStanding) (rest other left right : Option (List Answer)) (lines others : List RunLine) (w last final : World) → IsLast p → IsLast q
       → HasCome at rest → HasCome at other → Runs c promotions true at rest lines p left → Runs c promotions true at other others q right
       → LivesOn c number (journal_at at) w (journal_at p) last → LivesOn c number (journal_at at) w (journal_at q) final → AreOne p q last final lines others
   go_together at _ _ rest other _ _ _ _ w last final end also come came (here _ _) (here _ _) one two = record {
@@ -85,7 +85,7 @@ module _ (c : Cluster) (promotions : List Promotion) (number : ℕ) (first : Lis
       (subst (λ z. Runs c promotions true z behind later q right) (sym both.same) goes) both.one both.two in
       record { at = on.at; lines_same = ap (λ z. z ++ more) both.lines_same ∙ ap (λ z. others ++ z) on.lines_same; worlds = on.worlds }
 
-  runs_one : (p q : Standing) (lines others : List RunLine) (last final : World) → IsLast p → IsLast q
+  runs_one : (p q : RunStanding) (lines others : List RunLine) (last final : World) → IsLast p → IsLast q
       → Runs c promotions true (due 1 first) None lines p None → Runs c promotions true (due 1 first) None others q None
       → Lives c number first (journal_at p) last → Lives c number first (journal_at q) final → AreOne p q last final lines others
   runs_one p q lines others last final end also one two life second =
@@ -93,7 +93,7 @@ module _ (c : Cluster) (promotions : List Promotion) (number : ℕ) (first : Lis
       go_together (due 1 first) p q None None None None lines others (first_world c first) last final end also come come one two
       (from_first c number first (journal_at p) last life) (from_first c number first (journal_at q) final second)
 
-same_ending : (p q : Standing) (is_over ended : Bool) → p ≡ q → IsAtEnd is_over p → IsAtEnd ended q → is_over ≡ ended
+same_ending : (p q : RunStanding) (is_over ended : Bool) → p ≡ q → IsAtEnd is_over p → IsAtEnd ended q → is_over ≡ ended
 same_ending _ _ _ _ e (over k es) (over j others) = refl
 same_ending _ _ _ _ e (over k es) (more_due others) = absurd (let f : ⊥ = cc in f)
 same_ending _ _ _ _ e (more_due es) (over j others) = absurd (let f : ⊥ = cc in f)

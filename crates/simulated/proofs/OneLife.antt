@@ -16,7 +16,7 @@ use Rattle.run_safety.specs.Followed.{IsFront}
 use Rattle.simulated.specs.declared.turn.Turn.{Turn}
 use Rattle.simulated.specs.declared.turn.Turn.TheVariants as turn
 use Rattle.simulated.specs.Lives.{Lives, begins_here, starts, leaves, joins, ends}
-use Rattle.simulated.specs.Turns.{after_begin, after_end, after_joining, after_leaving, answer_of, turn_of, turned}
+use Rattle.simulated.specs.Turns.{after_begin, after_end, after_joining, after_leaving, answer_by_fate, turn_of, turned}
 use Rattle.simulated.specs.RealWorlds.{World, first_world}
 use Rattle.simulated.proofs.Applying.{ends_apply}
 use Rattle.simulated.specs.LivesOn.{LivesOn, StepOfLife, action_begins, answer_by, next_answer, next_world, no_step, one_step, turn_comes, world_by}
@@ -46,11 +46,11 @@ module _ (c : Cluster) (number : ℕ) where
     given_flies flight (turn.Joins node) given e = let same : answer.Up node ≡ given = cc in subst (IsOfFlight c es flight) same tt
     given_flies flight (turn.Ends place f) given e = on (slice_get flight place) refl e
       where
-        on : (o : Option (ℕ × Action)) → slice_get flight place ≡ o → option_map (λ (p : ℕ × Action). answer_of c (turned c number w) f p.0 p.1) o ≡ Some given
+        on : (o : Option (ℕ × Action)) → slice_get flight place ≡ o → option_map (λ (p : ℕ × Action). answer_by_fate c (turned c number w) f p.0 p.1) o ≡ Some given
             → IsOfFlight c es flight given
         on None at g = absurd (let h : ⊥ = cc in h)
         on (Some p) at g =
-            let ended = answer_of c (turned c number w) f p.0 p.1 in
+            let ended = answer_by_fate c (turned c number w) f p.0 p.1 in
             let same : ended ≡ given = cc in
             subst (IsOfFlight c es flight) same (of_flight c es flight 0 ended (ends_apply c es (turned c number w) flight 0 place p.0 f p.1 at))
 
@@ -125,7 +125,7 @@ module _ (c : Cluster) (number : ℕ) where
     from_first _ _ (joins es w flight node life is busy e) =
         turned_so es w (after_joining c (turned c number w) node) flight (turn.Joins node) (answer.Up node) (from_first es w life) is busy e refl refl
     from_first _ _ (ends es w flight place f k a life is e at) =
-        turned_so es w (after_end c (turned c number w) f a) flight (turn.Ends place f) (answer_of c (turned c number w) f k a) (from_first es w life) is
+        turned_so es w (after_end c (turned c number w) f a) flight (turn.Ends place f) (answer_by_fate c (turned c number w) f k a) (from_first es w life) is
         (some flight place at) e (rw at refl) (rw at refl)
       where
         some : (ps : List (ℕ × Action)) (i : ℕ) → slice_get ps i ≡ Some (k, a) → 0 < length ps

@@ -14,28 +14,28 @@ use Rattle.cluster_types.specs.declared.leaf.Role.{Role}
 use Rattle.cluster_types.specs.Cells.{is_same_cell}
 use Rattle.cluster_types.specs.Fields.{is_promotable}
 use Rattle.cluster_types.specs.May.{closes_promoted, opens_promoted}
-use Rattle.cluster_types.specs.Outcomes.{is_among}
+use Rattle.cluster_types.specs.Outcomes.{is_code_among}
 use Rattle.simulated.specs.declared.real.Real.{Real}
 use Rattle.simulated.specs.declared.real.Real.TheVariants as real
-use Rattle.simulated.specs.RealWorlds.{Cells, after_op, demoted, done, found_at, given_up, is_cell, is_promoted, is_there, looked, rising_from, true_code, undone, with_cell, without_node}
+use Rattle.simulated.specs.RealWorlds.{Cells, after_op, demoted, done, found_at, given_up, is_cell, is_really_promoted, is_there, looked, rising_from, true_code, undone, with_changed_cell, without_node}
 use Rattle.simulated.proofs.Quiet.{IsQuiet, failed, late, quiet_demotes}
 use Rattle.simulated.proofs.Running.{found_there}
 
 -- one that is promoted isn't found otherwise
-shows_promoted : (x : Real) → is_promoted x ≡ true
-    → (is_among (0 ∷ 190 ∷ 7 ∷ 5 ∷ []) (Code (looked x)) ≡ false) × (is_among (0 ∷ 190 ∷ 7 ∷ []) (Code (looked x)) ≡ false)
+shows_promoted : (x : Real) → is_really_promoted x ≡ true
+    → (is_code_among (0 ∷ 190 ∷ 7 ∷ 5 ∷ []) (Code (looked x)) ≡ false) × (is_code_among (0 ∷ 190 ∷ 7 ∷ []) (Code (looked x)) ≡ false)
 shows_promoted real.Off h = cc
 shows_promoted real.Rising h = cc
 shows_promoted real.Started h = cc
 shows_promoted real.Promoted h = (refl, refl)
 
-none_demoted : (x : Real) → is_promoted (demoted x) ≡ false
+none_demoted : (x : Real) → is_really_promoted (demoted x) ≡ false
 none_demoted real.Off = refl
 none_demoted real.Rising = refl
 none_demoted real.Started = refl
 none_demoted real.Promoted = refl
 
-as_before : (x : Real) → is_promoted (rising_from x) ≡ is_promoted x
+as_before : (x : Real) → is_really_promoted (rising_from x) ≡ is_really_promoted x
 as_before real.Off = refl
 as_before real.Rising = refl
 as_before real.Started = refl
@@ -44,8 +44,8 @@ as_before real.Promoted = refl
 module _ (c : Cluster) (cells : Cells) (r n k m : ℕ) (cell : is_cell c r n ≡ true) where
   abbrev pub StaysPromoted : Real → Event → Type 0
   StaysPromoted y e =
-      is_promoted y ≡ true
-      → ((is_promotable c r ≡ true) × (opens_promoted c r n e ≡ true)) ⊎ ((is_promoted (cells r n) ≡ true) × (closes_promoted c r n e ≡ false))
+      is_really_promoted y ≡ true
+      → ((is_promotable c r ≡ true) × (opens_promoted c r n e ≡ true)) ⊎ ((is_really_promoted (cells r n) ≡ true) × (closes_promoted c r n e ≡ false))
 
   quiet_stays : (a : Action) (o : Outcome) → IsQuiet o → StaysPromoted (cells r n) (Ended k a o m)
   quiet_stays a o q h = inr (h, quiet_demotes c r n k m o q a)
@@ -57,17 +57,17 @@ module _ (c : Cluster) (cells : Cells) (r n k m : ℕ) (cell : is_cell c r n ≡
     on false e h = inr (h, rw e refl)
 
   -- an operation that leaves nothing promoted in its cell
-  ended_stays : (leaf node : ℕ) (change : Real → Real) (e : Event) → ((x : Real) → is_promoted (change x) ≡ false)
-      → (is_same_cell r n leaf node ≡ false → closes_promoted c r n e ≡ false) → StaysPromoted (with_cell leaf node change cells r n) e
+  ended_stays : (leaf node : ℕ) (change : Real → Real) (e : Event) → ((x : Real) → is_really_promoted (change x) ≡ false)
+      → (is_same_cell r n leaf node ≡ false → closes_promoted c r n e ≡ false) → StaysPromoted (with_changed_cell leaf node change cells r n) e
   ended_stays leaf node change e none other = on (is_same_cell r n leaf node) refl where
     on : (t : Bool) → is_same_cell r n leaf node ≡ t → StaysPromoted (if t then change (cells r n) else cells r n) e
     on true t h = let no = none (cells r n) in cc
     on false t h = inr (h, other t)
 
   promote_stays : (leaf node interval : ℕ) (role : Role) (o : Outcome)
-      → StaysPromoted (with_cell leaf node (λ x. if is_promotable c leaf then real.Promoted else real.Started) cells r n) (Ended k (Cell Promote leaf node interval role) o m)
+      → StaysPromoted (with_changed_cell leaf node (λ x. if is_promotable c leaf then real.Promoted else real.Started) cells r n) (Ended k (Cell Promote leaf node interval role) o m)
   promote_stays leaf node interval role o = on (is_same_cell r n leaf node) refl where
-    may : (t : Bool) → is_promoted (if t then real.Promoted else real.Started) ≡ true → t ≡ true
+    may : (t : Bool) → is_really_promoted (if t then real.Promoted else real.Started) ≡ true → t ≡ true
     may true h = refl
     may false h = cc
 
@@ -79,21 +79,21 @@ module _ (c : Cluster) (cells : Cells) (r n k m : ℕ) (cell : is_cell c r n ≡
     on false e h = inr (h, refl)
 
   emptied : (leaf node : ℕ) (some : Bool) (e : Event) → closes_promoted c r n e ≡ false
-      → StaysPromoted ((if some then with_cell leaf node (λ x. real.Off) cells else cells) r n) e
+      → StaysPromoted ((if some then with_changed_cell leaf node (λ x. real.Off) cells else cells) r n) e
   emptied leaf node false e shut h = inr (h, shut)
   emptied leaf node true e shut h = on (is_same_cell r n leaf node) h where
-    on : (t : Bool) → is_promoted (if t then real.Off else cells r n) ≡ true
-        → ((is_promotable c r ≡ true) × (opens_promoted c r n e ≡ true)) ⊎ ((is_promoted (cells r n) ≡ true) × (closes_promoted c r n e ≡ false))
+    on : (t : Bool) → is_really_promoted (if t then real.Off else cells r n) ≡ true
+        → ((is_promotable c r ≡ true) × (opens_promoted c r n e ≡ true)) ⊎ ((is_really_promoted (cells r n) ≡ true) × (closes_promoted c r n e ≡ false))
     on true i = cc
     on false i = inr (i, shut)
 
   -- a probe or a monitor that looks
   look_stays : (leaf node : ℕ) (e : Event) → (is_same_cell r n leaf node ≡ false → closes_promoted c r n e ≡ false)
-      → (is_same_cell r n leaf node ≡ true → (is_among (0 ∷ 190 ∷ 7 ∷ 5 ∷ []) (Code (looked (found_at c cells leaf node))) ≡ false)
-      × (is_among (0 ∷ 190 ∷ 7 ∷ []) (Code (looked (found_at c cells leaf node))) ≡ false) → closes_promoted c r n e ≡ false) → StaysPromoted (cells r n) e
+      → (is_same_cell r n leaf node ≡ true → (is_code_among (0 ∷ 190 ∷ 7 ∷ 5 ∷ []) (Code (looked (found_at c cells leaf node))) ≡ false)
+      × (is_code_among (0 ∷ 190 ∷ 7 ∷ []) (Code (looked (found_at c cells leaf node))) ≡ false) → closes_promoted c r n e ≡ false) → StaysPromoted (cells r n) e
   look_stays leaf node e other here h = on (is_same_cell r n leaf node) refl where
     on : (t : Bool) → is_same_cell r n leaf node ≡ t
-        → ((is_promotable c r ≡ true) × (opens_promoted c r n e ≡ true)) ⊎ ((is_promoted (cells r n) ≡ true) × (closes_promoted c r n e ≡ false))
+        → ((is_promotable c r ≡ true) × (opens_promoted c r n e ≡ true)) ⊎ ((is_really_promoted (cells r n) ≡ true) × (closes_promoted c r n e ≡ false))
     on false t = inr (h, other t)
     on true t = inr (h, here t (rw (found_there c cells r n leaf node cell t) (shows_promoted (cells r n) h)))
 
@@ -105,8 +105,8 @@ module _ (c : Cluster) (cells : Cells) (r n k m : ℕ) (cell : is_cell c r n ≡
   monitor_stays leaf node interval role =
       look_stays leaf node (Ended k (Cell Monitor leaf node interval role) (Code (looked (found_at c cells leaf node))) m) (λ t. rw t refl) (λ t q. rw (q.1, and-false (leaf == r && node == n)) refl)
 
-  unchanged : (leaf node : ℕ) (change : Real → Real) (e : Event) → ((x : Real) → is_promoted (change x) ≡ is_promoted x) → StaysPromoted (cells r n) e
-      → StaysPromoted (with_cell leaf node change cells r n) e
+  unchanged : (leaf node : ℕ) (change : Real → Real) (e : Event) → ((x : Real) → is_really_promoted (change x) ≡ is_really_promoted x) → StaysPromoted (cells r n) e
+      → StaysPromoted (with_changed_cell leaf node change cells r n) e
   unchanged leaf node change e same s = on (is_same_cell r n leaf node) where
     on : (t : Bool) → StaysPromoted (if t then change (cells r n) else cells r n) e
     on true h = s (let is = same (cells r n) in cc)

@@ -9,15 +9,15 @@ use Rattle.cluster_types.specs.declared.journal.Outcome.{Outcome}
 use Rattle.cluster_types.specs.declared.journal.Outcome.TheVariants.{Code, TimedOut, Gone}
 use Rattle.cluster_types.specs.declared.leaf.Op.TheVariants.{Start, Stop, Promote, Demote, Monitor}
 use Rattle.cluster_types.specs.May.{closes, closes_promoted}
-use Rattle.cluster_types.specs.Outcomes.{is_among}
+use Rattle.cluster_types.specs.Outcomes.{is_code_among}
 
 -- the outcome is no exit code that shows where a leaf doesn't run, or isn't promoted
 pub record IsQuiet (o : Outcome) : Type 0 where
-  pub no_success : is_among (0 ∷ []) o ≡ false
-  pub no_absence : is_among (7 ∷ 5 ∷ []) o ≡ false
-  pub no_stop : is_among (7 ∷ []) o ≡ false
-  pub no_demotion : is_among (0 ∷ 190 ∷ 7 ∷ 5 ∷ []) o ≡ false
-  pub no_late_demotion : is_among (0 ∷ 190 ∷ 7 ∷ []) o ≡ false
+  pub no_success : is_code_among (0 ∷ []) o ≡ false
+  pub no_absence : is_code_among (7 ∷ 5 ∷ []) o ≡ false
+  pub no_stop : is_code_among (7 ∷ []) o ≡ false
+  pub no_demotion : is_code_among (0 ∷ 190 ∷ 7 ∷ 5 ∷ []) o ≡ false
+  pub no_late_demotion : is_code_among (0 ∷ 190 ∷ 7 ∷ []) o ≡ false
 
 pub failed : IsQuiet (Code 1)
 failed = record { no_success = refl; no_absence = refl; no_stop = refl; no_demotion = refl; no_late_demotion = refl }

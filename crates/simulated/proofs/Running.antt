@@ -13,10 +13,10 @@ use Rattle.cluster_types.specs.declared.leaf.Op.TheVariants.{Start, Stop, Promot
 use Rattle.cluster_types.specs.declared.leaf.Role.{Role}
 use Rattle.cluster_types.specs.Cells.{is_same_cell}
 use Rattle.cluster_types.specs.May.{closes, opens}
-use Rattle.cluster_types.specs.Outcomes.{is_among}
+use Rattle.cluster_types.specs.Outcomes.{is_code_among}
 use Rattle.simulated.specs.declared.real.Real.{Real}
 use Rattle.simulated.specs.declared.real.Real.TheVariants as real
-use Rattle.simulated.specs.RealWorlds.{Cells, after_op, done, found_at, given_up, is_cell, is_there, looked, rising_from, true_code, undone, with_cell, without_node}
+use Rattle.simulated.specs.RealWorlds.{Cells, after_op, done, found_at, given_up, is_cell, is_there, looked, rising_from, true_code, undone, with_changed_cell, without_node}
 use Rattle.simulated.proofs.Quiet.{IsQuiet, failed, late, quiet_closes}
 
 -- what is found in a cell of the cluster is what is there
@@ -28,7 +28,7 @@ found_there c cells r n leaf node cell same =
     rw (here, there) (rw cell refl)
 
 -- one that runs isn't found stopped
-pub shows_running : (x : Real) → is_there x ≡ true → (is_among (7 ∷ 5 ∷ []) (Code (looked x)) ≡ false) × (is_among (7 ∷ []) (Code (looked x)) ≡ false)
+pub shows_running : (x : Real) → is_there x ≡ true → (is_code_among (7 ∷ 5 ∷ []) (Code (looked x)) ≡ false) × (is_code_among (7 ∷ []) (Code (looked x)) ≡ false)
 shows_running real.Off h = cc
 shows_running real.Rising h = (refl, refl)
 shows_running real.Started h = (refl, refl)
@@ -52,28 +52,28 @@ module _ (c : Cluster) (cells : Cells) (r n k m : ℕ) (cell : is_cell c r n ≡
     on false e h = inr (h, rw e refl)
 
   start_stays : (leaf node interval : ℕ) (role : Role) (o : Outcome) (change : Real → Real)
-      → Stays (with_cell leaf node change cells r n) (Ended k (Cell Start leaf node interval role) o m)
+      → Stays (with_changed_cell leaf node change cells r n) (Ended k (Cell Start leaf node interval role) o m)
   start_stays leaf node interval role o change = on (is_same_cell r n leaf node) refl where
     on : (t : Bool) → is_same_cell r n leaf node ≡ t → Stays (if t then change (cells r n) else cells r n) (Ended k (Cell Start leaf node interval role) o m)
     on true e h = inl (rw e refl)
     on false e h = inr (h, refl)
 
   promote_stays : (leaf node interval : ℕ) (role : Role) (o : Outcome) (change : Real → Real)
-      → Stays (with_cell leaf node change cells r n) (Ended k (Cell Promote leaf node interval role) o m)
+      → Stays (with_changed_cell leaf node change cells r n) (Ended k (Cell Promote leaf node interval role) o m)
   promote_stays leaf node interval role o change = on (is_same_cell r n leaf node) refl where
     on : (t : Bool) → is_same_cell r n leaf node ≡ t → Stays (if t then change (cells r n) else cells r n) (Ended k (Cell Promote leaf node interval role) o m)
     on true e h = inl (rw e refl)
     on false e h = inr (h, refl)
 
   demote_stays : (leaf node interval : ℕ) (role : Role) (o : Outcome) (change : Real → Real)
-      → Stays (with_cell leaf node change cells r n) (Ended k (Cell Demote leaf node interval role) o m)
+      → Stays (with_changed_cell leaf node change cells r n) (Ended k (Cell Demote leaf node interval role) o m)
   demote_stays leaf node interval role o change = on (is_same_cell r n leaf node) refl where
     on : (t : Bool) → is_same_cell r n leaf node ≡ t → Stays (if t then change (cells r n) else cells r n) (Ended k (Cell Demote leaf node interval role) o m)
     on true e h = inl (rw e refl)
     on false e h = inr (h, refl)
 
   stop_stays : (leaf node interval : ℕ) (role : Role) (o : Outcome)
-      → Stays (with_cell leaf node (λ x. real.Off) cells r n) (Ended k (Cell Stop leaf node interval role) o m)
+      → Stays (with_changed_cell leaf node (λ x. real.Off) cells r n) (Ended k (Cell Stop leaf node interval role) o m)
   stop_stays leaf node interval role o = on (is_same_cell r n leaf node) refl where
     on : (t : Bool) → is_same_cell r n leaf node ≡ t → Stays (if t then real.Off else cells r n) (Ended k (Cell Stop leaf node interval role) o m)
     on true e h = cc
@@ -81,7 +81,7 @@ module _ (c : Cluster) (cells : Cells) (r n k m : ℕ) (cell : is_cell c r n ≡
 
   -- one of the two cells of a migration is stopped, or none
   emptied : (leaf node : ℕ) (some : Bool) (e : Event) → closes c r n e ≡ false
-      → Stays ((if some then with_cell leaf node (λ x. real.Off) cells else cells) r n) e
+      → Stays ((if some then with_changed_cell leaf node (λ x. real.Off) cells else cells) r n) e
   emptied leaf node false e shut h = inr (h, shut)
   emptied leaf node true e shut h = on (is_same_cell r n leaf node) h where
     on : (t : Bool) → is_there (if t then real.Off else cells r n) ≡ true → (opens c r n e ≡ true) ⊎ ((is_there (cells r n) ≡ true) × (closes c r n e ≡ false))
@@ -90,8 +90,8 @@ module _ (c : Cluster) (cells : Cells) (r n k m : ℕ) (cell : is_cell c r n ≡
 
   -- a probe or a monitor that looks
   look_stays : (leaf node : ℕ) (e : Event) → (is_same_cell r n leaf node ≡ false → closes c r n e ≡ false)
-      → (is_same_cell r n leaf node ≡ true → (is_among (7 ∷ 5 ∷ []) (Code (looked (found_at c cells leaf node))) ≡ false)
-      × (is_among (7 ∷ []) (Code (looked (found_at c cells leaf node))) ≡ false) → closes c r n e ≡ false) → Stays (cells r n) e
+      → (is_same_cell r n leaf node ≡ true → (is_code_among (7 ∷ 5 ∷ []) (Code (looked (found_at c cells leaf node))) ≡ false)
+      × (is_code_among (7 ∷ []) (Code (looked (found_at c cells leaf node))) ≡ false) → closes c r n e ≡ false) → Stays (cells r n) e
   look_stays leaf node e other here h = on (is_same_cell r n leaf node) refl where
     on : (t : Bool) → is_same_cell r n leaf node ≡ t → (opens c r n e ≡ true) ⊎ ((is_there (cells r n) ≡ true) × (closes c r n e ≡ false))
     on false t = inr (h, other t)
@@ -105,7 +105,7 @@ module _ (c : Cluster) (cells : Cells) (r n k m : ℕ) (cell : is_cell c r n ≡
   monitor_stays leaf node interval role =
       look_stays leaf node (Ended k (Cell Monitor leaf node interval role) (Code (looked (found_at c cells leaf node))) m) (λ t. rw t refl) (λ t q. rw (q.1, and-false (leaf == r && node == n)) refl)
 
-  unchanged : (leaf node : ℕ) (e : Event) → Stays (cells r n) e → Stays (with_cell leaf node (λ x. x) cells r n) e
+  unchanged : (leaf node : ℕ) (e : Event) → Stays (cells r n) e → Stays (with_changed_cell leaf node (λ x. x) cells r n) e
   unchanged leaf node e s = on (is_same_cell r n leaf node) where
     on : (t : Bool) → Stays (if t then cells r n else cells r n) e
     on true = s

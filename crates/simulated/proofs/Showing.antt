@@ -7,7 +7,7 @@ use Rattle.simulated.specs.declared.real.Real.TheVariants as real
 use Rattle.simulated.specs.declared.real.Standing.{Standing}
 use Rattle.cases.specs.Draws.{draw, next_state, state_after, taken_of}
 use Rattle.cases.proofs.DrawLaws.{state_more}
-use Rattle.simulated.specs.Kept.{Holds, HoldsNodes, IsAlone, RealityOf, Shows, reality}
+use Rattle.simulated.specs.Kept.{Holds, HoldsNodes, IsAlone, RealityOf, ShowsWorld, reality}
 use Rattle.simulated.specs.Turns.{after_begin, calm, with_draws}
 use Rattle.simulated.specs.RealWorlds.{Cells, World, begun, done, is_rising, risen, undone, without_node}
 use Rattle.simulated.proofs.Holding.{begun_rising, cleared_rising, done_rising, undone_rising}
@@ -19,9 +19,9 @@ never_risen real.Started e = let no = ap is_rising e in cc
 never_risen real.Promoted e = let no = ap is_rising e in cc
 
 module _ (c : Cluster) (nodes : List Standing) (cells : List Real) (rising : Option (ℕ × ℕ)) (number state given : ℕ) (w : World)
-    (s : Shows (reality c nodes cells rising number state given) w) where
+    (s : ShowsWorld (reality c nodes cells rising number state given) w) where
   pub shows_begun : (new : List Real) (a : Action) → ((held : Cells) → Holds c cells held → Holds c new (begun c a held))
-      → Shows (reality c nodes new rising number state given) (after_begin c w a)
+      → ShowsWorld (reality c nodes new rising number state given) (after_begin c w a)
   shows_begun new a held = record {
     nodes = s.nodes;
     cells = held w.cells s.cells;
@@ -31,7 +31,7 @@ module _ (c : Cluster) (nodes : List Standing) (cells : List Real) (rising : Opt
   }
 
   pub shows_calm : (new : List Real) → ((held : Cells) → Holds c cells held → IsAlone c rising held → Holds c new (λ r n. risen (held r n)))
-      → Shows (reality c nodes new None number state given) (calm w)
+      → ShowsWorld (reality c nodes new None number state given) (calm w)
   shows_calm new held = record {
     nodes = s.nodes;
     cells = held w.cells s.cells s.alone;
@@ -43,7 +43,7 @@ module _ (c : Cluster) (nodes : List Standing) (cells : List Real) (rising : Opt
   pub next_is : next_state state ≡ state_after number (w.drawn + 1)
   next_is = ap next_state s.state ∙ sym (state_more number w.drawn)
 
-  pub shows_drawn : (next : ℕ) → next ≡ next_state state → Shows (reality c nodes cells rising number next given) (with_draws w 1)
+  pub shows_drawn : (next : ℕ) → next ≡ next_state state → ShowsWorld (reality c nodes cells rising number next given) (with_draws w 1)
   shows_drawn next is = record { nodes = s.nodes; cells = s.cells; alone = s.alone; state = is ∙ next_is; given = s.given }
 
   pub drawn_is : (next bound : ℕ) → next ≡ next_state state → taken_of next bound ≡ draw number (w.drawn + 1) bound
@@ -51,7 +51,7 @@ module _ (c : Cluster) (nodes : List Standing) (cells : List Real) (rising : Opt
 
   -- what is kept changes, and no number is drawn
   pub shows_changed : (new_nodes : List Standing) (new_cells : List Real) (up : Option (ℕ × ℕ)) (now : ℕ) (v : World) → HoldsNodes (length c.nodes) new_nodes v.nodes
-      → Holds c new_cells v.cells → IsAlone c up v.cells → v.drawn ≡ w.drawn → now ≡ v.given → Shows (reality c new_nodes new_cells up number state now) v
+      → Holds c new_cells v.cells → IsAlone c up v.cells → v.drawn ≡ w.drawn → now ≡ v.given → ShowsWorld (reality c new_nodes new_cells up number state now) v
   shows_changed new_nodes new_cells up now v held_nodes held alone drawn same = record {
     nodes = held_nodes;
     cells = held;
@@ -77,6 +77,6 @@ module _ (c : Cluster) (nodes : List Standing) (cells : List Real) (rising : Opt
   undone_alone a r n l m e = s.alone r n l m (undone_rising c w.cells r n a e)
 
 -- the same, by how many numbers were drawn
-pub redrawn : (k : RealityOf) (w : World) (drawn : ℕ) → Shows k w → drawn ≡ w.drawn
-    → Shows k (record { nodes = w.nodes; cells = w.cells; drawn = drawn; given = w.given })
+pub redrawn : (k : RealityOf) (w : World) (drawn : ℕ) → ShowsWorld k w → drawn ≡ w.drawn
+    → ShowsWorld k (record { nodes = w.nodes; cells = w.cells; drawn = drawn; given = w.given })
 redrawn k w drawn s same = record { nodes = s.nodes; cells = s.cells; alone = s.alone; state = s.state ∙ ap (state_after k.number) (sym same); given = s.given }

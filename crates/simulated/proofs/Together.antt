@@ -16,8 +16,8 @@ use Rattle.cluster_types.specs.declared.run.RunLine.TheVariants as line
 use Rattle.cluster_types.specs.Answering.{added_by, is_number_of}
 use Rattle.cluster_types.specs.Journals.{in_flight}
 use Rattle.cluster_types.specs.Plans.{transition_of}
-use Rattle.cluster_types.specs.Runs.{Standing, amid, RunsOn, plans, goes, completes, aborts, answers, IsBetween, journal_at}
-use Rattle.cluster_types.specs.Steps.{Transition, Applies, Begins, StepsOn, begins, takes, is_silent, IsWaiting, events_of, flying, has_aborted, journal, outside, resting, silent_code}
+use Rattle.cluster_types.specs.Runs.{RunStanding, amid, RunsOn, plans, goes, completes, aborts, answers, IsBetween, journal_at}
+use Rattle.cluster_types.specs.Steps.{Transition, Applies, Begins, StepsOn, begins, takes, is_silent, IsWaiting, answer_events, flying, has_aborted, journal, outside, resting, silent_code}
 use Rattle.cluster_types.specs.Tables.{targets_of}
 use Rattle.cluster_types.specs.Texts.{event_lines, target_lines}
 use Rattle.run_safety.proofs.InFlight.{among_flying}
@@ -38,7 +38,7 @@ data IsStep (t : Transition) (since : List Event) : List Event → Type 0 where
       → IsStep t since (added_by t.cluster (journal t since) (flying t since) given)
 
 module _ (t : Transition) (since : List Event) where
-  taken_first : (given : Answer) → Applies t since given → AreFirst (events_of t since given)
+  taken_first : (given : Answer) → Applies t since given → AreFirst (answer_events t since given)
   taken_first given applies = answer_first t.cluster (journal t since) (flying t since) given (of_flight t.cluster (journal t since) (flying t since) (outside t since) given applies)
 
   is_step : (whole : Bool) (events : List Event) (rest left : Option (List Answer)) → StepsOn t whole since rest events left → IsStep t since events
@@ -78,20 +78,20 @@ module _ (c : Cluster) (number : ℕ) where
   both_steps t since _ _ es w next after (a_begin k a one) (an_answer given waiting first) s d = unsettled t since k a one waiting.settled
   both_steps t since _ _ es w next after (an_answer given waiting first) (a_begin k a two) s d = unsettled t since k a two waiting.settled
   both_steps t since _ _ es w next after (an_answer given waiting first) (an_answer other also second) s d =
-      turn_one c number es w (events_of t since given) (events_of t since other) next after (answer_begins_none t.cluster (journal t since) (flying t since) given)
+      turn_one c number es w (answer_events t since given) (answer_events t since other) next after (answer_begins_none t.cluster (journal t since) (flying t since) given)
       (answer_begins_none t.cluster (journal t since) (flying t since) other) s d
 
   -- while nothing is to be done and nothing is in flight, no answer comes
   pub no_answer : {R : Type 0} (es later : List Event) (w last : World) (given : Answer) → in_flight es ≡ [] → Applies (resting c es) [] given
-      → IsFront (es ++ events_of (resting c es) [] given) later → LivesOn c number es w later last → R
+      → IsFront (es ++ answer_events (resting c es) [] given) later → LivesOn c number es w later last → R
   no_answer es later w last given none applies grows life =
       let t = resting c es in
-      let events = events_of t [] given in
+      let events = answer_events t [] given in
       let by = lives_by es events grows.more later w last (taken_first t [] given applies) grows.joined life in
       no_turn c number es w events by.next none (answer_begins_none c (journal t []) (flying t []) given) by.step
 
   -- where two runs stand after a step each: at one place, with one world, from which both go on
-  pub record AreTogether (next after : Standing) (lines others : List RunLine) (here there : List Event) (last final : World) : Type 0 where
+  pub record AreTogether (next after : RunStanding) (lines others : List RunLine) (here there : List Event) (last final : World) : Type 0 where
     pub lines_same : lines ≡ others
     pub same : next ≡ after
     pub world : World
@@ -99,7 +99,7 @@ module _ (c : Cluster) (number : ℕ) where
     pub two : LivesOn c number (journal_at next) world there final
 
   module _ (promotions : List Promotion) (one_plan : PlansAreOne c promotions) (here there : List Event) (w last final : World) where
-    pub together : (at next after : Standing) (lines others : List RunLine) (rest other left right : Option (List Answer))
+    pub together : (at next after : RunStanding) (lines others : List RunLine) (rest other left right : Option (List Answer))
         → RunsOn c promotions true at rest lines next left → RunsOn c promotions true at other others after right
         → IsFront (journal_at next) here → IsFront (journal_at after) there → LivesOn c number (journal_at at) w here last → LivesOn c number (journal_at at) w there final
         → (IsBetween c promotions true at → in_flight (journal_at at) ≡ []) → AreTogether next after lines others here there last final

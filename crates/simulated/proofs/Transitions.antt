@@ -20,7 +20,7 @@ use Rattle.cluster_types.specs.declared.run.PassedEnd.{PassedEnd}
 use Rattle.cluster_types.specs.declared.run.PassedEnd.TheVariants.{Complete, Aborted, Cut}
 use Rattle.cluster_types.specs.declared.run.RunLine.{RunLine}
 use Rattle.cluster_types.specs.declared.run.RunLine.TheVariants as line
-use Rattle.cluster_types.specs.Runs.{Standing, due, amid, idle, RunsOn, plans, goes, completes, aborts, answers, Runs, here, one_more}
+use Rattle.cluster_types.specs.Runs.{RunStanding, due, amid, idle, RunsOn, plans, goes, completes, aborts, answers, Runs, here, one_more}
 use Rattle.cluster_types.specs.Tables.{targets_of}
 use Rattle.cluster_types.specs.Texts.{all_passed_lines, begin_of, between, end_lines, event_lines, goal_line, lacking_lines, leaf_lines, passed_lines, pin_lines, target_lines}
 
@@ -108,13 +108,13 @@ module _ (c : Cluster) where
       omega arith
 
   -- the number of the transition that is planned next
-  abbrev pub next_number : Standing → ℕ
+  abbrev pub next_number : RunStanding → ℕ
   next_number (due k es) = k
   next_number (amid k t since) = k + 1
   next_number (idle k es) = k + 1
 
   module _ (promotions : List Promotion) (whole : Bool) where
-    step_counted : (at next : Standing) (rest left : Option (List Answer)) (lines : List RunLine) → RunsOn c promotions whole at rest lines next left
+    step_counted : (at next : RunStanding) (rest left : Option (List Answer)) (lines : List RunLine) → RunsOn c promotions whole at rest lines next left
         → next_number next ≡ next_number at + transitions lines
     step_counted _ _ rest _ _ (plans k es _ placed actions plan) =
         let goals = target_lines c placed.pins (targets_of placed.table) placed.none in
@@ -126,7 +126,7 @@ module _ (c : Cluster) where
     step_counted _ _ rest _ _ (aborts k t since _ ended aborted) = omega arith
     step_counted _ _ rest left _ (answers k es _ _ given said applies) = omega arith
 
-    pub runs_counted : (at later : Standing) (rest left : Option (List Answer)) (lines : List RunLine) → Runs c promotions whole at rest lines later left
+    pub runs_counted : (at later : RunStanding) (rest left : Option (List Answer)) (lines : List RunLine) → Runs c promotions whole at rest lines later left
         → next_number later ≡ next_number at + transitions lines
     runs_counted at _ rest _ _ (here _ _) = omega arith
     runs_counted at later rest left _ (one_more _ next _ _ middle _ lines more step runs) =

@@ -6,7 +6,7 @@ use Rattle.simulated.specs.declared.turn.Fate.{Fate}
 use Rattle.simulated.specs.declared.turn.Turn.{Turn}
 use Rattle.simulated.specs.declared.turn.Turn.TheVariants as turn
 use Rattle.cases.specs.Draws.{draw}
-use Rattle.simulated.specs.Kept.{RealityOf, Shows}
+use Rattle.simulated.specs.Kept.{RealityOf, ShowsWorld}
 use Rattle.simulated.specs.Turns.{IsOfNode, MayCome, calm, die, draws, draws_for_end, drawn_node, fate_by, is_fault, joins_now, leaves_now, node_turn, node_turn_from, turn_of, turned, with_draws}
 use Rattle.simulated.specs.RealWorlds.{World}
 use Rattle.simulated.proofs.Showing.{redrawn}
@@ -52,7 +52,7 @@ module _ (c : Cluster) (number count : ℕ) (w : World) (d : ℕ) (same : d ≡ 
   pub some_turn : (t : Turn) → Some t ≡ node_turn c number once d → t ≡ turn_of c number w count
   some_turn t e = (of_some (leaves_now c number w) (joins_now c number w) (drawn_node c number w) 0 t (turn.Ends (draw number (w.drawn + draws_for_end c number w) count) (fate_by (die c number w))) (node_is (Some t) e)).0
 
-  pub some_shows : (k : RealityOf) (t : Turn) → Some t ≡ node_turn c number once d → d < 2 → Shows k (with_draws once for_node) → Shows k (turned c number w)
+  pub some_shows : (k : RealityOf) (t : Turn) → Some t ≡ node_turn c number once d → d < 2 → ShowsWorld k (with_draws once for_node) → ShowsWorld k (turned c number w)
   some_shows k t e low s =
       let two = (of_some (leaves_now c number w) (joins_now c number w) (drawn_node c number w) (draws_for_end c number w) t t (node_is (Some t) e)).1 in
       let here : nat_lt d 2 ≡ true = grind (arith, nat_tests) in
@@ -73,7 +73,7 @@ module _ (c : Cluster) (number count : ℕ) (w : World) (d : ℕ) (same : d ≡ 
       let here : turn.Ends place f ≡ last = rw (p, ends_draws, is, same) refl in
       here ∙ (of_none (leaves_now c number w) (joins_now c number w) (drawn_node c number w) 0 last (node_is None e)).0
 
-  pub none_shows : (k : RealityOf) → None ≡ node_turn c number once d → Shows k (with_draws (with_draws once for_node) 1) → Shows k (turned c number w)
+  pub none_shows : (k : RealityOf) → None ≡ node_turn c number once d → ShowsWorld k (with_draws (with_draws once for_node) 1) → ShowsWorld k (turned c number w)
   none_shows k e s =
       let many = (of_none (leaves_now c number w) (joins_now c number w) (drawn_node c number w) (draws_for_end c number w) (turn.Leaves 0) (node_is None e)).1 in
       let all : w.drawn + draws c number w ≡ w.drawn + 1 + for_node + 1 = rw many (sym ends_draws) in

@@ -14,7 +14,7 @@ use Rattle.cluster_types.specs.declared.journal.Event.{Event}
 use Rattle.cluster_types.specs.declared.journal.Event.TheVariants.{Up, Lost, Begin, Ended}
 use Rattle.cluster_types.specs.declared.journal.Outcome.{Outcome}
 use Rattle.cluster_types.specs.declared.journal.Outcome.TheVariants.{Code, TimedOut, Gone}
-use Rattle.cluster_types.specs.Answering.{added_by, end_of, ends_of, is_number_of}
+use Rattle.cluster_types.specs.Answering.{added_by, end_event, end_events, is_number_of}
 use Rattle.cluster_types.specs.Cells.{is_same_cell}
 use Rattle.cluster_types.specs.CellStates.{last_outcome}
 use Rattle.cluster_types.specs.Fields.{is_promotable}
@@ -28,9 +28,9 @@ use Rattle.simulated.specs.declared.real.Standing.TheVariants as standing
 use Rattle.simulated.specs.declared.turn.Fate.{Fate}
 use Rattle.simulated.specs.declared.turn.Fate.TheVariants as fate
 use Rattle.simulated.specs.declared.turn.Turn.TheVariants as turn
-use Rattle.simulated.specs.Lives.{IsWithin, Lives, begins_here, starts, leaves, joins, ends}
-use Rattle.simulated.specs.Turns.{after_begin, after_end, after_joining, after_leaving, answer_of, is_fault, nodes_after, turn_of, turned}
-use Rattle.simulated.specs.RealWorlds.{World, begun, first_world, found_at, is_cell, is_promoted, is_there, risen, standing_by, true_code, with_cell, without_node}
+use Rattle.simulated.specs.Lives.{IsWorldWithin, Lives, begins_here, starts, leaves, joins, ends}
+use Rattle.simulated.specs.Turns.{after_begin, after_end, after_joining, after_leaving, answer_by_fate, is_fault, nodes_after, turn_of, turned}
+use Rattle.simulated.specs.RealWorlds.{World, begun, first_world, found_at, is_cell, is_really_promoted, is_there, risen, standing_by, true_code, with_changed_cell, without_node}
 use Rattle.simulated.proofs.Quiet.{IsQuiet, failed, gone, late, quiet_closes, quiet_demotes}
 use Rattle.simulated.proofs.Running as running
 use Rattle.simulated.proofs.Running.{Stays}
@@ -55,7 +55,7 @@ risen_there real.Rising = refl
 risen_there real.Started = refl
 risen_there real.Promoted = refl
 
-risen_promoted : (x : Real) → is_promoted (risen x) ≡ is_promoted x
+risen_promoted : (x : Real) → is_really_promoted (risen x) ≡ is_really_promoted x
 risen_promoted real.Off = refl
 risen_promoted real.Rising = refl
 risen_promoted real.Started = refl
@@ -81,11 +81,11 @@ module _ (c : Cluster) where
       on (inl o) = may-last c r n e es ∙ rw o refl
       on (inr p) = may-last c r n e es ∙ rw (before p.0, p.1) (or-true (opens c r n e))
 
-    stays_promoted : (r n : ℕ) (x y : Real) → (is_promoted x ≡ true → may_promoted c r n es ≡ true)
-        → (is_promoted y ≡ true → ((is_promotable c r ≡ true) × (opens_promoted c r n e ≡ true)) ⊎ ((is_promoted x ≡ true) × (closes_promoted c r n e ≡ false)))
-        → is_promoted y ≡ true → may_promoted c r n (es ++ e ∷ []) ≡ true
+    stays_promoted : (r n : ℕ) (x y : Real) → (is_really_promoted x ≡ true → may_promoted c r n es ≡ true)
+        → (is_really_promoted y ≡ true → ((is_promotable c r ≡ true) × (opens_promoted c r n e ≡ true)) ⊎ ((is_really_promoted x ≡ true) × (closes_promoted c r n e ≡ false)))
+        → is_really_promoted y ≡ true → may_promoted c r n (es ++ e ∷ []) ≡ true
     stays_promoted r n x y before stays h = on (stays h) where
-      on : ((is_promotable c r ≡ true) × (opens_promoted c r n e ≡ true)) ⊎ ((is_promoted x ≡ true) × (closes_promoted c r n e ≡ false))
+      on : ((is_promotable c r ≡ true) × (opens_promoted c r n e ≡ true)) ⊎ ((is_really_promoted x ≡ true) × (closes_promoted c r n e ≡ false))
           → may_promoted c r n (es ++ e ∷ []) ≡ true
       on (inl o) = rw (o.0, promoted-last c r n e es, o.1) refl
       on (inr p) =
@@ -93,11 +93,11 @@ module _ (c : Cluster) where
           rw (parts.0, promoted-last c r n e es, parts.1, p.1) (or-true (opens_promoted c r n e))
 
     -- one more event
-    within_more : (w next : World) → IsWithin c es w → ((n : ℕ) → next.nodes n ≡ standing_by c (last_sign n (es ++ e ∷ [])))
+    within_more : (w next : World) → IsWorldWithin c es w → ((n : ℕ) → next.nodes n ≡ standing_by c (last_sign n (es ++ e ∷ [])))
         → ((r n : ℕ) → is_cell c r n ≡ true → is_there (next.cells r n) ≡ true → (opens c r n e ≡ true) ⊎ ((is_there (w.cells r n) ≡ true) × (closes c r n e ≡ false)))
-        → ((r n : ℕ) → is_cell c r n ≡ true → is_promoted (next.cells r n) ≡ true
-        → ((is_promotable c r ≡ true) × (opens_promoted c r n e ≡ true)) ⊎ ((is_promoted (w.cells r n) ≡ true) × (closes_promoted c r n e ≡ false)))
-        → next.given ≤ 16 → IsWithin c (es ++ e ∷ []) next
+        → ((r n : ℕ) → is_cell c r n ≡ true → is_really_promoted (next.cells r n) ≡ true
+        → ((is_promotable c r ≡ true) × (opens_promoted c r n e ≡ true)) ⊎ ((is_really_promoted (w.cells r n) ≡ true) × (closes_promoted c r n e ≡ false)))
+        → next.given ≤ 16 → IsWorldWithin c (es ++ e ∷ []) next
     within_more w next within nodes runs promoted few = record {
       stands = nodes;
       runs = λ r n cell h. runs_on r n (w.cells r n) (next.cells r n) (within.runs r n cell) (runs r n cell) h;
@@ -106,7 +106,7 @@ module _ (c : Cluster) where
     }
 
   -- at first
-  pub within_first : (es : List Event) → IsWithin c es (first_world c es)
+  pub within_first : (es : List Event) → IsWorldWithin c es (first_world c es)
   within_first es = record {
     stands = λ n. refl;
     runs = λ r n cell h. there r n (is_none (last_outcome c r n es)) (may_promoted c r n es) (may c r n es) refl refl h;
@@ -122,14 +122,14 @@ module _ (c : Cluster) where
       there r n false false false p m h = cc
 
       up : (r n : ℕ) (none promoted runs : Bool)
-          → is_promoted (if none then real.Off else (if promoted then real.Promoted else (if runs then real.Started else real.Off))) ≡ true → promoted ≡ true
+          → is_really_promoted (if none then real.Off else (if promoted then real.Promoted else (if runs then real.Started else real.Off))) ≡ true → promoted ≡ true
       up r n true promoted runs h = cc
       up r n false true runs h = refl
       up r n false false true h = cc
       up r n false false false h = cc
 
   -- once all has come up
-  within_turned : (number : ℕ) (w : World) (es : List Event) → IsWithin c es w → IsWithin c es (turned c number w)
+  within_turned : (number : ℕ) (w : World) (es : List Event) → IsWorldWithin c es w → IsWorldWithin c es (turned c number w)
   within_turned number w es within = record {
     stands = within.stands;
     runs = λ r n cell h. within.runs r n cell (sym (risen_there (w.cells r n)) ∙ h);
@@ -139,18 +139,18 @@ module _ (c : Cluster) where
 
   -- what the end of an action adds
   pub one_end : (es : List Event) (flight : List (ℕ × Action)) (place k : ℕ) (a : Action) (o : Outcome) → IsFlight es flight
-      → slice_get flight place ≡ Some (k, a) → ends_of c es flight k o ≡ Ended k a o (moment_of es) ∷ []
+      → slice_get flight place ≡ Some (k, a) → end_events c es flight k o ≡ Ended k a o (moment_of es) ∷ []
   one_end es flight place k a o is at = rw (found_first flight place k a is.ascending at) refl
 
   module _ (w : World) where
     -- an action begins
-    pub within_begun : (es : List Event) (k : ℕ) (a : Action) → IsWithin c es w → IsWithin c (es ++ Begin k a ∷ []) (after_begin c w a)
+    pub within_begun : (es : List Event) (k : ℕ) (a : Action) → IsWorldWithin c es w → IsWorldWithin c (es ++ Begin k a ∷ []) (after_begin c w a)
     within_begun es k a within =
         within_more es (Begin k a) w (after_begin c w a) within (λ n. within.stands n ∙ ap (standing_by c) (sym (unsigned n es (Begin k a) refl)))
         (λ r n cell h. runs r n a h) (λ r n cell h. promoted r n a h) within.few
       where
         sent : (r n leaf source target : ℕ) (some same : Bool) → is_same_cell r n leaf target ≡ same
-            → is_there ((if some then with_cell leaf target (λ x. real.Started) w.cells else w.cells) r n) ≡ true
+            → is_there ((if some then with_changed_cell leaf target (λ x. real.Started) w.cells else w.cells) r n) ≡ true
             → (opens c r n (Begin k (MigrateTo leaf source target)) ≡ true)
             ⊎ ((is_there (w.cells r n) ≡ true) × (closes c r n (Begin k (MigrateTo leaf source target)) ≡ false))
         sent r n leaf source target false same e h = inr (h, refl)
@@ -166,13 +166,13 @@ module _ (c : Cluster) where
         runs r n (MigrateFrom leaf source target) h = inr (h, refl)
 
         kept : (r n leaf target : ℕ) (some same : Bool) → is_same_cell r n leaf target ≡ same
-            → is_promoted ((if some then with_cell leaf target (λ x. real.Started) w.cells else w.cells) r n) ≡ true → is_promoted (w.cells r n) ≡ true
+            → is_really_promoted ((if some then with_changed_cell leaf target (λ x. real.Started) w.cells else w.cells) r n) ≡ true → is_really_promoted (w.cells r n) ≡ true
         kept r n leaf target false same e h = h
         kept r n leaf target true true e h = let g = rw e at h in cc
         kept r n leaf target true false e h = rw e at h
 
-        promoted : (r n : ℕ) (a : Action) → is_promoted (begun c a w.cells r n) ≡ true
-            → ((is_promotable c r ≡ true) × (opens_promoted c r n (Begin k a) ≡ true)) ⊎ ((is_promoted (w.cells r n) ≡ true) × (closes_promoted c r n (Begin k a) ≡ false))
+        promoted : (r n : ℕ) (a : Action) → is_really_promoted (begun c a w.cells r n) ≡ true
+            → ((is_promotable c r ≡ true) × (opens_promoted c r n (Begin k a) ≡ true)) ⊎ ((is_really_promoted (w.cells r n) ≡ true) × (closes_promoted c r n (Begin k a) ≡ false))
         promoted r n (MigrateTo leaf source target) h =
             inr (kept r n leaf target (is_there (found_at c w.cells leaf source)) (is_same_cell r n leaf target) refl h, refl)
         promoted r n (Fence node) h = inr (h, refl)
@@ -181,7 +181,7 @@ module _ (c : Cluster) where
         promoted r n (MigrateFrom leaf source target) h = inr (h, refl)
 
     -- an action ends
-    module _ (es : List Event) (k : ℕ) (a : Action) (within : IsWithin c es w) where
+    module _ (es : List Event) (k : ℕ) (a : Action) (within : IsWorldWithin c es w) where
       abbrev m : ℕ
       m = moment_of es
 
@@ -209,7 +209,7 @@ module _ (c : Cluster) where
       outcome_of fate.Undone = Code 1
       outcome_of fate.TimedOut = TimedOut
 
-      within_end : (f : Fate) → (is_fault f ≡ true → w.given < 16) → IsWithin c (es ++ Ended k a (outcome_of f) m ∷ []) (after_end c w f a)
+      within_end : (f : Fate) → (is_fault f ≡ true → w.given < 16) → IsWorldWithin c (es ++ Ended k a (outcome_of f) m ∷ []) (after_end c w f a)
       within_end fate.True early =
           within_more es (Ended k a (Code (true_code c a w.cells)) m) w (after_end c w fate.True a) within (true_stands a)
           (λ r n cell. running.true_stays c w.cells r n k m cell a) (λ r n cell. promoting.true_stays c w.cells r n k m cell a) within.few
@@ -228,12 +228,12 @@ module _ (c : Cluster) where
 
     -- actions are gone with their node
     within_gone : (ended : ℕ × Action → Event) → ((p : ℕ × Action) → (m : ℕ) × (ended p ≡ Ended p.0 p.1 Gone m)) → (ps : List (ℕ × Action)) (es : List Event)
-        → IsWithin c es w → IsWithin c (es ++ map ended ps) w
+        → IsWorldWithin c es w → IsWorldWithin c (es ++ map ended ps) w
     within_gone ended are [] es within = rw (append-nil es) within
     within_gone ended are (p ∷ ps) es within =
         let m = (are p).0 in
         let e = Ended p.0 p.1 Gone m in
-        let here : IsWithin c (es ++ e ∷ []) w =
+        let here : IsWorldWithin c (es ++ e ∷ []) w =
         within_more es e w w within (λ n. within.stands n ∙ ap (standing_by c) (sym (unsigned n es e (quiet_sign n p.0 m Gone gone p.1))))
         (λ r n cell h. inr (h, quiet_closes c r n p.0 m Gone gone p.1)) (λ r n cell h. inr (h, quiet_demotes c r n p.0 m Gone gone p.1)) within.few in
         let on = within_gone ended are ps (es ++ e ∷ []) here in
@@ -241,7 +241,7 @@ module _ (c : Cluster) where
         rw same at on
 
     -- a node leaves
-    within_left : (es : List Event) (node : ℕ) → w.given < 16 → IsWithin c es w → IsWithin c (es ++ Lost node ∷ []) (after_leaving c w node)
+    within_left : (es : List Event) (node : ℕ) → w.given < 16 → IsWorldWithin c es w → IsWorldWithin c (es ++ Lost node ∷ []) (after_leaving c w node)
     within_left es node early within =
         within_more es (Lost node) w (after_leaving c w node) within (λ n. stands n (node == n) refl)
         (λ r n cell h. runs r n c.properties.fencing (node == n) refl refl h) (λ r n cell h. promoted r n c.properties.fencing (node == n) refl refl h)
@@ -260,15 +260,15 @@ module _ (c : Cluster) where
         runs r n false false f e h = inr (rw e at h, rw e refl)
 
         promoted : (r n : ℕ) (fencing t : Bool) → c.properties.fencing ≡ fencing → (node == n) ≡ t
-            → is_promoted ((if fencing then w.cells else without_node node w.cells) r n) ≡ true
+            → is_really_promoted ((if fencing then w.cells else without_node node w.cells) r n) ≡ true
             → ((is_promotable c r ≡ true) × (opens_promoted c r n (Lost node) ≡ true))
-            ⊎ ((is_promoted (w.cells r n) ≡ true) × (closes_promoted c r n (Lost node) ≡ false))
+            ⊎ ((is_really_promoted (w.cells r n) ≡ true) × (closes_promoted c r n (Lost node) ≡ false))
         promoted r n true t f e h = inr (h, rw (f, and-false (node == n)) refl)
         promoted r n false true f e h = let g = rw e at h in cc
         promoted r n false false f e h = inr (rw e at h, rw e refl)
 
     -- a node joins
-    within_joined : (es : List Event) (node : ℕ) → w.given < 16 → IsWithin c es w → IsWithin c (es ++ Up node ∷ []) (after_joining c w node)
+    within_joined : (es : List Event) (node : ℕ) → w.given < 16 → IsWorldWithin c es w → IsWorldWithin c (es ++ Up node ∷ []) (after_joining c w node)
     within_joined es node early within =
         within_more es (Up node) w (after_joining c w node) within (λ n. stands n (node == n) refl)
         (λ r n cell h. runs r n (node == n) refl h) (λ r n cell h. promoted r n (node == n) refl h) (omega (arith, early))
@@ -282,34 +282,34 @@ module _ (c : Cluster) where
         runs r n true e h = cc
         runs r n false e h = inr (h, refl)
 
-        promoted : (r n : ℕ) (t : Bool) → (node == n) ≡ t → is_promoted (if t then real.Off else w.cells r n) ≡ true
+        promoted : (r n : ℕ) (t : Bool) → (node == n) ≡ t → is_really_promoted (if t then real.Off else w.cells r n) ≡ true
             → ((is_promotable c r ≡ true) × (opens_promoted c r n (Up node) ≡ true))
-            ⊎ ((is_promoted (w.cells r n) ≡ true) × (closes_promoted c r n (Up node) ≡ false))
+            ⊎ ((is_really_promoted (w.cells r n) ≡ true) × (closes_promoted c r n (Up node) ≡ false))
         promoted r n true e h = cc
         promoted r n false e h = inr (h, refl)
 
   -- a turn
   module _ (number : ℕ) (w : World) where
-    within_leaves : (es : List Event) (flight : List (ℕ × Action)) (node count : ℕ) → IsWithin c es w → turn_of c number w count ≡ turn.Leaves node
-        → IsWithin c (es ++ (map (end_of c es flight Gone) (filter (λ (p : ℕ × Action). is_on node p.1) flight) ++ Lost node ∷ [])) (after_leaving c (turned c number w) node)
+    within_leaves : (es : List Event) (flight : List (ℕ × Action)) (node count : ℕ) → IsWorldWithin c es w → turn_of c number w count ≡ turn.Leaves node
+        → IsWorldWithin c (es ++ (map (end_event c es flight Gone) (filter (λ (p : ℕ × Action). is_on node p.1) flight) ++ Lost node ∷ [])) (after_leaving c (turned c number w) node)
     within_leaves es flight node count within e =
         let so = leaving c number w count node e in
         let ps = filter (λ (p : ℕ × Action). is_on node p.1) flight in
-        let after = within_gone (turned c number w) (end_of c es flight Gone) (λ p. (moment_of es, refl)) ps es (within_turned number w es within) in
-        let left = within_left (turned c number w) (es ++ map (end_of c es flight Gone) ps) node so.early after in
-        rw (append_assoc es (map (end_of c es flight Gone) ps) (Lost node ∷ [])) at left
+        let after = within_gone (turned c number w) (end_event c es flight Gone) (λ p. (moment_of es, refl)) ps es (within_turned number w es within) in
+        let left = within_left (turned c number w) (es ++ map (end_event c es flight Gone) ps) node so.early after in
+        rw (append_assoc es (map (end_event c es flight Gone) ps) (Lost node ∷ [])) at left
 
-    within_joins : (es : List Event) (node count : ℕ) → IsWithin c es w → turn_of c number w count ≡ turn.Joins node
-        → IsWithin c (es ++ Up node ∷ []) (after_joining c (turned c number w) node)
+    within_joins : (es : List Event) (node count : ℕ) → IsWorldWithin c es w → turn_of c number w count ≡ turn.Joins node
+        → IsWorldWithin c (es ++ Up node ∷ []) (after_joining c (turned c number w) node)
     within_joins es node count within e = within_joined (turned c number w) es node (joining c number w count node e).early (within_turned number w es within)
 
-    within_ends : (es : List Event) (flight : List (ℕ × Action)) (count place : ℕ) (f : Fate) (k : ℕ) (a : Action) → IsWithin c es w → IsFlight es flight
+    within_ends : (es : List Event) (flight : List (ℕ × Action)) (count place : ℕ) (f : Fate) (k : ℕ) (a : Action) → IsWorldWithin c es w → IsFlight es flight
         → turn_of c number w count ≡ turn.Ends place f → slice_get flight place ≡ Some (k, a)
-        → IsWithin c (es ++ added_by c es flight (answer_of c (turned c number w) f k a)) (after_end c (turned c number w) f a)
+        → IsWorldWithin c (es ++ added_by c es flight (answer_by_fate c (turned c number w) f k a)) (after_end c (turned c number w) f a)
     within_ends es flight count place f k a within is e at = on f (ending c number w count place f e)
       where
         on : (f : Fate) → (is_fault f ≡ true → w.given < 16)
-            → IsWithin c (es ++ added_by c es flight (answer_of c (turned c number w) f k a)) (after_end c (turned c number w) f a)
+            → IsWorldWithin c (es ++ added_by c es flight (answer_by_fate c (turned c number w) f k a)) (after_end c (turned c number w) f a)
         on fate.True early =
             rw (one_end es flight place k a (Code (true_code c a (turned c number w).cells)) is at)
             (within_end (turned c number w) es k a (within_turned number w es within) fate.True early)
@@ -321,7 +321,7 @@ module _ (c : Cluster) where
             rw (one_end es flight place k a TimedOut is at) (within_end (turned c number w) es k a (within_turned number w es within) fate.TimedOut early)
 
 -- so at every moment
-pub always : (c : Cluster) (number : ℕ) (first es : List Event) (w : World) → Lives c number first es w → IsWithin c es w
+pub always : (c : Cluster) (number : ℕ) (first es : List Event) (w : World) → Lives c number first es w → IsWorldWithin c es w
 always c number first _ _ begins_here = within_first c first
 always c number first _ _ (starts es w k a life) = within_begun c w es k a (always c number first es w life)
 always c number first _ _ (leaves es w flight node life is busy e) = within_leaves c number w es flight node (length flight) (always c number first es w life) e

@@ -8,7 +8,7 @@ use Rattle.simulated.specs.declared.real.Real.{Real}
 use Rattle.simulated.specs.RealWorlds.{Cells}
 
 -- the list says of each cell whether an outcome of it is in force
-pub record Hears (c : Cluster) (es : List Event) (heard : List Bool) : Type 0 where
+pub record HearsOutcomes (c : Cluster) (es : List Event) (heard : List Bool) : Type 0 where
   pub full : length heard ≡ length c.leaves * length c.nodes
   pub each : (r n : ℕ) → r < length c.leaves → n < length c.nodes → slice_get heard (r * length c.nodes + n) ≡ Some (is_some (last_outcome c r n es))
 

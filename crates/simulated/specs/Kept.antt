@@ -44,7 +44,7 @@ abbrev pub HoldsNodes : ℕ → List Standing → (ℕ → Standing) → Type 0
 HoldsNodes count kept nodes = (n : ℕ) → n < count → slice_get kept n ≡ Some (nodes n)
 
 -- it stands for this simulated cluster
-pub record Shows (k : RealityOf) (w : World) : Type 0 where
+pub record ShowsWorld (k : RealityOf) (w : World) : Type 0 where
   pub nodes : HoldsNodes (length k.cluster.nodes) k.nodes w.nodes
   pub cells : Holds k.cluster k.cells w.cells
   pub alone : IsAlone k.cluster k.rising w.cells
@@ -52,7 +52,7 @@ pub record Shows (k : RealityOf) (w : World) : Type 0 where
   pub given : k.given ≡ w.given
 
 -- the cluster is within the limits, and there is something kept of each node and cell
-pub record Fits (k : RealityOf) : Type 0 where
+pub record RealityFits (k : RealityOf) : Type 0 where
   pub limits : KeepsLimits k.cluster
   pub nodes : length k.nodes ≡ length k.cluster.nodes
   pub cells : length k.cells ≡ length k.cluster.leaves * length k.cluster.nodes

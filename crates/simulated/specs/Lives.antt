@@ -15,8 +15,8 @@ use Rattle.cluster_types.specs.Safety.{AtEachBegin, count_of_others}
 use Rattle.cluster_types.specs.Steps.{Transition, journal}
 use Rattle.simulated.specs.declared.turn.Fate.{Fate}
 use Rattle.simulated.specs.declared.turn.Turn.TheVariants as turn
-use Rattle.simulated.specs.Turns.{after_begin, after_end, after_joining, after_leaving, answer_of, most_faults, turn_of, turned}
-use Rattle.simulated.specs.RealWorlds.{World, first_world, found_at, is_cell, is_promoted, is_there, standing_by}
+use Rattle.simulated.specs.Turns.{after_begin, after_end, after_joining, after_leaving, answer_by_fate, most_faults, turn_of, turned}
+use Rattle.simulated.specs.RealWorlds.{World, first_world, found_at, is_cell, is_really_promoted, is_there, standing_by}
 
 -- from a first journal on, the simulated cluster of a number makes this journal, and stands so then: each answer that was entered is the one that it
 -- gives there
@@ -32,14 +32,14 @@ pub data Lives (c : Cluster) (number : ℕ) (first : List Event) : List Event �
       → Lives c number first (es ++ added_by c es flight (answer.Up node)) (after_joining c (turned c number w) node)
   ends : (es : List Event) (w : World) (flight : List (ℕ × Action)) (place : ℕ) (f : Fate) (k : ℕ) (a : Action) → Lives c number first es w
       → IsFlight es flight → turn_of c number w (length flight) ≡ turn.Ends place f → slice_get flight place ≡ Some (k, a)
-      → Lives c number first (es ++ added_by c es flight (answer_of c (turned c number w) f k a)) (after_end c (turned c number w) f a)
+      → Lives c number first (es ++ added_by c es flight (answer_by_fate c (turned c number w) f k a)) (after_end c (turned c number w) f a)
 
 -- what runs is among what may run by a journal: each node stands as the journal shows, what is there may run there, and what is promoted may be promoted;
 -- and no more faults were given than may be
-pub record IsWithin (c : Cluster) (es : List Event) (w : World) : Type 0 where
+pub record IsWorldWithin (c : Cluster) (es : List Event) (w : World) : Type 0 where
   pub stands : (n : ℕ) → w.nodes n ≡ standing_by c (last_sign n es)
   pub runs : (r n : ℕ) → is_cell c r n ≡ true → is_there (w.cells r n) ≡ true → may c r n es ≡ true
-  pub promoted : (r n : ℕ) → is_cell c r n ≡ true → is_promoted (w.cells r n) ≡ true → may_promoted c r n es ≡ true
+  pub promoted : (r n : ℕ) → is_cell c r n ≡ true → is_really_promoted (w.cells r n) ≡ true → may_promoted c r n es ≡ true
   pub few : w.given ≤ most_faults
 
 -- where a start of a leaf begins on a node, the leaf really runs on fewer other nodes than it has copies. Of a plain resource there is none

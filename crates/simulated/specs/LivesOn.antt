@@ -11,7 +11,7 @@ use Rattle.cluster_types.specs.Answering.{added_by}
 use Rattle.cluster_types.specs.Journals.{IsFlight}
 use Rattle.simulated.specs.declared.turn.Turn.{Turn}
 use Rattle.simulated.specs.declared.turn.Turn.TheVariants as turn
-use Rattle.simulated.specs.Turns.{after_begin, after_end, after_joining, after_leaving, answer_of, turn_of, turned}
+use Rattle.simulated.specs.Turns.{after_begin, after_end, after_joining, after_leaving, answer_by_fate, turn_of, turned}
 use Rattle.simulated.specs.RealWorlds.{World}
 
 module _ (c : Cluster) (number : ℕ) where
@@ -21,7 +21,7 @@ module _ (c : Cluster) (number : ℕ) where
     abbrev pub answer_by : Turn → Option Answer
     answer_by (turn.Leaves node) = Some (answer.Lost node)
     answer_by (turn.Joins node) = Some (answer.Up node)
-    answer_by (turn.Ends place f) = option_map (λ (p : ℕ × Action). answer_of c (turned c number w) f p.0 p.1) (slice_get flight place)
+    answer_by (turn.Ends place f) = option_map (λ (p : ℕ × Action). answer_by_fate c (turned c number w) f p.0 p.1) (slice_get flight place)
 
     -- the simulated cluster then
     abbrev pub world_by : Turn → World

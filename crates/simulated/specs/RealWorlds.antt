@@ -33,22 +33,22 @@ abbrev pub is_there : Real → Bool
 is_there real.Off = false
 is_there _ = true
 
-abbrev pub is_promoted : Real → Bool
-is_promoted real.Promoted = true
-is_promoted _ = false
+abbrev pub is_really_promoted : Real → Bool
+is_really_promoted real.Promoted = true
+is_really_promoted _ = false
 
 -- it comes up
 abbrev pub is_rising : Real → Bool
 is_rising real.Rising = true
 is_rising _ = false
 
-abbrev pub is_up : Standing → Bool
-is_up standing.Up = true
-is_up _ = false
+abbrev pub is_node_up : Standing → Bool
+is_node_up standing.Up = true
+is_node_up _ = false
 
-abbrev pub is_off : Standing → Bool
-is_off standing.Off = true
-is_off _ = false
+abbrev pub is_node_off : Standing → Bool
+is_node_off standing.Off = true
+is_node_off _ = false
 
 -- the cluster has the cell
 abbrev pub is_cell : Cluster → ℕ → ℕ → Bool
@@ -91,8 +91,8 @@ risen real.Started = real.Started
 risen real.Promoted = real.Promoted
 
 -- one cell changes, or all of a node
-abbrev pub with_cell : ℕ → ℕ → (Real → Real) → Cells → Cells
-with_cell leaf node change cells r n = if is_same_cell r n leaf node then change (cells r n) else cells r n
+abbrev pub with_changed_cell : ℕ → ℕ → (Real → Real) → Cells → Cells
+with_changed_cell leaf node change cells r n = if is_same_cell r n leaf node then change (cells r n) else cells r n
 
 abbrev pub without_node : ℕ → Cells → Cells
 without_node node cells r n = if node == n then real.Off else cells r n
@@ -129,7 +129,7 @@ module _ (c : Cluster) where
   -- an action begins: the target of a migration comes to run where its source does
   abbrev pub begun : Action → Cells → Cells
   begun (MigrateTo leaf source target) cells =
-      if is_there (found_at c cells leaf source) then with_cell leaf target (λ x. real.Started) cells else cells
+      if is_there (found_at c cells leaf source) then with_changed_cell leaf target (λ x. real.Started) cells else cells
   begun (Fence node) cells = cells
   begun (Probe leaf node) cells = cells
   begun (Cell op leaf node interval role) cells = cells
@@ -139,15 +139,15 @@ module _ (c : Cluster) where
   abbrev pub done : Action → Cells → Cells
   done (Fence node) cells = without_node node cells
   done (Probe leaf node) cells = cells
-  done (Cell op leaf node interval role) cells = with_cell leaf node (after_op op leaf) cells
+  done (Cell op leaf node interval role) cells = with_changed_cell leaf node (after_op op leaf) cells
   done (MigrateTo leaf source target) cells =
-      if is_there (found_at c cells leaf target) then with_cell leaf source (λ x. real.Off) cells else cells
+      if is_there (found_at c cells leaf target) then with_changed_cell leaf source (λ x. real.Off) cells else cells
   done (MigrateFrom leaf source target) cells = cells
 
   -- nothing is done: a migration leaves what runs at its source, and its target stops
   abbrev pub undone : Action → Cells → Cells
   undone (MigrateTo leaf source target) cells =
-      if is_there (found_at c cells leaf source) then with_cell leaf target (λ x. real.Off) cells else cells
+      if is_there (found_at c cells leaf source) then with_changed_cell leaf target (λ x. real.Off) cells else cells
   undone (Fence node) cells = cells
   undone (Probe leaf node) cells = cells
   undone (Cell op leaf node interval role) cells = cells
@@ -155,7 +155,7 @@ module _ (c : Cluster) where
 
   -- it isn't done in time: a start comes true later
   abbrev pub given_up_op : Op → ℕ → ℕ → Cells → Cells
-  given_up_op Start leaf node cells = with_cell leaf node rising_from cells
+  given_up_op Start leaf node cells = with_changed_cell leaf node rising_from cells
   given_up_op Stop leaf node cells = cells
   given_up_op Promote leaf node cells = cells
   given_up_op Demote leaf node cells = cells

@@ -13,7 +13,7 @@ use Rattle.simulated.specs.declared.turn.Fate.TheVariants as fate
 use Rattle.simulated.specs.declared.turn.Turn.{Turn}
 use Rattle.simulated.specs.declared.turn.Turn.TheVariants as turn
 use Rattle.cases.specs.Draws.{draw}
-use Rattle.simulated.specs.RealWorlds.{Cells, World, begun, done, given_up, is_off, is_up, risen, true_code, undone, without_node}
+use Rattle.simulated.specs.RealWorlds.{Cells, World, begun, done, given_up, is_node_off, is_node_up, risen, true_code, undone, without_node}
 
 -- how many faults a simulated cluster is given at most
 abbrev pub most_faults : ℕ
@@ -45,8 +45,8 @@ fenced (MigrateFrom leaf source target) nodes = nodes
 -- what comes of a node that was drawn, by the first number, whether the cluster has it, and how it stands
 abbrev pub node_turn_from : ℕ → ℕ → Bool → Standing → Option Turn
 node_turn_from die node has stands =
-    if die == 0 && (has && is_up stands) then Some (turn.Leaves node)
-    else (if die == 1 && (has && is_off stands) then Some (turn.Joins node)
+    if die == 0 && (has && is_node_up stands) then Some (turn.Leaves node)
+    else (if die == 1 && (has && is_node_off stands) then Some (turn.Joins node)
     else None)
 
 -- what comes up has come up
@@ -73,10 +73,10 @@ module _ (c : Cluster) (number : ℕ) (w : World) where
   drawn_node = draw number (w.drawn + 2) (length c.nodes)
 
   abbrev pub leaves_now : Bool
-  leaves_now = die == 0 && (nat_lt drawn_node (length c.nodes) && is_up (w.nodes drawn_node))
+  leaves_now = die == 0 && (nat_lt drawn_node (length c.nodes) && is_node_up (w.nodes drawn_node))
 
   abbrev pub joins_now : Bool
-  joins_now = die == 1 && (nat_lt drawn_node (length c.nodes) && is_off (w.nodes drawn_node))
+  joins_now = die == 1 && (nat_lt drawn_node (length c.nodes) && is_node_off (w.nodes drawn_node))
 
   -- how many numbers are drawn for an action that ends: where the first was for a node that can't leave or join, one more
   abbrev pub draws_for_end : ℕ
@@ -139,11 +139,11 @@ module _ (c : Cluster) (w : World) where
   }
 
   -- what is said of the action of a number that ends
-  abbrev pub answer_of : Fate → ℕ → Action → Answer
-  answer_of fate.True k a = answer.End k (true_code c a w.cells)
-  answer_of fate.DoneBadly k a = answer.End k err_generic
-  answer_of fate.Undone k a = answer.End k err_generic
-  answer_of fate.TimedOut k a = answer.Timeout k
+  abbrev pub answer_by_fate : Fate → ℕ → Action → Answer
+  answer_by_fate fate.True k a = answer.End k (true_code c a w.cells)
+  answer_by_fate fate.DoneBadly k a = answer.End k err_generic
+  answer_by_fate fate.Undone k a = answer.End k err_generic
+  answer_by_fate fate.TimedOut k a = answer.Timeout k
 
   -- an action has begun
   abbrev pub after_begin : Action → World

@@ -5,12 +5,12 @@ use Rattle.cluster_types.specs.declared.cluster.Cluster.{Cluster}
 use Rattle.cluster_types.specs.declared.journal.Event.{Event}
 use Rattle.cluster_types.specs.declared.journal.Journal.{Journal}
 use Rattle.cluster_types.specs.declared.run.Run.{Run}
-use Rattle.cluster_types.specs.Runs.{Standing, due, idle}
+use Rattle.cluster_types.specs.Runs.{RunStanding, due, idle}
 use Rattle.cluster_types.specs.Texts.{leaf_on, run_lines, run_text}
 use Rattle.simulated.specs.declared.real.Real.{Real}
 use Rattle.simulated.specs.declared.real.Real.TheVariants as real
 use Rattle.simulated.specs.RealWorlds.{Cells, World, found_at}
-use Rattle.simulated.specs.Kept.{Shows}
+use Rattle.simulated.specs.Kept.{ShowsWorld}
 use Rattle.simulated.specs.Worlds.{IsWorldRun, WorldOf}
 use Rattle.simulated.specs.declared.living.Lived.{Lived}
 
@@ -39,14 +39,14 @@ ending true = codes "ended complete\n"
 ending false = codes "ended more\n"
 
 -- where a run of a simulated cluster ends: complete, or where the transition after the last that is made is due
-pub data IsAtEnd : Bool → Standing → Type 0 where
+pub data IsAtEnd : Bool → RunStanding → Type 0 where
   over : (k : ℕ) (es : List Event) → IsAtEnd true (idle k es)
   more_due : (es : List Event) → IsAtEnd false (due (most_transitions + 1) es)
 
 -- the run of the simulated cluster of a number from a journal on, to its end: its transitions, what really runs then, and whether it is over
 module _ (c : Cluster) (journal : Journal) (number : ℕ) where
   pub record IsLived (run : Run) (over : Bool) (w : World) : Type 0 where
-    pub at : Standing
+    pub at : RunStanding
     pub goes : IsWorldRun c journal.promotions number journal.events (run_lines c run) at w
     pub few : length run.passed ≤ most_transitions
     pub ends : IsAtEnd over at
@@ -63,5 +63,5 @@ module _ (c : Cluster) (journal : Journal) (number : ℕ) where
   pub record HasLived (kept : WorldOf) (lived : Lived) : Type 0 where
     pub world : World
     pub of_cluster : kept.reality.cluster ≡ c
-    pub shows : Shows kept.reality world
+    pub shows : ShowsWorld kept.reality world
     pub is : IsLived lived.run lived.over world

@@ -4,8 +4,8 @@ use Rattle.cluster_types.specs.declared.cluster.Cluster.{Cluster}
 use Rattle.cluster_types.specs.declared.journal.Event.{Event}
 use Rattle.cluster_types.specs.declared.journal.Promotion.{Promotion}
 use Rattle.cluster_types.specs.declared.run.RunLine.{RunLine}
-use Rattle.cluster_types.specs.Runs.{Standing, Runs, due, journal_at}
-use Rattle.simulated.specs.Kept.{IsOfSame, RealityOf, Shows}
+use Rattle.cluster_types.specs.Runs.{RunStanding, Runs, due, journal_at}
+use Rattle.simulated.specs.Kept.{IsOfSame, RealityOf, ShowsWorld}
 use Rattle.simulated.specs.Lives.{Lives}
 use Rattle.simulated.specs.RealWorlds.{World}
 
@@ -22,7 +22,7 @@ pub record Agrees (k : WorldOf) (c : Cluster) (es : List Event) (taken : ℕ) : 
   pub began : length first ≡ k.since
   pub world : World
   pub lives : Lives c k.reality.number first es world
-  pub shows : Shows k.reality world
+  pub shows : ShowsWorld k.reality world
   pub few : taken ≤ world.given
 
 -- it has come from another, the same simulated cluster at an earlier moment
@@ -32,6 +32,6 @@ pub record IsOfOne (old new : WorldOf) : Type 0 where
 
 -- the run of the simulated cluster of a number from a journal on: its lines up to here, and what really runs here. Each answer is the one that the
 -- simulated cluster gives there
-pub record IsWorldRun (c : Cluster) (promotions : List Promotion) (number : ℕ) (es : List Event) (lines : List RunLine) (at : Standing) (w : World) : Type 0 where
+pub record IsWorldRun (c : Cluster) (promotions : List Promotion) (number : ℕ) (es : List Event) (lines : List RunLine) (at : RunStanding) (w : World) : Type 0 where
   pub steps : Runs c promotions true (due 1 es) None lines at None
   pub lives : Lives c number es (journal_at at) w

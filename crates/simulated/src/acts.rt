@@ -6,7 +6,7 @@ ghost use Rattle.simulated.specs.Kept.{Holds};
 ghost use Rattle.cluster_types.specs.Fields.{is_promotable};
 ghost use Rattle.simulated.specs.declared.real.Real.TheVariants as real;
 ghost use Rattle.simulated.specs.RealWorlds as worlds;
-ghost use Rattle.simulated.specs.RealWorlds.{Cells, after_op, begun, demoted, done, is_there, undone, with_cell};
+ghost use Rattle.simulated.specs.RealWorlds.{Cells, after_op, begun, demoted, done, is_there, undone, with_changed_cell};
 
 use crate::cells::{clear_node, found_at, set_cell};
 use crate::real::Real;
@@ -24,7 +24,7 @@ pub fn set_if_found(
 )
     requires { length cells.old.items ≡ length cluster.now.leaves * length cluster.now.nodes }
     ensures held { (held : Cells) → Holds cluster.now cells.old.items held
-        → Holds cluster.now cells.new.items (if is_there (worlds.found_at cluster.now held leaf other) then with_cell leaf node (λ x. real) held else held) }
+        → Holds cluster.now cells.new.items (if is_there (worlds.found_at cluster.now held leaf other) then with_changed_cell leaf node (λ x. real) held else held) }
     ensures len { length cells.new.items ≡ length cells.old.items }
 {
     if found_at(cluster, leaf, other, cells.as_slice()).is_there() {
@@ -54,7 +54,7 @@ pub fn begin(cluster: &Cluster, action: Action, cells: &mut Vec<Real>)
 /// A promoted cell is only started from now on.
 fn demote(cluster: &Cluster, leaf: LeafId, node: NodeId, cells: &mut Vec<Real>)
     requires { length cells.old.items ≡ length cluster.now.leaves * length cluster.now.nodes }
-    ensures held { (held : Cells) → Holds cluster.now cells.old.items held → Holds cluster.now cells.new.items (with_cell leaf node demoted held) }
+    ensures held { (held : Cells) → Holds cluster.now cells.old.items held → Holds cluster.now cells.new.items (with_changed_cell leaf node demoted held) }
     ensures len { length cells.new.items ≡ length cells.old.items }
 {
     if found_at(cluster, leaf, node, cells.as_slice()).is_promoted() {
@@ -77,7 +77,7 @@ fn promoted(cluster: &Cluster, leaf: LeafId) -> Real
 fn do_op(cluster: &Cluster, op: Op, leaf: LeafId, node: NodeId, cells: &mut Vec<Real>)
     requires { length cells.old.items ≡ length cluster.now.leaves * length cluster.now.nodes }
     ensures held { (held : Cells) → Holds cluster.now cells.old.items held
-        → Holds cluster.now cells.new.items (with_cell leaf node (after_op cluster.now op leaf) held) }
+        → Holds cluster.now cells.new.items (with_changed_cell leaf node (after_op cluster.now op leaf) held) }
     ensures len { length cells.new.items ≡ length cells.old.items }
 {
     match op {

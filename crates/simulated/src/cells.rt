@@ -4,7 +4,7 @@ ghost use Rattle.std.specs.Prelude.{◌≡◌, ◌*◌, length};
 ghost use Rattle.cluster_types.specs.Valid.{KeepsLimits};
 ghost use Rattle.simulated.specs.declared.real.Real.TheVariants as real;
 ghost use Rattle.simulated.specs.Kept.{Holds};
-ghost use Rattle.simulated.specs.RealWorlds.{Cells, found_at, with_cell, without_node};
+ghost use Rattle.simulated.specs.RealWorlds.{Cells, found_at, with_changed_cell, without_node};
 
 use crate::real::Real;
 use cluster_types::{Cluster, LeafId, NodeId, cell_place};
@@ -25,7 +25,7 @@ pub fn found_at(cluster: &Cluster, leaf: LeafId, node: NodeId, cells: &[Real]) -
 /// From now on this is in the cell, if there is such a cell.
 pub fn set_cell(cluster: &Cluster, leaf: LeafId, node: NodeId, real: Real, cells: &mut Vec<Real>)
     requires { length cells.old.items ≡ length cluster.now.leaves * length cluster.now.nodes }
-    ensures held { (held : Cells) → Holds cluster.now cells.old.items held → Holds cluster.now cells.new.items (with_cell leaf node (λ x. real) held) }
+    ensures held { (held : Cells) → Holds cluster.now cells.old.items held → Holds cluster.now cells.new.items (with_changed_cell leaf node (λ x. real) held) }
     ensures len { length cells.new.items ≡ length cells.old.items }
 {
     let nodes = cluster.nodes.len();

@@ -7,9 +7,9 @@ ghost use Rattle.cluster_types.specs.Journals.{last_sign, moment_of};
 ghost use Rattle.cluster_types.specs.Valid.{KeepsLimits};
 ghost use Rattle.state_unpack.specs.CellsKept.{has_few_monitors};
 ghost use Rattle.state_unpack.specs.Known.{Knows};
-ghost use Rattle.simulated.specs.Kept.{Holds, HoldsNodes, Shows};
+ghost use Rattle.simulated.specs.Kept.{Holds, HoldsNodes, ShowsWorld};
 ghost use Rattle.simulated.specs.RealWorlds as worlds;
-ghost use Rattle.simulated.specs.Firsts.{Hears, IsFilled};
+ghost use Rattle.simulated.specs.Firsts.{HearsOutcomes, IsFilled};
 
 use crate::heard::heard_of;
 use crate::{Real, Reality, Standing};
@@ -83,7 +83,7 @@ fn push_row(
     requires leaf { leaf < length known.now.cluster.leaves }
     requires before { length cells.old.items ≡ leaf * length known.now.cluster.nodes }
     ensures len { OnOk result (length cells.new.items ≡ (leaf + 1) * length known.now.cluster.nodes) }
-    ensures filled { (es : List EventOf) → Knows known.now.cluster es known.now → Hears known.now.cluster es heard.now
+    ensures filled { (es : List EventOf) → Knows known.now.cluster es known.now → HearsOutcomes known.now.cluster es heard.now
         → IsFilled known.now.cluster cells.old.items (worlds.first_real known.now.cluster es)
         → OnOk result (IsFilled known.now.cluster cells.new.items (worlds.first_real known.now.cluster es)) }
 {
@@ -100,7 +100,7 @@ fn first_cells(alloc: Global, known: &Known<'_>, heard: &[bool]) -> Result<Vec<R
     requires limits { KeepsLimits known.now.cluster }
     requires full { length heard.now ≡ length known.now.cluster.leaves * length known.now.cluster.nodes }
     ensures len { IfOk result (λ cells. length cells.items ≡ length known.now.cluster.leaves * length known.now.cluster.nodes) }
-    ensures held { (es : List EventOf) → Knows known.now.cluster es known.now → Hears known.now.cluster es heard.now
+    ensures held { (es : List EventOf) → Knows known.now.cluster es known.now → HearsOutcomes known.now.cluster es heard.now
         → IfOk result (λ cells. Holds known.now.cluster cells.items (worlds.first_real known.now.cluster es)) }
 {
     let count = known.cluster().leaves.len();
@@ -121,7 +121,7 @@ pub(crate) fn first_reality<'c>(
     requires limits { KeepsLimits cluster.now }
     requires monitors { has_few_monitors cluster.now ≡ true }
     requires moment { moment_of events.now < 2 ^ 64 }
-    ensures shows { IfOk result (λ reality. Shows reality (worlds.first_world cluster.now events.now)) }
+    ensures shows { IfOk result (λ reality. ShowsWorld reality (worlds.first_world cluster.now events.now)) }
     ensures cluster { IfOk result (λ reality. reality.cluster ≡ cluster.now) }
     ensures number { IfOk result (λ reality. reality.number ≡ number) }
 {

@@ -4,7 +4,7 @@ ghost use Rattle.std.specs.Prelude.{◌≡◌, ◌*◌, ◌==◌, ◌++◌, ◌�
 ghost use Rattle.cluster_types.specs.declared.journal.Event.{Event as EventOf};
 ghost use Rattle.cluster_types.specs.Cells as cells;
 ghost use Rattle.cluster_types.specs.Valid.{KeepsLimits};
-ghost use Rattle.simulated.specs.Firsts.{Hears, IsSaidOf};
+ghost use Rattle.simulated.specs.Firsts.{HearsOutcomes, IsSaidOf};
 
 use cluster_types::{Action, Cluster, Event, LeafId, NodeId, cell_place};
 use state_unpack::is_ignored;
@@ -52,7 +52,7 @@ fn hear_of(cluster: &Cluster, action: Action, heard: &mut Vec<bool>)
 fn hear(cluster: &Cluster, event: Event, heard: &mut Vec<bool>)
     requires limits { KeepsLimits cluster.now }
     requires full { length heard.old.items ≡ length cluster.now.leaves * length cluster.now.nodes }
-    ensures heard { (es : List EventOf) → Hears cluster.now es heard.old.items → Hears cluster.now (es ++ event ∷ []) heard.new.items }
+    ensures heard { (es : List EventOf) → HearsOutcomes cluster.now es heard.old.items → HearsOutcomes cluster.now (es ++ event ∷ []) heard.new.items }
     ensures len { length heard.new.items ≡ length heard.old.items }
 {
     match event {
@@ -78,7 +78,7 @@ fn hear(cluster: &Cluster, event: Event, heard: &mut Vec<bool>)
 /// Before the first event nothing was heard of any cell.
 fn nothing_heard(alloc: Global, cluster: &Cluster) -> Result<Vec<bool>, AllocError>
     requires { KeepsLimits cluster.now }
-    ensures { IfOk result (λ heard. Hears cluster.now [] heard.items) }
+    ensures { IfOk result (λ heard. HearsOutcomes cluster.now [] heard.items) }
 {
     let count = cluster.leaves.len() * cluster.nodes.len();
     let mut heard = Vec::with_capacity(alloc, count)?;
@@ -95,7 +95,7 @@ pub(crate) fn heard_of(
     events: &[Event],
 ) -> Result<Vec<bool>, AllocError>
     requires { KeepsLimits cluster.now }
-    ensures { IfOk result (λ heard. Hears cluster.now events.now heard.items) }
+    ensures { IfOk result (λ heard. HearsOutcomes cluster.now events.now heard.items) }
 {
     let mut heard = nothing_heard(alloc, cluster)?;
     for event in events {

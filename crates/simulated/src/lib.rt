@@ -43,10 +43,10 @@ pub use laws::{
     each_moment_runs_what_may_run, no_start_really_makes_a_second_copy,
     worlds_that_agree_run_what_may_run,
 };
-pub use lives::{lives_are_one, lives_go_on, steps_of_life_are_one};
+pub use lives::{lives_are_unique, lives_go_on, steps_of_life_are_unique};
 pub use real::{Real, Standing};
 pub use reality::Reality;
-pub use runs::{simulated_runs_are_one, world_texts_are_one};
+pub use runs::{simulated_runs_are_unique, world_texts_are_unique};
 pub use text::world_text;
 pub use text_laws::what_is_real_at_the_end_may_run;
 pub use turn::{Fate, Turn};

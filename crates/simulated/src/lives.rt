@@ -8,13 +8,13 @@ ghost use Rattle.simulated.specs.RealWorlds.{World as WorldAt};
 ghost use Rattle.simulated.specs.LivesOn.{LivesOn, StepOfLife};
 
 /// From one moment on one journal begins with the events of one step: those of an action that begins, or of the turn that comes.
-pub fn steps_of_life_are_one()
+pub fn steps_of_life_are_unique()
     ensures { (c : ClusterOf) (number : ℕ) (es events others more rest : List EventOf) (w next after : WorldAt)
         → events ++ more ≡ others ++ rest → StepOfLife c number es w events next → StepOfLife c number es w others after → (events ≡ others) × (next ≡ after) }
 {}
 
 /// By one journal from one first journal on, a simulated cluster stands in one way.
-pub fn lives_are_one()
+pub fn lives_are_unique()
     ensures { (c : ClusterOf) (number : ℕ) (first es : List EventOf) (w other : WorldAt)
         → Lives c number first es w → Lives c number first es other → w ≡ other }
 {}

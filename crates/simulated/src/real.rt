@@ -26,7 +26,7 @@ impl Real {
     }
 
     pub fn is_promoted(self) -> bool
-        ensures { result ≡ worlds.is_promoted self }
+        ensures { result ≡ worlds.is_really_promoted self }
     {
         match self {
             Real::Promoted => true,

@@ -3,7 +3,7 @@
 ghost use Rattle.std.specs.Prelude.{◌≡◌, ◌*◌, ◌+◌, ◌<◌, None, length};
 ghost use Rattle.cluster_types.specs.Valid.{KeepsLimits};
 ghost use Rattle.cases.specs.Draws as drawing;
-ghost use Rattle.simulated.specs.Kept.{IsOfSame, Shows, reality};
+ghost use Rattle.simulated.specs.Kept.{IsOfSame, ShowsWorld, reality};
 ghost use Rattle.simulated.specs.Turns.{after_begin, calm, with_draws};
 ghost use Rattle.simulated.specs.RealWorlds as worlds;
 ghost use Rattle.simulated.specs.RealWorlds.{World};
@@ -33,13 +33,13 @@ pub struct Reality<'c> {
 }
 
 impl<'c> Model for Reality<'c> {
-    ghost use Rattle.simulated.specs.Kept.{RealityOf, Fits, reality};
+    ghost use Rattle.simulated.specs.Kept.{RealityOf, RealityFits, reality};
 
     ghost Value = { RealityOf };
 
     ghost view = { λ k. reality k.cluster.now k.nodes.items k.cells.items k.rising k.number k.state k.given };
 
-    ghost invariant = { λ k. Fits (reality k.cluster.now k.nodes.items k.cells.items k.rising k.number k.state k.given) };
+    ghost invariant = { λ k. RealityFits (reality k.cluster.now k.nodes.items k.cells.items k.rising k.number k.state k.given) };
 }
 
 impl<'c> Reality<'c> {
@@ -68,14 +68,14 @@ impl<'c> Reality<'c> {
 
     /// What a leaf really does on a node; where the cluster has no such cell, nothing.
     pub fn real(&self, leaf: LeafId, node: NodeId) -> Real
-        ensures { (w : World) → Shows self.now w → result ≡ worlds.found_at self.now.cluster w.cells leaf node }
+        ensures { (w : World) → ShowsWorld self.now w → result ≡ worlds.found_at self.now.cluster w.cells leaf node }
     {
         found_at(self.cluster, leaf, node, self.cells.as_slice())
     }
 
     /// An action begins: the target of a migration comes to run where its source does.
     pub fn begin(&mut self, action: Action)
-        ensures shows { (w : World) → Shows self.old w → Shows self.new (after_begin self.old.cluster w action) }
+        ensures shows { (w : World) → ShowsWorld self.old w → ShowsWorld self.new (after_begin self.old.cluster w action) }
         ensures same { IsOfSame self.old self.new }
     {
         begin(self.cluster, action, &mut self.cells);
@@ -83,7 +83,7 @@ impl<'c> Reality<'c> {
 
     /// What comes up has come up.
     pub(crate) fn settle(&mut self)
-        ensures shows { (w : World) → Shows self.old w → Shows self.new (calm w) }
+        ensures shows { (w : World) → ShowsWorld self.old w → ShowsWorld self.new (calm w) }
         ensures none { self.new.rising ≡ None }
         ensures given { self.new.given ≡ self.old.given }
         ensures same { IsOfSame self.old self.new }
@@ -95,9 +95,9 @@ impl<'c> Reality<'c> {
     /// The next number that is drawn, below the bound.
     pub(crate) fn draw(&mut self, bound: u32) -> u32
         requires { 0 < bound }
-        ensures drawn { (w : World) → Shows self.old w → result ≡ drawing.draw self.old.number (w.drawn + 1) bound }
+        ensures drawn { (w : World) → ShowsWorld self.old w → result ≡ drawing.draw self.old.number (w.drawn + 1) bound }
         ensures low { result < bound }
-        ensures shows { (w : World) → Shows self.old w → Shows self.new (with_draws w 1) }
+        ensures shows { (w : World) → ShowsWorld self.old w → ShowsWorld self.new (with_draws w 1) }
         ensures rising { self.new.rising ≡ self.old.rising }
         ensures given { self.new.given ≡ self.old.given }
         ensures same { IsOfSame self.old self.new }

@@ -2,7 +2,7 @@
 
 ghost use Rattle.std.specs.Prelude.{◌≡◌, ◌*◌, None, length};
 ghost use Rattle.simulated.specs.Kept.{Holds, IsAlone};
-ghost use Rattle.simulated.specs.RealWorlds.{Cells, given_up, given_up_op, risen, rising_from, with_cell};
+ghost use Rattle.simulated.specs.RealWorlds.{Cells, given_up, given_up_op, risen, rising_from, with_changed_cell};
 
 use crate::acts::set_if_found;
 use crate::cells::{found_at, set_cell};
@@ -32,9 +32,9 @@ fn let_rise(
     cells: &mut Vec<Real>,
 ) -> Option<(LeafId, NodeId)>
     requires { length cells.old.items ≡ length cluster.now.leaves * length cluster.now.nodes }
-    ensures held { (held : Cells) → Holds cluster.now cells.old.items held → Holds cluster.now cells.new.items (with_cell leaf node rising_from held) }
+    ensures held { (held : Cells) → Holds cluster.now cells.old.items held → Holds cluster.now cells.new.items (with_changed_cell leaf node rising_from held) }
     ensures alone { (held : Cells) → Holds cluster.now cells.old.items held → IsAlone cluster.now None held
-        → IsAlone cluster.now result (with_cell leaf node rising_from held) }
+        → IsAlone cluster.now result (with_changed_cell leaf node rising_from held) }
     ensures len { length cells.new.items ≡ length cells.old.items }
 {
     if found_at(cluster, leaf, node, cells.as_slice()).is_there() {

@@ -5,7 +5,7 @@ ghost use Rattle.cluster_types.specs.Journals.{moment_of};
 ghost use Rattle.cluster_types.specs.Valid.{KeepsLimits};
 ghost use Rattle.state_unpack.specs.CellsKept.{has_few_monitors};
 ghost use Rattle.simulated.specs.Worlds.{Agrees};
-ghost use Rattle.simulated.specs.Kept.{Shows};
+ghost use Rattle.simulated.specs.Kept.{ShowsWorld};
 ghost use Rattle.simulated.specs.RealWorlds.{World as WorldAt, found_at};
 
 use crate::first::first_reality;
@@ -58,7 +58,7 @@ impl<'c> World<'c> {
 
     /// What a leaf really does on a node; where the cluster has no such cell, nothing.
     pub fn real(&self, leaf: LeafId, node: NodeId) -> Real
-        ensures { (w : WorldAt) → Shows self.now.reality w → result ≡ found_at self.now.reality.cluster w.cells leaf node }
+        ensures { (w : WorldAt) → ShowsWorld self.now.reality w → result ≡ found_at self.now.reality.cluster w.cells leaf node }
     {
         self.reality.real(leaf, node)
     }

@@ -5,7 +5,7 @@ use Rattle.cluster_types.specs.declared.journal.Action.{Action}
 use Rattle.cluster_types.specs.declared.journal.Event.{Event}
 use Rattle.cluster_types.specs.declared.journal.Promotion.{Promotion}
 use Rattle.cluster_types.specs.declared.placement.Placed.{Placed}
-use Rattle.cluster_types.specs.Numbers.{is_earlier, place_of}
+use Rattle.cluster_types.specs.Numbers.{is_earlier, action_place}
 use Rattle.cluster_types.specs.Plans.{IsPlan}
 use Rattle.cluster_types.specs.Valid.{IsValid}
 use Rattle.cluster_types.proofs.NumberLaws.{not_both}
@@ -18,7 +18,7 @@ each_once c actions in_order i j d l m same =
     let one = get_or actions i d in
     let before = in_order i j d l m in
     let itself : is_earlier c actions one one ≡ true = subst (λ (z : Action). is_earlier c actions one z ≡ true) (sym same) before in
-    not_both (place_of c actions one) (place_of c actions one) itself itself
+    not_both (action_place c actions one) (action_place c actions one) itself itself
 
 pub few_planned : (c : Cluster) (es : List Event) (promotions : List Promotion) (placed : Placed) (actions : List Action) → IsValid c → IsPlan c es promotions placed actions
     → length actions < 2 ^ 32

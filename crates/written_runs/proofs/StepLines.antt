@@ -14,7 +14,7 @@ use Rattle.cluster_types.specs.declared.leaf.Op.TheVariants.{Start, Stop, Promot
 use Rattle.cluster_types.specs.declared.leaf.Role.TheVariants as role
 use Rattle.cluster_types.specs.declared.run.RunLine.{RunLine}
 use Rattle.cluster_types.specs.declared.run.RunLine.TheVariants as line
-use Rattle.cluster_types.specs.Answering.{is_joined, is_number_of, is_offline_state, is_quiet_cell, monitor_action, most_from_outside, tells_news}
+use Rattle.cluster_types.specs.Answering.{is_joined_sign, is_number_of, is_offline_state, is_quiet_cell, monitor_action, most_from_outside, tells_news}
 use Rattle.cluster_types.specs.Journals.{last_sign, moment_of}
 use Rattle.cluster_types.specs.May.{may}
 use Rattle.cluster_types.specs.NodeStates.{is_online, node_state}
@@ -27,14 +27,14 @@ use Rattle.input_reading.specs.Written.{IsActionOf, IsAnswerOf, IsLineOf, IsNumb
 use Rattle.run_safety.proofs.Each.{Each, none, more}
 use Rattle.run_safety.proofs.InFlight.{among_flying, number_within}
 use Rattle.run_safety.proofs.Shapes.{Flies, all_fly}
-use Rattle.written_runs.specs.Fitting.{AnswersFit, Fits, LineFits}
+use Rattle.written_runs.specs.Fitting.{AnswersFit, AnswerFieldsFit, LineFits}
 use Rattle.written_runs.proofs.Each.{all_later, read_in}
 
 -- Answers that are told, and those that lines tell.
 
 pub said_fits : (whole : Bool) (rest left : Option (List Answer)) (said : Option Answer) → Says whole rest said left → (given : Answer) → said ≡ Some given
-    → AnswersFit rest (line.Taken given ∷ []) → Fits given
-said_fits whole _ _ _ (told first rest) given e fit = let same : first ≡ given = cc in subst Fits same fit.0
+    → AnswersFit rest (line.Taken given ∷ []) → AnswerFieldsFit given
+said_fits whole _ _ _ (told first rest) given e fit = let same : first ≡ given = cc in subst AnswerFieldsFit same fit.0
 said_fits whole _ _ _ (used_up over) given e fit = absurd (let f : ⊥ = cc in f)
 said_fits whole _ _ _ (untold said) given e fit = fit.0
 
@@ -92,12 +92,12 @@ module _ (t : Transition) (since : List Event) (few : length t.actions < 2 ^ 32)
       by true same e after = subst IsNumber (eqb-true p.0 k same) (number_fits p.0 p.1 flies.action)
       by false same e after = after e
 
-  pub answer_fits : (given : Answer) → Applies t since given → Fits given → IsAnswerOf t.cluster given
+  pub answer_fits : (given : Answer) → Applies t since given → AnswerFieldsFit given → IsAnswerOf t.cluster given
   answer_fits (answer.End k code) h fits = (flown k (flying t since) (all_fly t since) h, fits)
   answer_fits (answer.Timeout k) h fits = flown k (flying t since) (all_fly t since) h
   answer_fits (answer.Lost n) h fits =
       ltb-true n (length t.cluster.nodes)
-      (later (nat_lt (outside t since) most_from_outside) (nat_lt n (length t.cluster.nodes)) (sooner _ (is_joined (last_sign n (journal t since))) h))
+      (later (nat_lt (outside t since) most_from_outside) (nat_lt n (length t.cluster.nodes)) (sooner _ (is_joined_sign (last_sign n (journal t since))) h))
   answer_fits (answer.Up n) h fits =
       ltb-true n (length t.cluster.nodes)
       (later (nat_lt (outside t since) most_from_outside) (nat_lt n (length t.cluster.nodes)) (sooner _ (is_offline_state (node_state t.cluster n (journal t since))) h))

@@ -1,7 +1,7 @@
 ghost use Rattle.std.specs.Prelude.{◌≡◌, false, unwrap_or, codes, OnOk, IfOk};
 ghost use Rattle.std.specs.Option.{option_map_or, option_or};
 ghost use Rattle.crm_parse.specs.Operations.{value_of};
-ghost use Rattle.crm_parse.specs.Statements.{is_promotable};
+ghost use Rattle.crm_parse.specs.Statements.{says_promotable};
 ghost use Rattle.crm_parse.specs.Values.{bool_of, count_of};
 ghost use Rattle.cluster_model.specs.Clones.{cloned_by, cloned_in, copies_in, in_clone, promoted_in, uncloned};
 ghost use Rattle.cluster_model.specs.Metas.{read_as};
@@ -53,7 +53,7 @@ fn promoted_in(pairs: &[Kv]) -> u32
 
 /// Whether a clone with these meta attributes is promotable.
 pub fn is_promotable(ms: bool, pairs: &[Kv]) -> bool
-    ensures { result ≡ is_promotable ms pairs.now }
+    ensures { result ≡ says_promotable ms pairs.now }
 {
     ms || bool_at(b"promotable", pairs).unwrap_or(false)
 }

@@ -1,5 +1,5 @@
 ghost use Rattle.std.specs.Prelude.{◌≡◌, map, OnOk, IfOk};
-ghost use Rattle.cluster_model.specs.Groups.{grouped_by, grouped_in, members_of, place_of};
+ghost use Rattle.cluster_model.specs.Groups.{grouped_by, grouped_in, members_of, membership_of};
 ghost use Rattle.cluster_model.specs.Tables.{with_rows};
 
 use crate::expansion::clones::InClone;
@@ -35,7 +35,7 @@ fn add_followers(
 }
 
 fn place(meta: &Meta, follower: bool, clone: &Option<InClone>) -> InGroup
-    ensures { result ≡ place_of meta.now clone.now follower }
+    ensures { result ≡ membership_of meta.now clone.now follower }
 {
     InGroup {
         meta: *meta,

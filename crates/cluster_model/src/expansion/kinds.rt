@@ -1,5 +1,5 @@
 ghost use Rattle.std.specs.Prelude.{◌≡◌, IfOk, OnOk};
-ghost use Rattle.cluster_model.specs.Faults.{is_group, kind_in, kinds_of};
+ghost use Rattle.cluster_model.specs.Faults.{is_group, resource_kinds_in, kinds_of};
 ghost use Rattle.cluster_model.specs.Tables.{with_rows};
 
 use crate::name_table::NameTable;
@@ -22,7 +22,7 @@ pub fn is_group(kind: Kind) -> bool
 }
 
 fn add_kind(alloc: Global, kinds: &mut NameTable<Kind>, form: &Form) -> Result<(), NoMemory>
-    ensures { OnOk result (kinds.new ≡ with_rows kinds.old (kind_in form.now)) }
+    ensures { OnOk result (kinds.new ≡ with_rows kinds.old (resource_kinds_in form.now)) }
 {
     match form {
         Form::Primitive { id, .. } => kinds.add(alloc, id, Kind::Primitive),

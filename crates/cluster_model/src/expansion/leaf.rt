@@ -1,7 +1,7 @@
 //! The leaves of a configuration.
 
 ghost use Rattle.std.specs.Prelude.{◌≡◌, ◌++◌, ◌&&◌, not, true, unwrap_or, IfOk, OnOk};
-ghost use Rattle.cluster_model.specs.Leaves.{leaf_in, leaf_of, leaves_in, leaves_of, plain_stickiness, target_role_of};
+ghost use Rattle.cluster_model.specs.Leaves.{leaf_in, primitive_leaf, leaves_in, leaves_of, plain_stickiness, target_role_named};
 ghost use Rattle.cluster_model.specs.Operations.{fail_of, monitors_of};
 
 use crate::expansion::clones::uncloned;
@@ -17,7 +17,7 @@ use score::Score;
 use std::alloc::Global;
 
 fn target_role_of(role: RoleName) -> TargetRole
-    ensures { result ≡ target_role_of role }
+    ensures { result ≡ target_role_named role }
 {
     match role {
         RoleName::Started => TargetRole::Started,
@@ -50,7 +50,7 @@ fn fail_or(name: &[u8], ops: &[Operation], default: OnFail) -> OnFail
 }
 
 /// The leaf of a primitive, with its own name and its monitors.
-#[tactic(auto, unfolding(crate::specs::Leaves::leaf_of))]
+#[tactic(auto, unfolding(crate::specs::Leaves::primitive_leaf))]
 fn leaf_with(
     surroundings: &Surroundings,
     name: Name,
@@ -59,7 +59,7 @@ fn leaf_with(
     ops: &[Operation],
 ) -> Leaf
     requires { monitors ≡ monitors_of ops.now }
-    ensures { result ≡ leaf_of surroundings.now name pairs.now ops.now }
+    ensures { result ≡ primitive_leaf surroundings.now name pairs.now ops.now }
 {
     let group = surroundings.around(&name);
     let cloned = group.clone.is_some();
@@ -95,7 +95,7 @@ fn leaf_of(
     pairs: &[Kv],
     ops: &[Operation],
 ) -> Result<Leaf, NoMemory>
-    ensures { IfOk result (λ leaf. leaf ≡ leaf_of surroundings.now id.now pairs.now ops.now) }
+    ensures { IfOk result (λ leaf. leaf ≡ primitive_leaf surroundings.now id.now pairs.now ops.now) }
 {
     let name = Name::from_bytes(alloc, id.bytes())?;
     let (name, monitors) = with(name, monitors_of(alloc, ops))?;

@@ -3,8 +3,8 @@
 ghost use Rattle.std.specs.Prelude.{◌≡◌, ◌++◌, is_none, not, true, false, None, IfOk};
 ghost use Rattle.std.specs.List.{list_any};
 ghost use Rattle.std.specs.Option.{option_map_or};
-ghost use Rattle.cluster_model.specs.Faults.{cause_of, fault_of, first_fault, has_twice, has_unknown, is_empty_group};
-ghost use Rattle.cluster_model.specs.Faults.{is_group, may_hold, nests, parts_in, promotes_group};
+ghost use Rattle.cluster_model.specs.Faults.{expand_cause_of, fault_of, first_expand_fault, has_twice, has_unknown_part, is_empty_group};
+ghost use Rattle.cluster_model.specs.Faults.{is_group, may_contain, nests, parts_in, promotes_group};
 ghost use Rattle.cluster_model.specs.Tables.{lookup};
 
 use crate::expansion::clones::is_promotable;
@@ -24,13 +24,13 @@ fn is_unknown(kinds: &NameTable<Kind>, part: &Name) -> bool
 }
 
 fn has_unknown(kinds: &NameTable<Kind>, form: &Form) -> bool
-    ensures { result ≡ has_unknown kinds.now form.now }
+    ensures { result ≡ has_unknown_part kinds.now form.now }
 {
     parts_in(form).iter().any(|part| is_unknown(kinds, part))
 }
 
 fn may_hold(form: &Form, kind: Kind) -> bool
-    ensures { result ≡ may_hold form.now kind }
+    ensures { result ≡ may_contain form.now kind }
 {
     match kind {
         Kind::Primitive => true,
@@ -40,7 +40,7 @@ fn may_hold(form: &Form, kind: Kind) -> bool
 }
 
 fn may_hold_part(kinds: &NameTable<Kind>, form: &Form, part: &Name) -> bool
-    ensures { result ≡ option_map_or (may_hold form.now) (lookup kinds.now part.now) true }
+    ensures { result ≡ option_map_or (may_contain form.now) (lookup kinds.now part.now) true }
 {
     match kinds.get(part) {
         Some(kind) => may_hold(form, kind),
@@ -115,7 +115,7 @@ fn promotes_group(kinds: &NameTable<Kind>, form: &Form) -> bool
 }
 
 /// The cause of a statement that is at fault, after what was seen before it, where a part is named twice or none is.
-#[tactic(auto, unfolding(crate::specs::Faults::cause_of))]
+#[tactic(auto, unfolding(crate::specs::Faults::expand_cause_of))]
 fn cause_where(
     kinds: &NameTable<Kind>,
     seen: &Seen,
@@ -123,7 +123,7 @@ fn cause_where(
     twice: bool,
 ) -> Option<ExpandCause>
     requires { twice ≡ has_twice seen.now.parts (parts_in form.now) }
-    ensures { result ≡ cause_of kinds.now seen.now form.now }
+    ensures { result ≡ expand_cause_of kinds.now seen.now form.now }
 {
     if seen.is_duplicate(form) {
         Some(ExpandCause::DuplicateName)
@@ -149,7 +149,7 @@ fn cause_of(
     seen: &Seen,
     form: &Form,
 ) -> Result<Option<ExpandCause>, NoMemory>
-    ensures { IfOk result (λ cause. cause ≡ cause_of kinds.now seen.now form.now) }
+    ensures { IfOk result (λ cause. cause ≡ expand_cause_of kinds.now seen.now form.now) }
 {
     let twice = has_twice(alloc, &seen.parts, parts_in(form))?;
     Ok(cause_where(kinds, seen, form, twice))
@@ -162,7 +162,7 @@ fn first_fault(
     seen: &mut Seen,
     statements: &[Statement],
 ) -> Result<Option<ExpandFault>, NoMemory>
-    ensures { IfOk result (λ fault. fault ≡ first_fault kinds.now seen.old statements.now) }
+    ensures { IfOk result (λ fault. fault ≡ first_expand_fault kinds.now seen.old statements.now) }
 {
     for statement in statements {
         if let Some(cause) = cause_of(alloc, kinds, seen, &statement.form)? {

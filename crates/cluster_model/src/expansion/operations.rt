@@ -7,7 +7,7 @@ ghost use Rattle.crm_parse.specs.Operations.{interval_of, recurs, value_of};
 ghost use Rattle.crm_parse.specs.Values.{role_of};
 ghost use Rattle.cluster_model.specs.Metas.{read_as};
 ghost use Rattle.cluster_model.specs.Operations.{after_a_stop, fail_of, on_fail_in, on_fail_of};
-ghost use Rattle.cluster_model.specs.Operations.{is_promoted, monitor_in, monitor_of, monitor_role, monitors_of};
+ghost use Rattle.cluster_model.specs.Operations.{is_promoted_name, monitor_in, monitor_of, monitor_role, monitors_of};
 
 use crate::values::role_at;
 use cluster_types::{Monitor, NoMemory, OnFail, Role};
@@ -67,13 +67,13 @@ pub fn after_a_stop(fencing: bool) -> OnFail
 }
 
 fn is_promoted(role: RoleName) -> bool
-    ensures { result ≡ is_promoted role }
+    ensures { result ≡ is_promoted_name role }
 {
     matches!(role, RoleName::Promoted)
 }
 
 fn runs_promoted(pairs: &[Kv]) -> bool
-    ensures { result ≡ option_map_or is_promoted (read_as role_of (codes "role") pairs.now) false }
+    ensures { result ≡ option_map_or is_promoted_name (read_as role_of (codes "role") pairs.now) false }
 {
     match role_at(b"role", pairs) {
         Some(role) => is_promoted(role),

@@ -3,7 +3,7 @@ ghost use Rattle.std.specs.List.{list_any};
 ghost use Rattle.std.specs.Option.{option_copied, option_to_list};
 ghost use Rattle.cluster_model.specs.Faults.{AreAlike, HaveTheSame, ids_in, is_duplicate, nothing_seen, parts_in, seen_after};
 ghost use Rattle.cluster_model.specs.Settings.{nodes_in};
-ghost use Rattle.crm_lex.specs.NameSets.{has};
+ghost use Rattle.crm_lex.specs.NameSets.{has_name};
 
 use cluster_types::NoMemory;
 use crm_lex::{Name, NameSet};
@@ -70,7 +70,7 @@ pub fn parts_in(form: &Form) -> &[Name]
 }
 
 fn has_some(names: &NameSet, name: Option<&Name>) -> bool
-    ensures { result ≡ list_any (has names.now) (option_to_list (option_copied name.entry)) }
+    ensures { result ≡ list_any (has_name names.now) (option_to_list (option_copied name.entry)) }
 {
     match name {
         Some(name) => names.has(name),

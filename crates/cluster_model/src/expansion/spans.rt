@@ -2,7 +2,7 @@
 
 ghost use Rattle.std.specs.Prelude.{◌≡◌, ◌++◌, unwrap_or, slice_get, IfOk, OnOk};
 ghost use Rattle.std.specs.Option.{option_copied, option_map_or};
-ghost use Rattle.cluster_model.specs.Spans.{ends_by, ends_in, ends_named, ends_of, number, number_of, numbers_of};
+ghost use Rattle.cluster_model.specs.Spans.{ends_by, group_ends_in, ends_named, ends_of, number, number_of, numbers_of};
 ghost use Rattle.cluster_model.specs.Spans.{span_in, spans_in, spans_of};
 ghost use Rattle.cluster_model.specs.Tables.{with_rows};
 
@@ -64,7 +64,7 @@ fn add_ends(
     groups: &mut NameTable<Ends>,
     form: &Form,
 ) -> Result<(), NoMemory>
-    ensures { OnOk result (groups.new ≡ with_rows groups.old (ends_in numbers.now form.now)) }
+    ensures { OnOk result (groups.new ≡ with_rows groups.old (group_ends_in numbers.now form.now)) }
 {
     let Form::Group { id, members, .. } = form else {
         return Ok(());

@@ -6,7 +6,7 @@ ghost use Rattle.std.specs.Option.{option_or};
 ghost use Rattle.cluster_model.specs.Chains.{successive};
 ghost use Rattle.cluster_model.specs.Locations.{role_written};
 ghost use Rattle.cluster_model.specs.Directories.{is_unknown};
-ghost use Rattle.cluster_model.specs.Checks.{cause_of, excess_of, has_unknown, has_unpromotable, is_unsupported, lacks_action, lacks_in_pair, lacks_role, side_lacks, turns_down};
+ghost use Rattle.cluster_model.specs.Checks.{cause_of, excess_of, has_unknown, has_unpromotable, is_unsupported_form, lacks_action, lacks_in_pair, lacks_role, side_lacks, turns_down};
 ghost use Rattle.cluster_model.specs.FirstFaults.{first_fault};
 ghost use Rattle.cluster_model.specs.Resolution.{own_cause};
 ghost use Rattle.cluster_model.specs.Search.{sound_count};
@@ -194,7 +194,7 @@ fn some_pair_turns_down(steps: &[OrderStep]) -> bool
 }
 
 fn is_unsupported(form: &Form) -> bool
-    ensures { result ≡ is_unsupported form.now }
+    ensures { result ≡ is_unsupported_form form.now }
 {
     match form {
         Form::Order { steps, .. } => some_pair_turns_down(steps.as_slice()),

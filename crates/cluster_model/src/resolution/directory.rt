@@ -2,7 +2,7 @@
 
 ghost use Rattle.std.specs.Prelude.{◌≡◌, map, slice_get, IfOk, OnOk};
 ghost use Rattle.cluster_model.specs.Tables.{with_rows};
-ghost use Rattle.cluster_model.specs.Directories.{are_there, directory_of, ends_named, ends_of, first_named, groups_of, is_local, is_one_group, is_unknown, is_unknown_node, joins_copies, last_named, may_promote, members_in, node_named, nodes_of, resources_of, traits_of};
+ghost use Rattle.cluster_model.specs.Directories.{are_there, directory_of, ends_in_directory, span_ends, first_named, groups_of, is_local, is_one_group, is_unknown, is_unknown_node, joins_copies, last_named, may_promote, members_in, node_named, nodes_of, resources_of, traits_of};
 
 use crate::{Leaves, NameTable, Span};
 use cluster_types::{Leaf, LeafId, NoMemory, NodeId};
@@ -52,7 +52,7 @@ fn nodes_of(alloc: Global, statements: &[Statement]) -> Result<NameTable<NodeId>
 }
 
 fn ends_of(span: &Span) -> Ends
-    ensures { result ≡ ends_of span.now }
+    ensures { result ≡ span_ends span.now }
 {
     Ends {
         first: span.first,
@@ -173,7 +173,7 @@ impl Directory {
 
     /// The ends of a resource. One whose leaves aren't there isn't there itself.
     fn ends_named(&self, resource: &Name) -> Option<Ends>
-        ensures { result ≡ ends_named self.now resource.now }
+        ensures { result ≡ ends_in_directory self.now resource.now }
     {
         let ends = self.resources.get(resource)?;
         if self.are_there(&ends) {

@@ -1,7 +1,7 @@
 //! The nodes of a cluster.
 
 ghost use Rattle.std.specs.Prelude.{◌≡◌, ◌++◌, map, IfOk, OnOk};
-ghost use Rattle.cluster_model.specs.Nodes.{attribute_of, is_standby, node_in, node_of, nodes_by};
+ghost use Rattle.cluster_model.specs.Nodes.{attribute_of, says_standby, node_in, node_of, nodes_by};
 
 use crate::bool_at;
 use crate::resolution::copies::copy_name;
@@ -32,7 +32,7 @@ fn attributes_of(alloc: Global, pairs: &[Kv]) -> Result<Listed<Pair>, NoMemory>
 }
 
 fn is_standby(attributes: &[Kv]) -> bool
-    ensures { result ≡ is_standby attributes.now }
+    ensures { result ≡ says_standby attributes.now }
 {
     bool_at(b"standby", attributes).unwrap_or(false)
 }

@@ -4,8 +4,8 @@ ghost use Rattle.std.specs.Prelude.{◌≡◌, ◌≤◌, ◌+◌, [], true, IfO
 ghost use Rattle.cluster_types.specs.Journals.{in_flight};
 ghost use Rattle.cluster_types.specs.Runs.{due, idle};
 ghost use Rattle.graph_exec.specs.Keeping.{EndsWithCause, IsAnswered, IsUnanswered, watched_end};
-ghost use Rattle.graph_exec.specs.Replays.{AgreesWith, HasCause, HasCome, HasHeard, IsExpected, OfJournal, setting, sight};
-ghost use Rattle.graph_exec.specs.Turns.{CameTo, EndsAs};
+ghost use Rattle.graph_exec.specs.Replays.{AgreesWith, HasCause, ReplayHasCome, ReplayHasHeard, IsReplayExpected, OfJournal, setting, sight};
+ghost use Rattle.graph_exec.specs.Turns.{CameTo, RunEndsAs};
 
 use crate::run::run_ending::RunEnd;
 use crate::run::stop::{Ended, ReplayStop};
@@ -38,7 +38,7 @@ pub(crate) fn ask_idle<'c, S: Outcomes>(
     ensures agrees_at_end { S.agrees outcomes.old journal.entry.cluster journal.entry.events 0
         → IfErr result (λ end. OfJournal (AgreesWith (S.agrees outcomes.new) journal.entry.cluster) (watched_end end)) }
     ensures fitting { S.careful outcomes.old ≡ true → S.agrees outcomes.old journal.entry.cluster journal.entry.events 0
-        → IfErr result (λ end. IsExpected (watched_end end)) }
+        → IfErr result (λ end. IsReplayExpected (watched_end end)) }
 
     ensures whole { S.whole outcomes.new ≡ S.whole outcomes.old }
     ensures count { S.faults outcomes.old ≤ S.faults outcomes.new }
@@ -46,7 +46,7 @@ pub(crate) fn ask_idle<'c, S: Outcomes>(
     ensures steady { S.steady outcomes.new ≡ S.steady outcomes.old }
     ensures over { S.steady outcomes.old ≡ true → S.over outcomes.old ≡ true → S.over outcomes.new ≡ true }
     ensures source_follows { OnOk result (S.follows outcomes.old outcomes.new) }
-    ensures source_came { IfErr result (λ end. HasCome (S.follows outcomes.old outcomes.new) (S.said outcomes.old outcomes.new) (watched_end end)) }
+    ensures source_came { IfErr result (λ end. ReplayHasCome (S.follows outcomes.old outcomes.new) (S.said outcomes.old outcomes.new) (watched_end end)) }
 {
     let Ok(resting) = Resting::new(alloc, journal) else {
         return Err(RunEnd::NoMemory);
@@ -83,7 +83,7 @@ pub(crate) fn take_idle<'c, S: Outcomes, V: Watcher>(
         (sight (S.rest outcomes.old) (S.over outcomes.old) (V.told watcher.old))
         (sight (S.rest outcomes.new) (S.over outcomes.new) (V.told watcher.new))
         (due (number + 1))) }
-    ensures ends { IfErr result (EndsAs
+    ensures ends { IfErr result (RunEndsAs
         (setting journal.entry.cluster journal.entry.promotions (S.whole outcomes.old) (S.steady outcomes.old) (V.names watcher.old))
         (idle number journal.entry.events)
         (sight (S.rest outcomes.old) (S.over outcomes.old) (V.told watcher.old))
@@ -94,7 +94,7 @@ pub(crate) fn take_idle<'c, S: Outcomes, V: Watcher>(
         → IfOk result (λ later. S.agrees outcomes.new journal.entry.cluster later.events 0) }
     ensures agrees_at_end { S.agrees outcomes.old journal.entry.cluster journal.entry.events 0
         → IfErr result (OfJournal (AgreesWith (S.agrees outcomes.new) journal.entry.cluster)) }
-    ensures fitting { S.careful outcomes.old ≡ true → S.agrees outcomes.old journal.entry.cluster journal.entry.events 0 → IfErr result IsExpected }
+    ensures fitting { S.careful outcomes.old ≡ true → S.agrees outcomes.old journal.entry.cluster journal.entry.events 0 → IfErr result IsReplayExpected }
 
     ensures whole { S.whole outcomes.new ≡ S.whole outcomes.old }
     ensures count { S.faults outcomes.old ≤ S.faults outcomes.new }
@@ -102,11 +102,11 @@ pub(crate) fn take_idle<'c, S: Outcomes, V: Watcher>(
     ensures steady { S.steady outcomes.new ≡ S.steady outcomes.old }
     ensures over { S.steady outcomes.old ≡ true → S.over outcomes.old ≡ true → S.over outcomes.new ≡ true }
     ensures source_follows { OnOk result (S.follows outcomes.old outcomes.new) }
-    ensures source_came { IfErr result (HasCome (S.follows outcomes.old outcomes.new) (S.said outcomes.old outcomes.new)) }
+    ensures source_came { IfErr result (ReplayHasCome (S.follows outcomes.old outcomes.new) (S.said outcomes.old outcomes.new)) }
     ensures names { V.names watcher.new ≡ V.names watcher.old }
     ensures stops { V.stops watcher.old ≤ V.stops watcher.new }
     ensures watcher_follows { OnOk result (V.follows watcher.old watcher.new) }
-    ensures watcher_came { IfErr result (HasHeard (V.follows watcher.old watcher.new) (V.stopped watcher.old watcher.new)) }
+    ensures watcher_came { IfErr result (ReplayHasHeard (V.follows watcher.old watcher.new) (V.stopped watcher.old watcher.new)) }
 {
     match ask_idle(alloc, journal, outcomes) {
         Ok(taken) => match watcher.taken(taken.answer) {

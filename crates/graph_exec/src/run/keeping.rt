@@ -6,7 +6,7 @@ ghost use Rattle.cluster_types.specs.declared.journal.Event.{Event as EventOf};
 ghost use Rattle.cluster_types.specs.Safety.{IsAtRest};
 ghost use Rattle.cluster_types.specs.Valid.{IsValid};
 ghost use Rattle.graph_exec.specs.Keeping.{EndsCome, EndsWithCause, KeepsEnd, KeepsTo, StaysOf, passed_end, watched_end};
-ghost use Rattle.graph_exec.specs.Replays.{AgreesWith, IsExpected, OfJournal, setting};
+ghost use Rattle.graph_exec.specs.Replays.{AgreesWith, IsReplayExpected, OfJournal, setting};
 
 use crate::run::idling::ask_idle;
 use crate::run::planning::plan_anew;
@@ -108,7 +108,7 @@ pub(crate) fn keep_transition<'c, S: Outcomes>(
     ensures agrees_at_end { S.agrees outcomes.old journal.entry.cluster journal.entry.events 0
         → IfErr result (λ end. OfJournal (AgreesWith (S.agrees outcomes.new) journal.entry.cluster) (watched_end end)) }
     ensures fitting { S.careful outcomes.old ≡ true → S.agrees outcomes.old journal.entry.cluster journal.entry.events 0
-        → IfErr result (λ end. IsExpected (watched_end end)) }
+        → IfErr result (λ end. IsReplayExpected (watched_end end)) }
 
     ensures whole { S.whole outcomes.new ≡ S.whole outcomes.old }
     ensures count { S.faults outcomes.old ≤ S.faults outcomes.new }

@@ -5,7 +5,7 @@ ghost use Rattle.cluster_types.specs.Journals.{moment_of};
 ghost use Rattle.cluster_types.specs.Safety.{IsAtRest, IsSafeRun};
 ghost use Rattle.cluster_types.specs.Valid.{IsValid};
 ghost use Rattle.graph_exec.specs.Kept.{FailsWithCause, IsExpectedRun, KeepsAs, KeepsPlans, OfRun, RunHasCome};
-ghost use Rattle.graph_exec.specs.Replays.{AgreesWith, IsKept};
+ghost use Rattle.graph_exec.specs.Replays.{AgreesWith, IsJournalKept};
 
 use crate::run::keeping::keep_transition;
 use crate::run::stop::ReplayEnd;
@@ -40,7 +40,7 @@ pub fn replay<S: Outcomes>(
         (S.rest outcomes.old) (S.rest outcomes.new) most result }
     ensures plans { OfRun (KeepsPlans cluster.now journal.promotions most) result }
     ensures safe { IsSafeRun cluster.now journal.promotions (S.whole outcomes.old) journal.events (S.rest outcomes.old) }
-    ensures kept { OfRun (λ run. IsKept journal.promotions run.journal) result }
+    ensures kept { OfRun (λ run. IsJournalKept journal.promotions run.journal) result }
     ensures cause { FailsWithCause (S.faults outcomes.old) (S.faults outcomes.new) result }
 
     // What became of the source.

@@ -5,8 +5,8 @@ ghost use Rattle.cluster_types.specs.Runs.{due};
 ghost use Rattle.cluster_types.specs.Safety.{IsAtRest};
 ghost use Rattle.cluster_types.specs.Valid.{IsValid};
 ghost use Rattle.graph_exec.specs.declared.run.stop.ReplayStop.TheVariants.{Stopped};
-ghost use Rattle.graph_exec.specs.Replays.{AgreesWith, HasCause, HasCome, HasHeard, IsExpected, OfJournal, WritesNamesOf, setting, sight};
-ghost use Rattle.graph_exec.specs.Turns.{CameTo, EndsAs, Serves, left_of};
+ghost use Rattle.graph_exec.specs.Replays.{AgreesWith, HasCause, ReplayHasCome, ReplayHasHeard, IsReplayExpected, OfJournal, WritesNamesOf, setting, sight};
+ghost use Rattle.graph_exec.specs.Turns.{CameTo, RunEndsAs, Serves, left_of};
 
 use crate::run::carrying_out::carry_out;
 use crate::run::idling::take_idle;
@@ -51,7 +51,7 @@ pub(crate) fn make_transition<'c, S: Outcomes, V: Watcher>(
         (sight (S.rest outcomes.new) (S.over outcomes.new) (V.told watcher.new))
         (due (number + 1)) turn.journal) }
     ensures serves { IfOk result (λ turn. Serves journal.entry.cluster turn.plan) }
-    ensures ends { IfErr result (EndsAs
+    ensures ends { IfErr result (RunEndsAs
         (setting journal.entry.cluster journal.entry.promotions (S.whole outcomes.old) (S.steady outcomes.old) (V.names watcher.old))
         (due number journal.entry.events)
         (sight (S.rest outcomes.old) (S.over outcomes.old) (V.told watcher.old))
@@ -62,7 +62,7 @@ pub(crate) fn make_transition<'c, S: Outcomes, V: Watcher>(
         → IfOk result (λ turn. S.agrees outcomes.new journal.entry.cluster turn.journal.events 0) }
     ensures agrees_at_end { S.agrees outcomes.old journal.entry.cluster journal.entry.events 0
         → IfErr result (OfJournal (AgreesWith (S.agrees outcomes.new) journal.entry.cluster)) }
-    ensures fitting { S.careful outcomes.old ≡ true → S.agrees outcomes.old journal.entry.cluster journal.entry.events 0 → IfErr result IsExpected }
+    ensures fitting { S.careful outcomes.old ≡ true → S.agrees outcomes.old journal.entry.cluster journal.entry.events 0 → IfErr result IsReplayExpected }
 
     ensures whole { S.whole outcomes.new ≡ S.whole outcomes.old }
     ensures count { S.faults outcomes.old ≤ S.faults outcomes.new }
@@ -70,11 +70,11 @@ pub(crate) fn make_transition<'c, S: Outcomes, V: Watcher>(
     ensures steady { S.steady outcomes.new ≡ S.steady outcomes.old }
     ensures over { S.steady outcomes.old ≡ true → S.over outcomes.old ≡ true → S.over outcomes.new ≡ true }
     ensures source_follows { OnOk result (S.follows outcomes.old outcomes.new) }
-    ensures source_came { IfErr result (HasCome (S.follows outcomes.old outcomes.new) (S.said outcomes.old outcomes.new)) }
+    ensures source_came { IfErr result (ReplayHasCome (S.follows outcomes.old outcomes.new) (S.said outcomes.old outcomes.new)) }
     ensures names { V.names watcher.new ≡ V.names watcher.old }
     ensures stops { V.stops watcher.old ≤ V.stops watcher.new }
     ensures watcher_follows { OnOk result (V.follows watcher.old watcher.new) }
-    ensures watcher_came { IfErr result (HasHeard (V.follows watcher.old watcher.new) (V.stopped watcher.old watcher.new)) }
+    ensures watcher_came { IfErr result (ReplayHasHeard (V.follows watcher.old watcher.new) (V.stopped watcher.old watcher.new)) }
 {
     let Ok((states, planned)) = plan_next(alloc, journal, last) else {
         return Err(Err(ReplayStop::NoMemory));

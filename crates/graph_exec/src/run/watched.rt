@@ -4,7 +4,7 @@ ghost use Rattle.std.specs.Prelude.{◌≡◌, ◌<◌, ◌≤◌, ◌^◌, true
 ghost use Rattle.cluster_types.specs.Journals.{moment_of};
 ghost use Rattle.cluster_types.specs.Safety.{IsAtRest, IsSafeRun};
 ghost use Rattle.cluster_types.specs.Valid.{IsValid};
-ghost use Rattle.graph_exec.specs.Replays.{AgreesWith, HasCause, HasCome, HasHeard, IsExpected, IsKept, OfJournal, ReplaysAs, WritesNamesOf, setting, sight};
+ghost use Rattle.graph_exec.specs.Replays.{AgreesWith, HasCause, ReplayHasCome, ReplayHasHeard, IsReplayExpected, IsJournalKept, OfJournal, ReplaysAs, WritesNamesOf, setting, sight};
 
 use crate::run::stop::ReplayStop;
 use crate::run::turning::make_transition;
@@ -42,7 +42,7 @@ pub fn replay_watched<S: Outcomes, V: Watcher>(
         (sight (S.rest outcomes.old) (S.over outcomes.old) (V.told watcher.old))
         (sight (S.rest outcomes.new) (S.over outcomes.new) (V.told watcher.new)) most result }
     ensures safe { IsSafeRun cluster.now journal.promotions (S.whole outcomes.old) journal.events (S.rest outcomes.old) }
-    ensures kept { OfJournal (IsKept journal.promotions) result }
+    ensures kept { OfJournal (IsJournalKept journal.promotions) result }
     ensures cause { HasCause (S.faults outcomes.old) (S.faults outcomes.new) (V.stops watcher.old) (V.stops watcher.new) result }
 
     // What became of the source.
@@ -51,14 +51,14 @@ pub fn replay_watched<S: Outcomes, V: Watcher>(
     ensures careful { S.careful outcomes.new ≡ S.careful outcomes.old }
     ensures steady { S.steady outcomes.new ≡ S.steady outcomes.old }
     ensures over { S.steady outcomes.old ≡ true → S.over outcomes.old ≡ true → S.over outcomes.new ≡ true }
-    ensures source_follows { HasCome (S.follows outcomes.old outcomes.new) (S.said outcomes.old outcomes.new) result }
+    ensures source_follows { ReplayHasCome (S.follows outcomes.old outcomes.new) (S.said outcomes.old outcomes.new) result }
     ensures agrees { S.agrees outcomes.old cluster.now journal.events 0 → OfJournal (AgreesWith (S.agrees outcomes.new) cluster.now) result }
-    ensures fitting { S.careful outcomes.old ≡ true → S.agrees outcomes.old cluster.now journal.events 0 → IsExpected result }
+    ensures fitting { S.careful outcomes.old ≡ true → S.agrees outcomes.old cluster.now journal.events 0 → IsReplayExpected result }
 
     // What became of the watcher.
     ensures names { V.names watcher.new ≡ V.names watcher.old }
     ensures stops { V.stops watcher.old ≤ V.stops watcher.new }
-    ensures watcher_follows { HasHeard (V.follows watcher.old watcher.new) (V.stopped watcher.old watcher.new) result }
+    ensures watcher_follows { ReplayHasHeard (V.follows watcher.old watcher.new) (V.stopped watcher.old watcher.new) result }
 {
     valid_clusters_have_few_monitors();
     let Ok(mut known) = KnownJournal::new(alloc, cluster, journal) else {

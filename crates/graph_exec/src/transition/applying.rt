@@ -34,7 +34,7 @@ impl<'c> Course<'c> {
 
     /// Whether the node may be lost: it is there.
     fn may_leave(&self, node: NodeId) -> bool
-        ensures { result ≡ (nat_lt node (length self.now.cluster.nodes) && answering.is_joined (journals.last_sign node (journal (going self.now) self.now.since))) }
+        ensures { result ≡ (nat_lt node (length self.now.cluster.nodes) && answering.is_joined_sign (journals.last_sign node (journal (going self.now) self.now.since))) }
     {
         if !self.is_node(node) {
             return false;

@@ -3,7 +3,7 @@
 ghost use Rattle.std.specs.Prelude.{◌≡◌, ◌<◌, ◌≤◌, ◌+◌, ◌++◌, [], true, false, IfOk, IfErr, IfSome, IfNone, find};
 ghost use Rattle.cluster_types.specs.Steps.{aborts, flying, has_begun, has_room};
 ghost use Rattle.graph_exec.specs.Flights.{pairs};
-ghost use Rattle.graph_exec.specs.Running.{BeginsNow, IsSettled, going};
+ghost use Rattle.graph_exec.specs.Running.{BeginsNow, IsRunSettled, going};
 
 use crate::transition::flight::InFlight;
 use crate::transition::known_journal::KnownJournal;
@@ -22,13 +22,13 @@ pub(crate) struct Course<'c> {
 }
 
 impl<'c> Model for Course<'c> {
-    ghost use Rattle.graph_exec.specs.Running.{Running, Follows, running};
+    ghost use Rattle.graph_exec.specs.Running.{Running, FlightFollows, running};
 
     ghost Value = { Running };
 
     ghost view = { λ e. running e.log e.flight };
 
-    ghost invariant = { λ e. Follows e.log e.flight };
+    ghost invariant = { λ e. FlightFollows e.log e.flight };
 }
 
 /// Out of memory. What was handed in is handed back as it was.
@@ -104,7 +104,7 @@ impl<'c> Course<'c> {
     /// changes.
     pub fn begin_next(&mut self) -> Option<u32>
         ensures begins { IfSome result (λ k. BeginsNow self.old self.new k) }
-        ensures settled { IfNone result (IsSettled self.old self.new) }
+        ensures settled { IfNone result (IsRunSettled self.old self.new) }
     {
         if self.log.abort().is_some() {
             return None;

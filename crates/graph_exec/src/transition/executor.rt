@@ -7,7 +7,7 @@ ghost use Rattle.cluster_types.specs.Valid.{KeepsLimits};
 ghost use Rattle.state_unpack.specs.CellsKept.{has_few_monitors};
 ghost use Rattle.graph_exec.specs.Flights.{pairs};
 ghost use Rattle.graph_exec.specs.Promises.{KeepsPromises};
-ghost use Rattle.graph_exec.specs.Running.{BeginsNow, EndedSilently, IsRefused, IsSettled, IsUnderWay, Took, going};
+ghost use Rattle.graph_exec.specs.Running.{BeginsNow, EndedSilently, IsAnswerRefused, IsRunSettled, IsUnderWay, Took, going};
 ghost use Rattle.graph_exec.specs.Transitions.{EndsAs, HasGoneToEnd};
 
 use crate::transition::course::{Course, NotBegun, Parts};
@@ -114,7 +114,7 @@ impl<'c> Executor<'c> {
     /// changes.
     pub fn begin_next(&mut self) -> Option<u32>
         ensures begins { IfSome result (λ k. BeginsNow self.old self.new k) }
-        ensures settled { IfNone result (IsSettled self.old self.new) }
+        ensures settled { IfNone result (IsRunSettled self.old self.new) }
         ensures under_way { IsUnderWay self.new }
     {
         self.course.begin_next()
@@ -125,7 +125,7 @@ impl<'c> Executor<'c> {
     pub fn take(&mut self, answer: Answer) -> Result<(), Unexpected>
         requires { IsWaiting (going self.old) self.old.since }
         ensures ok { OnOk result (Took self.old self.new answer) }
-        ensures err { OnErr result (IsRefused self.old self.new answer) }
+        ensures err { OnErr result (IsAnswerRefused self.old self.new answer) }
         ensures answer { IfErr result (λ refused. refused.answer ≡ answer) }
         ensures under_way { IsUnderWay self.new }
     {

@@ -3,7 +3,7 @@
 ghost use Rattle.std.specs.Prelude.{◌≡◌, ◌≢◌, ◌↔◌, ◌<◌, ◌≤◌, ◌^◌, true, false, Some, length, Contains};
 ghost use Rattle.cluster_io.specs.Memory.{next_call};
 ghost use Rattle.cluster_io.specs.Streams.{next_fault};
-ghost use Rattle.graph_exec.specs.Saying.{Gives};
+ghost use Rattle.graph_exec.specs.Saying.{GivesNext};
 
 use crate::transition::flight::InFlight;
 use crate::transition::outcomes::{Next, Outcomes};
@@ -78,7 +78,7 @@ impl Outcomes for Failing {
     fn begun(&mut self, _number: u32, _action: Action) {}
 
     fn next(&mut self, flight: &InFlight) -> Next
-        ensures gives { Gives true (Some self.old.left) (Some self.new.left) result }
+        ensures gives { GivesNext true (Some self.old.left) (Some self.new.left) result }
         ensures count { self.old.faults ≤ self.new.faults }
         ensures fails { (result ≡ Next.Failed) ↔ Contains self.old.fails self.new.calls }
         ensures counted { result ≡ Next.Failed → self.new.faults ≡ next_fault self.old.faults }

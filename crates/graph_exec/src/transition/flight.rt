@@ -21,13 +21,13 @@ pub struct InFlight {
 }
 
 impl Model for InFlight {
-    ghost use Rattle.graph_exec.specs.Flights.{FlightOf, IsFlight};
+    ghost use Rattle.graph_exec.specs.Flights.{FlightOf, IsFlightFlags};
 
     ghost Value = { FlightOf };
 
     ghost view = { λ f. record { progress = f.waiting; flying = f.flying } };
 
-    ghost invariant = { λ f. IsFlight (record { progress = f.waiting; flying = f.flying }) };
+    ghost invariant = { λ f. IsFlightFlags (record { progress = f.waiting; flying = f.flying }) };
 }
 
 /// Whether the action is of the cell, or a migration to it.

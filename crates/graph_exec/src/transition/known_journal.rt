@@ -23,13 +23,13 @@ pub struct KnownJournal<'c> {
 }
 
 impl<'c> Model for KnownJournal<'c> {
-    ghost use Rattle.graph_exec.specs.Logs.{JournalOf, IsTold, journal_of};
+    ghost use Rattle.graph_exec.specs.Logs.{JournalOf, IsLogTold, log_journal};
 
     ghost Value = { JournalOf };
 
-    ghost view = { λ j. journal_of j.cluster.now j.events.items j.promotions };
+    ghost view = { λ j. log_journal j.cluster.now j.events.items j.promotions };
 
-    ghost invariant = { λ j. IsTold j.cluster.now j.events.items j.known };
+    ghost invariant = { λ j. IsLogTold j.cluster.now j.events.items j.known };
 }
 
 impl<'c> KnownJournal<'c> {

@@ -10,7 +10,7 @@ ghost use Rattle.cluster_types.specs.Journals.{IsFlight};
 ghost use Rattle.graph_exec.specs.Flights.{pairs};
 ghost use Rattle.graph_exec.specs.declared.transition.outcomes.Next.{Next as NextOf};
 ghost use Rattle.graph_exec.specs.declared.transition.outcomes.Next.TheVariants as says;
-ghost use Rattle.graph_exec.specs.Saying.{AgreesAfter, Gives, IsFitting, IsOverBy};
+ghost use Rattle.graph_exec.specs.Saying.{AgreesAfter, GivesNext, IsFitting, IsOverBy};
 
 use crate::transition::flight::InFlight;
 use cluster_types::{Action, Answer};
@@ -71,7 +71,7 @@ pub trait Outcomes {
 
     /// What comes next, with these actions in flight.
     fn next(&mut self, flight: &InFlight) -> Next
-        ensures gives { Gives (whole self.old) (rest self.old) (rest self.new) result }
+        ensures gives { GivesNext (whole self.old) (rest self.old) (rest self.new) result }
         ensures whole { whole self.new ≡ whole self.old }
         ensures count { faults self.old ≤ faults self.new }
         ensures cause { result ≡ Next.Failed → Rose (faults self.old) (faults self.new) }

@@ -1,7 +1,7 @@
 ghost use Rattle.std.specs.Prelude.{◌≡◌, ◌<◌, ◌≤◌, ◌+◌, ◌-◌, ◌++◌, ◌∷◌, [], ℕ, true, false, IfOk, length, replicate, slice_index_or, slice_set, vec_len, vec_capacity};
 ghost use Rattle.cluster_types.specs.Graphs.{IsGraph};
 ghost use Rattle.edges.specs.Clearing.{less_one};
-ghost use Rattle.graph_exec.specs.Freed.{Clears, cleared_then, ready_then};
+ghost use Rattle.graph_exec.specs.Freed.{ClearsGates, gates_cleared_then, ready_then};
 ghost use Rattle.edges.specs.Rows.{AreRows};
 
 use crate::transition::roots::first_free;
@@ -38,7 +38,7 @@ fn none_yet(alloc: Global, actions: u32) -> Result<(Vec<bool>, Vec<bool>), Alloc
 impl Queue {
     /// Nothing has begun, and nothing is counted off.
     pub fn new(alloc: Global, graph: &Graph) -> Result<Queue, AllocError>
-        ensures clears { IfOk result (λ q. Clears graph.now q.begun.items q.succeeded.items q.ready 0 [] q.left.items q.cleared.items) }
+        ensures clears { IfOk result (λ q. ClearsGates graph.now q.begun.items q.succeeded.items q.ready 0 [] q.left.items q.cleared.items) }
         ensures begun { IfOk result (λ q. q.begun.items ≡ replicate (length graph.now.actions) false) }
         ensures succeeded { IfOk result (λ q. q.succeeded.items ≡ replicate (length graph.now.actions) false) }
         ensures room { IfOk result (λ q. graph.now.edges.positions ≤ vec_capacity q.cleared) }
@@ -96,7 +96,7 @@ impl Queue {
         requires room { vec_len self.old.cleared < vec_capacity self.old.cleared }
         requires size { length self.old.ready ≡ actions }
         ensures left { self.new.left.items ≡ less_one self.old.left.items target }
-        ensures cleared { self.new.cleared.items ≡ cleared_then actions self.old.left.items self.old.cleared.items target }
+        ensures cleared { self.new.cleared.items ≡ gates_cleared_then actions self.old.left.items self.old.cleared.items target }
         ensures ready { self.new.ready ≡ ready_then actions self.old.left.items self.old.ready target }
         ensures begun { self.new.begun ≡ self.old.begun }
         ensures succeeded { self.new.succeeded ≡ self.old.succeeded }
@@ -120,8 +120,8 @@ impl Queue {
         requires graph { IsGraph graph.now }
         requires rows { AreRows graph.now.edges.positions graph.now.edges.list graph.now.edges.list rows.now.ends.items rows.now.targets.items }
         requires room { graph.now.edges.positions ≤ vec_capacity self.old.cleared }
-        requires clears { Clears graph.now self.old.begun.items self.old.succeeded.items self.old.ready taken [] self.old.left.items self.old.cleared.items }
-        ensures clears { Clears graph.now self.new.begun.items self.new.succeeded.items self.new.ready (taken + 1) [] self.new.left.items self.new.cleared.items }
+        requires clears { ClearsGates graph.now self.old.begun.items self.old.succeeded.items self.old.ready taken [] self.old.left.items self.old.cleared.items }
+        ensures clears { ClearsGates graph.now self.new.begun.items self.new.succeeded.items self.new.ready (taken + 1) [] self.new.left.items self.new.cleared.items }
         ensures begun { self.new.begun ≡ self.old.begun }
         ensures succeeded { self.new.succeeded ≡ self.old.succeeded }
         ensures room { vec_capacity self.new.cleared ≡ vec_capacity self.old.cleared }
@@ -138,8 +138,8 @@ impl Queue {
         requires graph { IsGraph graph.now }
         requires rows { AreRows graph.now.edges.positions graph.now.edges.list graph.now.edges.list rows.now.ends.items rows.now.targets.items }
         requires room { graph.now.edges.positions ≤ vec_capacity self.old.cleared }
-        requires clears { Clears graph.now self.old.begun.items self.old.succeeded.items self.old.ready from [] self.old.left.items self.old.cleared.items }
-        ensures clears { Clears graph.now self.new.begun.items self.new.succeeded.items self.new.ready (length self.new.cleared.items) [] self.new.left.items self.new.cleared.items }
+        requires clears { ClearsGates graph.now self.old.begun.items self.old.succeeded.items self.old.ready from [] self.old.left.items self.old.cleared.items }
+        ensures clears { ClearsGates graph.now self.new.begun.items self.new.succeeded.items self.new.ready (length self.new.cleared.items) [] self.new.left.items self.new.cleared.items }
         ensures begun { self.new.begun ≡ self.old.begun }
         ensures succeeded { self.new.succeeded ≡ self.old.succeeded }
         ensures room { vec_capacity self.new.cleared ≡ vec_capacity self.old.cleared }

@@ -1,7 +1,7 @@
 //! A source that says the answers of a list.
 
 ghost use Rattle.std.specs.Prelude.{◌≡◌, ◌≢◌, ◌+◌, ◌<◌, ◌^◌, true, false, Some, length, slice_get};
-ghost use Rattle.graph_exec.specs.Saying.{Gives, taken_by};
+ghost use Rattle.graph_exec.specs.Saying.{GivesNext, taken_by};
 
 use crate::transition::flight::InFlight;
 use crate::transition::outcomes::{Next, Outcomes};
@@ -86,7 +86,7 @@ impl Outcomes for Script {
     fn begun(&mut self, _number: u32, _action: Action) {}
 
     fn next(&mut self, _flight: &InFlight) -> Next
-        ensures gives { Gives true (Some self.old.left) (Some self.new.left) result }
+        ensures gives { GivesNext true (Some self.old.left) (Some self.new.left) result }
         ensures taken { self.new.taken ≡ self.old.taken + taken_by result }
         ensures never { result ≢ Next.Failed }
     {

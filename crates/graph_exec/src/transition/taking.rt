@@ -2,8 +2,8 @@
 
 ghost use Rattle.std.specs.Prelude.{◌≡◌, ◌++◌, true, OnOk, OnErr, IfErr};
 ghost use Rattle.cluster_types.specs.Answering.{applies_after};
-ghost use Rattle.cluster_types.specs.Steps.{IsWaiting, events_of, flying, journal, outside};
-ghost use Rattle.graph_exec.specs.Running.{EndedSilently, IsRefused, Took, going, later};
+ghost use Rattle.cluster_types.specs.Steps.{IsWaiting, answer_events, flying, journal, outside};
+ghost use Rattle.graph_exec.specs.Running.{EndedSilently, IsAnswerRefused, Took, going, later};
 
 use crate::transition::course::Course;
 use crate::transition::meaning::silent_code;
@@ -20,7 +20,7 @@ impl<'c> Course<'c> {
     pub(crate) fn enter(&mut self, answer: Answer)
         requires { applies_after self.old.cluster (journal (going self.old) self.old.since) (flying (going self.old) self.old.since)
             (outside (going self.old) self.old.since) answer ≡ true }
-        ensures { self.new ≡ later self.old (events_of (going self.old) self.old.since answer) }
+        ensures { self.new ≡ later self.old (answer_events (going self.old) self.old.since answer) }
     {
         match answer {
             Answer::End { number, code } => self.end(number, Outcome::Code(code)),
@@ -52,7 +52,7 @@ impl<'c> Course<'c> {
     pub(crate) fn take(&mut self, answer: Answer) -> Result<(), Unexpected>
         requires { IsWaiting (going self.old) self.old.since }
         ensures ok { OnOk result (Took self.old self.new answer) }
-        ensures err { OnErr result (IsRefused self.old self.new answer) }
+        ensures err { OnErr result (IsAnswerRefused self.old self.new answer) }
         ensures answer { IfErr result (λ refused. refused.answer ≡ answer) }
     {
         if !self.applies(answer) {

@@ -4,7 +4,7 @@ ghost use Rattle.std.specs.Prelude.{◌≡◌, ◌≤◌, ◌∷◌, [], ℕ, Op
 ghost use Rattle.cluster_io.specs.Streams.{Rose};
 ghost use Rattle.cluster_types.specs.declared.cluster.Cluster.{Cluster as ClusterOf};
 ghost use Rattle.cluster_types.specs.declared.run.RunLine.TheVariants as line;
-ghost use Rattle.graph_exec.specs.Telling.{ReasonsHaveNames, Tells, closing_line, plan_lines};
+ghost use Rattle.graph_exec.specs.Telling.{ReasonsHaveNames, TellsLines, closing_line, plan_lines};
 
 use cluster_types::{Action, Answer, Placed};
 
@@ -36,7 +36,7 @@ pub trait Watcher {
     /// The transition of this number in the run is planned.
     fn planned(&mut self, transition: u32, placed: &Placed) -> Heard
         requires { ReasonsHaveNames placed.now }
-        ensures tells { Tells (names self.old) (plan_lines (names self.old) transition placed.now) (told self.old) (told self.new) result }
+        ensures tells { TellsLines (names self.old) (plan_lines (names self.old) transition placed.now) (told self.old) (told self.new) result }
         ensures names { names self.new ≡ names self.old }
         ensures count { stops self.old ≤ stops self.new }
         ensures cause { result ≡ Heard.Stop → Rose (stops self.old) (stops self.new) }
@@ -45,7 +45,7 @@ pub trait Watcher {
 
     /// The action of this number in the transition has begun.
     fn begun(&mut self, number: u32, action: Action) -> Heard
-        ensures tells { Tells (names self.old) (line.Begin number action ∷ []) (told self.old) (told self.new) result }
+        ensures tells { TellsLines (names self.old) (line.Begin number action ∷ []) (told self.old) (told self.new) result }
         ensures names { names self.new ≡ names self.old }
         ensures count { stops self.old ≤ stops self.new }
         ensures cause { result ≡ Heard.Stop → Rose (stops self.old) (stops self.new) }
@@ -54,7 +54,7 @@ pub trait Watcher {
 
     /// The answer is taken. A silent end is told as the end that it stands for.
     fn taken(&mut self, answer: Answer) -> Heard
-        ensures tells { Tells (names self.old) (line.Taken answer ∷ []) (told self.old) (told self.new) result }
+        ensures tells { TellsLines (names self.old) (line.Taken answer ∷ []) (told self.old) (told self.new) result }
         ensures names { names self.new ≡ names self.old }
         ensures count { stops self.old ≤ stops self.new }
         ensures cause { result ≡ Heard.Stop → Rose (stops self.old) (stops self.new) }
@@ -63,7 +63,7 @@ pub trait Watcher {
 
     /// The transition of this number in the run has ended, complete or aborted.
     fn closed(&mut self, transition: u32, complete: bool) -> Heard
-        ensures tells { Tells (names self.old) (closing_line transition complete ∷ []) (told self.old) (told self.new) result }
+        ensures tells { TellsLines (names self.old) (closing_line transition complete ∷ []) (told self.old) (told self.new) result }
         ensures names { names self.new ≡ names self.old }
         ensures count { stops self.old ≤ stops self.new }
         ensures cause { result ≡ Heard.Stop → Rose (stops self.old) (stops self.new) }

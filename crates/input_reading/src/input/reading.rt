@@ -8,7 +8,7 @@ ghost use Rattle.cluster_types.specs.Valid.{IsValid, KeepsLimits};
 ghost use Rattle.cluster_model.specs.Resolution.{resolution_of};
 ghost use Rattle.crm_lex.specs.Reading.{reads};
 ghost use Rattle.crm_parse.specs.Statements.{statements_of};
-ghost use Rattle.input_reading.specs.FirstJournal.{status_of};
+ghost use Rattle.input_reading.specs.FirstJournal.{status_journal};
 ghost use Rattle.input_reading.specs.Results.{most_results, results_of};
 ghost use Rattle.faults.specs.Reading.{Gives, faulting};
 ghost use Rattle.input_reading.specs.declared.input.cause.InputCause.TheVariants as cause;
@@ -106,7 +106,7 @@ pub(crate) fn configuration_of(
 
 fn status_in(alloc: Global, cluster: &Cluster, lines: &[Line]) -> Result<Journal, InputFault>
     requires { KeepsLimits cluster.now }
-    ensures journal { Gives (λ journal. journal) result (faulting cause.Status (status_of cluster.now lines.now)) }
+    ensures journal { Gives (λ journal. journal) result (faulting cause.Status (status_journal cluster.now lines.now)) }
     ensures moment { IfOk result (λ journal. moment_of journal.events < 2 ^ 40) }
 {
     read_status(alloc, cluster, lines).map_err(|fault| fault.map(InputCause::Status))

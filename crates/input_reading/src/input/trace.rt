@@ -8,7 +8,7 @@ ghost use Rattle.faults.specs.Reading.{Gives, faulting};
 ghost use Rattle.input_reading.specs.declared.input.cause.InputCause.TheVariants as cause;
 ghost use Rattle.input_reading.specs.Reading.{line_behind, most_bytes, with_cluster};
 ghost use Rattle.input_reading.specs.Traces.{trace_of, with_run};
-ghost use Rattle.input_reading.specs.RunReading.{lines_of};
+ghost use Rattle.input_reading.specs.RunReading.{read_run_lines};
 ghost use Rattle.input_reading.specs.Written.{AreNamed};
 
 use crate::input::cause::InputCause;
@@ -42,7 +42,7 @@ fn line_behind(lines: &[Line]) -> u32
 
 fn run_in(alloc: Global, cluster: &Cluster, lines: &[Line]) -> Result<RunText, InputFault>
     requires { KeepsLimits cluster.now }
-    ensures run { Gives (λ run. run.lines) result (faulting cause.Run (lines_of cluster.now lines.now)) }
+    ensures run { Gives (λ run. run.lines) result (faulting cause.Run (read_run_lines cluster.now lines.now)) }
     ensures named { IfOk result (λ run. AreNamed run.lines) }
 {
     read_run(alloc, cluster, lines).map_err(|fault| fault.map(InputCause::Run))

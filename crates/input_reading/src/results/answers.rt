@@ -3,7 +3,7 @@
 ghost use Rattle.std.specs.Prelude.{◌≡◌, ◌+◌, ◌<◌, ◌^◌, IfOk};
 ghost use Rattle.cluster_types.specs.Answering.{seconds_in};
 ghost use Rattle.cluster_types.specs.Valid.{KeepsLimits};
-ghost use Rattle.input_reading.specs.Results.{answer_as, answer_of, end_line, in_time, lost_line, quorum_line, report_line, result_word, timeout_line, up_line, wait_line};
+ghost use Rattle.input_reading.specs.Results.{answer_as, answer_of, end_line, in_time, lost_line, quorum_answer, report_line, result_word, timeout_line, up_line, wait_line};
 
 use crate::{
     WordCause, Words, code_at, end_at, leaf_at, node_at, number_at, seconds_at, word_at, yes_at,
@@ -89,9 +89,9 @@ fn up_line<W: Words>(cluster: &Cluster, words: &W) -> Result<Answer, WordCause>
     Ok(Answer::Up { node })
 }
 
-#[tactic(auto, unfolding(crate::specs::Results::quorum_line))]
+#[tactic(auto, unfolding(crate::specs::Results::quorum_answer))]
 fn quorum_line<W: Words>(words: &W) -> Result<Answer, WordCause>
-    ensures value { result ≡ quorum_line (W.words words.now) }
+    ensures value { result ≡ quorum_answer (W.words words.now) }
     ensures still { IfOk result (λ answer. seconds_in answer ≡ 0) }
 {
     let yes = yes_at(1, words)?;

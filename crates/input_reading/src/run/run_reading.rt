@@ -3,7 +3,7 @@
 ghost use Rattle.std.specs.Prelude.{◌≡◌, IfOk};
 ghost use Rattle.cluster_types.specs.Valid.{KeepsLimits};
 ghost use Rattle.faults.specs.Reading.{Gives};
-ghost use Rattle.input_reading.specs.RunReading.{lines_of, text_line};
+ghost use Rattle.input_reading.specs.RunReading.{read_run_lines, text_line};
 ghost use Rattle.input_reading.specs.Said.{said_of};
 ghost use Rattle.input_reading.specs.Written.{AreNamed};
 
@@ -62,7 +62,7 @@ fn text_line(alloc: Global, cluster: &Cluster, line: &Line) -> Result<RunTextLin
 /// `NoMemory` comes when memory runs out. Rule of this project.
 pub fn read_run(alloc: Global, cluster: &Cluster, lines: &[Line]) -> Result<RunText, TraceFault>
     requires limits { KeepsLimits cluster.now }
-    ensures lines { Gives (λ text. text.lines) result (lines_of cluster.now lines.now) }
+    ensures lines { Gives (λ text. text.lines) result (read_run_lines cluster.now lines.now) }
     ensures named { IfOk result (λ text. AreNamed text.lines) }
 {
     let mut read = Vec::new(alloc);

@@ -2,7 +2,7 @@
 
 ghost use Rattle.std.specs.Prelude.{◌≡◌};
 ghost use Rattle.faults.specs.Reading.{Reads};
-ghost use Rattle.input_reading.specs.LineWords.{action_word, action_word_at, id_at, line_word, pin_at, pin_of, reason_of, target_at, target_of};
+ghost use Rattle.input_reading.specs.LineWords.{action_word, action_word_at, id_at, line_word, pin_at, pin_named, reason_of, target_at, target_of};
 
 use crate::{WordCause, Words, word_at};
 use cluster_types::{NoReason, Op, Pin, Target};
@@ -63,7 +63,7 @@ pub(crate) fn line_word(word: &[u8]) -> LineWord
 }
 
 fn pin_of(word: &[u8]) -> Option<Pin>
-    ensures { result ≡ pin_of word.now }
+    ensures { result ≡ pin_named word.now }
 {
     if is(word, b"unmanaged") {
         Some(Pin::Unmanaged)

@@ -6,7 +6,7 @@ ghost use Rattle.cluster_types.specs.declared.journal.Event.TheVariants as event
 ghost use Rattle.cluster_types.specs.Valid.{KeepsLimits};
 ghost use Rattle.faults.specs.Digits.{number_up_to};
 ghost use Rattle.input_reading.specs.FirstJournal.{is_known};
-ghost use Rattle.input_reading.specs.Status.{action_as, cleanup_line, fitting, interval_as, interval_at, may_have, node_line, node_word, now_line, op_at, op_line, op_of, outcome_at, outcome_of, promotable, promotable_at, promotion_line, quorum_line, score_at, state_at, status_word, told_as, told_of};
+ghost use Rattle.input_reading.specs.Status.{history_action, cleanup_line, fitting, interval_as, interval_at, may_have, node_line, node_word, now_line, op_at, op_line, operation_named, outcome_at, outcome_of, promotable, promotable_at, promotion_line, quorum_line, score_at, state_at, status_word, told_as, told_of};
 
 use crate::status::told::{NodeWord, Told};
 use crate::{
@@ -104,7 +104,7 @@ fn node_line<W: Words>(cluster: &Cluster, words: &W) -> Result<Told, WordCause>
 }
 
 fn op_of(word: &[u8]) -> Option<Op>
-    ensures { result ≡ op_of word.now }
+    ensures { result ≡ operation_named word.now }
 {
     if is(word, b"start") {
         Some(Op::Start)
@@ -202,7 +202,7 @@ fn outcome_at<W: Words>(place: usize, words: &W) -> Result<Outcome, WordCause>
 /// The operation as an action of the cell.
 fn action_as(cluster: &Cluster, op: Op, leaf: LeafId, node: NodeId, interval_ms: u32) -> Action
     requires { node < length cluster.now.nodes }
-    ensures value { result ≡ action_as cluster.now op leaf node interval_ms }
+    ensures value { result ≡ history_action cluster.now op leaf node interval_ms }
     ensures known { is_reported (length cluster.now.nodes) (event.Ended 0 result Outcome.TimedOut 0) ≡ true }
 {
     match op {

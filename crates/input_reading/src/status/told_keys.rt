@@ -2,7 +2,7 @@
 
 ghost use Rattle.std.specs.Prelude.{◌≡◌, false, OnOk};
 ghost use Rattle.input_reading.specs.declared.status.told.Told.{Told as ToldOf};
-ghost use Rattle.input_reading.specs.Repeats.{has, Adds};
+ghost use Rattle.input_reading.specs.Repeats.{has_told, AddsKey};
 
 use crate::status::told::Told;
 use cluster_types::{LeafId, NodeId};
@@ -23,7 +23,7 @@ pub(crate) struct ToldKeys {
 impl ToldKeys {
     /// Nothing was told.
     pub fn new(alloc: Global) -> Self
-        ensures { (line : ToldOf) → has result line ≡ false }
+        ensures { (line : ToldOf) → has_told result line ≡ false }
     {
         ToldKeys {
             moment: false,
@@ -35,7 +35,7 @@ impl ToldKeys {
 
     /// Whether the line tells again what was told and may be told once.
     pub fn has(&self, line: Told) -> bool
-        ensures { result ≡ has self.now line }
+        ensures { result ≡ has_told self.now line }
     {
         match line {
             Told::Now(_) => self.moment,
@@ -48,7 +48,7 @@ impl ToldKeys {
 
     /// Adds what a line tells.
     pub fn add(&mut self, line: &Told) -> Result<(), NoMemory>
-        ensures { OnOk result (Adds self.old self.new line.now) }
+        ensures { OnOk result (AddsKey self.old self.new line.now) }
     {
         match *line {
             Told::Now(_) => self.moment = true,

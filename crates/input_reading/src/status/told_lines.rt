@@ -20,13 +20,13 @@ pub(crate) struct ToldLines {
 impl Model for ToldLines {
     ghost use Rattle.std.specs.Prelude.{List};
     ghost use Rattle.input_reading.specs.declared.status.told.Told.{Told};
-    ghost use Rattle.input_reading.specs.Repeats.{HasKeysOf};
+    ghost use Rattle.input_reading.specs.Repeats.{HasToldKeysOf};
 
     ghost Value = { List Told };
 
     ghost view = { λ told. told.lines };
 
-    ghost invariant = { λ told. HasKeysOf told.keys told.lines };
+    ghost invariant = { λ told. HasToldKeysOf told.keys told.lines };
 }
 
 impl ToldLines {

@@ -6,7 +6,7 @@ ghost use Rattle.cluster_types.specs.declared.journal.Promotion.{Promotion as Pr
 ghost use Rattle.cluster_types.specs.Journals.{Orderly, in_flight, moment_of};
 ghost use Rattle.cluster_types.specs.Valid.{KeepsLimits};
 ghost use Rattle.faults.specs.Reading.{Gives};
-ghost use Rattle.input_reading.specs.FirstJournal.{all_differ, is_known, is_repeated, is_same_cell, journal_of, status_of, with_line, with_lines};
+ghost use Rattle.input_reading.specs.FirstJournal.{all_differ, is_known, is_repeated, is_promotion_of_same_cell, journal_of, status_journal, with_status_line, with_status_lines};
 
 use crate::status::first_journal::journal_of;
 use crate::status::status_lines::told_of;
@@ -21,7 +21,7 @@ use std::alloc::Global;
 /// What one more line tells; `Repeated` where a line before it told what may be told once.
 fn told_on(cluster: &Cluster, told: &ToldLines, line: &Line) -> Result<Told, StatusFault>
     requires { KeepsLimits cluster.now }
-    ensures read { Gives (λ one. told.now ++ one ∷ []) result (with_line cluster.now told.now line.now) }
+    ensures read { Gives (λ one. told.now ++ one ∷ []) result (with_status_line cluster.now told.now line.now) }
     ensures known { IfOk result (λ one. is_known (length cluster.now.nodes) one ≡ true) }
     ensures first { IfOk result (λ one. is_repeated told.now one ≡ false) }
 {
@@ -42,7 +42,7 @@ fn told_on(cluster: &Cluster, told: &ToldLines, line: &Line) -> Result<Told, Sta
 #[tactic(auto, using(crate::proofs::FirstJournals::one_more_known, crate::proofs::FirstJournals::one_more_differs))]
 fn with_line(cluster: &Cluster, told: ToldLines, line: &Line) -> Result<ToldLines, StatusFault>
     requires { KeepsLimits cluster.now }
-    ensures read { Gives (λ more. more) result (with_line cluster.now told line.now) }
+    ensures read { Gives (λ more. more) result (with_status_line cluster.now told line.now) }
     ensures known { IfOk result (λ more. list_all (is_known (length cluster.now.nodes)) told ≡ true
         → list_all (is_known (length cluster.now.nodes)) more ≡ true) }
     ensures once { IfOk result (λ more. all_differ told ≡ true → all_differ more ≡ true) }
@@ -55,7 +55,7 @@ fn with_line(cluster: &Cluster, told: ToldLines, line: &Line) -> Result<ToldLine
 #[tactic(auto, using(crate::proofs::LinesSoFar::one_more))]
 fn with_lines(alloc: Global, cluster: &Cluster, lines: &[Line]) -> Result<ToldLines, StatusFault>
     requires { KeepsLimits cluster.now }
-    ensures read { Gives (λ told. told) result (with_lines cluster.now [] lines.now) }
+    ensures read { Gives (λ told. told) result (with_status_lines cluster.now [] lines.now) }
     ensures known { IfOk result (λ told. list_all (is_known (length cluster.now.nodes)) told ≡ true) }
     ensures once { IfOk result (λ told. all_differ told ≡ true) }
 {
@@ -76,7 +76,7 @@ fn told_journal(alloc: Global, cluster: &Cluster, told: &[Told]) -> Result<Journ
     ensures orderly { IfOk result (λ journal. Orderly journal.events) }
     ensures idle { IfOk result (λ journal. in_flight journal.events ≡ []) }
     ensures moment { IfOk result (λ journal. moment_of journal.events < 2 ^ 40) }
-    ensures once { IfOk result (λ journal. AllPairs (λ (one other : PromotionOf). is_same_cell one other ≡ false) journal.promotions) }
+    ensures once { IfOk result (λ journal. AllPairs (λ (one other : PromotionOf). is_promotion_of_same_cell one other ≡ false) journal.promotions) }
 {
     Ok(journal_of(alloc, cluster, told)?)
 }
@@ -97,11 +97,11 @@ fn told_journal(alloc: Global, cluster: &Cluster, told: &[Told]) -> Result<Journ
 /// moment, quorum, the state of this node or the score of this cell. `NoMemory` comes when memory runs out.
 pub fn read_status(alloc: Global, cluster: &Cluster, lines: &[Line]) -> Result<Journal, StatusFault>
     requires { KeepsLimits cluster.now }
-    ensures read { Gives (λ journal. journal) result (status_of cluster.now lines.now) }
+    ensures read { Gives (λ journal. journal) result (status_journal cluster.now lines.now) }
     ensures orderly { IfOk result (λ journal. Orderly journal.events) }
     ensures idle { IfOk result (λ journal. in_flight journal.events ≡ []) }
     ensures moment { IfOk result (λ journal. moment_of journal.events < 2 ^ 40) }
-    ensures once { IfOk result (λ journal. AllPairs (λ (one other : PromotionOf). is_same_cell one other ≡ false) journal.promotions) }
+    ensures once { IfOk result (λ journal. AllPairs (λ (one other : PromotionOf). is_promotion_of_same_cell one other ≡ false) journal.promotions) }
 {
     let told = with_lines(alloc, cluster, lines)?;
     told_journal(alloc, cluster, told.as_slice())

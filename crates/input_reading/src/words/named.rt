@@ -3,13 +3,13 @@
 ghost use Rattle.std.specs.Prelude.{◌≡◌, ◌<◌, length, IfSome};
 ghost use Rattle.crm_lex.specs.Names.{is};
 ghost use Rattle.cluster_types.specs.Valid.{KeepsLimits};
-ghost use Rattle.input_reading.specs.Names.{leaf_of, node_of};
+ghost use Rattle.input_reading.specs.Names.{leaf_of_word, node_of_word};
 
 use cluster_types::{Cluster, LeafId, NodeId};
 use crm_lex::is;
 
 fn place_of_node(cluster: &Cluster, word: &[u8]) -> Option<usize>
-    ensures value { result ≡ node_of cluster.now word.now }
+    ensures value { result ≡ node_of_word cluster.now word.now }
     ensures within { IfSome result (λ place. place < length cluster.now.nodes) }
 {
     cluster
@@ -19,7 +19,7 @@ fn place_of_node(cluster: &Cluster, word: &[u8]) -> Option<usize>
 }
 
 fn place_of_leaf(cluster: &Cluster, word: &[u8]) -> Option<usize>
-    ensures value { result ≡ leaf_of cluster.now word.now }
+    ensures value { result ≡ leaf_of_word cluster.now word.now }
     ensures within { IfSome result (λ place. place < length cluster.now.leaves) }
 {
     cluster
@@ -32,7 +32,7 @@ fn place_of_leaf(cluster: &Cluster, word: &[u8]) -> Option<usize>
 /// cluster within the limits.
 pub fn node_of(cluster: &Cluster, word: &[u8]) -> Option<NodeId>
     requires { KeepsLimits cluster.now }
-    ensures value { result ≡ node_of cluster.now word.now }
+    ensures value { result ≡ node_of_word cluster.now word.now }
     ensures within { IfSome result (λ node. node < length cluster.now.nodes) }
 {
     let place = place_of_node(cluster, word)?;
@@ -43,7 +43,7 @@ pub fn node_of(cluster: &Cluster, word: &[u8]) -> Option<NodeId>
 /// cluster within the limits.
 pub fn leaf_of(cluster: &Cluster, word: &[u8]) -> Option<LeafId>
     requires { KeepsLimits cluster.now }
-    ensures value { result ≡ leaf_of cluster.now word.now }
+    ensures value { result ≡ leaf_of_word cluster.now word.now }
     ensures within { IfSome result (λ leaf. leaf < length cluster.now.leaves) }
 {
     let place = place_of_leaf(cluster, word)?;

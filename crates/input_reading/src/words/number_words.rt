@@ -2,7 +2,7 @@
 //! other word.
 
 ghost use Rattle.std.specs.Prelude.{◌≡◌, ◌<◌, ◌^◌, IfSome};
-ghost use Rattle.input_reading.specs.Numbers.{code_of, interval_of, number_of, seconds_of};
+ghost use Rattle.input_reading.specs.Numbers.{read_exit_code, read_interval, read_action_number, read_seconds};
 
 use faults::number_up_to;
 
@@ -16,7 +16,7 @@ const LAST_CODE: u64 = 255;
 
 /// Seconds, below 1,099,511,627,776.
 pub fn seconds_of(word: &[u8]) -> Option<u64>
-    ensures value { result ≡ seconds_of word.now }
+    ensures value { result ≡ read_seconds word.now }
     ensures range { IfSome result (λ seconds. seconds < 2 ^ 40) }
 {
     number_up_to(MOST_SECONDS, word)
@@ -24,7 +24,7 @@ pub fn seconds_of(word: &[u8]) -> Option<u64>
 
 /// An interval of up to 4,294,967,295 milliseconds.
 pub fn interval_of(word: &[u8]) -> Option<u32>
-    ensures { result ≡ interval_of word.now }
+    ensures { result ≡ read_interval word.now }
 {
     let interval = number_up_to(MOST_MILLISECONDS, word)?;
     Some(interval as u32)
@@ -32,7 +32,7 @@ pub fn interval_of(word: &[u8]) -> Option<u32>
 
 /// The number of an action, from 1 to 4,294,967,295.
 pub fn number_of(word: &[u8]) -> Option<u32>
-    ensures { result ≡ number_of word.now }
+    ensures { result ≡ read_action_number word.now }
 {
     let number = number_up_to(LAST_NUMBER, word)?;
     if number == 0 {
@@ -44,7 +44,7 @@ pub fn number_of(word: &[u8]) -> Option<u32>
 
 /// An exit code, from 0 to 255.
 pub fn code_of(word: &[u8]) -> Option<u8>
-    ensures { result ≡ code_of word.now }
+    ensures { result ≡ read_exit_code word.now }
 {
     let code = number_up_to(LAST_CODE, word)?;
     Some(code as u8)

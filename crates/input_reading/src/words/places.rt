@@ -4,7 +4,7 @@ ghost use Rattle.std.specs.Prelude.{◌≡◌, ◌<◌, ◌^◌, length, IfOk};
 ghost use Rattle.crm_lex.specs.Names.{is};
 ghost use Rattle.cluster_types.specs.Valid.{KeepsLimits};
 ghost use Rattle.faults.specs.Reading.{Reads};
-ghost use Rattle.input_reading.specs.Places.{code_at, end_at, leaf_at, node_at, number_at, seconds_at, word_at, yes_at, yes_or_no};
+ghost use Rattle.input_reading.specs.Places.{code_at, line_end_at, leaf_at, node_at, number_at, seconds_at, word_at, yes_at, yes_or_no};
 
 use crate::words::named::{leaf_of, node_of};
 use crate::words::number_words::{code_of, number_of, seconds_of};
@@ -24,7 +24,7 @@ pub fn word_at<W: Words>(place: usize, words: &W) -> Result<&[u8], WordCause>
 
 /// Takes a line that ends before this place. `ExtraWord` comes when it doesn't.
 pub fn end_at<W: Words>(place: usize, words: &W) -> Result<(), WordCause>
-    ensures { result ≡ end_at place (W.words words.now) }
+    ensures { result ≡ line_end_at place (W.words words.now) }
 {
     match words.word(place) {
         Some(_) => Err(WordCause::ExtraWord),

@@ -7,7 +7,7 @@ ghost use Rattle.cluster_types.specs.Tables.{targets_of};
 ghost use Rattle.cluster_types.specs.Valid.{KeepsLimits};
 ghost use Rattle.placement.specs.Tests.{counts};
 ghost use Rattle.score.specs.Row.{finite_at};
-ghost use Rattle.placement.specs.Counted.{counted};
+ghost use Rattle.placement.specs.Counted.{counted_scores};
 ghost use Rattle.score.specs.Total.{total_of};
 ghost use Rattle.placement.specs.Rows.{IsRow, IsRoomy, more_where};
 
@@ -66,7 +66,7 @@ fn preference_row(
     decision: Decision,
 ) -> Result<Row, NoMemory>
     requires { KeepsLimits cluster.now }
-    ensures { IfOk result (IsRow (length cluster.now.nodes) (counted (targets_of table.now) decision cluster.now.colocations)) }
+    ensures { IfOk result (IsRow (length cluster.now.nodes) (counted_scores (targets_of table.now) decision cluster.now.colocations)) }
 {
     let nodes = cluster.nodes.len() as u32;
     let mut row = empty_row(alloc, nodes)?;

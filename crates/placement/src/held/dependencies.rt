@@ -22,7 +22,7 @@ pub struct Dependency {
 
 /// Whether the order may hold its then back: it is mandatory, and both its words give a role.
 fn may_hold(order: &Order) -> bool
-    ensures { result ≡ spec.may_hold order.now }
+    ensures { result ≡ spec.may_hold_back order.now }
 {
     order.is_mandatory() && order.first_op.is_up() && order.then_op.is_up()
 }
@@ -82,7 +82,7 @@ impl Dependency {
 
     /// Whether the primary holds its role where it counts for the node.
     pub fn has_primary(self, table: &Table, node: NodeId) -> bool
-        ensures { result ≡ taking.has_primary table.now.nodes (targets_of table.now) self node }
+        ensures { result ≡ taking.has_its_primary table.now.nodes (targets_of table.now) self node }
     {
         if self.local {
             table.holds_role(self.primary, self.primary_role, node)

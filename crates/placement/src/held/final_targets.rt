@@ -7,7 +7,7 @@ ghost use Rattle.cluster_types.specs.Held.{AreTargets};
 ghost use Rattle.cluster_types.specs.Pins.{pin_of};
 ghost use Rattle.cluster_types.specs.Tables.{targets_of};
 ghost use Rattle.placement.specs.declared.held.dependencies.Dependency.{Dependency as DependencyOf};
-ghost use Rattle.placement.specs.Taking.{IsSettled, Taken};
+ghost use Rattle.placement.specs.Taking.{IsRuleSettled, TakenAway};
 
 use crate::held::dependencies::{Dependency, dependencies};
 use crate::held::passes::settled;
@@ -30,9 +30,9 @@ fn copy_of(alloc: Global, table: &Table) -> Result<Table, AllocError>
 fn rest_of(alloc: Global, table: Table, rules: Vec<Dependency>) -> Result<Table, AllocError>
     ensures nodes { IfOk result (λ left. left.nodes ≡ table.nodes) }
     ensures size { IfOk result (λ left. length left.targets ≡ length table.targets) }
-    ensures taken { IfOk result (λ left. Taken rules.items table.nodes (targets_of table) (targets_of left)) }
+    ensures taken { IfOk result (λ left. TakenAway rules.items table.nodes (targets_of table) (targets_of left)) }
     ensures settled { IfOk result (λ left. (rule : DependencyOf) → Contains rules.items rule
-        → IsSettled table.nodes (targets_of left) rule) }
+        → IsRuleSettled table.nodes (targets_of left) rule) }
 {
     let mut rules = rules;
     sort_by_primary(&mut rules)?;

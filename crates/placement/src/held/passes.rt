@@ -30,11 +30,11 @@ pub fn after(left: Left, rule: Dependency) -> Left
     ensures nodes { result.table.nodes ≡ left.table.nodes }
     ensures size { length result.table.targets ≡ length left.table.targets }
     ensures taken { (rules : List DependencyOf) → Contains rules rule
-        → spec.Taken rules left.table.nodes (targets_of left.table) (targets_of result.table) }
+        → spec.TakenAway rules left.table.nodes (targets_of left.table) (targets_of result.table) }
     ensures fewer { spec.roles_in result.table.targets + cond result.changed 1 0 ≤ spec.roles_in left.table.targets + cond left.changed 1 0 }
     ensures unchanged { result.changed ≡ false → left.changed ≡ false }
     ensures same { result.changed ≡ false → result.table ≡ left.table }
-    ensures settled { result.changed ≡ false → spec.IsSettled left.table.nodes (targets_of left.table) rule }
+    ensures settled { result.changed ≡ false → spec.IsRuleSettled left.table.nodes (targets_of left.table) rule }
 {
     let anywhere = has_some(&left.table, rule);
     let mut left = left;
@@ -51,11 +51,11 @@ pub fn after(left: Left, rule: Dependency) -> Left
 fn pass(table: Table, rules: &[Dependency]) -> Left
     ensures nodes { result.table.nodes ≡ table.nodes }
     ensures size { length result.table.targets ≡ length table.targets }
-    ensures taken { spec.Taken rules.now table.nodes (targets_of table) (targets_of result.table) }
+    ensures taken { spec.TakenAway rules.now table.nodes (targets_of table) (targets_of result.table) }
     ensures fewer { spec.roles_in result.table.targets + cond result.changed 1 0 ≤ spec.roles_in table.targets }
     ensures same { result.changed ≡ false → result.table ≡ table }
     ensures settled { result.changed ≡ false → (rule : DependencyOf) → Contains rules.now rule
-        → spec.IsSettled table.nodes (targets_of table) rule }
+        → spec.IsRuleSettled table.nodes (targets_of table) rule }
 {
     let mut left = Left {
         table,
@@ -72,8 +72,8 @@ fn pass(table: Table, rules: &[Dependency]) -> Left
 pub fn settled(table: Table, rules: &[Dependency]) -> Table
     ensures nodes { result.nodes ≡ table.nodes }
     ensures size { length result.targets ≡ length table.targets }
-    ensures taken { spec.Taken rules.now table.nodes (targets_of table) (targets_of result) }
-    ensures settled { (rule : DependencyOf) → Contains rules.now rule → spec.IsSettled table.nodes (targets_of result) rule }
+    ensures taken { spec.TakenAway rules.now table.nodes (targets_of table) (targets_of result) }
+    ensures settled { (rule : DependencyOf) → Contains rules.now rule → spec.IsRuleSettled table.nodes (targets_of result) rule }
 {
     let mut left = pass(table, rules);
     while left.changed {

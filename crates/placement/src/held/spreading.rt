@@ -35,7 +35,7 @@ fn follow(table: Table, rule: Dependency, lost: &mut Vec<LeafId>) -> Result<Tabl
     ensures nodes { IfOk result (λ left. left.nodes ≡ table.nodes) }
     ensures size { IfOk result (λ left. length left.targets ≡ length table.targets) }
     ensures taken { IfOk result (λ left. (rules : List DependencyOf) → Contains rules rule
-        → spec.Taken rules table.nodes (targets_of table) (targets_of left)) }
+        → spec.TakenAway rules table.nodes (targets_of table) (targets_of left)) }
     ensures fewer { IfOk result (λ left. spec.roles_in left.targets + length lost.new.items
         ≤ spec.roles_in table.targets + length lost.old.items) }
 {
@@ -63,7 +63,7 @@ fn follow_all(
     ensures size { IfOk result (λ left. length left.targets ≡ length table.targets) }
     ensures taken { IfOk result (λ left. (all : List DependencyOf)
         → ((rule : DependencyOf) → Contains rules.now rule → Contains all rule)
-        → spec.Taken all table.nodes (targets_of table) (targets_of left)) }
+        → spec.TakenAway all table.nodes (targets_of table) (targets_of left)) }
     ensures fewer { IfOk result (λ left. spec.roles_in left.targets + length lost.new.items
         ≤ spec.roles_in table.targets + length lost.old.items) }
 {
@@ -80,7 +80,7 @@ fn follow_all(
 pub fn spread(alloc: Global, table: Table, rules: &[Dependency]) -> Result<Table, AllocError>
     ensures nodes { IfOk result (λ left. left.nodes ≡ table.nodes) }
     ensures size { IfOk result (λ left. length left.targets ≡ length table.targets) }
-    ensures taken { IfOk result (λ left. spec.Taken rules.now table.nodes (targets_of table) (targets_of left)) }
+    ensures taken { IfOk result (λ left. spec.TakenAway rules.now table.nodes (targets_of table) (targets_of left)) }
 {
     let mut lost = Vec::new(alloc);
     let mut left = follow_all(table, rules, &mut lost)?;

@@ -13,7 +13,7 @@ use std::alloc::{AllocError, Global};
 
 /// The key of a decision, if it is decided.
 pub(crate) fn key_at(slots: &[Option<Key>], decision: Decision) -> Option<Key>
-    ensures { result ≡ spec.key_at slots.now decision }
+    ensures { result ≡ spec.slot_key_at slots.now decision }
 {
     match slots.get(slot_of(decision)) {
         Some(key) => *key,

@@ -99,7 +99,7 @@ fn key_of(
 ) -> Key
     requires few { length cluster.now.nodes ≤ 256 }
     requires usable { (n : ℕ) → has usable.now n ≡ is_usable_by cluster.now states.now n }
-    ensures { result ≡ spec.key_by cluster.now states.now scores.now decision }
+    ensures { result ≡ spec.compared_key cluster.now states.now scores.now decision }
 {
     let nodes = cluster.nodes.len() as u32;
     let active = NodeSet::of(nodes, |node| is_active_at(cluster, states, decision, node));
@@ -117,7 +117,7 @@ pub(crate) fn all_keys(
     states: &States,
     scores: &ScoreTable,
 ) -> Result<Vec<Key>, AllocError>
-    ensures { IfOk result (λ keys. keys.items ≡ map (spec.key_by set.now.cluster.now states.now scores.now) set.now.list.items) }
+    ensures { IfOk result (λ keys. keys.items ≡ map (spec.compared_key set.now.cluster.now states.now scores.now) set.now.list.items) }
 {
     let usable = usable_nodes(set.cluster, states);
     let mut keys = Vec::with_capacity(alloc, set.list.len())?;

@@ -2,7 +2,7 @@
 
 ghost use Rattle.std.specs.Prelude.{◌≡◌, ◌≤◌, map, length, IfOk, OnOk};
 ghost use Rattle.std.specs.List.Sorted.{IsPermutation};
-ghost use Rattle.edges.specs.Loops.{EndWithin};
+ghost use Rattle.edges.specs.Loops.{EndsWithin};
 ghost use Rattle.cluster_types.specs.Valid.{IsValid};
 ghost use Rattle.placement.specs.LinkOrder as spec;
 ghost use Rattle.placement.specs.Links.{links_in};
@@ -30,8 +30,8 @@ fn ways_of(alloc: Global, links: &[Edge]) -> Result<Vec<Edge>, AllocError>
 /// For each slot, along how many links keys come to it at most. It is empty where they come back to where they were.
 fn heights_of(alloc: Global, slots: u32, links: &[Edge]) -> Result<Vec<u32>, AllocError>
     requires few { slots ≤ 2000 }
-    requires within { EndWithin slots links.now }
-    ensures { IfOk result (λ heights. spec.AreHeights slots links.now heights.items) }
+    requires within { EndsWithin slots links.now }
+    ensures { IfOk result (λ heights. spec.AreLinkHeights slots links.now heights.items) }
 {
     let ways = ways_of(alloc, links)?;
     longest_ways_if_free(alloc, slots, &ways)
@@ -40,7 +40,7 @@ fn heights_of(alloc: Global, slots: u32, links: &[Edge]) -> Result<Vec<u32>, All
 /// Sorts the links by how high the slots are to which they lend.
 fn sort_by_height(links: &mut Vec<Edge>, heights: &[u32]) -> Result<(), AllocError>
     ensures same { OnOk result (IsPermutation links.old.items links.new.items) }
-    ensures sorted { OnOk result (spec.AreSorted heights.now links.new.items) }
+    ensures sorted { OnOk result (spec.AreLinksSorted heights.now links.new.items) }
 {
     links.sort_by_key(|link| number_at(heights, link.before))?;
     Ok(())

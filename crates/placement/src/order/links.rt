@@ -17,7 +17,7 @@ use std::alloc::{AllocError, Global};
 fn link(needed: Decision, needing: Decision) -> Edge
     requires needed { leaf_of needed < 1000 }
     requires needing { leaf_of needing < 1000 }
-    ensures { result ≡ spec.link needed needing }
+    ensures { result ≡ spec.lending_link needed needing }
 {
     Edge {
         before: slot_of(needed) as u32,

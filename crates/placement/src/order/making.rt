@@ -10,7 +10,7 @@ ghost use Rattle.cluster_types.specs.Pins.{pin_of};
 ghost use Rattle.cluster_types.specs.Unpacked.{states_of};
 ghost use Rattle.cluster_types.specs.Valid.{IsValid};
 ghost use Rattle.placement.specs.Scores.{scores_of};
-ghost use Rattle.placement.specs.DecisionLists.{decisions_in, key_by};
+ghost use Rattle.placement.specs.DecisionLists.{decisions_in, compared_key};
 ghost use Rattle.placement.specs.Effective.{effective_in};
 ghost use Rattle.placement.specs.Turns.{AreInOrder};
 
@@ -33,7 +33,7 @@ fn keys_of(
 ) -> Result<Vec<Key>, AllocError>
     requires { IsValid set.now.cluster.now }
     ensures { IfOk result (λ keys. keys.items
-        ≡ map (effective_in set.now.cluster.now set.now.list.items (key_by set.now.cluster.now states.now scores.now)) set.now.list.items) }
+        ≡ map (effective_in set.now.cluster.now set.now.list.items (compared_key set.now.cluster.now states.now scores.now)) set.now.list.items) }
 {
     let keys = all_keys(alloc, set, states, scores)?;
     effective_keys(alloc, set, &keys)
@@ -48,7 +48,7 @@ fn order_of(
 ) -> Result<Vec<Decision>, AllocError>
     requires { IsValid set.now.cluster.now }
     ensures { IfOk result (λ order. AreInOrder set.now.cluster.now set.now.list.items
-        (effective_in set.now.cluster.now set.now.list.items (key_by set.now.cluster.now states.now scores.now)) order.items) }
+        (effective_in set.now.cluster.now set.now.list.items (compared_key set.now.cluster.now states.now scores.now)) order.items) }
 {
     let keys = keys_of(alloc, set, states, scores)?;
     let sorted = all_sorted(alloc, set, &keys);
@@ -66,7 +66,7 @@ fn order_by(
 ) -> Result<Vec<Decision>, AllocError>
     requires { IsValid cluster.now }
     ensures { IfOk result (λ order. AreInOrder cluster.now (decisions_in cluster.now pins.now)
-        (effective_in cluster.now (decisions_in cluster.now pins.now) (key_by cluster.now states.now scores.now)) order.items) }
+        (effective_in cluster.now (decisions_in cluster.now pins.now) (compared_key cluster.now states.now scores.now)) order.items) }
 {
     let set = DecisionSet::new(alloc, cluster, pins)?;
     order_of(alloc, &set, states, scores)

@@ -5,7 +5,7 @@ ghost use Rattle.cluster_types.specs.declared.placement.Decision.{Decision as De
 ghost use Rattle.cluster_types.specs.Decisions as decisions;
 ghost use Rattle.cluster_types.specs.Valid.{IsValid};
 ghost use Rattle.placement.specs.Links.{links_in};
-ghost use Rattle.placement.specs.Queueing.{IsQueue, is_at};
+ghost use Rattle.placement.specs.Queueing.{IsQueue, has_place};
 ghost use Rattle.placement.specs.declared.order.ranked.Ranked.{Ranked as RankedOf};
 ghost use Rattle.placement.specs.Turns as spec;
 
@@ -31,7 +31,7 @@ fn queue_of(alloc: Global, set: &DecisionSet, sorted: &[Ranked]) -> Result<Queue
     requires sorted { (key : DecisionOf → decisions.Key) × (spec.AreSorted key set.now.list.items sorted.now) }
     ensures queue { IfOk result (λ queue. IsQueue (links_in set.now.cluster.now set.now.list.items) (length set.now.cluster.now.leaves * 2) queue) }
     ensures order { IfOk result (λ queue. queue.order.items ≡ spec.slots_of sorted.now) }
-    ensures placed { IfOk result (λ queue. (x : ℕ) → Contains queue.order.items x → (p : ℕ) × (is_at queue.places.items x p ≡ true)) }
+    ensures placed { IfOk result (λ queue. (x : ℕ) → Contains queue.order.items x → (p : ℕ) × (has_place queue.places.items x p ≡ true)) }
     ensures made { IfOk result (λ queue. queue.made.items ≡ replicate (length set.now.cluster.now.leaves * 2) false) }
 {
     let links = links_of(alloc, set)?;
@@ -50,7 +50,7 @@ fn taken(
     requires sorted { (key : DecisionOf → decisions.Key) × (spec.AreSorted key set.now.list.items sorted.now) }
     requires queue { IsQueue (links_in set.now.cluster.now set.now.list.items) (length set.now.cluster.now.leaves * 2) queue.old }
     requires order { queue.old.order.items ≡ spec.slots_of sorted.now }
-    requires placed { (x : ℕ) → Contains queue.old.order.items x → (p : ℕ) × (is_at queue.old.places.items x p ≡ true) }
+    requires placed { (x : ℕ) → Contains queue.old.order.items x → (p : ℕ) × (has_place queue.old.places.items x p ≡ true) }
     requires made { queue.old.made.items ≡ replicate (length set.now.cluster.now.leaves * 2) false }
     ensures { IfOk result (λ order. (key : DecisionOf → decisions.Key) → spec.AreSorted key set.now.list.items sorted.now
         → spec.AreInOrder set.now.cluster.now set.now.list.items key order.items) }

@@ -3,7 +3,7 @@
 ghost use Rattle.std.specs.Prelude.{◌≡◌, ◌<◌, ◌≤◌, ◌+◌, ◌==◌, ◌&&◌, ◌||◌, ℕ, true, false, if◌then◌else◌, Option, Some, None, MatchOption, IfOk, List, Contains, length, count_by, replicate, slice_index_or, slice_set};
 ghost use Rattle.std.specs.List.{list_any};
 ghost use Rattle.edges.specs.declared.edge.Edge.{Edge as EdgeOf};
-ghost use Rattle.edges.specs.Loops.{EndWithin};
+ghost use Rattle.edges.specs.Loops.{EndsWithin};
 ghost use Rattle.placement.specs.Queueing as spec;
 ghost use Rattle.edges.specs.Rows.{AreRows, edges_at};
 
@@ -54,7 +54,7 @@ fn admit_if(ready: &mut NumberSet, places: &[Option<u32>], position: u32, wanted
     requires few { length ready.old < 4294967296 }
     requires places { (p : ℕ) → slice_index_or places.now position None ≡ Some p → p < length ready.old }
     ensures size { length ready.new ≡ length ready.old }
-    ensures ready { (p : ℕ) → slice_index_or ready.new p false ≡ (slice_index_or ready.old p false || (wanted && spec.is_at places.now position p)) }
+    ensures ready { (p : ℕ) → slice_index_or ready.new p false ≡ (slice_index_or ready.old p false || (wanted && spec.has_place places.now position p)) }
 {
     if !wanted {
         return;
@@ -78,7 +78,7 @@ fn admit(
     requires places { (x p : ℕ) → slice_index_or places.now x None ≡ Some p → p < length ready.old }
     ensures size { length ready.new ≡ length ready.old }
     ensures ready { (p : ℕ) → slice_index_or ready.new p false
-        ≡ (slice_index_or ready.old p false || list_any (λ x. spec.is_free made.now counts.now x && spec.is_at places.now x p) row.now) }
+        ≡ (slice_index_or ready.old p false || list_any (λ x. spec.is_free made.now counts.now x && spec.has_place places.now x p) row.now) }
 {
     for position in row {
         let free = is_free(made, counts, *position);
@@ -101,7 +101,7 @@ fn places_of(alloc: Global, positions: u32, order: &[u32]) -> Result<Vec<Option<
     requires few { length order.now < 4294967296 }
     requires within { (x : ℕ) → Contains order.now x → x < positions }
     ensures there { IfOk result (λ places. spec.ArePlaces order.now places.items) }
-    ensures all { IfOk result (λ places. (x : ℕ) → Contains order.now x → (p : ℕ) × (spec.is_at places.items x p ≡ true)) }
+    ensures all { IfOk result (λ places. (x : ℕ) → Contains order.now x → (p : ℕ) × (spec.has_place places.items x p ≡ true)) }
 {
     let mut places = vec![in alloc; None; positions as usize]?;
     for place in 0..order.len() {
@@ -112,7 +112,7 @@ fn places_of(alloc: Global, positions: u32, order: &[u32]) -> Result<Vec<Option<
 
 /// Where the edges from each position lead, and how many lead to it.
 fn held_by(alloc: Global, positions: u32, edges: &[Edge]) -> Result<(Rows, Vec<usize>), AllocError>
-    requires { EndWithin positions edges.now }
+    requires { EndsWithin positions edges.now }
     ensures rows { IfOk result (λ held. AreRows positions edges.now edges.now held.0.ends.items held.0.targets.items) }
     ensures size { IfOk result (λ held. length held.1.items ≡ positions) }
     ensures counted { IfOk result (λ held. (x : ℕ) → x < positions → slice_index_or held.1.items x 0 ≡ edges_at Side.After edges.now x) }
@@ -143,12 +143,12 @@ impl Queue {
         order: Vec<u32>,
     ) -> Result<Queue, AllocError>
         requires few { length order.items < 4294967296 }
-        requires ends { EndWithin positions edges.now }
+        requires ends { EndsWithin positions edges.now }
         requires within { (x : ℕ) → Contains order.items x → x < positions }
         ensures queue { IfOk result (λ queue. spec.IsQueue edges.now positions queue) }
         ensures order { IfOk result (λ queue. queue.order.items ≡ order.items) }
         ensures made { IfOk result (λ queue. queue.made.items ≡ replicate positions false) }
-        ensures all { IfOk result (λ queue. (x : ℕ) → Contains order.items x → (p : ℕ) × (spec.is_at queue.places.items x p ≡ true)) }
+        ensures all { IfOk result (λ queue. (x : ℕ) → Contains order.items x → (p : ℕ) × (spec.has_place queue.places.items x p ≡ true)) }
     {
         let places = places_of(alloc, positions, &order);
         let (order, places) = with(order, places)?;

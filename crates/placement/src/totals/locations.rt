@@ -102,7 +102,7 @@ pub(crate) fn given_row(
 ) -> Result<Row, NoMemory>
     requires { IsValid cluster.now }
     ensures { IfOk result (λ row. IsRow (length cluster.now.nodes)
-        (spec.given cluster.now moment (spec.is_role role) leaf cluster.now.locations cluster.now.rule_locations) row) }
+        (spec.scores_given cluster.now moment (spec.is_role role) leaf cluster.now.locations cluster.now.rule_locations) row) }
 {
     let mut row = located_row(alloc, cluster, leaf, role)?;
     for rule in cluster.rule_locations.as_slice() {

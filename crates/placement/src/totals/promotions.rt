@@ -16,7 +16,7 @@ use std::alloc::{AllocError, Global};
 
 /// Whether nothing is kept at a place that is there.
 fn is_free(said: &[Option<Score>], place: usize) -> bool
-    ensures { result ≡ spec.is_free said.now place }
+    ensures { result ≡ spec.is_vacant said.now place }
 {
     match said.get(place) {
         Some(kept) => kept.is_none(),

@@ -33,7 +33,7 @@ pub struct ScoreTable {
 }
 
 fn score_at(scores: &[Score], nodes: u32, leaf: LeafId, node: NodeId) -> Score
-    ensures { result ≡ spec.score_at scores.now nodes leaf node }
+    ensures { result ≡ spec.score_in_list scores.now nodes leaf node }
 {
     if node >= nodes {
         return Score { points: 0 };

@@ -53,7 +53,7 @@ pub(crate) fn put_in_order(
     requires few { leaves ≤ 1000 }
     requires within { spec.EndAtLeaves leaves ties.old.items }
     ensures same { OnOk result (IsPermutation ties.old.items ties.new.items) }
-    ensures ordered { OnOk result (HasNoLoop leaves (map spec.edge_of ties.old.items) → spec.AreInOrder ties.new.items) }
+    ensures ordered { OnOk result (HasNoLoop leaves (map spec.edge_of ties.old.items) → spec.AreTiesInOrder ties.new.items) }
 {
     let heights = heights_of(alloc, leaves, ties)?;
     sort_by_height(ties, &heights)

@@ -7,7 +7,7 @@ ghost use Rattle.cluster_types.specs.Valid.{IsValid};
 ghost use Rattle.placement.specs.declared.totals.ties.Tie.{Tie as TieOf};
 ghost use Rattle.listed.specs.Flags.{is_marked};
 ghost use Rattle.edges.specs.Loops.{HasNoLoop};
-ghost use Rattle.placement.specs.TieOrder.{AreInOrder, edge_of};
+ghost use Rattle.placement.specs.TieOrder.{AreTiesInOrder, edge_of};
 ghost use Rattle.placement.specs.Ties as spec;
 
 use crate::totals::tie_order::put_in_order;
@@ -55,7 +55,7 @@ fn listed_ties(alloc: Global, cluster: &Cluster) -> Result<Vec<Tie>, AllocError>
 pub(crate) fn ties_of(alloc: Global, cluster: &Cluster) -> Result<Vec<Tie>, AllocError>
     requires { IsValid cluster.now }
     ensures ties { IfOk result (λ ties. spec.AreTies cluster.now ties.items) }
-    ensures ordered { IfOk result (λ ties. HasNoLoop (length cluster.now.leaves) (map edge_of (spec.ties_of cluster.now)) → AreInOrder ties.items) }
+    ensures ordered { IfOk result (λ ties. HasNoLoop (length cluster.now.leaves) (map edge_of (spec.ties_of cluster.now)) → AreTiesInOrder ties.items) }
 {
     let mut ties = listed_ties(alloc, cluster)?;
     let ordering = put_in_order(alloc, cluster.leaves.len() as u32, &mut ties);
@@ -80,7 +80,7 @@ fn lacks_mark(marks: &[bool], leaf: LeafId) -> bool
 
 /// Gives the leaf a mark, if it is wanted and the leaf is there.
 fn mark_if(marks: &mut Vec<bool>, leaf: LeafId, wanted: bool)
-    ensures { marks.new.items ≡ spec.mark_if marks.old.items leaf wanted }
+    ensures { marks.new.items ≡ spec.with_mark_if marks.old.items leaf wanted }
 {
     let at = leaf as usize;
     if wanted && at < marks.len() {
@@ -98,7 +98,7 @@ fn is_missed(tie: Tie, leaf: LeafId, marks: &[bool]) -> bool
 /// Marks the dependent if it was missed, and says whether it was.
 fn follow(tie: Tie, leaf: LeafId, marks: &mut Vec<bool>) -> bool
     ensures missed { result ≡ spec.is_missed leaf marks.old.items tie }
-    ensures marks { marks.new.items ≡ spec.mark_if marks.old.items tie.dependent (spec.is_missed leaf marks.old.items tie) }
+    ensures marks { marks.new.items ≡ spec.with_mark_if marks.old.items tie.dependent (spec.is_missed leaf marks.old.items tie) }
 {
     let missed = is_missed(tie, leaf, marks);
     mark_if(marks, tie.dependent, missed);

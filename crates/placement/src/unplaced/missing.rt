@@ -26,7 +26,7 @@ use std::alloc::Global;
 
 /// The earliest node on which the leaf has a target.
 fn first_node(table: &Table, leaf: LeafId) -> Option<NodeId>
-    ensures { result ≡ spec.first_node table.now.nodes (targets_of table.now) leaf }
+    ensures { result ≡ spec.first_target_node table.now.nodes (targets_of table.now) leaf }
 {
     (0..table.nodes).find(|node| table.holds_role(leaf, Role::Started, *node))
 }

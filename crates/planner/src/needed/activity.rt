@@ -16,7 +16,7 @@ use std::alloc::{AllocError, Global};
 
 /// In how many cells the leaf is active.
 fn active_count(needs: &[CellNeed], nodes: u32, leaf: LeafId) -> u32
-    ensures { result ≡ by_needs.active_count nodes needs.now leaf }
+    ensures { result ≡ by_needs.needed_active_count nodes needs.now leaf }
 {
     let mut count = 0;
     for node in 0..nodes {

@@ -115,7 +115,7 @@ fn clear_by_colocations(flags: &mut Vec<bool>, touched: &[bool], cluster: &Clust
 /// Which leaves no rule keeps from migrating, given which leaves get a step anywhere.
 pub fn free(alloc: Global, cluster: &Cluster, touched: &[bool]) -> Result<Vec<bool>, AllocError>
     ensures { IfOk result (λ flags. (r : ℕ) → r < length cluster.now.leaves
-        → is_marked flags.items r ≡ actions.is_free cluster.now (is_marked touched.now) r) }
+        → is_marked flags.items r ≡ actions.is_undisturbed cluster.now (is_marked touched.now) r) }
 {
     let mut flags = vec![in alloc; true; cluster.leaves.len()]?;
     clear_by_orders(&mut flags, touched, cluster);

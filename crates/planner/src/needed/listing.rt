@@ -113,7 +113,7 @@ fn push_monitor(
     node: NodeId,
 ) -> Result<(), AllocError>
     ensures { OnOk result (list.new.items
-        ≡ list.old.items ++ (if is_wanted then actions.monitor_action leaf node monitor ∷ [] else [])) }
+        ≡ list.old.items ++ (if is_wanted then actions.leaf_monitor leaf node monitor ∷ [] else [])) }
 {
     if is_wanted {
         list.push(Action::Cell {
@@ -138,7 +138,7 @@ fn push_monitors(
     node: NodeId,
 ) -> Result<(), AllocError>
     ensures { OnOk result (list.new.items
-        ≡ list.old.items ++ map (actions.monitor_action leaf node) (actions.wanted target has_steps running monitors.now)) }
+        ≡ list.old.items ++ map (actions.leaf_monitor leaf node) (actions.wanted target has_steps running monitors.now)) }
 {
     let mut left = running;
     for monitor in monitors {
@@ -158,7 +158,7 @@ fn push_watches(
     node: NodeId,
 ) -> Result<(), AllocError>
     ensures { OnOk result (list.new.items ≡ list.old.items
-        ++ map (actions.monitor_action leaf node) (actions.monitors_in cluster.now (needs_of work.now) (marks_of work.now) leaf node)) }
+        ++ map (actions.leaf_monitor leaf node) (actions.monitors_in cluster.now (needs_of work.now) (marks_of work.now) leaf node)) }
 {
     let need = work.need(leaf, node);
     if need.pinned {

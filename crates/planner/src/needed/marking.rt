@@ -44,7 +44,7 @@ fn is_target_of(target: Target, word: Op) -> bool
 
 /// Whether the first of the order is disturbed on the node, by the steps that it needs itself or by those that it gets as a marked cell.
 fn is_disturbed(needs: &[CellNeed], marks: &CellMarks, order: &Order, node: NodeId) -> bool
-    ensures { result ≡ by_needs.is_disturbed marks.now.nodes needs.now (marks_in marks.now.nodes marks.now.cells.items) order.now node }
+    ensures { result ≡ by_needs.is_disturbed_by_needs marks.now.nodes needs.now (marks_in marks.now.nodes marks.now.cells.items) order.now node }
 {
     let need = need_of(needs, marks.nodes, order.first, node);
     need.is_disturbed(order.first_op, false)
@@ -59,7 +59,7 @@ fn disturbed(
     marks: &CellMarks,
     order: &Order,
 ) -> Result<Vec<bool>, AllocError>
-    ensures { IfOk result (λ flags. flags.items ≡ map (by_needs.is_disturbed marks.now.nodes needs.now
+    ensures { IfOk result (λ flags. flags.items ≡ map (by_needs.is_disturbed_by_needs marks.now.nodes needs.now
         (marks_in marks.now.nodes marks.now.cells.items) order.now) (range_with_len 0 marks.now.nodes)) }
 {
     let mut flags = Vec::new(alloc);

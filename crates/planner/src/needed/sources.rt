@@ -46,7 +46,7 @@ fn may_migrate(cluster: &Cluster, leaf: LeafId, free: bool) -> bool
 /// The node from which the leaf migrates, wherever it is to be started, and None where it doesn't migrate.
 pub fn source_of(cluster: &Cluster, work: &CellWork, leaf: LeafId, free: bool) -> Option<NodeId>
     requires { KeepsLimits cluster.now }
-    ensures { result ≡ actions.source_of cluster.now (needs_of work.now) (marks_of work.now) free leaf }
+    ensures { result ≡ actions.migration_source cluster.now (needs_of work.now) (marks_of work.now) free leaf }
 {
     if !may_migrate(cluster, leaf, free) {
         return None;

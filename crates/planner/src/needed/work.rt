@@ -1,7 +1,7 @@
 //! What each cell needs, with the cells that are cycled.
 
 ghost use Rattle.std.specs.Prelude.{◌≡◌};
-ghost use Rattle.planner.specs.Actions.{has_op, is_filled, steps_in};
+ghost use Rattle.planner.specs.Actions.{includes_op, is_filled, steps_in};
 ghost use Rattle.planner.specs.Works.{marks_of, needs_of};
 
 use crate::needed::marking::need_of;
@@ -41,7 +41,7 @@ impl CellWork {
 
     /// Whether it has this one.
     pub fn has_step(&self, what: Op, leaf: LeafId, node: NodeId) -> bool
-        ensures { result ≡ has_op what (steps_in (needs_of self.now) (marks_of self.now) leaf node) }
+        ensures { result ≡ includes_op what (steps_in (needs_of self.now) (marks_of self.now) leaf node) }
     {
         self.steps(leaf, node).iter().any(|step| *step == what)
     }

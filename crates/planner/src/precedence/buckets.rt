@@ -23,7 +23,7 @@ fn changed_node(key: Option<Key>) -> Option<NodeId>
 /// The node of the cell that the action at the position changes, if it changes one.
 fn node_at(actions: &[Action], place: u32) -> Option<NodeId>
     requires { place < length actions.now }
-    ensures { result ≡ spec.node_at actions.now place }
+    ensures { result ≡ spec.changed_node_at actions.now place }
 {
     changed_node(change_key(actions[place as usize]))
 }

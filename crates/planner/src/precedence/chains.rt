@@ -20,7 +20,7 @@ pub struct Changes {
 }
 
 fn is_on(node: NodeId, key: Option<Key>) -> bool
-    ensures { result ≡ spec.is_on node key }
+    ensures { result ≡ spec.is_cell_on node key }
 {
     match key {
         Some(key) => key.node == node,

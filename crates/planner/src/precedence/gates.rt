@@ -1,9 +1,9 @@
 //! The edges of joins, through a gate for each cell.
 
 ghost use Rattle.std.specs.Prelude.{◌≡◌, ◌++◌, ◌∷◌, [], ◌<◌, ◌≤◌, All, IfSome, OnOk, length};
-ghost use Rattle.planner.specs.Gates.{edge, edge_in, edge_out, edges_at, gate_of, join_edges, key_at};
+ghost use Rattle.planner.specs.Gates.{edge, edge_in, edge_out, gate_edges_at, gate_of, join_edges, key_at};
 ghost use Rattle.planner.specs.Leaves as leaves;
-ghost use Rattle.planner.specs.Rooms.{HasRoom};
+ghost use Rattle.planner.specs.Rooms.{GatesHaveRoom};
 
 use crate::precedence::keys::{Key, key_of};
 use crate::precedence::known::Known;
@@ -13,7 +13,7 @@ use listed::flag_at;
 use std::alloc::AllocError;
 
 fn leaf_of(action: Action) -> LeafId
-    ensures { result ≡ leaves.leaf_of action }
+    ensures { result ≡ leaves.action_leaf action }
 {
     match action {
         Action::Fence { .. } => 0,
@@ -94,10 +94,10 @@ fn add_at(
     place: u32,
 ) -> Result<(), AllocError>
     requires within { place < length known.now.actions.now }
-    requires room { HasRoom known.now.cluster.now known.now.actions.now join base width }
+    requires room { GatesHaveRoom known.now.cluster.now known.now.actions.now join base width }
     ensures { OnOk result (list.new.items
         ≡ list.old.items
-        ++ edges_at base width (key_at known.now.cluster.now known.now.actions.now join.from) (key_at known.now.cluster.now known.now.actions.now join.to) place) }
+        ++ gate_edges_at base width (key_at known.now.cluster.now known.now.actions.now join.from) (key_at known.now.cluster.now known.now.actions.now join.to) place) }
 {
     let from = key_at(known, join.from, place);
     add_in(list, base, width, from, place)?;
@@ -115,7 +115,7 @@ pub(crate) fn add_join(
     places: &[u32],
 ) -> Result<(), AllocError>
     requires within { All (λ place. place < length known.now.actions.now) places.now }
-    requires room { HasRoom known.now.cluster.now known.now.actions.now join base width }
+    requires room { GatesHaveRoom known.now.cluster.now known.now.actions.now join base width }
     ensures { OnOk result (list.new.items
         ≡ list.old.items
         ++ join_edges base width (key_at known.now.cluster.now known.now.actions.now join.from) (key_at known.now.cluster.now known.now.actions.now join.to)

@@ -268,7 +268,7 @@ fn by_leaf(key: Option<Key>) -> Option<Key>
 }
 
 fn together(key: Option<Key>) -> Option<Key>
-    ensures { result ≡ spec.together key }
+    ensures { result ≡ spec.same_join_cell key }
 {
     match key {
         Some(_) => at(0, 0),

@@ -4,7 +4,7 @@ ghost use Rattle.std.specs.Prelude.{◌≡◌, ◌+◌, ◌*◌, ◌++◌, ◌<�
 ghost use Rattle.std.specs.List.{flat_map, list_any};
 ghost use Rattle.cluster_types.specs.Numbers.{is_earlier};
 ghost use Rattle.planner.specs.Chains.{serialized_at};
-ghost use Rattle.planner.specs.Groups.{Adds};
+ghost use Rattle.planner.specs.Groups.{AddsGroup};
 ghost use Rattle.planner.specs.Serials.{most_serial, serial_room};
 ghost use Rattle.planner.specs.declared.precedence.sides.Join.{Join as JoinOf};
 ghost use Rattle.planner.specs.Joins.{colocation_joins, order_joins};
@@ -64,7 +64,7 @@ pub(crate) fn add_serials(
 ) -> Result<(), AllocError>
     requires enough { length known.now.actions.now ≤ building.old.base }
     requires room { building.old.base + sum_by (serial_room known.now.actions.now) known.now.cluster.now.orders < 4294967296 }
-    ensures adds { OnOk result (Adds (length known.now.actions.now) building.old.list.items building.new.list.items building.old.base building.new.base
+    ensures adds { OnOk result (AddsGroup (length known.now.actions.now) building.old.list.items building.new.list.items building.old.base building.new.base
         (sum_by (most_serial known.now.actions.now) known.now.cluster.now.orders)
         (λ x y. list_any (serialized_at known.now.actions.now (is_earlier known.now.cluster.now known.now.actions.now) x y) known.now.cluster.now.orders ≡ true)) }
     ensures room { OnOk result (building.new.base ≤ building.old.base + sum_by (serial_room known.now.actions.now) known.now.cluster.now.orders) }

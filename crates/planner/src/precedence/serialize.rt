@@ -2,7 +2,7 @@
 
 ghost use Rattle.std.specs.Prelude.{◌≡◌, ◌<◌, ◌≤◌, ◌+◌, ◌*◌, [], true, All, OnOk, length, slice_get, unwrap_or};
 ghost use Rattle.planner.specs.Chains.{IsChained, IsChainedSomewhere};
-ghost use Rattle.planner.specs.Groups.{Adds};
+ghost use Rattle.planner.specs.Groups.{AddsGroup};
 
 use crate::precedence::buckets::node_buckets;
 use crate::precedence::chains::{Changes, add_chain};
@@ -23,7 +23,7 @@ pub(crate) fn add_both(
     requires within { All (λ place. place < length actions.now) places.now }
     requires enough { length actions.now ≤ building.old.base }
     requires room { building.old.base + 2 * (length places.now + 1) < 4294967296 }
-    ensures adds { OnOk result (Adds (length actions.now) building.old.list.items building.new.list.items building.old.base building.new.base (3 * length places.now)
+    ensures adds { OnOk result (AddsGroup (length actions.now) building.old.list.items building.new.list.items building.old.base building.new.base (3 * length places.now)
         (IsChained actions.now order.now places.now node)) }
     ensures room { OnOk result (building.new.base ≤ building.old.base + 2 * (length places.now + 1)) }
 {
@@ -64,7 +64,7 @@ fn add_by_node(
     requires within { All (λ place. place < length known.now.actions.now) places.now }
     requires enough { length known.now.actions.now ≤ building.old.base }
     requires room { building.old.base + 2 * (length places.now + 256) < 4294967296 }
-    ensures adds { OnOk result (Adds (length known.now.actions.now) building.old.list.items building.new.list.items building.old.base building.new.base
+    ensures adds { OnOk result (AddsGroup (length known.now.actions.now) building.old.list.items building.new.list.items building.old.base building.new.base
         (3 * length places.now) (IsChainedSomewhere known.now.actions.now order.now places.now)) }
     ensures room { OnOk result (building.new.base ≤ building.old.base + 2 * (length places.now + 256)) }
 {
@@ -92,7 +92,7 @@ pub(crate) fn add_chains(
     requires within { All (λ place. place < length known.now.actions.now) places.now }
     requires enough { length known.now.actions.now ≤ building.old.base }
     requires room { building.old.base + 2 * (length places.now + 256) < 4294967296 }
-    ensures adds { OnOk result (Adds (length known.now.actions.now) building.old.list.items building.new.list.items building.old.base building.new.base
+    ensures adds { OnOk result (AddsGroup (length known.now.actions.now) building.old.list.items building.new.list.items building.old.base building.new.base
         (3 * length places.now) (IsChainedSomewhere known.now.actions.now order.now places.now)) }
     ensures room { OnOk result (building.new.base ≤ building.old.base + 2 * (length places.now + 256)) }
 {

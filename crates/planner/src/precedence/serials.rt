@@ -3,7 +3,7 @@
 ghost use Rattle.std.specs.Prelude.{◌≡◌, ◌+◌, ◌<◌, ◌≤◌, IfOk, OnOk, length, true};
 ghost use Rattle.cluster_types.specs.Numbers.{is_earlier};
 ghost use Rattle.planner.specs.Chains.{serialized_at};
-ghost use Rattle.planner.specs.Groups.{Adds};
+ghost use Rattle.planner.specs.Groups.{AddsGroup};
 ghost use Rattle.planner.specs.Index as indexed;
 ghost use Rattle.planner.specs.Serials.{AreAscending, AreSerials, most_serial, serial_room};
 
@@ -51,7 +51,7 @@ pub(crate) fn add_serial(
     requires then_leaf { order.now.then_leaf < length known.now.cluster.now.leaves }
     requires enough { length known.now.actions.now ≤ building.old.base }
     requires room { building.old.base + serial_room known.now.actions.now order.now < 4294967296 }
-    ensures adds { OnOk result (Adds (length known.now.actions.now) building.old.list.items building.new.list.items building.old.base building.new.base
+    ensures adds { OnOk result (AddsGroup (length known.now.actions.now) building.old.list.items building.new.list.items building.old.base building.new.base
         (most_serial known.now.actions.now order.now)
         (λ x y. serialized_at known.now.actions.now (is_earlier known.now.cluster.now known.now.actions.now) x y order.now ≡ true)) }
     ensures room { OnOk result (building.new.base ≤ building.old.base + serial_room known.now.actions.now order.now) }

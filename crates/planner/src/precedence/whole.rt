@@ -8,7 +8,7 @@ ghost use Rattle.cluster_types.specs.Valid.{IsValid};
 ghost use Rattle.planner.specs.Joins.{joins_of};
 ghost use Rattle.planner.specs.Places.{places_of};
 ghost use Rattle.planner.specs.Precede.{AreEdges};
-ghost use Rattle.planner.specs.Rooms.{Builds, IsWithin};
+ghost use Rattle.planner.specs.Rooms.{Builds, IsActionWithin};
 
 use crate::precedence::edge_building::{Building, first_edges};
 use crate::precedence::index::leaf_index;
@@ -55,7 +55,7 @@ fn all_edges(alloc: Global, known: &Known) -> Result<Edges, NoMemory>
 pub fn edges(alloc: Global, cluster: &Cluster, actions: &[Action]) -> Result<Edges, NoMemory>
     requires valid { IsValid cluster.now }
     requires few { most_edges cluster.now actions.now ≤ 2000000000 }
-    requires inside { (a : ActionOf) → Contains actions.now a → IsWithin cluster.now a }
+    requires inside { (a : ActionOf) → Contains actions.now a → IsActionWithin cluster.now a }
     requires in_order { AllPairs (λ x y. is_earlier cluster.now actions.now x y ≡ true) actions.now }
     ensures { IfOk result (AreEdges cluster.now actions.now (is_earlier cluster.now actions.now)) }
 {

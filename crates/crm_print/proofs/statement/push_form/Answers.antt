@@ -2,7 +2,7 @@ use Rattle.std.proofs.Common.{◌≡◌, ◌++◌, ◌∷◌, [], codes, ap, ◌
 use Rattle.std.specs.List.{flat_map}
 use Rattle.std.proofs.lemmas.Result.{on_ok_weaker}
 use Rattle.crm_parse.specs.declared.form.Form.TheVariants as form
-use Rattle.crm_print.specs.Items.{operation, section, with_meta, word}
+use Rattle.crm_print.specs.Items.{operation_items, section, with_meta, word}
 use Rattle.crm_print.specs.Text.{canonical_line}
 use Rattle.crm_print.proofs.FormLines.{line_before, three_pieces}
 use Rattle.crm_print.proofs.statement.push_form.Goals as goal
@@ -30,7 +30,7 @@ returns-in_ok-push_meta-in-Primitive c =
     ∙ (
     ap (λ xs. text ++ xs) (
     line_before (word (codes "primitive")) (word p.id ∷ word p.agent ∷ []) (with_meta p.description params meta)
-    (section (codes "utilization") utilization ++ (section (codes "operations") operations ++ flat_map operation ops))
+    (section (codes "utilization") utilization ++ (section (codes "operations") operations ++ flat_map operation_items ops))
     )
     ∙ ap (λ form. text ++ canonical_line form) same
     ))

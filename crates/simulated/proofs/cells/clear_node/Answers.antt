@@ -1,6 +1,6 @@
 use Rattle.std.proofs.Common.{◌+◌, refl, ◌∙◌, arith}
 use Rattle.simulated.specs.declared.real.Real.TheVariants as real
-use Rattle.simulated.specs.RealWorlds.{with_cell, without_node}
+use Rattle.simulated.specs.RealWorlds.{with_changed_cell, without_node}
 use Rattle.simulated.proofs.Holding.{all_done, holds_as, none_yet, one_more, so_far}
 use Rattle.simulated.proofs.cells.clear_node.Goals as goal
 
@@ -19,7 +19,7 @@ loop-leaf-preserved c =
       full = c.set_cell.ensures.len ∙ l.invariant.full;
       same = c.set_cell.ensures.len ∙ l.invariant.same;
       held = λ held h.
-          holds_as c.args.cluster.now c.set_cell.new.cells.items (with_cell l.leaf node (λ x. real.Off) (so_far node l.leaf held)) (so_far node (l.leaf + 1) held)
+          holds_as c.args.cluster.now c.set_cell.new.cells.items (with_changed_cell l.leaf node (λ x. real.Off) (so_far node l.leaf held)) (so_far node (l.leaf + 1) held)
           (c.set_cell.ensures.held (so_far node l.leaf held) (l.invariant.held held h)) (λ r n k m. one_more node l.leaf held r n);
     }
 

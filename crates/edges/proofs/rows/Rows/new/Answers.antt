@@ -1,7 +1,7 @@
 use Rattle.std.proofs.Common.{arith, ◌≡◌, ◌<◌, ◌+◌, List, length, slice_index_or, ◌∙◌, ℕ, take, refl}
 use Rattle.std.proofs.lemmas.List.{get_or_read}
 use Rattle.edges.specs.declared.edge.Edge.{Edge}
-use Rattle.edges.specs.Loops.{EndWithin}
+use Rattle.edges.specs.Loops.{EndsWithin}
 use Rattle.edges.specs.declared.side.Side.TheVariants.{Before}
 use Rattle.edges.specs.Rows.{AreRows, edges_at, edges_below, no_edge}
 use Rattle.edges.proofs.Counted.{end_within}
@@ -15,7 +15,7 @@ record Places (positions : ℕ) (edges : List Edge) (i : ℕ) (ends targets : Li
   pub is : at ≡ edges_below edges (slice_index_or edges i no_edge).before + edges_at Before (take i edges) (slice_index_or edges i no_edge).before
   pub within : at < length targets
 
-places : (positions : ℕ) (edges : List Edge) (i : ℕ) (ends targets : List ℕ) (at : ℕ) → EndWithin positions edges → (lt : i < length edges)
+places : (positions : ℕ) (edges : List Edge) (i : ℕ) (ends targets : List ℕ) (at : ℕ) → EndsWithin positions edges → (lt : i < length edges)
     → AreRows positions edges (take i edges) ends targets → at ≡ slice_index_or ends (slice_index_or edges i no_edge).before 0
     → Places positions edges i ends targets at
 places positions edges i ends targets at ends_within lt rows read =

@@ -2,7 +2,7 @@ use Rattle.std.proofs.Common.{true, false, ◌≡◌, ◌≤◌, ◌+◌}
 use Rattle.graph_exec.specs.Rounds.{asks_left}
 use Rattle.graph_exec.specs.Running.{Went}
 use Rattle.graph_exec.specs.Transitions.{Accords, WentAsSaid}
-use Rattle.graph_exec.specs.Watching.{IsTold}
+use Rattle.graph_exec.specs.Watching.{AreLinesTold}
 use Rattle.graph_exec.proofs.transition.over_source.run_watched.Given as goal
 
 abbrev pub invariant-loop-executor : goal.invariant-loop-executor
@@ -18,7 +18,7 @@ invariant-loop-executor g l = record {
       → WentAsSaid l.fn.executor l.executor (g.S.Outcomes.rest l.fn.outcomes) (g.S.Outcomes.rest l.outcomes);
   agrees : Accords (g.S.Outcomes.agrees l.fn.outcomes) l.fn.executor → Accords (g.S.Outcomes.agrees l.outcomes) l.executor;
   source_follows : g.S.Outcomes.follows l.fn.outcomes l.outcomes;
-  told : IsTold (g.V.Watcher.names l.fn.watcher) l.fn.executor l.executor (g.V.Watcher.told l.fn.watcher) (g.V.Watcher.told l.watcher);
+  told : AreLinesTold (g.V.Watcher.names l.fn.watcher) l.fn.executor l.executor (g.V.Watcher.told l.fn.watcher) (g.V.Watcher.told l.watcher);
   names : g.V.Watcher.names l.watcher ≡ g.V.Watcher.names l.fn.watcher;
   stops : g.V.Watcher.stops l.fn.watcher ≤ g.V.Watcher.stops l.watcher;
   watcher_follows : g.V.Watcher.follows l.fn.watcher l.watcher;

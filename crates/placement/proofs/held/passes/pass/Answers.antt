@@ -5,7 +5,7 @@ use Rattle.cluster_types.specs.declared.leaf.Role.TheVariants as role
 use Rattle.cluster_types.specs.declared.placement.Table.{Table}
 use Rattle.cluster_types.specs.Tables.{targets_of}
 use Rattle.placement.specs.declared.held.dependencies.Dependency.{Dependency}
-use Rattle.placement.specs.Taking.{IsSettled, Taken, none_yet}
+use Rattle.placement.specs.Taking.{IsRuleSettled, TakenAway, none_yet}
 use Rattle.placement.proofs.TakenSteps.{taken_on}
 use Rattle.placement.proofs.held.passes.pass.Goals as goal
 
@@ -38,12 +38,12 @@ loop-rule-preserved c =
       nodes = on.ensures.nodes ∙ inv.nodes;
       size = on.ensures.size ∙ inv.size;
       taken = taken_on rules first.nodes (targets_of first) (targets_of now) (targets_of on.result.table) inv.taken
-          (subst (λ (n : ℕ). Taken rules n (targets_of now) (targets_of on.result.table)) inv.nodes (on.ensures.taken rules (i, lt, sym is)));
+          (subst (λ (n : ℕ). TakenAway rules n (targets_of now) (targets_of on.result.table)) inv.nodes (on.ensures.taken rules (i, lt, sym is)));
       fewer = omega arith;
       same = λ e. on.ensures.same e ∙ inv.same (on.ensures.unchanged e);
       settled = λ e.
-          all_more (IsSettled first.nodes (targets_of first)) rules i rule lt is (inv.settled (on.ensures.unchanged e))
-          (subst (λ (t : Table). IsSettled t.nodes (targets_of t) rule) (inv.same (on.ensures.unchanged e)) (on.ensures.settled e));
+          all_more (IsRuleSettled first.nodes (targets_of first)) rules i rule lt is (inv.settled (on.ensures.unchanged e))
+          (subst (λ (t : Table). IsRuleSettled t.nodes (targets_of t) rule) (inv.same (on.ensures.unchanged e)) (on.ensures.settled e));
     }
 
 pub returns-clause-settled : goal.returns-clause-settled

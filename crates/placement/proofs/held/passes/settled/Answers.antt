@@ -1,7 +1,7 @@
 use Rattle.std.proofs.Common.{ℕ, sym, ◌∙◌, subst}
 use Rattle.cluster_types.specs.declared.placement.Table.{Table}
 use Rattle.cluster_types.specs.Tables.{targets_of}
-use Rattle.placement.specs.Taking.{IsSettled, Taken}
+use Rattle.placement.specs.Taking.{IsRuleSettled, TakenAway}
 use Rattle.placement.proofs.TakenSteps.{taken_on}
 use Rattle.placement.proofs.held.passes.settled.Goals as goal
 
@@ -16,8 +16,8 @@ loop-left-preserved c =
       nodes = on.ensures.nodes ∙ inv.nodes;
       size = on.ensures.size ∙ inv.size;
       taken = taken_on rules first.nodes (targets_of first) (targets_of now) (targets_of on.result.table) inv.taken
-          (subst (λ (n : ℕ). Taken rules n (targets_of now) (targets_of on.result.table)) inv.nodes on.ensures.taken);
+          (subst (λ (n : ℕ). TakenAway rules n (targets_of now) (targets_of on.result.table)) inv.nodes on.ensures.taken);
       settled = λ e rule among.
-          subst (λ (n : ℕ). IsSettled n (targets_of on.result.table) rule) inv.nodes
-          (subst (λ (t : Table). IsSettled now.nodes (targets_of t) rule) (sym (on.ensures.same e)) (on.ensures.settled e rule among));
+          subst (λ (n : ℕ). IsRuleSettled n (targets_of on.result.table) rule) inv.nodes
+          (subst (λ (t : Table). IsRuleSettled now.nodes (targets_of t) rule) (sym (on.ensures.same e)) (on.ensures.settled e rule among));
     }

@@ -3,7 +3,7 @@ use Rattle.std.proofs.lemmas.List.{get_or_default}
 use Rattle.cluster_types.specs.declared.leaf.Role.TheVariants as role
 use Rattle.cluster_types.specs.Tables.{targets_of}
 use Rattle.placement.specs.declared.held.dependencies.Dependency.{Dependency}
-use Rattle.placement.specs.Taking.{Taken, none_yet}
+use Rattle.placement.specs.Taking.{TakenAway, none_yet}
 use Rattle.placement.proofs.TakenSteps.{taken_on}
 use Rattle.placement.proofs.held.spreading.follow_all.Goals as goal
 
@@ -36,6 +36,6 @@ loop-rule-preserved c =
       size = on.size ∙ inv.size;
       taken = λ all in_all.
           taken_on all first.nodes (targets_of first) (targets_of now) (targets_of new) (inv.taken all in_all)
-          (subst (λ (n : ℕ). Taken all n (targets_of now) (targets_of new)) inv.nodes (on.taken all (in_all rule (i, lt, sym is))));
+          (subst (λ (n : ℕ). TakenAway all n (targets_of now) (targets_of new)) inv.nodes (on.taken all (in_all rule (i, lt, sym is))));
       fewer = omega arith;
     }

@@ -1,6 +1,6 @@
 use Rattle.std.proofs.Common.{ℕ, ◌∙◌, subst}
 use Rattle.cluster_types.specs.Tables.{targets_of}
-use Rattle.placement.specs.Taking.{Taken}
+use Rattle.placement.specs.Taking.{TakenAway}
 use Rattle.placement.proofs.TakenSteps.{taken_on}
 use Rattle.placement.proofs.held.spreading.spread.Goals as goal
 
@@ -16,5 +16,5 @@ loop-looked-preserved c =
       nodes = on.nodes ∙ inv.nodes;
       size = on.size ∙ inv.size;
       taken = taken_on rules first.nodes (targets_of first) (targets_of now) (targets_of new) inv.taken
-          (subst (λ (n : ℕ). Taken rules n (targets_of now) (targets_of new)) inv.nodes (on.taken rules (λ rule among. c.rules_of.ensures rule among)));
+          (subst (λ (n : ℕ). TakenAway rules n (targets_of now) (targets_of new)) inv.nodes (on.taken rules (λ rule among. c.rules_of.ensures rule among)));
     }

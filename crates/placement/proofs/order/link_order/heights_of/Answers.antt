@@ -8,7 +8,7 @@ use Rattle.placement.specs.LinkOrder.{way_of}
 use Rattle.placement.proofs.order.link_order.heights_of.Goals as goal
 
 -- ways have the ends of their links
-ways-within : (slots : ℕ) (ls : List Edge) → ways.EndWithin slots ls → ways.EndWithin slots (map way_of ls)
+ways-within : (slots : ℕ) (ls : List Edge) → ways.EndsWithin slots ls → ways.EndsWithin slots (map way_of ls)
 ways-within slots ls within way among =
     let m = of_map way_of ls way among in
     let ends = within m.source m.among in
@@ -17,7 +17,7 @@ ways-within slots ls within way among =
 pub longest_ways_if_free-requires-clause-within : goal.longest_ways_if_free-requires-clause-within
 longest_ways_if_free-requires-clause-within c =
     let made : c.in_ok-ways.ways.items ≡ map way_of c.args.links.now = search rules in
-    subst (ways.EndWithin c.args.slots) (sym (c.deref.ensures.value ∙ made)) (ways-within c.args.slots c.args.links.now c.requires.within)
+    subst (ways.EndsWithin c.args.slots) (sym (c.deref.ensures.value ∙ made)) (ways-within c.args.slots c.args.links.now c.requires.within)
 
 pub returns : goal.returns
 returns c =

@@ -1,7 +1,7 @@
 use Rattle.std.proofs.Common.{rules, arith, ◌≡◌, ◌*◌, List, length, sym, subst, ◌∙◌}
 use Rattle.std.specs.List.Sorted.{IsPermutation}
 use Rattle.edges.specs.declared.edge.Edge.{Edge}
-use Rattle.edges.specs.Loops.{EndWithin}
+use Rattle.edges.specs.Loops.{EndsWithin}
 use Rattle.placement.specs.Links.{links_in}
 use Rattle.placement.proofs.LinkedNeeds.{links-within}
 use Rattle.placement.proofs.order.link_order.links_in_order.Goals as goal
@@ -12,8 +12,8 @@ heights_of-requires-clause-within c =
     let cluster = set.cluster.now in
     let links : c.in_ok-links.links.items ≡ links_in cluster set.list.items = search rules in
     let count : length cluster.leaves * 2 ≡ 2 * c.len.result = omega arith in
-    subst (λ k. EndWithin k c.deref.result.now) count
-    (subst (λ es. EndWithin (length cluster.leaves * 2) es) (sym (c.deref.ensures.value ∙ links)) (links-within cluster c.requires set.list.items set.within))
+    subst (λ k. EndsWithin k c.deref.result.now) count
+    (subst (λ es. EndsWithin (length cluster.leaves * 2) es) (sym (c.deref.ensures.value ∙ links)) (links-within cluster c.requires set.list.items set.within))
 
 pub returns : goal.returns
 returns c =

@@ -3,12 +3,12 @@ use Rattle.std.proofs.lemmas.List.{length-map}
 use Rattle.std.proofs.lemmas.Result.{IfOk-at_ok, IfOk-weaker}
 use Rattle.lemmas.proofs.Members.{of_map}
 use Rattle.edges.specs.declared.edge.Edge.{Edge}
-use Rattle.edges.specs.Loops.{EndWithin}
+use Rattle.edges.specs.Loops.{EndsWithin}
 use Rattle.placement.specs.declared.order.queue.Queue.{Queue}
 use Rattle.placement.specs.declared.order.ranked.Ranked.{Ranked}
 use Rattle.placement.specs.Flags.{slot_of}
 use Rattle.placement.specs.Links.{links_in}
-use Rattle.placement.specs.Queueing.{IsQueue, is_at}
+use Rattle.placement.specs.Queueing.{IsQueue, has_place}
 use Rattle.placement.specs.Turns.{slots_of}
 use Rattle.placement.proofs.FlagLaws.{slot-within}
 use Rattle.placement.proofs.LinkedNeeds.{links-within}
@@ -37,8 +37,8 @@ new-requires-clause-ends c =
     let links : c.deref.result.now ≡ links_in cluster set.list.items
     = c.deref.ensures.value ∙ (ap (λ v. v.items) c.in_ok-links-2.ensures.0 ∙ c.in_ok-links.ensures) in
     let count : length cluster.leaves * 2 ≡ 2 * c.len.result = omega arith in
-    subst (λ k. EndWithin k c.deref.result.now) count
-    (subst (λ es. EndWithin (length cluster.leaves * 2) es) (sym links) (links-within cluster c.requires.valid set.list.items set.within))
+    subst (λ k. EndsWithin k c.deref.result.now) count
+    (subst (λ es. EndsWithin (length cluster.leaves * 2) es) (sym links) (links-within cluster c.requires.valid set.list.items set.within))
 
 pub new-requires-clause-within : goal.new-requires-clause-within
 new-requires-clause-within c = λ x among.
@@ -68,7 +68,7 @@ returns-clause-order c =
 
 -- each has a place in the queue
 abbrev HavePlaces : List ℕ → Queue → Type 0
-HavePlaces xs q = (x : ℕ) → Contains xs x → (p : ℕ) × (is_at q.places.items x p ≡ true)
+HavePlaces xs q = (x : ℕ) → Contains xs x → (p : ℕ) × (has_place q.places.items x p ≡ true)
 
 pub returns-clause-placed : goal.returns-clause-placed
 returns-clause-placed c = both c.new.result c.in_ok-links-2.slots.items c.new.ensures.order c.new.ensures.all

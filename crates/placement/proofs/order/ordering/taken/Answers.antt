@@ -4,7 +4,7 @@ use Rattle.cluster_types.specs.Decisions.{is_among, is_same_decision, leaf_of}
 use Rattle.placement.specs.declared.order.ranked.Ranked.{Ranked}
 use Rattle.placement.specs.Flags.{AreFlags, slot_of}
 use Rattle.placement.specs.Links.{links_in}
-use Rattle.placement.specs.Queueing.{IsFirstPlace, IsNextPlace, is_at}
+use Rattle.placement.specs.Queueing.{IsFirstPlace, IsNextPlace, has_place}
 use Rattle.placement.specs.Turns.{WereMade, none_made, one_more}
 use Rattle.placement.proofs.FlagLaws.{none-raised, raised, slot-within}
 use Rattle.placement.proofs.OrderSteps.{next-first, next-leaf, next-within, no_rank, none-ready-left, slot-at}
@@ -97,7 +97,7 @@ loop-place-preserved c =
       order = c.take.ensures.order ∙ l.invariant.order;
       placed = λ x among.
           let was = l.invariant.placed x (subst (λ (xs : List ℕ). Contains xs x) c.take.ensures.order among) in
-          (was.0, ap (λ (ps : List (Option ℕ)). is_at ps x was.0) c.take.ensures.places ∙ was.1);
+          (was.0, ap (λ (ps : List (Option ℕ)). has_place ps x was.0) c.take.ensures.places ∙ was.1);
       flags = subst (λ xs. AreFlags leaves (is_among xs) after.made.items) (sym items)
           (among-more leaves l.order.items d after.made.items
           (subst (AreFlags leaves (λ e. is_among l.order.items e || (true && is_same_decision d e))) (sym made)

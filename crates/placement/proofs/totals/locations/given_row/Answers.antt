@@ -3,7 +3,7 @@ use Rattle.std.proofs.lemmas.List.{take_all}
 use Rattle.std.proofs.lemmas.List.Sums.{count_by-le-length}
 use Rattle.cluster_types.specs.declared.rules.Location.{Location}
 use Rattle.cluster_types.specs.declared.rules.RuleLocation.{RuleLocation}
-use Rattle.placement.specs.Locations.{located, given, is_role}
+use Rattle.placement.specs.Locations.{located, scores_given, is_role}
 use Rattle.placement.specs.Rows.{IsRow}
 use Rattle.placement.proofs.Given.{given-more, few-given, taken}
 use Rattle.placement.proofs.TermRows.{row-same, row-room, row-length}
@@ -23,7 +23,7 @@ put_rule-requires-clause-room c =
     let cluster = c.args.cluster.now in
     let items = c.as_slice-rule-items.result.now in
     let size = ap length c.as_slice-rule-items.ensures in
-    row-room (length cluster.nodes) (given cluster c.args.moment (is_role c.args.role) c.args.leaf cluster.locations (take l.rule-index items)) l.row l.invariant
+    row-room (length cluster.nodes) (scores_given cluster c.args.moment (is_role c.args.role) c.args.leaf cluster.locations (take l.rule-index items)) l.row l.invariant
     (λ n low. let a = few-given cluster c.args.moment (is_role c.args.role) c.args.leaf cluster.locations (take l.rule-index items) n in
     let b = count_by-le-length (λ (x : Location). x.leaf == c.args.leaf) cluster.locations in
     let d = taken (λ (x : RuleLocation). x.leaf == c.args.leaf) items l.rule-index in
@@ -39,7 +39,7 @@ loop-rule-preserved c =
     let role = is_role c.args.role in
     row-same nodes _ _ c.put_rule.new.row
     (λ n low. given-more cluster c.args.moment role c.args.leaf cluster.locations items l.rule-index rule c.loop-rule-test.true c.rule-item.is n)
-    (c.put_rule.ensures (given cluster c.args.moment role c.args.leaf cluster.locations (take l.rule-index items)) l.invariant)
+    (c.put_rule.ensures (scores_given cluster c.args.moment role c.args.leaf cluster.locations (take l.rule-index items)) l.invariant)
 
 pub returns : goal.returns
 returns c =
@@ -47,4 +47,4 @@ returns c =
     let cluster = c.args.cluster.now in
     let items = c.as_slice-rule-items.result.now in
     let all : take l.rule-index items ≡ items = take_all l.rule-index items (omega (arith, c.loop-rule-test.false)) in
-    subst (λ xs. IsRow (length cluster.nodes) (given cluster c.args.moment (is_role c.args.role) c.args.leaf cluster.locations xs) l.row) (all ∙ c.as_slice-rule-items.ensures) l.invariant
+    subst (λ xs. IsRow (length cluster.nodes) (scores_given cluster c.args.moment (is_role c.args.role) c.args.leaf cluster.locations xs) l.row) (all ∙ c.as_slice-rule-items.ensures) l.invariant

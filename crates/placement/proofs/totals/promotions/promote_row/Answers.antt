@@ -1,6 +1,6 @@
 use Rattle.std.proofs.Common.{rules, ◌+◌, length, sym, subst, ◌∙◌, arith}
 use Rattle.cluster_types.specs.Terms.{is_promoted, promotion_score}
-use Rattle.placement.specs.Locations.{given}
+use Rattle.placement.specs.Locations.{scores_given}
 use Rattle.placement.specs.Rows.{IsRow, IsRoomy}
 use Rattle.placement.proofs.Given.{few-given}
 use Rattle.placement.proofs.OwnTerms.{small-own}
@@ -12,7 +12,7 @@ pub loop-node-init : goal.loop-node-init
 loop-node-init c =
     let cluster = c.args.cluster.now in
     let nodes = length cluster.nodes in
-    let terms = given cluster c.args.moment is_promoted c.args.leaf cluster.locations cluster.rule_locations in
+    let terms = scores_given cluster c.args.moment is_promoted c.args.leaf cluster.locations cluster.rule_locations in
     let first : IsRow nodes terms c.in_ok-row.row = search rules in
     record {
       terms = λ promotions are. row-same nodes terms (wished terms (promotion_score promotions c.args.leaf) 0) c.in_ok-row.row (λ n low. wish-none terms (promotion_score promotions c.args.leaf) n) first;
@@ -30,7 +30,7 @@ loop-node-preserved c =
     let l = c.loop-node in
     let cluster = c.args.cluster.now in
     let nodes = length cluster.nodes in
-    let terms = given cluster c.args.moment is_promoted c.args.leaf cluster.locations cluster.rule_locations in
+    let terms = scores_given cluster c.args.moment is_promoted c.args.leaf cluster.locations cluster.rule_locations in
     record {
       terms = λ promotions are. row-same nodes _ (wished terms (promotion_score promotions c.args.leaf) (l.node + 1)) c.put_if.new.row
           (λ n low. wish-more terms (promotion_score promotions c.args.leaf) l.node c.wish-term.result (c.wish-term.ensures promotions are) n)
@@ -44,7 +44,7 @@ returns c = λ promotions are.
     let l = c.loop-node in
     let cluster = c.args.cluster.now in
     let nodes = length cluster.nodes in
-    let terms = given cluster c.args.moment is_promoted c.args.leaf cluster.locations cluster.rule_locations in
+    let terms = scores_given cluster c.args.moment is_promoted c.args.leaf cluster.locations cluster.rule_locations in
     row-same nodes (wished terms (promotion_score promotions c.args.leaf) l.node) _ l.row
     (λ n low. wish-all terms (promotion_score promotions c.args.leaf) nodes l.node n (omega (arith, c.loop-node-test.false, c.len-node-end.ensures)) low)
     (l.invariant.terms promotions are)

@@ -2,7 +2,7 @@ use Rattle.std.proofs.Common.{rules, ◌≡◌, ◌<◌, ℕ, List, map, slice_i
 use Rattle.std.proofs.lemmas.Result.{IfOk-weaker}
 use Rattle.edges.specs.declared.edge.Edge.{Edge}
 use Rattle.edges.specs.Longest.{longest}
-use Rattle.edges.specs.Loops.{EndWithin, HasNoLoop}
+use Rattle.edges.specs.Loops.{EndsWithin, HasNoLoop}
 use Rattle.placement.specs.TieOrder.{edge_of}
 use Rattle.placement.proofs.TieSides.{edges-within}
 use Rattle.placement.proofs.totals.tie_order.heights_of.Goals as goal
@@ -10,7 +10,7 @@ use Rattle.placement.proofs.totals.tie_order.heights_of.Goals as goal
 pub longest_ways_if_free-requires-clause-within : goal.longest_ways_if_free-requires-clause-within
 longest_ways_if_free-requires-clause-within c =
     let made : c.in_ok-edges.edges.items ≡ map edge_of c.args.ties.now = search rules in
-    subst (EndWithin c.args.leaves) (sym (c.deref.ensures.value ∙ made)) (edges-within c.args.leaves c.args.ties.now c.requires.within)
+    subst (EndsWithin c.args.leaves) (sym (c.deref.ensures.value ∙ made)) (edges-within c.args.leaves c.args.ties.now c.requires.within)
 
 pub returns : goal.returns
 returns c =

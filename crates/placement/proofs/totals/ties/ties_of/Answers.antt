@@ -5,7 +5,7 @@ use Rattle.edges.specs.Loops.{HasNoLoop}
 use Rattle.std.specs.List.Sorted.{IsPermutation}
 use Rattle.placement.specs.declared.totals.ties.Tie.{Tie}
 use Rattle.placement.specs.Ties as spec
-use Rattle.placement.specs.TieOrder.{AreInOrder, EndAtLeaves, edge_of}
+use Rattle.placement.specs.TieOrder.{AreTiesInOrder, EndAtLeaves, edge_of}
 use Rattle.placement.proofs.TieSides.{end-at-leaves, in-any-order}
 use Rattle.placement.proofs.totals.ties.ties_of.Goals as goal
 
@@ -30,7 +30,7 @@ returns-clause-ties c =
 pub returns-clause-ordered : goal.returns-clause-ordered
 returns-clause-ordered c =
     let listed : c.in_ok-ties.ties.items ≡ spec.ties_of c.args.cluster.now = search rules in
-    when_done (λ ts. HasNoLoop (length c.args.cluster.now.leaves) (map edge_of (spec.ties_of c.args.cluster.now)) → AreInOrder ts.items)
+    when_done (λ ts. HasNoLoop (length c.args.cluster.now.leaves) (map edge_of (spec.ties_of c.args.cluster.now)) → AreTiesInOrder ts.items)
     c.put_in_order-ordering.new.ties c.put_in_order-ordering.result c.done.result
     (on_ok_weaker c.put_in_order-ordering.result
     (λ ordered free. ordered (subst (λ (n : ℕ). HasNoLoop n (map edge_of c.in_ok-ties.ties.items)) (sym c.len.ensures)

@@ -7,4 +7,4 @@ use Rattle.planner.proofs.needed.marking.disturbed.Given as goal
 abbrev pub invariant-loop-node : goal.invariant-loop-node
 invariant-loop-node l =
     l.flags.items
-    ≡ map (by_needs.is_disturbed l.marks.nodes l.needs (marks_in l.marks.nodes l.marks.cells.items) l.order) (range_with_len 0 l.node)
+    ≡ map (by_needs.is_disturbed_by_needs l.marks.nodes l.needs (marks_in l.marks.nodes l.marks.cells.items) l.order) (range_with_len 0 l.node)

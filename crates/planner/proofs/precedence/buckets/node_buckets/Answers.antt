@@ -1,6 +1,6 @@
 use Rattle.std.proofs.Common.{rules, ◌≡◌, ◌<◌, IfSome, length, get_or, subst, sym}
 use Rattle.std.specs.Prelude.{vec_len}
-use Rattle.planner.specs.Chains.{node_at}
+use Rattle.planner.specs.Chains.{changed_node_at}
 use Rattle.planner.proofs.BucketsMore.{buckets_more, node_within}
 use Rattle.planner.proofs.precedence.buckets.node_buckets.Goals as goal
 
@@ -16,7 +16,7 @@ loop-place-preserved c =
     let long : length c.loop-place.buckets.items ≡ length c.args.known.now.cluster.now.nodes = search rules in
     let still : vec_len c.add_place.new.index ≡ length c.args.known.now.cluster.now.nodes = search rules in (
       still,
-      buckets_more (node_at c.args.known.now.actions.now) (length c.args.known.now.cluster.now.nodes) c.loop-place.buckets.items c.add_place.new.index.items c.args.places.now
+      buckets_more (changed_node_at c.args.known.now.actions.now) (length c.args.known.now.cluster.now.nodes) c.loop-place.buckets.items c.add_place.new.index.items c.args.places.now
           c.loop-place.place-index _ c.node_at.result c.loop-place-test.true long c.node_at.ensures
           (node_within c.args.known.now.cluster.now c.args.known.now.actions.now c.args.known.now.inside _ c.node_at.result below c.node_at.ensures)
           c.loop-place.invariant.1 c.in_ok-add_place.ensures.more,

@@ -2,7 +2,7 @@ use Rattle.std.proofs.Common.{rules, ◌≡◌, ◌*◌, true, false, length, su
 use Rattle.std.proofs.lemmas.Result.{on_ok_weaker}
 use Rattle.cluster_types.specs.Precedence.{is_serialize}
 use Rattle.planner.specs.Chains.{IsChainedSomewhere}
-use Rattle.planner.specs.Groups.{Adds}
+use Rattle.planner.specs.Groups.{AddsGroup}
 use Rattle.planner.proofs.SerialSays.{other_adds, serial_adds}
 use Rattle.planner.proofs.precedence.serials.add_serial.Goals as goal
 
@@ -17,6 +17,6 @@ returns-clause-adds c =
     on_ok_weaker c.add_chains.result
     (λ h. serial_adds c.args.known.now.cluster.now c.args.known.now.actions.now c.args.order.now kind c.in_ok-places.places.items c.in_ok-places.ensures c.args.building.now.list.items
     c.add_chains.new.building.list.items c.args.building.now.base c.add_chains.new.building.base
-    (subst (λ v. Adds (length c.args.known.now.actions.now) c.args.building.now.list.items c.add_chains.new.building.list.items c.args.building.now.base c.add_chains.new.building.base
+    (subst (λ v. AddsGroup (length c.args.known.now.actions.now) c.args.building.now.list.items c.add_chains.new.building.list.items c.args.building.now.base c.add_chains.new.building.base
     (3 * length v) (IsChainedSomewhere c.args.known.now.actions.now c.args.order.now v)) c.as_slice.ensures.value h))
     c.add_chains.ensures.adds

@@ -2,7 +2,7 @@ use Rattle.std.proofs.Common.{◌≡◌, ◌≤◌}
 use Rattle.graph_exec.specs.Rounds.{asks_left, begins_left}
 use Rattle.graph_exec.specs.Running.{Went}
 use Rattle.graph_exec.specs.Transitions.{Accords, WentAsSaid}
-use Rattle.graph_exec.specs.Watching.{IsTold}
+use Rattle.graph_exec.specs.Watching.{AreLinesTold}
 use Rattle.graph_exec.proofs.transition.executor.Executor.begin_all.Given as goal
 
 abbrev pub invariant-loop : goal.invariant-loop
@@ -18,7 +18,7 @@ invariant-loop g l = record {
   over : g.S.Outcomes.over l.outcomes ≡ g.S.Outcomes.over l.fn.outcomes;
   agrees : Accords (g.S.Outcomes.agrees l.fn.outcomes) l.fn.self → Accords (g.S.Outcomes.agrees l.outcomes) l.self;
   source_follows : g.S.Outcomes.follows l.fn.outcomes l.outcomes;
-  told : IsTold (g.V.Watcher.names l.fn.watcher) l.fn.self l.self (g.V.Watcher.told l.fn.watcher) (g.V.Watcher.told l.watcher);
+  told : AreLinesTold (g.V.Watcher.names l.fn.watcher) l.fn.self l.self (g.V.Watcher.told l.fn.watcher) (g.V.Watcher.told l.watcher);
   names : g.V.Watcher.names l.watcher ≡ g.V.Watcher.names l.fn.watcher;
   stops : g.V.Watcher.stops l.fn.watcher ≤ g.V.Watcher.stops l.watcher;
   watcher_follows : g.V.Watcher.follows l.fn.watcher l.watcher;

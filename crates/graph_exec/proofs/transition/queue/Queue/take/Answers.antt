@@ -1,6 +1,6 @@
 use Rattle.std.proofs.Common.{arith, ◌≡◌, ◌<◌, ◌+◌, ◌∷◌, length, drop, slice_index_or, ◌∙◌}
 use Rattle.std.proofs.lemmas.List.{get_or_read, drop_more}
-use Rattle.edges.specs.Rows.{targets_of}
+use Rattle.edges.specs.Rows.{edge_targets_of}
 use Rattle.edges.proofs.Members.{has_at}
 use Rattle.edges.proofs.Filled.{row_is, row_order, row_room}
 use Rattle.graph_exec.proofs.QueueSteps.{taken_next, counted_off, p_room}
@@ -41,7 +41,7 @@ loop-target-init c =
     let within = c.requires.clears.below (slice_index_or cleared c.args.taken 0) (has_at cleared c.args.taken c.requires.is_one) in
     let is = row_is c.args.graph.now.edges.positions c.args.graph.now.edges.list c.args.rows.now.ends.items c.args.rows.now.targets.items
     c.requires.rows (slice_index_or cleared c.args.taken 0) within in
-    let row : c.row-target-items.result.now ≡ targets_of c.args.graph.now.edges.list (slice_index_or cleared c.args.taken 0)
+    let row : c.row-target-items.result.now ≡ edge_targets_of c.args.graph.now.edges.list (slice_index_or cleared c.args.taken 0)
     = (rw read at c.row-target-items.ensures) ∙ is in
     let next = taken_next c.args.graph.now c.args.self.now.begun.items c.args.self.now.succeeded.items c.args.self.now.ready c.args.taken
     c.args.self.now.left.items cleared c.requires.is_one c.requires.clears c.requires.graph in

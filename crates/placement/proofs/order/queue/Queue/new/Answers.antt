@@ -3,7 +3,7 @@ use Rattle.std.specs.List.{list_any}
 use Rattle.std.proofs.lemmas.List.{length-replicate}
 use Rattle.std.proofs.lemmas.Result.{IfOk-at_ok}
 use Rattle.edges.specs.Rows.{AreRows}
-use Rattle.placement.specs.Queueing.{ArePlaces, Waits, held, is_at, is_free}
+use Rattle.placement.specs.Queueing.{ArePlaces, Waits, held, has_place, is_free}
 use Rattle.placement.proofs.HeldCounts.{counted-first, none-ready}
 use Rattle.placement.proofs.QueueSteps.{all-ready}
 use Rattle.placement.proofs.order.queue.Queue.new.Goals as goal
@@ -68,7 +68,7 @@ returns-clause-queue c =
     let rows = subst (λ v. AreRows positions edges edges v.ends.items v.targets.items) (sym rows_kept) (IfOk-at_ok _ c.in_ok-order-2.ensures.1 c.held_by-held.ensures.rows) in
     let counts_size = ap (λ v. length v.items) counts_kept ∙ IfOk-at_ok _ c.in_ok-order-2.ensures.1 c.held_by-held.ensures.size in
     let counted = IfOk-at_ok _ c.in_ok-order-2.ensures.1 c.held_by-held.ensures.counted in
-    let test : List Bool → List ℕ → List (Option ℕ) → ℕ → ℕ → Bool = λ ms cs ps k y. is_free ms cs y && is_at ps y k in
+    let test : List Bool → List ℕ → List (Option ℕ) → ℕ → ℕ → Bool = λ ms cs ps k y. is_free ms cs y && has_place ps y k in
     let ready : (k : ℕ) → slice_index_or c.admit.new.ready k false ≡ list_any (test made counts places k) order = λ k.
     c.admit.ensures.ready k
     ∙ (ap (λ (rs : List Bool). slice_index_or rs k false || list_any (test c.deref-3.result.now c.deref-4.result.now c.deref-2.result.now k) c.deref-5.result.now) empty
@@ -95,6 +95,6 @@ returns-clause-queue c =
 pub returns-clause-all : goal.returns-clause-all
 returns-clause-all c =
     let places_kept : c.in_ok-order-3.places ≡ c.in_ok-order.places = search rules in
-    subst (λ v. (x : ℕ) → Contains c.args.order.items x → (p : ℕ) × (is_at v.items x p ≡ true)) (sym places_kept)
-    (subst (λ (xs : List ℕ). (x : ℕ) → Contains xs x → (p : ℕ) × (is_at c.in_ok-order.places.items x p ≡ true)) c.deref.ensures.value
+    subst (λ v. (x : ℕ) → Contains c.args.order.items x → (p : ℕ) × (has_place v.items x p ≡ true)) (sym places_kept)
+    (subst (λ (xs : List ℕ). (x : ℕ) → Contains xs x → (p : ℕ) × (has_place c.in_ok-order.places.items x p ≡ true)) c.deref.ensures.value
     (IfOk-at_ok _ c.in_ok-order.ensures.1 c.places_of-places.ensures.all))

@@ -1,8 +1,8 @@
 use Rattle.std.proofs.Common.{arith, ◌≡◌, ◌<◌, ◌≤◌, ◌==◌, ◌+◌, ◌-◌, ◌&&◌, ◌||◌, ℕ, Bool, Option, List, ◌∷◌, None, false, true, length, count_by, slice_index_or, slice_set, Contains, sym, ap, subst, ◌∙◌}
 use Rattle.std.specs.List.{list_any}
 use Rattle.std.proofs.lemmas.List.{get_or_read, length-set}
-use Rattle.edges.specs.Rows.{row_of, targets_of}
-use Rattle.placement.specs.Queueing.{Waits, is_at, is_free}
+use Rattle.edges.specs.Rows.{row_of, edge_targets_of}
+use Rattle.placement.specs.Queueing.{Waits, has_place, is_free}
 use Rattle.placement.proofs.QueueNext.{few, in-made, in-order, in-place, in-rows, open-yet, row-is, row-low, with-room}
 use Rattle.placement.proofs.HeldCounts.{counted-next}
 use Rattle.placement.proofs.QueueSteps.{readied-next}
@@ -49,7 +49,7 @@ count_off-requires c =
     let p = c.in_ok-place.place in
     let low = in-order c.requires.0 c.requires.1 q c.requires.2 p c.in_ok-place.ensures in
     let read = get_or_read q.order.items p c.index-position.result.now low c.index-position.ensures 0 in
-    let row : c.row-row.result.now ≡ targets_of c.requires.0 (slice_index_or q.order.items p 0) =
+    let row : c.row-row.result.now ≡ edge_targets_of c.requires.0 (slice_index_or q.order.items p 0) =
     c.row-row.ensures ∙ (ap (row_of q.rows.ends.items q.rows.targets.items) read ∙ row-is c.requires.0 c.requires.1 q c.requires.2 p c.in_ok-place.ensures) in
     subst (λ (xs : List ℕ). (x : ℕ) → count_by (◌==◌ x) xs ≤ slice_index_or q.counts.items x 0) (sym row)
     (few c.requires.0 c.requires.1 q c.requires.2 p c.in_ok-place.ensures)
@@ -60,7 +60,7 @@ admit-requires-clause-made c = λ x among.
     let p = c.in_ok-place.place in
     let low = in-order c.requires.0 c.requires.1 q c.requires.2 p c.in_ok-place.ensures in
     let read = get_or_read q.order.items p c.index-position.result.now low c.index-position.ensures 0 in
-    let row : c.row-row.result.now ≡ targets_of c.requires.0 (slice_index_or q.order.items p 0) =
+    let row : c.row-row.result.now ≡ edge_targets_of c.requires.0 (slice_index_or q.order.items p 0) =
     c.row-row.ensures ∙ (ap (row_of q.rows.ends.items q.rows.targets.items) read ∙ row-is c.requires.0 c.requires.1 q c.requires.2 p c.in_ok-place.ensures) in
     let under = row-low c.requires.0 c.requires.1 q c.requires.2 p c.in_ok-place.ensures x (subst (λ (xs : List ℕ). Contains xs x) row among) in
     let size = c.requires.2.waits.made_size in
@@ -74,7 +74,7 @@ admit-requires-clause-counts c = λ x among.
     let p = c.in_ok-place.place in
     let low = in-order c.requires.0 c.requires.1 q c.requires.2 p c.in_ok-place.ensures in
     let read = get_or_read q.order.items p c.index-position.result.now low c.index-position.ensures 0 in
-    let row : c.row-row.result.now ≡ targets_of c.requires.0 (slice_index_or q.order.items p 0) =
+    let row : c.row-row.result.now ≡ edge_targets_of c.requires.0 (slice_index_or q.order.items p 0) =
     c.row-row.ensures ∙ (ap (row_of q.rows.ends.items q.rows.targets.items) read ∙ row-is c.requires.0 c.requires.1 q c.requires.2 p c.in_ok-place.ensures) in
     let under = row-low c.requires.0 c.requires.1 q c.requires.2 p c.in_ok-place.ensures x (subst (λ (xs : List ℕ). Contains xs x) row among) in
     let size = c.requires.2.waits.counts_size in
@@ -97,9 +97,9 @@ returns-clause-queue c = λ edges positions is.
     let low = in-order edges positions q is p first in
     let read = get_or_read q.order.items p c.index-position.result.now low c.index-position.ensures 0 in
     let x = slice_index_or q.order.items p 0 in
-    let row : c.row-row.result.now ≡ targets_of edges x =
+    let row : c.row-row.result.now ≡ edge_targets_of edges x =
     c.row-row.ensures ∙ (ap (row_of q.rows.ends.items q.rows.targets.items) read ∙ row-is edges positions q is p first) in
-    let less : (y : ℕ) → slice_index_or c.count_off.new.counts.items y 0 + count_by (◌==◌ y) (targets_of edges x) ≡ slice_index_or q.counts.items y 0 =
+    let less : (y : ℕ) → slice_index_or c.count_off.new.counts.items y 0 + count_by (◌==◌ y) (edge_targets_of edges x) ≡ slice_index_or q.counts.items y 0 =
     subst (λ (xs : List ℕ). (y : ℕ) → slice_index_or c.count_off.new.counts.items y 0 + count_by (◌==◌ y) xs ≡ slice_index_or q.counts.items y 0) row c.count_off.ensures.less in
     let back : p + 1 - 1 ≡ p = omega arith in
     let removed : c.remove.new.self ≡ slice_set q.ready p false = c.remove.ensures ∙ ap (λ k. slice_set q.ready k false) back in
@@ -107,9 +107,9 @@ returns-clause-queue c = λ edges positions is.
     let made_in = in-made edges positions q is p first in
     let open_still = open-yet edges positions q is p first in
     let counts = c.count_off.new.counts.items in
-    let test : List Bool → List ℕ → List (Option ℕ) → ℕ → ℕ → Bool = λ ms cs ps k y. is_free ms cs y && is_at ps y k in
+    let test : List Bool → List ℕ → List (Option ℕ) → ℕ → ℕ → Bool = λ ms cs ps k y. is_free ms cs y && has_place ps y k in
     let ready : (k : ℕ) → slice_index_or c.admit.new.ready k false
-    ≡ (slice_index_or (slice_set q.ready p false) k false || list_any (test (slice_set q.made.items x true) counts q.places.items k) (targets_of edges x)) = λ k.
+    ≡ (slice_index_or (slice_set q.ready p false) k false || list_any (test (slice_set q.made.items x true) counts q.places.items k) (edge_targets_of edges x)) = λ k.
     c.admit.ensures.ready k
     ∙ (ap (λ (rs : List Bool). slice_index_or rs k false || list_any (test c.deref-2.result.now c.deref-3.result.now c.deref.result.now k) c.row-row.result.now) removed
     ∙ (ap (λ (ms : List Bool). slice_index_or (slice_set q.ready p false) k false || list_any (test ms c.deref-3.result.now c.deref.result.now k) c.row-row.result.now) made
@@ -117,7 +117,7 @@ returns-clause-queue c = λ edges positions is.
     ∙ (ap (λ (ps : List (Option ℕ)). slice_index_or (slice_set q.ready p false) k false || list_any (test (slice_set q.made.items x true) counts ps k) c.row-row.result.now) c.deref.ensures.value
     ∙ ap (λ (xs : List ℕ). slice_index_or (slice_set q.ready p false) k false || list_any (test (slice_set q.made.items x true) counts q.places.items k) xs) row)))) in
     let readied = readied-next q.order.items q.places.items is.places q.made.items q.counts.items q.ready is.waits.readied is.waits.ready_size p low first.is made_in
-    (targets_of edges x) counts less c.admit.new.ready ready in
+    (edge_targets_of edges x) counts less c.admit.new.ready ready in
     let counted = counted-next edges q.made.items x made_in open_still positions is.ends q.counts.items is.waits.counts_size is.waits.counted counts less in
     record {
       ends = is.ends;
