@@ -39,5 +39,4 @@ pub use number_laws::{needed_actions_have_places_of_their_own, plans_have_few_ed
 pub use numbering::number;
 pub use planning::{plan, plan_of};
 pub(crate) use precedence::migrating::migrating_flags;
-pub use precedence::sides::Side;
 pub use precedence::whole::edges;
