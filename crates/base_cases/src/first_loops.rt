@@ -1,6 +1,6 @@
-//! What `loops` finds: the first edge that closes a loop.
+//! What `edges` finds: the first edge that closes a loop.
 
-use loops::{Edge, end_within, first_loop, is_loop_free, longest_ways};
+use edges::{Edge, end_within, first_loop, is_loop_free, longest_ways};
 use std::alloc::Global;
 use std::process::Abort;
 

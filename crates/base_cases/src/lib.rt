@@ -17,8 +17,6 @@ mod rules;
 #[cfg(test)]
 mod scores;
 #[cfg(test)]
-mod texts;
-
 // Texts.
 #[cfg(test)]
 mod lines;

@@ -5,7 +5,7 @@ mod forms;
 mod quoting;
 
 use crate::reading::crm;
-use crm_parse::print;
+use crm_print::print;
 use std::alloc::Global;
 use std::process::Abort;
 

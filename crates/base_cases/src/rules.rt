@@ -1,14 +1,14 @@
 //! Which rules of locations hold.
 
-use date_rules::{Compare, Kind, Pair, Rule, Test, Text, holds};
-use listed::Listed;
+use date_rules::{Compare, Kind, Pair, Rule, Test, holds};
+use listed::{Listed, Name};
 use std::alloc::Global;
 use std::process::Abort;
 
 const MOMENT: u64 = 1000;
 
-fn text(rt: &impl Abort, alloc: Global, bytes: &[u8]) -> Text {
-    Text::from(bytes.to_vec(alloc).expect(rt, "memory"))
+fn name(rt: &impl Abort, alloc: Global, bytes: &[u8]) -> Name {
+    Name::from_bytes(alloc, bytes).expect(rt, "memory")
 }
 
 /// The attributes of the node.
@@ -31,8 +31,8 @@ fn attributes(rt: &impl Abort, alloc: Global) -> Vec<Pair> {
     for (name, value) in ATTRIBUTES {
         pairs
             .push(Pair {
-                name: text(rt, alloc, name),
-                value: text(rt, alloc, value),
+                name: name(rt, alloc, name),
+                value: name(rt, alloc, value),
             })
             .expect(rt, "memory");
     }
@@ -105,10 +105,10 @@ const COMPARISONS: &[Comparison] = &[
 /// Whether the test of such a row passes.
 fn compares(rt: &impl Abort, alloc: Global, (name, compare, kind, value, _): &Comparison) -> bool {
     let test = Test::Attribute {
-        name: text(rt, alloc, name),
+        name: name(rt, alloc, name),
         compare: *compare,
         kind: *kind,
-        value: text(rt, alloc, value),
+        value: name(rt, alloc, value),
     };
     test_passes(rt, alloc, test)
 }
@@ -124,12 +124,12 @@ fn comparisons(rt: HostRuntime) {
 const NAMES: &[(&[u8], bool)] = &[(b"rack", true), (b"missing", false), (b"#uname", true)];
 
 fn is_defined(rt: &impl Abort, alloc: Global, name: &[u8]) -> bool {
-    let name = text(rt, alloc, name);
+    let name = name(rt, alloc, name);
     test_passes(rt, alloc, Test::Defined { name })
 }
 
 fn is_not_defined(rt: &impl Abort, alloc: Global, name: &[u8]) -> bool {
-    let name = text(rt, alloc, name);
+    let name = name(rt, alloc, name);
     test_passes(rt, alloc, Test::NotDefined { name })
 }
 

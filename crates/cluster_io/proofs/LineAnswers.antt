@@ -5,15 +5,15 @@ use Rattle.std.proofs.lemmas.Bool.{cond-true, cond-false, lt-ltb, le-ltb, le-leb
 use Rattle.std.proofs.lemmas.List.{append-nil, length-append, length_push}
 use Rattle.std.proofs.lemmas.List.Folds.{concat-append}
 use Rattle.crm_lex.specs.RawLines.{physical_lines, joined, goes_on, content, ends_in}
-use Rattle.cluster_io.specs.NextLine.{has_feed, first_of, first_line, content_within, line_answer, answer_of}
-use Rattle.cluster_io.specs.Scanning.{Joins, content_length, before_feed}
+use Rattle.cluster_io.specs.NextLine.{has_feed, first_line_of, first_line, content_within, line_answer, reader_answer}
+use Rattle.cluster_io.specs.Scanning.{Joins, physical_content_length, before_feed}
 use Rattle.cluster_io.specs.declared.line_step.LineStep.TheVariants.{Line, TooLong, TooLarge}
 use Rattle.cluster_io.proofs.Texts.{content_at_feed, content_begun, content_begun_whole, content_without_feed, length-before_feed}
 use Rattle.cluster_io.proofs.PhysicalLines.{content_within-append, content_within_none, continues_after, first_line_after, first_alone, first_ends, fronts, begun, physical_at_feed, physical_open, lines_more, Begun}
 use Rattle.crm_lex.proofs.PhysicalLines.{concat-lines}
 
 pub answer_some : (room longest : ℕ) (text : List ℕ) → 0 < length text
-    → answer_of room longest text ≡ line_answer room longest (first_line text)
+    → reader_answer room longest text ≡ line_answer room longest (first_line text)
 answer_some room longest [] h = absurd (omega arith)
 answer_some room longest (b ∷ bs) h = refl
 
@@ -38,17 +38,17 @@ answers_line room longest lines h k =
 
 -- bytes that join stand before a text, of which these are the physical lines that follow in the first logical line
 module _ (done text : List ℕ) (others : List (List ℕ)) (room longest : ℕ) (j : Joins done)
-    (follow : first_of (joined (continues_after false (physical_lines done)) (physical_lines text)) ≡ others)
+    (follow : first_line_of (joined (continues_after false (physical_lines done)) (physical_lines text)) ≡ others)
     (fits : length done ≤ room) where
   pub first_is : first_line (done ++ text) ≡ physical_lines done ++ others
   first_is = first_line_after done text j ∙ ap (λ lines. physical_lines done ++ lines) follow
 
-  pub within_is : content_within room (first_line (done ++ text)) ≡ content_length (physical_lines done) + content_within (room - length done) others
+  pub within_is : content_within room (first_line (done ++ text)) ≡ physical_content_length (physical_lines done) + content_within (room - length done) others
   within_is =
       let same = concat-lines done in
       ap (content_within room) first_is
       ∙ (content_within-append (physical_lines done) others room (rw same fits)
-      ∙ ap (λ (t : List ℕ). content_length (physical_lines done) + content_within (room - length t) others) same)
+      ∙ ap (λ (t : List ℕ). physical_content_length (physical_lines done) + content_within (room - length t) others) same)
 
   pub length_is : length (concat (first_line (done ++ text))) ≡ length done + length (concat others)
   length_is =
@@ -64,11 +64,11 @@ module _ (done text rest : List ℕ) (none : has_feed text ≡ false) where
   feed_others : List (List ℕ)
   feed_others = (fronts (continues_after false (physical_lines done)) (text ++ 10 ∷ []) (physical_lines rest)).others
 
-  feed_follows : first_of (joined (continues_after false (physical_lines done)) (physical_lines (text ++ 10 ∷ rest)))
+  feed_follows : first_line_of (joined (continues_after false (physical_lines done)) (physical_lines (text ++ 10 ∷ rest)))
       ≡ (text ++ 10 ∷ []) ∷ feed_others
   unfolding feed_others
   feed_follows =
-      ap (λ lines. first_of (joined (continues_after false (physical_lines done)) lines)) (physical_at_feed text rest none)
+      ap (λ lines. first_line_of (joined (continues_after false (physical_lines done)) lines)) (physical_at_feed text rest none)
       ∙ (fronts (continues_after false (physical_lines done)) (text ++ 10 ∷ []) (physical_lines rest)).is
 
 -- the answers where bytes that join stand before a text with a line feed
@@ -77,8 +77,8 @@ module _ (done text rest : List ℕ) (room longest : ℕ) (j : Joins done) (none
   line_content : length (content (text ++ 10 ∷ [])) ≡ length (before_feed text)
   line_content = ap length (content_at_feed text)
 
-  pub feed_too_long : longest < content_length (physical_lines done) + length (before_feed text)
-      → answer_of room longest (done ++ (text ++ 10 ∷ rest)) ≡ TooLong
+  pub feed_too_long : longest < physical_content_length (physical_lines done) + length (before_feed text)
+      → reader_answer room longest (done ++ (text ++ 10 ∷ rest)) ≡ TooLong
   feed_too_long h =
       let w = within_is done (text ++ 10 ∷ rest) ((text ++ 10 ∷ []) ∷ feed_others done text rest none) room longest j
       (feed_follows done text rest none) (omega arith) in
@@ -86,8 +86,8 @@ module _ (done text rest : List ℕ) (room longest : ℕ) (j : Joins done) (none
       answer_some room longest (done ++ (text ++ 10 ∷ rest)) (some_bytes done text rest 10)
       ∙ answers_long room longest (first_line (done ++ (text ++ 10 ∷ rest))) (omega (arith, w, line_content, short.0))
 
-  pub feed_too_large : content_length (physical_lines done) + length (before_feed text) ≤ longest → length done + length text ≡ room
-      → answer_of room longest (done ++ (text ++ 10 ∷ rest)) ≡ TooLarge
+  pub feed_too_large : physical_content_length (physical_lines done) + length (before_feed text) ≤ longest → length done + length text ≡ room
+      → reader_answer room longest (done ++ (text ++ 10 ∷ rest)) ≡ TooLarge
   feed_too_large h k =
       let others = feed_others done text rest none in
       let w = within_is done (text ++ 10 ∷ rest) ((text ++ 10 ∷ []) ∷ others) room longest j
@@ -104,9 +104,9 @@ module _ (done text rest : List ℕ) (room longest : ℕ) (j : Joins done) (none
       (omega (arith, l, both, length_push text 10))
 
   module _ (ends : goes_on (continues_after false (physical_lines done)) (text ++ 10 ∷ []) ≡ false) where
-    ends_here : first_of (joined (continues_after false (physical_lines done)) (physical_lines (text ++ 10 ∷ rest))) ≡ (text ++ 10 ∷ []) ∷ []
+    ends_here : first_line_of (joined (continues_after false (physical_lines done)) (physical_lines (text ++ 10 ∷ rest))) ≡ (text ++ 10 ∷ []) ∷ []
     ends_here =
-        ap (λ lines. first_of (joined (continues_after false (physical_lines done)) lines)) (physical_at_feed text rest none)
+        ap (λ lines. first_line_of (joined (continues_after false (physical_lines done)) lines)) (physical_at_feed text rest none)
         ∙ first_ends (continues_after false (physical_lines done)) (text ++ 10 ∷ []) (physical_lines rest) ends
 
     pub feed_first : first_line (done ++ (text ++ 10 ∷ rest)) ≡ physical_lines (done ++ (text ++ 10 ∷ []))
@@ -114,8 +114,8 @@ module _ (done text rest : List ℕ) (room longest : ℕ) (j : Joins done) (none
         first_is done (text ++ 10 ∷ rest) ((text ++ 10 ∷ []) ∷ []) room longest j ends_here (omega arith)
         ∙ sym (lines_more done text j none)
 
-    pub feed_line : content_length (physical_lines done) + length (before_feed text) ≤ longest → length done + length text < room
-        → answer_of room longest (done ++ (text ++ 10 ∷ rest)) ≡ Line
+    pub feed_line : physical_content_length (physical_lines done) + length (before_feed text) ≤ longest → length done + length text < room
+        → reader_answer room longest (done ++ (text ++ 10 ∷ rest)) ≡ Line
     feed_line h k =
         let w = within_is done (text ++ 10 ∷ rest) ((text ++ 10 ∷ []) ∷ []) room longest j ends_here (omega arith) in
         let l = length_is done (text ++ 10 ∷ rest) ((text ++ 10 ∷ []) ∷ []) room longest j ends_here (omega arith) in
@@ -139,10 +139,10 @@ module _ (done : List ℕ) (b : ℕ) (bs rest : List ℕ) (room longest : ℕ) (
   unfolding open_begun open_line
   open_others = (fronts (continues_after false (physical_lines done)) open_line open_begun.others).others
 
-  open_follows : first_of (joined (continues_after false (physical_lines done)) (physical_lines ((b ∷ bs) ++ rest))) ≡ open_line ∷ open_others
+  open_follows : first_line_of (joined (continues_after false (physical_lines done)) (physical_lines ((b ∷ bs) ++ rest))) ≡ open_line ∷ open_others
   unfolding open_begun open_line open_others
   open_follows =
-      ap (λ lines. first_of (joined (continues_after false (physical_lines done)) lines)) open_begun.is
+      ap (λ lines. first_line_of (joined (continues_after false (physical_lines done)) lines)) open_begun.is
       ∙ (fronts (continues_after false (physical_lines done)) open_line open_begun.others).is
 
   open_long : length (b ∷ bs) ≤ length open_line
@@ -153,8 +153,8 @@ module _ (done : List ℕ) (b : ℕ) (bs rest : List ℕ) (room longest : ℕ) (
   unfolding open_begun open_line
   open_content = content_begun (b ∷ bs) open_begun.more none
 
-  pub open_too_long : longest < content_length (physical_lines done) + length bs
-      → answer_of room longest (done ++ ((b ∷ bs) ++ rest)) ≡ TooLong
+  pub open_too_long : longest < physical_content_length (physical_lines done) + length bs
+      → reader_answer room longest (done ++ ((b ∷ bs) ++ rest)) ≡ TooLong
   open_too_long h =
       let w = within_is done ((b ∷ bs) ++ rest) (open_line ∷ open_others) room longest j open_follows (omega arith) in
       answer_some room longest (done ++ ((b ∷ bs) ++ rest)) (some_bytes done [] (bs ++ rest) b)
@@ -166,14 +166,14 @@ module _ (done : List ℕ) (b : ℕ) (bs rest : List ℕ) (room longest : ℕ) (
   open_content_whole return = content_begun_whole (b ∷ bs) open_begun.more none return
 
   pub open_too_long_whole : ends_in 13 (b ∷ bs) ≡ false → length done + length (b ∷ bs) ≤ room
-      → longest < content_length (physical_lines done) + length (b ∷ bs) → answer_of room longest (done ++ ((b ∷ bs) ++ rest)) ≡ TooLong
+      → longest < physical_content_length (physical_lines done) + length (b ∷ bs) → reader_answer room longest (done ++ ((b ∷ bs) ++ rest)) ≡ TooLong
   open_too_long_whole return within h =
       let w = within_is done ((b ∷ bs) ++ rest) (open_line ∷ open_others) room longest j open_follows (omega arith) in
       answer_some room longest (done ++ ((b ∷ bs) ++ rest)) (some_bytes done [] (bs ++ rest) b)
       ∙ answers_long room longest (first_line (done ++ ((b ∷ bs) ++ rest))) (omega (arith, w, open_content_whole return))
 
-  pub open_too_large : content_length (physical_lines done) + length bs ≤ longest → length done + length bs ≡ room
-      → answer_of room longest (done ++ ((b ∷ bs) ++ rest)) ≡ TooLarge
+  pub open_too_large : physical_content_length (physical_lines done) + length bs ≤ longest → length done + length bs ≡ room
+      → reader_answer room longest (done ++ ((b ∷ bs) ++ rest)) ≡ TooLarge
   open_too_large h k =
       let w = within_is done ((b ∷ bs) ++ rest) (open_line ∷ open_others) room longest j open_follows (omega arith) in
       let l = length_is done ((b ∷ bs) ++ rest) (open_line ∷ open_others) room longest j open_follows (omega arith) in
@@ -187,35 +187,35 @@ module _ (done : List ℕ) (b : ℕ) (bs rest : List ℕ) (room longest : ℕ) (
 
 -- the answers at the end of the source
 pub last_joined : (done : List ℕ) (room longest : ℕ) → Joins done → 0 < length done → length done ≤ room
-    → content_length (physical_lines done) ≤ longest → answer_of room longest done ≡ Line
+    → physical_content_length (physical_lines done) ≤ longest → reader_answer room longest done ≡ Line
 last_joined done room longest j some fits h =
     let alone = append-nil done in
     let w = within_is done [] [] room longest j refl fits in
     let l = length_is done [] [] room longest j refl fits in
     let left : 0 < length (done ++ []) = rw alone some in
-    subst (λ text. answer_of room longest text ≡ Line) alone
+    subst (λ text. reader_answer room longest text ≡ Line) alone
     (answer_some room longest (done ++ []) left
     ∙ answers_line room longest (first_line (done ++ [])) (omega (arith, w)) (omega (arith, l)))
 
 module _ (done : List ℕ) (b : ℕ) (bs : List ℕ) (room longest : ℕ) (j : Joins done) (none : has_feed (b ∷ bs) ≡ false)
     (fits : length done + length (b ∷ bs) ≤ room) where
-  last_follows : first_of (joined (continues_after false (physical_lines done)) (physical_lines (b ∷ bs))) ≡ (b ∷ bs) ∷ []
+  last_follows : first_line_of (joined (continues_after false (physical_lines done)) (physical_lines (b ∷ bs))) ≡ (b ∷ bs) ∷ []
   last_follows =
-      ap (λ lines. first_of (joined (continues_after false (physical_lines done)) lines)) (physical_open b bs none)
+      ap (λ lines. first_line_of (joined (continues_after false (physical_lines done)) lines)) (physical_open b bs none)
       ∙ first_alone (continues_after false (physical_lines done)) (b ∷ bs)
 
-  last_within : content_within room (first_line (done ++ b ∷ bs)) ≡ content_length (physical_lines done) + length (b ∷ bs)
+  last_within : content_within room (first_line (done ++ b ∷ bs)) ≡ physical_content_length (physical_lines done) + length (b ∷ bs)
   last_within =
       let w = within_is done (b ∷ bs) ((b ∷ bs) ∷ []) room longest j last_follows (omega arith) in
       let c : length (content (b ∷ bs)) ≡ length (b ∷ bs) = ap length (content_without_feed (b ∷ bs) none) in
       omega (arith, w, c)
 
-  pub last_too_long : longest < content_length (physical_lines done) + length (b ∷ bs) → answer_of room longest (done ++ b ∷ bs) ≡ TooLong
+  pub last_too_long : longest < physical_content_length (physical_lines done) + length (b ∷ bs) → reader_answer room longest (done ++ b ∷ bs) ≡ TooLong
   last_too_long h =
       answer_some room longest (done ++ b ∷ bs) (some_bytes done [] bs b)
       ∙ answers_long room longest (first_line (done ++ b ∷ bs)) (omega (arith, last_within))
 
-  pub last_line : content_length (physical_lines done) + length (b ∷ bs) ≤ longest → answer_of room longest (done ++ b ∷ bs) ≡ Line
+  pub last_line : physical_content_length (physical_lines done) + length (b ∷ bs) ≤ longest → reader_answer room longest (done ++ b ∷ bs) ≡ Line
   last_line h =
       let l = length_is done (b ∷ bs) ((b ∷ bs) ∷ []) room longest j last_follows (omega arith) in
       let both = length-append (b ∷ bs) [] in
@@ -235,11 +235,11 @@ not_long room longest lines h e =
 
 -- bytes that aren't too long with what stands before their line feed aren't with a line feed behind them
 pub feed_not_long : (done text : List ℕ) (room longest : ℕ) → Joins done → has_feed text ≡ false → length done + length text ≤ room
-    → content_length (physical_lines done) + length (before_feed text) ≤ longest → answer_of room longest (done ++ (text ++ 10 ∷ [])) ≡ TooLong → ⊥
+    → physical_content_length (physical_lines done) + length (before_feed text) ≤ longest → reader_answer room longest (done ++ (text ++ 10 ∷ [])) ≡ TooLong → ⊥
 feed_not_long done text room longest j none fits h e =
     let line = text ++ 10 ∷ [] in
-    let follow : first_of (joined (continues_after false (physical_lines done)) (physical_lines line)) ≡ line ∷ []
-    = ap (λ lines. first_of (joined (continues_after false (physical_lines done)) lines)) (physical_at_feed text [] none)
+    let follow : first_line_of (joined (continues_after false (physical_lines done)) (physical_lines line)) ≡ line ∷ []
+    = ap (λ lines. first_line_of (joined (continues_after false (physical_lines done)) lines)) (physical_at_feed text [] none)
     ∙ first_alone (continues_after false (physical_lines done)) line in
     let w = within_is done line (line ∷ []) room longest j follow (omega arith) in
     let c : length (content line) ≡ length (before_feed text) = ap length (content_at_feed text) in

@@ -4,8 +4,8 @@ use Rattle.std.specs.List.{concat}
 use Rattle.std.proofs.lemmas.Bool.{cond-true, cond-false, cond_both, or_parts, and_parts, and_from, lt-ltb}
 use Rattle.std.proofs.lemmas.List.{length-append}
 use Rattle.crm_lex.specs.RawLines.{physical_lines, onto_first, onto_group, joined, goes_on}
-use Rattle.cluster_io.specs.NextLine.{has_feed, first_of, first_line, content_within, is_whole}
-use Rattle.cluster_io.specs.Scanning.{Joins, all_go_on, content_length}
+use Rattle.cluster_io.specs.NextLine.{has_feed, first_line_of, first_line, content_within, is_whole}
+use Rattle.cluster_io.specs.Scanning.{Joins, all_go_on, physical_content_length}
 use Rattle.crm_lex.proofs.Ends.{length-content}
 
 -- bytes up to the first line feed are a physical line
@@ -63,35 +63,35 @@ after_one : (lines : List (List ℕ)) → continues_after true lines ≡ true
 after_one [] = refl
 after_one (line ∷ lines) = refl
 
-pub first_of-onto_group : (line : List ℕ) (groups : List (List (List ℕ))) → first_of (onto_group line groups) ≡ line ∷ first_of groups
+pub first_of-onto_group : (line : List ℕ) (groups : List (List (List ℕ))) → first_line_of (onto_group line groups) ≡ line ∷ first_line_of groups
 first_of-onto_group line [] = refl
 first_of-onto_group line (group ∷ groups) = refl
 
 -- lines that go on stand at the front of the first logical line
 pub first_joined : (c : Bool) (ps qs : List (List ℕ)) → all_go_on c ps ≡ true
-    → first_of (joined c (ps ++ qs)) ≡ ps ++ first_of (joined (continues_after c ps) qs)
+    → first_line_of (joined c (ps ++ qs)) ≡ ps ++ first_line_of (joined (continues_after c ps) qs)
 first_joined c [] qs h = refl
 first_joined c (p ∷ ps) qs h =
     let g = and_parts (goes_on c p) (all_go_on true ps) h in
-    ap first_of (cond-true (goes_on c p) (onto_group p (joined true (ps ++ qs))) ((p ∷ []) ∷ joined false (ps ++ qs)) g.0)
+    ap first_line_of (cond-true (goes_on c p) (onto_group p (joined true (ps ++ qs))) ((p ∷ []) ∷ joined false (ps ++ qs)) g.0)
     ∙ (first_of-onto_group p (joined true (ps ++ qs))
     ∙ ap (λ (t : List (List ℕ)). p ∷ t)
-    (first_joined true ps qs g.1 ∙ ap (λ c. ps ++ first_of (joined c qs)) (after_one ps)))
+    (first_joined true ps qs g.1 ∙ ap (λ c. ps ++ first_line_of (joined c qs)) (after_one ps)))
 
 -- a line that doesn't go on ends the first logical line
 pub first_ends : (c : Bool) (line : List ℕ) (lines : List (List ℕ)) → goes_on c line ≡ false
-    → first_of (joined c (line ∷ lines)) ≡ line ∷ []
-first_ends c line lines h = ap first_of (cond-false (goes_on c line) (onto_group line (joined true lines)) ((line ∷ []) ∷ joined false lines) h)
+    → first_line_of (joined c (line ∷ lines)) ≡ line ∷ []
+first_ends c line lines h = ap first_line_of (cond-false (goes_on c line) (onto_group line (joined true lines)) ((line ∷ []) ∷ joined false lines) h)
 
 -- a line stands at the front of the first logical line
 pub record Fronts (c : Bool) (line : List ℕ) (lines : List (List ℕ)) : Type 0 where
   pub others : List (List ℕ)
-  pub is : first_of (joined c (line ∷ lines)) ≡ line ∷ others
+  pub is : first_line_of (joined c (line ∷ lines)) ≡ line ∷ others
 
 fronts_by : (t : Bool) (c : Bool) (line : List ℕ) (lines : List (List ℕ)) → goes_on c line ≡ t → Fronts c line lines
 fronts_by true c line lines h = record {
-  others = first_of (joined true lines);
-  is = ap first_of (cond-true (goes_on c line) (onto_group line (joined true lines)) ((line ∷ []) ∷ joined false lines) h)
+  others = first_line_of (joined true lines);
+  is = ap first_line_of (cond-true (goes_on c line) (onto_group line (joined true lines)) ((line ∷ []) ∷ joined false lines) h)
       ∙ first_of-onto_group line (joined true lines);
 }
 fronts_by false c line lines h = record { others = []; is = first_ends c line lines h }
@@ -100,9 +100,9 @@ pub fronts : (c : Bool) (line : List ℕ) (lines : List (List ℕ)) → Fronts c
 fronts c line lines = fronts_by (goes_on c line) c line lines refl
 
 -- a line alone is the first logical line
-pub first_alone : (c : Bool) (line : List ℕ) → first_of (joined c (line ∷ [])) ≡ line ∷ []
+pub first_alone : (c : Bool) (line : List ℕ) → first_line_of (joined c (line ∷ [])) ≡ line ∷ []
 first_alone c line =
-    cond_both (goes_on c line) ((line ∷ []) ∷ []) ((line ∷ []) ∷ []) (λ groups. first_of groups ≡ line ∷ []) (λ _. refl) (λ _. refl)
+    cond_both (goes_on c line) ((line ∷ []) ∷ []) ((line ∷ []) ∷ []) (λ groups. first_line_of groups ≡ line ∷ []) (λ _. refl) (λ _. refl)
 
 -- lines that go on, and then the others
 pub whole_joined : (c : Bool) (ps qs : List (List ℕ)) → all_go_on c ps ≡ true
@@ -130,7 +130,7 @@ content_within_none (line ∷ lines) =
 
 -- lines that lie within the room, and then the others
 pub content_within-append : (ps qs : List (List ℕ)) (room : ℕ) → length (concat ps) ≤ room
-    → content_within room (ps ++ qs) ≡ content_length ps + content_within (room - length (concat ps)) qs
+    → content_within room (ps ++ qs) ≡ physical_content_length ps + content_within (room - length (concat ps)) qs
 content_within-append [] qs room h =
     let e : room - 0 ≡ room = omega arith in
     let f : content_within (room - 0) qs ≡ content_within room qs = ap (λ r. content_within r qs) e in
@@ -153,15 +153,15 @@ all_go_on-append c (p ∷ ps) line h g =
     let last : goes_on (continues_after true ps) line ≡ true = ap (λ c. goes_on c line) (after_one ps) ∙ g in
     and_from (goes_on c p) (all_go_on true (ps ++ line ∷ [])) both.0 (all_go_on-append true ps line both.1 last)
 
-pub content_length-append : (ps qs : List (List ℕ)) → content_length (ps ++ qs) ≡ content_length ps + content_length qs
+pub content_length-append : (ps qs : List (List ℕ)) → physical_content_length (ps ++ qs) ≡ physical_content_length ps + physical_content_length qs
 content_length-append [] qs = omega arith
 content_length-append (p ∷ ps) qs = omega (arith, content_length-append ps qs)
 
 -- the first logical line of bytes that join and of more behind them
 pub first_line_after : (done text : List ℕ) → Joins done
-    → first_line (done ++ text) ≡ physical_lines done ++ first_of (joined (continues_after false (physical_lines done)) (physical_lines text))
+    → first_line (done ++ text) ≡ physical_lines done ++ first_line_of (joined (continues_after false (physical_lines done)) (physical_lines text))
 first_line_after done text j =
-    ap (λ lines. first_of (joined false lines)) (j.cut text) ∙ first_joined false (physical_lines done) (physical_lines text) j.go_on
+    ap (λ lines. first_line_of (joined false lines)) (j.cut text) ∙ first_joined false (physical_lines done) (physical_lines text) j.go_on
 
 pub holds_line_after : (done text : List ℕ) → Joins done
     → is_whole false (physical_lines (done ++ text)) ≡ is_whole (continues_after false (physical_lines done)) (physical_lines text)

@@ -3,11 +3,11 @@ use Rattle.std.proofs.Common.{◌≡◌, ℕ, ◌+◌, ◌-◌, Option, Some, No
 use Rattle.std.proofs.Math.Seq.{take-append_seam, take-add}
 use Rattle.std.proofs.lemmas.List.{take-append-drop, take_rest, length-take-le}
 use Rattle.std.specs.Prelude.{Result, Ok, Err, OnErr}
-use Rattle.cluster_io.specs.Streams.{Takes, TakesAtMost, TakesCount, Adds}
+use Rattle.cluster_io.specs.Streams.{TakesBytes, TakesAtMost, TakesCount, Adds}
 
 -- two takings in turn are one
 pub Takes-then : (a b c : Option (List ℕ)) (xs ys : List ℕ)
-    → Takes a xs b → Takes b ys c → Takes a (xs ++ ys) c
+    → TakesBytes a xs b → TakesBytes b ys c → TakesBytes a (xs ++ ys) c
 Takes-then a b None xs ys p q = p ∙ ap (option_map (λ left. xs ++ left)) q
 Takes-then a b (Some left) xs ys p q =
     p ∙ (ap (option_map (λ left. xs ++ left)) q ∙ ap Some (sym (append_assoc xs ys left)))
@@ -36,7 +36,7 @@ Adds-piece a b c text done n p q =
 
 -- with one more piece of a buffer at most so many bytes are taken
 pub Takes-at_most : (a b c : Option (List ℕ)) (xs buf : List ℕ) (n most : ℕ)
-    → Takes a xs b → Takes b (take n buf) c → n ≤ length buf → length xs + n ≤ most → TakesAtMost most a c
+    → TakesBytes a xs b → TakesBytes b (take n buf) c → n ≤ length buf → length xs + n ≤ most → TakesAtMost most a c
 Takes-at_most a b c xs buf n most p q h k = record {
   bytes = xs ++ take n buf;
   within = simp (length-append, length-take-le n buf h) k;
@@ -45,7 +45,7 @@ Takes-at_most a b c xs buf n most p q h k = record {
 
 -- with one more piece of a buffer exactly so many bytes are taken
 pub Takes-count : (a b c : Option (List ℕ)) (xs buf : List ℕ) (n count : ℕ)
-    → Takes a xs b → Takes b (take n buf) c → n ≤ length buf → length xs + n ≡ count → TakesCount count a c
+    → TakesBytes a xs b → TakesBytes b (take n buf) c → n ≤ length buf → length xs + n ≡ count → TakesCount count a c
 Takes-count a b c xs buf n count p q h k = record {
   bytes = xs ++ take n buf;
   counted = simp (length-append, length-take-le n buf h) k;

@@ -5,8 +5,8 @@ use Rattle.std.proofs.lemmas.Bool.{and_parts, or_from}
 use Rattle.std.proofs.lemmas.List.Folds.{list_any-append}
 use Rattle.std.proofs.lemmas.List.{append-nil, length-append, length-take-le, length-drop, take-append-drop, take_more, take_all, take_rest, drop_more, drop-drop, get_or-drop}
 use Rattle.crm_lex.specs.RawLines.{physical_lines, joined, goes_on, content, ends_in, ends_in_backslash, begins_comment}
-use Rattle.cluster_io.specs.NextLine.{has_feed, first_of, first_line, holds_line, answer_of, IsUndecided}
-use Rattle.cluster_io.specs.Scanning.{Joins, content_length, before_feed, Looked, FeedAt, FeedIn, IsLine, IsOpen, IsLast}
+use Rattle.cluster_io.specs.NextLine.{has_feed, first_line_of, first_line, holds_line, reader_answer, IsUndecided}
+use Rattle.cluster_io.specs.Scanning.{Joins, physical_content_length, before_feed, Looked, FeedAt, FeedIn, IsLine, IsOpen, IsLast}
 use Rattle.cluster_io.specs.declared.line_scan.Scan.{Scan}
 use Rattle.cluster_io.specs.declared.line_scan.Bounds.{Bounds}
 use Rattle.cluster_io.specs.declared.line_step.LineStep.TheVariants.{Line, TooLong, TooLarge}
@@ -69,16 +69,16 @@ module _ (bounds : Bounds) (held : List ℕ) (s : Scan) (feed : ℕ) (l : Looked
   text_length = length-slice_range held s.line feed (omega (arith, l.order, f.behind)) (omega (arith, f.within))
 
   pub at_feed_too_long : bounds.longest < s.content + length (before_feed (slice_range held s.line feed))
-      → (rest : List ℕ) → answer_of bounds.room bounds.longest (held ++ rest) ≡ TooLong
+      → (rest : List ℕ) → reader_answer bounds.room bounds.longest (held ++ rest) ≡ TooLong
   at_feed_too_long h rest =
-      ap (answer_of bounds.room bounds.longest) (cut_more rest)
+      ap (reader_answer bounds.room bounds.longest) (cut_more rest)
       ∙ feed_too_long (take s.line held) (slice_range held s.line feed) (drop (feed + 1) held ++ rest) bounds.room bounds.longest
       l.joins f.none (omega (arith, done_length, text_length, l.order, f.behind, f.within)) (omega (arith, l.content_counted))
 
   pub at_feed_too_large : s.content + length (before_feed (slice_range held s.line feed)) ≤ bounds.longest → bounds.room ≤ feed
-      → (rest : List ℕ) → answer_of bounds.room bounds.longest (held ++ rest) ≡ TooLarge
+      → (rest : List ℕ) → reader_answer bounds.room bounds.longest (held ++ rest) ≡ TooLarge
   at_feed_too_large h k rest =
-      ap (answer_of bounds.room bounds.longest) (cut_more rest)
+      ap (reader_answer bounds.room bounds.longest) (cut_more rest)
       ∙ feed_too_large (take s.line held) (slice_range held s.line feed) (drop (feed + 1) held ++ rest) bounds.room bounds.longest
       l.joins f.none (omega (arith, done_length, text_length, l.order, f.behind, f.within)) (omega (arith, l.content_counted))
       (omega (arith, done_length, text_length, l.order, f.behind, f.within))
@@ -89,13 +89,13 @@ module _ (bounds : Bounds) (held : List ℕ) (s : Scan) (feed : ℕ) (l : Looked
       ∙ (ap length (lines_more (take s.line held) (slice_range held s.line feed) l.joins f.none)
       ∙ omega (arith, l.lines_counted, length-append (physical_lines (take s.line held)) ((slice_range held s.line feed ++ 10 ∷ []) ∷ [])))
 
-  content_counted : content_length (physical_lines (take (feed + 1) held)) ≡ s.content + length (before_feed (slice_range held s.line feed))
+  content_counted : physical_content_length (physical_lines (take (feed + 1) held)) ≡ s.content + length (before_feed (slice_range held s.line feed))
   content_counted =
       let done = physical_lines (take s.line held) in
       let line = slice_range held s.line feed ++ 10 ∷ [] in
       let c : length (content line) ≡ length (before_feed (slice_range held s.line feed)) = ap length (content_at_feed (slice_range held s.line feed)) in
-      ap (λ (t : List ℕ). content_length (physical_lines t)) front
-      ∙ (ap content_length (lines_more (take s.line held) (slice_range held s.line feed) l.joins f.none)
+      ap (λ (t : List ℕ). physical_content_length (physical_lines t)) front
+      ∙ (ap physical_content_length (lines_more (take s.line held) (slice_range held s.line feed) l.joins f.none)
       ∙ omega (arith, l.content_counted, content_length-append done (line ∷ []), c))
 
   some_before : nat_lt 0 (length (take s.line held)) ≡ nat_lt 0 s.line
@@ -127,7 +127,7 @@ module _ (bounds : Bounds) (held : List ℕ) (s : Scan) (feed : ℕ) (l : Looked
               l.joins f.none fits (goes_on_by ∙ ends)
               ∙ ap physical_lines (sym front));
           answer = λ rest.
-              ap (answer_of bounds.room bounds.longest) (cut_more rest)
+              ap (reader_answer bounds.room bounds.longest) (cut_more rest)
               ∙ feed_line (take s.line held) (slice_range held s.line feed) (drop (feed + 1) held ++ rest) bounds.room bounds.longest
               l.joins f.none fits (goes_on_by ∙ ends) (omega (arith, l.content_counted))
               (omega (arith, done_length, text_length, l.order, f.behind));
@@ -157,44 +157,44 @@ module _ (bounds : Bounds) (held : List ℕ) (s : Scan) (feed : ℕ) (l : Looked
 
 -- bytes that join, and a rest without a line feed
 pub rest_too_long : (done text rest : List ℕ) (room longest : ℕ) → Joins done → has_feed text ≡ false → length done + length text ≤ room + 1
-    → content_length (physical_lines done) ≤ longest → longest < content_length (physical_lines done) + length text - 1
-    → answer_of room longest (done ++ (text ++ rest)) ≡ TooLong
+    → physical_content_length (physical_lines done) ≤ longest → longest < physical_content_length (physical_lines done) + length text - 1
+    → reader_answer room longest (done ++ (text ++ rest)) ≡ TooLong
 rest_too_long done [] rest room longest j none fits short h = absurd (omega arith)
 rest_too_long done (b ∷ bs) rest room longest j none fits short h =
     open_too_long done b bs rest room longest j none (omega arith) (omega arith)
 
 rest_too_long_whole : (done text rest : List ℕ) (room longest : ℕ) → Joins done → has_feed text ≡ false → ends_in 13 text ≡ false
-    → length done + length text ≤ room → content_length (physical_lines done) ≤ longest → longest < content_length (physical_lines done) + length text
-    → answer_of room longest (done ++ (text ++ rest)) ≡ TooLong
+    → length done + length text ≤ room → physical_content_length (physical_lines done) ≤ longest → longest < physical_content_length (physical_lines done) + length text
+    → reader_answer room longest (done ++ (text ++ rest)) ≡ TooLong
 rest_too_long_whole done [] rest room longest j none return fits short h = absurd (omega arith)
 rest_too_long_whole done (b ∷ bs) rest room longest j none return fits short h =
     open_too_long_whole done b bs rest room longest j none (omega arith) return fits h
 
 pub rest_too_large : (done text rest : List ℕ) (room longest : ℕ) → Joins done → has_feed text ≡ false → length done + length text ≡ room + 1
-    → length done ≤ room → content_length (physical_lines done) + length text - 1 ≤ longest
-    → answer_of room longest (done ++ (text ++ rest)) ≡ TooLarge
+    → length done ≤ room → physical_content_length (physical_lines done) + length text - 1 ≤ longest
+    → reader_answer room longest (done ++ (text ++ rest)) ≡ TooLarge
 rest_too_large done [] rest room longest j none fits some h = absurd (omega arith)
 rest_too_large done (b ∷ bs) rest room longest j none fits some h =
     open_too_large done b bs rest room longest j none (omega arith) (omega arith) (omega arith)
 
 last_is_too_long : (done text : List ℕ) (room longest : ℕ) → Joins done → has_feed text ≡ false → length done + length text ≤ room
-    → content_length (physical_lines done) ≤ longest → longest < content_length (physical_lines done) + length text
-    → answer_of room longest (done ++ text) ≡ TooLong
+    → physical_content_length (physical_lines done) ≤ longest → longest < physical_content_length (physical_lines done) + length text
+    → reader_answer room longest (done ++ text) ≡ TooLong
 last_is_too_long done [] room longest j none fits short h = absurd (omega arith)
 last_is_too_long done (b ∷ bs) room longest j none fits short h = last_too_long done b bs room longest j none fits h
 
 last_is_line : (done text : List ℕ) (room longest : ℕ) → Joins done → has_feed text ≡ false → length done + length text ≤ room
-    → 0 < length done + length text → content_length (physical_lines done) + length text ≤ longest
-    → answer_of room longest (done ++ text) ≡ Line
+    → 0 < length done + length text → physical_content_length (physical_lines done) + length text ≤ longest
+    → reader_answer room longest (done ++ text) ≡ Line
 last_is_line done [] room longest j none fits some h =
-    subst (λ t. answer_of room longest t ≡ Line) (sym (append-nil done))
+    subst (λ t. reader_answer room longest t ≡ Line) (sym (append-nil done))
     (last_joined done room longest j (omega arith) (omega arith) (omega arith))
 last_is_line done (b ∷ bs) room longest j none fits some h = last_line done b bs room longest j none fits h
 
-first_of_open : (c : Bool) (text : List ℕ) → has_feed text ≡ false → first_of (joined c (physical_lines text)) ≡ physical_lines text
+first_of_open : (c : Bool) (text : List ℕ) → has_feed text ≡ false → first_line_of (joined c (physical_lines text)) ≡ physical_lines text
 first_of_open c [] h = refl
 first_of_open c (b ∷ bs) h =
-    ap (λ lines. first_of (joined c lines)) (physical_open b bs h) ∙ (first_alone c (b ∷ bs) ∙ sym (physical_open b bs h))
+    ap (λ lines. first_line_of (joined c lines)) (physical_open b bs h) ∙ (first_alone c (b ∷ bs) ∙ sym (physical_open b bs h))
 
 last_first : (done text : List ℕ) → Joins done → has_feed text ≡ false → first_line (done ++ text) ≡ physical_lines (done ++ text)
 last_first done text j none =
@@ -224,28 +224,28 @@ module _ (bounds : Bounds) (held : List ℕ) (s : Scan) (l : Looked bounds held 
   rest_length = length-drop s.line held
 
   pub at_rest_too_long : length held ≤ bounds.room + 1 → bounds.longest < s.content + (length held - s.line) - 1
-      → (rest : List ℕ) → answer_of bounds.room bounds.longest (held ++ rest) ≡ TooLong
+      → (rest : List ℕ) → reader_answer bounds.room bounds.longest (held ++ rest) ≡ TooLong
   at_rest_too_long k h rest =
-      ap (answer_of bounds.room bounds.longest) (whole_more rest)
+      ap (reader_answer bounds.room bounds.longest) (whole_more rest)
       ∙ rest_too_long (take s.line held) (drop s.line held) rest bounds.room bounds.longest l.joins none
       (omega (arith, before_length, rest_length, l.order, l.within)) (omega (arith, l.content_counted, l.short))
       (omega (arith, rest_length, l.content_counted))
 
   pub at_rest_too_long_whole : length held ≤ bounds.room → s.content + (length held - s.line) - 1 ≤ bounds.longest
-      → bounds.longest < s.content + length (before_feed (drop s.line held)) → (rest : List ℕ) → answer_of bounds.room bounds.longest (held ++ rest) ≡ TooLong
+      → bounds.longest < s.content + length (before_feed (drop s.line held)) → (rest : List ℕ) → reader_answer bounds.room bounds.longest (held ++ rest) ≡ TooLong
   at_rest_too_long_whole k m h rest =
       let text = drop s.line held in
       let ends = length-before_feed text in
-      ap (answer_of bounds.room bounds.longest) (whole_more rest)
+      ap (reader_answer bounds.room bounds.longest) (whole_more rest)
       ∙ rest_too_long_whole (take s.line held) text rest bounds.room bounds.longest l.joins none
       (before_feed_whole text (omega (arith, rest_length)))
       (omega (arith, before_length, rest_length, l.order, l.within)) (omega (arith, l.content_counted, l.short))
       (omega (arith, ends.0, l.content_counted))
 
   pub at_rest_too_large : length held ≤ bounds.room + 1 → s.content + (length held - s.line) - 1 ≤ bounds.longest → bounds.room < length held
-      → (rest : List ℕ) → answer_of bounds.room bounds.longest (held ++ rest) ≡ TooLarge
+      → (rest : List ℕ) → reader_answer bounds.room bounds.longest (held ++ rest) ≡ TooLarge
   at_rest_too_large k h m rest =
-      ap (answer_of bounds.room bounds.longest) (whole_more rest)
+      ap (reader_answer bounds.room bounds.longest) (whole_more rest)
       ∙ rest_too_large (take s.line held) (drop s.line held) rest bounds.room bounds.longest l.joins none
       (omega (arith, before_length, rest_length, l.order, l.within)) (omega (arith, before_length, l.in_room))
       (omega (arith, rest_length, l.content_counted))
@@ -279,17 +279,17 @@ module _ (bounds : Bounds) (held : List ℕ) (s : Scan) (l : Looked bounds held 
   }
 
   pub at_end_too_long : length held ≤ bounds.room → bounds.longest < s.content + (length held - s.line)
-      → answer_of bounds.room bounds.longest held ≡ TooLong
+      → reader_answer bounds.room bounds.longest held ≡ TooLong
   at_end_too_long k h =
-      ap (answer_of bounds.room bounds.longest) (sym whole)
+      ap (reader_answer bounds.room bounds.longest) (sym whole)
       ∙ last_is_too_long (take s.line held) (drop s.line held) bounds.room bounds.longest l.joins none
       (omega (arith, before_length, rest_length, l.order, l.within)) (omega (arith, l.content_counted, l.short))
       (omega (arith, rest_length, l.content_counted))
 
   pub at_end_line : length held ≤ bounds.room → 0 < length held → s.content + (length held - s.line) ≤ bounds.longest
-      → answer_of bounds.room bounds.longest held ≡ Line
+      → reader_answer bounds.room bounds.longest held ≡ Line
   at_end_line k some h =
-      ap (answer_of bounds.room bounds.longest) (sym whole)
+      ap (reader_answer bounds.room bounds.longest) (sym whole)
       ∙ last_is_line (take s.line held) (drop s.line held) bounds.room bounds.longest l.joins none
       (omega (arith, before_length, rest_length, l.order, l.within)) (omega (arith, before_length, rest_length, l.order, l.within))
       (omega (arith, rest_length, l.content_counted))

@@ -3,11 +3,11 @@ use Rattle.std.proofs.Common.{◌≡◌, ℕ, ◌+◌, ◌-◌, ◌≤◌, ◌<�
 use Rattle.std.proofs.lemmas.Bool.{false≢true, both_ways}
 use Rattle.std.proofs.lemmas.List.{append-nil, length-drop, length-take-le, take-append-drop, take_all}
 use Rattle.crm_lex.specs.RawLines.{physical_lines}
-use Rattle.cluster_io.specs.Streams.{Takes}
-use Rattle.cluster_io.specs.NextLine.{answer_of, first_line, holds_line}
-use Rattle.cluster_io.specs.Readings.{Reading, HandsOut, Leaves, nothing_came, more_came, Answered, Tells}
+use Rattle.cluster_io.specs.Streams.{TakesBytes}
+use Rattle.cluster_io.specs.NextLine.{reader_answer, first_line, holds_line}
+use Rattle.cluster_io.specs.Readings.{Reading, HandsOut, Leaves, nothing_came, more_came, ReaderAnswered, TellsAnswer}
 use Rattle.cluster_io.specs.Scanning.{Finds, FindsLast}
-use Rattle.cluster_io.specs.HeldLines.{Gives, Settles, ReadsOn, Sofar}
+use Rattle.cluster_io.specs.HeldLines.{GivesFound, Settles, ReadsOn, Sofar}
 use Rattle.cluster_io.specs.declared.line_scan.Scan.{Scan}
 use Rattle.cluster_io.specs.declared.line_scan.Bounds.{Bounds}
 use Rattle.cluster_io.specs.declared.line_scan.Found.{Found}
@@ -17,7 +17,7 @@ use Rattle.cluster_io.specs.declared.line_step.LineStep.TheVariants.{Line, End, 
 use Rattle.cluster_io.proofs.Pieces.{Takes-then}
 
 -- what is given is no failure
-pub given_is_no_failure : (f : Found) (step : LineStep) (old new : Reading) → Gives f step old new → step ≡ Failed → ⊥
+pub given_is_no_failure : (f : Found) (step : LineStep) (old new : Reading) → GivesFound f step old new → step ≡ Failed → ⊥
 given_is_no_failure (found.Line count lines) step old new g e = cc
 given_is_no_failure found.TooLong step old new g e = cc
 given_is_no_failure found.TooLarge step old new g e = cc
@@ -59,7 +59,7 @@ hands_out old count lines ended within small in_room counted first =
 -- what is found in what is held, whatever follows
 pub settles_found : (f : Found) (bounds : Bounds) (scanned : ℕ) (scan : Scan) (step : LineStep) (old new : Reading) (before : Option (List ℕ))
     → bounds.room ≡ old.room → bounds.longest ≡ old.longest → Finds f bounds old.held scanned scan → length old.held ≤ scanned + 4096
-    → Gives f step old new → Settles step old new before before
+    → GivesFound f step old new → Settles step old new before before
 settles_found (found.Line count lines) bounds scanned scan step old new before room longest l fresh g =
     subst (λ s. Settles s old new before before) (sym g.0)
     (subst (λ n. Settles Line old n before before) (sym g.1) (record {
@@ -96,7 +96,7 @@ at_no_rest f text rest none = ap (λ (t : List ℕ). f (text ++ t)) none ∙ ap 
 -- what is found at the end of the source
 pub settles_last : (f : Found) (bounds : Bounds) (step : LineStep) (old new : Reading) (before after : Option (List ℕ))
     → bounds.room ≡ old.room → bounds.longest ≡ old.longest → length old.held ≤ old.room → FindsLast f bounds old.held
-    → Gives f step old new → after ≡ before → IfSome before (λ left. left ≡ []) → Settles step old new before after
+    → GivesFound f step old new → after ≡ before → IfSome before (λ left. left ≡ []) → Settles step old new before after
 settles_last (found.Line count lines) bounds step old new before after room longest fits l g same none =
     let all : take count old.held ≡ old.held = take_all count old.held (omega (arith, l.whole)) in
     subst (λ s. Settles s old new before after) (sym g.0)
@@ -104,7 +104,7 @@ settles_last (found.Line count lines) bounds step old new before after room long
       unread = same;
       ended = true;
       at_end = λ _. rw same none;
-      exact = λ _ rest end. sym (at_no_rest (answer_of old.room old.longest) old.held rest (end refl) ∙ (rw (room, longest) at l.answer));
+      exact = λ _ rest end. sym (at_no_rest (reader_answer old.room old.longest) old.held rest (end refl) ∙ (rw (room, longest) at l.answer));
       undecided = λ e. absurd (line_is_no_failure e);
       leaves = hands_out old count lines true (omega (arith, l.whole)) (omega (arith, l.whole)) (omega (arith, l.whole))
           (l.lines_counted ∙ ap (λ (t : List ℕ). length (physical_lines t)) (sym all))
@@ -115,7 +115,7 @@ settles_last found.TooLong bounds step old new before after room longest fits f 
       unread = same;
       ended = true;
       at_end = λ _. rw same none;
-      exact = λ _ rest end. sym (at_no_rest (answer_of old.room old.longest) old.held rest (end refl) ∙ (rw (room, longest) at f));
+      exact = λ _ rest end. sym (at_no_rest (reader_answer old.room old.longest) old.held rest (end refl) ∙ (rw (room, longest) at f));
       undecided = λ e. absurd (too_long_is_no_failure e);
       leaves = g.1;
     })
@@ -126,7 +126,7 @@ settles_last found.More bounds step old new before after room longest fits f g s
 pub same_reading : (a : Reading) (held raw : List ℕ) → held ≡ a.held → raw ≡ a.raw → record a { held = held; raw = raw } ≡ a
 same_reading a held raw h r = ap (λ (t : List ℕ). record a { held = t; raw = raw }) h ∙ ap (λ (t : List ℕ). record a { raw = t }) r
 
-nothing_taken : (before : Option (List ℕ)) → Takes before [] before
+nothing_taken : (before : Option (List ℕ)) → TakesBytes before [] before
 nothing_taken None = refl
 nothing_taken (Some left) = refl
 
@@ -165,7 +165,7 @@ Sofar-more old now new before between after s r =
 
 -- turns that read, and then one that answers
 pub Sofar-settled : (step : LineStep) (old now new : Reading) (before between after : Option (List ℕ))
-    → Sofar old now before between → Settles step now new between after → Answered step old new before after
+    → Sofar old now before between → Settles step now new between after → ReaderAnswered step old new before after
 Sofar-settled step old now new before between after s r =
     let q = subst (λ n. Settles step n new between after) s.leaves r in
     record {
@@ -187,12 +187,12 @@ some_is_none : (left : List ℕ) → Some left ≡ None → ⊥
 some_is_none left e = cc
 
 -- an answer where the source tells its bytes
-pub told : (step : LineStep) (old new : Reading) (before after : Option (List ℕ)) → Answered step old new before after → Tells step old before
+pub told : (step : LineStep) (old new : Reading) (before after : Option (List ℕ)) → ReaderAnswered step old new before after → TellsAnswer step old before
 told step old new None after a = tt
 told step old new (Some left) None a = absurd (some_is_none left a.taken)
 told step old new (Some left) (Some rest) a = λ no_failure.
     a.exact no_failure rest a.at_end
-    ∙ ap (answer_of old.room old.longest)
+    ∙ ap (reader_answer old.room old.longest)
     (append_assoc old.held a.bytes rest ∙ ap (λ (t : List ℕ). old.held ++ t) (sym (told_left a.bytes left rest a.taken)))
 
 pub ruleset turns = (Sofar-none, Sofar-more, Sofar-settled, told)

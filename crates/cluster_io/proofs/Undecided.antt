@@ -4,8 +4,8 @@ use Rattle.std.proofs.lemmas.Bool.{ltb-true, ltb-false, or_from}
 use Rattle.std.proofs.lemmas.List.{append-nil, length-append, length-replicate}
 use Rattle.std.proofs.lemmas.List.Folds.{list_any-append}
 use Rattle.crm_lex.specs.RawLines.{physical_lines}
-use Rattle.cluster_io.specs.NextLine.{answer_of, has_feed, IsUndecided}
-use Rattle.cluster_io.specs.Scanning.{Looked, content_length, before_feed}
+use Rattle.cluster_io.specs.NextLine.{reader_answer, has_feed, IsUndecided}
+use Rattle.cluster_io.specs.Scanning.{Looked, physical_content_length, before_feed}
 use Rattle.cluster_io.specs.declared.line_scan.Bounds.{Bounds}
 use Rattle.cluster_io.specs.declared.line_scan.Scan.{Scan}
 use Rattle.cluster_io.specs.declared.line_step.LineStep.{LineStep}
@@ -39,9 +39,9 @@ module _ (bounds : Bounds) (held : List ℕ) (s : Scan) (l : Looked bounds held 
   many : List ℕ
   many = replicate (bounds.room + 1 - length held) 97
 
-  overfull : IsPast (answer_of bounds.room bounds.longest (held ++ many))
+  overfull : IsPast (reader_answer bounds.room bounds.longest (held ++ many))
   unfolding front text many
-  overfull = by (nat_lt bounds.longest (content_length (physical_lines front) + length (text ++ many) - 1)) refl
+  overfull = by (nat_lt bounds.longest (physical_content_length (physical_lines front) + length (text ++ many) - 1)) refl
     where
       before : length front ≡ s.line
       before = before_length bounds held s l none
@@ -58,45 +58,45 @@ module _ (bounds : Bounds) (held : List ℕ) (s : Scan) (l : Looked bounds held 
       unfed : has_feed (text ++ many) ≡ false
       unfed = list_any-append (λ b. b == 10) text many ∙ or_from (has_feed text) (has_feed many) none (no_feed_in (bounds.room + 1 - length held))
 
-      same : answer_of bounds.room bounds.longest (held ++ many) ≡ answer_of bounds.room bounds.longest (front ++ ((text ++ many) ++ []))
-      same = ap (answer_of bounds.room bounds.longest)
+      same : reader_answer bounds.room bounds.longest (held ++ many) ≡ reader_answer bounds.room bounds.longest (front ++ ((text ++ many) ++ []))
+      same = ap (reader_answer bounds.room bounds.longest)
           (whole_more bounds held s l none many ∙ ap (λ (t : List ℕ). front ++ t) (sym (append-nil (text ++ many))))
 
-      by : (t : Bool) → nat_lt bounds.longest (content_length (physical_lines front) + length (text ++ many) - 1) ≡ t
-          → IsPast (answer_of bounds.room bounds.longest (held ++ many))
+      by : (t : Bool) → nat_lt bounds.longest (physical_content_length (physical_lines front) + length (text ++ many) - 1) ≡ t
+          → IsPast (reader_answer bounds.room bounds.longest (held ++ many))
       by true e =
-          let more = ltb-true bounds.longest (content_length (physical_lines front) + length (text ++ many) - 1) e in
+          let more = ltb-true bounds.longest (physical_content_length (physical_lines front) + length (text ++ many) - 1) e in
           inl (same
           ∙ rest_too_long front (text ++ many) [] bounds.room bounds.longest l.joins unfed
           (omega (arith, before, behind, sum, filled, l.order, l.within)) (omega (arith, l.content_counted, l.short)) more)
       by false e =
-          let no_more = ltb-false bounds.longest (content_length (physical_lines front) + length (text ++ many) - 1) e in
+          let no_more = ltb-false bounds.longest (physical_content_length (physical_lines front) + length (text ++ many) - 1) e in
           inr (same
           ∙ rest_too_large front (text ++ many) [] bounds.room bounds.longest l.joins unfed
           (omega (arith, before, behind, sum, filled, l.order, l.within)) (omega (arith, before, l.in_room)) no_more)
 
   -- a line feed next leaves it within its bounds
-  fed : answer_of bounds.room bounds.longest (held ++ 10 ∷ []) ≡ TooLong → ⊥
+  fed : reader_answer bounds.room bounds.longest (held ++ 10 ∷ []) ≡ TooLong → ⊥
   unfolding front text
   fed e =
       let before = before_length bounds held s l none in
       let behind = rest_length bounds held s l none in
       feed_not_long front text bounds.room bounds.longest l.joins none (omega (arith, before, behind, l.order, l.within))
       (omega (arith, short, l.content_counted))
-      (ap (answer_of bounds.room bounds.longest) (sym (whole_more bounds held s l none (10 ∷ []))) ∙ e)
+      (ap (reader_answer bounds.room bounds.longest) (sym (whole_more bounds held s l none (10 ∷ []))) ∙ e)
 
-  at_end : (step : LineStep) → ((rest : List ℕ) → answer_of bounds.room bounds.longest (held ++ rest) ≡ step)
-      → answer_of bounds.room bounds.longest held ≡ step
-  at_end step all = ap (answer_of bounds.room bounds.longest) (sym (append-nil held)) ∙ all []
+  at_end : (step : LineStep) → ((rest : List ℕ) → reader_answer bounds.room bounds.longest (held ++ rest) ≡ step)
+      → reader_answer bounds.room bounds.longest held ≡ step
+  at_end step all = ap (reader_answer bounds.room bounds.longest) (sym (append-nil held)) ∙ all []
 
-  no_answer : (step : LineStep) → ((rest : List ℕ) → answer_of bounds.room bounds.longest (held ++ rest) ≡ step)
+  no_answer : (step : LineStep) → ((rest : List ℕ) → reader_answer bounds.room bounds.longest (held ++ rest) ≡ step)
       → (step ≡ Line) ⊎ (step ≡ End) → ⊥
-  no_answer step all which = past_is_new (answer_of bounds.room bounds.longest (held ++ many)) step overfull which (all many)
+  no_answer step all which = past_is_new (reader_answer bounds.room bounds.longest (held ++ many)) step overfull which (all many)
 
   pub undecided : IsUndecided bounds.room bounds.longest held
   undecided step all = by (nat_lt 0 (length held)) (nat_lt bounds.longest (s.content + (length held - s.line))) refl refl
     where
-      none_held : (xs : List ℕ) → length xs ≤ 0 → answer_of bounds.room bounds.longest xs ≡ End
+      none_held : (xs : List ℕ) → length xs ≤ 0 → reader_answer bounds.room bounds.longest xs ≡ End
       none_held [] h = refl
       none_held (b ∷ bs) h = absurd (omega (arith, h))
 

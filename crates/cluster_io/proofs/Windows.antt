@@ -3,7 +3,7 @@ use Rattle.std.proofs.Common.{◌≡◌, ℕ, ◌+◌, ◌≤◌, Option, List, 
 use Rattle.std.proofs.Math.Seq.{take-add}
 use Rattle.std.proofs.lemmas.List.{take_at, drop_at, take-append-le, length-take-le}
 use borrow.Rule.Slice.PartMut.{put_mid, post_of}
-use Rattle.cluster_io.specs.Streams.{Reads}
+use Rattle.cluster_io.specs.Streams.{ReadsBytes}
 use Rattle.cluster_io.specs.Windows.{Received, reached}
 use Rattle.cluster_io.specs.declared.source.ReadStep.{ReadStep}
 use Rattle.cluster_io.specs.declared.source.ReadStep.TheVariants as read
@@ -18,7 +18,7 @@ taken_behind end k n xs ys within fits =
     ∙ (rw (take_at (take end xs) rest end front, drop_at (take end xs) rest end front, take-append-le n ys (post_of end k xs) fits) refl)
 
 pub received_behind : (step : ReadStep) (end most k : ℕ) (xs ys : List ℕ) (before after : Option (List ℕ))
-    → length ys ≡ most → end + most ≤ length xs → Reads before after step ys
+    → length ys ≡ most → end + most ≤ length xs → ReadsBytes before after step ys
     → Received step most (take end xs) (reached step end (put_mid end k xs ys)) before after
 received_behind (read.Got n) end most k xs ys before after len fits got = record {
   bytes = take n ys;

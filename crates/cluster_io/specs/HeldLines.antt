@@ -1,7 +1,7 @@
 -- What holds of the lines that a reader holds at every moment, and what one turn of it does. No public clause cites this module.
 use Rattle.std.specs.Prelude.{◌≡◌, ◌≢◌, ℕ, ◌+◌, ◌-◌, ◌*◌, ◌^◌, ◌≤◌, ◌<◌, min, Bool, true, false, Option, Some, None, List, [], ◌++◌, length, take, drop, IfSome}
-use Rattle.cluster_io.specs.Streams.{Takes}
-use Rattle.cluster_io.specs.NextLine.{answer_of, holds_line, IsUndecided}
+use Rattle.cluster_io.specs.Streams.{TakesBytes}
+use Rattle.cluster_io.specs.NextLine.{reader_answer, holds_line, IsUndecided}
 use Rattle.cluster_io.specs.Scanning.{Looked}
 use Rattle.cluster_io.specs.Windows.{Pane}
 use Rattle.cluster_io.specs.Readings.{Reading, Leaves, CameBy}
@@ -25,7 +25,7 @@ Stops (Some TooLarge) = Unit {0}
 Stops (Some step) = ⊥
 
 -- what was looked at; at most one byte past the limit, and at most one read that was not looked at
-pub record Orderly (window : Pane) (scan : Scan) (bounds : Bounds) (next : ℕ) (stop : Option LineStep) : Type 0 where
+pub record OrderlyScan (window : Pane) (scan : Scan) (bounds : Bounds) (next : ℕ) (stop : Option LineStep) : Type 0 where
   pub looked : Looked bounds window.held scan
   pub in_room : length window.held ≤ bounds.room + 1
   pub fresh : length window.held ≤ scan.scanned + 4096
@@ -34,30 +34,30 @@ pub record Orderly (window : Pane) (scan : Scan) (bounds : Bounds) (next : ℕ) 
   pub stops : Stops stop
 
 -- what is found may be given
-abbrev pub MayGive : Found → Reading → Type 0
-MayGive (found.Line count lines) r = (0 < count) × (count ≤ length r.held) × (length r.held < count + 4096) × (count ≤ r.room) × (lines ≤ count)
-MayGive found.More r = ⊥
-MayGive _ r = Unit {0}
+abbrev pub MayGiveFound : Found → Reading → Type 0
+MayGiveFound (found.Line count lines) r = (0 < count) × (count ≤ length r.held) × (length r.held < count + 4096) × (count ≤ r.room) × (lines ≤ count)
+MayGiveFound found.More r = ⊥
+MayGiveFound _ r = Unit {0}
 
 -- what is left where it is given
-abbrev pub Gives : Found → LineStep → Reading → Reading → Type 0
-Gives (found.Line count lines) step old new = (step ≡ Line) × (new ≡ record old {
+abbrev pub GivesFound : Found → LineStep → Reading → Reading → Type 0
+GivesFound (found.Line count lines) step old new = (step ≡ Line) × (new ≡ record old {
   held = drop count old.held;
   raw = take count old.held;
   number = old.next;
   next = old.next + lines;
   room = old.room - count;
 })
-Gives found.TooLong step old new = (step ≡ TooLong) × (new ≡ record old { raw = []; stop = Some TooLong })
-Gives found.TooLarge step old new = (step ≡ TooLarge) × (new ≡ record old { raw = []; stop = Some TooLarge })
-Gives found.More step old new = ⊥
+GivesFound found.TooLong step old new = (step ≡ TooLong) × (new ≡ record old { raw = []; stop = Some TooLong })
+GivesFound found.TooLarge step old new = (step ≡ TooLarge) × (new ≡ record old { raw = []; stop = Some TooLarge })
+GivesFound found.More step old new = ⊥
 
 -- a turn that read some bytes, since no whole line was held
 pub record ReadsOn (old new : Reading) (before after : Option (List ℕ)) : Type 0 where
   pub bytes : List ℕ
   pub some : 0 < length bytes
   pub small : length bytes ≤ 4096
-  pub taken : Takes before bytes after
+  pub taken : TakesBytes before bytes after
   pub unfinished : holds_line old.held ≡ false
   pub leaves : new ≡ record old { held = old.held ++ bytes; raw = [] }
   pub in_room : length new.held ≤ old.room + 1
@@ -67,7 +67,7 @@ pub record Settles (step : LineStep) (old new : Reading) (before after : Option 
   pub unread : after ≡ before
   pub ended : Bool
   pub at_end : ended ≡ true → IfSome after (λ left. left ≡ [])
-  pub exact : step ≢ Failed → (rest : List ℕ) → (ended ≡ true → rest ≡ []) → step ≡ answer_of old.room old.longest (old.held ++ rest)
+  pub exact : step ≢ Failed → (rest : List ℕ) → (ended ≡ true → rest ≡ []) → step ≡ reader_answer old.room old.longest (old.held ++ rest)
   pub undecided : step ≡ Failed → IsUndecided old.room old.longest old.held
   pub leaves : Leaves step old new ended
 
@@ -79,7 +79,7 @@ Turned (Some step) old new before after = Settles step old new before after
 -- some turns that read: what was taken in them, and that it was needed
 pub record Sofar (old now : Reading) (before between : Option (List ℕ)) : Type 0 where
   pub bytes : List ℕ
-  pub taken : Takes before bytes between
+  pub taken : TakesBytes before bytes between
   pub leaves : now ≡ record old { held = old.held ++ bytes; raw = [] }
   pub needed : CameBy old.held bytes
   pub unread : holds_line old.held ≡ true → bytes ≡ []

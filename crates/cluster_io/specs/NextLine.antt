@@ -6,13 +6,13 @@ use Rattle.cluster_io.specs.declared.line_step.LineStep.{LineStep}
 use Rattle.cluster_io.specs.declared.line_step.LineStep.TheVariants.{Line, End, TooLong, TooLarge}
 
 -- the first of the logical lines of a text, none where there is none
-abbrev pub first_of : List (List (List ℕ)) → List (List ℕ)
-first_of [] = []
-first_of (line ∷ lines) = line
+abbrev pub first_line_of : List (List (List ℕ)) → List (List ℕ)
+first_line_of [] = []
+first_line_of (line ∷ lines) = line
 
 -- the physical lines of the first logical line of a text
 abbrev pub first_line : List ℕ → List (List ℕ)
-first_line text = first_of (raw_lines text)
+first_line text = first_line_of (raw_lines text)
 
 -- how many of the first `room` bytes of some physical lines belong to no line end
 abbrev pub content_within : ℕ → List (List ℕ) → ℕ
@@ -26,13 +26,13 @@ line_answer room longest lines =
     else if nat_le (length (concat lines)) room then Line else TooLarge
 
 -- the answer of a reader before this text, of which the first `room` bytes lie within its limit
-abbrev pub answer_of : ℕ → ℕ → List ℕ → LineStep
-answer_of room longest [] = End
-answer_of room longest (b ∷ bs) = line_answer room longest (first_line (b ∷ bs))
+abbrev pub reader_answer : ℕ → ℕ → List ℕ → LineStep
+reader_answer room longest [] = End
+reader_answer room longest (b ∷ bs) = line_answer room longest (first_line (b ∷ bs))
 
 -- these bytes give no answer yet: there is none that all bytes to follow leave as it is
 abbrev pub IsUndecided : ℕ → ℕ → List ℕ → Type 0
-IsUndecided room longest held = (step : LineStep) → ((rest : List ℕ) → answer_of room longest (held ++ rest) ≡ step) → ⊥
+IsUndecided room longest held = (step : LineStep) → ((rest : List ℕ) → reader_answer room longest (held ++ rest) ≡ step) → ⊥
 
 -- a byte is a line feed
 abbrev pub has_feed : List ℕ → Bool

@@ -1,8 +1,8 @@
 -- What a reader of lines holds, and what one call of it leaves (rule of this project).
 use Rattle.std.specs.Prelude.{◌≡◌, ◌≢◌, ℕ, ◌+◌, ◌-◌, ◌≤◌, ◌<◌, Bool, true, false, Option, Some, List, [], ◌++◌, length, IfSome}
 use Rattle.crm_lex.specs.RawLines.{physical_lines}
-use Rattle.cluster_io.specs.Streams.{Takes}
-use Rattle.cluster_io.specs.NextLine.{answer_of, first_line, holds_line, IsUndecided}
+use Rattle.cluster_io.specs.Streams.{TakesBytes}
+use Rattle.cluster_io.specs.NextLine.{reader_answer, first_line, holds_line, IsUndecided}
 use Rattle.cluster_io.specs.declared.line_step.LineStep.{LineStep}
 use Rattle.cluster_io.specs.declared.line_step.LineStep.TheVariants.{Line, End, Failed}
 
@@ -47,17 +47,17 @@ pub data CameBy (held : List ℕ) : List ℕ → Type 0 where
 
 -- an answer: the bytes that were taken from the source, whether it has ended, and the answer to what is held then, whatever follows. Where the source
 -- failed, what is held then gives no answer yet
-pub record Answered (step : LineStep) (old new : Reading) (before after : Option (List ℕ)) : Type 0 where
+pub record ReaderAnswered (step : LineStep) (old new : Reading) (before after : Option (List ℕ)) : Type 0 where
   pub bytes : List ℕ
-  pub taken : Takes before bytes after
+  pub taken : TakesBytes before bytes after
   pub needed : CameBy old.held bytes
   pub ended : Bool
   pub at_end : ended ≡ true → IfSome after (λ left. left ≡ [])
   pub exact : step ≢ Failed → (rest : List ℕ) → (ended ≡ true → rest ≡ [])
-      → step ≡ answer_of old.room old.longest ((old.held ++ bytes) ++ rest)
+      → step ≡ reader_answer old.room old.longest ((old.held ++ bytes) ++ rest)
   pub undecided : step ≡ Failed → IsUndecided old.room old.longest (old.held ++ bytes)
   pub leaves : Leaves step (record old { held = old.held ++ bytes }) new ended
 
 -- where the source tells its bytes, the answer is that of all bytes to come
-abbrev pub Tells : LineStep → Reading → Option (List ℕ) → Type 0
-Tells step old before = IfSome before (λ left. step ≢ Failed → step ≡ answer_of old.room old.longest (old.held ++ left))
+abbrev pub TellsAnswer : LineStep → Reading → Option (List ℕ) → Type 0
+TellsAnswer step old before = IfSome before (λ left. step ≢ Failed → step ≡ reader_answer old.room old.longest (old.held ++ left))

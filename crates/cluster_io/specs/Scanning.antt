@@ -1,7 +1,7 @@
 -- How far a reader of lines has looked through what it holds. No public clause cites this module.
 use Rattle.std.specs.Prelude.{◌≡◌, ℕ, ◌+◌, ◌-◌, ◌*◌, ◌≤◌, ◌<◌, ◌&&◌, Bool, false, true, if◌then◌else◌, List, [], ◌∷◌, ◌++◌, length, take, slice_range, slice_index}
 use Rattle.crm_lex.specs.RawLines.{physical_lines, content, ends_in, goes_on}
-use Rattle.cluster_io.specs.NextLine.{answer_of, first_line, has_feed, holds_line, IsUndecided}
+use Rattle.cluster_io.specs.NextLine.{reader_answer, first_line, has_feed, holds_line, IsUndecided}
 use Rattle.cluster_io.specs.declared.line_scan.Scan.{Scan}
 use Rattle.cluster_io.specs.declared.line_scan.Bounds.{Bounds}
 use Rattle.cluster_io.specs.declared.line_scan.Found.{Found}
@@ -26,9 +26,9 @@ pub record FeedIn (held : List ℕ) (s : Scan) (feed : ℕ) : Type 0 where
   pub here : slice_index held feed ≡ 10
 
 -- how many bytes some physical lines have without line ends
-abbrev pub content_length : List (List ℕ) → ℕ
-content_length [] = 0
-content_length (line ∷ lines) = length (content line) + content_length lines
+abbrev pub physical_content_length : List (List ℕ) → ℕ
+physical_content_length [] = 0
+physical_content_length (line ∷ lines) = length (content line) + physical_content_length lines
 
 -- each of these physical lines goes on
 abbrev pub all_go_on : Bool → List (List ℕ) → Bool
@@ -49,7 +49,7 @@ pub record Looked (bounds : Bounds) (held : List ℕ) (s : Scan) : Type 0 where
   pub none : has_feed (slice_range held s.line s.scanned) ≡ false
   pub joins : Joins (take s.line held)
   pub lines_counted : s.lines ≡ length (physical_lines (take s.line held))
-  pub content_counted : s.content ≡ content_length (physical_lines (take s.line held))
+  pub content_counted : s.content ≡ physical_content_length (physical_lines (take s.line held))
   pub few_lines : s.lines ≤ s.line
   pub few_bytes : s.content ≤ s.line
   pub few_ends : s.line ≤ 3 * s.content
@@ -62,7 +62,7 @@ pub record IsLine (bounds : Bounds) (held : List ℕ) (scanned count lines : ℕ
   pub few_lines : lines ≤ count
   pub lines_counted : lines ≡ length (physical_lines (take count held))
   pub first : (rest : List ℕ) → first_line (held ++ rest) ≡ physical_lines (take count held)
-  pub answer : (rest : List ℕ) → answer_of bounds.room bounds.longest (held ++ rest) ≡ step.Line
+  pub answer : (rest : List ℕ) → reader_answer bounds.room bounds.longest (held ++ rest) ≡ step.Line
 
 -- what is held has no whole logical line, and gives no answer yet
 pub record IsOpen (bounds : Bounds) (held : List ℕ) (s : Scan) : Type 0 where
@@ -75,8 +75,8 @@ pub record IsOpen (bounds : Bounds) (held : List ℕ) (s : Scan) : Type 0 where
 -- what was found in what is held, of which all before `scanned` was looked at before
 abbrev pub Finds : Found → Bounds → List ℕ → ℕ → Scan → Type 0
 Finds (found.Line count lines) bounds held scanned new = IsLine bounds held scanned count lines
-Finds found.TooLong bounds held scanned new = (rest : List ℕ) → answer_of bounds.room bounds.longest (held ++ rest) ≡ step.TooLong
-Finds found.TooLarge bounds held scanned new = (rest : List ℕ) → answer_of bounds.room bounds.longest (held ++ rest) ≡ step.TooLarge
+Finds found.TooLong bounds held scanned new = (rest : List ℕ) → reader_answer bounds.room bounds.longest (held ++ rest) ≡ step.TooLong
+Finds found.TooLarge bounds held scanned new = (rest : List ℕ) → reader_answer bounds.room bounds.longest (held ++ rest) ≡ step.TooLarge
 Finds found.More bounds held scanned new = IsOpen bounds held new
 
 -- all that is held is the last logical line, and it is to be handed out
@@ -85,10 +85,10 @@ pub record IsLast (bounds : Bounds) (held : List ℕ) (count lines : ℕ) : Type
   pub few_lines : lines ≤ count
   pub lines_counted : lines ≡ length (physical_lines held)
   pub first : first_line held ≡ physical_lines held
-  pub answer : answer_of bounds.room bounds.longest held ≡ step.Line
+  pub answer : reader_answer bounds.room bounds.longest held ≡ step.Line
 
 -- what was found in what is held at the end of the source
 abbrev pub FindsLast : Found → Bounds → List ℕ → Type 0
 FindsLast (found.Line count lines) bounds held = IsLast bounds held count lines
-FindsLast found.TooLong bounds held = answer_of bounds.room bounds.longest held ≡ step.TooLong
+FindsLast found.TooLong bounds held = reader_answer bounds.room bounds.longest held ≡ step.TooLong
 FindsLast _ bounds held = ⊥

@@ -14,20 +14,20 @@ abbrev pub Rose : ℕ → ℕ → Type 0
 Rose before now = next_fault before ≤ now
 
 -- these bytes were taken from the front of what was left, if that is told; it stays told or untold
-abbrev pub Takes : Option (List ℕ) → List ℕ → Option (List ℕ) → Type 0
-Takes before bytes after = before ≡ option_map (λ left. bytes ++ left) after
+abbrev pub TakesBytes : Option (List ℕ) → List ℕ → Option (List ℕ) → Type 0
+TakesBytes before bytes after = before ≡ option_map (λ left. bytes ++ left) after
 
 -- some bytes, at most this many, were taken from the front of what was left
 pub record TakesAtMost (most : ℕ) (before after : Option (List ℕ)) : Type 0 where
   pub bytes : List ℕ
   pub within : length bytes ≤ most
-  pub taken : Takes before bytes after
+  pub taken : TakesBytes before bytes after
 
 -- exactly this many bytes were taken from the front of what was left
 pub record TakesCount (count : ℕ) (before after : Option (List ℕ)) : Type 0 where
   pub bytes : List ℕ
   pub counted : length bytes ≡ count
-  pub taken : Takes before bytes after
+  pub taken : TakesBytes before bytes after
 
 -- these bytes were added to what a sink holds, if that is told; it stays told or untold
 abbrev pub Adds : Option (List ℕ) → List ℕ → Option (List ℕ) → Type 0
@@ -40,11 +40,11 @@ pub record AddsPrefix (text : List ℕ) (before after : Option (List ℕ)) : Typ
   pub added : Adds before (take count text) after
 
 -- a read gives at least one byte, and no more than the buffer holds; or nothing, at the end of input or at a fault
-abbrev pub Reads : Option (List ℕ) → Option (List ℕ) → ReadStep → List ℕ → Type 0
-Reads before after (read.Got count) buffer =
-    (0 < count) × (count ≤ length buffer) × Takes before (take count buffer) after
-Reads before after read.End buffer = (after ≡ before) × IfSome before (λ left. left ≡ [])
-Reads before after read.Failed buffer = after ≡ before
+abbrev pub ReadsBytes : Option (List ℕ) → Option (List ℕ) → ReadStep → List ℕ → Type 0
+ReadsBytes before after (read.Got count) buffer =
+    (0 < count) × (count ≤ length buffer) × TakesBytes before (take count buffer) after
+ReadsBytes before after read.End buffer = (after ≡ before) × IfSome before (λ left. left ≡ [])
+ReadsBytes before after read.Failed buffer = after ≡ before
 
 -- a write takes at least one byte of the piece, from its front; or nothing, at a fault
 abbrev pub Writes : Option (List ℕ) → Option (List ℕ) → WriteStep → List ℕ → Type 0

@@ -1,6 +1,6 @@
 -- What contracts see of a window of bytes, and what a read into it left.
 use Rattle.std.specs.Prelude.{◌≡◌, ℕ, ◌+◌, ◌≤◌, ◌<◌, Option, List, [], ◌++◌, length, take, IfSome}
-use Rattle.cluster_io.specs.Streams.{Takes}
+use Rattle.cluster_io.specs.Streams.{TakesBytes}
 use Rattle.cluster_io.specs.declared.source.ReadStep.{ReadStep}
 use Rattle.cluster_io.specs.declared.source.ReadStep.TheVariants as read
 
@@ -13,16 +13,16 @@ pub record Pane : Type 0 where
   pub room : ℕ
 
 -- some bytes, at least one, came behind what was held
-pub record Came (most : ℕ) (old new : List ℕ) (before after : Option (List ℕ)) : Type 0 where
+pub record BytesCame (most : ℕ) (old new : List ℕ) (before after : Option (List ℕ)) : Type 0 where
   pub bytes : List ℕ
   pub some : 0 < length bytes
   pub within : length bytes ≤ most
   pub added : new ≡ old ++ bytes
-  pub taken : Takes before bytes after
+  pub taken : TakesBytes before bytes after
 
 -- what one read left of what was held and of the source
 abbrev pub Received : ReadStep → ℕ → List ℕ → List ℕ → Option (List ℕ) → Option (List ℕ) → Type 0
-Received (read.Got _) most old new before after = Came most old new before after
+Received (read.Got _) most old new before after = BytesCame most old new before after
 Received read.End most old new before after = (new ≡ old) × (after ≡ before) × IfSome before (λ left. left ≡ [])
 Received read.Failed most old new before after = (new ≡ old) × (after ≡ before)
 

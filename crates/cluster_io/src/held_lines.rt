@@ -1,7 +1,7 @@
 ghost use Rattle.std.specs.Prelude.{◌≡◌, ◌≢◌, ℕ, ◌+◌, ◌*◌, ◌^◌, ◌≤◌, ◌<◌, None, Some, true, [], length, IfOk};
 ghost use Rattle.cluster_io.specs.Streams.{Rose};
 ghost use Rattle.cluster_io.specs.NextLine.{holds_line};
-ghost use Rattle.cluster_io.specs.HeldLines.{MayGive, Gives, Stops, Turned};
+ghost use Rattle.cluster_io.specs.HeldLines.{MayGiveFound, GivesFound, Stops, Turned};
 
 use crate::line_scan::{Bounds, Found, Scan, last_line, look};
 use crate::window::Window;
@@ -34,7 +34,7 @@ pub struct HeldLines {
 
 impl Model for HeldLines {
     ghost use Rattle.cluster_io.specs.Readings.{Reading};
-    ghost use Rattle.cluster_io.specs.HeldLines.{Orderly};
+    ghost use Rattle.cluster_io.specs.HeldLines.{OrderlyScan};
 
     ghost Value = { Reading };
 
@@ -48,7 +48,7 @@ impl Model for HeldLines {
       stop = h.stop;
     } };
 
-    ghost invariant = { λ h. Orderly h.window h.scan h.bounds h.next h.stop };
+    ghost invariant = { λ h. OrderlyScan h.window h.scan h.bounds h.next h.stop };
 }
 
 impl HeldLines {
@@ -114,9 +114,9 @@ impl HeldLines {
 
     /// Gives what was found.
     fn give(&mut self, found: Found) -> LineStep
-        requires may { MayGive found self.old }
+        requires may { MayGiveFound found self.old }
         requires empty { self.old.raw ≡ [] }
-        ensures { Gives found result self.old self.new }
+        ensures { GivesFound found result self.old self.new }
     {
         match found {
             Found::Line(count, lines) => {

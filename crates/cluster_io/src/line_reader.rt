@@ -1,7 +1,7 @@
 ghost use Rattle.std.specs.Prelude.{◌≡◌, ◌≢◌, ℕ, ◌^◌, ◌≤◌, ◌<◌, None, Some, true, [], IfOk};
 ghost use Rattle.cluster_io.specs.Streams.{Rose};
 ghost use Rattle.cluster_io.specs.NextLine.{holds_line};
-ghost use Rattle.cluster_io.specs.Readings.{Answered, Tells};
+ghost use Rattle.cluster_io.specs.Readings.{ReaderAnswered, TellsAnswer};
 
 use crate::held_lines::HeldLines;
 use crate::{LineStep, NoMemory, Source};
@@ -81,10 +81,10 @@ impl<'s, S: Source> LineReader<'s, S> {
     #[tactic(auto, using(crate::proofs::Turns::turns))]
     pub fn line(&mut self) -> LineStep
         ensures answered { (reading_of self.old).stop ≡ None →
-            Answered result (reading_of self.old) (reading_of self.new)
+            ReaderAnswered result (reading_of self.old) (reading_of self.new)
             (S.left (source_of self.old)) (S.left (source_of self.new)) }
         ensures told { (reading_of self.old).stop ≡ None →
-            Tells result (reading_of self.old) (S.left (source_of self.old)) }
+            TellsAnswer result (reading_of self.old) (S.left (source_of self.old)) }
         ensures stopped { (step : LineStep) → (reading_of self.old).stop ≡ Some step →
             (result ≡ step) × (reading_of self.new ≡ reading_of self.old)
             × (source_of self.new ≡ source_of self.old) }

@@ -1,5 +1,5 @@
 ghost use Rattle.std.specs.Prelude.{◌≡◌, ◌≢◌, ◌↔◌, ℕ, ◌≤◌, ◌<◌, true, Some, [], length, min, Contains};
-ghost use Rattle.cluster_io.specs.Streams.{Reads, Rose, next_fault};
+ghost use Rattle.cluster_io.specs.Streams.{ReadsBytes, Rose, next_fault};
 ghost use Rattle.cluster_io.specs.Memory.{next_call};
 
 use crate::{ReadStep, Source};
@@ -64,7 +64,7 @@ impl Source for MemorySource {
 
     fn read(&mut self, buf: &mut [u8]) -> ReadStep
         requires { 0 < length buf.old }
-        ensures bytes { Reads (Some self.old.left) (Some self.new.left) result buf.new }
+        ensures bytes { ReadsBytes (Some self.old.left) (Some self.new.left) result buf.new }
         ensures count { self.old.faults ≤ self.new.faults }
         ensures cause { result ≡ ReadStep.Failed → Rose self.old.faults self.new.faults }
 

@@ -1,5 +1,5 @@
 ghost use Rattle.std.specs.Prelude.{◌≡◌, ◌≢◌, ℕ, ◌+◌, ◌≤◌, ◌<◌, Bool, true, Option, [], List, length, OnErr, IfOk, IfSome, IsErrOf};
-ghost use Rattle.cluster_io.specs.Streams.{Reads, Rose, Takes, TakesAtMost, TakesCount};
+ghost use Rattle.cluster_io.specs.Streams.{ReadsBytes, Rose, TakesBytes, TakesAtMost, TakesCount};
 
 use std::alloc::{AllocError, Global};
 
@@ -31,7 +31,7 @@ pub trait Source {
     /// past them may change too.
     fn read(&mut self, buf: &mut [u8]) -> ReadStep
         requires { 0 < length buf.old }
-        ensures bytes { Reads (left self.old) (left self.new) result buf.new }
+        ensures bytes { ReadsBytes (left self.old) (left self.new) result buf.new }
         ensures count { faults self.old ≤ faults self.new }
         ensures cause { result ≡ ReadStep.Failed → Rose (faults self.old) (faults self.new) }
         ensures no_failure { counts_only_failures ≡ true → result ≢ ReadStep.Failed →
@@ -67,7 +67,7 @@ const PIECE: usize = 4096;
 
 /// Reads all bytes to the end, at most `limit` of them. What it took before an error is lost.
 pub fn read_all<S: Source>(alloc: Global, src: &mut S, limit: usize) -> Result<Vec<u8>, ReadEnd>
-    ensures all { IfOk result (λ bytes. Takes (S.left src.old) bytes.items (S.left src.new)) }
+    ensures all { IfOk result (λ bytes. TakesBytes (S.left src.old) bytes.items (S.left src.new)) }
     ensures end { IfOk result (λ _. IfSome (S.left src.new) (λ left. left ≡ [])) }
     ensures within { IfOk result (λ bytes. length bytes.items ≤ limit) }
 

@@ -1,7 +1,7 @@
 ghost use Rattle.std.specs.Prelude.{◌≡◌, ◌≢◌, ℕ, true, None, ◌≤◌, ◌<◌, length, take, IfOk, IfErr};
 ghost use Rattle.std.specs.IoError.{error_kind};
 ghost use Rattle.std.specs.Io.KnownBytes.{Appends, Consumes, IsAtEnd, Keeps};
-ghost use Rattle.cluster_io.specs.Streams.{Reads, Writes, Rose, next_fault};
+ghost use Rattle.cluster_io.specs.Streams.{ReadsBytes, Writes, Rose, next_fault};
 
 use crate::{ReadStep, Sink, Source, WriteStep};
 use std::io;
@@ -63,7 +63,7 @@ impl<R: Read> Source for StdSource<R> {
 
     fn read(&mut self, buf: &mut [u8]) -> ReadStep
         requires { 0 < length buf.old }
-        ensures bytes { Reads None None result buf.new }
+        ensures bytes { ReadsBytes None None result buf.new }
         ensures count { source_faults self.old ≤ source_faults self.new }
         ensures cause { result ≡ ReadStep.Failed →
             Rose (source_faults self.old) (source_faults self.new) }

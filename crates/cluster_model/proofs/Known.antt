@@ -5,8 +5,8 @@ use Rattle.std.specs.List.{list_any}
 use Rattle.std.specs.Option.{option_and_then, option_map_or}
 use Rattle.std.proofs.lemmas.Bool.{ltb-true, or_parts}
 use Rattle.lemmas.proofs.Members.{head_or_rest, in_none}
-use Rattle.cluster_model.specs.declared.directory.Directory.{Directory}
-use Rattle.cluster_model.specs.declared.directory.Ends.{Ends}
+use Rattle.cluster_model.specs.declared.resolution.directory.Directory.{Directory}
+use Rattle.cluster_model.specs.declared.resolution.directory.Ends.{Ends}
 use Rattle.cluster_model.specs.Chains.{pairs_after, successive}
 use Rattle.cluster_model.specs.Directories.{first_named, if_there, is_unknown, last_named}
 use Rattle.cluster_model.specs.Tables.{lookup}

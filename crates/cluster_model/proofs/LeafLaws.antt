@@ -5,15 +5,15 @@ use Rattle.crm_parse.specs.declared.form.Form.{Form}
 use Rattle.crm_parse.specs.declared.form.Form.TheVariants as form
 use Rattle.crm_parse.specs.declared.statement.Statement.{Statement}
 use Rattle.cluster_types.specs.declared.leaf.Leaf.{Leaf}
-use Rattle.cluster_model.specs.declared.surroundings.Surroundings.{Surroundings}
-use Rattle.cluster_model.specs.Leaves.{leaf_in, leaf_of, leaves_in, leaves_of, primitive_in, surroundings_of}
+use Rattle.cluster_model.specs.declared.expansion.surroundings.Surroundings.{Surroundings}
+use Rattle.cluster_model.specs.Leaves.{leaf_in, primitive_leaf, leaves_in, leaves_of, primitive_in, surroundings_of}
 use Rattle.cluster_model.specs.Laws.{EachPrimitiveIsALeaf}
 
 module _ (s : Surroundings) where
   -- the leaf of a primitive has its id
   names_in : (f : Form) (leaves : List Leaf) (names : List (List ℕ)) → map (λ leaf. leaf.name) leaves ≡ names
       → map (λ leaf. leaf.name) (leaf_in s f ++ leaves) ≡ primitive_in f ++ names
-  unfolding leaf_of
+  unfolding primitive_leaf
   names_in (form.Primitive id agent description params meta utilization operations ops) leaves names e = ap (λ rest. id ∷ rest) e
   names_in (form.Node id name attributes utilization) leaves names e = e
   names_in (form.Group id members description params meta) leaves names e = e

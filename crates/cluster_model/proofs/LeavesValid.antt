@@ -15,7 +15,7 @@ use Rattle.crm_parse.specs.ReadForms.{IsRead}
 use Rattle.cluster_types.specs.declared.leaf.Monitor.{Monitor as MonitorOf}
 use Rattle.cluster_types.specs.Valid.{IsValidLeaf}
 use Rattle.cluster_model.specs.Clones.{uncloned}
-use Rattle.cluster_model.specs.Leaves.{around, leaf_in, leaf_of, leaves_of, surroundings_of}
+use Rattle.cluster_model.specs.Leaves.{around, leaf_in, primitive_leaf, leaves_of, surroundings_of}
 use Rattle.cluster_model.specs.Operations.{monitor_of, monitors_of}
 use Rattle.cluster_model.proofs.EachOf.{all_flat, of_all, of_map_all, pairs_map}
 use Rattle.cluster_model.proofs.ReadNames.{AreRead}
@@ -56,8 +56,8 @@ one-copy none None copies h e = h
 one-copy none (Some clone) copies h e = cc
 
 leaf-valid : (statements : List Statement) (id : List ℕ) (meta : List Kv) (ops : List Operation) → is_name id ≡ true → AreFew (recurring ops)
-    → IsValidLeaf (leaf_of (surroundings_of statements) id meta ops)
-unfolding leaf_of
+    → IsValidLeaf (primitive_leaf (surroundings_of statements) id meta ops)
+unfolding primitive_leaf
 leaf-valid statements id meta ops n h =
     let v = valid-by (monitors_of ops) (recurring ops) (monitor_intervals ops) h in
     let group = around (surroundings_of statements) id in

@@ -9,19 +9,19 @@ use Rattle.crm_parse.specs.declared.statement.Statement.{Statement}
 use Rattle.cluster_types.specs.declared.cluster.Cluster.{Cluster}
 use Rattle.cluster_types.specs.declared.leaf.Leaf.{Leaf}
 use Rattle.cluster_types.specs.Valid.{KeepsLimits}
-use Rattle.cluster_model.specs.declared.expand_fault.ExpandCause.{ExpandCause}
-use Rattle.cluster_model.specs.declared.leaves.Leaves.{Leaves}
+use Rattle.cluster_model.specs.declared.expansion.expand_fault.ExpandCause.{ExpandCause}
+use Rattle.cluster_model.specs.declared.expansion.leaves.Leaves.{Leaves}
 use Rattle.cluster_model.specs.Expansion.{expansion_of, leaves_with_spans}
 use Rattle.cluster_model.specs.Faults.{fault_of}
 use Rattle.cluster_model.specs.Leaves.{leaf_in, leaves_of, surroundings_of}
-use Rattle.cluster_model.specs.declared.checks.Checked.{Checked}
-use Rattle.cluster_model.specs.declared.counts.Counts.{Counts}
-use Rattle.cluster_model.specs.declared.directory.Directory.{Directory}
-use Rattle.cluster_model.specs.declared.fault.ModelCause.{ModelCause}
-use Rattle.cluster_model.specs.declared.fault.ModelCause.TheVariants.{UnknownName, NotPromotable, UnsupportedOrder, TooManyNodes, TooManyLeaves, TooManyRules}
+use Rattle.cluster_model.specs.declared.resolution.checks.Checked.{Checked}
+use Rattle.cluster_model.specs.declared.resolution.counts.Counts.{Counts}
+use Rattle.cluster_model.specs.declared.resolution.directory.Directory.{Directory}
+use Rattle.cluster_model.specs.declared.resolution.fault.ModelCause.{ModelCause}
+use Rattle.cluster_model.specs.declared.resolution.fault.ModelCause.TheVariants.{UnknownName, NotPromotable, UnsupportedOrder, TooManyNodes, TooManyLeaves, TooManyRules}
 use Rattle.faults.specs.declared.fault.Fault.{Fault}
 use Rattle.cluster_model.specs.Chains.{pairs_after, successive}
-use Rattle.cluster_model.specs.Checks.{cause_of, excess_of, has_unknown, has_unpromotable, is_unsupported}
+use Rattle.cluster_model.specs.Checks.{cause_of, excess_of, has_unknown, has_unpromotable, is_unsupported_form}
 use Rattle.cluster_model.specs.Colocations.{colocations_in, colocations_of}
 use Rattle.cluster_model.specs.Counting.{all_counted, colocation_count, counted_with, counts_of, leaf_count, location_count, node_count, nothing_counted, order_count}
 use Rattle.cluster_model.specs.Directories.{directory_of}
@@ -52,7 +52,7 @@ within counts e = split (nat_lt 256 counts.nodes) (nat_lt 1000 counts.leaves) (n
 
 no_excess : (d : Directory) (counts : Counts) (f : Form) → cause_of d counts f ≡ None → excess_of counts ≡ None
 unfolding cause_of
-no_excess d counts f e = split (has_unknown d f) (has_unpromotable d f) (is_unsupported f) e
+no_excess d counts f e = split (has_unknown d f) (has_unpromotable d f) (is_unsupported_form f) e
   where
     split : (a b c : Bool) → (if a then Some UnknownName else if b then Some NotPromotable else if c then Some UnsupportedOrder else excess_of counts) ≡ None
         → excess_of counts ≡ None

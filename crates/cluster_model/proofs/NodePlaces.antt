@@ -16,11 +16,11 @@ use Rattle.cluster_types.specs.declared.rules.Location.{Location}
 use Rattle.crm_parse.specs.declared.form.Form.{Form}
 use Rattle.crm_parse.specs.declared.form.Form.TheVariants as form
 use Rattle.crm_parse.specs.declared.statement.Statement.{Statement}
-use Rattle.cluster_model.specs.declared.leaves.Leaves.{Leaves}
+use Rattle.cluster_model.specs.declared.expansion.leaves.Leaves.{Leaves}
 use Rattle.cluster_model.specs.Settings.{nodes_in}
 use Rattle.cluster_model.specs.Tables.{lookup, with_row, with_rows}
 use Rattle.lemmas.proofs.Members.{head_or_rest, in_none}
-use Rattle.cluster_model.specs.declared.directory.Directory.{Directory}
+use Rattle.cluster_model.specs.declared.resolution.directory.Directory.{Directory}
 use Rattle.cluster_model.specs.Directories.{directory_of, first_named, is_unknown, is_unknown_node, node_named, nodes_of, numbered_from}
 use Rattle.cluster_model.specs.Locations.{location_in, role_written}
 use Rattle.cluster_model.specs.Nodes.{node_in, nodes_by}

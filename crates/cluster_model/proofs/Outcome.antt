@@ -6,14 +6,14 @@ use Rattle.faults.proofs.Steps.{unless-ok}
 use Rattle.cluster_types.specs.declared.cluster.Cluster.{Cluster}
 use Rattle.cluster_types.specs.declared.leaf.Leaf.{Leaf}
 use Rattle.cluster_types.specs.Decisions.{NeedsHaveNoLoop}
-use Rattle.cluster_types.specs.Numbers.{HasNoLoop}
+use Rattle.cluster_types.specs.Numbers.{StepsHaveNoLoop}
 use Rattle.loops.specs.FirstLoops.{has_need_loop, has_step_loop}
 use Rattle.loops.proofs.LoopTests.{need_of_none, no_needs, no_steps, step_of_none}
 use Rattle.crm_parse.specs.declared.statement.Statement.{Statement}
-use Rattle.cluster_model.specs.declared.leaves.Leaves.{Leaves}
-use Rattle.cluster_model.specs.declared.directory.Directory.{Directory}
-use Rattle.cluster_model.specs.declared.fault.ModelCause.{ModelCause}
-use Rattle.cluster_model.specs.declared.fault.ModelCause.TheVariants.{ColocationLoop, OrderLoop}
+use Rattle.cluster_model.specs.declared.expansion.leaves.Leaves.{Leaves}
+use Rattle.cluster_model.specs.declared.resolution.directory.Directory.{Directory}
+use Rattle.cluster_model.specs.declared.resolution.fault.ModelCause.{ModelCause}
+use Rattle.cluster_model.specs.declared.resolution.fault.ModelCause.TheVariants.{ColocationLoop, OrderLoop}
 use Rattle.cluster_model.specs.Directories.{directory_of}
 use Rattle.cluster_model.specs.FirstFaults.{first_fault}
 use Rattle.cluster_model.specs.Resolution.{cause_after, cause_of_loops, cluster_of, loop_cause, own_cause, resolution_of}
@@ -40,7 +40,7 @@ none-own d leaves statements c h = second-none _ _ (sym (split (own_cause d) (lo
 
 pub record IsLoopless (c : Cluster) : Type 0 where
   pub needs : NeedsHaveNoLoop c
-  pub steps : HasNoLoop c
+  pub steps : StepsHaveNoLoop c
 
 none-looped : (c : Cluster) → cause_of_loops c ≡ None → IsLoopless c
 none-looped c h = on (has_need_loop c) (has_step_loop c) refl refl h where

@@ -3,10 +3,10 @@ use Rattle.std.proofs.Common.{◌≡◌, ℕ, ◌+◌, List, [], ◌∷◌, ◌+
 use Rattle.faults.specs.declared.fault.Fault.TheVariants.{At}
 use Rattle.faults.specs.Reading.{fault_at}
 use Rattle.crm_parse.specs.declared.statement.Statement.{Statement}
-use Rattle.cluster_model.specs.declared.checks.Checked.{Checked}
-use Rattle.cluster_model.specs.declared.counts.Counts.{Counts}
-use Rattle.cluster_model.specs.declared.directory.Directory.{Directory}
-use Rattle.cluster_model.specs.declared.fault.ModelCause.{ModelCause}
+use Rattle.cluster_model.specs.declared.resolution.checks.Checked.{Checked}
+use Rattle.cluster_model.specs.declared.resolution.counts.Counts.{Counts}
+use Rattle.cluster_model.specs.declared.resolution.directory.Directory.{Directory}
+use Rattle.cluster_model.specs.declared.resolution.fault.ModelCause.{ModelCause}
 use Rattle.cluster_model.specs.Checks.{cause_of}
 use Rattle.cluster_model.specs.Counting.{all_counted, counted_with, counts_of, nothing_counted}
 use Rattle.cluster_model.specs.FirstFaults.{first_fault}

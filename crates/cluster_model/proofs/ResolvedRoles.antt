@@ -9,10 +9,10 @@ use Rattle.cluster_types.specs.declared.rules.Order.{Order}
 use Rattle.cluster_types.specs.declared.rules.RuleLocation.{RuleLocation}
 use Rattle.cluster_types.specs.Valid.{MayHaveRole}
 use Rattle.crm_parse.specs.declared.statement.Statement.{Statement}
-use Rattle.cluster_model.specs.declared.leaves.Leaves.{Leaves}
+use Rattle.cluster_model.specs.declared.expansion.leaves.Leaves.{Leaves}
 use Rattle.lemmas.proofs.Members.{of_flat}
-use Rattle.cluster_model.specs.declared.checks.Checked.{Checked}
-use Rattle.cluster_model.specs.declared.directory.Directory.{Directory}
+use Rattle.cluster_model.specs.declared.resolution.checks.Checked.{Checked}
+use Rattle.cluster_model.specs.declared.resolution.directory.Directory.{Directory}
 use Rattle.cluster_model.specs.Colocations.{colocations_in}
 use Rattle.cluster_model.specs.Counting.{nothing_counted}
 use Rattle.cluster_model.specs.Directories.{directory_of}

@@ -21,12 +21,12 @@ use Rattle.crm_parse.specs.declared.form.Form.TheVariants as form
 use Rattle.crm_parse.specs.declared.words.ActionWord.{ActionWord}
 use Rattle.crm_parse.specs.declared.words.ActionWord.TheVariants as action
 use Rattle.crm_parse.specs.declared.statement.Statement.{Statement}
-use Rattle.cluster_model.specs.declared.leaves.Leaves.{Leaves}
+use Rattle.cluster_model.specs.declared.expansion.leaves.Leaves.{Leaves}
 use Rattle.lemmas.proofs.Members.{head_or_rest, in_none, of_map}
-use Rattle.cluster_model.specs.declared.colocations.Bearer.{Bearer}
-use Rattle.cluster_model.specs.declared.directory.Directory.{Directory}
-use Rattle.cluster_model.specs.declared.directory.Traits.{Traits}
-use Rattle.cluster_model.specs.declared.orders.Point.{Point}
+use Rattle.cluster_model.specs.declared.resolution.colocations.Bearer.{Bearer}
+use Rattle.cluster_model.specs.declared.resolution.directory.Directory.{Directory}
+use Rattle.cluster_model.specs.declared.resolution.directory.Traits.{Traits}
+use Rattle.cluster_model.specs.declared.resolution.orders.Point.{Point}
 use Rattle.cluster_model.specs.Chains.{successive}
 use Rattle.cluster_model.specs.Checks.{lacks_action, lacks_in_pair, lacks_role, side_lacks, turns_down}
 use Rattle.cluster_model.specs.Colocations.{colocation_of, colocations_in, dependent_at, member_colocation, primary_at}

@@ -4,24 +4,24 @@ use Rattle.std.specs.List.{flat_map}
 use Rattle.std.specs.Option.{option_or}
 use Rattle.crm_parse.specs.declared.statement.Statement.{Statement}
 use Rattle.crm_parse.specs.Values.{bool_of}
-use Rattle.cluster_model.specs.declared.expand_fault.ExpandCause.{ExpandCause}
-use Rattle.cluster_model.specs.declared.kinds.Kind.{Kind}
-use Rattle.cluster_model.specs.declared.leaves.Leaves.{Leaves}
-use Rattle.cluster_model.specs.declared.leaves.Span.{Span}
-use Rattle.cluster_model.specs.declared.spans.Ends.{Ends}
-use Rattle.cluster_model.specs.declared.surroundings.Surroundings.{Surroundings}
-use Rattle.cluster_model.specs.declared.clones.InClone.{InClone}
-use Rattle.cluster_model.specs.declared.groups.InGroup.{InGroup}
-use Rattle.cluster_model.specs.declared.meta.Meta.{Meta}
-use Rattle.cluster_model.specs.declared.seen.Seen.{Seen}
+use Rattle.cluster_model.specs.declared.expansion.expand_fault.ExpandCause.{ExpandCause}
+use Rattle.cluster_model.specs.declared.expansion.kinds.Kind.{Kind}
+use Rattle.cluster_model.specs.declared.expansion.leaves.Leaves.{Leaves}
+use Rattle.cluster_model.specs.declared.expansion.leaves.Span.{Span}
+use Rattle.cluster_model.specs.declared.expansion.spans.Ends.{Ends}
+use Rattle.cluster_model.specs.declared.expansion.surroundings.Surroundings.{Surroundings}
+use Rattle.cluster_model.specs.declared.expansion.clones.InClone.{InClone}
+use Rattle.cluster_model.specs.declared.expansion.groups.InGroup.{InGroup}
+use Rattle.cluster_model.specs.declared.expansion.meta.Meta.{Meta}
+use Rattle.cluster_model.specs.declared.expansion.seen.Seen.{Seen}
 use Rattle.cluster_model.specs.Clones.{cloned_by, cloned_in}
 use Rattle.cluster_model.specs.Expansion.{expansion_of, leaves_with_spans}
-use Rattle.cluster_model.specs.Faults.{cause_of, fault_of, first_fault, kind_in, kinds_of, nothing_seen, seen_after}
+use Rattle.cluster_model.specs.Faults.{expand_cause_of, fault_of, first_expand_fault, resource_kinds_in, kinds_of, nothing_seen, seen_after}
 use Rattle.cluster_model.specs.Groups.{grouped_by, grouped_in}
 use Rattle.cluster_model.specs.Leaves.{leaf_in, leaves_of, surroundings_of}
 use Rattle.cluster_model.specs.Metas.{meta_of, no_meta, or_meta, read_as}
 use Rattle.cluster_model.specs.Settings.{count_nodes, defaults_from, defaults_in, nodes_in, option_from, properties_in}
-use Rattle.cluster_model.specs.Spans.{ends_by, ends_in, numbers_of, span_in, spans_of}
+use Rattle.cluster_model.specs.Spans.{ends_by, group_ends_in, numbers_of, span_in, spans_of}
 use Rattle.cluster_model.specs.Tables.{table_of}
 use Rattle.cluster_types.specs.declared.leaf.Leaf.{Leaf}
 use Rattle.faults.specs.declared.fault.Fault.{Fault}
@@ -41,7 +41,7 @@ count-lineless : IsLineless count_nodes
 count-lineless statements = ap length (each-lineless nodes_in statements)
 
 kinds-lineless : IsLineless kinds_of
-kinds-lineless statements = ap table_of (each-lineless kind_in statements)
+kinds-lineless statements = ap table_of (each-lineless resource_kinds_in statements)
 
 abbrev cloned : List Statement → List (List ℕ × InClone)
 cloned statements = cloned_by (count_nodes statements) statements
@@ -80,7 +80,7 @@ unfolding spans_of
 spans-lineless leaves statements =
     let numbers = numbers_of leaves in
     each-lineless (span_in numbers (ends_by numbers (cleared statements))) statements
-    ∙ ap (λ (e : List (List ℕ × Ends)). flat_map (λ (s : Statement). span_in numbers e s.form) statements) (ap table_of (each-lineless (ends_in numbers) statements))
+    ∙ ap (λ (e : List (List ℕ × Ends)). flat_map (λ (s : Statement). span_in numbers e s.form) statements) (ap table_of (each-lineless (group_ends_in numbers) statements))
 
 both_parts : (one other : List Leaf) (first second : List Span) → one ≡ other → first ≡ second
     → (let l : Leaves = record { leaves = one; spans = first } in l) ≡ record { leaves = other; spans = second }
@@ -97,16 +97,16 @@ none-at : (line other : ℕ) (cause : Option ExpandCause) (more again : Option (
 none-at line other None more again h = h
 none-at line other (Some cause) more again h = refl
 
-sound-lineless : (kinds : List (List ℕ × Kind)) (seen : Seen) → IsLineless (λ statements. is_none (first_fault kinds seen statements))
+sound-lineless : (kinds : List (List ℕ × Kind)) (seen : Seen) → IsLineless (λ statements. is_none (first_expand_fault kinds seen statements))
 sound-lineless kinds seen [] = refl
 sound-lineless kinds seen (s ∷ statements) =
-    none-at s.line 0 (cause_of kinds seen s.form) (first_fault kinds (seen_after seen s.form) statements) (first_fault kinds (seen_after seen s.form) (cleared statements))
+    none-at s.line 0 (expand_cause_of kinds seen s.form) (first_expand_fault kinds (seen_after seen s.form) statements) (first_expand_fault kinds (seen_after seen s.form) (cleared statements))
     (sound-lineless kinds (seen_after seen s.form) statements)
 
 fault-lineless : IsLineless (λ statements. is_none (fault_of statements))
 unfolding fault_of
 fault-lineless statements =
-    ap (λ (k : List (List ℕ × Kind)). is_none (first_fault k nothing_seen (cleared statements))) (kinds-lineless statements)
+    ap (λ (k : List (List ℕ × Kind)). is_none (first_expand_fault k nothing_seen (cleared statements))) (kinds-lineless statements)
     ∙ sound-lineless (kinds_of statements) nothing_seen statements
 
 -- statements that say the same stand for the same leaves

@@ -5,7 +5,7 @@ use Rattle.std.specs.Option.{option_or}
 use Rattle.std.proofs.lemmas.Bool.{or_parts}
 use Rattle.std.proofs.lemmas.List.{length-map}
 use Rattle.std.proofs.Math.Seq.{take-length}
-use Rattle.carry.specs.Carry.{IsDone}
+use Rattle.faults.specs.Carry.{IsDone}
 use Rattle.cluster_types.specs.declared.leaf.Leaf.{Leaf}
 use Rattle.cluster_types.specs.declared.cluster.Cluster.{Cluster}
 use Rattle.cluster_types.specs.declared.leaf.Op.TheVariants.{Monitor}
@@ -16,18 +16,18 @@ use Rattle.crm_parse.specs.declared.form.Form.TheVariants as form
 use Rattle.crm_parse.specs.declared.statement.Statement.{Statement}
 use Rattle.crm_parse.specs.declared.words.ActionWord.{ActionWord}
 use Rattle.crm_parse.specs.declared.words.ActionWord.TheVariants as action
-use Rattle.cluster_model.specs.declared.leaves.Leaves.{Leaves}
+use Rattle.cluster_model.specs.declared.expansion.leaves.Leaves.{Leaves}
 use Rattle.loops.specs.FirstLoops.{JoinsLeaves, OrdersSteps}
 use Rattle.lemmas.proofs.Members.{head_or_rest, in_none, of_flat, of_map}
-use Rattle.cluster_model.specs.declared.checks.Checked.{Checked}
-use Rattle.cluster_model.specs.declared.counts.Counts.{Counts}
-use Rattle.cluster_model.specs.declared.directory.Directory.{Directory}
+use Rattle.cluster_model.specs.declared.resolution.checks.Checked.{Checked}
+use Rattle.cluster_model.specs.declared.resolution.counts.Counts.{Counts}
+use Rattle.cluster_model.specs.declared.resolution.directory.Directory.{Directory}
 use Rattle.faults.specs.declared.fault.Fault.{Fault}
 use Rattle.faults.specs.declared.fault.Fault.TheVariants.{At, NoMemory}
-use Rattle.cluster_model.specs.declared.fault.ModelCause.{ModelCause}
-use Rattle.cluster_model.specs.declared.fault.ModelCause.TheVariants.{UnknownName, NotPromotable, UnsupportedOrder}
+use Rattle.cluster_model.specs.declared.resolution.fault.ModelCause.{ModelCause}
+use Rattle.cluster_model.specs.declared.resolution.fault.ModelCause.TheVariants.{UnknownName, NotPromotable, UnsupportedOrder}
 use Rattle.cluster_model.specs.Chains.{successive}
-use Rattle.cluster_model.specs.Checks.{cause_of, excess_of, has_unknown, has_unpromotable, is_unsupported}
+use Rattle.cluster_model.specs.Checks.{cause_of, excess_of, has_unknown, has_unpromotable, is_unsupported_form}
 use Rattle.cluster_model.specs.Colocations.{colocation_of, colocations_in, colocations_of, dependent_at, member_colocation, primary_at}
 use Rattle.cluster_model.specs.Counting.{counted_with, nothing_counted}
 use Rattle.cluster_model.specs.Directories.{directory_of, groups_of, is_unknown, traits_of}
@@ -45,12 +45,12 @@ use Rattle.cluster_model.proofs.Known.{first-there, last-there, pairs-none}
 pub record IsSound (d : Directory) (form : Form) : Type 0 where
   pub known : has_unknown d form ≡ false
   pub promotable : has_unpromotable d form ≡ false
-  pub supported : is_unsupported form ≡ false
+  pub supported : is_unsupported_form form ≡ false
 
 pub none-sound : (d : Directory) (counts : Counts) (f : Form) → cause_of d counts f ≡ None → IsSound d f
 unfolding cause_of
-none-sound d counts f h = on (has_unknown d f) (has_unpromotable d f) (is_unsupported f) refl refl refl h where
-  on : (a b c : Bool) → has_unknown d f ≡ a → has_unpromotable d f ≡ b → is_unsupported f ≡ c
+none-sound d counts f h = on (has_unknown d f) (has_unpromotable d f) (is_unsupported_form f) refl refl refl h where
+  on : (a b c : Bool) → has_unknown d f ≡ a → has_unpromotable d f ≡ b → is_unsupported_form f ≡ c
       → cond a (Some UnknownName) (cond b (Some NotPromotable) (cond c (Some UnsupportedOrder) (excess_of counts))) ≡ None → IsSound d f
   on true b c e f g h = cc
   on false true c e f g h = cc

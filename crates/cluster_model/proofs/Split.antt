@@ -5,7 +5,7 @@ use Rattle.std.proofs.lemmas.List.{append-nil, append_assoc}
 use Rattle.faults.specs.declared.fault.Fault.{Fault}
 use Rattle.faults.specs.Reading.{fault_at}
 use Rattle.crm_parse.specs.declared.statement.Statement.{Statement}
-use Rattle.cluster_model.specs.declared.fault.ModelCause.{ModelCause}
+use Rattle.cluster_model.specs.declared.resolution.fault.ModelCause.{ModelCause}
 use Rattle.cluster_model.specs.FirstFaults.{first_fault}
 use Rattle.cluster_model.specs.Search.{count_on, sound_count}
 

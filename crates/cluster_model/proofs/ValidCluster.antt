@@ -16,15 +16,15 @@ use Rattle.crm_parse.specs.Statements.{statements_of}
 use Rattle.crm_parse.proofs.ReadForms.{statements-read}
 use Rattle.faults.specs.declared.fault.Fault.{Fault}
 use Rattle.faults.specs.Reading.{unless}
-use Rattle.cluster_model.specs.declared.expand_fault.ExpandCause.{ExpandCause}
-use Rattle.cluster_model.specs.declared.leaves.Leaves.{Leaves}
+use Rattle.cluster_model.specs.declared.expansion.expand_fault.ExpandCause.{ExpandCause}
+use Rattle.cluster_model.specs.declared.expansion.leaves.Leaves.{Leaves}
 use Rattle.cluster_model.specs.Expansion.{expansion_of, leaves_with_spans}
 use Rattle.cluster_model.specs.Faults.{fault_of}
 use Rattle.cluster_model.specs.Leaves.{leaves_of}
 use Rattle.cluster_model.proofs.NameLaws.{names_differ}
 use Rattle.cluster_model.proofs.NodeNames.{node_names_differ}
 use Rattle.lemmas.proofs.Members.{of_flat}
-use Rattle.cluster_model.specs.declared.directory.Directory.{Directory}
+use Rattle.cluster_model.specs.declared.resolution.directory.Directory.{Directory}
 use Rattle.cluster_model.specs.Colocations.{colocations_of}
 use Rattle.cluster_model.specs.Directories.{directory_of}
 use Rattle.cluster_model.specs.Locations.{location_in, locations_of, rule_locations_of}

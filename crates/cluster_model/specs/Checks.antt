@@ -8,12 +8,12 @@ use Rattle.crm_parse.specs.declared.form.OrderStep.{OrderStep}
 use Rattle.cluster_types.specs.declared.leaf.Role.{Role}
 use Rattle.cluster_types.specs.declared.leaf.Role.TheVariants as role
 use Rattle.cluster_types.specs.declared.leaf.Op.TheVariants as op
-use Rattle.cluster_model.specs.declared.colocations.Bearer.{Bearer}
-use Rattle.cluster_model.specs.declared.counts.Counts.{Counts}
-use Rattle.cluster_model.specs.declared.directory.Directory.{Directory}
-use Rattle.cluster_model.specs.declared.fault.ModelCause.{ModelCause}
-use Rattle.cluster_model.specs.declared.fault.ModelCause.TheVariants.{UnknownName, NotPromotable, UnsupportedOrder, TooManyNodes, TooManyLeaves, TooManyRules}
-use Rattle.cluster_model.specs.declared.orders.Point.{Point}
+use Rattle.cluster_model.specs.declared.resolution.colocations.Bearer.{Bearer}
+use Rattle.cluster_model.specs.declared.resolution.counts.Counts.{Counts}
+use Rattle.cluster_model.specs.declared.resolution.directory.Directory.{Directory}
+use Rattle.cluster_model.specs.declared.resolution.fault.ModelCause.{ModelCause}
+use Rattle.cluster_model.specs.declared.resolution.fault.ModelCause.TheVariants.{UnknownName, NotPromotable, UnsupportedOrder, TooManyNodes, TooManyLeaves, TooManyRules}
+use Rattle.cluster_model.specs.declared.resolution.orders.Point.{Point}
 use Rattle.cluster_model.specs.Chains.{successive}
 use Rattle.cluster_model.specs.Colocations.{dependent_at, primary_at}
 use Rattle.cluster_model.specs.Directories.{first_named, is_unknown, is_unknown_node, may_promote}
@@ -66,9 +66,9 @@ has_unpromotable d _ = false
 abbrev pub turns_down : OrderStep × OrderStep → Bool
 turns_down pair = not (is_down pair.0.action) && is_down pair.1.action
 
-abbrev pub is_unsupported : Form → Bool
-is_unsupported (form.Order id kind steps symmetrical) = list_any turns_down (successive steps)
-is_unsupported _ = false
+abbrev pub is_unsupported_form : Form → Bool
+is_unsupported_form (form.Order id kind steps symmetrical) = list_any turns_down (successive steps)
+is_unsupported_form _ = false
 
 -- more than there may be
 abbrev pub excess_of : Counts → Option ModelCause
@@ -83,5 +83,5 @@ unfoldable pub cause_of : Directory → Counts → Form → Option ModelCause
 cause_of d counts form =
     if has_unknown d form then Some UnknownName
     else if has_unpromotable d form then Some NotPromotable
-    else if is_unsupported form then Some UnsupportedOrder
+    else if is_unsupported_form form then Some UnsupportedOrder
     else excess_of counts

@@ -6,9 +6,9 @@ use Rattle.crm_parse.specs.declared.form.Form.{Form}
 use Rattle.crm_parse.specs.declared.form.Form.TheVariants as form
 use Rattle.crm_parse.specs.declared.pair.Kv.{Kv}
 use Rattle.crm_parse.specs.declared.statement.Statement.{Statement}
-use Rattle.crm_parse.specs.Statements.{is_promotable}
+use Rattle.crm_parse.specs.Statements.{says_promotable}
 use Rattle.crm_parse.specs.Values.{bool_of, count_of}
-use Rattle.cluster_model.specs.declared.clones.InClone.{InClone}
+use Rattle.cluster_model.specs.declared.expansion.clones.InClone.{InClone}
 use Rattle.cluster_model.specs.Metas.{meta_of, no_meta, read_as}
 use Rattle.cluster_model.specs.Tables.{table_of}
 
@@ -28,7 +28,7 @@ in_clone nodes ms pairs = record {
   copies = copies_in nodes pairs;
   promoted_copies = promoted_in pairs;
   interleave = unwrap_or (read_as bool_of (codes "interleave") pairs) false;
-  promotable = is_promotable ms pairs;
+  promotable = says_promotable ms pairs;
 }
 
 -- what holds outside of clones: one copy, which isn't promoted

@@ -9,8 +9,8 @@ use Rattle.crm_parse.specs.declared.statement.Statement.{Statement}
 use Rattle.cluster_types.specs.declared.leaf.Role.{Role}
 use Rattle.cluster_types.specs.declared.leaf.Role.TheVariants as role
 use Rattle.cluster_types.specs.declared.rules.Colocation.{Colocation}
-use Rattle.cluster_model.specs.declared.colocations.Bearer.{Bearer}
-use Rattle.cluster_model.specs.declared.directory.Directory.{Directory}
+use Rattle.cluster_model.specs.declared.resolution.colocations.Bearer.{Bearer}
+use Rattle.cluster_model.specs.declared.resolution.directory.Directory.{Directory}
 use Rattle.cluster_model.specs.Chains.{successive}
 use Rattle.cluster_model.specs.Directories.{first_named, last_named}
 use Rattle.cluster_model.specs.Locations.{role_of_word}

@@ -3,7 +3,7 @@ use Rattle.std.specs.Prelude.{ℕ, ◌+◌, ◌-◌, List, [], ◌∷◌, length
 use Rattle.crm_parse.specs.declared.form.Form.{Form}
 use Rattle.crm_parse.specs.declared.form.Form.TheVariants as form
 use Rattle.crm_parse.specs.declared.statement.Statement.{Statement}
-use Rattle.cluster_model.specs.declared.counts.Counts.{Counts}
+use Rattle.cluster_model.specs.declared.resolution.counts.Counts.{Counts}
 
 abbrev pub node_count : Form → ℕ
 node_count (form.Node id name attributes utilization) = 1

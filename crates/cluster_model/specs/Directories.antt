@@ -7,13 +7,13 @@ use Rattle.crm_parse.specs.declared.form.Form.{Form}
 use Rattle.crm_parse.specs.declared.form.Form.TheVariants as form
 use Rattle.crm_parse.specs.declared.statement.Statement.{Statement}
 use Rattle.cluster_types.specs.declared.leaf.Leaf.{Leaf}
-use Rattle.cluster_model.specs.declared.leaves.Leaves.{Leaves}
-use Rattle.cluster_model.specs.declared.leaves.Span.{Span}
+use Rattle.cluster_model.specs.declared.expansion.leaves.Leaves.{Leaves}
+use Rattle.cluster_model.specs.declared.expansion.leaves.Span.{Span}
 use Rattle.cluster_model.specs.Settings.{nodes_in}
 use Rattle.cluster_model.specs.Tables.{lookup, table_of, with_rows}
-use Rattle.cluster_model.specs.declared.directory.Directory.{Directory}
-use Rattle.cluster_model.specs.declared.directory.Ends.{Ends}
-use Rattle.cluster_model.specs.declared.directory.Traits.{Traits}
+use Rattle.cluster_model.specs.declared.resolution.directory.Directory.{Directory}
+use Rattle.cluster_model.specs.declared.resolution.directory.Ends.{Ends}
+use Rattle.cluster_model.specs.declared.resolution.directory.Traits.{Traits}
 
 -- names with their numbers, counted on from one
 abbrev pub numbered_from : ℕ → List (List ℕ) → List (List ℕ × ℕ)
@@ -24,12 +24,12 @@ numbered_from n (name ∷ names) = (name, n) ∷ numbered_from (n + 1) names
 abbrev pub nodes_of : List Statement → List (List ℕ × ℕ)
 nodes_of statements = table_of (numbered_from 0 (flat_map (λ s. nodes_in s.form) statements))
 
-abbrev pub ends_of : Span → Ends
-ends_of span = record { first = span.first; last = span.last }
+abbrev pub span_ends : Span → Ends
+span_ends span = record { first = span.first; last = span.last }
 
 -- each resource with its first and its last leaf
 abbrev pub resources_of : List Span → List (List ℕ × Ends)
-resources_of spans = table_of (map (λ span. (span.name, ends_of span)) spans)
+resources_of spans = table_of (map (λ span. (span.name, span_ends span)) spans)
 
 abbrev pub members_in : Form → List (List ℕ)
 members_in (form.Group id members description params meta) = members
@@ -68,12 +68,12 @@ are_there d ends = nat_lt ends.first (length d.leaves) && nat_lt ends.last (leng
 abbrev pub if_there : Directory → Ends → Option Ends
 if_there d ends = if are_there d ends then Some ends else None
 
-abbrev pub ends_named : Directory → List ℕ → Option Ends
-ends_named d resource = option_and_then (if_there d) (lookup d.resources resource)
+abbrev pub ends_in_directory : Directory → List ℕ → Option Ends
+ends_in_directory d resource = option_and_then (if_there d) (lookup d.resources resource)
 
 -- the names that aren't there
 abbrev pub is_unknown : Directory → List ℕ → Bool
-is_unknown d resource = is_none (ends_named d resource)
+is_unknown d resource = is_none (ends_in_directory d resource)
 
 abbrev pub is_unknown_node : Directory → List ℕ → Bool
 is_unknown_node d node = is_none (lookup d.nodes node)
@@ -83,10 +83,10 @@ abbrev pub node_named : Directory → List ℕ → ℕ
 node_named d node = option_map_or (λ n. n) (lookup d.nodes node) 0
 
 abbrev pub first_named : Directory → List ℕ → ℕ
-first_named d resource = option_map_or (λ (ends : Ends). ends.first) (ends_named d resource) 0
+first_named d resource = option_map_or (λ (ends : Ends). ends.first) (ends_in_directory d resource) 0
 
 abbrev pub last_named : Directory → List ℕ → ℕ
-last_named d resource = option_map_or (λ (ends : Ends). ends.last) (ends_named d resource) 0
+last_named d resource = option_map_or (λ (ends : Ends). ends.last) (ends_in_directory d resource) 0
 
 -- the leaf is there and may be promoted
 abbrev pub may_promote : Directory → ℕ → Bool

@@ -4,19 +4,19 @@ use Rattle.std.specs.List.{flat_map}
 use Rattle.crm_parse.specs.declared.form.Form.{Form}
 use Rattle.crm_parse.specs.declared.form.Form.TheVariants as form
 use Rattle.crm_parse.specs.declared.statement.Statement.{Statement}
-use Rattle.cluster_model.specs.declared.clones.InClone.{InClone}
-use Rattle.cluster_model.specs.declared.groups.InGroup.{InGroup}
-use Rattle.cluster_model.specs.declared.meta.Meta.{Meta}
+use Rattle.cluster_model.specs.declared.expansion.clones.InClone.{InClone}
+use Rattle.cluster_model.specs.declared.expansion.groups.InGroup.{InGroup}
+use Rattle.cluster_model.specs.declared.expansion.meta.Meta.{Meta}
 use Rattle.cluster_model.specs.Metas.{meta_of}
 use Rattle.cluster_model.specs.Tables.{lookup, table_of}
 
 -- what a group gives to a member; the members after the first are followers
-abbrev pub place_of : Meta → Option InClone → Bool → InGroup
-place_of meta clone follower = record { meta = meta; follower = follower; clone = clone }
+abbrev pub membership_of : Meta → Option InClone → Bool → InGroup
+membership_of meta clone follower = record { meta = meta; follower = follower; clone = clone }
 
 abbrev pub members_of : Meta → Option InClone → List (List ℕ) → List (List ℕ × InGroup)
 members_of meta clone [] = []
-members_of meta clone (first ∷ others) = (first, place_of meta clone false) ∷ map (λ other. (other, place_of meta clone true)) others
+members_of meta clone (first ∷ others) = (first, membership_of meta clone false) ∷ map (λ other. (other, membership_of meta clone true)) others
 
 -- the members of a group, each with what its group gives to it, where these are cloned
 abbrev pub grouped_in : List (List ℕ × InClone) → Form → List (List ℕ × InGroup)

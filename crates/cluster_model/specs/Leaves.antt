@@ -13,10 +13,10 @@ use Rattle.cluster_types.specs.declared.leaf.Leaf.{Leaf}
 use Rattle.cluster_types.specs.declared.leaf.OnFail.TheVariants.{Restart}
 use Rattle.cluster_types.specs.declared.leaf.TargetRole.{TargetRole}
 use Rattle.cluster_types.specs.declared.leaf.TargetRole.TheVariants as target
-use Rattle.cluster_model.specs.declared.clones.InClone.{InClone}
-use Rattle.cluster_model.specs.declared.groups.InGroup.{InGroup}
-use Rattle.cluster_model.specs.declared.meta.Meta.{Meta}
-use Rattle.cluster_model.specs.declared.surroundings.Surroundings.{Surroundings}
+use Rattle.cluster_model.specs.declared.expansion.clones.InClone.{InClone}
+use Rattle.cluster_model.specs.declared.expansion.groups.InGroup.{InGroup}
+use Rattle.cluster_model.specs.declared.expansion.meta.Meta.{Meta}
+use Rattle.cluster_model.specs.declared.expansion.surroundings.Surroundings.{Surroundings}
 use Rattle.cluster_model.specs.Clones.{cloned_by, uncloned}
 use Rattle.cluster_model.specs.Groups.{grouped_by}
 use Rattle.cluster_model.specs.Metas.{meta_of, no_meta, or_meta}
@@ -44,11 +44,11 @@ around s id = unwrap_or (lookup s.grouped id) (record { meta = no_meta; follower
 abbrev pub meta_around : Surroundings → InGroup → InClone → List Kv → Meta
 meta_around s group clone pairs = or_meta (or_meta (or_meta (meta_of pairs) group.meta) clone.meta) s.defaults
 
-abbrev pub target_role_of : RoleName → TargetRole
-target_role_of named.Started = target.Started
-target_role_of named.Stopped = target.Stopped
-target_role_of named.Promoted = target.Promoted
-target_role_of named.Unpromoted = target.Unpromoted
+abbrev pub target_role_named : RoleName → TargetRole
+target_role_named named.Started = target.Started
+target_role_named named.Stopped = target.Stopped
+target_role_named named.Promoted = target.Promoted
+target_role_named named.Unpromoted = target.Unpromoted
 
 -- how much a resource wants to stay where nothing is said: a little where it is cloned (Pacemaker Explained, "resource-stickiness")
 abbrev pub plain_stickiness : Bool → ℤ
@@ -56,8 +56,8 @@ plain_stickiness true = pos 1
 plain_stickiness false = pos 0
 
 -- the leaf of a primitive
-unfoldable pub leaf_of : Surroundings → List ℕ → List Kv → List Operation → Leaf
-leaf_of s id pairs ops =
+unfoldable pub primitive_leaf : Surroundings → List ℕ → List Kv → List Operation → Leaf
+primitive_leaf s id pairs ops =
     let group = around s id in
     let clone = unwrap_or group.clone uncloned in
     let meta = meta_around s group clone pairs in
@@ -73,7 +73,7 @@ leaf_of s id pairs ops =
       stickiness = unwrap_or meta.stickiness (plain_stickiness (is_some group.clone));
       threshold = unwrap_or meta.threshold infinity;
       timeout_ms = unwrap_or meta.timeout_ms 0;
-      target_role = target_role_of (unwrap_or meta.target_role named.Started);
+      target_role = target_role_named (unwrap_or meta.target_role named.Started);
       managed = unwrap_or meta.managed true && not s.maintenance;
       migrates = unwrap_or meta.migrates false;
       start_fail = unwrap_or (fail_of (codes "start") ops) Restart;
@@ -84,7 +84,7 @@ leaf_of s id pairs ops =
     }
 
 abbrev pub leaf_in : Surroundings → Form → List Leaf
-leaf_in s (form.Primitive id agent description params meta utilization operations ops) = leaf_of s id meta ops ∷ []
+leaf_in s (form.Primitive id agent description params meta utilization operations ops) = primitive_leaf s id meta ops ∷ []
 leaf_in s _ = []
 
 -- each primitive is one leaf

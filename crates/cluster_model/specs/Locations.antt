@@ -12,7 +12,7 @@ use Rattle.cluster_types.specs.declared.leaf.Role.{Role}
 use Rattle.cluster_types.specs.declared.leaf.Role.TheVariants as role
 use Rattle.cluster_types.specs.declared.rules.Location.{Location}
 use Rattle.cluster_types.specs.declared.rules.RuleLocation.{RuleLocation}
-use Rattle.cluster_model.specs.declared.directory.Directory.{Directory}
+use Rattle.cluster_model.specs.declared.resolution.directory.Directory.{Directory}
 use Rattle.cluster_model.specs.Directories.{first_named, node_named}
 
 abbrev pub role_of_word : RoleWord → Role

@@ -6,7 +6,7 @@ use Rattle.score.specs.ScoreText.{read_score}
 use Rattle.crm_parse.specs.declared.pair.Kv.{Kv}
 use Rattle.crm_parse.specs.Operations.{value_of}
 use Rattle.crm_parse.specs.Values.{bool_of, role_of, time_of}
-use Rattle.cluster_model.specs.declared.meta.Meta.{Meta}
+use Rattle.cluster_model.specs.declared.expansion.meta.Meta.{Meta}
 
 -- what a key is given as, by a reader of its values
 abbrev pub read_as : {V : Type 0} → (List ℕ → Option V) → List ℕ → List Kv → Option V

@@ -14,11 +14,11 @@ abbrev pub attribute_of : Kv → Pair
 attribute_of pair = record { name = pair.key; value = pair.value }
 
 -- a node may run no resource where its attribute standby says so
-abbrev pub is_standby : List Kv → Bool
-is_standby attributes = unwrap_or (read_as bool_of (codes "standby") attributes) false
+abbrev pub says_standby : List Kv → Bool
+says_standby attributes = unwrap_or (read_as bool_of (codes "standby") attributes) false
 
 abbrev pub node_of : List ℕ → List Kv → Node
-node_of name attributes = record { name = name; standby = is_standby attributes; attributes = map attribute_of attributes }
+node_of name attributes = record { name = name; standby = says_standby attributes; attributes = map attribute_of attributes }
 
 abbrev pub node_in : Form → List Node
 node_in (form.Node id name attributes utilization) = node_of name attributes ∷ []

@@ -39,15 +39,15 @@ abbrev pub after_a_stop : Bool → OnFail
 after_a_stop true = on_fail.Fence
 after_a_stop false = on_fail.Block
 
-abbrev pub is_promoted : RoleName → Bool
-is_promoted named.Promoted = true
-is_promoted named.Started = false
-is_promoted named.Unpromoted = false
-is_promoted named.Stopped = false
+abbrev pub is_promoted_name : RoleName → Bool
+is_promoted_name named.Promoted = true
+is_promoted_name named.Started = false
+is_promoted_name named.Unpromoted = false
+is_promoted_name named.Stopped = false
 
 -- a monitor of role Promoted runs where the resource is promoted, any other where it isn't
 abbrev pub monitor_role : List Kv → Role
-monitor_role pairs = if option_map_or is_promoted (read_as role_of (codes "role") pairs) false then role.Promoted else role.Started
+monitor_role pairs = if option_map_or is_promoted_name (read_as role_of (codes "role") pairs) false then role.Promoted else role.Started
 
 unfoldable pub monitor_of : List Kv → Monitor
 monitor_of pairs = record {

@@ -7,10 +7,10 @@ use Rattle.crm_parse.specs.declared.statement.Statement.{Statement}
 use Rattle.cluster_types.specs.declared.cluster.Cluster.{Cluster}
 use Rattle.cluster_types.specs.declared.leaf.Leaf.{Leaf}
 use Rattle.loops.specs.FirstLoops.{has_need_loop, has_step_loop}
-use Rattle.cluster_model.specs.declared.leaves.Leaves.{Leaves}
-use Rattle.cluster_model.specs.declared.directory.Directory.{Directory}
-use Rattle.cluster_model.specs.declared.fault.ModelCause.{ModelCause}
-use Rattle.cluster_model.specs.declared.fault.ModelCause.TheVariants.{ColocationLoop, OrderLoop}
+use Rattle.cluster_model.specs.declared.expansion.leaves.Leaves.{Leaves}
+use Rattle.cluster_model.specs.declared.resolution.directory.Directory.{Directory}
+use Rattle.cluster_model.specs.declared.resolution.fault.ModelCause.{ModelCause}
+use Rattle.cluster_model.specs.declared.resolution.fault.ModelCause.TheVariants.{ColocationLoop, OrderLoop}
 use Rattle.cluster_model.specs.Checks.{cause_of}
 use Rattle.cluster_model.specs.Colocations.{colocations_of}
 use Rattle.cluster_model.specs.Counting.{counts_of}

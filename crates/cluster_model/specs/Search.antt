@@ -3,8 +3,8 @@
 use Rattle.std.specs.Prelude.{ℕ, suc, if◌then◌else◌, List, [], ◌∷◌, ◌++◌, sum_by, Option, Some, None}
 use Rattle.crm_parse.specs.declared.statement.Statement.{Statement}
 use Rattle.loops.specs.FirstLoops.{is_closed_by}
-use Rattle.cluster_model.specs.declared.fault.ModelCause.{ModelCause}
-use Rattle.cluster_model.specs.declared.fault.ModelCause.TheVariants.{ColocationLoop, OrderLoop}
+use Rattle.cluster_model.specs.declared.resolution.fault.ModelCause.{ModelCause}
+use Rattle.cluster_model.specs.declared.resolution.fault.ModelCause.TheVariants.{ColocationLoop, OrderLoop}
 use Rattle.cluster_model.specs.Counting.{colocation_count, order_count}
 
 -- none, where there is a cause, and else one more than come later

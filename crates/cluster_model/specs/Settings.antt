@@ -9,7 +9,7 @@ use Rattle.crm_parse.specs.declared.pair.Kv.{Kv}
 use Rattle.crm_parse.specs.declared.statement.Statement.{Statement}
 use Rattle.crm_parse.specs.declared.words.SettingsWord.TheVariants.{Property, RscDefaults}
 use Rattle.crm_parse.specs.Values.{bool_of}
-use Rattle.cluster_model.specs.declared.meta.Meta.{Meta}
+use Rattle.cluster_model.specs.declared.expansion.meta.Meta.{Meta}
 use Rattle.cluster_model.specs.Metas.{meta_of, no_meta, or_meta, read_as}
 
 -- the options that a statement sets

@@ -7,8 +7,8 @@ use Rattle.crm_parse.specs.declared.form.Form.{Form}
 use Rattle.crm_parse.specs.declared.form.Form.TheVariants as form
 use Rattle.crm_parse.specs.declared.statement.Statement.{Statement}
 use Rattle.cluster_types.specs.declared.leaf.Leaf.{Leaf}
-use Rattle.cluster_model.specs.declared.leaves.Span.{Span}
-use Rattle.cluster_model.specs.declared.spans.Ends.{Ends}
+use Rattle.cluster_model.specs.declared.expansion.leaves.Span.{Span}
+use Rattle.cluster_model.specs.declared.expansion.spans.Ends.{Ends}
 use Rattle.cluster_model.specs.Tables.{lookup, table_of}
 
 -- the name of each leaf with its number, counted on from one
@@ -32,13 +32,13 @@ ends_of numbers members = record {
   last = number_of numbers (slice_get members (length members - 1));
 }
 
-abbrev pub ends_in : List (List ℕ × ℕ) → Form → List (List ℕ × Ends)
-ends_in numbers (form.Group id members description params meta) = (id, ends_of numbers members) ∷ []
-ends_in numbers _ = []
+abbrev pub group_ends_in : List (List ℕ × ℕ) → Form → List (List ℕ × Ends)
+group_ends_in numbers (form.Group id members description params meta) = (id, ends_of numbers members) ∷ []
+group_ends_in numbers _ = []
 
 -- each group with its ends
 abbrev pub ends_by : List (List ℕ × ℕ) → List Statement → List (List ℕ × Ends)
-ends_by numbers statements = table_of (flat_map (λ s. ends_in numbers s.form) statements)
+ends_by numbers statements = table_of (flat_map (λ s. group_ends_in numbers s.form) statements)
 
 -- the ends of a group, or of a primitive, which is its own first and last leaf
 abbrev pub ends_named : List (List ℕ × ℕ) → List (List ℕ × Ends) → List ℕ → Ends

@@ -1,7 +1,7 @@
 //! What follows from the definitions of `specs/`, for every configuration.
 
 ghost use Rattle.std.specs.Prelude.{◌≡◌, List, Ok, Contains, true};
-ghost use Rattle.cluster_model.specs.declared.leaves.Leaves.{Leaves};
+ghost use Rattle.cluster_model.specs.declared.expansion.leaves.Leaves.{Leaves};
 ghost use Rattle.cluster_model.specs.Expansion.{expansion_of};
 ghost use Rattle.cluster_types.specs.declared.cluster.Cluster.{Cluster};
 ghost use Rattle.cluster_types.specs.declared.rules.Colocation.{Colocation};
@@ -9,7 +9,7 @@ ghost use Rattle.cluster_types.specs.declared.rules.Location.{Location};
 ghost use Rattle.cluster_types.specs.declared.rules.Order.{Order};
 ghost use Rattle.cluster_types.specs.declared.rules.RuleLocation.{RuleLocation};
 ghost use Rattle.cluster_types.specs.Decisions.{NeedsHaveNoLoop};
-ghost use Rattle.cluster_types.specs.Numbers.{HasNoLoop};
+ghost use Rattle.cluster_types.specs.Numbers.{StepsHaveNoLoop};
 ghost use Rattle.cluster_types.specs.Precedence.{is_up};
 ghost use Rattle.cluster_types.specs.Valid.{IsValid, MayHaveRole, MayHaveWord};
 ghost use Rattle.crm_lex.specs.declared.line.Line.{Line};
@@ -21,7 +21,7 @@ ghost use Rattle.cluster_model.specs.Resolution.{resolution_of};
 /// The rules of a cluster that a configuration resolves to have no loop.
 pub fn resolved_rules_have_no_loop()
     ensures needs { (leaves : Leaves) (statements : List Statement) (c : Cluster) → resolution_of leaves statements ≡ Ok c → NeedsHaveNoLoop c }
-    ensures steps { (leaves : Leaves) (statements : List Statement) (c : Cluster) → resolution_of leaves statements ≡ Ok c → HasNoLoop c }
+    ensures steps { (leaves : Leaves) (statements : List Statement) (c : Cluster) → resolution_of leaves statements ≡ Ok c → StepsHaveNoLoop c }
 {}
 
 /// The rules of a cluster that a configuration resolves to name leaves that are there, and promote and demote none that isn't promotable. No

@@ -12,7 +12,7 @@ use Rattle.cluster_types.specs.declared.leaf.Op.TheVariants.{Start, Stop, Monito
 use Rattle.cluster_types.specs.declared.leaf.OnFail.TheVariants as on_fail
 use Rattle.cluster_types.specs.declared.leaf.Role.TheVariants as role
 use Rattle.cluster_types.specs.Answering.{applies_after}
-use Rattle.cluster_types.specs.Runs.{AppliesAt, IsCut, IsOver, amid, idle}
+use Rattle.cluster_types.specs.Runs.{AppliesAt, IsCutAt, IsOver, amid, idle}
 use Rattle.cluster_types.specs.Sources.{Says, told, untold, used_up}
 use Rattle.cluster_types.specs.Steps.{Transition, aborts, is_success}
 use Rattle.cluster_types.proofs.SmallClusters.{plain_leaf, two_nodes, did, online}
@@ -28,17 +28,17 @@ abbrev begun : List Event
 begun = Begin 1 (Probe 0 0) ∷ Begin 2 (Probe 0 1) ∷ []
 
 -- an answer that doesn't apply cuts the run where one is asked for, and what is behind it stays
-cut_by_another_number : IsCut one [] true (amid 1 probes begun) (Some (answer.End 9 0 ∷ answer.End 1 7 ∷ [])) (answer.End 9 0) (Some (answer.End 1 7 ∷ []))
+cut_by_another_number : IsCutAt one [] true (amid 1 probes begun) (Some (answer.End 9 0 ∷ answer.End 1 7 ∷ [])) (answer.End 9 0) (Some (answer.End 1 7 ∷ []))
 cut_by_another_number = record {
   asking = record { settled = refl; busy = omega arith };
   said = told (answer.End 9 0) (answer.End 1 7 ∷ []);
   refused = λ h. cc;
 }
 
-not_before_all_has_begun : IsCut one [] true (amid 1 probes (Begin 1 (Probe 0 0) ∷ [])) (Some (answer.End 9 0 ∷ [])) (answer.End 9 0) (Some []) → ⊥
+not_before_all_has_begun : IsCutAt one [] true (amid 1 probes (Begin 1 (Probe 0 0) ∷ [])) (Some (answer.End 9 0 ∷ [])) (answer.End 9 0) (Some []) → ⊥
 not_before_all_has_begun h = let e = h.asking.settled in cc
 
-not_by_what_applies : IsCut one [] true (amid 1 probes begun) (Some (answer.End 1 7 ∷ [])) (answer.End 1 7) (Some []) → ⊥
+not_by_what_applies : IsCutAt one [] true (amid 1 probes begun) (Some (answer.End 1 7 ∷ [])) (answer.End 1 7) (Some []) → ⊥
 not_by_what_applies h = h.refused refl
 
 -- no end applies while nothing is to be done

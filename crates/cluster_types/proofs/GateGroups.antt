@@ -1,8 +1,8 @@
 -- Groups of edges with gates of their own add up: what leads through both leads through one of them.
 use Rattle.std.proofs.Common.{arith, ◌<◌, ◌≤◌, ◌⊎◌, inl, inr, ℕ, List, ◌++◌, Contains}
 use Rattle.std.proofs.lemmas.List.Elements.{Contains-append_cases, Contains-append_left, Contains-append_right}
-use Rattle.cluster_types.specs.declared.edges.Edge.{Edge}
-use Rattle.cluster_types.specs.Graphs.{Leads, direct, through}
+use Rattle.edges.specs.declared.edge.Edge.{Edge}
+use Rattle.cluster_types.specs.Graphs.{LeadsByGates, direct, through}
 
 -- an end of an edge of the later group: an action, or a gate of its own
 pub data IsOwn (actions from x : ℕ) : Type 0 where
@@ -15,7 +15,7 @@ own_gate actions from x (action h) l = absurd (omega arith)
 own_gate actions from x (gate h) l = h
 
 -- with more edges all still leads that led
-pub more_edges : (actions : ℕ) (some all : List Edge) → ((e : Edge) → Contains some e → Contains all e) → (x y : ℕ) → Leads actions some x y → Leads actions all x y
+pub more_edges : (actions : ℕ) (some all : List Edge) → ((e : Edge) → Contains some e → Contains all e) → (x y : ℕ) → LeadsByGates actions some x y → LeadsByGates actions all x y
 more_edges actions some all f _ _ (direct e c) = direct e (f e c)
 more_edges actions some all f _ _ (through e y c g rest) = through e y (f e c) g (more_edges actions some all f e.after y rest)
 
@@ -27,19 +27,19 @@ module _ (actions from : ℕ) (old more : List Edge) (enough : actions ≤ from)
   not_between x X (action h) l u = absurd (omega arith)
   not_between x X (gate h) l u = absurd (omega arith)
 
-  from_old_gate : (x y : ℕ) → Leads actions (old ++ more) x y → actions ≤ x → x < from → Leads actions old x y
+  from_old_gate : (x y : ℕ) → LeadsByGates actions (old ++ more) x y → actions ≤ x → x < from → LeadsByGates actions old x y
   from_old_gate _ _ (direct e c) l u =
       elim (Contains-append_cases old more e c) [
         | inl h ↦ direct e h
-        | inr h ↦ not_between e.before (Leads actions old e.before e.after) (news e h).0 l u
+        | inr h ↦ not_between e.before (LeadsByGates actions old e.before e.after) (news e h).0 l u
       ]
   from_old_gate _ _ (through e y c g rest) l u =
       elim (Contains-append_cases old more e c) [
         | inl h ↦ through e y h g (from_old_gate e.after y rest g (olds e h).1)
-        | inr h ↦ not_between e.before (Leads actions old e.before y) (news e h).0 l u
+        | inr h ↦ not_between e.before (LeadsByGates actions old e.before y) (news e h).0 l u
       ]
 
-  from_new_gate : (x y : ℕ) → Leads actions (old ++ more) x y → from ≤ x → Leads actions more x y
+  from_new_gate : (x y : ℕ) → LeadsByGates actions (old ++ more) x y → from ≤ x → LeadsByGates actions more x y
   from_new_gate _ _ (direct e c) l =
       elim (Contains-append_cases old more e c) [
         | inl h ↦ (let u = (olds e h).0 in absurd (omega arith))
@@ -51,7 +51,7 @@ module _ (actions from : ℕ) (old more : List Edge) (enough : actions ≤ from)
         | inr h ↦ through e y h g (from_new_gate e.after y rest (own_gate actions from e.after (news e h).1 g))
       ]
 
-  pub one_group : (x y : ℕ) → Leads actions (old ++ more) x y → x < actions → Leads actions old x y ⊎ Leads actions more x y
+  pub one_group : (x y : ℕ) → LeadsByGates actions (old ++ more) x y → x < actions → LeadsByGates actions old x y ⊎ LeadsByGates actions more x y
   one_group _ _ (direct e c) u =
       elim (Contains-append_cases old more e c) [
         | inl h ↦ inl (direct e h)
@@ -64,8 +64,8 @@ module _ (actions from : ℕ) (old more : List Edge) (enough : actions ≤ from)
       ]
 
   -- and back
-  pub of_old : (x y : ℕ) → Leads actions old x y → Leads actions (old ++ more) x y
+  pub of_old : (x y : ℕ) → LeadsByGates actions old x y → LeadsByGates actions (old ++ more) x y
   of_old = more_edges actions old (old ++ more) (λ e c. Contains-append_left old more e c)
 
-  pub of_more : (x y : ℕ) → Leads actions more x y → Leads actions (old ++ more) x y
+  pub of_more : (x y : ℕ) → LeadsByGates actions more x y → LeadsByGates actions (old ++ more) x y
   of_more = more_edges actions more (old ++ more) (λ e c. Contains-append_right old more e c)

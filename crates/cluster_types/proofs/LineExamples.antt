@@ -14,7 +14,7 @@ use Rattle.cluster_types.specs.declared.run.PassedEnd.TheVariants.{Complete}
 use Rattle.cluster_types.specs.declared.run.RunLine.TheVariants as line
 use Rattle.cluster_types.specs.Journals.{in_flight}
 use Rattle.cluster_types.specs.Safety.{without_gone}
-use Rattle.cluster_types.specs.Steps.{Transition, events_of, resting}
+use Rattle.cluster_types.specs.Steps.{Transition, answer_events, resting}
 use Rattle.cluster_types.specs.Texts.{all_passed_lines, between, event_lines}
 use Rattle.cluster_types.proofs.SmallClusters.{plain_leaf, two_nodes, online, step}
 use Rattle.cluster_types.proofs.SmallRuns.{transition}
@@ -36,13 +36,13 @@ watched = transition one (Fence 0 ∷ Probe 0 1 ∷ []) (online [] 1000)
 abbrev both_begun : List Event
 both_begun = Begin 1 (Fence 0) ∷ Begin 2 (Probe 0 1) ∷ []
 
-lost_with_its_probe : events_of watched both_begun (answer.Lost 1) ≡ Ended 2 (Probe 0 1) Gone 1000 ∷ Lost 1 ∷ []
+lost_with_its_probe : answer_events watched both_begun (answer.Lost 1) ≡ Ended 2 (Probe 0 1) Gone 1000 ∷ Lost 1 ∷ []
 lost_with_its_probe = refl
 
-fence_goes_on : events_of watched both_begun (answer.Lost 0) ≡ Lost 0 ∷ []
+fence_goes_on : answer_events watched both_begun (answer.Lost 0) ≡ Lost 0 ∷ []
 fence_goes_on = refl
 
-lost_while_idle : events_of (resting one (online [] 1000)) [] (answer.Lost 1) ≡ Lost 1 ∷ []
+lost_while_idle : answer_events (resting one (online [] 1000)) [] (answer.Lost 1) ≡ Lost 1 ∷ []
 lost_while_idle = refl
 
 before_the_loss : without_gone (Up 1 ∷ Ended 2 (Probe 0 1) Gone 1000 ∷ []) ≡ Up 1 ∷ []

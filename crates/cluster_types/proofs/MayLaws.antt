@@ -9,28 +9,28 @@ use Rattle.cluster_types.specs.declared.journal.Event.TheVariants.{Up, Begin, En
 use Rattle.cluster_types.specs.declared.journal.Outcome.{Outcome}
 use Rattle.cluster_types.specs.declared.journal.Outcome.TheVariants.{Code, TimedOut, Gone}
 use Rattle.cluster_types.specs.declared.leaf.Op.TheVariants.{Stop, Promote, Monitor}
-use Rattle.cluster_types.specs.Outcomes.{is_among}
+use Rattle.cluster_types.specs.Outcomes.{is_code_among}
 use Rattle.cluster_types.specs.Fields.{is_promotable}
 use Rattle.cluster_types.specs.May.{opens_cell, promotes_cell, closes_cell, demotes_cell, opens, opens_promoted, closes, closes_promoted, shows_nothing, takes_out, may, may_promoted, is_left_promoted}
 
 -- an exit code of a promoted copy is none of a stopped one
-not_stopped : (o : Outcome) → is_among (8 ∷ 9 ∷ 191 ∷ []) o ≡ true → not (is_among (7 ∷ 5 ∷ []) o) ≡ true
+not_stopped : (o : Outcome) → is_code_among (8 ∷ 9 ∷ 191 ∷ []) o ≡ true → not (is_code_among (7 ∷ 5 ∷ []) o) ≡ true
 not_stopped (Code code) h = grind arith
 not_stopped TimedOut h = cc
 not_stopped Gone h = cc
 
 -- and what shows that a leaf doesn't run shows that it isn't promoted
-stopped_probe : (o : Outcome) → is_among (7 ∷ 5 ∷ []) o ≡ true → is_among (0 ∷ 190 ∷ 7 ∷ 5 ∷ []) o ≡ true
+stopped_probe : (o : Outcome) → is_code_among (7 ∷ 5 ∷ []) o ≡ true → is_code_among (0 ∷ 190 ∷ 7 ∷ 5 ∷ []) o ≡ true
 stopped_probe (Code code) h = grind arith
 stopped_probe TimedOut h = cc
 stopped_probe Gone h = cc
 
-stopped_monitor : (o : Outcome) → is_among (7 ∷ []) o ≡ true → is_among (0 ∷ 190 ∷ 7 ∷ []) o ≡ true
+stopped_monitor : (o : Outcome) → is_code_among (7 ∷ []) o ≡ true → is_code_among (0 ∷ 190 ∷ 7 ∷ []) o ≡ true
 stopped_monitor (Code code) h = grind arith
 stopped_monitor TimedOut h = cc
 stopped_monitor Gone h = cc
 
-not_stopped_monitor : (o : Outcome) → is_among (8 ∷ 9 ∷ 191 ∷ []) o ≡ true → not (is_among (7 ∷ []) o) ≡ true
+not_stopped_monitor : (o : Outcome) → is_code_among (8 ∷ 9 ∷ 191 ∷ []) o ≡ true → not (is_code_among (7 ∷ []) o) ≡ true
 not_stopped_monitor (Code code) h = grind arith
 not_stopped_monitor TimedOut h = cc
 not_stopped_monitor Gone h = cc

@@ -10,9 +10,9 @@ use Rattle.cluster_types.specs.declared.journal.Event.{Event}
 use Rattle.cluster_types.specs.declared.journal.Event.TheVariants as event
 use Rattle.cluster_types.specs.declared.journal.Outcome.{Outcome}
 use Rattle.cluster_types.specs.declared.journal.Outcome.TheVariants.{Gone}
-use Rattle.cluster_types.specs.Answering.{added_by, applies_after, end_of, most_from_outside}
+use Rattle.cluster_types.specs.Answering.{added_by, applies_after, end_event, most_from_outside}
 use Rattle.cluster_types.specs.Journals.{is_on, moment_of, seconds_of}
-use Rattle.cluster_types.specs.Steps.{Applies, Transition, StepsOn, Goes, begins, takes, is_silent, here, one_more, events_of, flying, journal, outside, resting}
+use Rattle.cluster_types.specs.Steps.{Applies, Transition, StepsOn, Goes, begins, takes, is_silent, here, one_more, answer_events, flying, journal, outside, resting}
 use Rattle.lemmas.proofs.Booleans.{later}
 
 abbrev limit : ℕ
@@ -28,11 +28,11 @@ timeless : (es events : List Event) → moment_of events ≡ 0 → moment_of es 
 timeless es events none low = let sum = one_moment es events in omega (arith, sum, none, low)
 
 module _ (c : Cluster) (es : List Event) (flight : List (ℕ × Action)) where
-  ended_at_once : (o : Outcome) (found : Option (ℕ × Action)) → moment_of (option_map_or (λ p. end_of c es flight o p ∷ []) found []) ≡ 0
+  ended_at_once : (o : Outcome) (found : Option (ℕ × Action)) → moment_of (option_map_or (λ p. end_event c es flight o p ∷ []) found []) ≡ 0
   ended_at_once o None = refl
   ended_at_once o (Some p) = refl
 
-  ends_at_once : (o : Outcome) (some : List (ℕ × Action)) → moment_of (map (end_of c es flight o) some) ≡ 0
+  ends_at_once : (o : Outcome) (some : List (ℕ × Action)) → moment_of (map (end_event c es flight o) some) ≡ 0
   ends_at_once o [] = refl
   ends_at_once o (p ∷ some) = ends_at_once o some
 
@@ -43,7 +43,7 @@ module _ (c : Cluster) (es : List Event) (flight : List (ℕ × Action)) where
   answer_keeps taken (Timeout k) h low = timeless es _ (ended_at_once _ _) low
   answer_keeps taken (Lost n) h low =
       let gone = filter (λ (p : ℕ × Action). is_on n p.1) flight in
-      timeless es _ (one_moment (map (end_of c es flight Gone) gone) (event.Lost n ∷ []) ∙ ap (λ k. k + 0) (ends_at_once Gone gone)) low
+      timeless es _ (one_moment (map (end_event c es flight Gone) gone) (event.Lost n ∷ []) ∙ ap (λ k. k + 0) (ends_at_once Gone gone)) low
   answer_keeps taken (Up n) h low = timeless es _ refl low
   answer_keeps taken (Quorum now) h low = timeless es _ refl low
   answer_keeps taken (Wait seconds) h low =
@@ -73,9 +73,9 @@ steps_keep t whole rest left since later (one_more _ events _ _ middle _ step mo
     steps_keep t whole middle left (since ++ events) later more (step_keeps t whole since events rest middle step low)
 
 pub idle_keeps : (c : Cluster) (es : List Event) (given : Answer) → Applies (resting c es) [] given → moment_of es < limit
-    → moment_of (es ++ events_of (resting c es) [] given) < limit
+    → moment_of (es ++ answer_events (resting c es) [] given) < limit
 idle_keeps c es given h low =
     let none = append-nil es in
-    subst (λ xs. moment_of (xs ++ events_of (resting c es) [] given) < limit) none
+    subst (λ xs. moment_of (xs ++ answer_events (resting c es) [] given) < limit) none
     (answer_keeps c (journal (resting c es) []) (flying (resting c es) []) (outside (resting c es) []) given h
     (subst (λ xs. moment_of xs < limit) (sym none) low))

@@ -11,7 +11,7 @@ use Rattle.cluster_types.specs.declared.cluster.Cluster.{Cluster}
 use Rattle.cluster_types.specs.declared.journal.Action.{Action}
 use Rattle.cluster_types.specs.declared.journal.Action.TheVariants.{Fence, Probe, Cell, MigrateTo, MigrateFrom}
 use Rattle.cluster_types.specs.declared.leaf.Op.TheVariants as op
-use Rattle.cluster_types.specs.Numbers.{AreNumbered, Place, is_before, is_earlier, place_of}
+use Rattle.cluster_types.specs.Numbers.{AreNumbered, Place, is_place_before, is_earlier, action_place}
 use Rattle.cluster_types.specs.Precedence.{is_migrating, sends}
 
 -- by the first number in which two places differ
@@ -42,7 +42,7 @@ by_rank_once : (a b : Place) → by_rank a b ≡ true → by_rank b a ≡ true �
 by_rank_once a b h k = by_first a.ranked b.ranked (by_leaf a b) (by_leaf b a) (by_leaf_once a b) h k
 
 -- a place isn't before itself, and of two places one is before the other at most
-pub not_both : (a b : Place) → is_before a b ≡ true → is_before b a ≡ true → ⊥
+pub not_both : (a b : Place) → is_place_before a b ≡ true → is_place_before b a ≡ true → ⊥
 not_both a b h k = by_first a.phase b.phase (by_rank a b) (by_rank b a) (by_rank_once a b) h k
 
 -- A list in the order of its numbers, of which each has the other's actions, is the other.
@@ -57,7 +57,7 @@ module _ (c : Cluster) (xs ys : List Action) (to : (a : Action) → Contains xs 
   pub same_migrating : (r : ℕ) → is_migrating xs r ≡ is_migrating ys r
   same_migrating r = same_test (is_migrating xs r) (is_migrating ys r) (found_in (sends r) xs ys to) (found_in (sends r) ys xs from)
 
-  pub same_place : (a : Action) → place_of c xs a ≡ place_of c ys a
+  pub same_place : (a : Action) → action_place c xs a ≡ action_place c ys a
   same_place (Fence n) = refl
   same_place (Probe r n) = refl
   same_place (Cell op.Start r n interval role) = refl
@@ -75,7 +75,7 @@ pub one_list : (c : Cluster) (Needed : Action → Type 0) (xs ys : List Action) 
 one_list c Needed xs ys h k =
     let to : (a : Action) → Contains xs a → Contains ys a = λ a at. (k.needed a).1 ((h.needed a).0 at) in
     let from : (a : Action) → Contains ys a → Contains xs a = λ a at. (h.needed a).1 ((k.needed a).0 at) in
-    same_list (λ x y. is_earlier c xs x y ≡ true) (λ x y. not_both (place_of c xs x) (place_of c xs y)) xs ys h.in_order
+    same_list (λ x y. is_earlier c xs x y ≡ true) (λ x y. not_both (action_place c xs x) (action_place c xs y)) xs ys h.in_order
     (λ i j d less within. same_order c xs ys to from (get_or ys i d) (get_or ys j d) (k.in_order i j d less within)) to from
 
 module _ {X : Type 0} (R : X → X → Type 0) (strict : (a b : X) → R a b → R b a → ⊥) where
@@ -103,4 +103,4 @@ module _ {X : Type 0} (R : X → X → Type 0) (strict : (a b : X) → R a b →
 pub one_number : (c : Cluster) (Needed : Action → Type 0) (xs : List Action) (i j : ℕ) (a : Action) → AreNumbered c Needed xs
     → slice_get xs i ≡ Some a → slice_get xs j ≡ Some a → i ≡ j
 one_number c Needed xs i j a h p q =
-    one_place (λ x y. is_earlier c xs x y ≡ true) (λ x y. not_both (place_of c xs x) (place_of c xs y)) xs i j a h.in_order p q
+    one_place (λ x y. is_earlier c xs x y ≡ true) (λ x y. not_both (action_place c xs x) (action_place c xs y)) xs i j a h.in_order p q

@@ -6,7 +6,7 @@ use Rattle.cluster_types.specs.declared.leaf.Op.TheVariants.{Start, Stop, Promot
 use Rattle.cluster_types.specs.declared.leaf.Role.{Role}
 use Rattle.cluster_types.specs.declared.rules.OrderKind.{OrderKind}
 use Rattle.cluster_types.specs.declared.rules.OrderKind.TheVariants as kind
-use Rattle.cluster_types.specs.Held.{Gives, started, promoted}
+use Rattle.cluster_types.specs.Held.{ActionGives, started, promoted}
 use Rattle.cluster_types.specs.Precedence.{is_mandatory_order, is_same_op, is_up, role_by, takers}
 
 pub op_itself : (o : Op) → is_same_op o o ≡ true
@@ -17,19 +17,19 @@ op_itself Demote = refl
 op_itself Monitor = refl
 
 -- what gives a role goes up
-pub up_of : (o : Op) (role : Role) → Gives o role → is_up o ≡ true
+pub up_of : (o : Op) (role : Role) → ActionGives o role → is_up o ≡ true
 up_of _ _ started = refl
 up_of _ _ promoted = refl
 
 -- and a word that goes up gives its role
-pub gives_by : (o : Op) → is_up o ≡ true → Gives o (role_by o)
+pub gives_by : (o : Op) → is_up o ≡ true → ActionGives o (role_by o)
 gives_by Start h = started
 gives_by Promote h = promoted
 gives_by Stop h = cc
 gives_by Demote h = cc
 gives_by Monitor h = cc
 
-pub gives_one : (o : Op) (given : Role) → Gives o given → given ≡ role_by o
+pub gives_one : (o : Op) (given : Role) → ActionGives o given → given ≡ role_by o
 gives_one _ _ started = refl
 gives_one _ _ promoted = refl
 

@@ -1,17 +1,18 @@
 -- Edges along which a height rises make a graph, where the heights of actions are in the order of their numbers.
 use Rattle.std.proofs.Common.{arith, ◌<◌, ◌≤◌, ℕ, List, length, Contains}
-use Rattle.cluster_types.specs.declared.edges.Edge.{Edge}
-use Rattle.cluster_types.specs.Graphs.{GraphOf, IsGraph, EndWithin, LeadUpward, Leads, direct, through}
+use Rattle.edges.specs.declared.edge.Edge.{Edge}
+use Rattle.cluster_types.specs.Graphs.{GraphOf, IsGraph, LeadUpward, LeadsByGates, direct, through}
+use Rattle.edges.specs.Loops.{EndsWithin}
 
 module _ (actions : ℕ) (edges : List Edge) (height : ℕ → ℕ) (rises : (e : Edge) → Contains edges e → height e.before < height e.after) where
-  leads-rise : (x y : ℕ) → Leads actions edges x y → height x < height y
+  leads-rise : (x y : ℕ) → LeadsByGates actions edges x y → height x < height y
   leads-rise _ _ (direct e c) = rises e c
   leads-rise _ _ (through e y c gate rest) =
       let first : height e.before < height e.after = rises e c in
       let others : height e.after < height y = leads-rise e.after y rest in
       omega arith
 
-pub graph-rising : (g : GraphOf) (height : ℕ → ℕ) → length g.actions ≤ g.edges.positions → EndWithin g.edges.positions g.edges.list
+pub graph-rising : (g : GraphOf) (height : ℕ → ℕ) → length g.actions ≤ g.edges.positions → EndsWithin g.edges.positions g.edges.list
     → LeadUpward (length g.actions) g.edges.list → ((e : Edge) → Contains g.edges.list e → height e.before < height e.after)
     → ((x y : ℕ) → x < length g.actions → y < length g.actions → height x < height y → x < y) → IsGraph g
 graph-rising g height enough within gates rises ordered = record {

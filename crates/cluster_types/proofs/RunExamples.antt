@@ -20,7 +20,7 @@ use Rattle.cluster_types.specs.Needed.{Cycled, GetsStep, Needed, kept, probe, st
 use Rattle.cluster_types.specs.Numbers.{AreNumbered, is_earlier}
 use Rattle.cluster_types.specs.Pins.{is_unprobed_state}
 use Rattle.cluster_types.specs.Rights.{is_to_be_fenced}
-use Rattle.cluster_types.specs.Steps.{Transition, Applies, events_of, has_aborted}
+use Rattle.cluster_types.specs.Steps.{Transition, Applies, answer_events, has_aborted}
 use Rattle.cluster_types.specs.Tables.{Targets}
 use Rattle.cluster_types.specs.Terms.{active_count}
 use Rattle.cluster_types.proofs.Few.{below_one, below_two, cells_of_one, of_one, of_three, pairs_of_three}
@@ -148,7 +148,7 @@ down_is_not_probed = refl
 it_may_come_up : Applies short probing (answer.Up 1)
 it_may_come_up = refl
 
-it_comes_up : events_of short probing (answer.Up 1) ≡ Up 1 ∷ []
+it_comes_up : answer_events short probing (answer.Up 1) ≡ Up 1 ∷ []
 it_comes_up = refl
 
 coming_up_aborts : has_aborted short (probing ++ Up 1 ∷ []) ≡ true

@@ -8,7 +8,7 @@ use Rattle.std.proofs.lemmas.Option.{slice_get_within}
 use Rattle.cluster_types.specs.declared.journal.Action.{Action}
 use Rattle.cluster_types.specs.declared.journal.Event.{Event}
 use Rattle.cluster_types.specs.declared.journal.Outcome.TheVariants.{Code}
-use Rattle.cluster_types.specs.Answering.{end_of, is_number_of}
+use Rattle.cluster_types.specs.Answering.{end_event, is_number_of}
 use Rattle.cluster_types.specs.Steps.{Transition, EndsSilently, ended, flying, is_in_flight_number, journal, numbered, silent_code, silent_end}
 
 module _ (actions : List Action) (in_flight : ℕ → Bool) where
@@ -45,7 +45,7 @@ number_within actions k a h = by_zero (k == 0) refl h
 
 module _ (t : Transition) (since : List Event) (k : ℕ) (a : Action) where
   of_first : (flight rest : List (ℕ × Action)) → flight ≡ (k, a) ∷ rest
-      → option_map_or (λ p. end_of t.cluster (journal t since) flight (Code (silent_code a)) p ∷ []) (find (is_number_of k) flight) []
+      → option_map_or (λ p. end_event t.cluster (journal t since) flight (Code (silent_code a)) p ∷ []) (find (is_number_of k) flight) []
       ≡ silent_end t.cluster (journal t since) flight
   of_first flight rest e = let f : (k == k) ≡ true = grind arith in rw e (rw f refl)
 

@@ -7,7 +7,7 @@ use Rattle.cluster_types.specs.declared.leaf.Op.TheVariants.{Start, Stop}
 use Rattle.cluster_types.specs.declared.node.Node.{Node}
 use Rattle.cluster_types.specs.declared.placement.Decision.TheVariants.{Place, Promote}
 use Rattle.cluster_types.specs.Decisions.{NeedsHaveNoLoop, needs}
-use Rattle.cluster_types.specs.Numbers.{HasNoLoop, step_of}
+use Rattle.cluster_types.specs.Numbers.{StepsHaveNoLoop, step_of}
 use Rattle.cluster_types.specs.Valid.{IsValid, IsValidNode, IsValidLeaf}
 use Rattle.cluster_types.proofs.Few.{of_one, of_two, pair_of_two}
 use Rattle.cluster_types.proofs.SmallClusters.{node, plain_leaf, two_nodes, colocation, start_order}
@@ -19,11 +19,11 @@ pair = two_nodes (plain_leaf (codes "a") ∷ plain_leaf (codes "b") ∷ [])
 abbrev looped_orders : Cluster
 looped_orders = record pair { orders = start_order (codes "o") 0 1 false ∷ start_order (codes "p") 1 0 false ∷ [] }
 
-orders_have_a_loop : HasNoLoop looped_orders → ⊥
+orders_have_a_loop : StepsHaveNoLoop looped_orders → ⊥
 orders_have_a_loop h = let e = h (step_of Start 0) in cc
 
 -- the stops have one too
-stops_have_a_loop : HasNoLoop looped_orders → ⊥
+stops_have_a_loop : StepsHaveNoLoop looped_orders → ⊥
 stops_have_a_loop h = let e = h (step_of Stop 1) in cc
 
 -- a must be with b, and b likes to be with a

@@ -10,9 +10,10 @@ use Rattle.std.proofs.lemmas.List.FromFn.{filter_of_map_range_with_len_more}
 use Rattle.lemmas.proofs.Booleans.{sooner, later, same_test}
 use Rattle.lemmas.proofs.Searches.{passes_by}
 use Rattle.lemmas.proofs.Ranges.{filter-alike}
-use Rattle.cluster_types.specs.declared.edges.Edge.{Edge}
-use Rattle.cluster_types.specs.declared.edges.Edges.{Edges}
-use Rattle.cluster_types.specs.Graphs.{GraphOf, IsGraph, EndWithin, LeadUpward, Leads, direct, through, is_before, is_number}
+use Rattle.edges.specs.declared.edge.Edge.{Edge}
+use Rattle.cluster_types.specs.declared.graph_edges.Edges.{Edges}
+use Rattle.cluster_types.specs.Graphs.{GraphOf, IsGraph, LeadUpward, LeadsByGates, direct, through, is_before, is_action_number}
+use Rattle.edges.specs.Loops.{EndsWithin}
 use Rattle.listed.specs.Flags.{is_marked}
 use Rattle.cluster_types.specs.Walks.{AreMarked, joins}
 use Rattle.cluster_types.proofs.Paths.{before-from_computed, before-computed}
@@ -28,7 +29,7 @@ nothing_marked n marks e x = rw e (none_marked n x)
 pub is_at : (marks : List Bool) (x : ℕ) (b : Bool) → x < length marks → b ≡ get_or marks x b → b ≡ true → is_marked marks x ≡ true
 is_at marks x b lt e h = get_or_default marks x false b lt ∙ (sym e ∙ h)
 
-pub ends_in : (edges others : List Edge) (n m : ℕ) → edges ≡ others → n ≡ m → EndWithin m others → EndWithin n edges
+pub ends_in : (edges others : List Edge) (n m : ℕ) → edges ≡ others → n ≡ m → EndsWithin m others → EndsWithin n edges
 ends_in edges others n m e f h = rw (e, f) h
 
 -- one edge more
@@ -81,8 +82,8 @@ joined edges e y c h =
     let b : (e.before == e.before) ≡ true = grind arith in
     passes_by (joins e.before y) edges e c (rw (a, b) refl)
 
-module _ (actions positions : ℕ) (edges : List Edge) (y : ℕ) (ends : EndWithin positions edges) (upward : LeadUpward actions edges) where
-  straight : (x : ℕ) → (e : Edge) × Contains edges e × (e.after ≡ y) × (e.before ≡ x) → Leads actions edges x y
+module _ (actions positions : ℕ) (edges : List Edge) (y : ℕ) (ends : EndsWithin positions edges) (upward : LeadUpward actions edges) where
+  straight : (x : ℕ) → (e : Edge) × Contains edges e × (e.after ≡ y) × (e.before ≡ x) → LeadsByGates actions edges x y
   straight x (e, c, a, b) = rw (← a, ← b) (direct e c)
 
   pub at_first : (old marks : List Bool) → ((x : ℕ) → is_marked old x ≡ false)
@@ -106,7 +107,7 @@ module _ (actions positions : ℕ) (edges : List Edge) (y : ℕ) (ends : EndWith
         at_gate e c gate above f (inl same) = let g : is_marked old e.after ≡ false = rw same h in cc
         at_gate e c gate above f (inr other) = before.through e c gate (omega arith) f
 
-    around : is_marked old lowest ≡ true → (x : ℕ) → (e : Edge) × Contains edges e × (e.after ≡ lowest) × (e.before ≡ x) → Leads actions edges x y
+    around : is_marked old lowest ≡ true → (x : ℕ) → (e : Edge) × Contains edges e × (e.after ≡ lowest) × (e.before ≡ x) → LeadsByGates actions edges x y
     around h x (e, c, a, b) = rw (← b) (through e y c (omega arith) (rw a (before.leading lowest h)))
 
     module _ (marks : List Bool) (h : is_marked old lowest ≡ true)
@@ -124,7 +125,7 @@ module _ (actions positions : ℕ) (edges : List Edge) (y : ℕ) (ends : EndWith
           of (inl g) = g
           of (inr g) = absurd (too_high (by_edge edges e.after lowest g))
 
-      leads_on : (x : ℕ) → (is_marked old x ≡ true) ⊎ (list_any (joins x lowest) edges ≡ true) → Leads actions edges x y
+      leads_on : (x : ℕ) → (is_marked old x ≡ true) ⊎ (list_any (joins x lowest) edges ≡ true) → LeadsByGates actions edges x y
       leads_on x (inl f) = before.leading x f
       leads_on x (inr f) = around h x (by_edge edges x lowest f)
 
@@ -141,13 +142,13 @@ module _ (actions positions : ℕ) (edges : List Edge) (y : ℕ) (ends : EndWith
       }
 
 -- once all gates are done, all that lead to y are marked
-pub all_marked : (actions : ℕ) (edges : List Edge) (x y : ℕ) (marks : List Bool) → AreMarked actions edges y actions marks → Leads actions edges x y
+pub all_marked : (actions : ℕ) (edges : List Edge) (x y : ℕ) (marks : List Bool) → AreMarked actions edges y actions marks → LeadsByGates actions edges x y
     → is_marked marks x ≡ true
 all_marked actions edges _ _ marks made (direct e c) = made.direct e c refl
 all_marked actions edges _ _ marks made (through e y c gate rest) = made.through e c gate gate (all_marked actions edges e.after y marks made rest)
 
 -- the numbers of the actions are those from 1 to their count
-pub numbered : (g : GraphOf) (k : ℕ) → 0 < k → k ≤ length g.actions → is_number g k ≡ true
+pub numbered : (g : GraphOf) (k : ℕ) → 0 < k → k ≤ length g.actions → is_action_number g k ≡ true
 numbered g k low high = grind arith
 
 module _ (g : GraphOf) (graph : IsGraph g) (y : ℕ) (from_one : 0 < y) (to_count : y ≤ length g.actions) (marks : List Bool)
@@ -185,7 +186,7 @@ module _ (marks : List Bool) (place : ℕ) (numbers : List ℕ) (so_far : number
   pub without : is_marked marks place ≡ false → numbers ≡ filter (λ k. is_marked marks (k - 1)) (range_with_len 1 (place + 1))
   without h = so_far ∙ sym (one_more ∙ (ap (λ b. filter test (range_with_len 1 place) ++ cond b ((place + 1) ∷ []) []) (here false h) ∙ append-nil _))
 
-pub ends_of_graph : (g : GraphOf) (edges : Edges) → edges ≡ g.edges → IsGraph g → EndWithin edges.positions edges.list
+pub ends_of_graph : (g : GraphOf) (edges : Edges) → edges ≡ g.edges → IsGraph g → EndsWithin edges.positions edges.list
 ends_of_graph g edges e graph = rw e graph.within
 
 pub are_befores : (g : GraphOf) (edges : Edges) (actions y : ℕ) (marks read : List Bool) (numbers : List ℕ) → IsGraph g → edges ≡ g.edges

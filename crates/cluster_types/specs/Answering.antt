@@ -42,9 +42,9 @@ role_of_interval ms interval = option_map_or (λ (m : MonitorOf). m.role) (find 
 abbrev pub monitor_action : Cluster → ℕ → ℕ → ℕ → Action
 monitor_action c r n interval = Cell Monitor r n interval (role_of_interval (monitors c r) interval)
 
-abbrev pub is_joined : Option NodeSign → Bool
-is_joined (Some joined) = true
-is_joined _ = false
+abbrev pub is_joined_sign : Option NodeSign → Bool
+is_joined_sign (Some joined) = true
+is_joined_sign _ = false
 
 abbrev pub is_offline_state : NodeState → Bool
 is_offline_state node.Offline = true
@@ -72,24 +72,24 @@ module _ (c : Cluster) (es : List Event) (flight : List (ℕ × Action)) where
   abbrev pub applies_after : ℕ → Answer → Bool
   applies_after taken (answer.End k code) = is_flying k
   applies_after taken (answer.Timeout k) = is_flying k
-  applies_after taken (answer.Lost n) = nat_lt taken most_from_outside && nat_lt n (length c.nodes) && is_joined (last_sign n es)
+  applies_after taken (answer.Lost n) = nat_lt taken most_from_outside && nat_lt n (length c.nodes) && is_joined_sign (last_sign n es)
   applies_after taken (answer.Up n) = nat_lt taken most_from_outside && nat_lt n (length c.nodes) && is_offline_state (node_state c n es)
   applies_after taken (answer.Quorum now) = nat_lt taken most_from_outside
   applies_after taken (answer.Wait seconds) = nat_lt taken most_from_outside && nat_lt (moment_of es + seconds) (2 ^ 40)
   applies_after taken (answer.Report n r interval code) = nat_lt taken most_from_outside && tells_news n r interval code
 
   -- the action of this number ends so, now
-  abbrev pub end_of : Outcome → ℕ × Action → Event
-  end_of o p = Ended p.0 p.1 o (moment_of es)
+  abbrev pub end_event : Outcome → ℕ × Action → Event
+  end_event o p = Ended p.0 p.1 o (moment_of es)
 
-  abbrev pub ends_of : ℕ → Outcome → List Event
-  ends_of k o = option_map_or (λ p. end_of o p ∷ []) (find (is_number_of k) flight) []
+  abbrev pub end_events : ℕ → Outcome → List Event
+  end_events k o = option_map_or (λ p. end_event o p ∷ []) (find (is_number_of k) flight) []
 
   -- what an answer adds to the journal. At a loss each action of a cell on the node is gone, in the order of their numbers; fences stay in flight
   abbrev pub added_by : Answer → List Event
-  added_by (answer.End k code) = ends_of k (Code code)
-  added_by (answer.Timeout k) = ends_of k TimedOut
-  added_by (answer.Lost n) = map (end_of Gone) (filter (λ (p : ℕ × Action). is_on n p.1) flight) ++ Lost n ∷ []
+  added_by (answer.End k code) = end_events k (Code code)
+  added_by (answer.Timeout k) = end_events k TimedOut
+  added_by (answer.Lost n) = map (end_event Gone) (filter (λ (p : ℕ × Action). is_on n p.1) flight) ++ Lost n ∷ []
   added_by (answer.Up n) = Up n ∷ []
   added_by (answer.Quorum now) = Quorum now ∷ []
   added_by (answer.Wait seconds) = Wait seconds ∷ []

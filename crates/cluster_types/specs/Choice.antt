@@ -37,8 +37,8 @@ is_mandatory col = int_eq col.score infinity
 abbrev pub is_separation : Colocation → Bool
 is_separation col = int_eq col.score minus_infinity
 
-abbrev pub is_finite : Colocation → Bool
-is_finite col = not (is_mandatory col) && not (is_separation col)
+abbrev pub is_finite_colocation : Colocation → Bool
+is_finite_colocation col = not (is_mandatory col) && not (is_separation col)
 
 -- what runs may stay in its cell, by the state of the cell
 abbrev pub is_kept_by : Decision → CellState → Bool
@@ -66,7 +66,7 @@ module _ (c : Cluster) (table : Targets) where
   -- the total of the finite colocations of a decision whose primary holds its role on the node
   abbrev pub preference : Decision → ℕ → ℤ
   preference d n =
-      total_of (map (λ (col : Colocation). col.score) (filter (λ col. is_finite col && is_dependent d col && holds_role table col.primary col.primary_role n) c.colocations))
+      total_of (map (λ (col : Colocation). col.score) (filter (λ col. is_finite_colocation col && is_dependent d col && holds_role table col.primary col.primary_role n) c.colocations))
 
   -- each mandatory primary of the decision holds its role on the node
   abbrev pub has_primaries : Decision → ℕ → Bool

@@ -67,13 +67,13 @@ is_active_for (Promote r) cell.Promoted = true
 is_active_for (Promote r) _ = false
 
 -- the colocation makes the decision of its dependent need that of its primary
-abbrev pub joins : Decision → Decision → Colocation → Bool
-joins d e col =
+abbrev pub makes_need : Decision → Decision → Colocation → Bool
+makes_need d e col =
     is_same_decision d (decision_of col.dependent col.dependent_role) && is_same_decision e (decision_of col.primary col.primary_role)
 
 -- the decision needs the other: a leaf is placed before it is promoted, and a primary is decided before its dependent
 abbrev pub needs : Cluster → Decision → Decision → Bool
-needs c d e = not (is_place d) && is_same_decision e (Place (leaf_of d)) || list_any (joins d e) c.colocations
+needs c d e = not (is_place d) && is_same_decision e (Place (leaf_of d)) || list_any (makes_need d e) c.colocations
 
 -- all decisions that there may be, of whatever leaf
 abbrev pub all_decisions : Cluster → List Decision

@@ -11,7 +11,7 @@ use Rattle.cluster_types.specs.Cells.{is_of_cell, is_reset}
 use Rattle.cluster_types.specs.ExitCodes.{err_args, err_unimplemented, err_perm, err_installed, err_configured}
 use Rattle.cluster_types.specs.Fields.{threshold, failure_timeout}
 use Rattle.cluster_types.specs.Journals.{moment_of}
-use Rattle.cluster_types.specs.Outcomes.{is_among, is_bad, is_ignored, effective_fail, is_stop}
+use Rattle.cluster_types.specs.Outcomes.{is_code_among, is_bad, is_ignored, effective_fail, is_stop_policy}
 
 -- the events since the node last joined and the cell was last cleaned up
 abbrev pub since_reset : ℕ → ℕ → List Event → List Event
@@ -60,7 +60,7 @@ fail_count c r n es =
     if c.properties.start_fatal && list_any is_start (counted c r n es) then 1000000 else min (length (counted c r n es)) 1000000
 
 abbrev pub has_code : List ℕ → Event → Bool
-has_code codes (Ended k a o moment) = is_among codes o
+has_code codes (Ended k a o moment) = is_code_among codes o
 has_code codes _ = false
 
 -- exit codes after which a resource isn't tried again on the node: wrong arguments, unimplemented, no permission, not installed
@@ -84,7 +84,7 @@ is_banned c r n es =
     || has_somewhere (has_code fatal_codes) c r es
 
 abbrev pub wants_stop : Cluster → Event → Bool
-wants_stop c (Ended k a o moment) = is_stop (effective_fail c a)
+wants_stop c (Ended k a o moment) = is_stop_policy (effective_fail c a)
 wants_stop c _ = false
 
 -- a failure somewhere keeps the leaf stopped everywhere

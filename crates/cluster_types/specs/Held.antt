@@ -20,17 +20,17 @@ use Rattle.cluster_types.specs.Pins.{is_pinned}
 use Rattle.cluster_types.specs.Tables.{Targets, holds_role, is_in_scope}
 
 -- the role that an action gives
-pub data Gives : Op → Role → Type 0 where
-  started : Gives op.Start role.Started
-  promoted : Gives op.Promote role.Promoted
+pub data ActionGives : Op → Role → Type 0 where
+  started : ActionGives op.Start role.Started
+  promoted : ActionGives op.Promote role.Promoted
 
 module _ (c : Cluster) (es : List Event) (table : Targets) where
   -- a mandatory order of starts or promotes may hold its then back on a node where it was chosen. The table is that after all decisions
   pub record OrderMayHold (o : Order) (n : ℕ) (first later : Role) : Type 0 where
     pub present : Contains c.orders o
     pub mandatory : o.kind ≡ kind.Mandatory
-    pub first_gives : Gives o.first_op first
-    pub then_gives : Gives o.then_op later
+    pub first_gives : ActionGives o.first_op first
+    pub then_gives : ActionGives o.then_op later
     pub managed : is_pinned c es o.then_leaf ≡ false
     pub within : n < length c.nodes
     pub chosen : holds_role table o.then_leaf later n ≡ true
@@ -53,7 +53,7 @@ module _ (c : Cluster) (es : List Event) (table : Targets) where
 
   -- the three rules: a then is held where its first has no target that isn't, a dependent where its primary has none, and a promote where the place
   -- of its leaf is held
-  pub record IsClosed (set : Decision → ℕ → Type 0) : Type 0 where
+  pub record IsClosedUnderHolding (set : Decision → ℕ → Type 0) : Type 0 where
     pub by_order : (o : Order) (n : ℕ) (first later : Role) → OrderMayHold o n first later → LacksFirst set o n first → set (decision_of o.then_leaf later) n
     pub by_colocation : (col : Colocation) (n : ℕ) → ColocationMayHold col n → LacksPrimary set col n
         → set (decision_of col.dependent col.dependent_role) n
@@ -70,12 +70,12 @@ module _ (c : Cluster) (es : List Event) (table : Targets) where
     by_place : (r n : ℕ) → holds_role table r role.Promoted n ≡ true → Held (Place r) n → Held (Promote r) n
 
   -- the target of a cell in the end: what was chosen there and isn't held
-  abbrev pub Keeps : ℕ → ℕ → Target → Type 0
-  Keeps r n target.Nowhere = holds_role table r role.Started n ≡ true → Held (Place r) n
-  Keeps r n target.Started =
+  abbrev pub KeepsTarget : ℕ → ℕ → Target → Type 0
+  KeepsTarget r n target.Nowhere = holds_role table r role.Started n ≡ true → Held (Place r) n
+  KeepsTarget r n target.Started =
       (holds_role table r role.Started n ≡ true) × (¬ Held (Place r) n) × (holds_role table r role.Promoted n ≡ true → Held (Promote r) n)
-  Keeps r n target.Promoted = (holds_role table r role.Promoted n ≡ true) × (¬ Held (Promote r) n)
+  KeepsTarget r n target.Promoted = (holds_role table r role.Promoted n ≡ true) × (¬ Held (Promote r) n)
 
   -- these are the targets in the end
   abbrev pub AreTargets : Targets → Type 0
-  AreTargets targets = (r n : ℕ) → r < length c.leaves → n < length c.nodes → Keeps r n (targets r n)
+  AreTargets targets = (r n : ℕ) → r < length c.leaves → n < length c.nodes → KeepsTarget r n (targets r n)

@@ -8,7 +8,7 @@ use Rattle.cluster_types.specs.declared.journal.Action.TheVariants.{Fence, Probe
 use Rattle.cluster_types.specs.declared.journal.Event.{Event}
 use Rattle.cluster_types.specs.declared.journal.Event.TheVariants.{Up, Down, Lost, Quorum, Wait, Cleanup, Begin, Ended}
 use Rattle.cluster_types.specs.ExitCodes.{success}
-use Rattle.cluster_types.specs.Outcomes.{is_among}
+use Rattle.cluster_types.specs.Outcomes.{is_code_among}
 
 -- the last thing that the events say, of those that say something
 abbrev pub last_said : {X : Type 0} → (Event → Option X) → List Event → Option X
@@ -42,7 +42,7 @@ abbrev pub sign_of : ℕ → Event → Option NodeSign
 sign_of n (Up node) = if node == n then Some joined else None
 sign_of n (Down node) = if node == n then Some went_down else None
 sign_of n (Lost node) = if node == n then Some was_lost else None
-sign_of n (Ended k (Fence node) o moment) = if node == n && is_among (success ∷ []) o then Some was_fenced else None
+sign_of n (Ended k (Fence node) o moment) = if node == n && is_code_among (success ∷ []) o then Some was_fenced else None
 sign_of n _ = None
 
 -- the last that a journal shows of a node

@@ -11,7 +11,7 @@ use Rattle.cluster_types.specs.declared.rules.Order.{Order}
 use Rattle.cluster_types.specs.declared.rules.OrderKind.TheVariants as kind
 use Rattle.cluster_types.specs.Choice.{is_mandatory, is_separation, cap_of}
 use Rattle.cluster_types.specs.Failures.{is_banned}
-use Rattle.cluster_types.specs.Held.{Gives}
+use Rattle.cluster_types.specs.Held.{ActionGives}
 use Rattle.cluster_types.specs.NodeStates.{is_usable}
 use Rattle.cluster_types.specs.Pins.{is_pinned}
 use Rattle.cluster_types.specs.Tables.{Targets, holds_role, is_in_scope}
@@ -27,15 +27,15 @@ module _ (c : Cluster) (es : List Event) (targets : Targets) where
         → holds_role targets r col.dependent_role n ≡ true → holds_role targets col.primary col.primary_role n ≡ false
     pub apart_from_dependents : (col : Colocation) → Contains c.colocations col → is_separation col ≡ true → col.primary ≡ r
         → holds_role targets r col.primary_role n ≡ true → holds_role targets col.dependent col.dependent_role n ≡ false
-    pub after_firsts : (o : Order) (first then_role : Role) → Contains c.orders o → o.kind ≡ kind.Mandatory → o.then_leaf ≡ r → Gives o.first_op first
-        → Gives o.then_op then_role → holds_role targets r then_role n ≡ true
+    pub after_firsts : (o : Order) (first then_role : Role) → Contains c.orders o → o.kind ≡ kind.Mandatory → o.then_leaf ≡ r → ActionGives o.first_op first
+        → ActionGives o.then_op then_role → holds_role targets r then_role n ≡ true
         → (m : ℕ) × (m < length c.nodes) × (is_in_scope o n m ≡ true) × (holds_role targets o.first first m ≡ true)
 
   -- on how many nodes a leaf holds a role
-  abbrev pub count_of : ℕ → Role → ℕ
-  count_of r held = count_by (λ n. holds_role targets r held n) (range_with_len 0 (length c.nodes))
+  abbrev pub holder_count : ℕ → Role → ℕ
+  holder_count r held = count_by (λ n. holds_role targets r held n) (range_with_len 0 (length c.nodes))
 
   pub record IsLawful : Type 0 where
     pub cells : (r n : ℕ) → r < length c.leaves → n < length c.nodes → is_pinned c es r ≡ false → holds_role targets r role.Started n ≡ true → IsLawfulCell r n
-    pub copies : (r : ℕ) → r < length c.leaves → is_pinned c es r ≡ false → count_of r role.Started ≤ cap_of c es (Place r)
-    pub promoted_copies : (r : ℕ) → r < length c.leaves → is_pinned c es r ≡ false → count_of r role.Promoted ≤ cap_of c es (Promote r)
+    pub copies : (r : ℕ) → r < length c.leaves → is_pinned c es r ≡ false → holder_count r role.Started ≤ cap_of c es (Place r)
+    pub promoted_copies : (r : ℕ) → r < length c.leaves → is_pinned c es r ≡ false → holder_count r role.Promoted ≤ cap_of c es (Promote r)

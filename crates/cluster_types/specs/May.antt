@@ -10,7 +10,7 @@ use Rattle.cluster_types.specs.declared.leaf.Op.TheVariants.{Start, Stop, Promot
 use Rattle.cluster_types.specs.Cells.{is_same_cell}
 use Rattle.cluster_types.specs.ExitCodes.{success, err_installed, not_running, running_promoted, failed_promoted, degraded, degraded_promoted}
 use Rattle.cluster_types.specs.Fields.{is_promotable}
-use Rattle.cluster_types.specs.Outcomes.{is_among, is_ignored}
+use Rattle.cluster_types.specs.Outcomes.{is_code_among, is_ignored}
 
 -- the event shows an outcome that is ignored. It neither opens nor closes a cell
 abbrev pub shows_nothing : Cluster → Event → Bool
@@ -21,7 +21,7 @@ shows_nothing c _ = false
 abbrev pub takes_out : Bool → ℕ → Event → Bool
 takes_out fencing n (Down node) = node == n
 takes_out fencing n (Lost node) = node == n && not fencing
-takes_out fencing n (Ended k (Fence node) o moment) = node == n && is_among (success ∷ []) o
+takes_out fencing n (Ended k (Fence node) o moment) = node == n && is_code_among (success ∷ []) o
 takes_out fencing n _ = false
 
 -- from this event on the leaf may run on the node: the node joined; a start, a promote, a demote or a migration to the node began or ended,
@@ -37,16 +37,16 @@ opens_cell r n (Ended k (Cell Start leaf node interval role) o moment) = is_same
 opens_cell r n (Ended k (Cell Promote leaf node interval role) o moment) = is_same_cell r n leaf node
 opens_cell r n (Ended k (Cell Demote leaf node interval role) o moment) = is_same_cell r n leaf node
 opens_cell r n (Ended k (MigrateFrom leaf source target) o moment) = is_same_cell r n leaf target
-opens_cell r n (Ended k (Probe leaf node) o moment) = is_same_cell r n leaf node && not (is_among (not_running ∷ err_installed ∷ []) o)
-opens_cell r n (Ended k (Cell Monitor leaf node interval role) o moment) = is_same_cell r n leaf node && not (is_among (not_running ∷ []) o)
+opens_cell r n (Ended k (Probe leaf node) o moment) = is_same_cell r n leaf node && not (is_code_among (not_running ∷ err_installed ∷ []) o)
+opens_cell r n (Ended k (Cell Monitor leaf node interval role) o moment) = is_same_cell r n leaf node && not (is_code_among (not_running ∷ []) o)
 opens_cell r n _ = false
 
 -- an action shows that the leaf doesn't run on the node: a stop succeeded; a probe found it not running or not installed; or a monitor found
 -- it not running
 abbrev pub closes_cell : ℕ → ℕ → Event → Bool
-closes_cell r n (Ended k (Cell Stop leaf node interval role) o moment) = is_same_cell r n leaf node && is_among (success ∷ []) o
-closes_cell r n (Ended k (Probe leaf node) o moment) = is_same_cell r n leaf node && is_among (not_running ∷ err_installed ∷ []) o
-closes_cell r n (Ended k (Cell Monitor leaf node interval role) o moment) = is_same_cell r n leaf node && is_among (not_running ∷ []) o
+closes_cell r n (Ended k (Cell Stop leaf node interval role) o moment) = is_same_cell r n leaf node && is_code_among (success ∷ []) o
+closes_cell r n (Ended k (Probe leaf node) o moment) = is_same_cell r n leaf node && is_code_among (not_running ∷ err_installed ∷ []) o
+closes_cell r n (Ended k (Cell Monitor leaf node interval role) o moment) = is_same_cell r n leaf node && is_code_among (not_running ∷ []) o
 closes_cell r n _ = false
 
 abbrev pub opens : Cluster → ℕ → ℕ → Event → Bool
@@ -66,18 +66,18 @@ abbrev pub promotes_cell : ℕ → ℕ → Event → Bool
 promotes_cell r n (Up node) = node == n
 promotes_cell r n (Begin k (Cell Promote leaf node interval role)) = is_same_cell r n leaf node
 promotes_cell r n (Ended k (Cell Promote leaf node interval role) o moment) = is_same_cell r n leaf node
-promotes_cell r n (Ended k (Probe leaf node) o moment) = is_same_cell r n leaf node && is_among (running_promoted ∷ failed_promoted ∷ degraded_promoted ∷ []) o
-promotes_cell r n (Ended k (Cell Monitor leaf node interval role) o moment) = is_same_cell r n leaf node && is_among (running_promoted ∷ failed_promoted ∷ degraded_promoted ∷ []) o
+promotes_cell r n (Ended k (Probe leaf node) o moment) = is_same_cell r n leaf node && is_code_among (running_promoted ∷ failed_promoted ∷ degraded_promoted ∷ []) o
+promotes_cell r n (Ended k (Cell Monitor leaf node interval role) o moment) = is_same_cell r n leaf node && is_code_among (running_promoted ∷ failed_promoted ∷ degraded_promoted ∷ []) o
 promotes_cell r n _ = false
 
 -- an action shows that the leaf isn't promoted on the node: a start, a stop or a demote succeeded; or a probe or a monitor found it
 -- unpromoted or not running
 abbrev pub demotes_cell : ℕ → ℕ → Event → Bool
-demotes_cell r n (Ended k (Cell Start leaf node interval role) o moment) = is_same_cell r n leaf node && is_among (success ∷ []) o
-demotes_cell r n (Ended k (Cell Stop leaf node interval role) o moment) = is_same_cell r n leaf node && is_among (success ∷ []) o
-demotes_cell r n (Ended k (Cell Demote leaf node interval role) o moment) = is_same_cell r n leaf node && is_among (success ∷ []) o
-demotes_cell r n (Ended k (Probe leaf node) o moment) = is_same_cell r n leaf node && is_among (success ∷ degraded ∷ not_running ∷ err_installed ∷ []) o
-demotes_cell r n (Ended k (Cell Monitor leaf node interval role) o moment) = is_same_cell r n leaf node && is_among (success ∷ degraded ∷ not_running ∷ []) o
+demotes_cell r n (Ended k (Cell Start leaf node interval role) o moment) = is_same_cell r n leaf node && is_code_among (success ∷ []) o
+demotes_cell r n (Ended k (Cell Stop leaf node interval role) o moment) = is_same_cell r n leaf node && is_code_among (success ∷ []) o
+demotes_cell r n (Ended k (Cell Demote leaf node interval role) o moment) = is_same_cell r n leaf node && is_code_among (success ∷ []) o
+demotes_cell r n (Ended k (Probe leaf node) o moment) = is_same_cell r n leaf node && is_code_among (success ∷ degraded ∷ not_running ∷ err_installed ∷ []) o
+demotes_cell r n (Ended k (Cell Monitor leaf node interval role) o moment) = is_same_cell r n leaf node && is_code_among (success ∷ degraded ∷ not_running ∷ []) o
 demotes_cell r n _ = false
 
 abbrev pub opens_promoted : Cluster → ℕ → ℕ → Event → Bool

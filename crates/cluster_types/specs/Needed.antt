@@ -21,7 +21,7 @@ use Rattle.cluster_types.specs.declared.states.CellState.TheVariants as cell
 use Rattle.cluster_types.specs.CellStates.{cell_state, is_running}
 use Rattle.cluster_types.specs.Choice.{is_separation}
 use Rattle.cluster_types.specs.Fields.{copies, monitors, is_cloned, is_promotable, may_migrate}
-use Rattle.cluster_types.specs.Held.{Gives}
+use Rattle.cluster_types.specs.Held.{ActionGives}
 use Rattle.cluster_types.specs.May.{may}
 use Rattle.cluster_types.specs.Pins.{is_pinned, is_unprobed_state}
 use Rattle.cluster_types.specs.Rights.{is_to_be_fenced, may_start}
@@ -82,8 +82,8 @@ module _ (c : Cluster) (es : List Event) (targets : Targets) where
     pub present : Contains c.orders o
     pub mandatory : o.kind ≡ kind.Mandatory
     pub both_ways : o.symmetrical ≡ true
-    pub first_gives : Gives o.first_op first
-    pub then_gives : Gives o.then_op later
+    pub first_gives : ActionGives o.first_op first
+    pub then_gives : ActionGives o.then_op later
     pub within : n < length c.nodes
     pub first_within : m < length c.nodes
     pub in_scope : is_in_scope o n m ≡ true
@@ -92,7 +92,7 @@ module _ (c : Cluster) (es : List Event) (targets : Targets) where
 
   -- the rules: a cell of a leaf that is active in more cells than it has copies is cycled; and so is the then of an order whose first is disturbed in
   -- scope, by the steps that it needs itself, or by those that it gets as a cycled cell
-  pub record IsClosed (set : ℕ → ℕ → Type 0) : Type 0 where
+  pub record IsClosedUnderCycling (set : ℕ → ℕ → Type 0) : Type 0 where
     pub by_copies : (r n : ℕ) → r < length c.leaves → n < length c.nodes → can_cycle r n ≡ true → nat_lt (copies c r) (active_count c es r) ≡ true → set r n
     pub by_order : (o : Order) (n m : ℕ) (first later : Role) → OrderMayCycle o n m first later
         → has_disturbing o.first_op (steps_at o.first m false) ≡ true → set o.then_leaf n

@@ -73,8 +73,8 @@ abbrev pub reaches : Cluster → ℕ → StepOf → StepOf → Bool
 reaches c zero s t = false
 reaches c (suc most) s t = list_any (λ l. is_same_step l.before s && (is_same_step l.after t || reaches c most l.after t)) (links c)
 
-abbrev pub HasNoLoop : Cluster → Type 0
-HasNoLoop c = (s : StepOf) → reaches c (4 * length c.leaves) s s ≡ false
+abbrev pub StepsHaveNoLoop : Cluster → Type 0
+StepsHaveNoLoop c = (s : StepOf) → reaches c (4 * length c.leaves) s s ≡ false
 
 -- where an action stands in the numbers: by phase, rank, leaf, node and interval
 pub record Place : Type 0 where
@@ -88,19 +88,19 @@ abbrev pub place : ℕ → ℕ → ℕ → ℕ → ℕ → Place
 place phase ranked r n interval = record { phase = phase; ranked = ranked; leaf = r; node = n; interval = interval }
 
 -- the phases: fences, probes, stops and demotes, sends, takings in, the stops of migrating leaves, starts and promotes, monitors
-abbrev pub place_of : Cluster → List Action → Action → Place
-place_of c actions (Fence n) = place 0 0 0 n 0
-place_of c actions (Probe r n) = place 1 0 r n 0
-place_of c actions (Cell op.Stop r n interval role) = if is_migrating actions r then place 5 0 r n 0 else place 2 (rank c (step_of op.Stop r)) r n 0
-place_of c actions (Cell op.Demote r n interval role) = place 2 (rank c (step_of op.Demote r)) r n 0
-place_of c actions (MigrateTo r source target) = place 3 0 r source 0
-place_of c actions (MigrateFrom r source target) = place 4 0 r target 0
-place_of c actions (Cell op.Start r n interval role) = place 6 (rank c (step_of op.Start r)) r n 0
-place_of c actions (Cell op.Promote r n interval role) = place 6 (rank c (step_of op.Promote r)) r n 0
-place_of c actions (Cell op.Monitor r n interval role) = place 7 0 r n interval
+abbrev pub action_place : Cluster → List Action → Action → Place
+action_place c actions (Fence n) = place 0 0 0 n 0
+action_place c actions (Probe r n) = place 1 0 r n 0
+action_place c actions (Cell op.Stop r n interval role) = if is_migrating actions r then place 5 0 r n 0 else place 2 (rank c (step_of op.Stop r)) r n 0
+action_place c actions (Cell op.Demote r n interval role) = place 2 (rank c (step_of op.Demote r)) r n 0
+action_place c actions (MigrateTo r source target) = place 3 0 r source 0
+action_place c actions (MigrateFrom r source target) = place 4 0 r target 0
+action_place c actions (Cell op.Start r n interval role) = place 6 (rank c (step_of op.Start r)) r n 0
+action_place c actions (Cell op.Promote r n interval role) = place 6 (rank c (step_of op.Promote r)) r n 0
+action_place c actions (Cell op.Monitor r n interval role) = place 7 0 r n interval
 
-abbrev pub is_before : Place → Place → Bool
-is_before a b =
+abbrev pub is_place_before : Place → Place → Bool
+is_place_before a b =
     nat_lt a.phase b.phase || a.phase == b.phase
     && (nat_lt a.ranked b.ranked || a.ranked == b.ranked
     && (nat_lt a.leaf b.leaf || a.leaf == b.leaf
@@ -108,7 +108,7 @@ is_before a b =
 
 -- the one action has a lower number than the other
 abbrev pub is_earlier : Cluster → List Action → Action → Action → Bool
-is_earlier c actions x y = is_before (place_of c actions x) (place_of c actions y)
+is_earlier c actions x y = is_place_before (action_place c actions x) (action_place c actions y)
 
 -- a list has just these actions, each once, in whatever order
 pub record AreNeeded (Needed : Action → Type 0) (actions : List Action) : Type 0 where

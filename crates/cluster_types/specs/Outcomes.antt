@@ -16,10 +16,10 @@ use Rattle.cluster_types.specs.ExitCodes.{success, not_running, running_promoted
 use Rattle.cluster_types.specs.Fields.{monitors, start_fail, stop_fail, promote_fail, demote_fail}
 
 -- the outcome is one of these exit codes
-abbrev pub is_among : List ℕ → Outcome → Bool
-is_among codes (Code code) = list_any (λ k. k == code) codes
-is_among codes TimedOut = false
-is_among codes Gone = false
+abbrev pub is_code_among : List ℕ → Outcome → Bool
+is_code_among codes (Code code) = list_any (λ k. k == code) codes
+is_code_among codes TimedOut = false
+is_code_among codes Gone = false
 
 -- the good exit codes of an operation: success; of a monitor also running, degraded and promoted
 abbrev pub good_codes_of_op : Op → List ℕ
@@ -57,12 +57,12 @@ op_fail c r Demote interval = demote_fail c r
 op_fail c r Monitor interval = monitor_fail (monitors c r) interval
 
 -- what the failure of an action leads to (Pacemaker Explained, "on-fail"); of a probe and of a migration it is restart (rule of this project)
-abbrev pub fail_of : Cluster → Action → OnFail
-fail_of c (Fence n) = on_fail.Restart
-fail_of c (Probe r n) = on_fail.Restart
-fail_of c (Cell op r n interval role) = op_fail c r op interval
-fail_of c (MigrateTo r source target) = on_fail.Restart
-fail_of c (MigrateFrom r source target) = on_fail.Restart
+abbrev pub action_fail : Cluster → Action → OnFail
+action_fail c (Fence n) = on_fail.Restart
+action_fail c (Probe r n) = on_fail.Restart
+action_fail c (Cell op r n interval role) = op_fail c r op interval
+action_fail c (MigrateTo r source target) = on_fail.Restart
+action_fail c (MigrateFrom r source target) = on_fail.Restart
 
 -- without fencing a failure that wants its node fenced blocks the resource instead (rule of this project)
 abbrev pub effective : Bool → OnFail → OnFail
@@ -70,7 +70,7 @@ effective false on_fail.Fence = on_fail.Block
 effective fencing other = other
 
 abbrev pub effective_fail : Cluster → Action → OnFail
-effective_fail c a = effective c.properties.fencing (fail_of c a)
+effective_fail c a = effective c.properties.fencing (action_fail c a)
 
 abbrev pub is_ignore : OnFail → Bool
 is_ignore on_fail.Ignore = true
@@ -80,9 +80,9 @@ abbrev pub is_block : OnFail → Bool
 is_block on_fail.Block = true
 is_block _ = false
 
-abbrev pub is_stop : OnFail → Bool
-is_stop on_fail.Stop = true
-is_stop _ = false
+abbrev pub is_stop_policy : OnFail → Bool
+is_stop_policy on_fail.Stop = true
+is_stop_policy _ = false
 
 abbrev pub is_fence : OnFail → Bool
 is_fence on_fail.Fence = true
@@ -96,4 +96,4 @@ is_monitor _ = false
 -- the outcome is ignored: a bad one of a monitor whose on-fail is ignore. It shows that the monitor runs, and nothing else
 -- (Pacemaker Explained, "on-fail"; that it counts nowhere else is a rule of this project)
 abbrev pub is_ignored : Cluster → Action → Outcome → Bool
-is_ignored c a o = is_monitor a && is_bad a o && is_ignore (fail_of c a)
+is_ignored c a o = is_monitor a && is_bad a o && is_ignore (action_fail c a)

@@ -169,19 +169,19 @@ parts_first col x y =
     && (is_parted col.dependent col.dependent_role col.primary col.primary_role x y || is_parted col.primary col.primary_role col.dependent col.dependent_role x y)
 
 -- the two words, of leaf r and then of leaf s, order the two actions in scope
-abbrev pub is_pair : List Action → Order → Op → ℕ → Op → ℕ → Action → Action → Bool
-is_pair actions o first r later s x y =
+abbrev pub is_ordered_pair : List Action → Order → Op → ℕ → Op → ℕ → Action → Action → Bool
+is_ordered_pair actions o first r later s x y =
     both (λ a b. a.leaf == r && b.leaf == s && is_in_scope o a.node b.node) (as_earlier first x) (as_later actions later y)
 
 -- the inverse of an order of starts or promotes: what takes the then's role comes before what takes the first's
 abbrev pub is_taken_back : List Action → Order → Action → Action → Bool
 is_taken_back actions o x y =
-    list_any (λ p. list_any (λ q. is_pair actions o p o.then_leaf q o.first x y) (takers o.first_op)) (takers o.then_op)
+    list_any (λ p. list_any (λ q. is_ordered_pair actions o p o.then_leaf q o.first x y) (takers o.first_op)) (takers o.then_op)
 
 abbrev pub is_inverse_pair : List Action → Order → Action → Action → Bool
 is_inverse_pair actions o x y =
     if is_up o.first_op && is_up o.then_op then is_taken_back actions o x y
-    else is_pair actions o (inverse o.then_op) o.then_leaf (inverse o.first_op) o.first x y
+    else is_ordered_pair actions o (inverse o.then_op) o.then_leaf (inverse o.first_op) o.first x y
 
 abbrev pub is_mandatory_order : OrderKind → Bool
 is_mandatory_order kind.Mandatory = true
@@ -195,7 +195,7 @@ is_serialize _ = false
 abbrev pub is_ordered : List Action → Order → Action → Action → Bool
 is_ordered actions o x y =
     not (is_serialize o.kind)
-    && (is_pair actions o o.first_op o.first o.then_op o.then_leaf x y || o.symmetrical && is_inverse_pair actions o x y)
+    && (is_ordered_pair actions o o.first_op o.first o.then_op o.then_leaf x y || o.symmetrical && is_inverse_pair actions o x y)
 
 -- one of the four of each leaf, in scope
 abbrev pub is_across : Order → Action → Action → Bool

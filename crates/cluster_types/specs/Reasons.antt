@@ -14,7 +14,7 @@ use Rattle.cluster_types.specs.declared.rules.OrderKind.TheVariants as kind
 use Rattle.cluster_types.specs.Choice.{is_mandatory, is_dependent, is_stopped_role}
 use Rattle.cluster_types.specs.Failures.{is_fail_stopped}
 use Rattle.cluster_types.specs.Fields.{copies, target_role_of}
-use Rattle.cluster_types.specs.Held.{Gives, Held, LacksFirst, LacksPrimary}
+use Rattle.cluster_types.specs.Held.{ActionGives, Held, LacksFirst, LacksPrimary}
 use Rattle.cluster_types.specs.Pins.{is_pinned}
 use Rattle.cluster_types.specs.Rights.{may_start}
 use Rattle.cluster_types.specs.Tables.{Targets, is_somewhere}
@@ -52,9 +52,9 @@ module _ (c : Cluster) (es : List Event) (table : Targets) where
   pub record IsHeldByOrder (r n : ℕ) (o : Order) : Type 0 where
     pub mandatory : o.kind ≡ kind.Mandatory
     pub later : o.then_leaf ≡ r
-    pub starts : Gives o.then_op role.Started
+    pub starts : ActionGives o.then_op role.Started
     pub first : Role
-    pub gives : Gives o.first_op first
+    pub gives : ActionGives o.first_op first
     pub lacking : LacksFirst c es table (Held c es table) o n first
 
   -- on the earliest node where it was chosen the leaf is held by this rule: the first such colocation, or the first such order where there is

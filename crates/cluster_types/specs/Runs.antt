@@ -12,26 +12,26 @@ use Rattle.cluster_types.specs.declared.run.RunLine.{RunLine}
 use Rattle.cluster_types.specs.declared.run.RunLine.TheVariants as line
 use Rattle.cluster_types.specs.Plans.{IsPlan, transition_of}
 use Rattle.cluster_types.specs.Sources.{Says}
-use Rattle.cluster_types.specs.Steps.{Transition, StepsOn, Applies, IsWaiting, HasEnded, journal, has_aborted, events_of, resting}
+use Rattle.cluster_types.specs.Steps.{Transition, StepsOn, Applies, IsWaiting, HasEnded, journal, has_aborted, answer_events, resting}
 use Rattle.cluster_types.specs.Tables.{targets_of}
 use Rattle.cluster_types.specs.Texts.{event_lines, target_lines}
 
 -- where a run stands: the transition of a number, from 1, is due after a journal; it is under way, with the events since it was planned; or it
 -- is complete, and nothing is to be done
-pub data Standing : Type 0 where
-  due : (number : ℕ) (es : List Event) → Standing
-  amid : (number : ℕ) (t : Transition) (since : List Event) → Standing
-  idle : (number : ℕ) (es : List Event) → Standing
+pub data RunStanding : Type 0 where
+  due : (number : ℕ) (es : List Event) → RunStanding
+  amid : (number : ℕ) (t : Transition) (since : List Event) → RunStanding
+  idle : (number : ℕ) (es : List Event) → RunStanding
 
 -- the journal where a run stands
-abbrev pub journal_at : Standing → List Event
+abbrev pub journal_at : RunStanding → List Event
 journal_at (due number es) = es
 journal_at (amid number t since) = journal t since
 journal_at (idle number es) = es
 
 module _ (c : Cluster) (promotions : List Promotion) (whole : Bool) where
   -- one step of a run, the lines that it prints, and what is left of the answers to come
-  pub data RunsOn : Standing → Option (List Answer) → List RunLine → Standing → Option (List Answer) → Type 0 where
+  pub data RunsOn : RunStanding → Option (List Answer) → List RunLine → RunStanding → Option (List Answer) → Type 0 where
     -- the transition that is due is planned
     plans : (k : ℕ) (es : List Event) (rest : Option (List Answer)) (placed : Placed) (actions : List Action) → IsPlan c es promotions placed actions
         → RunsOn (due k es) rest (line.Transition k ∷ target_lines c placed.pins (targets_of placed.table) placed.none)
@@ -48,40 +48,40 @@ module _ (c : Cluster) (promotions : List Promotion) (whole : Bool) where
     -- an answer comes while nothing is to be done, and the next is due
     answers : (k : ℕ) (es : List Event) (rest left : Option (List Answer)) (given : Answer) → Says whole rest (Some given) left
         → Applies (resting c es) [] given
-        → RunsOn (idle k es) rest (line.Taken given ∷ []) (due (k + 1) (es ++ events_of (resting c es) [] given)) left
+        → RunsOn (idle k es) rest (line.Taken given ∷ []) (due (k + 1) (es ++ answer_events (resting c es) [] given)) left
 
   -- step by step, with all lines that are printed on the way
-  pub data Runs : Standing → Option (List Answer) → List RunLine → Standing → Option (List Answer) → Type 0 where
-    here : (at : Standing) (rest : Option (List Answer)) → Runs at rest [] at rest
-    one_more : (at next later : Standing) (rest middle left : Option (List Answer)) (lines more : List RunLine) → RunsOn at rest lines next middle
+  pub data Runs : RunStanding → Option (List Answer) → List RunLine → RunStanding → Option (List Answer) → Type 0 where
+    here : (at : RunStanding) (rest : Option (List Answer)) → Runs at rest [] at rest
+    one_more : (at next later : RunStanding) (rest middle left : Option (List Answer)) (lines more : List RunLine) → RunsOn at rest lines next middle
         → Runs next middle more later left → Runs at rest (lines ++ more) later left
 
   -- here an answer is asked for
-  abbrev pub IsAsking : Standing → Type 0
+  abbrev pub IsAsking : RunStanding → Type 0
   IsAsking (due k es) = ⊥
   IsAsking (amid k t since) = IsWaiting t since
   IsAsking (idle k es) = ⊤
 
   -- the answer applies here
-  abbrev pub AppliesAt : Standing → Answer → Type 0
+  abbrev pub AppliesAt : RunStanding → Answer → Type 0
   AppliesAt (due k es) given = ⊥
   AppliesAt (amid k t since) given = Applies t since given
   AppliesAt (idle k es) given = Applies (resting c es) [] given
 
   -- the run is over: nothing is to be done, and nothing more is said
-  abbrev pub IsOver : Standing → Option (List Answer) → Type 0
+  abbrev pub IsOver : RunStanding → Option (List Answer) → Type 0
   IsOver (idle k es) rest = Says whole rest None rest
   IsOver _ rest = ⊥
 
   -- the run is cut: an answer is asked for, and the one that comes doesn't apply
-  pub record IsCut (at : Standing) (rest : Option (List Answer)) (given : Answer) (left : Option (List Answer)) : Type 0 where
+  pub record IsCutAt (at : RunStanding) (rest : Option (List Answer)) (given : Answer) (left : Option (List Answer)) : Type 0 where
     pub asking : IsAsking at
     pub said : Says whole rest (Some given) left
     pub refused : ¬ AppliesAt at given
 
   -- the whole run from a journal on, of these answers: its lines, and the journal that it leaves. Where the answers are told, all of them were taken
   pub record IsWholeRun (es : List Event) (rest : Option (List Answer)) (lines : List RunLine) (left : List Event) : Type 0 where
-    pub last : Standing
+    pub last : RunStanding
     pub behind : Option (List Answer)
     pub steps : Runs (due 1 es) rest lines last behind
     pub over : IsOver last behind
@@ -90,17 +90,17 @@ module _ (c : Cluster) (promotions : List Promotion) (whole : Bool) where
   -- the run from a journal on up to a step at which an answer is asked for: its lines, the journal there, and the answers that weren't taken. While some are
   -- left, no action has ended silently
   pub record IsRunSoFar (es : List Event) (rest : Option (List Answer)) (lines : List RunLine) (left : List Event) (behind : Option (List Answer)) : Type 0 where
-    pub last : Standing
+    pub last : RunStanding
     pub steps : Runs (due 1 es) rest lines last behind
     pub asking : IsAsking last
     pub leaves : left ≡ journal_at last
 
   -- the run from a journal on, cut by the answer that doesn't apply: its lines up to there, the journal that it leaves, and the answers behind it
   pub record IsCutRun (es : List Event) (rest : Option (List Answer)) (lines : List RunLine) (left : List Event) (given : Answer) (behind : Option (List Answer)) : Type 0 where
-    pub last : Standing
+    pub last : RunStanding
     pub unread : Option (List Answer)
     pub steps : Runs (due 1 es) rest lines last unread
-    pub cut : IsCut last unread given behind
+    pub cut : IsCutAt last unread given behind
     pub leaves : left ≡ journal_at last
 
   -- the run from a journal on up to where the transition after so many is due: its lines, the journal there, and the answers behind it
@@ -108,8 +108,8 @@ module _ (c : Cluster) (promotions : List Promotion) (whole : Bool) where
   IsRunUpTo most es rest lines left behind = Runs (due 1 es) rest lines (due (most + 1) left) behind
 
   -- the line that ends a transition
-  pub data Closes : Standing → List RunLine → Standing → Type 0 where
-    not_yet : (at : Standing) → Closes at [] at
+  pub data Closes : RunStanding → List RunLine → RunStanding → Type 0 where
+    not_yet : (at : RunStanding) → Closes at [] at
     complete : (k : ℕ) (t : Transition) (since : List Event) → HasEnded t since → has_aborted t since ≡ false
         → Closes (amid k t since) (line.Complete k ∷ []) (idle k (journal t since))
     aborted : (k : ℕ) (t : Transition) (since : List Event) → HasEnded t since → has_aborted t since ≡ true
@@ -118,9 +118,9 @@ module _ (c : Cluster) (promotions : List Promotion) (whole : Bool) where
   -- the run from a journal on, stopped by whom it tells its lines: those before the last call, those of that call, and at most the one that ends the
   -- transition right after it; the journal that it leaves, and the answers behind it
   pub record IsStoppedRun (es : List Event) (rest : Option (List Answer)) (told call closing : List RunLine) (left : List Event) (behind : Option (List Answer)) : Type 0 where
-    pub before : Standing
-    pub next : Standing
-    pub last : Standing
+    pub before : RunStanding
+    pub next : RunStanding
+    pub last : RunStanding
     pub middle : Option (List Answer)
     pub steps : Runs (due 1 es) rest told before middle
     pub stopped : RunsOn before middle call next behind
@@ -128,7 +128,7 @@ module _ (c : Cluster) (promotions : List Promotion) (whole : Bool) where
     pub leaves : left ≡ journal_at last
 
   -- between two transitions, or before the first
-  abbrev pub IsBetween : Standing → Type 0
+  abbrev pub IsBetween : RunStanding → Type 0
   IsBetween (due k es) = ⊤
   IsBetween (amid k t since) = ⊥
   IsBetween (idle k es) = ⊤

@@ -31,7 +31,7 @@ use Rattle.cluster_types.specs.Pins.{is_pinned}
 use Rattle.cluster_types.specs.Plans.{IsPlan}
 use Rattle.cluster_types.specs.Precedence.{CellOf, gives_role, op_cell}
 use Rattle.cluster_types.specs.Rights.{is_to_be_fenced}
-use Rattle.cluster_types.specs.Runs.{Standing, Runs, due, amid, idle}
+use Rattle.cluster_types.specs.Runs.{RunStanding, Runs, due, amid, idle}
 use Rattle.cluster_types.specs.Steps.{Transition, HasEnded, IsWaiting, action_at, all_succeeded, begins_number, flight, has_aborted, has_succeeded, is_settled, journal, succeeds_number}
 use Rattle.cluster_types.specs.Tables.{Targets, is_promoted_target, is_somewhere, targets_of}
 
@@ -157,7 +157,7 @@ IsAtRest es = Orderly es × (in_flight es ≡ [])
 
 -- what holds where a run stands: between transitions it is at rest; amid one the journal is in order, the transition is safe, and once it ends unaborted it
 -- has ended in the targets of its plan
-abbrev pub IsSafeAt : Cluster → List Promotion → Standing → Type 0
+abbrev pub IsSafeAt : Cluster → List Promotion → RunStanding → Type 0
 IsSafeAt c promotions (due number es) = IsAtRest es
 IsSafeAt c promotions (idle number es) = IsAtRest es
 IsSafeAt c promotions (amid number t since) =
@@ -168,4 +168,4 @@ IsSafeAt c promotions (amid number t since) =
 -- a run from a journal on is safe all the way: wherever it stands, whatever comes
 abbrev pub IsSafeRun : Cluster → List Promotion → Bool → List Event → Option (List Answer) → Type 0
 IsSafeRun c promotions whole es rest =
-    (at : Standing) (lines : List RunLine) (left : Option (List Answer)) → Runs c promotions whole (due 1 es) rest lines at left → IsSafeAt c promotions at
+    (at : RunStanding) (lines : List RunLine) (left : Option (List Answer)) → Runs c promotions whole (due 1 es) rest lines at left → IsSafeAt c promotions at

@@ -13,10 +13,10 @@ use Rattle.cluster_types.specs.declared.journal.Outcome.{Outcome}
 use Rattle.cluster_types.specs.declared.journal.Outcome.TheVariants.{Code, Gone}
 use Rattle.cluster_types.specs.declared.leaf.Op.TheVariants.{Monitor}
 use Rattle.cluster_types.specs.declared.leaf.Role.TheVariants as role
-use Rattle.cluster_types.specs.Answering.{applies_after, added_by, end_of, ends_of}
+use Rattle.cluster_types.specs.Answering.{applies_after, added_by, end_event, end_events}
 use Rattle.cluster_types.specs.ExitCodes.{success, not_running, running_promoted, degraded, degraded_promoted}
 use Rattle.cluster_types.specs.Journals.{ends_number}
-use Rattle.cluster_types.specs.Outcomes.{is_among, is_ignored}
+use Rattle.cluster_types.specs.Outcomes.{is_code_among, is_ignored}
 use Rattle.cluster_types.specs.Sources.{Says}
 
 -- the exit codes that are expected of an action (rule of this project)
@@ -34,11 +34,11 @@ silent_code _ = success
 
 -- what is added when nothing more is said: of the actions in flight, in the order of their numbers, the first ends with its silent code
 abbrev pub silent_end : Cluster → List Event → List (ℕ × Action) → List Event
-silent_end c es flight = option_map_or (λ (p : ℕ × Action). end_of c es flight (Code (silent_code p.1)) p ∷ []) (slice_get flight 0) []
+silent_end c es flight = option_map_or (λ (p : ℕ × Action). end_event c es flight (Code (silent_code p.1)) p ∷ []) (slice_get flight 0) []
 
 -- the outcome is a success: an expected exit code, or one that is ignored
 abbrev pub is_success : Cluster → Action → Outcome → Bool
-is_success c a o = is_among (expected_codes a) o || is_ignored c a o
+is_success c a o = is_code_among (expected_codes a) o || is_ignored c a o
 
 abbrev pub begins_number : ℕ → Event → Bool
 begins_number k (Begin j a) = j == k
@@ -140,11 +140,11 @@ module _ (t : Transition) where
 
     -- the action of this number ends so, now
     abbrev pub ended : ℕ → Outcome → List Event
-    ended k o = ends_of t.cluster journal flying k o
+    ended k o = end_events t.cluster journal flying k o
 
     -- what an answer adds to the journal (rule of this project)
-    abbrev pub events_of : Answer → List Event
-    events_of given = added_by t.cluster journal flying given
+    abbrev pub answer_events : Answer → List Event
+    answer_events given = added_by t.cluster journal flying given
 
     -- of the actions that may begin, the one of lowest number begins
     pub record Begins (k : ℕ) (a : Action) : Type 0 where
@@ -158,7 +158,7 @@ module _ (t : Transition) where
       pub busy : 0 < length flight
 
     -- an answer is taken: the transition waits for one, and it applies
-    pub record Takes (given : Answer) : Type 0 where
+    pub record TakesAnswer (given : Answer) : Type 0 where
       pub waiting : IsWaiting
       pub applies : Applies given
 
@@ -181,8 +181,8 @@ module _ (t : Transition) where
   -- one step of a transition: an action begins, an answer is taken, or nothing more is said and an action ends silently. It adds these events
   pub data StepsOn (whole : Bool) (since : List Event) : Option (List Answer) → List Event → Option (List Answer) → Type 0 where
     begins : (rest : Option (List Answer)) (k : ℕ) (a : Action) → Begins since k a → StepsOn whole since rest (Begin k a ∷ []) rest
-    takes : (rest left : Option (List Answer)) (given : Answer) → Says whole rest (Some given) left → Takes since given
-        → StepsOn whole since rest (events_of since given) left
+    takes : (rest left : Option (List Answer)) (given : Answer) → Says whole rest (Some given) left → TakesAnswer since given
+        → StepsOn whole since rest (answer_events since given) left
     is_silent : (rest left : Option (List Answer)) (k : ℕ) (a : Action) → Says whole rest None left → EndsSilently since k a
         → StepsOn whole since rest (ended since k (Code (silent_code a))) left
 

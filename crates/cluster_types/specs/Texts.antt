@@ -153,7 +153,7 @@ module _ (c : Cluster) where
       ++ flat_map event_lines (between passed.begins_at passed.ends_at es) ++ end_lines k passed.end
 
   -- what is kept of a transition fits the cluster and the journal: an entry for each leaf, a target for each cell, and positions of the journal
-  pub record Fits (es : List Event) (passed : Passed) : Type 0 where
+  pub record PassedFits (es : List Event) (passed : Passed) : Type 0 where
     pub pins : length passed.pins ≡ length c.leaves
     pub reasons : length passed.none ≡ length c.leaves
     pub nodes : passed.table.nodes ≡ length c.nodes

@@ -16,7 +16,7 @@ use Rattle.cluster_types.specs.declared.rules.Order.{Order}
 use Rattle.cluster_types.specs.declared.rules.RuleLocation.{RuleLocation}
 use Rattle.cluster_types.specs.Decisions.{NeedsHaveNoLoop}
 use Rattle.cluster_types.specs.Fields.{is_promotable}
-use Rattle.cluster_types.specs.Numbers.{HasNoLoop}
+use Rattle.cluster_types.specs.Numbers.{StepsHaveNoLoop}
 use Rattle.cluster_types.specs.Precedence.{is_up}
 
 -- how many there may be of each
@@ -81,4 +81,4 @@ pub record IsValid (c : Cluster) : Type 0 where
   pub node_names : AllPairs (λ (one other : Node). one.name ≢ other.name) c.nodes
   pub leaf_names : AllPairs (λ (one other : Leaf). one.name ≢ other.name) c.leaves
   pub needs : NeedsHaveNoLoop c
-  pub steps : HasNoLoop c
+  pub steps : StepsHaveNoLoop c

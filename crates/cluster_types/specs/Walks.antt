@@ -2,12 +2,8 @@
 -- is marked (rule of this project). No public clause cites this module.
 use Rattle.std.specs.Prelude.{◌≡◌, ◌≤◌, ◌==◌, ◌&&◌, ℕ, Bool, true, List, Contains}
 use Rattle.listed.specs.Flags.{is_marked}
-use Rattle.cluster_types.specs.declared.edges.Edge.{Edge}
-use Rattle.cluster_types.specs.Graphs.{Leads}
-
--- what is read where no edge is
-abbrev pub no_edge : Edge
-no_edge = record { before = 0; after = 0 }
+use Rattle.edges.specs.declared.edge.Edge.{Edge}
+use Rattle.cluster_types.specs.Graphs.{LeadsByGates}
 
 -- the edge leads from x to y
 abbrev pub joins : ℕ → ℕ → Edge → Bool
@@ -15,6 +11,6 @@ joins x y e = e.after == y && e.before == x
 
 -- what is marked leads to y, and all is marked that leads to it by one edge, or to a gate from `lowest` on that is marked
 pub record AreMarked (actions : ℕ) (edges : List Edge) (y lowest : ℕ) (marks : List Bool) : Type 0 where
-  pub leading : (x : ℕ) → is_marked marks x ≡ true → Leads actions edges x y
+  pub leading : (x : ℕ) → is_marked marks x ≡ true → LeadsByGates actions edges x y
   pub direct : (e : Edge) → Contains edges e → e.after ≡ y → is_marked marks e.before ≡ true
   pub through : (e : Edge) → Contains edges e → actions ≤ e.after → lowest ≤ e.after → is_marked marks e.after ≡ true → is_marked marks e.before ≡ true

@@ -2,18 +2,20 @@
 
 ghost use Rattle.std.specs.Prelude.{◌≡◌, ◌≤◌, ◌<◌, ◌-◌, ◌||◌, ℕ, IfOk, length, filter};
 ghost use Rattle.std.specs.List.{list_any, range_with_len};
-ghost use Rattle.cluster_types.specs.Graphs.{EndWithin, LeadUpward, is_before};
+ghost use Rattle.cluster_types.specs.Graphs.{LeadUpward, is_before};
+ghost use Rattle.edges.specs.Loops.{EndsWithin};
 ghost use Rattle.cluster_types.specs.Walks.{AreMarked, joins};
 ghost use Rattle.listed.specs.Flags.{is_marked};
 
-use crate::edges::{Edge, Edges};
 use crate::graph::Graph;
+use crate::graph_edges::Edges;
+use edges::Edge;
 use faults::NoMemory;
 use std::alloc::{AllocError, Global};
 
 /// Marks the positions from which an edge leads to this one.
 fn mark_sources(edges: &[Edge], position: u32, marks: &mut Vec<bool>)
-    requires { EndWithin (length marks.old.items) edges.now }
+    requires { EndsWithin (length marks.old.items) edges.now }
     ensures size { length marks.new.items ≡ length marks.old.items }
     ensures marked { (x : ℕ) → is_marked marks.new.items x ≡ (is_marked marks.old.items x || list_any (joins x position) edges.now) }
 {
@@ -33,7 +35,7 @@ fn walked(
     position: u32,
 ) -> Result<Vec<bool>, AllocError>
     requires actions { actions ≤ edges.now.positions }
-    requires within { EndWithin edges.now.positions edges.now.list }
+    requires within { EndsWithin edges.now.positions edges.now.list }
     requires upward { LeadUpward actions edges.now.list }
     ensures size { IfOk result (λ marks. length marks.items ≡ edges.now.positions) }
     ensures marked { IfOk result (λ marks. AreMarked actions edges.now.list position actions marks.items) }

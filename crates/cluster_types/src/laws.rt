@@ -3,11 +3,11 @@
 ghost use Rattle.std.specs.Prelude.{◌≡◌, ◌≢◌, ◌↔◌, ◌<◌, ◌≤◌, ◌+◌, ◌*◌, ◌^◌, Contains, ℕ, Bool, true, false, length, not, slice_get, Option, Some, ◌&&◌, ◌||◌, List, [], ◌∷◌, ◌++◌};
 ghost use Rattle.std.specs.List.{list_all};
 ghost use Rattle.cluster_types.specs.declared.placement.Decision.{Decision as DecisionOf};
-ghost use Rattle.cluster_types.specs.Held.{Held, IsClosed};
+ghost use Rattle.cluster_types.specs.Held.{Held, IsClosedUnderHolding};
 ghost use Rattle.cluster_types.specs.Needed as cycling;
 ghost use Rattle.cluster_types.specs.Numbers.{AreNumbered};
 ghost use Rattle.cluster_types.specs.Safety.{IsEager, PredecessorsFirst};
-ghost use Rattle.cluster_types.specs.Steps.{Applies, EndsSilently, Goes, Transition, ended, events_of, flying, journal, resting, silent_code, silent_end};
+ghost use Rattle.cluster_types.specs.Steps.{Applies, EndsSilently, Goes, Transition, ended, answer_events, flying, journal, resting, silent_code, silent_end};
 ghost use Rattle.cluster_types.specs.declared.journal.Outcome.TheVariants as outcome;
 ghost use Rattle.cluster_types.specs.Tables.{Targets, is_somewhere, load_of, with_cell};
 ghost use Rattle.cluster_types.specs.Failures.{is_fail_stopped};
@@ -15,12 +15,13 @@ ghost use Rattle.cluster_types.specs.NodeStates.{node_state};
 ghost use Rattle.cluster_types.specs.Unpacked.{cell_at, states_of};
 ghost use Rattle.cluster_types.specs.declared.placement.Target.{Target as TargetOf};
 ghost use Rattle.cluster_types.specs.Journals.{NodeWord, Orderly, first_events, in_flight, is_reported, moment_of};
-ghost use Rattle.cluster_types.specs.Graphs.{EndWithin, GraphOf, IsBefore, IsGraph, LeadUpward, is_before};
+ghost use Rattle.cluster_types.specs.Graphs.{GraphOf, IsBefore, IsGraph, LeadUpward, is_before};
+ghost use Rattle.edges.specs.Loops.{EndsWithin};
 ghost use Rattle.cluster_types.specs.May.{closes, closes_promoted, is_left_promoted, may, may_promoted, opens, opens_promoted};
 
 use crate::cluster::Cluster;
-use crate::edges::Edge;
 use crate::journal::{Action, Answer, Event, Promotion};
+use edges::Edge;
 
 /// After one more event a leaf may run where the event opens the cell, and where it might before and the event doesn't close it.
 pub fn may_after_one_more()
@@ -60,7 +61,7 @@ pub fn paths_are_computed()
 
 /// Edges along which some height rises make a graph, where the heights of its actions are in the order of their numbers.
 pub fn rising_edges_make_a_graph()
-    ensures { (g : GraphOf) (height : ℕ → ℕ) → length g.actions ≤ g.edges.positions → EndWithin g.edges.positions g.edges.list
+    ensures { (g : GraphOf) (height : ℕ → ℕ) → length g.actions ≤ g.edges.positions → EndsWithin g.edges.positions g.edges.list
         → LeadUpward (length g.actions) g.edges.list → ((e : Edge) → Contains g.edges.list e → height e.before < height e.after)
         → ((x y : ℕ) → x < length g.actions → y < length g.actions → height x < height y → x < y) → IsGraph g }
 {}
@@ -68,17 +69,17 @@ pub fn rising_edges_make_a_graph()
 /// The held cells are the least set that is closed under the rules for them: it is closed, and each closed set has all its cells. So there is one
 /// such set.
 pub fn held_is_the_least_set()
-    ensures closed { (c : Cluster) (events : List Event) (table : Targets) → IsClosed c events table (Held c events table) }
+    ensures closed { (c : Cluster) (events : List Event) (table : Targets) → IsClosedUnderHolding c events table (Held c events table) }
     ensures least { (c : Cluster) (events : List Event) (table : Targets) (set : DecisionOf → ℕ → Bool)
-        → IsClosed c events table (λ d node. set d node ≡ true)
+        → IsClosedUnderHolding c events table (λ d node. set d node ≡ true)
         → (d : DecisionOf) (node : ℕ) → Held c events table d node → set d node ≡ true }
 {}
 
 /// The same of the cells that are stopped and started again.
 pub fn cycled_is_the_least_set()
-    ensures closed { (c : Cluster) (events : List Event) (targets : Targets) → cycling.IsClosed c events targets (cycling.Cycled c events targets) }
+    ensures closed { (c : Cluster) (events : List Event) (targets : Targets) → cycling.IsClosedUnderCycling c events targets (cycling.Cycled c events targets) }
     ensures least { (c : Cluster) (events : List Event) (targets : Targets) (set : ℕ → ℕ → Bool)
-        → cycling.IsClosed c events targets (λ leaf node. set leaf node ≡ true)
+        → cycling.IsClosedUnderCycling c events targets (λ leaf node. set leaf node ≡ true)
         → (leaf node : ℕ) → cycling.Cycled c events targets leaf node → set leaf node ≡ true }
 {}
 
@@ -133,7 +134,7 @@ pub fn moments_stay_below_their_limit()
     ensures steps { (t : Transition) (whole : Bool) (rest left : Option (List Answer)) (since later : List Event) → Goes t whole since rest later left
         → moment_of (journal t since) < 2 ^ 40 → moment_of (journal t later) < 2 ^ 40 }
     ensures idle { (c : Cluster) (es : List Event) (given : Answer) → Applies (resting c es) [] given → moment_of es < 2 ^ 40
-        → moment_of (es ++ events_of (resting c es) [] given) < 2 ^ 40 }
+        → moment_of (es ++ answer_events (resting c es) [] given) < 2 ^ 40 }
 {}
 
 /// When nothing more is said, it is the first in flight that ends.

@@ -4,10 +4,10 @@
 mod befores;
 mod cells;
 mod cluster;
-mod edges;
 pub mod exit_codes;
 mod fields;
 mod graph;
+mod graph_edges;
 mod journal;
 mod laws;
 mod leaf;
@@ -15,15 +15,17 @@ mod moment;
 mod node;
 mod placement;
 mod plan;
+mod report;
 mod rules;
 mod run;
 mod states;
 
 pub use cells::{cell_place, is_same_cell};
 pub use cluster::{Cluster, Policy, Properties};
-pub use edges::{Edge, Edges};
+pub use edges::Edge;
 pub use faults::NoMemory;
 pub use graph::Graph;
+pub use graph_edges::Edges;
 pub use journal::{Action, Answer, Event, Journal, Outcome, Promotion};
 pub use laws::{
     cycled_is_the_least_set, each_has_its_state, first_journal_has_nothing_in_flight,
@@ -37,6 +39,7 @@ pub use moment::moment_of;
 pub use node::{Node, NodeId};
 pub use placement::{Decided, Decision, NoReason, Pin, Placed, Table, Target, is_pinned, pin_of};
 pub use plan::Plan;
+pub use report::{Loss, Report};
 pub use rules::{Colocation, Location, Order, OrderKind, RuleLocation};
 pub use run::{Passed, PassedEnd, Run, RunLine};
 pub use states::{Cell, CellState, NodeState, Rights, States, is_online};

@@ -6,8 +6,8 @@ use Rattle.faults.specs.Reading.{unless}
 use Rattle.crm_lex.specs.RawLines.{content, raw_lines}
 use Rattle.crm_lex.specs.Words.{is_open}
 use Rattle.crm_lex.specs.LogicalLines.{fault_if, content_length, line_text, is_control, byte_faults, all_byte_faults, faults}
-use Rattle.crm_lex.specs.Reading.{faults_from, first_fault, rows_from, reads}
-use Rattle.crm_lex.specs.FaultOrder.{rank, NotAfter}
+use Rattle.crm_lex.specs.Reading.{faults_from, first_lex_fault, rows_from, reads}
+use Rattle.crm_lex.specs.FaultOrder.{fault_rank, NotAfter}
 use Rattle.crm_lex.specs.declared.line.Line.{Line}
 use Rattle.crm_lex.specs.declared.fault.LexCause.{LexCause}
 use Rattle.crm_lex.specs.declared.fault.LexCause.TheVariants.{NotUtf8, ControlByte, OpenQuote, LineTooLong}
@@ -16,7 +16,7 @@ use Rattle.faults.specs.declared.fault.Fault.TheVariants.{At, NoMemory}
 
 -- one number for a line and a cause
 abbrev pub place : ℕ → LexCause → ℕ
-place n cause = 4 * n + rank cause
+place n cause = 4 * n + fault_rank cause
 
 -- faults at rising places, from the first number up to the second
 abbrev pub Rising : ℕ → ℕ → List (Fault LexCause) → Type 0
@@ -81,7 +81,7 @@ rising-text n (group ∷ groups) =
     Rising-append (4 * n) (4 * (n + length group)) (4 * (n + length group)) (4 * (n + count_lines (group ∷ groups))) (faults n group) (faults_from (n + length group) groups)
     (rising-faults n group) (omega arith) (rw (← high) (rising-text (n + length group) groups))
 
-rank_bound : (cause : LexCause) → rank cause ≤ 3
+rank_bound : (cause : LexCause) → fault_rank cause ≤ 3
 rank_bound LineTooLong = omega arith
 rank_bound NotUtf8 = omega arith
 rank_bound ControlByte = omega arith
@@ -97,12 +97,12 @@ rest_not_after n cause low high (At m other ∷ found) le r =
 rest_not_after n cause low high (NoMemory ∷ found) le r = absurd r
 
 first_not_after : (n : ℕ) (cause : LexCause) (low high : ℕ) (found : List (Fault LexCause)) (rows : List Line) → Rising low high found
-    → unless (first_fault found) rows ≡ Err (At n cause) → AllByRecursion (NotAfter n cause) found
+    → unless (first_lex_fault found) rows ≡ Err (At n cause) → AllByRecursion (NotAfter n cause) found
 first_not_after n cause low high [] rows r e = cc
 first_not_after n cause low high (At m other ∷ found) rows r e =
     let line : m ≡ n = cc in
     let same : other ≡ cause = cc in
-    let ranks = ap rank same in
+    let ranks = ap fault_rank same in
     (not_after n m cause other (omega arith), rest_not_after n cause (place m other + 1) high found (omega arith) r.1)
 first_not_after n cause low high (NoMemory ∷ found) rows r e = absurd r
 

@@ -5,7 +5,7 @@ use Rattle.std.specs.Str.{is_utf8}
 use Rattle.crm_lex.specs.RawLines.{content}
 use Rattle.crm_lex.specs.Words.{is_open}
 use Rattle.crm_lex.specs.LogicalLines.{fault_if, content_length, line_text, is_control, byte_faults, all_byte_faults, faults}
-use Rattle.crm_lex.specs.Reading.{first_fault}
+use Rattle.crm_lex.specs.Reading.{first_lex_fault}
 use Rattle.crm_lex.specs.declared.fault.LexCause.{LexCause}
 use Rattle.crm_lex.specs.declared.fault.LexCause.TheVariants.{NotUtf8, ControlByte, OpenQuote, LineTooLong}
 use Rattle.faults.specs.declared.fault.Fault.{Fault}
@@ -45,10 +45,10 @@ stands-faults n (line ∷ lines) =
     (stands-append (byte_faults n line) (open_fault ++ later) (stands-bytes n line)
     (stands-append open_fault later (stands-if (is_open (line_text all)) n OpenQuote) (stands-all (n + 1) lines)))
 
-first-stands : (found : List (Fault LexCause)) → All found → Some NoMemory ≡ first_fault found → ⊥
+first-stands : (found : List (Fault LexCause)) → All found → Some NoMemory ≡ first_lex_fault found → ⊥
 first-stands [] f e = cc
 first-stands (At n cause ∷ found) f e = cc
 first-stands (NoMemory ∷ found) f e = cc
 
-pub never_memory : (n : ℕ) (lines : List (List ℕ)) (fault : Fault LexCause) → Some fault ≡ first_fault (faults n lines) → fault ≡ NoMemory → ⊥
+pub never_memory : (n : ℕ) (lines : List (List ℕ)) (fault : Fault LexCause) → Some fault ≡ first_lex_fault (faults n lines) → fault ≡ NoMemory → ⊥
 never_memory n lines fault e is = first-stands (faults n lines) (stands-faults n lines) (ap Some (sym is) ∙ e)

@@ -6,7 +6,7 @@ use Rattle.faults.specs.Reading.{unless}
 use Rattle.crm_lex.specs.RawLines.{physical_lines, onto_group, goes_on, joined, raw_lines}
 use Rattle.crm_lex.specs.Words.{words_of}
 use Rattle.crm_lex.specs.LogicalLines.{line_text, faults}
-use Rattle.crm_lex.specs.Reading.{row, rows_from, faults_from, first_fault, reads}
+use Rattle.crm_lex.specs.Reading.{row, rows_from, faults_from, first_lex_fault, reads}
 use Rattle.crm_lex.specs.Pieces.{line_bytes, before_others, reads_each}
 use Rattle.crm_lex.specs.declared.line.Line.{Line}
 use Rattle.faults.specs.declared.fault.Fault.{Fault}
@@ -43,17 +43,17 @@ pub own_lines : (text : List ℕ) → AllOwn (raw_lines text)
 own_lines text = own (raw_lines text) (subst Whole (sym (all_lines-joined false (physical_lines text))) (Whole-physical text))
 
 step : (n : ℕ) (found later : List (Fault LexCause)) (words : List (List ℕ)) (rows : List Line)
-    → unless (first_fault (found ++ later)) (row n words ++ rows) ≡ before_others n (unless (first_fault found) words) (unless (first_fault later) rows)
+    → unless (first_lex_fault (found ++ later)) (row n words ++ rows) ≡ before_others n (unless (first_lex_fault found) words) (unless (first_lex_fault later) rows)
 step n [] [] words rows = refl
 step n [] (fault ∷ later) words rows = refl
 step n (fault ∷ found) later words rows = refl
 
-by_pieces : (n : ℕ) (groups : List (List (List ℕ))) → AllOwn groups → unless (first_fault (faults_from n groups)) (rows_from n groups) ≡ reads_each n (map concat groups)
+by_pieces : (n : ℕ) (groups : List (List (List ℕ))) → AllOwn groups → unless (first_lex_fault (faults_from n groups)) (rows_from n groups) ≡ reads_each n (map concat groups)
 by_pieces n [] o = refl
 by_pieces n (group ∷ groups) o =
     let more = by_pieces (n + length group) groups o.1 in
     let here = step n (faults n group) (faults_from (n + length group) groups) (words_of (line_text group)) (rows_from (n + length group) groups) in
-    here ∙ (ap (before_others n (unless (first_fault (faults n group)) (words_of (line_text group)))) more ∙ rw o.0 refl)
+    here ∙ (ap (before_others n (unless (first_lex_fault (faults n group)) (words_of (line_text group)))) more ∙ rw o.0 refl)
 
 pub same_by_pieces : (text : List ℕ) → reads text ≡ reads_each 1 (line_bytes text)
 same_by_pieces text = by_pieces 1 (raw_lines text) (own_lines text)

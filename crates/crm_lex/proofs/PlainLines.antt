@@ -7,8 +7,8 @@ use Rattle.faults.specs.Reading.{unless, Gives}
 use Rattle.crm_lex.specs.RawLines.{physical_lines, content, begins_comment, ends_in_backslash}
 use Rattle.crm_lex.specs.Words.{is_quote, place_behind, is_open, words_of}
 use Rattle.crm_lex.specs.LogicalLines.{with_joint, line_text, content_length, byte_faults, faults}
-use Rattle.crm_lex.specs.Parts.{is_quote_or_backslash, is_plain_text, is_plain}
-use Rattle.crm_lex.specs.Reading.{first_fault, reads_line}
+use Rattle.crm_lex.specs.Parts.{is_quote_or_backslash, is_plain_text, is_plain_line}
+use Rattle.crm_lex.specs.Reading.{first_lex_fault, reads_line}
 use Rattle.faults.specs.declared.fault.Fault.{Fault}
 use Rattle.crm_lex.specs.declared.fault.LexCause.{LexCause}
 use Rattle.faults.specs.declared.fault.Fault.TheVariants.{At, NoMemory}
@@ -60,48 +60,48 @@ module _ (line : List ℕ) (plain : is_plain_text (content line) ≡ true) where
       split true = refl
       split false = rw (closed (content line) bare) refl
 
-  fault : (n : ℕ) → first_fault (faults n (line ∷ [])) ≡ first_fault (byte_faults n line)
+  fault : (n : ℕ) → first_lex_fault (faults n (line ∷ [])) ≡ first_lex_fault (byte_faults n line)
   fault n = rw (short, open_nowhere, append-nil (byte_faults n line)) refl
 
 -- a plain line is one physical line, and its content is its text where it is no comment
 abbrev pub plain_text : List ℕ → List ℕ
 plain_text raw = if begins_comment (content raw) then [] else content raw
 
-one_line : (lines : List (List ℕ)) (raw : List ℕ) → concat lines ≡ raw → is_plain lines ≡ true → (lines ≡ raw ∷ []) × (is_plain_text (content raw) ≡ true)
+one_line : (lines : List (List ℕ)) (raw : List ℕ) → concat lines ≡ raw → is_plain_line lines ≡ true → (lines ≡ raw ∷ []) × (is_plain_text (content raw) ≡ true)
 one_line [] raw e plain = cc
 one_line (line ∷ []) raw e plain = let same : line ≡ raw = sym (append-nil line) ∙ e in rw (← same) (refl, plain)
 one_line (line ∷ next ∷ more) raw e plain = cc
 
-pub reads-plain : (n : ℕ) (raw : List ℕ) → is_plain (physical_lines raw) ≡ true → reads_line n raw ≡ unless (first_fault (byte_faults n raw)) (words_of (plain_text raw))
+pub reads-plain : (n : ℕ) (raw : List ℕ) → is_plain_line (physical_lines raw) ≡ true → reads_line n raw ≡ unless (first_lex_fault (byte_faults n raw)) (words_of (plain_text raw))
 reads-plain n raw plain =
     let one = one_line (physical_lines raw) raw (concat-lines raw) plain in
     rw (one.0, fault raw one.1 n, text raw one.1) refl
 
 -- what is answered of a plain line
-module _ (n : ℕ) (raw : List ℕ) (plain : is_plain (physical_lines raw) ≡ true) where
-  pub plain_fault : (fault : Fault LexCause) → Some fault ≡ first_fault (byte_faults n raw) → Gives (λ (words : List (List ℕ)). words) (Err fault) (reads_line n raw)
+module _ (n : ℕ) (raw : List ℕ) (plain : is_plain_line (physical_lines raw) ≡ true) where
+  pub plain_fault : (fault : Fault LexCause) → Some fault ≡ first_lex_fault (byte_faults n raw) → Gives (λ (words : List (List ℕ)). words) (Err fault) (reads_line n raw)
   plain_fault NoMemory e = tt
   plain_fault (At m cause) e = reads-plain n raw plain ∙ rw (← e) refl
 
-  pub plain_comment : None ≡ first_fault (byte_faults n raw) → begins_comment (content raw) ≡ true → reads_line n raw ≡ Ok []
+  pub plain_comment : None ≡ first_lex_fault (byte_faults n raw) → begins_comment (content raw) ≡ true → reads_line n raw ≡ Ok []
   plain_comment clean comment = reads-plain n raw plain ∙ rw (← clean, comment) refl
 
-  pub plain_words : (result : Result (List (List ℕ)) (Fault LexCause)) → None ≡ first_fault (byte_faults n raw) → begins_comment (content raw) ≡ false
+  pub plain_words : (result : Result (List (List ℕ)) (Fault LexCause)) → None ≡ first_lex_fault (byte_faults n raw) → begins_comment (content raw) ≡ false
       → IfOk result (λ words. words ≡ words_of (content raw)) → IfErr result (λ fault. fault ≡ NoMemory) → Gives (λ (words : List (List ℕ)). words) result (reads_line n raw)
   plain_words (Ok words) clean comment read memory = reads-plain n raw plain ∙ rw (← clean, comment, read) refl
   plain_words (Err NoMemory) clean comment read memory = tt
   plain_words (Err (At m cause)) clean comment read memory = cc
 
-pub short-plain : (raw : List ℕ) → is_plain (physical_lines raw) ≡ true → length (content raw) ≤ 1048576
+pub short-plain : (raw : List ℕ) → is_plain_line (physical_lines raw) ≡ true → length (content raw) ≤ 1048576
 short-plain raw plain =
     let one = one_line (physical_lines raw) raw (concat-lines raw) plain in
     let low = (both (nat_le (length (content raw)) 1048576) (list_any is_quote_or_backslash (content raw)) one.1).0 in
     grind (arith, nat_tests)
 
 -- with a second line it isn't plain
-pub two_lines : (line : List ℕ) (after : List ℕ) → 0 < length after → is_plain (line ∷ physical_lines after) ≡ false
+pub two_lines : (line : List ℕ) (after : List ℕ) → 0 < length after → is_plain_line (line ∷ physical_lines after) ≡ false
 two_lines line after some = split (physical_lines after) (some_lines after some)
   where
-    split : (lines : List (List ℕ)) → 0 < length lines → is_plain (line ∷ lines) ≡ false
+    split : (lines : List (List ℕ)) → 0 < length lines → is_plain_line (line ∷ lines) ≡ false
     split [] some = absurd (omega arith)
     split (next ∷ more) some = refl

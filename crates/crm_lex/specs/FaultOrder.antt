@@ -5,13 +5,13 @@ use Rattle.crm_lex.specs.declared.fault.LexCause.TheVariants.{NotUtf8, ControlBy
 use Rattle.faults.specs.declared.fault.Fault.{Fault}
 use Rattle.faults.specs.declared.fault.Fault.TheVariants.{At, NoMemory}
 
-abbrev pub rank : LexCause → ℕ
-rank LineTooLong = 0
-rank NotUtf8 = 1
-rank ControlByte = 2
-rank OpenQuote = 3
+abbrev pub fault_rank : LexCause → ℕ
+fault_rank LineTooLong = 0
+fault_rank NotUtf8 = 1
+fault_rank ControlByte = 2
+fault_rank OpenQuote = 3
 
 -- a fault at this line of this cause doesn't come after that one
 abbrev pub NotAfter : ℕ → LexCause → Fault LexCause → Type 0
-NotAfter n cause (At m other) = (n < m) ⊎ ((n ≡ m) × (rank cause ≤ rank other))
+NotAfter n cause (At m other) = (n < m) ⊎ ((n ≡ m) × (fault_rank cause ≤ fault_rank other))
 NotAfter n cause NoMemory = ⊥

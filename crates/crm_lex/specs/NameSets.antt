@@ -4,9 +4,9 @@ use Rattle.std.specs.Cmp.Lexicographic.{pointwise}
 use Rattle.std.specs.List.{list_any}
 
 -- the set has this name
-abbrev pub has : List (List ℕ) → List ℕ → Bool
-has names name = list_any (λ each. pointwise nat_eq each name) names
+abbrev pub has_name : List (List ℕ) → List ℕ → Bool
+has_name names name = list_any (λ each. pointwise nat_eq each name) names
 
 -- the set with one more name
-abbrev pub IsWith : List (List ℕ) → List ℕ → List (List ℕ) → Type 0
-IsWith old name new = (each : List ℕ) → has new each ≡ (has old each || pointwise nat_eq name each)
+abbrev pub IsWithName : List (List ℕ) → List ℕ → List (List ℕ) → Type 0
+IsWithName old name new = (each : List ℕ) → has_name new each ≡ (has_name old each || pointwise nat_eq name each)

@@ -47,7 +47,7 @@ abbrev pub is_plain_text : List ℕ → Bool
 is_plain_text text = nat_le (length text) 1048576 && not (list_any is_quote_or_backslash text)
 
 -- these physical lines are one line, whose content stands for itself
-abbrev pub is_plain : List (List ℕ) → Bool
-is_plain [] = false
-is_plain (line ∷ []) = is_plain_text (content line)
-is_plain (line ∷ next ∷ more) = false
+abbrev pub is_plain_line : List (List ℕ) → Bool
+is_plain_line [] = false
+is_plain_line (line ∷ []) = is_plain_text (content line)
+is_plain_line (line ∷ next ∷ more) = false

@@ -23,17 +23,17 @@ abbrev pub faults_from : ℕ → List (List (List ℕ)) → List (Fault LexCause
 faults_from n [] = []
 faults_from n (lines ∷ more) = faults n lines ++ faults_from (n + length lines) more
 
-abbrev pub first_fault : List (Fault LexCause) → Option (Fault LexCause)
-first_fault [] = None
-first_fault (fault ∷ faults) = Some fault
+abbrev pub first_lex_fault : List (Fault LexCause) → Option (Fault LexCause)
+first_lex_fault [] = None
+first_lex_fault (fault ∷ faults) = Some fault
 
 -- what is read of a text
 abbrev pub reads : List ℕ → Result (List Line) (Fault LexCause)
-reads text = unless (first_fault (faults_from 1 (raw_lines text))) (rows_from 1 (raw_lines text))
+reads text = unless (first_lex_fault (faults_from 1 (raw_lines text))) (rows_from 1 (raw_lines text))
 
 -- what is read of the bytes of one logical line, of which the first physical line has this number: its words, or its first fault
 abbrev pub reads_line : ℕ → List ℕ → Result (List (List ℕ)) (Fault LexCause)
-reads_line n raw = unless (first_fault (faults n (physical_lines raw))) (words_of (line_text (physical_lines raw)))
+reads_line n raw = unless (first_lex_fault (faults n (physical_lines raw))) (words_of (line_text (physical_lines raw)))
 
 -- how many words there are, and the first eight
 pub record Kept : Type 0 where

@@ -2,7 +2,7 @@ ghost use Rattle.std.specs.Prelude.{◌≡◌, ◌+◌, ◌<◌, ◌≤◌, ◌^
 ghost use Rattle.crm_lex.specs.RawLines.{physical_lines, raw_lines, begins_comment as begins_with_comment};
 ghost use Rattle.crm_lex.specs.LogicalLines as spec;
 ghost use Rattle.crm_lex.specs.Parts as parts;
-ghost use Rattle.crm_lex.specs.Reading.{first_fault};
+ghost use Rattle.crm_lex.specs.Reading.{first_lex_fault};
 
 use crate::physical::{
     begins_comment, byte_fault, content, ends_in_backslash, first_line, goes_on, has_marks, refused,
@@ -76,7 +76,7 @@ fn content_length(raw: &[u8]) -> usize
 /// The first fault of the bytes of physical lines, of which the first has this number.
 fn first_byte_fault(first: u64, raw: &[u8]) -> Option<LexFault>
     requires { first + length (physical_lines raw.now) ≤ 2 ^ 32 }
-    ensures { result ≡ first_fault (spec.all_byte_faults first (physical_lines raw.now)) }
+    ensures { result ≡ first_lex_fault (spec.all_byte_faults first (physical_lines raw.now)) }
 {
     let mut rest = raw;
     let mut number = first;
@@ -130,7 +130,7 @@ fn is_plain_text(text: &[u8]) -> bool
 /// Whether the logical line is one physical line without quotes and backslashes, which isn't too long.
 pub fn is_plain(raw: &[u8]) -> bool
     requires { 0 < length raw.now }
-    ensures { result ≡ parts.is_plain (physical_lines raw.now) }
+    ensures { result ≡ parts.is_plain_line (physical_lines raw.now) }
 {
     let (line, after) = first_line(raw);
     after.is_empty() && is_plain_text(content(line))
@@ -173,7 +173,7 @@ fn fault_within(first: u32, raw: &[u8], text: &[u8]) -> Option<LexFault>
     requires numbers { first + length (physical_lines raw.now) ≤ 2 ^ 32 }
     requires short { spec.content_length (physical_lines raw.now) ≤ 1048576 }
     requires text { text.now ≡ spec.line_text (physical_lines raw.now) }
-    ensures { result ≡ first_fault (spec.faults first (physical_lines raw.now)) }
+    ensures { result ≡ first_lex_fault (spec.faults first (physical_lines raw.now)) }
 {
     let (line, after) = first_line(raw);
     let fault = byte_fault(first, line);
@@ -191,7 +191,7 @@ fn fault_within(first: u32, raw: &[u8], text: &[u8]) -> Option<LexFault>
 pub fn line_text(first: u32, raw: &[u8], text: &mut Vec<u8>) -> Option<LexFault>
     requires numbers { first + length (physical_lines raw.now) ≤ 2 ^ 32 }
     requires room { 1048576 ≤ vec_capacity text.old }
-    ensures fault { result ≡ first_fault (spec.faults first (physical_lines raw.now)) }
+    ensures fault { result ≡ first_lex_fault (spec.faults first (physical_lines raw.now)) }
     ensures text { result ≡ None → text.new.items ≡ spec.line_text (physical_lines raw.now) }
     ensures room { vec_len text.new ≤ 1048576 }
     ensures capacity { vec_capacity text.new ≡ vec_capacity text.old }

@@ -1,5 +1,5 @@
 ghost use Rattle.std.specs.Prelude.{◌≡◌, [], OnOk, OnErr};
-ghost use Rattle.crm_lex.specs.NameSets.{has, IsWith};
+ghost use Rattle.crm_lex.specs.NameSets.{has_name, IsWithName};
 
 use crate::Name;
 use faults::NoMemory;
@@ -33,14 +33,14 @@ impl NameSet {
 
     /// Whether the name was added. The time grows with the logarithm of how many there are.
     pub fn has(&self, name: &Name) -> bool
-        ensures { result ≡ has self.now name.now }
+        ensures { result ≡ has_name self.now name.now }
     {
         self.names.contains(name)
     }
 
     /// Adds a name. Adding one that is there changes no answer.
     pub fn add(&mut self, alloc: Global, name: &Name) -> Result<(), NoMemory>
-        ensures ok { OnOk result (IsWith self.old name.now self.new) }
+        ensures ok { OnOk result (IsWithName self.old name.now self.new) }
         ensures err { OnErr result (self.new ≡ self.old) }
     {
         let name = Name::from_bytes(alloc, name.bytes())?;

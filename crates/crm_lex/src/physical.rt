@@ -4,7 +4,7 @@ ghost use Rattle.std.specs.Str.{is_utf8};
 ghost use Rattle.crm_lex.specs.RawLines as raw;
 ghost use Rattle.crm_lex.specs.LogicalLines as spec;
 ghost use Rattle.crm_lex.specs.Parts as parts;
-ghost use Rattle.crm_lex.specs.Reading.{first_fault};
+ghost use Rattle.crm_lex.specs.Reading.{first_lex_fault};
 ghost use Rattle.faults.specs.declared.fault.Fault.TheVariants as fault;
 
 use crate::quoting::{is_blank, is_quote};
@@ -122,7 +122,7 @@ pub fn refused(line: u32, cause: LexCause) -> Option<LexFault>
 
 /// The first fault of the bytes of the physical line of this number.
 pub fn byte_fault(number: u32, line: &[u8]) -> Option<LexFault>
-    ensures { result ≡ first_fault (spec.byte_faults number line.now) }
+    ensures { result ≡ first_lex_fault (spec.byte_faults number line.now) }
 {
     let content = content(line);
     if !is_text(content) {

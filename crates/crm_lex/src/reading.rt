@@ -1,7 +1,7 @@
 ghost use Rattle.std.specs.Prelude.{◌≡◌, ◌+◌, ◌<◌, ◌≤◌, ◌^◌, ◌++◌, ◌∷◌, [], true, false, length, drop, slice_index, OnOk, IfOk, IfErr, vec_capacity};
 ghost use Rattle.crm_lex.specs.RawLines.{is_blank, physical_lines};
 ghost use Rattle.crm_lex.specs.Words.{words_of};
-ghost use Rattle.crm_lex.specs.Parts.{is_plain};
+ghost use Rattle.crm_lex.specs.Parts.{is_plain_line};
 ghost use Rattle.faults.specs.declared.fault.Fault.TheVariants as no;
 ghost use Rattle.faults.specs.Reading.{Gives};
 ghost use Rattle.crm_lex.specs.Reading.{reads, reads_line, row};
@@ -103,7 +103,7 @@ fn read_plain_line(
     word: &mut Vec<u8>,
     found: &mut Vec<Name>,
 ) -> Result<Listed<Name>, LexFault>
-    requires plain { is_plain (physical_lines raw.now) ≡ true }
+    requires plain { is_plain_line (physical_lines raw.now) ≡ true }
     requires room { 1048576 ≤ vec_capacity word.old }
     ensures words { Gives (λ words. words) result (reads_line number raw.now) }
     ensures capacity { vec_capacity word.new ≡ vec_capacity word.old }

@@ -6,7 +6,7 @@ use Rattle.crm_lex.specs.Names.{is, is_name}
 use Rattle.crm_parse.specs.declared.fault.ParseCause.{ParseCause}
 use Rattle.crm_parse.specs.declared.fault.ParseCause.TheVariants.{BadValue}
 use Rattle.crm_parse.specs.Keys.{when}
-use Rattle.crm_parse.specs.Reading.{Words, word_at, name_of, name_at, some_name, colon_at, given_at}
+use Rattle.crm_parse.specs.Reading.{Words, next_word_in, name_of, name_at, some_name, colon_at, given_at}
 use Rattle.faults.proofs.Steps.{bind-ok}
 
 -- a text is itself
@@ -30,7 +30,7 @@ pub ok-same : {A : Type 0} (one other : A) → (let first : Result A ParseCause 
 ok-same one other e = cc
 
 -- a word was there
-pub word_at-ok : (words : Words) (read : List ℕ × Words) → word_at words ≡ Ok read → words ≡ read.0 ∷ read.1
+pub word_at-ok : (words : Words) (read : List ℕ × Words) → next_word_in words ≡ Ok read → words ≡ read.0 ∷ read.1
 word_at-ok [] read e = cc
 word_at-ok (word ∷ words) read e =
     let h : (word, words) ≡ read = cc in
@@ -69,7 +69,7 @@ name_of-again name h = rw h refl
 pub name_at-ok : (words : Words) (read : List ℕ × Words) → name_at words ≡ Ok read → (words ≡ read.0 ∷ read.1) × (is_name read.0 ≡ true)
 unfolding name_at
 name_at-ok words read e =
-    let (word, at, rest) = bind-ok (word_at words) _ read e in
+    let (word, at, rest) = bind-ok (next_word_in words) _ read e in
     let (name, is_one, last) = bind-ok (name_of word.0) _ read rest in
     let (same, good) = name_of-ok word.0 name is_one in
     let whole : words ≡ word.0 ∷ word.1 = word_at-ok words word at in

@@ -4,7 +4,7 @@ use Rattle.std.specs.List.{position_or_len}
 use Rattle.crm_parse.specs.declared.owner.Owner.{Owner}
 use Rattle.crm_parse.specs.declared.owner.SectionWord.{SectionWord}
 use Rattle.crm_parse.specs.Reading.{Words}
-use Rattle.crm_parse.specs.Sections.{cut, is_section, section_of}
+use Rattle.crm_parse.specs.Sections.{cut_into_sections, is_section, section_of}
 
 module _ (owner : Owner) where
   -- how many words stand before the next section word
@@ -12,23 +12,23 @@ module _ (owner : Owner) where
   before words = position_or_len (is_section owner) words
 
   own_case : (word : List ℕ) (words : Words) (section : Option SectionWord) → section_of owner word ≡ section
-      → (cut owner false words).0 ≡ take (before words) words
-      → (cut owner false (word ∷ words)).0 ≡ take (before (word ∷ words)) (word ∷ words)
+      → (cut_into_sections owner false words).0 ≡ take (before words) words
+      → (cut_into_sections owner false (word ∷ words)).0 ≡ take (before (word ∷ words)) (word ∷ words)
   own_case word words None e h = let s : 1 + before words ≡ suc (before words) = omega arith in rw (e, s) (ap (λ ws. word ∷ ws) h)
   own_case word words (Some section) e h = rw e refl
 
   -- they are the words of the section that they stand in
-  pub own_before : (words : Words) → (cut owner false words).0 ≡ take (before words) words
+  pub own_before : (words : Words) → (cut_into_sections owner false words).0 ≡ take (before words) words
   own_before [] = refl
   own_before (word ∷ words) = own_case word words (section_of owner word) refl (own_before words)
 
   rest_case : (word : List ℕ) (words : Words) (section : Option SectionWord) → section_of owner word ≡ section
-      → cut owner false (drop (before words) words) ≡ ([], (cut owner false words).1)
-      → cut owner false (drop (before (word ∷ words)) (word ∷ words)) ≡ ([], (cut owner false (word ∷ words)).1)
+      → cut_into_sections owner false (drop (before words) words) ≡ ([], (cut_into_sections owner false words).1)
+      → cut_into_sections owner false (drop (before (word ∷ words)) (word ∷ words)) ≡ ([], (cut_into_sections owner false (word ∷ words)).1)
   rest_case word words None e h = let s : 1 + before words ≡ suc (before words) = omega arith in rw (e, s) h
   rest_case word words (Some section) e h = rw (e, e) refl
 
   -- and the words after them are the other sections
-  pub rest_before : (words : Words) → cut owner false (drop (before words) words) ≡ ([], (cut owner false words).1)
+  pub rest_before : (words : Words) → cut_into_sections owner false (drop (before words) words) ≡ ([], (cut_into_sections owner false words).1)
   rest_before [] = refl
   rest_before (word ∷ words) = rest_case word words (section_of owner word) refl (rest_before words)

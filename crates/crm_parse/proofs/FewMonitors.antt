@@ -11,7 +11,7 @@ use Rattle.crm_parse.specs.declared.fault.ParseCause.TheVariants.{RepeatedKey, U
 use Rattle.crm_parse.specs.declared.pair.Operation.{Operation}
 use Rattle.crm_parse.specs.Keys.{when}
 use Rattle.crm_parse.specs.Monitors.{AreFew, recurring, recurring_in}
-use Rattle.crm_parse.specs.Operations.{has_room, interval_of, operation_of, recurs}
+use Rattle.crm_parse.specs.Operations.{has_monitor_room, interval_of, operation_of, recurs}
 use Rattle.crm_parse.proofs.Binds.{unless-ok, when-ok}
 use Rattle.faults.proofs.Steps.{bind-ok}
 use Rattle.crm_parse.proofs.OperationRoom.{Fits, operation-fits}
@@ -73,7 +73,7 @@ room-case ops i false z above e =
       new = sym (as-any i ops) ∙ not-true any (when-ok (not any) RepeatedKey tt rest);
     }
 
-room-parts : (ops : List Operation) (i : ℕ) → 0 < i → has_room ops i ≡ Ok tt → HasRoom ops i
+room-parts : (ops : List Operation) (i : ℕ) → 0 < i → has_monitor_room ops i ≡ Ok tt → HasRoom ops i
 room-parts ops i above e = room-case ops i (i == 0) refl above e
 
 -- one more operation

@@ -10,7 +10,7 @@ use Rattle.crm_parse.specs.declared.statement.Crm.{Crm}
 use Rattle.crm_parse.specs.declared.statement.Statement.{Statement}
 use Rattle.crm_parse.specs.Reading.{Words}
 use Rattle.crm_parse.specs.Statements.{draft_of, finished, promotable_by, statement_of, statements_of, with_lines}
-use Rattle.crm_parse.proofs.LinesAgain.{Says, read_of-ok, said}
+use Rattle.crm_parse.proofs.LinesRead.{Says, read_of-ok, said}
 
 module _ (P : Form → Type 0) where
   -- what a statement says has it, whichever resources have a promoted role

@@ -10,8 +10,8 @@ use Rattle.crm_parse.specs.declared.pair.Kv.{Kv}
 use Rattle.crm_parse.specs.declared.pair.Operation.{Operation}
 use Rattle.crm_parse.specs.declared.place.Place.{Place}
 use Rattle.crm_parse.specs.declared.place.Place.TheVariants as place
-use Rattle.crm_parse.specs.Keys.{accepts, is_monitor, stray}
-use Rattle.crm_parse.specs.Operations.{has_room, interval_in, interval_of, is_off, new_name, op_name, op_pairs, operation_of, recurs, says_no, value_of, with_op_pair, with_op_pairs}
+use Rattle.crm_parse.specs.Keys.{accepts, is_monitor_name, stray}
+use Rattle.crm_parse.specs.Operations.{has_monitor_room, interval_in, interval_of, is_off, new_name, op_name, op_pairs, operation_of, recurs, says_no, value_of, with_op_pair, with_op_pairs}
 use Rattle.crm_parse.specs.Pairs.{kv_of, pair_of, repeats, with_pair}
 use Rattle.crm_parse.specs.Reading.{Words}
 use Rattle.crm_parse.specs.Texts.{cut_at}
@@ -62,7 +62,7 @@ kv-cut p word kv e =
 
 -- the interval that the word of one more pair says has room, where the operation recurs
 abbrev Roomy : List Operation → Bool → List ℕ → Type 0
-Roomy ops recurring word = has_room ops (cond recurring (interval_in word) 0) ≡ Ok tt
+Roomy ops recurring word = has_monitor_room ops (cond recurring (interval_in word) 0) ≡ Ok tt
 
 -- the pairs that were read of some words
 record ReadsPairs (ops : List Operation) (recurring : Bool) (before : List Kv) (words : Words) (after : List Kv) : Type 0 where
@@ -85,7 +85,7 @@ reads-pair : (ops : List Operation) (recurring : Bool) (p : Place) (before : Lis
 unfolding with_op_pair with_pair
 reads-pair ops recurring p before word after e =
     let (more, one, rest) = bind-ok (with_pair p before word) _ after e in
-    let (room, has_place, last) = bind-ok (has_room ops (cond recurring (interval_in word) 0)) _ after rest in
+    let (room, has_place, last) = bind-ok (has_monitor_room ops (cond recurring (interval_in word) 0)) _ after rest in
     let same : more ≡ after = cc in
     let (pair, is_pair, added) = bind-ok (kv_of p word) _ more one in
     let (joined, new) = unless-ok (repeats p before pair.key) (Ok (before ++ pair ∷ [])) more RepeatedKey added in
@@ -136,9 +136,9 @@ off-pairs (kv ∷ pairs) h =
 
 -- where the interval of each word has room, that of the pairs has
 room-case : (ops : List Operation) (b : Bool) (kv : Kv) (found : Option Kv)
-    → (b ≡ true → has_room ops (unwrap_or (time_of kv.value) 0) ≡ Ok tt)
-    → has_room ops (unwrap_or (option_and_then time_of (option_map (λ pair. pair.value) found)) 0) ≡ Ok tt
-    → has_room ops (unwrap_or (option_and_then time_of (option_map (λ pair. pair.value) (cond b (Some kv) found))) 0) ≡ Ok tt
+    → (b ≡ true → has_monitor_room ops (unwrap_or (time_of kv.value) 0) ≡ Ok tt)
+    → has_monitor_room ops (unwrap_or (option_and_then time_of (option_map (λ pair. pair.value) found)) 0) ≡ Ok tt
+    → has_monitor_room ops (unwrap_or (option_and_then time_of (option_map (λ pair. pair.value) (cond b (Some kv) found))) 0) ≡ Ok tt
 room-case ops true kv found here next = here refl
 room-case ops false kv found here next = next
 
@@ -148,33 +148,33 @@ interval-word kv e =
     let word : pair_word kv ≡ codes "interval=" ++ kv.value = ap (λ (k : List ℕ). k ++ 61 ∷ kv.value) key in
     rw word refl
 
-room-pairs : (ops : List Operation) (pairs : List Kv) → AllByRecursion (Roomy ops true) (pair_words pairs) → has_room ops (interval_of pairs) ≡ Ok tt
+room-pairs : (ops : List Operation) (pairs : List Kv) → AllByRecursion (Roomy ops true) (pair_words pairs) → has_monitor_room ops (interval_of pairs) ≡ Ok tt
 room-pairs ops [] h = refl
 room-pairs ops (kv ∷ pairs) h =
-    room-case ops (is kv.key (codes "interval")) kv (find (λ pair. is pair.key (codes "interval")) pairs) (λ e. subst (λ n. has_room ops n ≡ Ok tt) (interval-word kv e) h.0) (room-pairs ops pairs h.1)
+    room-case ops (is kv.key (codes "interval")) kv (find (λ pair. is pair.key (codes "interval")) pairs) (λ e. subst (λ n. has_monitor_room ops n ≡ Ok tt) (interval-word kv e) h.0) (room-pairs ops pairs h.1)
 
 -- an operation that recurs finds room
 abbrev pub Fits : List Operation → Operation → Type 0
-Fits ops op = recurs op ≡ true → has_room ops (interval_of op.pairs) ≡ Ok tt
+Fits ops op = recurs op ≡ true → has_monitor_room ops (interval_of op.pairs) ≡ Ok tt
 
 fits-same : (ops : List Operation) (one other : Operation) → one ≡ other → Fits ops one → Fits ops other
 fits-same ops one other e h = rw e at h
 
-monitor-name : (name : List ℕ) → is name (codes "monitor") ≡ true → is_monitor (op_name name) ≡ true
-monitor-name name e = subst (λ n. is_monitor (op_name n) ≡ true) (sym (is-true name (codes "monitor") e)) refl
+monitor-name : (name : List ℕ) → is name (codes "monitor") ≡ true → is_monitor_name (op_name name) ≡ true
+monitor-name name e = subst (λ n. is_monitor_name (op_name n) ≡ true) (sym (is-true name (codes "monitor") e)) refl
 
 roomy-same : (ops : List Operation) (b : Bool) (words : Words) → b ≡ true → AllByRecursion (Roomy ops b) words → AllByRecursion (Roomy ops true) words
 roomy-same ops b words e h = rw e at h
 
 pairs-fit : (ops : List Operation) (name : List ℕ) (words : Words) (pairs : List Kv)
-    → ReadsPairs ops (is_monitor (op_name name) && not (is_off words)) [] words pairs → Fits ops (record { name = name; pairs = pairs })
+    → ReadsPairs ops (is_monitor_name (op_name name) && not (is_off words)) [] words pairs → Fits ops (record { name = name; pairs = pairs })
 pairs-fit ops name words pairs r t =
     let (switched, above) = and_parts _ _ t in
     let (named, on) = and_parts _ _ switched in
     let off : is_off words ≡ option_map_or says_no (value_of (codes "enabled") pairs) false =
     ap is_off r.spelled ∙ (off-pairs r.pairs r.cut ∙ ap (λ ps. option_map_or says_no (value_of (codes "enabled") ps) false) (sym r.added)) in
-    let recurring : is_monitor (op_name name) && not (is_off words) ≡ true =
-    and_from (is_monitor (op_name name)) (not (is_off words)) (monitor-name name named) (ap not off ∙ on) in
+    let recurring : is_monitor_name (op_name name) && not (is_off words) ≡ true =
+    and_from (is_monitor_name (op_name name)) (not (is_off words)) (monitor-name name named) (ap not off ∙ on) in
     let spelled : words ≡ pair_words pairs = r.spelled ∙ ap pair_words (sym r.added) in
     room-pairs ops pairs (subst (AllByRecursion (Roomy ops true)) spelled (roomy-same ops _ words recurring r.room))
 
@@ -183,7 +183,7 @@ op_pairs-fit : (ops : List Operation) (name : List ℕ) (words : Words) (pairs :
 op_pairs-fit ops name [] pairs e = cc
 op_pairs-fit ops name (word ∷ words) pairs e =
     pairs-fit ops name (word ∷ words) pairs
-    (reads-pairs ops (is_monitor (op_name name) && not (is_off (word ∷ words))) (place.Operation (op_name name)) [] (word ∷ words) pairs e)
+    (reads-pairs ops (is_monitor_name (op_name name) && not (is_off (word ∷ words))) (place.Operation (op_name name)) [] (word ∷ words) pairs e)
 
 -- what was read of some words fits
 pub operation-fits : (ops : List Operation) (words : Words) (op : Operation) → operation_of ops words ≡ Ok op → Fits ops op

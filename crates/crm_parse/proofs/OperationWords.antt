@@ -9,8 +9,8 @@ use Rattle.crm_parse.specs.declared.pair.Operation.{Operation}
 use Rattle.crm_parse.specs.declared.place.OpName.{OpName}
 use Rattle.crm_parse.specs.declared.place.Place.{Place}
 use Rattle.crm_parse.specs.declared.place.Place.TheVariants as place
-use Rattle.crm_parse.specs.Keys.{is_monitor}
-use Rattle.crm_parse.specs.Operations.{has_op, has_room, interval_in, is_off, is_single, new_name, op_name, op_pairs, operation_of, with_op_pair, with_op_pairs}
+use Rattle.crm_parse.specs.Keys.{is_monitor_name}
+use Rattle.crm_parse.specs.Operations.{has_op, has_monitor_room, interval_in, is_off, is_single, new_name, op_name, op_pairs, operation_of, with_op_pair, with_op_pairs}
 use Rattle.crm_parse.specs.Pairs.{with_pair}
 use Rattle.crm_parse.specs.Reading.{Words, name_of}
 use Rattle.faults.specs.Reading.{◌>>=◌}
@@ -23,7 +23,7 @@ with_op_pair-adds : (ops : List Operation) (recurring : Bool) (p : Place) (befor
 unfolding with_op_pair
 with_op_pair-adds ops recurring p before word after e =
     let (more, one, rest) = bind-ok (with_pair p before word) _ after e in
-    let (room, has_place, last) = bind-ok (has_room ops (cond recurring (interval_in word) 0)) _ after rest in
+    let (room, has_place, last) = bind-ok (has_monitor_room ops (cond recurring (interval_in word) 0)) _ after rest in
     let same : more ≡ after = cc in
     subst (λ ps. Adds before word ps) same (with_pair-adds p before word more one)
 
@@ -39,7 +39,7 @@ with_op_pairs-adds ops recurring p before (word ∷ words) after e =
 op_pairs-words : (ops : List Operation) (name : OpName) (words : Words) (pairs : List Kv) → op_pairs ops name words ≡ Ok pairs → words ≡ pair_words pairs
 op_pairs-words ops name [] pairs e = cc
 op_pairs-words ops name (word ∷ words) pairs e =
-    let all = with_op_pairs-adds ops (is_monitor name && not (is_off (word ∷ words))) (place.Operation name) [] (word ∷ words) pairs e in
+    let all = with_op_pairs-adds ops (is_monitor_name name && not (is_off (word ∷ words))) (place.Operation name) [] (word ∷ words) pairs e in
     all.spelled ∙ ap pair_words (sym all.added)
 
 new_name-ok : (ops : List Operation) (word name : List ℕ) → new_name ops word ≡ Ok name → name ≡ word

@@ -10,7 +10,7 @@ use Rattle.crm_parse.specs.Pairs.{kv_of, repeats, with_pair, with_pairs, with_se
 use Rattle.crm_parse.specs.Reading.{Words}
 use Rattle.crm_parse.proofs.Binds.{unless-ok}
 use Rattle.faults.proofs.Steps.{bind-ok}
-use Rattle.crm_parse.proofs.PairWords.{pair_word, pair_word-differs, kv_of-word}
+use Rattle.crm_parse.proofs.PairWords.{pair_word, kv_of-word}
 
 -- the words of some pairs
 abbrev pub pair_words : List Kv → Words
@@ -79,7 +79,3 @@ kept_section place before [] after k e = cc
 kept_section place before (word ∷ words) after k e =
     let (read, no_rule) = unless-ok (is word (codes "rule")) (with_pairs place before (word ∷ words)) after Unsupported e in
     kept_more place before (word ∷ words) after k read
-
--- a section with pairs is read again
-pub section-again : (place : Place) (pair : Kv) (pairs : List Kv) → Kept place (pair ∷ pairs) → with_section place [] (pair_words (pair ∷ pairs)) ≡ Ok (pair ∷ pairs)
-section-again place pair pairs k = rw (pair_word-differs pair (codes "rule") refl) k

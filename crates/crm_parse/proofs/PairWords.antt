@@ -1,19 +1,20 @@
--- The word of a pair is read as that pair, and the pair that a word is read as spells that word.
-use Rattle.std.proofs.Common.{◌≡◌, ℕ, ◌+◌, ◌<◌, Bool, true, false, cond, eqb, ltb, suc, List, [], ◌∷◌, ◌++◌, length, take, drop, Option, Some, None, Ok, Err, refl, sym, ap, ◌∙◌, subst, arith}
+-- The pair that a word is read as spells that word.
+use Rattle.std.proofs.Common.{◌≡◌, ℕ, ◌+◌, ◌<◌, Bool, true, false, cond, eqb, ltb, suc, List, [], ◌∷◌, ◌++◌, length, take, drop, Option, Some, None, Ok, Err, refl, ap, ◌∙◌, subst, arith, ◌-◌}
 use Rattle.std.specs.Prelude.{option_map, ◌==◌}
 use Rattle.std.specs.List.{list_any, position_or_len}
-use Rattle.std.proofs.Math.Seq.{take-append_seam, drop-append-add}
-use Rattle.std.proofs.lemmas.List.{length-append}
-use Rattle.std.proofs.lemmas.Bool.{or_parts, or_from, or_left, or_right, false≢true, false_from_ne_true, lt-ltb, ltb-true, eq-eqb, eqb-true}
-use Rattle.crm_lex.specs.Names.{is}
+use Rattle.std.proofs.lemmas.Bool.{or_parts, or_from, ltb-true, eqb-true}
 use Rattle.crm_parse.specs.declared.pair.Kv.{Kv}
 use Rattle.crm_parse.specs.declared.place.Place.{Place}
 use Rattle.crm_parse.specs.Keys.{accepts, stray}
 use Rattle.crm_parse.specs.Pairs.{kv_of, pair_of}
-use Rattle.crm_parse.specs.Texts.{cut_at, place_of}
-use Rattle.crm_parse.proofs.Affixes.{some-ok}
-use Rattle.crm_parse.proofs.Binds.{unless-ok, is-true}
+use Rattle.crm_parse.specs.Texts.{cut_at, byte_place}
+use Rattle.crm_parse.proofs.Binds.{unless-ok}
 use Rattle.faults.proofs.Steps.{bind-ok}
+
+-- a choice that gives something
+pub some-ok : {A : Type 0} (test : Bool) (x y : A) → cond test (Some x) None ≡ Some y → (y ≡ x) × (test ≡ true)
+some-ok true x y e = (cc, refl)
+some-ok false x y e = cc
 
 -- the byte stands in the word
 abbrev pub has : ℕ → List ℕ → Bool
@@ -50,13 +51,6 @@ module _ {X : Type 0} (p : X → Bool) where
   cut_first [] l = absurd (omega arith)
   cut_first (x ∷ xs) l = cut-case x xs (p x) refl l (cut_first xs)
 
--- a word is cut where it was joined
-pub cut_at-again : (byte : ℕ) (key value : List ℕ) → has byte key ≡ false → cut_at byte (key ++ byte ∷ value) ≡ Some (key, value)
-cut_at-again byte key value h =
-    let n : position_or_len (λ b. b == byte) (key ++ byte ∷ value) ≡ length key = place-behind (λ b. b == byte) key byte value h (eq-eqb byte byte refl) in
-    let l : ltb (length key) (length (key ++ byte ∷ value)) ≡ true = lt-ltb _ _ (omega (arith, length-append key (byte ∷ value))) in
-    rw (n, l, take-append_seam key (byte ∷ value), drop-append-add key (byte ∷ value) 1) refl
-
 map-some : {A B : Type 0} (f : A → B) (o : Option A) (y : B) → option_map f o ≡ Some y → (x : A) × (o ≡ Some x) × (f x ≡ y)
 map-some f None y e = cc
 map-some f (Some x) y e = (x, refl, cc)
@@ -69,7 +63,7 @@ pub record Joined (byte : ℕ) (word key value : List ℕ) : Type 0 where
 pub cut_at-some : (byte : ℕ) (word : List ℕ) (parts : List ℕ × List ℕ) → cut_at byte word ≡ Some parts → Joined byte word parts.0 parts.1
 cut_at-some byte word parts e =
     let test = λ (b : ℕ). b == byte in
-    let (place, found, same) = map-some (λ (place : ℕ). (take place word, drop (place + 1) word)) (place_of byte word) parts e in
+    let (place, found, same) = map-some (λ (place : ℕ). (take place word, drop (place + 1) word)) (byte_place byte word) parts e in
     let (there, below) = some-ok (ltb (position_or_len test word) (length word)) (position_or_len test word) place found in
     let c = cut_first test word (ltb-true _ _ below) in
     let at : c.at ≡ byte = eqb-true c.at byte c.passes in
@@ -102,19 +96,3 @@ kv_of-word place word kv e =
     let made : Kv = record { key = parts.0; value = parts.1 } in
     let same : made ≡ kv = cc in
     joined.whole ∙ ap pair_word same
-
--- so it is read again from the word that it spells
-pub kv_of-again : (place : Place) (word : List ℕ) (kv : Kv) → kv_of place word ≡ Ok kv → kv_of place (pair_word kv) ≡ Ok kv
-kv_of-again place word kv e = subst (λ w. kv_of place w ≡ Ok kv) (kv_of-word place word kv e) e
-
--- a word with the byte isn't one without it
-pub differ : (byte : ℕ) (word text : List ℕ) → has byte word ≡ true → has byte text ≡ false → is word text ≡ false
-differ byte word text h n = false_from_ne_true (is word text) (λ e. false≢true (sym n ∙ (ap (has byte) (sym (is-true word text e)) ∙ h)))
-
-pub has-middle : (byte : ℕ) (front back : List ℕ) → has byte (front ++ byte ∷ back) ≡ true
-has-middle byte [] back = or_left (eqb byte byte) (has byte back) (eq-eqb byte byte refl)
-has-middle byte (b ∷ front) back = or_right (eqb b byte) (has byte (front ++ byte ∷ back)) (has-middle byte front back)
-
--- so a pair's word isn't one without `=`
-pub pair_word-differs : (kv : Kv) (text : List ℕ) → has 61 text ≡ false → is (pair_word kv) text ≡ false
-pair_word-differs kv text n = differ 61 (pair_word kv) text (has-middle 61 kv.key kv.value) n

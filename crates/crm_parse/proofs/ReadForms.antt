@@ -25,30 +25,30 @@ use Rattle.crm_parse.specs.Groups.{clone_at, clone_owner, group_at, members_from
 use Rattle.crm_parse.specs.Location.{begins_rule, discovery_at, location_at, place_at, plain_at, resource_at, role_at, ruled_at, with_rules}
 use Rattle.crm_parse.specs.Monitors.{KeepsMonitors}
 use Rattle.crm_parse.specs.Named.{HasNames}
-use Rattle.crm_parse.specs.Node.{node_at}
+use Rattle.crm_parse.specs.Node.{node_statement_at}
 use Rattle.crm_parse.specs.Order.{order_at}
 use Rattle.crm_parse.specs.Primitive.{agent_of, primitive_at}
-use Rattle.crm_parse.specs.Reading.{Words, given_at, name_at, prefixed_at, score_of, word_at}
+use Rattle.crm_parse.specs.Reading.{Words, given_at, name_at, prefixed_at, score_of, next_word_in}
 use Rattle.crm_parse.specs.ReadForms.{IsRead}
 use Rattle.crm_parse.specs.Sections.{sections_at}
 use Rattle.crm_parse.specs.Settings.{set_at, settings_at, settings_pairs}
 use Rattle.crm_parse.specs.Statements.{draft_after, draft_of, finished, keyword_of, order, statements_of, whole, with_actions}
 use Rattle.crm_parse.proofs.Binds.{name_at-ok}
 use Rattle.faults.proofs.Steps.{bind-ok}
-use Rattle.crm_parse.proofs.ColocationAgain.{side_at-ok}
+use Rattle.crm_parse.proofs.ColocationRead.{side_at-ok}
 use Rattle.crm_parse.proofs.FewMonitors.{few-kept}
-use Rattle.crm_parse.proofs.GroupAgain.{IsMember, members_from-read}
+use Rattle.crm_parse.proofs.GroupRead.{IsMember, members_from-read}
 use Rattle.crm_parse.proofs.LineForms.{DraftHas, statements-have}
-use Rattle.crm_parse.proofs.LocationAgain.{place_at-ok, resource_at-ok}
-use Rattle.crm_parse.proofs.OrderAgain.{IsOrder, Named, NamedDraft, actions-named, order_at-ok}
+use Rattle.crm_parse.proofs.LocationRead.{place_at-ok, resource_at-ok}
+use Rattle.crm_parse.proofs.OrderRead.{IsOrder, Named, NamedDraft, actions-named, order_at-ok}
 use Rattle.crm_parse.proofs.ResourceNames.{IsResource}
 use Rattle.crm_parse.proofs.SectionsKept.{sections_at-kept}
 
 is-read : (f g : Form) → f ≡ g → HasNames f → KeepsMonitors f → IsRead g
 is-read f g same names monitors = subst IsRead same (record { names = names; monitors = monitors })
 
-node-read : (words : Words) (f : Form) → node_at words ≡ Ok f → IsRead f
-unfolding node_at
+node-read : (words : Words) (f : Form) → node_statement_at words ≡ Ok f → IsRead f
+unfolding node_statement_at
 node-read words f e =
     let (id, given, after_id) = bind-ok (given_at words) _ f e in
     let (name, named, after_name) = bind-ok (name_at id.1) _ f after_id in
@@ -60,7 +60,7 @@ primitive-read : (words : Words) (f : Form) → primitive_at words ≡ Ok f → 
 unfolding primitive_at
 primitive-read words f e =
     let (id, named, after_id) = bind-ok (name_at words) _ f e in
-    let (word, at, after_word) = bind-ok (word_at id.1) _ f after_id in
+    let (word, at, after_word) = bind-ok (next_word_in id.1) _ f after_id in
     let (agent, is_agent, after_agent) = bind-ok (agent_of word.0) _ f after_word in
     let description = prefixed_at (codes "description=") word.1 in
     let (sections, are, last) = bind-ok (sections_at owner.Primitive description.1) _ f after_agent in
@@ -130,7 +130,7 @@ colocation-read : (words : Words) (f : Form) → colocation_at words ≡ Ok f �
 unfolding colocation_at
 colocation-read words f e =
     let (id, named, e1) = bind-ok (name_at words) _ f e in
-    let (word, at, e2) = bind-ok (word_at id.1) _ f e1 in
+    let (word, at, e2) = bind-ok (next_word_in id.1) _ f e1 in
     let (fits, plain, e3) = bind-ok (no_attribute word.0) _ f e2 in
     let (points, scored, e4) = bind-ok (score_of word.0) _ f e3 in
     let (dependent, first, e5) = bind-ok (side_at word.1) _ f e4 in
@@ -178,7 +178,7 @@ order-draft words d e =
 
 module _ (before : List DraftStatement) where
   keyword-read : (begins : Keyword) (word : List ℕ) (words : Words) (d : Draft) → draft_after begins before (word ∷ words) words ≡ Ok d → DraftRead d
-  keyword-read keyword.Node word words d e = whole-read (node_at words) d (node-read words) e
+  keyword-read keyword.Node word words d e = whole-read (node_statement_at words) d (node-read words) e
   keyword-read keyword.Primitive word words d e = whole-read (primitive_at words) d (primitive-read words) e
   keyword-read keyword.Group word words d e = whole-read (group_at words) d (group-read words) e
   keyword-read keyword.Clone word words d e = whole-read (clone_at false words) d (clone-read false words) e

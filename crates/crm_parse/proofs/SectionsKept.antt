@@ -8,7 +8,7 @@ use Rattle.crm_parse.specs.declared.section.Sections.{Sections}
 use Rattle.crm_parse.specs.Operations.{operation_of}
 use Rattle.crm_parse.specs.Pairs.{with_section}
 use Rattle.crm_parse.specs.Reading.{Words}
-use Rattle.crm_parse.specs.Sections.{Part, cut, may_follow, no_sections, place_of, sections_at, with_cut, with_part, with_parts, with_words}
+use Rattle.crm_parse.specs.Sections.{Part, cut_into_sections, may_follow, no_sections, place_of, sections_at, with_cut, with_part, with_parts, with_words}
 use Rattle.crm_parse.proofs.Binds.{if-ok}
 use Rattle.faults.proofs.Steps.{bind-ok}
 use Rattle.crm_parse.proofs.OperationWords.{KeptOps, kept_operation}
@@ -80,4 +80,4 @@ none-kept owner = record { attributes = refl; params = refl; meta = refl; utiliz
 
 -- each of the sections that a statement was read to have
 pub sections_at-kept : (owner : Owner) (words : Words) (sections : Sections) → sections_at owner words ≡ Ok sections → AllKept owner sections
-sections_at-kept owner words sections e = with_cut-kept owner no_sections (cut owner false words) sections (none-kept owner) e
+sections_at-kept owner words sections e = with_cut-kept owner no_sections (cut_into_sections owner false words) sections (none-kept owner) e

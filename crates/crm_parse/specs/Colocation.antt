@@ -8,7 +8,7 @@ use Rattle.crm_parse.specs.declared.form.Form.TheVariants as form
 use Rattle.crm_parse.specs.declared.form.Side.{Side}
 use Rattle.crm_parse.specs.declared.values.RoleName.{RoleName}
 use Rattle.crm_parse.specs.declared.words.RoleWord.TheVariants as role
-use Rattle.crm_parse.specs.Reading.{Words, begins_set, name_at, resource_of, score_of, supported, word_at}
+use Rattle.crm_parse.specs.Reading.{Words, begins_set, name_at, resource_of, score_of, supported, next_word_in}
 use Rattle.faults.specs.Reading.{◌>>=◌}
 use Rattle.crm_parse.specs.Texts.{after, cut_at}
 use Rattle.crm_parse.specs.Values.{role_of}
@@ -42,7 +42,7 @@ side_of word = elim (cut_at 58 word) [ None ↦ side_started word | Some parts �
 
 unfoldable pub side_at : Words → Result (Side × Words) ParseCause
 side_at words = do
-  word ← word_at words
+  word ← next_word_in words
   fits ← no_attribute word.0
   side ← side_of word.0
   Ok (side, word.1)
@@ -60,7 +60,7 @@ no_third (word ∷ words) =
 unfoldable pub colocation_at : Words → Result Form ParseCause
 colocation_at words = do
   id ← name_at words
-  word ← word_at id.1
+  word ← next_word_in id.1
   fits ← no_attribute word.0
   score ← score_of word.0
   dependent ← side_at word.1

@@ -15,55 +15,55 @@ use Rattle.crm_parse.specs.declared.values.RoleName.TheVariants.{Started, Promot
 use Rattle.crm_parse.specs.Values.{bool_of, count_of, role_of, time_of}
 
 -- a value is taken, or refused for this cause
-abbrev pub Taken : Type 0
-Taken = Result (Unit {0}) ParseCause
+abbrev pub ValueTaken : Type 0
+ValueTaken = Result (Unit {0}) ParseCause
 
-abbrev pub when : Bool → ParseCause → Taken
+abbrev pub when : Bool → ParseCause → ValueTaken
 when test cause = if test then Ok tt else Err cause
 
-abbrev pub a_score : List ℕ → Taken
+abbrev pub a_score : List ℕ → ValueTaken
 a_score value = when (is_some (read_score value)) BadScore
 
 -- a score of 0 or more
-abbrev pub a_threshold : List ℕ → Taken
+abbrev pub a_threshold : List ℕ → ValueTaken
 a_threshold value = when (option_map_or (λ score. int_le (pos 0) score) (read_score value) false) BadValue
 
-abbrev pub a_time : List ℕ → Taken
+abbrev pub a_time : List ℕ → ValueTaken
 a_time value = when (is_some (time_of value)) BadTime
 
-abbrev pub a_role : List ℕ → Taken
+abbrev pub a_role : List ℕ → ValueTaken
 a_role value = when (is_some (role_of value)) BadValue
 
-abbrev pub a_bool : List ℕ → Taken
+abbrev pub a_bool : List ℕ → ValueTaken
 a_bool value = when (is_some (bool_of value)) BadValue
 
-abbrev pub a_count : List ℕ → Taken
+abbrev pub a_count : List ℕ → ValueTaken
 a_count value = when (is_some (count_of value)) BadValue
 
 -- this text alone is supported
-abbrev pub only : List ℕ → List ℕ → Taken
+abbrev pub only : List ℕ → List ℕ → ValueTaken
 only text value = when (is value text) Unsupported
 
 -- yes or no, of which this one isn't supported
-abbrev pub but_not : Bool → Option Bool → Taken
+abbrev pub but_not : Bool → Option Bool → ValueTaken
 but_not refused None = Err BadValue
 but_not true (Some true) = Err Unsupported
 but_not true (Some false) = Ok tt
 but_not false (Some true) = Ok tt
 but_not false (Some false) = Err Unsupported
 
-abbrev pub not_true : List ℕ → Taken
+abbrev pub not_true : List ℕ → ValueTaken
 not_true value = but_not true (bool_of value)
 
-abbrev pub not_false : List ℕ → Taken
+abbrev pub not_false : List ℕ → ValueTaken
 not_false value = but_not false (bool_of value)
 
 -- any way to say yes
-abbrev pub a_yes : List ℕ → Taken
+abbrev pub a_yes : List ℕ → ValueTaken
 a_yes value = when (option_map_or (λ yes. yes) (bool_of value) false) BadValue
 
 -- meta attributes of a resource, in primitives, groups, clones and rsc_defaults
-abbrev pub leaf_meta : List ℕ → List ℕ → Taken
+abbrev pub leaf_meta : List ℕ → List ℕ → ValueTaken
 leaf_meta key value =
     if is key (codes "priority") || is key (codes "resource-stickiness") then a_score value
     else if is key (codes "migration-threshold") then a_threshold value
@@ -81,7 +81,7 @@ abbrev pub is_promoted_max : List ℕ → Bool
 is_promoted_max key = is key (codes "promoted-max") || is key (codes "master-max")
 
 -- meta attributes of a clone, beside those of a resource
-abbrev pub clone_meta : List ℕ → List ℕ → Taken
+abbrev pub clone_meta : List ℕ → List ℕ → ValueTaken
 clone_meta key value =
     if is key (codes "clone-max") || is_promoted_max key then a_count value
     else if is key (codes "clone-node-max") || is key (codes "promoted-node-max") || is key (codes "master-node-max") then only (codes "1") value
@@ -90,25 +90,25 @@ clone_meta key value =
     else leaf_meta key value
 
 -- those of a statement `ms`, which is promotable
-abbrev pub ms_meta : List ℕ → List ℕ → Taken
+abbrev pub ms_meta : List ℕ → List ℕ → ValueTaken
 ms_meta key value = if is key (codes "promotable") then a_yes value else clone_meta key value
 
 -- attributes of a node
-abbrev pub node_attribute : List ℕ → List ℕ → Taken
+abbrev pub node_attribute : List ℕ → List ℕ → ValueTaken
 node_attribute key value =
     if is key (codes "standby") then a_bool value
     else if is key (codes "maintenance") then not_true value
     else Ok tt
 
 -- what is done without quorum
-abbrev pub a_policy : List ℕ → Taken
+abbrev pub a_policy : List ℕ → ValueTaken
 a_policy value =
     if is value (codes "stop") || is value (codes "ignore") || is value (codes "freeze") then Ok tt
     else if is value (codes "demote") || is value (codes "suicide") || is value (codes "fence") then Err Unsupported
     else Err BadValue
 
 -- options of the cluster
-abbrev pub property : List ℕ → List ℕ → Taken
+abbrev pub property : List ℕ → List ℕ → ValueTaken
 property key value =
     if is key (codes "symmetric-cluster") || is key (codes "stonith-enabled") || is key (codes "startup-fencing")
     || is key (codes "start-failure-is-fatal") || is key (codes "stop-all-resources") || is key (codes "maintenance-mode")
@@ -120,33 +120,33 @@ property key value =
     else Ok tt
 
 -- defaults of operations
-abbrev pub op_default : List ℕ → Taken
+abbrev pub op_default : List ℕ → ValueTaken
 op_default key = when (not (is key (codes "on-fail"))) Unsupported
 
-abbrev pub is_monitor : OpName → Bool
-is_monitor op.Monitor = true
-is_monitor _ = false
+abbrev pub is_monitor_name : OpName → Bool
+is_monitor_name op.Monitor = true
+is_monitor_name _ = false
 
-abbrev pub is_stop : OpName → Bool
-is_stop op.Stop = true
-is_stop _ = false
+abbrev pub is_stop_name : OpName → Bool
+is_stop_name op.Stop = true
+is_stop_name _ = false
 
 abbrev pub is_other : OpName → Bool
 is_other op.Other = true
 is_other _ = false
 
 -- what is done where an operation fails; that of an operation without effect is free
-abbrev pub on_fail : OpName → List ℕ → Taken
+abbrev pub on_fail : OpName → List ℕ → ValueTaken
 on_fail name value =
     if is_other name then Ok tt
     else if is value (codes "block") || is value (codes "fence") then Ok tt
-    else if is value (codes "restart") || is value (codes "stop") then when (not (is_stop name)) BadValue
-    else if is value (codes "ignore") then when (is_monitor name) Unsupported
+    else if is value (codes "restart") || is value (codes "stop") then when (not (is_stop_name name)) BadValue
+    else if is value (codes "ignore") then when (is_monitor_name name) Unsupported
     else if is value (codes "standby") || is value (codes "demote") then Err Unsupported
     else Err BadValue
 
 -- a role of an operation: a monitor of stopped resources isn't supported
-abbrev pub runs_in : Option RoleName → Taken
+abbrev pub runs_in : Option RoleName → ValueTaken
 runs_in None = Err BadValue
 runs_in (Some Stopped) = Err Unsupported
 runs_in (Some Started) = Ok tt
@@ -154,8 +154,8 @@ runs_in (Some Promoted) = Ok tt
 runs_in (Some Unpromoted) = Ok tt
 
 -- the keys of an operation
-abbrev pub operation : OpName → List ℕ → List ℕ → Taken
-operation name key value =
+abbrev pub operation_value : OpName → List ℕ → List ℕ → ValueTaken
+operation_value name key value =
     if is key (codes "interval") then a_time value
     else if is key (codes "on-fail") then on_fail name value
     else if is key (codes "role") then runs_in (role_of value)
@@ -163,7 +163,7 @@ operation name key value =
     else Ok tt
 
 -- a pair of this key and value is taken in its place
-unfoldable pub accepts : Place → List ℕ → List ℕ → Taken
+unfoldable pub accepts : Place → List ℕ → List ℕ → ValueTaken
 accepts place.Plain key value = Ok tt
 accepts place.NodeAttributes key value = node_attribute key value
 accepts place.PrimitivePlain key value = Ok tt
@@ -173,7 +173,7 @@ accepts place.CloneMeta key value = clone_meta key value
 accepts place.MsMeta key value = ms_meta key value
 accepts place.Property key value = property key value
 accepts place.OpDefaults key value = op_default key
-accepts (place.Operation name) key value = operation name key value
+accepts (place.Operation name) key value = operation_value name key value
 
 -- a place in a primitive
 abbrev pub is_in_primitive : Place → Bool

@@ -20,8 +20,3 @@ pub mod Statements
 pub mod Named
 pub mod Monitors
 pub mod ReadForms
-pub mod WordTexts
-pub mod Quoting
-pub mod Items
-pub mod Text
-pub mod Again

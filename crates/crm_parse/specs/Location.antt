@@ -9,7 +9,7 @@ use Rattle.crm_parse.specs.declared.form.Form.TheVariants as form
 use Rattle.crm_parse.specs.declared.rule_form.RuleForm.{RuleForm}
 use Rattle.crm_parse.specs.declared.words.RoleWord.{RoleWord}
 use Rattle.crm_parse.specs.Keys.{when}
-use Rattle.crm_parse.specs.Reading.{Words, end_at, name_at, prefixed_at, resource_of, rule_role_of, score_of, some_name, word_at}
+use Rattle.crm_parse.specs.Reading.{Words, end_at, name_at, prefixed_at, resource_of, rule_role_of, score_of, some_name, next_word_in}
 use Rattle.faults.specs.Reading.{◌>>=◌}
 use Rattle.crm_parse.specs.Rules.{expression_at}
 use Rattle.crm_parse.specs.Texts.{after}
@@ -53,7 +53,7 @@ unfoldable pub rule_at : Words → Result (RuleForm × Words) ParseCause
 rule_at words = do
   id ← rule_id_at words
   role ← rule_role_at id.1
-  word ← word_at role.1
+  word ← next_word_in role.1
   score ← rule_score_of word.0
   read ← expression_at word.1
   Ok (
@@ -70,7 +70,7 @@ rule_at words = do
 -- some rules, and one more, which begins with the word `rule`
 unfoldable pub with_rule : List RuleForm → Words → Result (List RuleForm × Words) ParseCause
 with_rule before words = do
-  word ← word_at words
+  word ← next_word_in words
   taken ← when (is word.0 (codes "rule")) ExtraWord
   rule ← rule_at word.1
   Ok (before ++ rule.0 ∷ [], rule.1)
@@ -86,7 +86,7 @@ with_rules (suc most) before (word ∷ words) = do
 -- the resource of a location
 unfoldable pub resource_at : Words → Result (List ℕ × Words) ParseCause
 resource_at words = do
-  word ← word_at words
+  word ← next_word_in words
   resource ← resource_of word.0
   Ok (resource, word.1)
 
@@ -109,7 +109,7 @@ discovery_at words = do
 -- a score and a node
 unfoldable pub place_at : Words → Result (ℤ × List ℕ) ParseCause
 place_at words = do
-  word ← word_at words
+  word ← next_word_in words
   score ← score_of word.0
   node ← name_at word.1
   end ← end_at node.1

@@ -52,18 +52,18 @@ abbrev pub status_at : List ℕ → List Line → ℕ
 status_at last lines = min (position_or_len (begins_with (codes "%status")) lines) (last_at last lines)
 
 -- the sections, unless a section line is out of its place
-abbrev pub unless : {Marks : Type 0} → Option ℕ → Marks → Result Marks (Fault ParseCause)
-unless None marks = Ok marks
-unless (Some line) marks = Err (At line UnknownStatement)
+abbrev pub marks_unless : {Marks : Type 0} → Option ℕ → Marks → Result Marks (Fault ParseCause)
+marks_unless None marks = Ok marks
+marks_unless (Some line) marks = Err (At line UnknownStatement)
 
 -- the sections of an input with results
 abbrev pub sections_of : List Line → Result SectionMarks (Fault ParseCause)
 sections_of lines =
     let last = codes "%results" in
-    unless (misplaced last [] lines) (record { status_at = status_at last lines; results_at = last_at last lines; end = length lines })
+    marks_unless (misplaced last [] lines) (record { status_at = status_at last lines; results_at = last_at last lines; end = length lines })
 
 -- the sections of an input with a trace
 abbrev pub audit_sections_of : List Line → Result AuditMarks (Fault ParseCause)
 audit_sections_of lines =
     let last = codes "%trace" in
-    unless (misplaced last [] lines) (record { status_at = status_at last lines; trace_at = last_at last lines; end = length lines })
+    marks_unless (misplaced last [] lines) (record { status_at = status_at last lines; trace_at = last_at last lines; end = length lines })

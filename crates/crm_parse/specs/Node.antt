@@ -8,8 +8,8 @@ use Rattle.crm_parse.specs.Reading.{Words, given_at, name_at}
 use Rattle.faults.specs.Reading.{◌>>=◌}
 use Rattle.crm_parse.specs.Sections.{sections_at}
 
-unfoldable pub node_at : Words → Result Form ParseCause
-node_at words = do
+unfoldable pub node_statement_at : Words → Result Form ParseCause
+node_statement_at words = do
   id ← given_at words
   name ← name_at id.1
   sections ← sections_at owner.Node name.1

@@ -11,7 +11,7 @@ use Rattle.crm_parse.specs.declared.place.OpName.{OpName}
 use Rattle.crm_parse.specs.declared.place.OpName.TheVariants as op
 use Rattle.crm_parse.specs.declared.place.Place.{Place}
 use Rattle.crm_parse.specs.declared.place.Place.TheVariants as place
-use Rattle.crm_parse.specs.Keys.{Taken, is_monitor, when}
+use Rattle.crm_parse.specs.Keys.{ValueTaken, is_monitor_name, when}
 use Rattle.crm_parse.specs.Pairs.{with_pair}
 use Rattle.crm_parse.specs.Reading.{Words, name_of}
 use Rattle.faults.specs.Reading.{◌>>=◌}
@@ -65,8 +65,8 @@ recurs operation =
     && nat_lt 0 (interval_of operation.pairs)
 
 -- there is room for one more recurring monitor: no more than 8 of them, each of an interval of its own
-abbrev pub has_room : List Operation → ℕ → Taken
-has_room ops interval =
+abbrev pub has_monitor_room : List Operation → ℕ → ValueTaken
+has_monitor_room ops interval =
     if interval == 0 then Ok tt
     else if nat_le 8 (length (filter recurs ops)) then Err Unsupported
     else when (not (list_any (λ operation. recurs operation && (interval_of operation.pairs == interval)) ops)) RepeatedKey
@@ -88,7 +88,7 @@ interval_in word = unwrap_or (option_and_then time_of (after (codes "interval=")
 unfoldable pub with_op_pair : List Operation → Bool → Place → List Kv → List ℕ → Result (List Kv) ParseCause
 with_op_pair ops recurring place pairs word = do
   more ← with_pair place pairs word
-  room ← has_room ops (if recurring then interval_in word else 0)
+  room ← has_monitor_room ops (if recurring then interval_in word else 0)
   Ok more
 
 abbrev pub with_op_pairs : List Operation → Bool → Place → List Kv → Words → Result (List Kv) ParseCause
@@ -101,7 +101,7 @@ with_op_pairs ops recurring place pairs (word ∷ words) = do
 abbrev pub op_pairs : List Operation → OpName → Words → Result (List Kv) ParseCause
 op_pairs ops name [] = Err MissingWord
 op_pairs ops name (word ∷ words) =
-    with_op_pairs ops (is_monitor name && not (is_off (word ∷ words))) (place.Operation name) [] (word ∷ words)
+    with_op_pairs ops (is_monitor_name name && not (is_off (word ∷ words))) (place.Operation name) [] (word ∷ words)
 
 -- an operation after some operations: its name, and its pairs
 unfoldable pub operation_of : List Operation → Words → Result Operation ParseCause

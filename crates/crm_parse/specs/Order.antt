@@ -10,7 +10,7 @@ use Rattle.crm_parse.specs.declared.fault.ParseCause.TheVariants.{BadScore, BadV
 use Rattle.crm_parse.specs.declared.words.ActionWord.{ActionWord}
 use Rattle.crm_parse.specs.declared.words.KindWord.{KindWord}
 use Rattle.crm_parse.specs.declared.words.KindWord.TheVariants.{Mandatory, Optional, Serialize}
-use Rattle.crm_parse.specs.Reading.{Words, colon_at, end_at, name_at, prefixed_at, resource_of, word_at}
+use Rattle.crm_parse.specs.Reading.{Words, colon_at, end_at, name_at, prefixed_at, resource_of, next_word_in}
 use Rattle.faults.specs.Reading.{◌>>=◌}
 use Rattle.crm_parse.specs.Texts.{after, cut_at}
 use Rattle.crm_parse.specs.Values.{action_of, bool_of, kind_of}
@@ -51,8 +51,8 @@ abbrev pub written_action : Option (List ℕ) → Result (Option ActionWord) Par
 written_action None = Ok None
 written_action (Some word) = some_action word
 
-unfoldable pub step_of : List ℕ → Result StepDraft ParseCause
-step_of word = do
+unfoldable pub read_order_step : List ℕ → Result StepDraft ParseCause
+read_order_step word = do
   resource ← resource_of (step_parts word).0
   action ← written_action (step_parts word).1
   Ok (record { resource = resource; action = action })
@@ -60,8 +60,8 @@ step_of word = do
 -- some resources, and one more
 unfoldable pub with_step : List StepDraft → Words → Result (List StepDraft × Words) ParseCause
 with_step steps words = do
-  word ← word_at words
-  step ← step_of word.0
+  word ← next_word_in words
+  step ← read_order_step word.0
   Ok (steps ++ step ∷ [], word.1)
 
 abbrev pub ends_steps : List ℕ → Bool
@@ -71,19 +71,19 @@ ends_steps word = is_some (after (codes "symmetrical=") word)
 abbrev pub with_steps : List StepDraft → Words → Result (List StepDraft × Words) ParseCause
 with_steps steps [] = Ok (steps, [])
 with_steps steps (word ∷ words) = if ends_steps word then Ok (steps, word ∷ words) else do
-  step ← step_of word
+  step ← read_order_step word
   with_steps (steps ++ step ∷ []) words
 
 -- two resources or more
-unfoldable pub steps_at : Words → Result (List StepDraft × Words) ParseCause
-steps_at words = do
+unfoldable pub order_steps_at : Words → Result (List StepDraft × Words) ParseCause
+order_steps_at words = do
   first ← with_step [] words
   second ← with_step first.0 first.1
   with_steps second.0 second.1
 
-abbrev pub is_serialize : KindWord → Bool
-is_serialize Serialize = true
-is_serialize _ = false
+abbrev pub is_serialize_word : KindWord → Bool
+is_serialize_word Serialize = true
+is_serialize_word _ = false
 
 -- an order that only keeps two actions apart can't be symmetrical
 abbrev pub symmetrical_as : KindWord → Bool → Result Bool ParseCause
@@ -91,7 +91,7 @@ symmetrical_as Serialize true = Err Unsupported
 symmetrical_as _ both = Ok both
 
 unfoldable pub symmetrical_in : KindWord → Option (List ℕ) → Result Bool ParseCause
-symmetrical_in kind None = Ok (not (is_serialize kind))
+symmetrical_in kind None = Ok (not (is_serialize_word kind))
 symmetrical_in kind (Some word) = do
   both ← ok_or (bool_of word) BadValue
   symmetrical_as kind both
@@ -100,7 +100,7 @@ unfoldable pub order_at : Words → Result OrderDraft ParseCause
 order_at words = do
   id ← name_at words
   kind ← kind_at id.1
-  steps ← steps_at kind.1
+  steps ← order_steps_at kind.1
   symmetrical ← symmetrical_in kind.0 (prefixed_at (codes "symmetrical=") steps.1).0
   end ← end_at (prefixed_at (codes "symmetrical=") steps.1).1
   Ok (record { id = id.0; kind = kind.0; steps = steps.0; symmetrical = symmetrical })

@@ -6,7 +6,7 @@ use Rattle.crm_parse.specs.declared.fault.ParseCause.TheVariants.{BadValue, Unsu
 use Rattle.crm_parse.specs.declared.form.Form.{Form}
 use Rattle.crm_parse.specs.declared.form.Form.TheVariants as form
 use Rattle.crm_parse.specs.declared.owner.Owner.TheVariants as owner
-use Rattle.crm_parse.specs.Reading.{Words, description_at, name_at, word_at}
+use Rattle.crm_parse.specs.Reading.{Words, description_at, name_at, next_word_in}
 use Rattle.faults.specs.Reading.{◌>>=◌}
 use Rattle.crm_parse.specs.Sections.{sections_at}
 
@@ -33,7 +33,7 @@ agent_of word = if is_template word then Err Unsupported else if is_agent word t
 unfoldable pub primitive_at : Words → Result Form ParseCause
 primitive_at words = do
   id ← name_at words
-  word ← word_at id.1
+  word ← next_word_in id.1
   agent ← agent_of word.0
   description ← description_at word.1
   sections ← sections_at owner.Primitive description.1

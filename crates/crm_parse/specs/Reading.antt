@@ -18,9 +18,9 @@ abbrev pub Words : Type 0
 Words = List (List ℕ)
 
 -- the next word
-abbrev pub word_at : Words → Result (List ℕ × Words) ParseCause
-word_at [] = Err MissingWord
-word_at (word ∷ words) = Ok (word, words)
+abbrev pub next_word_in : Words → Result (List ℕ × Words) ParseCause
+next_word_in [] = Err MissingWord
+next_word_in (word ∷ words) = Ok (word, words)
 
 -- the word where it is a name
 abbrev pub name_of : List ℕ → Result (List ℕ) ParseCause
@@ -29,7 +29,7 @@ name_of word = if is_name word then Ok word else Err BadValue
 -- the next word, which is a name
 unfoldable pub name_at : Words → Result (List ℕ × Words) ParseCause
 name_at words = do
-  word ← word_at words
+  word ← next_word_in words
   name ← name_of word.0
   Ok (name, word.1)
 

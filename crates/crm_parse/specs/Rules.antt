@@ -16,19 +16,19 @@ use Rattle.crm_parse.specs.declared.expression.DateTest.TheVariants as date
 use Rattle.crm_parse.specs.declared.expression.Expression.{Expression}
 use Rattle.crm_parse.specs.declared.fault.ParseCause.{ParseCause}
 use Rattle.crm_parse.specs.declared.fault.ParseCause.TheVariants.{BadValue, Unsupported}
-use Rattle.crm_parse.specs.Keys.{Taken, when}
-use Rattle.crm_parse.specs.Reading.{Words, word_at}
+use Rattle.crm_parse.specs.Keys.{ValueTaken, when}
+use Rattle.crm_parse.specs.Reading.{Words, next_word_in}
 use Rattle.faults.specs.Reading.{◌>>=◌}
-use Rattle.crm_parse.specs.Texts.{after, cut_at, place_of}
+use Rattle.crm_parse.specs.Texts.{after, cut_at, byte_place}
 
 -- the next word, which is noted
 unfoldable pub noted_at : Words → Words → Result (List ℕ × Words × Words) ParseCause
 noted_at noted words = do
-  word ← word_at words
+  word ← next_word_in words
   Ok (word.0, noted ++ word.0 ∷ [], word.1)
 
 -- a name that isn't empty
-abbrev pub filled : List ℕ → Taken
+abbrev pub filled : List ℕ → ValueTaken
 filled name = when (not (length name == 0)) BadValue
 
 abbrev pub compare_of : List ℕ → Result Compare ParseCause
@@ -71,7 +71,7 @@ is_number_kind Number = true
 is_number_kind _ = false
 
 -- a value that is compared as a number has to be one
-abbrev pub comparable : Kind → List ℕ → Taken
+abbrev pub comparable : Kind → List ℕ → ValueTaken
 comparable kind value = when (not (is_number_kind kind) || is_some (whole_number value)) BadValue
 
 -- `NAME [TYPE:]CMP VALUE`, after the name
@@ -106,14 +106,14 @@ date_test_text date.Gt = codes "gt"
 date_test_text date.In = codes "in"
 
 -- the moment that a text says
-abbrev pub moment_of : List ℕ → Result ℤ ParseCause
-moment_of text = ok_or (instant text) BadValue
+abbrev pub read_moment : List ℕ → Result ℤ ParseCause
+read_moment text = ok_or (instant text) BadValue
 
 -- a date
 unfoldable pub date_at : Words → Words → Result (ℤ × Words × Words) ParseCause
 date_at noted words = do
   word ← noted_at noted words
-  moment ← moment_of word.0
+  moment ← read_moment word.0
   Ok (moment, word.1, word.2)
 
 -- `start=DATE`
@@ -121,22 +121,22 @@ unfoldable pub start_at : Words → Words → Result (ℤ × Words × Words) Par
 start_at noted words = do
   word ← noted_at noted words
   text ← ok_or (after (codes "start=") word.0) BadValue
-  moment ← moment_of text
+  moment ← read_moment text
   Ok (moment, word.1, word.2)
 
 -- the date of `end=DATE`; a duration in its place isn't supported
 abbrev pub end_text : List ℕ → Result (List ℕ) ParseCause
 end_text word = elim (after (codes "end=") word) [
-  | None ↦ Err (if is_some (place_of 61 word) then Unsupported else BadValue)
+  | None ↦ Err (if is_some (byte_place 61 word) then Unsupported else BadValue)
   | Some text ↦ Ok text
 ]
 
 -- `end=DATE`
-unfoldable pub end_at : Words → Words → Result (ℤ × Words × Words) ParseCause
-end_at noted words = do
+unfoldable pub end_date_at : Words → Words → Result (ℤ × Words × Words) ParseCause
+end_date_at noted words = do
   word ← noted_at noted words
   text ← end_text word.0
-  moment ← moment_of text
+  moment ← read_moment text
   Ok (moment, word.1, word.2)
 
 -- the dates of a test
@@ -149,13 +149,13 @@ dates_at date.Gt noted words = do
   Ok (After moment.0, moment.1, moment.2)
 dates_at date.In noted words = do
   start ← start_at noted words
-  end ← end_at start.1 start.2
+  end ← end_date_at start.1 start.2
   Ok (Within start.0 end.0, end.1, end.2)
 
 -- `date lt DATE`, `date gt DATE` and `date in start=DATE end=DATE`, after the first word
 unfoldable pub date_test_at : Words → Words → Result (Test × Words × Words) ParseCause
 date_test_at noted words = do
-  word ← word_at words
+  word ← next_word_in words
   test ← date_test_of word.0
   dates_at test (noted ++ date_test_text test ∷ []) word.1
 
@@ -183,7 +183,7 @@ abbrev pub joiner_of : List ℕ → Option Bool
 joiner_of word = if is word (codes "and") then Some true else if is word (codes "or") then Some false else None
 
 -- all tests are joined alike
-abbrev pub joined_alike : Option Bool → Bool → Taken
+abbrev pub joined_alike : Option Bool → Bool → ValueTaken
 joined_alike None all = Ok tt
 joined_alike (Some true) all = when all Unsupported
 joined_alike (Some false) all = when (not all) Unsupported

@@ -29,19 +29,19 @@ section_word word =
     else None
 
 -- the sections that a statement may have
-abbrev pub allows : Owner → SectionWord → Bool
-allows owner.Node Attributes = true
-allows owner.Node Utilization = true
-allows owner.Node _ = false
-allows owner.Primitive Attributes = false
-allows owner.Primitive _ = true
-allows _ Params = true
-allows _ Meta = true
-allows _ _ = false
+abbrev pub allows_section : Owner → SectionWord → Bool
+allows_section owner.Node Attributes = true
+allows_section owner.Node Utilization = true
+allows_section owner.Node _ = false
+allows_section owner.Primitive Attributes = false
+allows_section owner.Primitive _ = true
+allows_section _ Params = true
+allows_section _ Meta = true
+allows_section _ _ = false
 
 abbrev pub allowed : Owner → Option SectionWord → Option SectionWord
 allowed owner None = None
-allowed owner (Some section) = if allows owner section then Some section else None
+allowed owner (Some section) = if allows_section owner section then Some section else None
 
 -- the section that a word begins in a statement
 unfoldable pub section_of : Owner → List ℕ → Option SectionWord
@@ -65,10 +65,10 @@ onto None word parts = (word ∷ parts.0, parts.1)
 onto (Some section) word parts = ([], (section, parts.0) ∷ parts.1)
 
 -- some words are cut into those before the first section word, and the sections; where the first word is a name it begins no section
-abbrev pub cut : Owner → Bool → Words → Words × List Part
-cut owner is_name [] = ([], [])
-cut owner true (word ∷ words) = onto None word (cut owner false words)
-cut owner false (word ∷ words) = onto (section_of owner word) word (cut owner (takes_name (section_of owner word)) words)
+abbrev pub cut_into_sections : Owner → Bool → Words → Words × List Part
+cut_into_sections owner is_name [] = ([], [])
+cut_into_sections owner true (word ∷ words) = onto None word (cut_into_sections owner false words)
+cut_into_sections owner false (word ∷ words) = onto (section_of owner word) word (cut_into_sections owner (takes_name (section_of owner word)) words)
 
 -- the place of the pairs of a section
 abbrev pub place_of : Owner → SectionWord → Place
@@ -84,13 +84,13 @@ place_of _ _ = place.Plain
 abbrev pub no_sections : Sections
 no_sections = record { attributes = []; params = []; meta = []; utilization = []; operations = []; ops = [] }
 
-abbrev pub is_empty : List Kv → Bool
-is_empty pairs = length pairs == 0
+abbrev pub has_no_pairs : List Kv → Bool
+has_no_pairs pairs = length pairs == 0
 
 -- a section may follow those before it: each of a node's two stands once, and in their order
 abbrev pub may_follow : Owner → Sections → SectionWord → Bool
-may_follow owner.Node before Attributes = is_empty before.attributes && is_empty before.utilization
-may_follow owner.Node before Utilization = is_empty before.utilization
+may_follow owner.Node before Attributes = has_no_pairs before.attributes && has_no_pairs before.utilization
+may_follow owner.Node before Utilization = has_no_pairs before.utilization
 may_follow _ before _ = true
 
 -- some sections, and the words of one more
@@ -130,7 +130,7 @@ with_cut owner before ([], parts) = with_parts owner before parts
 with_cut owner before (word ∷ words, parts) = Err (stray (place_of owner Params) word)
 
 abbrev pub sections_from : Owner → Sections → Words → Result Sections ParseCause
-sections_from owner before words = with_cut owner before (cut owner false words)
+sections_from owner before words = with_cut owner before (cut_into_sections owner false words)
 
 -- the sections of a statement
 abbrev pub sections_at : Owner → Words → Result Sections ParseCause

@@ -26,7 +26,7 @@ use Rattle.crm_parse.specs.declared.words.SettingsWord.TheVariants.{Property, Rs
 use Rattle.crm_parse.specs.Colocation.{colocation_at}
 use Rattle.crm_parse.specs.Groups.{clone_at, group_at}
 use Rattle.crm_parse.specs.Location.{location_at}
-use Rattle.crm_parse.specs.Node.{node_at}
+use Rattle.crm_parse.specs.Node.{node_statement_at}
 use Rattle.crm_parse.specs.Operations.{value_of}
 use Rattle.crm_parse.specs.Order.{order_at}
 use Rattle.crm_parse.specs.Primitive.{primitive_at}
@@ -77,7 +77,7 @@ order words = do
 
 -- what the words after the first say, after some statements
 abbrev pub draft_after : Keyword → List DraftStatement → Words → Words → Result Draft ParseCause
-draft_after keyword.Node before line words = whole (node_at words)
+draft_after keyword.Node before line words = whole (node_statement_at words)
 draft_after keyword.Primitive before line words = whole (primitive_at words)
 draft_after keyword.Group before line words = whole (group_at words)
 draft_after keyword.Clone before line words = whole (clone_at false words)
@@ -112,12 +112,12 @@ with_lines before (line ∷ lines) = elim (with_line before line) [
 ]
 
 -- a clone is promotable: it was written as `ms` or `master`, or says so
-abbrev pub is_promotable : Bool → List Kv → Bool
-is_promotable ms meta = ms || option_map_or (λ value. option_map_or (λ says. says) (bool_of value) false) (value_of (codes "promotable") meta) false
+abbrev pub says_promotable : Bool → List Kv → Bool
+says_promotable ms meta = ms || option_map_or (λ value. option_map_or (λ says. says) (bool_of value) false) (value_of (codes "promotable") meta) false
 
 -- the resources that have a promoted role by a statement: a promotable clone, and its child
 abbrev pub promotable_in : Draft → Words
-promotable_in (draft.Whole (form.Cloned id child ms description params meta)) = if is_promotable ms meta then id ∷ child ∷ [] else []
+promotable_in (draft.Whole (form.Cloned id child ms description params meta)) = if says_promotable ms meta then id ∷ child ∷ [] else []
 promotable_in _ = []
 
 -- the resources that have a promoted role by some statements

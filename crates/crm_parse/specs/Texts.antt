@@ -13,10 +13,10 @@ abbrev pub before : List ℕ → List ℕ → Option (List ℕ)
 before text word = if is (drop (length word - length text) word) text then Some (take (length word - length text) word) else None
 
 -- where the first such byte of the word is
-abbrev pub place_of : ℕ → List ℕ → Option ℕ
-place_of byte word =
+abbrev pub byte_place : ℕ → List ℕ → Option ℕ
+byte_place byte word =
     let place = position_or_len (λ b. b == byte) word in if nat_lt place (length word) then Some place else None
 
 -- what stands before and after the first such byte of the word
 abbrev pub cut_at : ℕ → List ℕ → Option (List ℕ × List ℕ)
-cut_at byte word = option_map (λ place. (take place word, drop (place + 1) word)) (place_of byte word)
+cut_at byte word = option_map (λ place. (take place word, drop (place + 1) word)) (byte_place byte word)

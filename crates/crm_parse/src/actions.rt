@@ -3,7 +3,7 @@
 ghost use Rattle.std.specs.Prelude.{◌≡◌, ◌++◌, [], IfOk, false};
 ghost use Rattle.std.specs.Option.{option_copied, option_map_or};
 ghost use Rattle.crm_parse.specs.declared.words.ActionWord.TheVariants.{Start};
-ghost use Rattle.crm_parse.specs.Statements.{action_after, finished, is_promotable, promotable_by, promotable_in, taken_action, unpromoted, with_actions};
+ghost use Rattle.crm_parse.specs.Statements.{action_after, finished, says_promotable, promotable_by, promotable_in, taken_action, unpromoted, with_actions};
 ghost use Rattle.crm_parse.specs.Values.{bool_of};
 
 use crate::draft::{Draft, DraftStatement, StepDraft};
@@ -26,7 +26,7 @@ fn says_yes(value: Option<&[u8]>) -> bool
 
 /// Whether a clone with these meta attributes is promotable.
 fn is_promotable(ms: bool, meta: &[Kv]) -> bool
-    ensures { result ≡ is_promotable ms meta.now }
+    ensures { result ≡ says_promotable ms meta.now }
 {
     ms || says_yes(value_of(b"promotable", meta))
 }

@@ -10,8 +10,8 @@ use crate::reading::{
 };
 use crate::values::role_of;
 use crate::{Form, ParseCause, RoleName, RoleWord, Side};
-use carry::{done, with};
 use crm_lex::Name;
+use faults::{done, with};
 use std::alloc::Global;
 
 fn is_node_attribute(word: &[u8]) -> bool

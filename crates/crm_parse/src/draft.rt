@@ -6,14 +6,14 @@ use listed::Listed;
 
 /// One resource of an order, and its action where one was written.
 #[derive(Drop)]
-pub(crate) struct StepDraft {
+pub struct StepDraft {
     pub resource: Name,
     pub action: Option<ActionWord>,
 }
 
 /// An order as it was written.
 #[derive(Drop)]
-pub(crate) struct OrderDraft {
+pub struct OrderDraft {
     pub id: Name,
     pub kind: KindWord,
     pub steps: Listed<StepDraft>,
@@ -22,14 +22,14 @@ pub(crate) struct OrderDraft {
 
 /// What a statement says, as far as its own line tells.
 #[derive(Drop)]
-pub(crate) enum Draft {
+pub enum Draft {
     Whole(Form),
     Order(OrderDraft),
 }
 
 /// A statement, as far as its own line tells.
 #[derive(Drop)]
-pub(crate) struct DraftStatement {
+pub struct DraftStatement {
     pub line: u32,
     pub draft: Draft,
 }

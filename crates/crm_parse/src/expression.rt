@@ -2,21 +2,21 @@
 
 ghost use Rattle.std.specs.Prelude.{◌≡◌, ◌≤◌, ◌<◌, ◌++◌, ◌∷◌, [], length, not, IfOk};
 ghost use Rattle.faults.specs.Reading.{GivesInLine, Reads};
-ghost use Rattle.crm_parse.specs.Rules.{attribute_at, comparable, compare_of, comparison_of, date_at, date_test_at, date_test_of, date_test_text, dates_at, defined_at, end_at, end_text, expression_at, filled, is_number_kind, joined_alike, joiner_at, joiner_of, moment_of, noted_at, start_at, test_after, test_at, type_of, typed, untyped, with_all_tests, with_joined, with_test};
+ghost use Rattle.crm_parse.specs.Rules.{attribute_at, comparable, compare_of, comparison_of, date_at, date_test_at, date_test_of, date_test_text, dates_at, defined_at, end_date_at, end_text, expression_at, filled, is_number_kind, joined_alike, joiner_at, joiner_of, read_moment, noted_at, start_at, test_after, test_at, type_of, typed, untyped, with_all_tests, with_joined, with_test};
 
 use crate::ParseCause;
 use crate::accept::when;
 use crate::fault::Stop;
 use crate::reading::{after, cut_at, place_of, word_at};
-use carry::with;
 use crm_lex::{Name, is};
-use date_rules::{Compare, Kind, Test, Text, instant, whole_number};
+use date_rules::{Compare, Kind, Test, instant, whole_number};
+use faults::with;
 use listed::Listed;
 use std::alloc::Global;
 
 /// An expression as far as it was read.
 #[derive(Drop)]
-pub(crate) struct Expression {
+pub struct Expression {
     /// Whether the tests are joined by `and`, and not by `or`, where there are two or more.
     pub joined: Option<bool>,
     pub tests: Listed<Test>,
@@ -26,7 +26,7 @@ pub(crate) struct Expression {
 
 /// How a moment is tested.
 #[derive(Clone, Copy)]
-pub(crate) enum DateTest {
+pub enum DateTest {
     Lt,
     Gt,
     In,
@@ -138,10 +138,10 @@ fn attribute_at<'a>(
     let (value, rest) = noted_at(alloc, noted, rest)?;
     comparable(kind, value.bytes())?;
     let test = Test::Attribute {
-        name: Text::from_bytes(alloc, name)?,
+        name: Name::from_bytes(alloc, name)?,
         compare,
         kind,
-        value: Text::from_bytes(alloc, value.bytes())?,
+        value: Name::from_bytes(alloc, value.bytes())?,
     };
     Ok((test, rest))
 }
@@ -159,7 +159,7 @@ fn defined_at<'a>(
 {
     let (name, rest) = noted_at(alloc, noted, words)?;
     filled(name.bytes())?;
-    let name = Text::from_bytes(alloc, name.bytes())?;
+    let name = Name::from_bytes(alloc, name.bytes())?;
     if defined {
         Ok((Test::Defined { name }, rest))
     } else {
@@ -194,7 +194,7 @@ fn date_test_text(test: DateTest) -> &'static [u8]
 }
 
 fn moment_of(text: &[u8]) -> Result<i64, ParseCause>
-    ensures { result ≡ moment_of text.now }
+    ensures { result ≡ read_moment text.now }
 {
     instant(text).ok_or(ParseCause::BadValue)
 }
@@ -246,13 +246,13 @@ fn end_text(word: &[u8]) -> Result<&[u8], ParseCause>
 }
 
 /// `end=DATE`
-#[tactic(auto, unfolding(crate::specs::Rules::end_at))]
+#[tactic(auto, unfolding(crate::specs::Rules::end_date_at))]
 fn end_at<'a>(
     alloc: Global,
     noted: &mut Listed<Name>,
     words: &'a [Name],
 ) -> Result<(i64, &'a [Name]), Stop>
-    ensures read { GivesInLine (λ read. (read.0, noted.new, read.1.now)) result (end_at noted.old words.now) }
+    ensures read { GivesInLine (λ read. (read.0, noted.new, read.1.now)) result (end_date_at noted.old words.now) }
     ensures shorter { IfOk result (λ read. length read.1.now ≤ length words.now) }
 {
     let (word, rest) = noted_at(alloc, noted, words)?;

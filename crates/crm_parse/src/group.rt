@@ -9,8 +9,8 @@ use crate::fault::Stop;
 use crate::owner::Owner;
 use crate::reading::{after, description_at, name_at, name_of};
 use crate::section::{is_section, sections_at};
-use carry::with;
 use crm_lex::Name;
+use faults::with;
 use listed::Listed;
 use std::alloc::Global;
 

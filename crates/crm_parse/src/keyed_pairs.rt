@@ -4,7 +4,7 @@ ghost use Rattle.std.specs.Prelude.{◌≡◌, ◌&&◌, ◌||◌, ◌++◌, ◌
 ghost use Rattle.std.specs.List.{list_any};
 ghost use Rattle.crm_parse.specs.Keys.{is_clone_meta, is_promoted_max};
 ghost use Rattle.crm_parse.specs.Pairs.{is_same_key, repeats};
-ghost use Rattle.crm_parse.specs.Sections.{is_empty};
+ghost use Rattle.crm_parse.specs.Sections.{has_no_pairs};
 
 use crate::Kv;
 use crate::keys::{is_clone_meta, is_promoted_max};
@@ -90,7 +90,7 @@ impl KeyedPairs {
 
     /// Whether there is no pair.
     pub fn is_empty(&self) -> bool
-        ensures { result ≡ is_empty self.now }
+        ensures { result ≡ has_no_pairs self.now }
     {
         self.pairs.is_empty()
     }

@@ -1,7 +1,7 @@
 //! Which values the keys with effect take.
 
 ghost use Rattle.std.specs.Prelude.{◌≡◌};
-ghost use Rattle.crm_parse.specs.Keys.{accepts, clone_meta, is_clone_meta, is_in_primitive, is_promoted_max, leaf_meta, ms_meta, node_attribute, on_fail, op_default, operation, property, stray};
+ghost use Rattle.crm_parse.specs.Keys.{accepts, clone_meta, is_clone_meta, is_in_primitive, is_promoted_max, leaf_meta, ms_meta, node_attribute, on_fail, op_default, operation_value, property, stray};
 
 use crate::ParseCause;
 use crate::accept::{
@@ -135,7 +135,7 @@ fn on_fail(name: OpName, value: &[u8]) -> Result<(), ParseCause>
 }
 
 fn operation(name: OpName, key: &[u8], value: &[u8]) -> Result<(), ParseCause>
-    ensures { result ≡ operation name key.now value.now }
+    ensures { result ≡ operation_value name key.now value.now }
 {
     if is(key, b"interval") {
         a_time(value)

@@ -4,7 +4,7 @@ use crate::SettingsWord;
 
 /// A statement, by its first word.
 #[derive(Clone, Copy)]
-pub(crate) enum Keyword {
+pub enum Keyword {
     Node,
     Primitive,
     Group,

@@ -1,4 +1,4 @@
-//! The statements of a configuration, read from the words of its lines, and their canonical text.
+//! The statements of a configuration, read from the words of its lines.
 #![tactic(auto)]
 
 // What a configuration says.
@@ -49,24 +49,8 @@ mod actions;
 mod parser;
 mod promotable;
 
-// How words, the items of a line, and the lines are written.
-mod item;
-mod printed_keyword;
-mod printed_order;
-mod printed_rule;
-mod printed_statement;
-mod quoting;
-mod text;
-
-// What follows from the definitions.
-mod laws;
-
 pub use fault::{ParseCause, ParseFault};
 pub use form::{Form, OrderStep, Side};
-pub use laws::{
-    canonical_text_is_canonical, what_is_printed_before_a_comment_reads_again,
-    what_is_printed_reads_again,
-};
 pub use marks::{AuditMarks, SectionMarks, audit_sections, sections};
 pub use operations::{interval_of, recurs, value_of};
 pub use pair::{Kv, Operation};
@@ -74,6 +58,5 @@ pub use parser::parse;
 pub use reading::is_name;
 pub use rule_form::RuleForm;
 pub use statement::{Crm, Statement};
-pub use text::print;
 pub use values::{RoleName, action_of, bool_of, count_of, kind_of, role_of, time_of};
 pub use words::{ActionWord, KindWord, RoleWord, SettingsWord};

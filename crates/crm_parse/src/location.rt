@@ -9,8 +9,8 @@ use crate::fault::Stop;
 use crate::reading::{end_at, name_at, prefixed_at, resource_of, score_of, word_at};
 use crate::rule::{rules_at, some_role};
 use crate::{Form, ParseCause, RoleWord};
-use carry::{done, with};
 use crm_lex::{Name, is};
+use faults::{done, with};
 use score::Score;
 use std::alloc::Global;
 

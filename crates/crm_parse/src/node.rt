@@ -1,7 +1,7 @@
 //! `node [ID:] NAME [attributes KV..] [utilization KV..]`
 
 ghost use Rattle.std.specs.Prelude.{◌≡◌};
-ghost use Rattle.crm_parse.specs.Node.{node_at};
+ghost use Rattle.crm_parse.specs.Node.{node_statement_at};
 ghost use Rattle.faults.specs.Reading.{GivesInLine};
 
 use crate::Form;
@@ -9,14 +9,14 @@ use crate::fault::Stop;
 use crate::owner::Owner;
 use crate::reading::{given_at, name_at};
 use crate::section::sections_at;
-use carry::with;
 use crm_lex::Name;
+use faults::with;
 use std::alloc::Global;
 
 /// Reads the words after `node`.
-#[tactic(auto, unfolding(crate::specs::Node::node_at))]
+#[tactic(auto, unfolding(crate::specs::Node::node_statement_at))]
 pub fn node_at(alloc: Global, words: &[Name]) -> Result<Form, Stop>
-    ensures { GivesInLine (λ form. form) result (node_at words.now) }
+    ensures { GivesInLine (λ form. form) result (node_statement_at words.now) }
 {
     let (id, rest) = given_at(alloc, words)?;
     let (id, (name, rest)) = with(id, name_at(alloc, rest))?;

@@ -4,8 +4,8 @@ ghost use Rattle.std.specs.Prelude.{◌≡◌, ◌&&◌, ◌==◌, length, filte
 ghost use Rattle.std.specs.List.{list_any};
 ghost use Rattle.std.specs.Option.{option_and_then, option_copied, option_map_or};
 ghost use Rattle.crm_lex.specs.Names.{is};
-ghost use Rattle.crm_parse.specs.Keys.{is_monitor};
-ghost use Rattle.crm_parse.specs.Operations.{has_op, has_room, interval_in, interval_of, is_off, is_single, new_name, op_name, op_pairs, operation_of, recurs, says_no, value_of, with_op_pair, with_op_pairs};
+ghost use Rattle.crm_parse.specs.Keys.{is_monitor_name};
+ghost use Rattle.crm_parse.specs.Operations.{has_op, has_monitor_room, interval_in, interval_of, is_off, is_single, new_name, op_name, op_pairs, operation_of, recurs, says_no, value_of, with_op_pair, with_op_pairs};
 ghost use Rattle.faults.specs.Reading.{GivesInLine, Reads};
 ghost use Rattle.crm_parse.specs.Values.{time_of};
 
@@ -49,7 +49,7 @@ fn is_single(name: OpName) -> bool
 }
 
 fn is_monitor(name: OpName) -> bool
-    ensures { result ≡ is_monitor name }
+    ensures { result ≡ is_monitor_name name }
 {
     matches!(name, OpName::Monitor)
 }
@@ -147,7 +147,7 @@ fn has_interval(ops: &[Operation], interval: u32) -> bool
 
 /// Takes one more recurring monitor of this interval where there is room for it.
 fn has_room(ops: &[Operation], interval: u32) -> Result<(), ParseCause>
-    ensures { result ≡ has_room ops.now interval }
+    ensures { result ≡ has_monitor_room ops.now interval }
 {
     if interval == 0 {
         Ok(())

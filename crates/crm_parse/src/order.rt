@@ -2,7 +2,7 @@
 
 ghost use Rattle.std.specs.Prelude.{◌≡◌, []};
 ghost use Rattle.std.specs.Option.{option_copied};
-ghost use Rattle.crm_parse.specs.Order.{ends_steps, is_serialize, kind_at, kind_by_score, kind_by_word, kind_in, order_at, some_action, step_of, step_parts, steps_at, symmetrical_as, symmetrical_in, with_step, with_steps, written_action};
+ghost use Rattle.crm_parse.specs.Order.{ends_steps, is_serialize_word, kind_at, kind_by_score, kind_by_word, kind_in, order_at, some_action, read_order_step, step_parts, order_steps_at, symmetrical_as, symmetrical_in, with_step, with_steps, written_action};
 ghost use Rattle.faults.specs.Reading.{GivesInLine, Reads};
 
 use crate::draft::{OrderDraft, StepDraft};
@@ -10,8 +10,8 @@ use crate::fault::Stop;
 use crate::reading::{after, colon_at, cut_at, end_at, name_at, prefixed_at, resource_of, word_at};
 use crate::values::{action_of, bool_of, kind_of};
 use crate::{ActionWord, KindWord, ParseCause};
-use carry::{done, with};
 use crm_lex::Name;
+use faults::{done, with};
 use listed::Listed;
 use score::Score;
 use std::alloc::Global;
@@ -85,9 +85,9 @@ fn step_parts(word: &[u8]) -> (&[u8], Option<&[u8]>)
 }
 
 /// A resource, and an action after a colon.
-#[tactic(auto, unfolding(crate::specs::Order::step_of))]
+#[tactic(auto, unfolding(crate::specs::Order::read_order_step))]
 fn step_of(alloc: Global, word: &[u8]) -> Result<StepDraft, Stop>
-    ensures { GivesInLine (λ step. step) result (step_of word.now) }
+    ensures { GivesInLine (λ step. step) result (read_order_step word.now) }
 {
     let (resource, action) = step_parts(word);
     let resource = resource_of(resource)?;
@@ -138,9 +138,9 @@ fn add_steps<'a>(
 }
 
 /// Two resources or more.
-#[tactic(auto, unfolding(crate::specs::Order::steps_at))]
+#[tactic(auto, unfolding(crate::specs::Order::order_steps_at))]
 fn steps_at(alloc: Global, words: &[Name]) -> Result<(Listed<StepDraft>, &[Name]), Stop>
-    ensures { GivesInLine (λ read. (read.0, read.1.now)) result (steps_at words.now) }
+    ensures { GivesInLine (λ read. (read.0, read.1.now)) result (order_steps_at words.now) }
 {
     let mut steps = Listed::new(alloc);
     let rest = add_step(alloc, &mut steps, words);

@@ -2,7 +2,7 @@
 
 /// A statement with sections.
 #[derive(Clone, Copy)]
-pub(crate) enum Owner {
+pub enum Owner {
     Node,
     Primitive,
     Group,
@@ -13,7 +13,7 @@ pub(crate) enum Owner {
 
 /// A section.
 #[derive(Clone, Copy)]
-pub(crate) enum SectionWord {
+pub enum SectionWord {
     Attributes,
     Params,
     Meta,

@@ -2,7 +2,7 @@
 
 /// An operation, as far as its name has effect.
 #[derive(Clone, Copy)]
-pub(crate) enum OpName {
+pub enum OpName {
     Start,
     Stop,
     Promote,
@@ -13,7 +13,7 @@ pub(crate) enum OpName {
 
 /// The place of a pair, which says which keys have effect there.
 #[derive(Clone, Copy)]
-pub(crate) enum Place {
+pub enum Place {
     /// A section without keys of effect.
     Plain,
     NodeAttributes,

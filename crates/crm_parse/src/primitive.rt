@@ -11,8 +11,8 @@ use crate::owner::Owner;
 use crate::reading::{description_at, name_at, word_at};
 use crate::section::{Sections, sections_at};
 use crate::{Form, ParseCause};
-use carry::with;
 use crm_lex::Name;
+use faults::with;
 use std::alloc::Global;
 
 fn count_parts(word: &[u8]) -> usize

@@ -4,9 +4,9 @@ ghost use Rattle.std.specs.Prelude.{◌≡◌, ◌<◌, length, option_map, IfOk
 ghost use Rattle.std.specs.List.{list_all, position_or_len};
 ghost use Rattle.std.specs.Option.{option_copied};
 ghost use Rattle.crm_lex.specs.Names.{is_name, is_name_byte};
-ghost use Rattle.crm_parse.specs.Reading.{begins_set, colon_at, description_at, end_at, given_at, name_at, name_of, prefixed_at, resource_of, rule_role_of, score_of, some_name, supported, word_at};
+ghost use Rattle.crm_parse.specs.Reading.{begins_set, colon_at, description_at, end_at, given_at, name_at, name_of, prefixed_at, resource_of, rule_role_of, score_of, some_name, supported, next_word_in};
 ghost use Rattle.faults.specs.Reading.{GivesInLine, Reads};
-ghost use Rattle.crm_parse.specs.Texts.{after, before, cut_at, place_of};
+ghost use Rattle.crm_parse.specs.Texts.{after, before, cut_at, byte_place};
 
 use crate::fault::Stop;
 use crate::values::role_of;
@@ -34,7 +34,7 @@ pub fn before<'a>(text: &[u8], word: &'a [u8]) -> Option<&'a [u8]>
 
 /// Where the first such byte of the word is.
 pub fn place_of(byte: u8, word: &[u8]) -> Option<usize>
-    ensures value { result ≡ place_of byte word.now }
+    ensures value { result ≡ byte_place byte word.now }
     ensures within { IfSome result (λ place. place < length word.now) }
 {
     word.iter().position(|each| *each == byte)
@@ -75,7 +75,7 @@ pub fn is_name(word: &[u8]) -> bool
 }
 
 pub fn word_at(words: &[Name]) -> Result<(&Name, &[Name]), ParseCause>
-    ensures read { Reads (λ read. (read.0.now, read.1.now)) result (word_at words.now) }
+    ensures read { Reads (λ read. (read.0.now, read.1.now)) result (next_word_in words.now) }
     ensures shorter { IfOk result (λ read. length read.1.now < length words.now) }
 {
     match words {

@@ -2,7 +2,7 @@
 
 ghost use Rattle.std.specs.Prelude.{◌≡◌, ◌==◌, ◌≤◌, length, take, drop, [], Some, false, true};
 ghost use Rattle.faults.specs.Reading.{GivesInLine};
-ghost use Rattle.crm_parse.specs.Sections.{allowed, allows, cut, is_section, may_follow, no_sections, place_of, section_of, section_word, sections_at, sections_from, takes_name, with_part, with_words};
+ghost use Rattle.crm_parse.specs.Sections.{allowed, allows_section, cut_into_sections, is_section, may_follow, no_sections, place_of, section_of, section_word, sections_at, sections_from, takes_name, with_part, with_words};
 
 use crate::fault::Stop;
 use crate::keyed_pairs::KeyedPairs;
@@ -12,8 +12,8 @@ use crate::owner::{Owner, SectionWord};
 use crate::pairs::add_section;
 use crate::place::Place;
 use crate::{Kv, Operation, ParseCause};
-use carry::done;
 use crm_lex::{Name, is};
+use faults::done;
 use listed::Listed;
 use std::alloc::Global;
 
@@ -58,7 +58,7 @@ fn section_word(word: &[u8]) -> Option<SectionWord>
 }
 
 fn allows(owner: Owner, section: SectionWord) -> bool
-    ensures { result ≡ allows owner section }
+    ensures { result ≡ allows_section owner section }
 {
     match (owner, section) {
         (Owner::Node, SectionWord::Attributes | SectionWord::Utilization) => true,
@@ -103,8 +103,8 @@ pub fn is_section(owner: Owner, word: &Name) -> bool
 /// How many words stand before the next section word.
 fn before_section(owner: Owner, words: &[Name]) -> usize
     ensures within { result ≤ length words.now }
-    ensures own { (cut owner false words.now).0 ≡ take result words.now }
-    ensures rest { cut owner false (drop result words.now) ≡ ([], (cut owner false words.now).1) }
+    ensures own { (cut_into_sections owner false words.now).0 ≡ take result words.now }
+    ensures rest { cut_into_sections owner false (drop result words.now) ≡ ([], (cut_into_sections owner false words.now).1) }
 {
     let next = words.iter().position(|word| is_section(owner, word));
     next.unwrap_or(words.len())
@@ -113,8 +113,8 @@ fn before_section(owner: Owner, words: &[Name]) -> usize
 /// How many words stand before the next section word, where the first one is a name, whatever it is.
 fn named_before_section(owner: Owner, words: &[Name]) -> usize
     ensures within { result ≤ length words.now }
-    ensures own { (cut owner true words.now).0 ≡ take result words.now }
-    ensures rest { cut owner false (drop result words.now) ≡ ([], (cut owner true words.now).1) }
+    ensures own { (cut_into_sections owner true words.now).0 ≡ take result words.now }
+    ensures rest { cut_into_sections owner false (drop result words.now) ≡ ([], (cut_into_sections owner true words.now).1) }
 {
     match words {
         [_, rest @ ..] => 1 + before_section(owner, rest),
@@ -131,8 +131,8 @@ fn takes_name(section: SectionWord) -> bool
 /// How many words belong to a section, of those after its word.
 fn count_own(owner: Owner, section: SectionWord, words: &[Name]) -> usize
     ensures within { result ≤ length words.now }
-    ensures own { (cut owner (takes_name (Some section)) words.now).0 ≡ take result words.now }
-    ensures rest { cut owner false (drop result words.now) ≡ ([], (cut owner (takes_name (Some section)) words.now).1) }
+    ensures own { (cut_into_sections owner (takes_name (Some section)) words.now).0 ≡ take result words.now }
+    ensures rest { cut_into_sections owner false (drop result words.now) ≡ ([], (cut_into_sections owner (takes_name (Some section)) words.now).1) }
 {
     if takes_name(section) {
         named_before_section(owner, words)

@@ -5,7 +5,7 @@ ghost use Rattle.std.specs.List.{list_any};
 ghost use Rattle.crm_lex.specs.Names.{is};
 ghost use Rattle.crm_parse.specs.declared.words.SettingsWord.{SettingsWord as Kind};
 ghost use Rattle.crm_parse.specs.GivenKeys.{gives, AddsSettings};
-ghost use Rattle.crm_lex.specs.NameSets.{has};
+ghost use Rattle.crm_lex.specs.NameSets.{has_name};
 ghost use Rattle.crm_parse.specs.Settings.{is_same_settings, sets};
 
 use crate::draft::{Draft, DraftStatement};
@@ -23,7 +23,7 @@ pub(crate) struct SettingKeys {
 
 /// Adds the keys of some pairs.
 fn add_keys(alloc: Global, keys: &mut NameSet, pairs: &[Kv]) -> Result<(), NoMemory>
-    ensures { OnOk result ((key : List ℕ) → has keys.new key ≡ (has keys.old key || list_any (λ pair. is pair.key key) pairs.now)) }
+    ensures { OnOk result ((key : List ℕ) → has_name keys.new key ≡ (has_name keys.old key || list_any (λ pair. is pair.key key) pairs.now)) }
 {
     for pair in pairs {
         keys.add(alloc, &pair.key)?;

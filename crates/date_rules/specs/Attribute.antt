@@ -5,12 +5,12 @@ use Rattle.std.specs.Option.{option_map}
 use Rattle.date_rules.specs.declared.rule.Pair.{Pair}
 
 -- two texts are the same, byte by byte
-abbrev pub is_same : List ℕ → List ℕ → Bool
-is_same = pointwise nat_eq
+abbrev pub is_same_text : List ℕ → List ℕ → Bool
+is_same_text = pointwise nat_eq
 
 -- the value of a node's attribute: `#uname` is always the node's name, and of the written ones the first of each name counts
 -- (Pacemaker Explained, "Node Attribute Expressions" and "Built-in Node Attributes"; the first of a name is a rule of this project)
-abbrev pub value_of : List ℕ → List ℕ → List Pair → Option (List ℕ)
-value_of name uname attributes =
-    if is_same name (codes "#uname") then Some uname
-    else option_map (λ pair. pair.value) (find (λ pair. is_same pair.name name) attributes)
+abbrev pub attribute_value : List ℕ → List ℕ → List Pair → Option (List ℕ)
+attribute_value name uname attributes =
+    if is_same_text name (codes "#uname") then Some uname
+    else option_map (λ pair. pair.value) (find (λ pair. is_same_text pair.name name) attributes)

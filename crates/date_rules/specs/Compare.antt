@@ -30,7 +30,7 @@ word_order value wanted = slice_cmp nat_cmp value wanted
 
 -- the order of a node's value and the wanted one, where they can be compared so
 -- (Pacemaker Explained, "Node Attribute Expressions"; that Auto takes numbers first is a rule of this project)
-abbrev pub order_of : Kind → List ℕ → List ℕ → Option Ordering
-order_of Number value wanted = number_order value wanted
-order_of Word value wanted = Some (word_order value wanted)
-order_of Auto value wanted = Some (unwrap_or (number_order value wanted) (word_order value wanted))
+abbrev pub value_order : Kind → List ℕ → List ℕ → Option Ordering
+value_order Number value wanted = number_order value wanted
+value_order Word value wanted = Some (word_order value wanted)
+value_order Auto value wanted = Some (unwrap_or (number_order value wanted) (word_order value wanted))

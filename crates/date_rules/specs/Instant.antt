@@ -1,7 +1,7 @@
 -- The moment that a text says, in seconds since 1970-01-01T00:00:00Z.
 use Rattle.std.specs.Prelude.{ℕ, ◌+◌, ◌*◌, nat_lt, Bool, ◌&&◌, ◌||◌, ◌==◌, if◌then◌else◌, ℤ, pos, neg_ℤ, ◌+ℤ◌, ◌-ℤ◌, ◌*ℤ◌, List, length, take, drop, Option, Some, None, codes}
 use Rattle.std.specs.Option.{option_map, option_and_then}
-use Rattle.date_rules.specs.Attribute.{is_same}
+use Rattle.date_rules.specs.Attribute.{is_same_text}
 use Rattle.date_rules.specs.Calendar.{day_number}
 use Rattle.date_rules.specs.Digits.{has_form, two_digits}
 
@@ -17,8 +17,8 @@ midnight text =
     else None
 
 -- the seconds of a count of hours, minutes and seconds
-abbrev pub seconds_of : ℕ → ℕ → ℕ → ℕ
-seconds_of hours minutes seconds = 3600 * hours + 60 * minutes + seconds
+abbrev pub clock_seconds : ℕ → ℕ → ℕ → ℕ
+clock_seconds hours minutes seconds = 3600 * hours + 60 * minutes + seconds
 
 -- a time of day stands there, after a `T` or a space
 abbrev pub is_time : List ℕ → Bool
@@ -28,22 +28,22 @@ is_time text = has_form (codes "T00:00:00") text || has_form (codes " 00:00:00")
 abbrev pub time_of_day : List ℕ → Option ℤ
 time_of_day text =
     if is_time text && nat_lt (two_digits text 1) 24 && nat_lt (two_digits text 4) 60 && nat_lt (two_digits text 7) 60
-    then Some (pos (seconds_of (two_digits text 1) (two_digits text 4) (two_digits text 7)))
+    then Some (pos (clock_seconds (two_digits text 1) (two_digits text 4) (two_digits text 7)))
     else None
 
 -- the seconds of the hours and minutes of an offset, as 05:30 after its sign
-abbrev pub width : List ℕ → Option ℤ
-width text =
+abbrev pub offset_seconds : List ℕ → Option ℤ
+offset_seconds text =
     if nat_lt (two_digits text 1) 24 && nat_lt (two_digits text 4) 60
-    then Some (pos (seconds_of (two_digits text 1) (two_digits text 4) 0))
+    then Some (pos (clock_seconds (two_digits text 1) (two_digits text 4) 0))
     else None
 
 -- the seconds by which a clock is ahead of UTC: none where nothing or a `Z` stands, else those of an offset, as +05:30 or -05:30
 abbrev pub offset : List ℕ → Option ℤ
 offset text =
-    if is_empty text || is_same text (codes "Z") then Some (pos 0)
-    else if has_form (codes "+00:00") text then width text
-    else if has_form (codes "-00:00") text then option_map neg_ℤ (width text)
+    if is_empty text || is_same_text text (codes "Z") then Some (pos 0)
+    else if has_form (codes "+00:00") text then offset_seconds text
+    else if has_form (codes "-00:00") text then option_map neg_ℤ (offset_seconds text)
     else None
 
 -- the seconds from midnight to what stands after a day: none where nothing does, else a time of day, whose offset is taken away

@@ -1,5 +1,5 @@
 ghost use Rattle.std.specs.Prelude.{◌≡◌};
-ghost use Rattle.date_rules.specs.Compare.{number_order, order_of, meets};
+ghost use Rattle.date_rules.specs.Compare.{number_order, value_order, meets};
 
 use crate::number::whole_number;
 use crate::{Compare, Kind};
@@ -31,7 +31,7 @@ fn number_order(value: &[u8], wanted: &[u8]) -> Option<Ordering>
 
 /// How a node's value stands to the test's, if the two can be compared so.
 pub fn order_of(kind: Kind, value: &[u8], wanted: &[u8]) -> Option<Ordering>
-    ensures { result ≡ order_of kind value.now wanted.now }
+    ensures { result ≡ value_order kind value.now wanted.now }
 {
     match kind {
         Kind::Number => number_order(value, wanted),

@@ -1,11 +1,10 @@
 //! Rules of a location: which tests of a node's attributes and of the moment they ask, and whether they hold.
 //!
-//! Moments are seconds since 1970-01-01T00:00:00Z. Nothing here takes memory but `Text::from_bytes`.
+//! Moments are seconds since 1970-01-01T00:00:00Z. Nothing here takes memory.
 #![tactic(auto)]
 
 // The data.
 mod rule;
-mod text;
 
 // Whether a rule holds at a node and a moment.
 mod attribute;
@@ -23,4 +22,3 @@ pub use faults::NoMemory;
 pub use moment::instant;
 pub use number::whole_number;
 pub use rule::{Compare, Kind, Pair, Rule, Test};
-pub use text::Text;

@@ -1,7 +1,7 @@
 ghost use Rattle.std.specs.Prelude.{◌≡◌, ◌*◌, pos, neg_ℤ, IfSome};
 ghost use Rattle.jiff_core.specs.Calendar.{IsWithin};
 ghost use Rattle.date_rules.specs.Digits.{HasTwoDigits};
-ghost use Rattle.date_rules.specs.Instant.{seconds_of, midnight, is_time, time_of_day, width, offset, after_midnight, instant};
+ghost use Rattle.date_rules.specs.Instant.{clock_seconds, midnight, is_time, time_of_day, offset_seconds, offset, after_midnight, instant};
 
 use crate::calendar::day_number;
 use crate::digits::{has_form, two_digits};
@@ -73,7 +73,7 @@ fn time_of_day(text: &[u8]) -> Option<i64>
 fn width(text: &[u8]) -> Option<i64>
     requires hours { HasTwoDigits text.now 1 }
     requires minutes { HasTwoDigits text.now 4 }
-    ensures value { result ≡ width text.now }
+    ensures value { result ≡ offset_seconds text.now }
     ensures bound { IfSome result (IsWithin 86400) }
 {
     let (hours, minutes) = (two_digits(text, 1), two_digits(text, 4));
@@ -102,7 +102,7 @@ fn offset(text: &[u8]) -> Option<i64>
 }
 
 fn seconds_of(hours: u8, minutes: u8, seconds: u8) -> i64
-    ensures { result ≡ pos (seconds_of hours minutes seconds) }
+    ensures { result ≡ pos (clock_seconds hours minutes seconds) }
 {
     3600 * i64::from(hours) + 60 * i64::from(minutes) + i64::from(seconds)
 }

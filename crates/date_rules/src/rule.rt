@@ -1,11 +1,10 @@
-use crate::Text;
-use listed::Listed;
+use listed::{Listed, Name};
 
 /// An attribute of a node, as it was written.
 #[derive(PartialEq, Eq, Drop)]
 pub struct Pair {
-    pub name: Text,
-    pub value: Text,
+    pub name: Name,
+    pub value: Name,
 }
 
 /// How a node's value has to stand to the value of the test: less, greater, at most, at least, equal, or not equal.
@@ -32,18 +31,18 @@ pub enum Kind {
 pub enum Test {
     /// The node has the attribute, and its value compares so to this one.
     Attribute {
-        name: Text,
+        name: Name,
         compare: Compare,
         kind: Kind,
-        value: Text,
+        value: Name,
     },
     /// The node has the attribute.
     Defined {
-        name: Text,
+        name: Name,
     },
     /// The node doesn't have the attribute.
     NotDefined {
-        name: Text,
+        name: Name,
     },
     /// The moment is earlier.
     Before {

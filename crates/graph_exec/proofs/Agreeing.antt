@@ -25,7 +25,7 @@ use Rattle.run_safety.proofs.Each.{Each, more, none}
 use Rattle.run_safety.proofs.InFlight.{number_within}
 use Rattle.run_safety.proofs.Shapes.{Flies, all_fly}
 use Rattle.lemmas.proofs.Booleans.{sooner, later}
-use Rattle.graph_exec.specs.Running.{Running, EndedSilently, IsRefused, IsUnderWay, Took, going}
+use Rattle.graph_exec.specs.Running.{Running, EndedSilently, IsAnswerRefused, IsUnderWay, Took, going}
 use Rattle.graph_exec.specs.Running as running
 use Rattle.graph_exec.specs.Saying.{AgreesOn, AgreesSilent}
 use Rattle.graph_exec.specs.Transitions.{Accords}
@@ -134,7 +134,7 @@ module _ (old new : Running) (before after : Cluster → List Event → ℕ → 
       → Accords after new
   accords_taken given t on = accords_later _ t.goes_on ((rw is at on).taken_on t.takes.applies)
 
-  pub accords_refused : (given : Answer) → IsRefused old new given → AgreesOn after old.cluster (old.planned_at ++ old.since) (outside (going old) old.since) shown given
+  pub accords_refused : (given : Answer) → IsAnswerRefused old new given → AgreesOn after old.cluster (old.planned_at ++ old.since) (outside (going old) old.since) shown given
       → Accords after new
   accords_refused given t on = rw t.same (record { idle = was.idle; agrees_now = (rw is at on).refused t.refused })
 
@@ -153,6 +153,6 @@ module _ (old new : Running) (before after : Cluster → List Event → ℕ → 
   pub accords_failed : new ≡ old → after old.cluster (old.planned_at ++ old.since) (outside (going old) old.since) → Accords after new
   accords_failed e on = rw e (record { idle = was.idle; agrees_now = on })
 
-  pub never_refused : (given : Answer) → IsRefused old new given
+  pub never_refused : (given : Answer) → IsAnswerRefused old new given
       → applies_after old.cluster (old.planned_at ++ old.since) shown (outside (going old) old.since) given ≡ true → ⊥
   never_refused given t h = let a = rw is at h in let b = t.refused in let f : ⊥ = cc in f

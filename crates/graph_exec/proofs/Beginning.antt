@@ -12,10 +12,10 @@ use Rattle.cluster_types.specs.Graphs.{is_before}
 use Rattle.cluster_types.specs.Steps as steps
 use Rattle.cluster_types.specs.Steps.{Begins, numbers, may_begin, is_settled, has_begun, has_succeeded, has_aborted, has_room, flight, flying, is_in_flight_number, aborts}
 use Rattle.listed.specs.Sets.{is_member, members}
-use Rattle.loops.specs.Ready.{is_free, startable}
+use Rattle.graph_exec.specs.Ready.{inputs_have_succeeded, startable}
 use Rattle.graph_exec.specs.Flights.{FlightOf, pairs, paired}
 use Rattle.graph_exec.specs.Logs.{LogOf}
-use Rattle.graph_exec.specs.Running.{Running, Follows, going, running}
+use Rattle.graph_exec.specs.Running.{Running, FlightFollows, going, running}
 use Rattle.graph_exec.proofs.FirstOf.{IsFirst, first_is, none_passes, never}
 use Rattle.graph_exec.proofs.Pairs.{among, numbered_is, of_numbers, pairs_many}
 
@@ -60,7 +60,7 @@ found_so p (x ∷ es) o e = on (p x) refl e (found_so p es o) where
   on true is e rest = ap is_some e
   on false is e rest = rest e
 
-module _ (log : LogOf) (f : FlightOf) (h : Follows log f) where
+module _ (log : LogOf) (f : FlightOf) (h : FlightFollows log f) where
   abbrev r : Running
   r = running log f
 
@@ -76,7 +76,7 @@ module _ (log : LogOf) (f : FlightOf) (h : Follows log f) where
   pub same_pairs : pairs f ≡ flying (going r) r.since
   same_pairs = ap (flat_map (paired f.progress.graph.actions)) same_flight
 
-  free : (k : ℕ) → is_free f.progress.graph f.progress.succeeded k
+  free : (k : ℕ) → inputs_have_succeeded f.progress.graph f.progress.succeeded k
       ≡ list_all (λ j. not (is_before r.graph j k) || has_succeeded (going r) r.since j) (range_with_len 1 count)
   free k =
       all-alike (λ j. not (is_before r.graph j k) || is_member f.progress.succeeded j)
@@ -84,7 +84,7 @@ module _ (log : LogOf) (f : FlightOf) (h : Follows log f) where
       (λ j low high. ap (λ b. not (is_before r.graph j k) || b) (h.each j low (omega arith)).succeeded)
 
   abbrev test : ℕ → Bool
-  test k = is_free f.progress.graph f.progress.succeeded k && not (is_member f.progress.begun k)
+  test k = inputs_have_succeeded f.progress.graph f.progress.succeeded k && not (is_member f.progress.begun k)
 
   abbrev is_open : Bool
   is_open = not (has_aborted (going r) r.since) && has_room (going r) r.since
@@ -123,7 +123,7 @@ module _ (log : LogOf) (f : FlightOf) (h : Follows log f) where
     high = omega (arith, first.high)
 
     pub not_begun : is_member f.progress.begun k ≡ false
-    not_begun = not-true (is_member f.progress.begun k) (later (is_free f.progress.graph f.progress.succeeded k) (not (is_member f.progress.begun k)) first.passes)
+    not_begun = not-true (is_member f.progress.begun k) (later (inputs_have_succeeded f.progress.graph f.progress.succeeded k) (not (is_member f.progress.begun k)) first.passes)
 
     within : (j : ℕ) → may_begin (going r) r.since j ≡ true → list_any (λ i. i == j) (numbers (going r)) ≡ true
     within j may =

@@ -10,11 +10,11 @@ use Rattle.cluster_types.specs.declared.journal.Event.TheVariants.{Begin}
 use Rattle.cluster_types.specs.Sources.{Says, untold}
 use Rattle.cluster_types.specs.declared.journal.Outcome.TheVariants.{Code}
 use Rattle.cluster_types.specs.Answering.{is_number_of}
-use Rattle.cluster_types.specs.Steps.{Transition, StepsOn, begins, takes, is_silent, Goes, here, one_more, HasEnded, IsWaiting, ended, events_of, flight, flying, is_settled, silent_code}
+use Rattle.cluster_types.specs.Steps.{Transition, StepsOn, begins, takes, is_silent, Goes, here, one_more, HasEnded, IsWaiting, ended, answer_events, flight, flying, is_settled, silent_code}
 use Rattle.run_safety.proofs.InFlight.{among_flying}
 use Rattle.run_safety.proofs.Printed.{answer_line, end_line}
-use Rattle.graph_exec.specs.declared.ends.WatchedEnd.{WatchedEnd}
-use Rattle.graph_exec.specs.declared.ends.WatchedEnd.TheVariants as how
+use Rattle.graph_exec.specs.declared.transition.ends.WatchedEnd.{WatchedEnd}
+use Rattle.graph_exec.specs.declared.transition.ends.WatchedEnd.TheVariants as how
 use Rattle.graph_exec.specs.Rounds.{Advanced, Answered, Began, StopsAs, asks_left, begins_left}
 use Rattle.graph_exec.specs.Running.{Running, EndedSilently, Took, Went, going, later}
 use Rattle.graph_exec.specs.Transitions.{EndsAs, GoneTo, HasGoneToEnd, IsExpected}
@@ -82,7 +82,7 @@ module _ (whole : Bool) (old new : Running) (rest left : Option (List Answer)) w
 
   pub answered_by : (given : Answer) → Says whole rest (Some given) left → Took old new given → Answered whole old new rest left given
   answered_by given said t = record {
-    events = events_of (going old) old.since given;
+    events = answer_events (going old) old.since given;
     step = takes rest left given said t.takes;
     goes_on = t.goes_on;
     lines = answer_line (going old) old.since given t.takes.applies;

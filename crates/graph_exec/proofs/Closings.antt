@@ -17,12 +17,12 @@ use Rattle.graph_exec.specs.Logs.{JournalOf}
 use Rattle.graph_exec.specs.Running.{Running, Went, going, known_of}
 use Rattle.graph_exec.specs.Telling.{closing_line, text_of}
 use Rattle.graph_exec.specs.Transitions.{IsAborted, IsComplete, IsCutBy, WentAsSaid, WentTo}
-use Rattle.graph_exec.specs.Watching.{IsCutOff, IsTold}
+use Rattle.graph_exec.specs.Watching.{IsWatcherCutOff, AreLinesTold}
 use Rattle.graph_exec.proofs.Beginning.{found_so}
 use Rattle.graph_exec.proofs.Said.{taken_none}
 use Rattle.run_safety.proofs.SoFar.{runs_once}
 use Rattle.graph_exec.specs.Replays.{Setting, setting, sight}
-use Rattle.graph_exec.specs.Turns.{Came, CameTo, EndsBroken, EndsCut, EndsStopped, closed_at, left_of}
+use Rattle.graph_exec.specs.Turns.{HasComeTo, CameTo, EndsBroken, RunEndsCut, EndsStopped, closed_at, left_of}
 use Rattle.graph_exec.proofs.Joined.{came_on, came_step}
 use Rattle.graph_exec.proofs.Steps.{came_carried, part_runs, part_said, part_told}
 
@@ -45,9 +45,9 @@ module _ (whole steady : Bool) (names : Option Cluster) (k : ℕ) (r now : Runni
     same_going : going now ≡ going r
     same_going = ap going went.same
 
-    module _ (told : IsTold names r now before text) where
+    module _ (told : AreLinesTold names r now before text) where
       went_here : (steady ≡ true → over_now ≡ false → WentAsSaid r now rest left)
-          → Came here_set (amid k (going r) []) (sight rest over before) (sight left over_now text) (amid k (going r) now.since)
+          → HasComeTo here_set (amid k (going r) []) (sight rest over before) (sight left over_now text) (amid k (going r) now.since)
       went_here said = came_carried here_set k r now fresh rest left over over_now before text went told said
 
       module _ (complete : Bool)
@@ -70,7 +70,7 @@ module _ (whole steady : Bool) (names : Option Cluster) (k : ℕ) (r now : Runni
             record {
               cluster_stays = ap (λ (x : JournalOf). x.cluster) is ∙ ap (λ (x : Running). x.cluster) went.same;
               promotions_stay = ap (λ (x : JournalOf). x.promotions) is ∙ ap (λ (x : Running). x.promotions) went.same;
-              came = subst (λ (es : List Event). Came here_set (amid k (going r) []) (sight rest over before) (sight left over_now after) (closed_at k complete es)) (sym events) whole_way;
+              came = subst (λ (es : List Event). HasComeTo here_set (amid k (going r) []) (sight rest over before) (sight left over_now after) (closed_at k complete es)) (sym events) whole_way;
             }
 
         closed_short : AddsPrefix (text_of names (closing_line k complete ∷ [])) text after → (j : Journal) → j ≡ left_of now
@@ -136,8 +136,8 @@ module _ (whole steady : Bool) (names : Option Cluster) (k : ℕ) (r now : Runni
       }
 
   -- an answer came that doesn't apply
-  pub cut : (given : Answer) → WentTo whole r now rest left given → IsTold names r now before text → IsCutBy now given → (j : Journal) → j ≡ left_of now
-      → EndsCut here_set (amid k (going r) []) (sight rest over before) (sight left over_now text) j given
+  pub cut : (given : Answer) → WentTo whole r now rest left given → AreLinesTold names r now before text → IsCutBy now given → (j : Journal) → j ≡ left_of now
+      → RunEndsCut here_set (amid k (going r) []) (sight rest over before) (sight left over_now text) j given
   cut given g told e j is =
       let same : going now ≡ going r = ap going g.went.same in
       let refused : applies_after r.cluster (journal (going r) now.since) (flying (going r) now.since) (outside (going r) now.since) given ≡ false
@@ -157,7 +157,7 @@ module _ (whole steady : Bool) (names : Option Cluster) (k : ℕ) (r now : Runni
       }
 
   -- the watcher stopped at a step
-  pub stops_amid : IsCutOff whole names r now rest left before text → (j : Journal) → j ≡ left_of now
+  pub stops_amid : IsWatcherCutOff whole names r now rest left before text → (j : Journal) → j ≡ left_of now
       → EndsStopped here_set (amid k (going r) []) (sight rest over before) (sight left over_now text) j
   stops_amid b j is =
       let same : going b.at ≡ going r = ap going b.went.same in

@@ -17,13 +17,13 @@ use Rattle.cluster_types.specs.Steps.{is_success, is_from_outside, ended, flying
 use Rattle.listed.specs.Sets.{is_member}
 use Rattle.graph_exec.specs.Flights.{FlightOf, pairs, with_ended}
 use Rattle.graph_exec.specs.Logs.{LogOf}
-use Rattle.graph_exec.specs.Running.{Running, Follows, going, running}
+use Rattle.graph_exec.specs.Running.{Running, FlightFollows, going, running}
 use Rattle.graph_exec.proofs.Beginning.{one, same_pairs}
 use Rattle.graph_exec.proofs.Flying.{ended_of}
 use Rattle.graph_exec.proofs.OneMore.{Adds, set_one, unset_one}
 use Rattle.graph_exec.proofs.Pairs.{action_of, is_flying, not_flying}
 
-module _ (log : LogOf) (f : FlightOf) (h : Follows log f) where
+module _ (log : LogOf) (f : FlightOf) (h : FlightFollows log f) where
   abbrev r : Running
   r = running log f
 

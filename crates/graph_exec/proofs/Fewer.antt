@@ -17,7 +17,7 @@ use Rattle.cluster_types.specs.declared.journal.Outcome.{Outcome}
 use Rattle.cluster_types.specs.declared.journal.Outcome.TheVariants.{Code, TimedOut}
 use Rattle.cluster_types.specs.Answering.{applies_after, is_number_of, monitor_action, most_from_outside}
 use Rattle.cluster_types.specs.Journals.{ends_number, moment_of}
-use Rattle.cluster_types.specs.Steps.{Begins, EndsSilently, begins_number, ended, events_of, flight, flying, has_begun, has_ended, is_from_outside, is_in_flight_number, numbers, outside, silent_code}
+use Rattle.cluster_types.specs.Steps.{Begins, EndsSilently, begins_number, ended, answer_events, flight, flying, has_begun, has_ended, is_from_outside, is_in_flight_number, numbers, outside, silent_code}
 use Rattle.cluster_types.proofs.StepLaws.{not_begun}
 use Rattle.run_safety.proofs.InFlight.{number_within}
 use Rattle.graph_exec.specs.Rounds.{begins_left, ends_left, asks_left}
@@ -119,7 +119,7 @@ module _ (r : Running) where
   few_of rest h = ltb-true _ _ (sooner (nat_lt (outside (going r) r.since) most_from_outside) rest h)
 
   pub take_leaves : (given : Answer) → applies_after r.cluster (r.planned_at ++ r.since) (flying (going r) r.since) (outside (going r) r.since) given ≡ true
-      → asks_left (running.later r (events_of (going r) r.since given)) < asks_left r
+      → asks_left (running.later r (answer_events (going r) r.since given)) < asks_left r
   take_leaves (answer.End k code) h = let u = up_of k h in end_leaves k u.low u.high u.up (Code code)
   take_leaves (answer.Timeout k) h = let u = up_of k h in end_leaves k u.low u.high u.up TimedOut
   take_leaves (answer.Lost n) h =

@@ -14,7 +14,7 @@ use Rattle.cluster_types.specs.declared.journal.Event.{Event}
 use Rattle.cluster_types.specs.declared.journal.Event.TheVariants.{Ended}
 use Rattle.cluster_types.specs.declared.journal.Outcome.{Outcome}
 use Rattle.cluster_types.specs.declared.journal.Outcome.TheVariants.{Gone}
-use Rattle.cluster_types.specs.Answering.{is_number_of, end_of}
+use Rattle.cluster_types.specs.Answering.{is_number_of, end_event}
 use Rattle.cluster_types.specs.Journals.{ends_number, moment_of}
 use Rattle.cluster_types.specs.Steps.{begins_number, ended, flight, flying, has_begun, has_ended, is_in_flight_number}
 use Rattle.graph_exec.specs.Running.{Running, going}
@@ -67,7 +67,7 @@ module _ (r : Running) where
   ended_of k flies outcome =
       let found : find (is_number_of k) (flying (going r) r.since) ≡ Some (with_action r.graph.actions k)
       = ap (find (is_number_of k)) flying_is ∙ found_of r.graph.actions k ks (ap (list_any (is_number_of k)) (sym flying_is) ∙ flies) in
-      ap (λ (o : Option (ℕ × Action)). option_map_or (λ p. end_of r.cluster (r.planned_at ++ r.since) (flying (going r) r.since) outcome p ∷ []) o []) found
+      ap (λ (o : Option (ℕ × Action)). option_map_or (λ p. end_event r.cluster (r.planned_at ++ r.since) (flying (going r) r.since) outcome p ∷ []) o []) found
 
   -- what stands at a place
   pub record StandsAt (place k : ℕ) (a : Action) : Type 0 where

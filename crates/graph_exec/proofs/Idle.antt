@@ -6,7 +6,7 @@ use Rattle.cluster_types.specs.declared.journal.Action.{Action}
 use Rattle.cluster_types.specs.declared.journal.Answer.{Answer}
 use Rattle.cluster_types.specs.declared.journal.Event.{Event}
 use Rattle.cluster_types.specs.Answering.{added_by, applies_after}
-use Rattle.cluster_types.specs.Steps.{Transition, action_at, events_of, flying, is_from_outside, is_in_flight_number, journal, numbers, outside, resting}
+use Rattle.cluster_types.specs.Steps.{Transition, action_at, answer_events, flying, is_from_outside, is_in_flight_number, journal, numbers, outside, resting}
 use Rattle.graph_exec.specs.Logs.{JournalOf}
 use Rattle.graph_exec.specs.Resting.{IsRefusedResting, IsResting, TookResting, resting_at}
 use Rattle.graph_exec.specs.Running.{Running, going, known_of, later}
@@ -26,7 +26,7 @@ module _ (r : Running) (is : IsResting r) where
       ap (λ (since : List Event). applies_after r.cluster (r.planned_at ++ since) (flying (going r) since) (count_by is_from_outside since) given) is.nothing_new
       ∙ ap (λ (flight : List (ℕ × Action)). applies_after r.cluster (r.planned_at ++ []) flight 0 given) (none_flying (going r) [] is.nothing_to_do)
 
-  pub resting_adds : (given : Answer) → events_of (going r) r.since given ≡ events_of (resting r.cluster r.planned_at) [] given
+  pub resting_adds : (given : Answer) → answer_events (going r) r.since given ≡ answer_events (resting r.cluster r.planned_at) [] given
   resting_adds given =
       ap (λ (since : List Event). added_by r.cluster (r.planned_at ++ since) (flying (going r) since) given) is.nothing_new
       ∙ ap (λ (flight : List (ℕ × Action)). added_by r.cluster (r.planned_at ++ []) flight given) (none_flying (going r) [] is.nothing_to_do)
@@ -46,10 +46,10 @@ module _ (r : Running) (is : IsResting r) where
   -- one that applies is entered
   pub takes_resting : (given : Answer) (b : Bool)
       → b ≡ applies_after r.cluster (journal (going r) r.since) (flying (going r) r.since) (outside (going r) r.since) given → b ≡ true
-      → (now : Running) → now ≡ later r (events_of (going r) r.since given)
+      → (now : Running) → now ≡ later r (answer_events (going r) r.since given)
       → (j : JournalOf) → j ≡ known_of now → TookResting (resting_at r) j given
   takes_resting given b says so now goes j left = record {
     applies = sym (resting_applies given) ∙ sym says ∙ so;
-    goes_on = left ∙ ap known_of goes ∙ ap (λ (since : List Event). rests_with (r.planned_at ++ (since ++ events_of (going r) r.since given))) is.nothing_new
+    goes_on = left ∙ ap known_of goes ∙ ap (λ (since : List Event). rests_with (r.planned_at ++ (since ++ answer_events (going r) r.since given))) is.nothing_new
         ∙ ap (λ (events : List Event). rests_with (r.planned_at ++ events)) (resting_adds given);
   }

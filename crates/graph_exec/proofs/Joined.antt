@@ -7,29 +7,29 @@ use Rattle.cluster_io.specs.Streams.{Adds}
 use Rattle.cluster_types.specs.declared.journal.Answer.{Answer}
 use Rattle.cluster_types.specs.declared.journal.Journal.{Journal}
 use Rattle.cluster_types.specs.declared.run.RunLine.{RunLine}
-use Rattle.cluster_types.specs.Runs.{Standing, IsBetween, Runs, RunsOn, here}
+use Rattle.cluster_types.specs.Runs.{RunStanding, IsBetween, Runs, RunsOn, here}
 use Rattle.graph_exec.specs.Telling.{text_of}
 use Rattle.graph_exec.proofs.Said.{taken_none, taken_then}
 use Rattle.graph_exec.proofs.Told.{adds_nothing, text-append}
 use Rattle.run_safety.proofs.SoFar.{runs_joined, runs_once}
-use Rattle.graph_exec.specs.declared.stop.ReplayStop.{ReplayStop}
-use Rattle.graph_exec.specs.declared.stop.ReplayStop.TheVariants as stop
+use Rattle.graph_exec.specs.declared.run.stop.ReplayStop.{ReplayStop}
+use Rattle.graph_exec.specs.declared.run.stop.ReplayStop.TheVariants as stop
 use Rattle.graph_exec.specs.Replays.{Setting, Sight}
-use Rattle.graph_exec.specs.Turns.{Came, EndsAs, EndsBetween, IsSaid}
+use Rattle.graph_exec.specs.Turns.{HasComeTo, RunEndsAs, RunEndsBetween, IsSaid}
 
 module _ (s : Setting) where
   -- nothing is a part too
-  pub said_none : (at : Standing) (rest : Option (List Answer)) → IsSaid s at at [] rest rest
+  pub said_none : (at : RunStanding) (rest : Option (List Answer)) → IsSaid s at at [] rest rest
   said_none at rest = record { answers = []; runs = λ more. here at (Some more); taken = taken_none rest }
 
-  pub came_nowhere : (at : Standing) (a : Sight) → Came s at a a at
+  pub came_nowhere : (at : RunStanding) (a : Sight) → HasComeTo s at a a at
   came_nowhere at a = record { lines = []; runs = here at a.rest; told = adds_nothing s.names a.text; said = λ steady open_still. said_none at a.rest }
 
   -- memory runs out between two transitions
-  pub lacks_memory : (at : Standing) (a : Sight) → IsBetween s.cluster s.promotions s.whole at → EndsBetween s at a a
+  pub lacks_memory : (at : RunStanding) (a : Sight) → IsBetween s.cluster s.promotions s.whole at → RunEndsBetween s at a a
   lacks_memory at a between = record { at = at; lines = []; runs = here at a.rest; told = adds_nothing s.names a.text; between = between }
 
-  pub said_then : (from middle at : Standing) (lines more : List RunLine) (rest between left : Option (List Answer)) → IsSaid s from middle lines rest between
+  pub said_then : (from middle at : RunStanding) (lines more : List RunLine) (rest between left : Option (List Answer)) → IsSaid s from middle lines rest between
       → IsSaid s middle at more between left → IsSaid s from at (lines ++ more) rest left
   said_then from middle at lines more rest between left one two = record {
     answers = one.answers ++ two.answers;
@@ -45,12 +45,12 @@ module _ (s : Setting) where
       subst (λ (bytes : List ℕ). Adds before bytes after) (sym (text-append s.names lines more))
       (Adds-then before text after (text_of s.names lines) (text_of s.names more) one two)
 
-  module _ (from middle : Standing) (a b c : Sight) (one : Came s from a b middle) where
-    joined : (at : Standing) (left : Option (List Answer)) (more : List RunLine) → Runs s.cluster s.promotions s.whole middle b.rest more at left
+  module _ (from middle : RunStanding) (a b c : Sight) (one : HasComeTo s from a b middle) where
+    joined : (at : RunStanding) (left : Option (List Answer)) (more : List RunLine) → Runs s.cluster s.promotions s.whole middle b.rest more at left
         → Runs s.cluster s.promotions s.whole from a.rest (one.lines ++ more) at left
     joined at left more runs = runs_joined s.cluster s.promotions s.whole from middle at a.rest b.rest left one.lines more one.runs runs
 
-    pub came_on : (at : Standing) → (s.steady ≡ true → b.over ≡ true → c.over ≡ true) → Came s middle b c at → Came s from a c at
+    pub came_on : (at : RunStanding) → (s.steady ≡ true → b.over ≡ true → c.over ≡ true) → HasComeTo s middle b c at → HasComeTo s from a c at
     came_on at stays two = record {
       lines = one.lines ++ two.lines;
       runs = joined at c.rest two.lines two.runs;
@@ -60,7 +60,7 @@ module _ (s : Setting) where
     }
 
     -- and so it is with how the run ends
-    pub ends_on : (end : Result Journal ReplayStop) → (s.steady ≡ true → a.over ≡ true → b.over ≡ true) → EndsAs s middle b c end → EndsAs s from a c end
+    pub ends_on : (end : Result Journal ReplayStop) → (s.steady ≡ true → a.over ≡ true → b.over ≡ true) → RunEndsAs s middle b c end → RunEndsAs s from a c end
     ends_on (Ok journal) stays w = record {
       last = w.last;
       lines = one.lines ++ w.lines;
@@ -111,8 +111,8 @@ module _ (s : Setting) where
     }
 
   -- a step, and the lines of it
-  pub came_step : (at next : Standing) (a b : Sight) (lines : List RunLine) → RunsOn s.cluster s.promotions s.whole at a.rest lines next b.rest
-      → Adds a.text (text_of s.names lines) b.text → (s.steady ≡ true → b.over ≡ false → IsSaid s at next lines a.rest b.rest) → Came s at a b next
+  pub came_step : (at next : RunStanding) (a b : Sight) (lines : List RunLine) → RunsOn s.cluster s.promotions s.whole at a.rest lines next b.rest
+      → Adds a.text (text_of s.names lines) b.text → (s.steady ≡ true → b.over ≡ false → IsSaid s at next lines a.rest b.rest) → HasComeTo s at a b next
   came_step at next a b lines step told said = record {
     lines = lines;
     runs = runs_once s.cluster s.promotions s.whole at next a.rest b.rest lines step;

@@ -13,10 +13,10 @@ use Rattle.cluster_types.specs.declared.run.Run.{Run}
 use Rattle.cluster_types.specs.declared.run.RunLine.{RunLine}
 use Rattle.cluster_types.specs.declared.run.RunLine.TheVariants as line
 use Rattle.cluster_types.specs.Journals.{Orderly}
-use Rattle.cluster_types.specs.Runs.{Standing, due, idle, answers, Runs, here, journal_at}
+use Rattle.cluster_types.specs.Runs.{RunStanding, due, idle, answers, Runs, here, journal_at}
 use Rattle.cluster_types.specs.Safety.{IsAtRest, IsSafeRun}
 use Rattle.cluster_types.specs.Sources.{Says, told}
-use Rattle.cluster_types.specs.Steps.{Applies, events_of, resting}
+use Rattle.cluster_types.specs.Steps.{Applies, answer_events, resting}
 use Rattle.cluster_types.specs.Texts.{all_passed_lines, event_lines}
 use Rattle.graph_exec.specs.Logs.{JournalOf}
 use Rattle.graph_exec.specs.Resting.{TookResting}
@@ -28,12 +28,12 @@ use Rattle.run_safety.proofs.Kept.{between_passed}
 use Rattle.run_safety.proofs.Printed.{answer_line}
 use Rattle.run_safety.proofs.Rests.{at_rest, in_order}
 use Rattle.run_safety.proofs.SoFar.{runs_joined, runs_once}
-use Rattle.graph_exec.specs.declared.run_ending.RunEnd.{RunEnd}
-use Rattle.graph_exec.specs.declared.run_ending.RunEnd.TheVariants as run
-use Rattle.graph_exec.specs.Keeping.{EndsWithCause, IsUnanswered, Keeps, KeepsEnd, KeepsTo, kept_end, watched_end}
-use Rattle.graph_exec.specs.Kept.{FailsWithCause, IsExpectedRun, IsOfPlan, KeepsAs, KeepsPlans, OfRun}
-use Rattle.graph_exec.specs.Replays.{Setting, AgreesWith, IsExpected, IsKept, OfJournal}
-use Rattle.graph_exec.specs.Turns.{IsSaid, journal_of, plain_of}
+use Rattle.graph_exec.specs.declared.run.run_ending.RunEnd.{RunEnd}
+use Rattle.graph_exec.specs.declared.run.run_ending.RunEnd.TheVariants as run
+use Rattle.graph_exec.specs.Keeping.{EndsWithCause, IsUnanswered, KeepsPassed, KeepsEnd, KeepsTo, kept_end, watched_end}
+use Rattle.graph_exec.specs.Kept.{FailsWithCause, IsExpectedRun, IsPassedOfPlan, KeepsAs, KeepsPlans, OfRun}
+use Rattle.graph_exec.specs.Replays.{Setting, AgreesWith, IsReplayExpected, IsJournalKept, OfJournal}
+use Rattle.graph_exec.specs.Turns.{IsSaid, journal_back, plain_of}
 use Rattle.graph_exec.proofs.Joined.{said_none, said_then}
 use Rattle.graph_exec.proofs.KeptPlans.{each_more, within_each}
 use Rattle.graph_exec.proofs.Quiet.{stays_said}
@@ -47,25 +47,25 @@ lines_behind c es ys (p ∷ ps) some within = between_passed es ys c 1 p ps with
 
 module _ (s : Setting) (es : List Event) (first : Option (List Answer)) where
   -- nothing is said of what was said
-  unsaid : (rest : Option (List Answer)) (over : Bool) (passed : List Passed) (at : Standing) → Keeps s es first rest over passed at → Keeps s es first rest true passed at
+  unsaid : (rest : Option (List Answer)) (over : Bool) (passed : List Passed) (at : RunStanding) → KeepsPassed s es first rest over passed at → KeepsPassed s es first rest true passed at
   unsaid rest over passed at keeps = record { runs = keeps.runs; said = λ steady open_still. absurd (let f : ⊥ = cc in f); each = keeps.each }
 
   module _ (rest left : Option (List Answer)) (over : Bool) (passed : List Passed) (k : ℕ) (j : JournalOf) (same : j.cluster ≡ s.cluster)
-      (keeps : Keeps s es first rest over passed (idle k j.events)) where
+      (keeps : KeepsPassed s es first rest over passed (idle k j.events)) where
     -- an answer is entered
     pub kept_answered : (over_now : Bool) → (s.steady ≡ true → over ≡ true → over_now ≡ true) → 0 < length passed → (given : Answer) → Says s.whole rest (Some given) left
-        → (next : JournalOf) → TookResting j next given → Keeps s es first left over_now passed (due (k + 1) next.events)
+        → (next : JournalOf) → TookResting j next given → KeepsPassed s es first left over_now passed (due (k + 1) next.events)
     kept_answered over_now stays some given said next took =
         let applies = subst (λ (c : Cluster). Applies (resting c j.events) [] given) same took.applies in
-        let added = events_of (resting s.cluster j.events) [] given in
+        let added = answer_events (resting s.cluster j.events) [] given in
         let later = due (k + 1) (j.events ++ added) in
         let events : j.events ++ added ≡ next.events =
-        sym (ap (λ (x : JournalOf). x.events) took.goes_on ∙ ap (λ (c : Cluster). j.events ++ events_of (resting c j.events) [] given) same) in
+        sym (ap (λ (x : JournalOf). x.events) took.goes_on ∙ ap (λ (c : Cluster). j.events ++ answer_events (resting c j.events) [] given) same) in
         let so_far = all_passed_lines s.cluster j.events 1 passed in
         let lines : so_far ++ line.Taken given ∷ [] ≡ all_passed_lines s.cluster (j.events ++ added) 1 passed =
         ap (λ (x : List RunLine). so_far ++ x) (sym (answer_line (resting s.cluster j.events) [] given applies))
         ∙ sym (lines_behind s.cluster j.events added passed some (within_each s.cluster s.promotions j.events passed keeps.each)) in
-        let there : Keeps s es first left over_now passed later = record {
+        let there : KeepsPassed s es first left over_now passed later = record {
           runs = subst (λ (x : List RunLine). Runs s.cluster s.promotions s.whole (due 1 es) first x later left) lines
               (runs_joined s.cluster s.promotions s.whole (due 1 es) (idle k j.events) later first rest left so_far (line.Taken given ∷ []) keeps.runs
               (runs_once s.cluster s.promotions s.whole (idle k j.events) later rest left (line.Taken given ∷ []) (answers k j.events rest left given said applies)));
@@ -78,7 +78,7 @@ module _ (s : Setting) (es : List Event) (first : Option (List Answer)) where
               }));
           each = each_more s.cluster s.promotions j.events added passed keeps.each;
         } in
-        subst (λ (x : List Event). Keeps s es first left over_now passed (due (k + 1) x)) events there
+        subst (λ (x : List Event). KeepsPassed s es first left over_now passed (due (k + 1) x)) events there
 
     -- none comes that applies
     pub kept_unanswered : (like : j.promotions ≡ s.promotions) (end : RunEnd) → IsUnanswered s.whole j rest left over end → KeepsEnd s es first left passed end
@@ -86,7 +86,7 @@ module _ (s : Setting) (es : List Event) (first : Option (List Answer)) where
         let stays = stays_said s.whole rest left None refl w.said in
         record {
           last = idle k j.events;
-          keeps = subst (λ (x : Option (List Answer)). Keeps s es first x true passed (idle k j.events)) (sym stays) (unsaid rest over passed (idle k j.events) keeps);
+          keeps = subst (λ (x : Option (List Answer)). KeepsPassed s es first x true passed (idle k j.events)) (sym stays) (unsaid rest over passed (idle k j.events) keeps);
           over = subst (λ (x : Option (List Answer)). Says s.whole x None left) (sym stays) w.said;
           leaves = w.leaves ∙ ap (λ (x : List Promotion). record { events = j.events; promotions = x }) like;
         }
@@ -117,11 +117,11 @@ module _ (s : Setting) (es : List Event) (first : Option (List Answer)) where
 
   module _ (left : Option (List Answer)) (passed : List Passed) where
     -- the same from the whole run's beginning
-    printed : (journal : Journal) (last : Standing) → journal ≡ journal_of s last
+    printed : (journal : Journal) (last : RunStanding) → journal ≡ journal_back s last
         → all_passed_lines s.cluster (journal_at last) 1 passed ≡ all_passed_lines s.cluster journal.events 1 passed
     printed journal last leaves = ap (λ (x : Journal). all_passed_lines s.cluster x.events 1 passed) (sym leaves)
 
-    runs_there : (journal : Journal) (last : Standing) (rest : Option (List Answer)) (over : Bool) → journal ≡ journal_of s last → Keeps s es first rest over passed last
+    runs_there : (journal : Journal) (last : RunStanding) (rest : Option (List Answer)) (over : Bool) → journal ≡ journal_back s last → KeepsPassed s es first rest over passed last
         → Runs s.cluster s.promotions s.whole (due 1 es) first (all_passed_lines s.cluster journal.events 1 passed) last rest
     runs_there journal last rest over leaves keeps =
         subst (λ (x : List RunLine). Runs s.cluster s.promotions s.whole (due 1 es) first x last rest) (printed journal last leaves) keeps.runs
@@ -156,9 +156,9 @@ module _ (s : Setting) (es : List Event) (first : Option (List Answer)) where
     }
     kept_as most run.NoMemory w = tt
 
-    each_there : (journal : Journal) (last : Standing) → journal ≡ journal_of s last → AllByRecursion (IsOfPlan s.cluster s.promotions (journal_at last)) passed
-        → AllByRecursion (IsOfPlan s.cluster s.promotions journal.events) passed
-    each_there journal last leaves each = subst (λ (x : Journal). AllByRecursion (IsOfPlan s.cluster s.promotions x.events) passed) (sym leaves) each
+    each_there : (journal : Journal) (last : RunStanding) → journal ≡ journal_back s last → AllByRecursion (IsPassedOfPlan s.cluster s.promotions (journal_at last)) passed
+        → AllByRecursion (IsPassedOfPlan s.cluster s.promotions journal.events) passed
+    each_there journal last leaves each = subst (λ (x : Journal). AllByRecursion (IsPassedOfPlan s.cluster s.promotions x.events) passed) (sym leaves) each
 
     pub kept_plans : (most : ℕ) → length passed ≤ most → (end : RunEnd) → KeepsEnd s es first left passed end
         → OfRun (KeepsPlans s.cluster s.promotions most) (kept_end passed end)
@@ -168,15 +168,15 @@ module _ (s : Setting) (es : List Event) (first : Option (List Answer)) where
     kept_plans most few run.NoMemory w = tt
 
     module _ (safe : IsSafeRun s.cluster s.promotions s.whole es first) where
-      order_there : (journal : Journal) (last : Standing) (rest : Option (List Answer)) (over : Bool) → journal ≡ journal_of s last → Keeps s es first rest over passed last
-          → IsKept s.promotions journal
+      order_there : (journal : Journal) (last : RunStanding) (rest : Option (List Answer)) (over : Bool) → journal ≡ journal_back s last → KeepsPassed s es first rest over passed last
+          → IsJournalKept s.promotions journal
       order_there journal last rest over leaves keeps = record {
         in_order = subst Orderly (sym (ap events_in leaves))
             (in_order s.cluster s.promotions s.whole es last first rest (all_passed_lines s.cluster (journal_at last) 1 passed) safe keeps.runs);
         promotions_stay = ap (λ (x : Journal). x.promotions) leaves;
       }
 
-      pub kept_in_order : (end : RunEnd) → KeepsEnd s es first left passed end → OfRun (λ (made : Run). IsKept s.promotions made.journal) (kept_end passed end)
+      pub kept_in_order : (end : RunEnd) → KeepsEnd s es first left passed end → OfRun (λ (made : Run). IsJournalKept s.promotions made.journal) (kept_end passed end)
       kept_in_order (run.Whole journal) w = order_there journal w.last left true w.leaves w.keeps
       kept_in_order (run.Unexpected journal given) w = order_there journal w.last w.unread true w.leaves w.keeps
       kept_in_order (run.SourceFault journal) w = order_there journal w.last left false w.leaves w.keeps
@@ -196,7 +196,7 @@ agrees_kept passed agrees c (run.Unexpected journal given) h = h
 agrees_kept passed agrees c (run.SourceFault journal) h = h
 agrees_kept passed agrees c run.NoMemory h = tt
 
-pub expected_kept : (passed : List Passed) (end : RunEnd) → IsExpected (watched_end end) → IsExpectedRun (kept_end passed end)
+pub expected_kept : (passed : List Passed) (end : RunEnd) → IsReplayExpected (watched_end end) → IsExpectedRun (kept_end passed end)
 expected_kept passed (run.Whole journal) h = tt
 expected_kept passed (run.Unexpected journal given) h = h
 expected_kept passed (run.SourceFault journal) h = tt
@@ -206,9 +206,9 @@ expected_kept passed run.NoMemory h = tt
 pub starts_kept : (s : Setting) (es : List Event) (first : Option (List Answer)) (over : Bool) (passed : List Passed) (j : JournalOf) → passed ≡ [] → j.events ≡ es
     → KeepsTo s es first first over passed j
 starts_kept s es first over passed j none same =
-    let there : Keeps s es first first over [] (due 1 es) = record { runs = here (due 1 es) first; said = λ steady open_still. said_none s (due 1 es) first; each = tt } in
-    subst (λ (x : List Passed). Keeps s es first first over x (due (1 + length x) j.events)) (sym none)
-    (subst (λ (x : List Event). Keeps s es first first over [] (due 1 x)) (sym same) there)
+    let there : KeepsPassed s es first first over [] (due 1 es) = record { runs = here (due 1 es) first; said = λ steady open_still. said_none s (due 1 es) first; each = tt } in
+    subst (λ (x : List Passed). KeepsPassed s es first first over x (due (1 + length x) j.events)) (sym none)
+    (subst (λ (x : List Event). KeepsPassed s es first first over [] (due 1 x)) (sym same) there)
 
 -- as many transitions were made as are allowed
 module _ (s : Setting) (es : List Event) (first left : Option (List Answer)) (over : Bool) (passed : List Passed) (j : JournalOf) (keeps : KeepsTo s es first left over passed j)
@@ -220,11 +220,11 @@ module _ (s : Setting) (es : List Event) (first left : Option (List Answer)) (ov
 
   pub most_plans : KeepsPlans s.cluster s.promotions most (record { passed = passed; journal = journal })
   most_plans = record {
-    each = subst (λ (x : Journal). AllByRecursion (IsOfPlan s.cluster s.promotions x.events) passed) (sym leaves) keeps.each;
+    each = subst (λ (x : Journal). AllByRecursion (IsPassedOfPlan s.cluster s.promotions x.events) passed) (sym leaves) keeps.each;
     few = omega (arith, all);
   }
 
-  pub most_in_order : IsSafeRun s.cluster s.promotions s.whole es first → j.promotions ≡ s.promotions → IsKept s.promotions journal
+  pub most_in_order : IsSafeRun s.cluster s.promotions s.whole es first → j.promotions ≡ s.promotions → IsJournalKept s.promotions journal
   most_in_order safe same = record {
     in_order = subst Orderly (sym (ap events_in leaves))
         (in_order s.cluster s.promotions s.whole es (due (1 + length passed) j.events) first left (all_passed_lines s.cluster j.events 1 passed) safe keeps.runs);

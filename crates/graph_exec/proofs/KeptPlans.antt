@@ -16,7 +16,7 @@ use Rattle.cluster_types.specs.Texts.{between}
 use Rattle.run_safety.specs.Kept.{AreWithin}
 use Rattle.run_safety.proofs.Kept.{between_new, between_same}
 use Rattle.run_safety.proofs.KeptRuns.{fits_more, placed_fits}
-use Rattle.graph_exec.specs.Kept.{IsOfPlan, StandsSo}
+use Rattle.graph_exec.specs.Kept.{IsPassedOfPlan, StandsSo}
 
 stands_there : (t u : Transition) (since later : List Event) (end : PassedEnd) → t ≡ u → since ≡ later → StandsSo t since end → StandsSo u later end
 stands_there t u since later end same like h =
@@ -27,7 +27,7 @@ abbrev pub passed_by : Placed → ℕ → ℕ → PassedEnd → Passed
 passed_by placed from to end = record { pins = placed.pins; table = placed.table; none = placed.none; begins_at = from; ends_at = to; end = end }
 
 module _ (c : Cluster) (promotions : List Promotion) where
-  pub within_each : (es : List Event) (ps : List Passed) → AllByRecursion (IsOfPlan c promotions es) ps → AreWithin (length es) ps
+  pub within_each : (es : List Event) (ps : List Passed) → AllByRecursion (IsPassedOfPlan c promotions es) ps → AreWithin (length es) ps
   within_each es [] h = tt
   within_each es (p ∷ ps) h =
       let low = h.0.fits.ascending in
@@ -35,7 +35,7 @@ module _ (c : Cluster) (promotions : List Promotion) where
       ((omega (arith, low, high), high), within_each es ps h.1)
 
   module _ (es ys : List Event) where
-    of_plan_more : (p : Passed) → IsOfPlan c promotions es p → IsOfPlan c promotions (es ++ ys) p
+    of_plan_more : (p : Passed) → IsPassedOfPlan c promotions es p → IsPassedOfPlan c promotions (es ++ ys) p
     of_plan_more p is =
         let low = is.fits.ascending in
         let high = is.fits.within in
@@ -53,14 +53,14 @@ module _ (c : Cluster) (promotions : List Promotion) where
           fits = fits_more c es ys p is.fits;
         }
 
-    pub each_more : (ps : List Passed) → AllByRecursion (IsOfPlan c promotions es) ps → AllByRecursion (IsOfPlan c promotions (es ++ ys)) ps
+    pub each_more : (ps : List Passed) → AllByRecursion (IsPassedOfPlan c promotions es) ps → AllByRecursion (IsPassedOfPlan c promotions (es ++ ys)) ps
     each_more [] h = tt
     each_more (p ∷ ps) h = (of_plan_more p h.0, each_more ps h.1)
 
   -- what is kept of a new transition, by the events since it was planned
   pub newly_of_plan : (es since : List Event) (placed : Placed) (actions : List Action) → IsPlan c es promotions placed actions
       → (from to : ℕ) (end : PassedEnd) → from ≡ length es → to ≡ length es + length since → StandsSo (transition_of c es actions) since end
-      → IsOfPlan c promotions (es ++ since) (passed_by placed from to end)
+      → IsPassedOfPlan c promotions (es ++ since) (passed_by placed from to end)
   newly_of_plan es since placed actions plan from to end begins ends stands =
       let before : es ≡ take from (es ++ since) = sym (ap (λ (n : ℕ). take n (es ++ since)) begins ∙ take-append_seam es since) in
       let events : since ≡ between from to (es ++ since) = sym (ap (λ (n : ℕ). between n to (es ++ since)) begins ∙ between_new es since to ends) in

@@ -19,7 +19,7 @@ use Rattle.cluster_types.specs.declared.run.RunLine.TheVariants as line
 use Rattle.cluster_types.specs.Answering.{applies_after}
 use Rattle.cluster_types.specs.Graphs.{GraphOf}
 use Rattle.cluster_types.specs.Plans.{CarriesOut, transition_on}
-use Rattle.cluster_types.specs.Runs.{Standing, due, amid, idle, completes, aborts, Runs, here, journal_at}
+use Rattle.cluster_types.specs.Runs.{RunStanding, due, amid, idle, completes, aborts, Runs, here, journal_at}
 use Rattle.cluster_types.specs.Steps as steps
 use Rattle.cluster_types.specs.Steps.{Transition, HasEnded, IsWaiting, flying, has_aborted, outside}
 use Rattle.cluster_types.specs.Tables.{targets_of}
@@ -32,11 +32,11 @@ use Rattle.graph_exec.proofs.Beginning.{found_so}
 use Rattle.graph_exec.proofs.Said.{taken_none}
 use Rattle.run_safety.proofs.Kept.{one_passed_more}
 use Rattle.run_safety.proofs.SoFar.{runs_joined, runs_once}
-use Rattle.graph_exec.specs.declared.run_ending.RunEnd.{RunEnd}
-use Rattle.graph_exec.specs.declared.idling.Taken.{Taken}
-use Rattle.graph_exec.specs.declared.planning.Planned.{Planned}
-use Rattle.graph_exec.specs.Keeping.{IsAnswered, IsUnanswered, Keeps, KeepsCut, KeepsEnd, KeepsSoFar, KeepsTo}
-use Rattle.graph_exec.specs.Kept.{IsOfPlan, StandsSo}
+use Rattle.graph_exec.specs.declared.run.run_ending.RunEnd.{RunEnd}
+use Rattle.graph_exec.specs.declared.run.idling.Taken.{Taken}
+use Rattle.graph_exec.specs.declared.run.planning.Planned.{Planned}
+use Rattle.graph_exec.specs.Keeping.{IsAnswered, IsUnanswered, KeepsPassed, KeepsCut, KeepsEnd, KeepsSoFar, KeepsTo}
+use Rattle.graph_exec.specs.Kept.{IsPassedOfPlan, StandsSo}
 use Rattle.graph_exec.specs.Replays.{Setting, setting}
 use Rattle.graph_exec.specs.Turns.{IsReady, IsSaid, left_of}
 use Rattle.graph_exec.proofs.Joined.{said_then}
@@ -55,12 +55,12 @@ abbrev pub begun_on : Setting → List Event → GraphOf → Running
 begun_on s es g = record { cluster = s.cluster; graph = g; planned_at = es; since = []; promotions = s.promotions }
 
 module _ (s : Setting) (es : List Event) (first rest : Option (List Answer)) (over : Bool) (passed : List Passed) (before : List Event)
-    (keeps : Keeps s es first rest over passed (due (1 + length passed) before)) where
-  one_kept : (over_now : Bool) → (s.steady ≡ true → over ≡ true → over_now ≡ true) → (since : List Event) (left : Option (List Answer)) (p : Passed) (at : Standing)
-      → journal_at at ≡ before ++ since → p.begins_at ≡ length before → p.ends_at ≡ length before + length since → IsOfPlan s.cluster s.promotions (before ++ since) p
+    (keeps : KeepsPassed s es first rest over passed (due (1 + length passed) before)) where
+  one_kept : (over_now : Bool) → (s.steady ≡ true → over ≡ true → over_now ≡ true) → (since : List Event) (left : Option (List Answer)) (p : Passed) (at : RunStanding)
+      → journal_at at ≡ before ++ since → p.begins_at ≡ length before → p.ends_at ≡ length before + length since → IsPassedOfPlan s.cluster s.promotions (before ++ since) p
       → Runs s.cluster s.promotions s.whole (due (1 + length passed) before) rest (lines_of_passed s.cluster (1 + length passed) since p) at left
       → (s.steady ≡ true → over_now ≡ false → IsSaid s (due (1 + length passed) before) at (lines_of_passed s.cluster (1 + length passed) since p) rest left)
-      → Keeps s es first left over_now (passed ++ p ∷ []) at
+      → KeepsPassed s es first left over_now (passed ++ p ∷ []) at
   one_kept over_now stays since left p at there begins ends is runs said =
       let so_far = all_passed_lines s.cluster before 1 passed in
       let more = lines_of_passed s.cluster (1 + length passed) since p in
@@ -72,8 +72,8 @@ module _ (s : Setting) (es : List Event) (first rest : Option (List Answer)) (ov
             (runs_joined s.cluster s.promotions s.whole (due 1 es) (due (1 + length passed) before) at first rest left so_far more keeps.runs runs);
         said = λ steady open_still. subst (λ (x : List RunLine). IsSaid s (due 1 es) at x first left) lines
             (said_then s (due 1 es) (due (1 + length passed) before) at so_far more first rest left (keeps.said steady (fails_too over over_now (stays steady) open_still)) (said steady open_still));
-        each = subst (λ (x : List Event). AllByRecursion (IsOfPlan s.cluster s.promotions x) (passed ++ p ∷ [])) (sym there)
-            (all_append (IsOfPlan s.cluster s.promotions (before ++ since)) passed (p ∷ [])
+        each = subst (λ (x : List Event). AllByRecursion (IsPassedOfPlan s.cluster s.promotions x) (passed ++ p ∷ [])) (sym there)
+            (all_append (IsPassedOfPlan s.cluster s.promotions (before ++ since)) passed (p ∷ [])
             (each_more s.cluster s.promotions before since passed keeps.each) (is, tt));
       }
 
@@ -106,9 +106,9 @@ module _ (s : Setting) (es : List Event) (first rest : Option (List Answer)) (ov
     module _ (over_now : Bool) (stays : s.steady ≡ true → over ≡ true → over_now ≡ true) (left : Option (List Answer)) (went : Went s.whole (begun_on s before g) now rest left)
         (said : s.steady ≡ true → over_now ≡ false → WentAsSaid (begun_on s before g) now rest left)
         (from to : ℕ) (begins : from ≡ length before) (ends : to ≡ length before + length now.since) where
-      closed_so : (how : PassedEnd) (at : Standing) → journal_at at ≡ before ++ now.since → StandsSo on now.since how
+      closed_so : (how : PassedEnd) (at : RunStanding) → journal_at at ≡ before ++ now.since → StandsSo on now.since how
           → ((w : Bool) (xs : Option (List Answer)) → Runs s.cluster s.promotions w (amid number on now.since) xs (end_lines s.cluster number how) at xs)
-          → Keeps s es first left over_now (passed ++ passed_by placed from to how ∷ []) at
+          → KeepsPassed s es first left over_now (passed ++ passed_by placed from to how ∷ []) at
       closed_so how at there stands close =
           one_kept over_now stays now.since left (passed_by placed from to how) at there begins ends
           (newly_of_plan s.cluster s.promotions before now.since placed g.actions out.plan from to how begins ends
@@ -122,7 +122,7 @@ module _ (s : Setting) (es : List Event) (first rest : Option (List Answer)) (ov
       same_going = ap going went.same
 
       pub kept_complete : HasEnded (going now) now.since → has_aborted (going now) now.since ≡ false
-          → Keeps s es first left over_now (passed ++ passed_by placed from to passed_as.Complete ∷ []) (idle number (before ++ now.since))
+          → KeepsPassed s es first left over_now (passed ++ passed_by placed from to passed_as.Complete ∷ []) (idle number (before ++ now.since))
       kept_complete ended unaborted =
           let over_there = subst (λ (t : Transition). HasEnded t now.since) same_going ended in
           let not_aborted = subst (λ (t : Transition). has_aborted t now.since ≡ false) same_going unaborted in
@@ -130,7 +130,7 @@ module _ (s : Setting) (es : List Event) (first rest : Option (List Answer)) (ov
           (λ w xs. runs_once s.cluster s.promotions w _ _ xs xs (line.Complete number ∷ []) (completes number on now.since xs over_there not_aborted))
 
       pub kept_aborted : HasEnded (going now) now.since → has_aborted (going now) now.since ≡ true
-          → Keeps s es first left over_now (passed ++ passed_by placed from to passed_as.Aborted ∷ []) (due (number + 1) (before ++ now.since))
+          → KeepsPassed s es first left over_now (passed ++ passed_by placed from to passed_as.Aborted ∷ []) (due (number + 1) (before ++ now.since))
       kept_aborted ended aborted =
           let over_there = subst (λ (t : Transition). HasEnded t now.since) same_going ended in
           let has = subst (λ (t : Transition). has_aborted t now.since ≡ true) same_going aborted in
@@ -138,7 +138,7 @@ module _ (s : Setting) (es : List Event) (first rest : Option (List Answer)) (ov
           (λ w xs. runs_once s.cluster s.promotions w _ _ xs xs (line.Aborted number ∷ []) (aborts number on now.since xs over_there has))
 
       pub kept_cut : IsWaiting (going now) now.since
-          → Keeps s es first left over_now (passed ++ passed_by placed from to passed_as.Cut ∷ []) (amid number on now.since)
+          → KeepsPassed s es first left over_now (passed ++ passed_by placed from to passed_as.Cut ∷ []) (amid number on now.since)
       kept_cut waiting =
           closed_so passed_as.Cut (amid number on now.since) refl (subst (λ (t : Transition). IsWaiting t now.since) same_going waiting)
           (λ w xs. here (amid number on now.since) xs)
@@ -148,7 +148,7 @@ module _ (j : JournalOf) (p : Planned) (ready : IsReady j p) (whole steady : Boo
   abbrev here_set : Setting
   here_set = setting j.cluster j.promotions whole steady None
 
-  module _ (keeps : Keeps here_set es first rest over passed (due (1 + length passed) j.events)) (now : Running) (from to : ℕ) (begins : from ≡ length j.events)
+  module _ (keeps : KeepsPassed here_set es first rest over passed (due (1 + length passed) j.events)) (now : Running) (from to : ℕ) (begins : from ≡ length j.events)
       (ends : to ≡ length (now.planned_at ++ now.since)) (q : Passed) (how : PassedEnd) (is : q ≡ passed_by p.placed from to how)
       (all : List Passed) (added : all ≡ passed ++ q ∷ []) where
     all_are : (ending : PassedEnd) → how ≡ ending → passed ++ passed_by p.placed from to ending ∷ [] ≡ all
@@ -175,10 +175,10 @@ module _ (j : JournalOf) (p : Planned) (ready : IsReady j p) (whole steady : Boo
 
       module _ (over_now : Bool) (stays : steady ≡ true → over ≡ true → over_now ≡ true) (said : steady ≡ true → over_now ≡ false → WentAsSaid p.executor now rest left) where
         idle_there : how ≡ passed_as.Complete → IsComplete now → (later : JournalOf) → later ≡ known_of now
-            → Keeps here_set es first left over_now all (idle (1 + length passed) later.events)
+            → KeepsPassed here_set es first left over_now all (idle (1 + length passed) later.events)
         idle_there e complete later known =
-            subst (λ (x : List Passed). Keeps here_set es first left over_now x (idle (1 + length passed) later.events)) (all_are passed_as.Complete e)
-            (subst (λ (x : List Event). Keeps here_set es first left over_now (passed ++ passed_by p.placed from to passed_as.Complete ∷ []) (idle (1 + length passed) x))
+            subst (λ (x : List Passed). KeepsPassed here_set es first left over_now x (idle (1 + length passed) later.events)) (all_are passed_as.Complete e)
+            (subst (λ (x : List Event). KeepsPassed here_set es first left over_now (passed ++ passed_by p.placed from to passed_as.Complete ∷ []) (idle (1 + length passed) x))
             (known_events later known)
             (kept_complete here_set es first rest over passed j.events keeps p.placed p.executor.graph (carries j p ready) now over_now stays left went_fresh
             (λ always open_still. said_fresh (said always open_still)) from to begins ends_there complete.ended complete.unaborted))
@@ -189,7 +189,7 @@ module _ (j : JournalOf) (p : Planned) (ready : IsReady j p) (whole steady : Boo
             → KeepsTo here_set es first unread over_then all taken.journal
         goes_on_answered e complete later known unread over_then still taken w =
             let longer = one_longer in
-            subst (λ (k : ℕ). Keeps here_set es first unread over_then all (due k taken.journal.events)) (omega (arith, longer))
+            subst (λ (k : ℕ). KeepsPassed here_set es first unread over_then all (due k taken.journal.events)) (omega (arith, longer))
             (kept_answered here_set es first left unread over_now all (1 + length passed) later
             (ap (λ (x : JournalOf). x.cluster) known ∙ ap (λ (r : Running). r.cluster) went_fresh.same) (idle_there e complete later known)
             over_then still (omega (arith, longer)) taken.answer w.said taken.journal w.took)
@@ -206,18 +206,18 @@ module _ (j : JournalOf) (p : Planned) (ready : IsReady j p) (whole steady : Boo
             → KeepsTo here_set es first left over_now all later
         goes_on_aborted event e aborted later known =
             let longer = one_longer in
-            subst (λ (k : ℕ). Keeps here_set es first left over_now all (due k later.events)) (omega (arith, longer))
-            (subst (λ (x : List Passed). Keeps here_set es first left over_now x (due (1 + length passed + 1) later.events)) (all_are passed_as.Aborted e)
-            (subst (λ (x : List Event). Keeps here_set es first left over_now (passed ++ passed_by p.placed from to passed_as.Aborted ∷ []) (due (1 + length passed + 1) x))
+            subst (λ (k : ℕ). KeepsPassed here_set es first left over_now all (due k later.events)) (omega (arith, longer))
+            (subst (λ (x : List Passed). KeepsPassed here_set es first left over_now x (due (1 + length passed + 1) later.events)) (all_are passed_as.Aborted e)
+            (subst (λ (x : List Event). KeepsPassed here_set es first left over_now (passed ++ passed_by p.placed from to passed_as.Aborted ∷ []) (due (1 + length passed + 1) x))
             (known_events later known)
             (kept_aborted here_set es first rest over passed j.events keeps p.placed p.executor.graph (carries j p ready) now over_now stays left went_fresh
             (λ always open_still. said_fresh (said always open_still)) from to begins ends_there aborted.ended
             (found_so (steps.aborts now.cluster) now.since (Some event) aborted.first_is))))
 
         cut_there : how ≡ passed_as.Cut → IsWaiting (going now) now.since
-            → Keeps here_set es first left over_now all (amid (1 + length passed) (transition_on j.cluster p.executor.graph j.events) now.since)
+            → KeepsPassed here_set es first left over_now all (amid (1 + length passed) (transition_on j.cluster p.executor.graph j.events) now.since)
         cut_there e waiting =
-            subst (λ (x : List Passed). Keeps here_set es first left over_now x (amid (1 + length passed) (transition_on j.cluster p.executor.graph j.events) now.since))
+            subst (λ (x : List Passed). KeepsPassed here_set es first left over_now x (amid (1 + length passed) (transition_on j.cluster p.executor.graph j.events) now.since))
             (all_are passed_as.Cut e)
             (kept_cut here_set es first rest over passed j.events keeps p.placed p.executor.graph (carries j p ready) now over_now stays left went_fresh
             (λ always open_still. said_fresh (said always open_still)) from to begins ends_there waiting)

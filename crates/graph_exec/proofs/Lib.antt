@@ -1,3 +1,8 @@
+pub mod Passing
+pub mod Beyond
+pub mod QueueSteps
+pub mod Free
+pub mod Moves
 pub mod Scripted
 pub mod Pairs
 pub mod Flying

@@ -10,7 +10,7 @@ use Rattle.cluster_types.specs.declared.journal.Action.{Action}
 use Rattle.cluster_types.specs.declared.journal.Event.{Event}
 use Rattle.cluster_types.specs.declared.journal.Event.TheVariants.{Ended}
 use Rattle.cluster_types.specs.declared.journal.Outcome.TheVariants.{Gone}
-use Rattle.cluster_types.specs.Answering.{end_of}
+use Rattle.cluster_types.specs.Answering.{end_event}
 use Rattle.cluster_types.specs.Journals.{is_on, moment_of, seconds_of}
 use Rattle.cluster_types.specs.Steps.{ended, flight, flying, is_from_outside, is_in_flight_number, outside}
 use Rattle.graph_exec.specs.Running.{Running, all_gone, going, later}
@@ -27,11 +27,11 @@ gone_more actions n m k ks true e = rw e refl
 gone_more actions n m k ks false e = rw e refl
 
 gone_all : (r : Running) (n : ℕ) (ks : List ℕ) → gone_of r.graph.actions n (moment_of (r.planned_at ++ r.since)) ks
-    ≡ map (end_of r.cluster (r.planned_at ++ r.since) (flying (going r) r.since) Gone) (filter (λ (p : ℕ × Action). is_on n p.1) (map (with_action r.graph.actions) ks))
+    ≡ map (end_event r.cluster (r.planned_at ++ r.since) (flying (going r) r.since) Gone) (filter (λ (p : ℕ × Action). is_on n p.1) (map (with_action r.graph.actions) ks))
 gone_all r n [] = refl
 gone_all r n (k ∷ ks) = on (is_on n (action_of r.graph.actions k)) refl (gone_all r n ks) where
   ends : ℕ × Action → Event
-  ends = end_of r.cluster (r.planned_at ++ r.since) (flying (going r) r.since) Gone
+  ends = end_event r.cluster (r.planned_at ++ r.since) (flying (going r) r.since) Gone
 
   here : ℕ × Action → Bool
   here p = is_on n p.1
@@ -125,7 +125,7 @@ module _ (before : Running) (n : ℕ) where
         = sym (append-nil l.so_far)
         ∙ ap (λ (ks : List ℕ). l.so_far ++ gone_of before.graph.actions n (moment_of (before.planned_at ++ before.since)) ks) (sym none)
         ∙ l.sum ∙ gone_all before n (flight (going before) before.since)
-        ∙ ap (λ (ps : List (ℕ × Action)). map (end_of before.cluster (before.planned_at ++ before.since) (flying (going before) before.since) Gone) (filter (λ (p : ℕ × Action). is_on n p.1) ps))
+        ∙ ap (λ (ps : List (ℕ × Action)). map (end_event before.cluster (before.planned_at ++ before.since) (flying (going before) before.since) Gone) (filter (λ (p : ℕ × Action). is_on n p.1) ps))
         (sym (flying_is before)) in
         l.is ∙ ap (later before) all
 
@@ -150,7 +150,7 @@ inside actions n m p a (suc count) some = on (p a) (inside actions n m p (a + 1)
 pub still_few : (r : Running) (n : ℕ) → outside (going r) (r.since ++ all_gone r n) ≡ outside (going r) r.since
 still_few r n =
     let listed : all_gone r n ≡ gone_of r.graph.actions n (moment_of (r.planned_at ++ r.since)) (flight (going r) r.since)
-    = ap (λ (ps : List (ℕ × Action)). map (end_of r.cluster (r.planned_at ++ r.since) (flying (going r) r.since) Gone) (filter (λ (p : ℕ × Action). is_on n p.1) ps)) (flying_is r)
+    = ap (λ (ps : List (ℕ × Action)). map (end_event r.cluster (r.planned_at ++ r.since) (flying (going r) r.since) Gone) (filter (λ (p : ℕ × Action). is_on n p.1) ps)) (flying_is r)
     ∙ sym (gone_all r n (flight (going r) r.since)) in
     let none : count_by is_from_outside (all_gone r n) ≡ 0
     = ap (count_by is_from_outside) listed

@@ -1,9 +1,7 @@
 -- What holds a leaf back is a rule of the cluster, so it has a name.
-use Rattle.std.proofs.Common.{◌≡◌, ℕ, true, List, ◌∷◌, refl, Contains, ◌⊎◌, inl, inr}
+use Rattle.std.proofs.Common.{◌≡◌, ℕ, true, List, ◌⊎◌, inl, inr}
 use Rattle.std.specs.Prelude.{Some}
 use Rattle.std.specs.List.{AllByRecursion}
-use Rattle.std.proofs.lemmas.List.Elements.{Contains-append_right}
-use Rattle.lemmas.proofs.Members.{at_head}
 use Rattle.cluster_types.specs.declared.cluster.Cluster.{Cluster}
 use Rattle.cluster_types.specs.declared.journal.Event.{Event}
 use Rattle.cluster_types.specs.declared.journal.Promotion.{Promotion}
@@ -16,11 +14,8 @@ use Rattle.cluster_types.specs.Reasons.{IsFirstOf, IsHeldByColocation, IsHeldByO
 use Rattle.cluster_types.specs.Tables.{Targets}
 use Rattle.cluster_types.specs.Valid.{IsValid}
 use Rattle.crm_lex.specs.Names.{is_name}
+use Rattle.plan_laws.proofs.Firsts.{first_in}
 use Rattle.graph_exec.specs.Telling.{ReasonsHaveNames}
-
--- the first of which it holds is one of all
-pub first_in : {X : Type 0} (P : X → Type 0) (xs : List X) (x : X) → IsFirstOf P xs x → Contains xs x
-first_in P xs x f = rw f.split (Contains-append_right f.before (x ∷ f.after) x (at_head x f.after x refl))
 
 module _ (c : Cluster) (valid : IsValid c) where
   rule_named : (es : List Event) (table : Targets) (r node : ℕ) (id : List ℕ)

@@ -3,7 +3,7 @@ use Rattle.std.proofs.Common.{arith, ◌≡◌, ◌<◌, ◌≤◌, ◌-◌, nat
 use Rattle.std.specs.List.{list_any}
 use Rattle.std.proofs.lemmas.Bool.{ltb-true}
 use Rattle.lemmas.proofs.Booleans.{sooner, later}
-use Rattle.cluster_types.specs.Graphs.{GraphOf, IsBefore, IsGraph, is_before, is_number}
+use Rattle.cluster_types.specs.Graphs.{GraphOf, IsBefore, IsGraph, is_before, is_action_number}
 use Rattle.cluster_types.specs.Safety.{is_gone}
 use Rattle.cluster_types.specs.Steps.{HasEnded, aborts, has_aborted}
 use Rattle.cluster_types.proofs.EagerLaws.{keeps-on, keeps-none}
@@ -13,7 +13,7 @@ use Rattle.graph_exec.specs.Running.{Running, IsUnderWay, going}
 use Rattle.graph_exec.specs.Transitions.{IsComplete}
 use Rattle.graph_exec.proofs.Beginning.{found_so}
 
-number_low : (g : GraphOf) (x : ℕ) → is_number g x ≡ true → (0 < x) × (x ≤ length g.actions)
+number_low : (g : GraphOf) (x : ℕ) → is_action_number g x ≡ true → (0 < x) × (x ≤ length g.actions)
 number_low g x h =
     let low = ltb-true 0 x (sooner (nat_lt 0 x) (nat_le x (length g.actions)) h) in
     let high = later (nat_lt 0 x) (nat_le x (length g.actions)) h in

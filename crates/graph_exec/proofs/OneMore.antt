@@ -12,7 +12,7 @@ use Rattle.listed.specs.Sets.{is_member}
 use Rattle.run_safety.proofs.Preceded.{success_ends}
 use Rattle.graph_exec.specs.Flights.{FlightOf}
 use Rattle.graph_exec.specs.Logs.{LogOf, logged}
-use Rattle.graph_exec.specs.Running.{IsKept, Follows, going, running, to_come}
+use Rattle.graph_exec.specs.Running.{IsNumberKept, FlightFollows, going, running, events_to_come}
 
 -- what is in flight after: what was or begins, and doesn't end
 flies_on : (begun ended begins ends : Bool) → (ended ≡ true → begun ≡ true) → (begins ≡ true → begun ≡ false)
@@ -39,11 +39,11 @@ pub record Adds (log : LogOf) (f after : FlightOf) (e : Event) : Type 0 where
   pub fresh : (j : ℕ) → 0 < j → j ≤ length f.progress.graph.actions → begins_number j e ≡ true → is_member f.progress.begun j ≡ false
   pub known : (j : ℕ) → 0 < j → j ≤ length f.progress.graph.actions → ends_number j e ≡ true → is_member f.progress.begun j ≡ true
   pub from_one : begins_number 0 e ≡ false
-  pub fewer : to_come (logged log e) after + 1 ≤ to_come log f
+  pub fewer : events_to_come (logged log e) after + 1 ≤ events_to_come log f
 
-module _ (log : LogOf) (f after : FlightOf) (e : Event) (h : Follows log f) (a : Adds log f after e) where
+module _ (log : LogOf) (f after : FlightOf) (e : Event) (h : FlightFollows log f) (a : Adds log f after e) where
   module _ (j : ℕ) (low : 0 < j) (high : j ≤ length f.progress.graph.actions) where
-    old : IsKept log f j
+    old : IsNumberKept log f j
     old = h.each j low high
 
     begun_now : has_begun (going (running log f)) (log.since ++ e ∷ []) j ≡ (has_begun (going (running log f)) log.since j || begins_number j e)
@@ -59,7 +59,7 @@ module _ (log : LogOf) (f after : FlightOf) (e : Event) (h : Follows log f) (a :
     kept_begun : is_member after.progress.begun j ≡ has_begun (going (running log f)) (log.since ++ e ∷ []) j
     kept_begun = a.begun j low high ∙ ap (λ (b : Bool). b || begins_number j e) old.begun ∙ sym begun_now
 
-    kept : IsKept (logged log e) after j
+    kept : IsNumberKept (logged log e) after j
     kept = record {
       begun = kept_begun;
       succeeded = a.succeeded j low high ∙ ap (λ (b : Bool). b || succeeds_number log.cluster j e) old.succeeded ∙ sym succeeded_now;
@@ -76,7 +76,7 @@ module _ (log : LogOf) (f after : FlightOf) (e : Event) (h : Follows log f) (a :
           (λ now. rw ended_now (or_right (has_ended (going (running log f)) log.since j) (ends_number j e) (success_ends log.cluster j e now)));
     }
 
-  pub follows_more : Follows (logged log e) after
+  pub follows_more : FlightFollows (logged log e) after
   follows_more = record {
     begun_size = a.begun_size ∙ h.begun_size ∙ ap (λ g. length g.actions) (sym a.same);
     succeeded_size = a.succeeded_size ∙ h.succeeded_size ∙ ap (λ g. length g.actions) (sym a.same);

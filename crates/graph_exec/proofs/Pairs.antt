@@ -11,7 +11,7 @@ use Rattle.cluster_types.specs.declared.journal.Action.TheVariants.{Fence}
 use Rattle.cluster_types.specs.Answering.{is_number_of}
 use Rattle.cluster_types.specs.Steps.{numbered}
 use Rattle.listed.specs.Sets.{is_member, members}
-use Rattle.graph_exec.specs.Flights.{FlightOf, IsFlight, paired, pairs}
+use Rattle.graph_exec.specs.Flights.{FlightOf, IsFlightFlags, paired, pairs}
 
 -- the action of a number that is there
 abbrev pub action_of : List Action → ℕ → Action
@@ -110,7 +110,7 @@ passes_not_yet p xs i x at fails before =
     = take_more xs i x (slice_get_within xs i x at) ∙ ap (λ y. take i xs ++ y ∷ []) (get_or_from_slice_get xs i x x at) in
     rw more (any-more p (take i xs) x ∙ rw (before, fails) refl)
 
-module _ (f : FlightOf) (flight : IsFlight f) where
+module _ (f : FlightOf) (flight : IsFlightFlags f) where
   abbrev actions : List Action
   actions = f.progress.graph.actions
 

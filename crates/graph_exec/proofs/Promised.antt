@@ -11,9 +11,9 @@ use Rattle.cluster_types.proofs.StepLaws.{at_each_begin, no_begin, predecessors-
 use Rattle.run_safety.specs.OfPlans.{IsOfPlan}
 use Rattle.run_safety.proofs.Planned.{of_graph}
 use Rattle.run_safety.proofs.Safe.{is_safe, leaves_nothing, reaches_targets, stays_in_order}
-use Rattle.graph_exec.specs.declared.ends.WatchedEnd.{WatchedEnd}
-use Rattle.graph_exec.specs.declared.ends.WatchedEnd.TheVariants as how
-use Rattle.graph_exec.specs.Promises.{EndsWell, IsPlanned, KeepsBatchLimit, KeepsPromises}
+use Rattle.graph_exec.specs.declared.transition.ends.WatchedEnd.{WatchedEnd}
+use Rattle.graph_exec.specs.declared.transition.ends.WatchedEnd.TheVariants as how
+use Rattle.graph_exec.specs.Promises.{EndsWell, IsGraphPlanned, KeepsBatchLimit, KeepsPromises}
 use Rattle.graph_exec.specs.Running.{Running, IsUnderWay, going}
 use Rattle.graph_exec.specs.Transitions.{EndsAs}
 use Rattle.graph_exec.proofs.NeverStuck.{upward}
@@ -30,7 +30,7 @@ module _ (r : Running) (u : IsUnderWay r) where
       at_each_begin (going r) true (λ before k a. has_room (going r) before ≡ true) (λ since k a b. has_its_room (going r) since k b.allowed) [] r.since None None u.steps
       (λ before after k a q. no_begin (has_room (going r) before ≡ true) [] before after k a refl q)
 
-  module _ (placed : Placed) (is : IsPlanned r placed) where
+  module _ (placed : Placed) (is : IsGraphPlanned r placed) where
     of_plan : IsOfPlan r.promotions placed (going r)
     of_plan = of_graph r.cluster r.planned_at r.promotions placed r.graph is.valid is.at_rest is.plan
 

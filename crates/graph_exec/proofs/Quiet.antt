@@ -7,20 +7,20 @@ use Rattle.cluster_types.specs.declared.journal.Answer.{Answer}
 use Rattle.cluster_types.specs.declared.journal.Event.{Event}
 use Rattle.cluster_types.specs.declared.journal.Journal.{Journal}
 use Rattle.cluster_types.specs.declared.run.RunLine.TheVariants as line
-use Rattle.cluster_types.specs.Runs.{Standing, due, idle, answers, Runs, here}
+use Rattle.cluster_types.specs.Runs.{RunStanding, due, idle, answers, Runs, here}
 use Rattle.cluster_types.specs.Sources.{Says, told, used_up, untold}
-use Rattle.cluster_types.specs.Steps.{events_of, resting}
+use Rattle.cluster_types.specs.Steps.{answer_events, resting}
 use Rattle.graph_exec.specs.Logs.{JournalOf}
 use Rattle.graph_exec.specs.Resting.{IsRefusedResting, TookResting}
 use Rattle.graph_exec.specs.Telling.{text_of}
 use Rattle.graph_exec.proofs.Said.{taken_one}
 use Rattle.graph_exec.proofs.Told.{adds_nothing}
 use Rattle.run_safety.proofs.SoFar.{runs_once}
-use Rattle.graph_exec.specs.declared.run_ending.RunEnd.{RunEnd}
-use Rattle.graph_exec.specs.declared.run_ending.RunEnd.TheVariants as run
-use Rattle.graph_exec.specs.Keeping.{EndsWithCause, HasFailed, IsAnswered, IsRefused, IsSilent, IsUnanswered, watched_end}
+use Rattle.graph_exec.specs.declared.run.run_ending.RunEnd.{RunEnd}
+use Rattle.graph_exec.specs.declared.run.run_ending.RunEnd.TheVariants as run
+use Rattle.graph_exec.specs.Keeping.{EndsWithCause, HasRestingFailed, IsAnswered, IsRestingRefused, IsSilent, IsUnanswered, watched_end}
 use Rattle.graph_exec.specs.Replays.{Setting, HasCause, setting, sight}
-use Rattle.graph_exec.specs.Turns.{Came, CameTo, EndsAs, EndsBroken, EndsCut, EndsStopped, EndsWhole, IsSaid, plain_of}
+use Rattle.graph_exec.specs.Turns.{HasComeTo, CameTo, RunEndsAs, EndsBroken, RunEndsCut, EndsStopped, EndsWhole, IsSaid, plain_of}
 use Rattle.graph_exec.proofs.Joined.{came_step, said_none}
 
 -- where nothing more is said, the answers to come stay as they were
@@ -66,7 +66,7 @@ module _ (whole steady : Bool) (names : Option Cluster) (k : ℕ) (j : JournalOf
 
     module _ (given : Answer) (said : Says whole rest (Some given) left) where
       pub is_cut : (back : JournalOf) → IsRefusedResting j back given → (journal : Journal) → journal ≡ plain_of back
-          → EndsCut here_set (idle k j.events) (sight rest over text) (sight left over_now text) journal given
+          → RunEndsCut here_set (idle k j.events) (sight rest over text) (sight left over_now text) journal given
       is_cut back r journal is = record {
         last = idle k j.events;
         unread = rest;
@@ -78,15 +78,15 @@ module _ (whole steady : Bool) (names : Option Cluster) (k : ℕ) (j : JournalOf
       }
 
       module _ (next : JournalOf) (took : TookResting j next given) (after : Option (List ℕ)) where
-        abbrev later_at : Standing
-        later_at = due (k + 1) (j.events ++ events_of (resting j.cluster j.events) [] given)
+        abbrev later_at : RunStanding
+        later_at = due (k + 1) (j.events ++ answer_events (resting j.cluster j.events) [] given)
 
         pub is_taken : Adds text (text_of names (line.Taken given ∷ [])) after
             → CameTo here_set (idle k j.events) (sight rest over text) (sight left over_now after) (due (k + 1)) next
         is_taken added = record {
           cluster_stays = ap (λ (x : JournalOf). x.cluster) took.goes_on;
           promotions_stay = ap (λ (x : JournalOf). x.promotions) took.goes_on;
-          came = subst (λ (es : List Event). Came here_set (idle k j.events) (sight rest over text) (sight left over_now after) (due (k + 1) es))
+          came = subst (λ (es : List Event). HasComeTo here_set (idle k j.events) (sight rest over text) (sight left over_now after) (due (k + 1) es))
               (sym (ap (λ (x : JournalOf). x.events) took.goes_on))
               (came_step here_set (idle k j.events) later_at (sight rest over text) (sight left over_now after) (line.Taken given ∷ [])
               (answers k j.events rest left given said took.applies) added
@@ -116,7 +116,7 @@ module _ (whole steady : Bool) (names : Option Cluster) (k : ℕ) (j : JournalOf
 
     -- no answer came that applies
     pub ends_unanswered : (end : RunEnd) → IsUnanswered whole j rest left over end
-        → EndsAs here_set (idle k j.events) (sight rest over text) (sight left over_now text) (watched_end end)
+        → RunEndsAs here_set (idle k j.events) (sight rest over text) (sight left over_now text) (watched_end end)
     ends_unanswered (run.Whole journal) w = is_over w.said journal w.leaves
     ends_unanswered (run.Unexpected journal given) w = is_cut given w.said w.back w.refused journal w.leaves
     ends_unanswered (run.SourceFault journal) w = is_broken w.left_is w.not_over journal w.leaves
@@ -136,11 +136,11 @@ module _ (whole : Bool) (j : JournalOf) (rest left : Option (List Answer)) where
   idle_answered given next said took = record { said = said; took = took }
 
   pub idle_refused : (given : Answer) → Says whole rest (Some given) left → (back : JournalOf) → IsRefusedResting j back given → (journal : Journal)
-      → journal ≡ plain_of back → IsRefused whole j rest left journal given
+      → journal ≡ plain_of back → IsRestingRefused whole j rest left journal given
   idle_refused given said back refused journal leaves = record { said = said; back = back; refused = refused; leaves = leaves }
 
   pub idle_silent : Says whole rest None left → (journal : Journal) → journal ≡ plain_of j → IsSilent whole j rest left journal
   idle_silent said journal leaves = record { said = said; leaves = leaves }
 
-  pub idle_failed : (over : Bool) → left ≡ rest → over ≡ false → (journal : Journal) → journal ≡ plain_of j → HasFailed whole j rest left over journal
+  pub idle_failed : (over : Bool) → left ≡ rest → over ≡ false → (journal : Journal) → journal ≡ plain_of j → HasRestingFailed whole j rest left over journal
   idle_failed over same not_over journal leaves = record { left_is = same; not_over = not_over; leaves = leaves }

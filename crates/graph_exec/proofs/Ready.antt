@@ -9,20 +9,20 @@ use Rattle.cluster_types.specs.declared.journal.Journal.{Journal}
 use Rattle.cluster_types.specs.declared.journal.Promotion.{Promotion}
 use Rattle.cluster_types.specs.Graphs.{GraphOf}
 use Rattle.cluster_types.specs.Plans.{CarriesOut}
-use Rattle.cluster_types.specs.Runs.{Standing, due, amid, here}
+use Rattle.cluster_types.specs.Runs.{RunStanding, due, amid, here}
 use Rattle.cluster_types.specs.Safety.{IsAtRest}
 use Rattle.cluster_types.specs.Steps.{Transition}
 use Rattle.cluster_types.specs.Valid.{IsValid}
 use Rattle.graph_exec.specs.Logs.{JournalOf}
-use Rattle.graph_exec.specs.Promises.{IsPlanned}
+use Rattle.graph_exec.specs.Promises.{IsGraphPlanned}
 use Rattle.graph_exec.specs.Running.{Running, Went, going, known_of}
 use Rattle.graph_exec.specs.Telling.{plan_lines, text_of}
 use Rattle.graph_exec.specs.Transitions.{Accords}
 use Rattle.graph_exec.proofs.Told.{adds_nothing}
-use Rattle.graph_exec.specs.declared.planning.Planned.{Planned}
-use Rattle.graph_exec.specs.declared.stop.ReplayStop.{ReplayStop}
+use Rattle.graph_exec.specs.declared.run.planning.Planned.{Planned}
+use Rattle.graph_exec.specs.declared.run.stop.ReplayStop.{ReplayStop}
 use Rattle.graph_exec.specs.Replays.{Setting, Sight, WritesNamesOf, setting, sight}
-use Rattle.graph_exec.specs.Turns.{Came, CameTo, EndsAs, EndsStopped, HasPlan, IsReady, fresh_on, left_of}
+use Rattle.graph_exec.specs.Turns.{HasComeTo, CameTo, RunEndsAs, EndsStopped, HasPlannedGraph, IsReady, fresh_on, left_of}
 use Rattle.graph_exec.proofs.Joined.{came_on, ends_on}
 use Rattle.graph_exec.proofs.Named.{reasons_named}
 use Rattle.graph_exec.proofs.Rests.{accords_first, accords_last, stays_there}
@@ -32,7 +32,7 @@ pub is_ready : (j : JournalOf) (p : Planned) (g : GraphOf) → IsValid j.cluster
     → CarriesOut j.cluster j.events j.promotions p.placed g → IsReady j p
 is_ready j p g valid rests e out = record {
   fresh = e ∙ ap (fresh_on j) (sym (ap (λ (r : Running). r.graph) e));
-  plan = subst (λ (r : Running). IsPlanned r p.placed) (sym e) (record { valid = valid; at_rest = rests; plan = out });
+  plan = subst (λ (r : Running). IsGraphPlanned r p.placed) (sym e) (record { valid = valid; at_rest = rests; plan = out });
   names = reasons_named j.cluster valid j.events j.promotions p.placed out.plan.goals;
 }
 
@@ -49,11 +49,11 @@ module _ (j : JournalOf) (p : Planned) (ready : IsReady j p) where
   pub same_promotions : p.executor.promotions ≡ j.promotions
   same_promotions = ap (λ (r : Running). r.promotions) ready.fresh
 
-  pub has_plan : HasPlan p.executor
+  pub has_plan : HasPlannedGraph p.executor
   has_plan = record { placed = p.placed; planned = ready.plan }
 
   pub carries : CarriesOut j.cluster j.events j.promotions p.placed p.executor.graph
-  carries = (subst (λ (r : Running). IsPlanned r p.placed) ready.fresh ready.plan).plan
+  carries = (subst (λ (r : Running). IsGraphPlanned r p.placed) ready.fresh ready.plan).plan
 
   -- a source that agreed with the journal agrees with the one that the transition leaves
   module _ (whole : Bool) (now : Running) (rest left : Option (List Answer)) (went : Went whole p.executor now rest left) where
@@ -78,9 +78,9 @@ module _ (j : JournalOf) (p : Planned) (ready : IsReady j p) where
     module _ (fits : WritesNamesOf j.cluster names) where
       -- the watcher is told of the plan
       pub came_begun : Adds before (text_of names (plan_lines names k p.placed)) after
-          → Came here_set (due k j.events) (sight rest over before) (sight rest over after) (amid k (going p.executor) [])
+          → HasComeTo here_set (due k j.events) (sight rest over before) (sight rest over after) (amid k (going p.executor) [])
       came_begun told =
-          subst (λ (t : Transition). Came here_set (due k j.events) (sight rest over before) (sight rest over after) (amid k t [])) (sym (same_going _ refl))
+          subst (λ (t : Transition). HasComeTo here_set (due k j.events) (sight rest over before) (sight rest over after) (amid k t [])) (sym (same_going _ refl))
           (came_planned here_set k j.events p.placed p.executor.graph carries rest over before after fits told)
 
       -- and stops
@@ -102,18 +102,18 @@ module _ (j : JournalOf) (p : Planned) (ready : IsReady j p) where
       }
 
 -- a part of a run, and then the next, where the journal is kept with what it tells
-module _ (c : Cluster) (promotions : List Promotion) (whole steady : Bool) (names : Option Cluster) (from : Standing) (old now : Sight) where
-  module _ (at : Standing) (one : Came (setting c promotions whole steady names) from old now at) (d : Cluster) (scores : List Promotion)
+module _ (c : Cluster) (promotions : List Promotion) (whole steady : Bool) (names : Option Cluster) (from : RunStanding) (old now : Sight) where
+  module _ (at : RunStanding) (one : HasComeTo (setting c promotions whole steady names) from old now at) (d : Cluster) (scores : List Promotion)
       (same : d ≡ c) (like : scores ≡ promotions) (new : Sight) where
     same_set : setting d scores whole steady names ≡ setting c promotions whole steady names
     same_set = ap (λ (x : Cluster). setting x scores whole steady names) same ∙ ap (λ (x : List Promotion). setting c x whole steady names) like
 
-    pub ends_behind : (end : Result Journal ReplayStop) → (steady ≡ true → old.over ≡ true → now.over ≡ true) → EndsAs (setting d scores whole steady names) at now new end
-        → EndsAs (setting c promotions whole steady names) from old new end
+    pub ends_behind : (end : Result Journal ReplayStop) → (steady ≡ true → old.over ≡ true → now.over ≡ true) → RunEndsAs (setting d scores whole steady names) at now new end
+        → RunEndsAs (setting c promotions whole steady names) from old new end
     ends_behind end stays w =
-        ends_on (setting c promotions whole steady names) from at old now new one end stays (subst (λ (s : Setting). EndsAs s at now new end) same_set w)
+        ends_on (setting c promotions whole steady names) from at old now new one end stays (subst (λ (s : Setting). RunEndsAs s at now new end) same_set w)
 
-    pub comes_behind : (then_at : List Event → Standing) (j : JournalOf) → (steady ≡ true → now.over ≡ true → new.over ≡ true)
+    pub comes_behind : (then_at : List Event → RunStanding) (j : JournalOf) → (steady ≡ true → now.over ≡ true → new.over ≡ true)
         → CameTo (setting d scores whole steady names) at now new then_at j → CameTo (setting c promotions whole steady names) from old new then_at j
     comes_behind then_at j stays w =
         let there = subst (λ (s : Setting). CameTo s at now new then_at j) same_set w in

@@ -10,13 +10,13 @@ use Rattle.cluster_types.specs.declared.placement.Placed.{Placed}
 use Rattle.cluster_types.specs.Answering.{added_by, applies_after}
 use Rattle.cluster_types.specs.Journals.{IsFlight, in_flight}
 use Rattle.cluster_types.specs.Safety.{IsAtRest}
-use Rattle.cluster_types.specs.Steps.{Applies, events_of, is_from_outside, resting}
+use Rattle.cluster_types.specs.Steps.{Applies, answer_events, is_from_outside, resting}
 use Rattle.graph_exec.specs.Logs.{JournalOf}
-use Rattle.graph_exec.specs.Promises.{IsPlanned}
+use Rattle.graph_exec.specs.Promises.{IsGraphPlanned}
 use Rattle.graph_exec.specs.Running.{Running, Went, known_of}
 use Rattle.graph_exec.specs.Saying.{AgreesOn}
 use Rattle.graph_exec.specs.Transitions.{Accords}
-use Rattle.graph_exec.specs.Turns.{HasPlan}
+use Rattle.graph_exec.specs.Turns.{HasPlannedGraph}
 
 pub none_in_flight : (es : List Event) (flight : List (ℕ × Action)) → in_flight es ≡ [] → flight ≡ [] → IsFlight es flight
 none_in_flight es flight idle none = rw none (record {
@@ -39,7 +39,7 @@ module _ (agrees : Cluster → List Event → ℕ → Type 0) where
 
     -- an answer is taken, or refused, while nothing is to be done
     pub agrees_taken : (c : Cluster) (es : List Event) (given : Answer) → AgreesOn agrees c es 0 [] given → Applies (resting c es) [] given
-        → (later : List Event) → later ≡ es ++ events_of (resting c es) [] given → agrees c later 0
+        → (later : List Event) → later ≡ es ++ answer_events (resting c es) [] given → agrees c later 0
     agrees_taken c es given on applies later is =
         let here : applies_after c es [] 0 given ≡ true = subst (λ (x : List Event). applies_after c x [] 0 given ≡ true) (append-nil es) applies in
         let same : later ≡ es ++ added_by c es [] given = is ∙ ap (λ (x : List Event). es ++ added_by c x [] given) (append-nil es) in
@@ -56,11 +56,11 @@ never_refused c es given applies refused = refused (subst (λ (x : List Event). 
 
 -- the plan is still that of the transition, and once it has ended its journal is at rest
 module _ (whole : Bool) (r now : Running) (rest left : Option (List Answer)) (went : Went whole r now rest left) where
-  planned_still : (placed : Placed) → IsPlanned r placed → IsPlanned now placed
+  planned_still : (placed : Placed) → IsGraphPlanned r placed → IsGraphPlanned now placed
   planned_still placed is =
-      subst (λ (x : Running). IsPlanned x placed) (sym went.same) (record { valid = is.valid; at_rest = is.at_rest; plan = is.plan })
+      subst (λ (x : Running). IsGraphPlanned x placed) (sym went.same) (record { valid = is.valid; at_rest = is.at_rest; plan = is.plan })
 
-  pub leaves_rest : HasPlan r → ((placed : Placed) → IsPlanned now placed → IsAtRest (now.planned_at ++ now.since)) → (j : JournalOf) → j ≡ known_of now → IsAtRest j.events
+  pub leaves_rest : HasPlannedGraph r → ((placed : Placed) → IsGraphPlanned now placed → IsAtRest (now.planned_at ++ now.since)) → (j : JournalOf) → j ≡ known_of now → IsAtRest j.events
   leaves_rest plan well j is =
       subst IsAtRest (sym (ap (λ (x : JournalOf). x.events) is)) (well plan.placed (planned_still plan.placed plan.planned))
 

@@ -8,7 +8,7 @@ use Rattle.cluster_types.specs.Sources.{untold}
 use Rattle.cluster_types.specs.Steps.{Transition, Goes, begins, takes, is_silent}
 use Rattle.run_safety.proofs.InFlight.{number_within}
 use Rattle.run_safety.proofs.Planned.{place_of}
-use Rattle.graph_exec.specs.Running.{Running, BeginsNow, EndedSilently, IsRefused, IsSettled, IsUnderWay, Took, Went, going}
+use Rattle.graph_exec.specs.Running.{Running, BeginsNow, EndedSilently, IsAnswerRefused, IsRunSettled, IsUnderWay, Took, Went, going}
 use Rattle.graph_exec.proofs.Carrying.{goes-on, went_step, went_untold}
 
 -- what went on by steps is under way still
@@ -45,10 +45,10 @@ module _ (old new : Running) (h : IsUnderWay old) where
   pub silent_under_way : (given : Answer) → EndedSilently old new given → IsUnderWay new
   silent_under_way given s = under_way_after (went_step true old new _ None None s.goes_on (is_silent None None s.number s.action (untold None) s.ends))
 
-  pub begun_under_way : (o : Option ℕ) → IfSome o (λ k. BeginsNow old new k) → IfNone o (IsSettled old new) → IsUnderWay new
+  pub begun_under_way : (o : Option ℕ) → IfSome o (λ k. BeginsNow old new k) → IfNone o (IsRunSettled old new) → IsUnderWay new
   begun_under_way (Some k) b n = begin_under_way k b
   begun_under_way None b n = rw n.same h
 
-  pub taken_under_way : {X C : Type 0} (given : Answer) (r : Result X C) → OnOk r (Took old new given) → OnErr r (IsRefused old new given) → IsUnderWay new
+  pub taken_under_way : {X C : Type 0} (given : Answer) (r : Result X C) → OnOk r (Took old new given) → OnErr r (IsAnswerRefused old new given) → IsUnderWay new
   taken_under_way given (Ok x) t n = take_under_way given t
   taken_under_way given (Err c) t n = rw n.same h

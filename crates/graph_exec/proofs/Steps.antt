@@ -20,12 +20,12 @@ use Rattle.cluster_types.proofs.SourceLaws.{carries-out}
 use Rattle.graph_exec.specs.Running.{Running, Went, going}
 use Rattle.graph_exec.specs.Telling.{plan_lines, text_of}
 use Rattle.graph_exec.specs.Transitions.{WentAsSaid}
-use Rattle.graph_exec.specs.Watching.{IsTold}
+use Rattle.graph_exec.specs.Watching.{AreLinesTold}
 use Rattle.graph_exec.proofs.Said.{goes_more, taken_none}
 use Rattle.run_safety.proofs.OneTransition.{goes_runs}
 use Rattle.run_safety.proofs.SoFar.{runs_once}
 use Rattle.graph_exec.specs.Replays.{Setting, WritesNamesOf, sight}
-use Rattle.graph_exec.specs.Turns.{Came, IsSaid}
+use Rattle.graph_exec.specs.Turns.{HasComeTo, IsSaid}
 use Rattle.graph_exec.proofs.Joined.{came_step}
 
 -- the lines of a plan, by the names of the cluster
@@ -55,7 +55,7 @@ module _ (s : Setting) (k : ℕ) (es : List Event) (placed : Placed) (g : GraphO
 
   pub came_planned : (rest : Option (List Answer)) (over : Bool) (before after : Option (List ℕ)) → WritesNamesOf s.cluster s.names
       → Adds before (text_of s.names (plan_lines s.names k placed)) after
-      → Came s (due k es) (sight rest over before) (sight rest over after) (amid k (transition_on s.cluster g es) [])
+      → HasComeTo s (due k es) (sight rest over before) (sight rest over after) (amid k (transition_on s.cluster g es) [])
   came_planned rest over before after fits told =
       came_step s (due k es) (amid k (transition_on s.cluster g es) []) (sight rest over before) (sight rest over after) (lines_of_plan s.cluster k placed)
       (planned_step s.whole rest) (subst (λ (bytes : List ℕ). Adds before bytes after) (plan_text s.cluster s.names k placed fits) told) (λ steady open_still. planned_said rest)
@@ -77,7 +77,7 @@ module _ (s : Setting) (k : ℕ) (r now : Running) (fresh : r.since ≡ []) wher
     taken = w.taken;
   }
 
-  pub part_told : (names : Option Cluster) (before after : Option (List ℕ)) → IsTold names r now before after
+  pub part_told : (names : Option Cluster) (before after : Option (List ℕ)) → AreLinesTold names r now before after
       → Adds before (text_of names (flat_map event_lines now.since)) after
   part_told names before after t =
       let happened : now.since ≡ t.events = rw fresh at t.happened in
@@ -85,8 +85,8 @@ module _ (s : Setting) (k : ℕ) (r now : Running) (fresh : r.since ≡ []) wher
 
   -- the transition went on
   pub came_carried : (rest left : Option (List Answer)) (over over_now : Bool) (before after : Option (List ℕ)) → Went s.whole r now rest left
-      → IsTold s.names r now before after → (s.steady ≡ true → over_now ≡ false → WentAsSaid r now rest left)
-      → Came s (amid k (going r) []) (sight rest over before) (sight left over_now after) (amid k (going r) now.since)
+      → AreLinesTold s.names r now before after → (s.steady ≡ true → over_now ≡ false → WentAsSaid r now rest left)
+      → HasComeTo s (amid k (going r) []) (sight rest over before) (sight left over_now after) (amid k (going r) now.since)
   came_carried rest left over over_now before after went told said = record {
     lines = flat_map event_lines now.since;
     runs = part_runs s.cluster s.promotions s.whole k (going r) r.since now.since rest left fresh went.steps;

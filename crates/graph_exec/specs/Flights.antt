@@ -6,7 +6,7 @@ use Rattle.cluster_types.specs.declared.journal.Action.{Action}
 use Rattle.cluster_types.specs.Cells.{is_of_cell, is_sent_to}
 use Rattle.cluster_types.specs.Steps.{numbered}
 use Rattle.listed.specs.Sets.{members}
-use Rattle.loops.specs.Ready.{Progress}
+use Rattle.graph_exec.specs.Ready.{Progress}
 
 -- which actions have begun and succeeded, and which are in flight
 pub record FlightOf : Type 0 where
@@ -39,7 +39,7 @@ with_ended f k success = record {
   flying = slice_set f.flying (k - 1) false;
 }
 
-pub record IsFlight (f : FlightOf) : Type 0 where
+pub record IsFlightFlags (f : FlightOf) : Type 0 where
   pub flags : length f.flying ≡ length f.progress.graph.actions
 
 -- the action is of the cell, or a migration to it

@@ -9,25 +9,25 @@ use Rattle.cluster_types.specs.declared.run.Passed.{Passed}
 use Rattle.cluster_types.specs.declared.run.PassedEnd.{PassedEnd}
 use Rattle.cluster_types.specs.declared.run.PassedEnd.TheVariants as passed_as
 use Rattle.cluster_types.specs.declared.run.Run.{Run}
-use Rattle.cluster_types.specs.Runs.{Standing, due, Runs, IsAsking, IsCut, IsOver, journal_at}
+use Rattle.cluster_types.specs.Runs.{RunStanding, due, Runs, IsAsking, IsCutAt, IsOver, journal_at}
 use Rattle.cluster_types.specs.Sources.{Says}
 use Rattle.cluster_types.specs.Texts.{all_passed_lines}
-use Rattle.graph_exec.specs.declared.ends.End.{End}
-use Rattle.graph_exec.specs.declared.ends.End.TheVariants as end
-use Rattle.graph_exec.specs.declared.outcomes.Next.{Next}
-use Rattle.graph_exec.specs.declared.outcomes.Next.TheVariants as next
+use Rattle.graph_exec.specs.declared.transition.ends.End.{End}
+use Rattle.graph_exec.specs.declared.transition.ends.End.TheVariants as end
+use Rattle.graph_exec.specs.declared.transition.outcomes.Next.{Next}
+use Rattle.graph_exec.specs.declared.transition.outcomes.Next.TheVariants as next
 use Rattle.graph_exec.specs.Logs.{JournalOf}
 use Rattle.graph_exec.specs.Resting.{IsRefusedResting, TookResting}
-use Rattle.graph_exec.specs.declared.run_ending.RunEnd.{RunEnd}
-use Rattle.graph_exec.specs.declared.run_ending.RunEnd.TheVariants as run
-use Rattle.graph_exec.specs.declared.idling.Taken.{Taken}
-use Rattle.graph_exec.specs.declared.stop.ReplayEnd.{ReplayEnd}
-use Rattle.graph_exec.specs.declared.stop.ReplayEnd.TheVariants as kept
-use Rattle.graph_exec.specs.declared.stop.ReplayStop.{ReplayStop}
-use Rattle.graph_exec.specs.declared.stop.ReplayStop.TheVariants as stop
-use Rattle.graph_exec.specs.Kept.{IsOfPlan}
+use Rattle.graph_exec.specs.declared.run.run_ending.RunEnd.{RunEnd}
+use Rattle.graph_exec.specs.declared.run.run_ending.RunEnd.TheVariants as run
+use Rattle.graph_exec.specs.declared.run.idling.Taken.{Taken}
+use Rattle.graph_exec.specs.declared.run.stop.ReplayEnd.{ReplayEnd}
+use Rattle.graph_exec.specs.declared.run.stop.ReplayEnd.TheVariants as kept
+use Rattle.graph_exec.specs.declared.run.stop.ReplayStop.{ReplayStop}
+use Rattle.graph_exec.specs.declared.run.stop.ReplayStop.TheVariants as stop
+use Rattle.graph_exec.specs.Kept.{IsPassedOfPlan}
 use Rattle.graph_exec.specs.Replays.{Setting}
-use Rattle.graph_exec.specs.Turns.{IsSaid, journal_of, plain_of}
+use Rattle.graph_exec.specs.Turns.{IsSaid, journal_back, plain_of}
 
 -- as the end of a run that was watched
 abbrev pub watched_end : RunEnd → Result Journal ReplayStop
@@ -81,54 +81,54 @@ module _ (whole : Bool) (j : JournalOf) (rest left : Option (List Answer)) where
     pub said : Says whole rest None left
     pub leaves : journal ≡ plain_of j
 
-  pub record IsRefused (journal : Journal) (given : Answer) : Type 0 where
+  pub record IsRestingRefused (journal : Journal) (given : Answer) : Type 0 where
     pub said : Says whole rest (Some given) left
     pub back : JournalOf
     pub refused : IsRefusedResting j back given
     pub leaves : journal ≡ plain_of back
 
-  pub record HasFailed (over : Bool) (journal : Journal) : Type 0 where
+  pub record HasRestingFailed (over : Bool) (journal : Journal) : Type 0 where
     pub left_is : left ≡ rest
     pub not_over : over ≡ false
     pub leaves : journal ≡ plain_of j
 
   abbrev pub IsUnanswered : Bool → RunEnd → Type 0
   IsUnanswered over (run.Whole journal) = IsSilent journal
-  IsUnanswered over (run.Unexpected journal given) = IsRefused journal given
-  IsUnanswered over (run.SourceFault journal) = HasFailed over journal
+  IsUnanswered over (run.Unexpected journal given) = IsRestingRefused journal given
+  IsUnanswered over (run.SourceFault journal) = HasRestingFailed over journal
   IsUnanswered over run.NoMemory = left ≡ rest
 
 module _ (s : Setting) (es : List Event) (first : Option (List Answer)) where
   -- the run was made up to here, with these answers left to come, and its lines are those of the transitions that are kept. While a steady source isn't
   -- over, each of its answers was said
-  pub record Keeps (rest : Option (List Answer)) (over : Bool) (passed : List Passed) (at : Standing) : Type 0 where
+  pub record KeepsPassed (rest : Option (List Answer)) (over : Bool) (passed : List Passed) (at : RunStanding) : Type 0 where
     pub runs : Runs s.cluster s.promotions s.whole (due 1 es) first (all_passed_lines s.cluster (journal_at at) 1 passed) at rest
     pub said : s.steady ≡ true → over ≡ false → IsSaid s (due 1 es) at (all_passed_lines s.cluster (journal_at at) 1 passed) first rest
-    pub each : AllByRecursion (IsOfPlan s.cluster s.promotions (journal_at at)) passed
+    pub each : AllByRecursion (IsPassedOfPlan s.cluster s.promotions (journal_at at)) passed
 
   -- so it was kept up to where the next transition is due
   abbrev pub KeepsTo : Option (List Answer) → Bool → List Passed → JournalOf → Type 0
-  KeepsTo rest over passed j = Keeps rest over passed (due (1 + length passed) j.events)
+  KeepsTo rest over passed j = KeepsPassed rest over passed (due (1 + length passed) j.events)
 
   module _ (left : Option (List Answer)) (passed : List Passed) (journal : Journal) where
     pub record KeepsWhole : Type 0 where
-      pub last : Standing
-      pub keeps : Keeps left true passed last
+      pub last : RunStanding
+      pub keeps : KeepsPassed left true passed last
       pub over : IsOver s.cluster s.promotions s.whole last left
-      pub leaves : journal ≡ journal_of s last
+      pub leaves : journal ≡ journal_back s last
 
     pub record KeepsCut (given : Answer) : Type 0 where
-      pub last : Standing
+      pub last : RunStanding
       pub unread : Option (List Answer)
-      pub keeps : Keeps unread true passed last
-      pub cut : IsCut s.cluster s.promotions s.whole last unread given left
-      pub leaves : journal ≡ journal_of s last
+      pub keeps : KeepsPassed unread true passed last
+      pub cut : IsCutAt s.cluster s.promotions s.whole last unread given left
+      pub leaves : journal ≡ journal_back s last
 
     pub record KeepsSoFar : Type 0 where
-      pub last : Standing
-      pub keeps : Keeps left false passed last
+      pub last : RunStanding
+      pub keeps : KeepsPassed left false passed last
       pub asking : IsAsking s.cluster s.promotions s.whole last
-      pub leaves : journal ≡ journal_of s last
+      pub leaves : journal ≡ journal_back s last
 
   -- how it ended on the way
   abbrev pub KeepsEnd : Option (List Answer) → List Passed → RunEnd → Type 0

@@ -16,12 +16,12 @@ use Rattle.cluster_types.specs.declared.run.Run.{Run}
 use Rattle.cluster_types.specs.Plans.{IsPlan, transition_of}
 use Rattle.cluster_types.specs.Runs.{IsCutRun, IsRunSoFar, IsRunUpTo, IsWholeRun}
 use Rattle.cluster_types.specs.Steps.{Transition, HasEnded, IsWaiting, has_aborted}
-use Rattle.cluster_types.specs.Texts.{Fits, between, run_lines}
-use Rattle.graph_exec.specs.declared.outcomes.Next.{Next}
-use Rattle.graph_exec.specs.declared.outcomes.Next.TheVariants as next
+use Rattle.cluster_types.specs.Texts.{PassedFits, between, run_lines}
+use Rattle.graph_exec.specs.declared.transition.outcomes.Next.{Next}
+use Rattle.graph_exec.specs.declared.transition.outcomes.Next.TheVariants as next
 use Rattle.graph_exec.specs.Saying.{TakesAnswers}
-use Rattle.graph_exec.specs.declared.stop.ReplayEnd.{ReplayEnd}
-use Rattle.graph_exec.specs.declared.stop.ReplayEnd.TheVariants as end
+use Rattle.graph_exec.specs.declared.run.stop.ReplayEnd.{ReplayEnd}
+use Rattle.graph_exec.specs.declared.run.stop.ReplayEnd.TheVariants as end
 
 -- how a transition stands after these events: it has ended with all done, or aborted; or it is cut where it waits for an answer
 abbrev pub StandsSo : Transition → List Event → PassedEnd → Type 0
@@ -31,7 +31,7 @@ StandsSo t since Cut = IsWaiting t since
 
 module _ (c : Cluster) (promotions : List Promotion) where
   -- what is kept of a transition is what was planned for the journal up to its first event, and how it stands after its last
-  pub record IsOfPlan (es : List Event) (p : Passed) : Type 0 where
+  pub record IsPassedOfPlan (es : List Event) (p : Passed) : Type 0 where
     pub placed : Placed
     pub actions : List Action
     pub plan : IsPlan c (take p.begins_at es) promotions placed actions
@@ -39,11 +39,11 @@ module _ (c : Cluster) (promotions : List Promotion) where
     pub table : p.table ≡ placed.table
     pub reasons : p.none ≡ placed.none
     pub stands : StandsSo (transition_of c (take p.begins_at es) actions) (between p.begins_at p.ends_at es) p.end
-    pub fits : Fits c es p
+    pub fits : PassedFits c es p
 
   -- each transition that is kept is that of its plan, and there are no more of them than were allowed
   pub record KeepsPlans (most : ℕ) (run : Run) : Type 0 where
-    pub each : AllByRecursion (IsOfPlan run.journal.events) run.passed
+    pub each : AllByRecursion (IsPassedOfPlan run.journal.events) run.passed
     pub few : length run.passed ≤ most
 
   module _ (whole steady : Bool) (es : List Event) (rest left : Option (List Answer)) where

@@ -1,3 +1,5 @@
+pub mod Ready
+pub mod Freed
 pub mod Logs
 pub mod Flights
 pub mod Running

@@ -41,11 +41,11 @@ pub record JournalOf : Type 0 where
   pub events : List Event
   pub promotions : List Promotion
 
-abbrev pub journal_of : Cluster → List Event → List Promotion → JournalOf
-journal_of c events promotions = record { cluster = c; events = events; promotions = promotions }
+abbrev pub log_journal : Cluster → List Event → List Promotion → JournalOf
+log_journal c events promotions = record { cluster = c; events = events; promotions = promotions }
 
 -- what is known of the cluster is what the events tell of it
-pub record IsTold (c : Cluster) (events : List Event) (known : Knowledge) : Type 0 where
+pub record IsLogTold (c : Cluster) (events : List Event) (known : Knowledge) : Type 0 where
   pub knows : Knows c events known
   pub moment : moment_of events < 2 ^ 64
 

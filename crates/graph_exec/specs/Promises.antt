@@ -8,12 +8,12 @@ use Rattle.cluster_types.specs.Safety.{AtEachBegin, EndsInTargets, IsAtRest, IsE
 use Rattle.cluster_types.specs.Steps.{Transition, has_room}
 use Rattle.cluster_types.specs.Tables.{targets_of}
 use Rattle.cluster_types.specs.Valid.{IsValid}
-use Rattle.graph_exec.specs.declared.ends.WatchedEnd.{WatchedEnd}
-use Rattle.graph_exec.specs.declared.ends.WatchedEnd.TheVariants as how
+use Rattle.graph_exec.specs.declared.transition.ends.WatchedEnd.{WatchedEnd}
+use Rattle.graph_exec.specs.declared.transition.ends.WatchedEnd.TheVariants as how
 use Rattle.graph_exec.specs.Running.{Running, going}
 
 -- the graph carries out the plan of a valid cluster, made for a journal in order with nothing in flight
-pub record IsPlanned (r : Running) (placed : Placed) : Type 0 where
+pub record IsGraphPlanned (r : Running) (placed : Placed) : Type 0 where
   pub valid : IsValid r.cluster
   pub at_rest : IsAtRest r.planned_at
   pub plan : CarriesOut r.cluster r.planned_at r.promotions placed r.graph
@@ -27,12 +27,12 @@ pub record KeepsPromises (r : Running) : Type 0 where
   pub predecessors : PredecessorsFirst (going r) r.since
   pub eager : IsEager (going r) r.since
   pub batch_limit : KeepsBatchLimit (going r) r.since
-  pub safe : (placed : Placed) → IsPlanned r placed → IsSafe (going r) r.since
-  pub in_order : (placed : Placed) → IsPlanned r placed → Orderly (r.planned_at ++ r.since)
+  pub safe : (placed : Placed) → IsGraphPlanned r placed → IsSafe (going r) r.since
+  pub in_order : (placed : Placed) → IsGraphPlanned r placed → Orderly (r.planned_at ++ r.since)
 
 -- at its end: the next can be planned for the journal that it leaves, and a complete one has ended in its targets
 abbrev pub EndsWell : Running → WatchedEnd → Type 0
 EndsWell r how.Complete =
-    (placed : Placed) → IsPlanned r placed → IsAtRest (r.planned_at ++ r.since) × EndsInTargets (going r) (targets_of placed.table) r.since
-EndsWell r (how.Aborted event) = (placed : Placed) → IsPlanned r placed → IsAtRest (r.planned_at ++ r.since)
+    (placed : Placed) → IsGraphPlanned r placed → IsAtRest (r.planned_at ++ r.since) × EndsInTargets (going r) (targets_of placed.table) r.since
+EndsWell r (how.Aborted event) = (placed : Placed) → IsGraphPlanned r placed → IsAtRest (r.planned_at ++ r.since)
 EndsWell r _ = Unit {0}

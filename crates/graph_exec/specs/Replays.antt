@@ -9,13 +9,13 @@ use Rattle.cluster_types.specs.declared.journal.Journal.{Journal}
 use Rattle.cluster_types.specs.declared.journal.Promotion.{Promotion}
 use Rattle.cluster_types.specs.declared.run.RunLine.{RunLine}
 use Rattle.cluster_types.specs.Journals.{Orderly}
-use Rattle.cluster_types.specs.Runs.{Standing, due, Runs, IsBetween, IsCutRun, IsRunSoFar, IsRunUpTo, IsStoppedRun, IsWholeRun}
+use Rattle.cluster_types.specs.Runs.{RunStanding, due, Runs, IsBetween, IsCutRun, IsRunSoFar, IsRunUpTo, IsStoppedRun, IsWholeRun}
 use Rattle.graph_exec.specs.Saying.{TakesAnswers}
 use Rattle.graph_exec.specs.Telling.{text_of}
-use Rattle.graph_exec.specs.declared.outcomes.Next.{Next}
-use Rattle.graph_exec.specs.declared.outcomes.Next.TheVariants as next
-use Rattle.graph_exec.specs.declared.stop.ReplayStop.{ReplayStop}
-use Rattle.graph_exec.specs.declared.stop.ReplayStop.TheVariants as stop
+use Rattle.graph_exec.specs.declared.transition.outcomes.Next.{Next}
+use Rattle.graph_exec.specs.declared.transition.outcomes.Next.TheVariants as next
+use Rattle.graph_exec.specs.declared.run.stop.ReplayStop.{ReplayStop}
+use Rattle.graph_exec.specs.declared.run.stop.ReplayStop.TheVariants as stop
 
 -- what is the same all along a run: the cluster, the promotion scores of the status, whether the answers to come are known to be all, whether the source
 -- never fails once it has nothing more to say, and by whose names the lines are written
@@ -44,7 +44,7 @@ WritesNamesOf c names = IfSome names (λ (d : Cluster). d ≡ c)
 
 module _ (s : Setting) (es : List Event) (old new : Sight) where
   -- the whole run was made, each of its lines was told, and all answers that were to come were taken
-  pub record IsWhole (journal : Journal) : Type 0 where
+  pub record IsWholeReplay (journal : Journal) : Type 0 where
     pub lines : List RunLine
     pub run : IsWholeRun s.cluster s.promotions s.whole es old.rest lines journal.events
     pub told : Adds old.text (text_of s.names lines) new.text
@@ -64,7 +64,7 @@ module _ (s : Setting) (es : List Event) (old new : Sight) where
     pub run : IsRunSoFar s.cluster s.promotions false es (Some answers) lines journal.events (Some [])
 
   -- the run was made up to a step at which the source failed, and each line up to there was told. A steady source has let no action end silently
-  pub record IsBrokenOff (journal : Journal) : Type 0 where
+  pub record IsReplayBrokenOff (journal : Journal) : Type 0 where
     pub lines : List RunLine
     pub run : IsRunSoFar s.cluster s.promotions s.whole es old.rest lines journal.events new.rest
     pub told : Adds old.text (text_of s.names lines) new.text
@@ -89,16 +89,16 @@ module _ (s : Setting) (es : List Event) (old new : Sight) where
   -- the run was made up to a place between two transitions, and each line up to there was told
   pub record IsBetweenTwo : Type 0 where
     pub lines : List RunLine
-    pub at : Standing
+    pub at : RunStanding
     pub run : Runs s.cluster s.promotions s.whole (due 1 es) old.rest lines at new.rest
     pub between : IsBetween s.cluster s.promotions s.whole at
     pub told : Adds old.text (text_of s.names lines) new.text
 
   -- what was made of the journal, by how the run ended, where so many transitions were allowed
   abbrev pub ReplaysAs : ℕ → Result Journal ReplayStop → Type 0
-  ReplaysAs most (Ok journal) = IsWhole journal
+  ReplaysAs most (Ok journal) = IsWholeReplay journal
   ReplaysAs most (Err (stop.Unexpected journal given)) = IsCutOffBy journal given
-  ReplaysAs most (Err (stop.SourceFault journal)) = IsBrokenOff journal
+  ReplaysAs most (Err (stop.SourceFault journal)) = IsReplayBrokenOff journal
   ReplaysAs most (Err (stop.Stopped journal)) = IsStopped journal
   ReplaysAs most (Err (stop.Most journal)) = IsUpTo most journal
   ReplaysAs most (Err stop.NoMemory) = IsBetweenTwo
@@ -113,7 +113,7 @@ OfJournal P (Err (stop.Most journal)) = P journal
 OfJournal P (Err stop.NoMemory) = Unit {0}
 
 -- the journal is in order and has the promotion scores of the first
-pub record IsKept (promotions : List Promotion) (journal : Journal) : Type 0 where
+pub record IsJournalKept (promotions : List Promotion) (journal : Journal) : Type 0 where
   pub in_order : Orderly journal.events
   pub promotions_stay : journal.promotions ≡ promotions
 
@@ -122,9 +122,9 @@ abbrev pub AgreesWith : (Cluster → List Event → ℕ → Type 0) → Cluster 
 AgreesWith agrees c journal = agrees c journal.events 0
 
 -- no answer came that doesn't apply
-abbrev pub IsExpected : Result Journal ReplayStop → Type 0
-IsExpected (Err (stop.Unexpected journal given)) = ⊥
-IsExpected _ = Unit {0}
+abbrev pub IsReplayExpected : Result Journal ReplayStop → Type 0
+IsReplayExpected (Err (stop.Unexpected journal given)) = ⊥
+IsReplayExpected _ = Unit {0}
 
 -- the source failed only where its count of faults rose, and the watcher stopped only where its count of stops did
 abbrev pub HasCause : ℕ → ℕ → ℕ → ℕ → Result Journal ReplayStop → Type 0
@@ -133,19 +133,19 @@ HasCause faults faults_now stops stops_now (Err (stop.Stopped journal)) = Rose s
 HasCause faults faults_now stops stops_now _ = Unit {0}
 
 -- what the source has come to, by how the run ended: nothing more, an answer that doesn't apply or a failure was said last; else no question failed
-abbrev pub HasCome : Type 0 → (Next → Type 0) → Result Journal ReplayStop → Type 0
-HasCome Follows Said (Ok journal) = Said next.Silent
-HasCome Follows Said (Err (stop.Unexpected journal given)) = Said (next.Answer given)
-HasCome Follows Said (Err (stop.SourceFault journal)) = Said next.Failed
-HasCome Follows Said (Err (stop.Stopped journal)) = Follows
-HasCome Follows Said (Err (stop.Most journal)) = Follows
-HasCome Follows Said (Err stop.NoMemory) = Follows
+abbrev pub ReplayHasCome : Type 0 → (Next → Type 0) → Result Journal ReplayStop → Type 0
+ReplayHasCome Follows Said (Ok journal) = Said next.Silent
+ReplayHasCome Follows Said (Err (stop.Unexpected journal given)) = Said (next.Answer given)
+ReplayHasCome Follows Said (Err (stop.SourceFault journal)) = Said next.Failed
+ReplayHasCome Follows Said (Err (stop.Stopped journal)) = Follows
+ReplayHasCome Follows Said (Err (stop.Most journal)) = Follows
+ReplayHasCome Follows Said (Err stop.NoMemory) = Follows
 
 -- what the watcher has come to: it went on each time, or has stopped the run
-abbrev pub HasHeard : Type 0 → Type 0 → Result Journal ReplayStop → Type 0
-HasHeard Follows Stopped (Ok journal) = Follows
-HasHeard Follows Stopped (Err (stop.Unexpected journal given)) = Follows
-HasHeard Follows Stopped (Err (stop.SourceFault journal)) = Follows
-HasHeard Follows Stopped (Err (stop.Stopped journal)) = Stopped
-HasHeard Follows Stopped (Err (stop.Most journal)) = Follows
-HasHeard Follows Stopped (Err stop.NoMemory) = Follows
+abbrev pub ReplayHasHeard : Type 0 → Type 0 → Result Journal ReplayStop → Type 0
+ReplayHasHeard Follows Stopped (Ok journal) = Follows
+ReplayHasHeard Follows Stopped (Err (stop.Unexpected journal given)) = Follows
+ReplayHasHeard Follows Stopped (Err (stop.SourceFault journal)) = Follows
+ReplayHasHeard Follows Stopped (Err (stop.Stopped journal)) = Stopped
+ReplayHasHeard Follows Stopped (Err (stop.Most journal)) = Follows
+ReplayHasHeard Follows Stopped (Err stop.NoMemory) = Follows

@@ -8,9 +8,9 @@ use Rattle.cluster_types.specs.Answering.{most_from_outside}
 use Rattle.cluster_types.specs.Sources.{Says}
 use Rattle.cluster_types.specs.Steps.{IsWaiting, StepsOn, has_begun, has_ended, numbers, outside}
 use Rattle.cluster_types.specs.Texts.{event_lines}
-use Rattle.graph_exec.specs.declared.ends.WatchedEnd.{WatchedEnd}
-use Rattle.graph_exec.specs.declared.ends.WatchedEnd.TheVariants as how
-use Rattle.graph_exec.specs.Running.{Running, BeginsNow, IsRefused, Went, going, later}
+use Rattle.graph_exec.specs.declared.transition.ends.WatchedEnd.{WatchedEnd}
+use Rattle.graph_exec.specs.declared.transition.ends.WatchedEnd.TheVariants as how
+use Rattle.graph_exec.specs.Running.{Running, BeginsNow, IsAnswerRefused, Went, going, later}
 
 -- how many actions may begin yet, how many may end, and how often an answer may be taken
 abbrev pub begins_left : Running → ℕ
@@ -44,10 +44,10 @@ pub record Advanced (whole : Bool) (old new : Running) (rest left : Option (List
 pub record IsUnexpected (whole : Bool) (old new : Running) (rest left : Option (List Answer)) (given : Answer) : Type 0 where
   pub waiting : IsWaiting (going old) old.since
   pub said : Says whole rest (Some given) left
-  pub refused : IsRefused old new given
+  pub refused : IsAnswerRefused old new given
 
 -- the source failed
-pub record HasFailed (old new : Running) (rest left : Option (List Answer)) : Type 0 where
+pub record HasSourceFailed (old new : Running) (rest left : Option (List Answer)) : Type 0 where
   pub waiting : IsWaiting (going old) old.since
   pub same : new ≡ old
   pub left_is : left ≡ rest
@@ -55,5 +55,5 @@ pub record HasFailed (old new : Running) (rest left : Option (List Answer)) : Ty
 -- why no answer was taken
 abbrev pub StopsAs : Bool → Running → Running → Option (List Answer) → Option (List Answer) → WatchedEnd → Type 0
 StopsAs whole old new rest left (how.Unexpected given) = IsUnexpected whole old new rest left given
-StopsAs whole old new rest left how.SourceFault = HasFailed old new rest left
+StopsAs whole old new rest left how.SourceFault = HasSourceFailed old new rest left
 StopsAs whole old new rest left _ = ⊥

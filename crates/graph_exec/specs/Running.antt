@@ -7,13 +7,13 @@ use Rattle.cluster_types.specs.declared.journal.Answer.TheVariants as answer
 use Rattle.cluster_types.specs.declared.journal.Event.{Event}
 use Rattle.cluster_types.specs.declared.journal.Event.TheVariants.{Begin}
 use Rattle.cluster_types.specs.declared.journal.Promotion.{Promotion}
-use Rattle.cluster_types.specs.Answering.{applies_after, end_of, most_from_outside}
+use Rattle.cluster_types.specs.Answering.{applies_after, end_event, most_from_outside}
 use Rattle.cluster_types.specs.declared.journal.Outcome.TheVariants.{Code, Gone}
 use Rattle.cluster_types.specs.Graphs.{GraphOf, IsGraph}
 use Rattle.cluster_types.specs.Journals.{is_on}
 use Rattle.cluster_types.specs.Plans.{transition_on}
 use Rattle.cluster_types.specs.Steps as steps
-use Rattle.cluster_types.specs.Steps.{Transition, Goes, Begins, Takes, EndsSilently, ended, silent_code, is_settled, has_begun, has_ended, has_succeeded, is_in_flight_number, outside, events_of, flying}
+use Rattle.cluster_types.specs.Steps.{Transition, Goes, Begins, TakesAnswer, EndsSilently, ended, silent_code, is_settled, has_begun, has_ended, has_succeeded, is_in_flight_number, outside, answer_events, flying}
 use Rattle.listed.specs.Sets.{is_member}
 use Rattle.graph_exec.specs.Flights.{FlightOf}
 use Rattle.graph_exec.specs.Logs.{JournalOf, LogOf}
@@ -50,7 +50,7 @@ known_of r = record { cluster = r.cluster; events = r.planned_at ++ r.since; pro
 -- what the loss of a node ends: each action in flight of a cell on it, in the order of their numbers
 abbrev pub all_gone : Running → ℕ → List Event
 all_gone r n =
-    map (end_of r.cluster (r.planned_at ++ r.since) (flying (going r) r.since) Gone) (filter (λ (p : ℕ × Action). is_on n p.1) (flying (going r) r.since))
+    map (end_event r.cluster (r.planned_at ++ r.since) (flying (going r) r.since) Gone) (filter (λ (p : ℕ × Action). is_on n p.1) (flying (going r) r.since))
 
 -- what holds at every moment: the graph has no loop, and the events since the plan are steps of the transition, whatever answers there were
 pub record IsUnderWay (r : Running) : Type 0 where
@@ -69,17 +69,17 @@ pub record BeginsNow (old new : Running) (k : ℕ) : Type 0 where
   pub goes_on : new ≡ later old (Begin k action ∷ [])
 
 -- none may begin, and nothing changes
-pub record IsSettled (old new : Running) : Type 0 where
+pub record IsRunSettled (old new : Running) : Type 0 where
   pub settled : is_settled (going old) old.since ≡ true
   pub same : new ≡ old
 
 -- an answer is taken
 pub record Took (old new : Running) (given : Answer) : Type 0 where
-  pub takes : Takes (going old) old.since given
-  pub goes_on : new ≡ later old (events_of (going old) old.since given)
+  pub takes : TakesAnswer (going old) old.since given
+  pub goes_on : new ≡ later old (answer_events (going old) old.since given)
 
 -- the answer doesn't apply, and nothing changes
-pub record IsRefused (old new : Running) (given : Answer) : Type 0 where
+pub record IsAnswerRefused (old new : Running) (given : Answer) : Type 0 where
   pub refused : applies_after old.cluster (old.planned_at ++ old.since) (flying (going old) old.since) (outside (going old) old.since) given ≡ false
   pub same : new ≡ old
 
@@ -92,7 +92,7 @@ pub record EndedSilently (old new : Running) (given : Answer) : Type 0 where
   pub given_is : given ≡ answer.End number (silent_code action)
 
 -- what is kept of one number is what the events say of it
-pub record IsKept (log : LogOf) (f : FlightOf) (k : ℕ) : Type 0 where
+pub record IsNumberKept (log : LogOf) (f : FlightOf) (k : ℕ) : Type 0 where
   pub begun : is_member f.progress.begun k ≡ has_begun (going (running log f)) log.since k
   pub succeeded : is_member f.progress.succeeded k ≡ has_succeeded (going (running log f)) log.since k
   pub flying : is_member f.flying k ≡ is_in_flight_number (going (running log f)) log.since k
@@ -100,15 +100,15 @@ pub record IsKept (log : LogOf) (f : FlightOf) (k : ℕ) : Type 0 where
   pub over : has_succeeded (going (running log f)) log.since k ≡ true → has_ended (going (running log f)) log.since k ≡ true
 
 -- how many events may come: two of each action that hasn't begun, one of each in flight, and the answers from outside
-abbrev pub to_come : LogOf → FlightOf → ℕ
-to_come log f =
+abbrev pub events_to_come : LogOf → FlightOf → ℕ
+events_to_come log f =
     2 * count_by not f.progress.begun + count_by (λ b. b) f.flying + (most_from_outside - count_by steps.is_from_outside log.since)
 
 -- there is room for all of them
-pub record Follows (log : LogOf) (f : FlightOf) : Type 0 where
+pub record FlightFollows (log : LogOf) (f : FlightOf) : Type 0 where
   pub begun_size : length f.progress.begun ≡ length f.progress.graph.actions
   pub succeeded_size : length f.progress.succeeded ≡ length f.progress.graph.actions
   pub flight_size : length f.flying ≡ length f.progress.graph.actions
-  pub each : (k : ℕ) → 0 < k → k ≤ length f.progress.graph.actions → IsKept log f k
+  pub each : (k : ℕ) → 0 < k → k ≤ length f.progress.graph.actions → IsNumberKept log f k
   pub from_one : has_begun (going (running log f)) log.since 0 ≡ false
-  pub has_room : to_come log f ≤ log.room
+  pub has_room : events_to_come log f ≤ log.room

@@ -7,14 +7,14 @@ use Rattle.cluster_types.specs.declared.journal.Event.{Event}
 use Rattle.cluster_types.specs.Answering.{added_by, applies_after}
 use Rattle.cluster_types.specs.Sources.{Says}
 use Rattle.cluster_types.specs.Steps.{is_from_outside, silent_end}
-use Rattle.graph_exec.specs.declared.outcomes.Next.{Next}
-use Rattle.graph_exec.specs.declared.outcomes.Next.TheVariants as next
+use Rattle.graph_exec.specs.declared.transition.outcomes.Next.{Next}
+use Rattle.graph_exec.specs.declared.transition.outcomes.Next.TheVariants as next
 
 -- from the answers to come before to those after: an answer is the first of them, nothing more is said where there are none, and a fault leaves them
-abbrev pub Gives : Bool → Option (List Answer) → Option (List Answer) → Next → Type 0
-Gives whole before after (next.Answer given) = Says whole before (Some given) after
-Gives whole before after next.Silent = Says whole before None after
-Gives whole before after next.Failed = after ≡ before
+abbrev pub GivesNext : Bool → Option (List Answer) → Option (List Answer) → Next → Type 0
+GivesNext whole before after (next.Answer given) = Says whole before (Some given) after
+GivesNext whole before after next.Silent = Says whole before None after
+GivesNext whole before after next.Failed = after ≡ before
 
 -- these answers were taken from the front of those to come, where these are told
 abbrev pub TakesAnswers : Option (List Answer) → List Answer → Option (List Answer) → Type 0

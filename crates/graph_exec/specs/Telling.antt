@@ -11,8 +11,8 @@ use Rattle.cluster_types.specs.declared.run.RunLine.TheVariants as line
 use Rattle.cluster_types.specs.Tables.{targets_of}
 use Rattle.cluster_types.specs.Texts.{run_line, target_lines}
 use Rattle.crm_lex.specs.Names.{is_name}
-use Rattle.graph_exec.specs.declared.watcher.Heard.{Heard}
-use Rattle.graph_exec.specs.declared.watcher.Heard.TheVariants as heard
+use Rattle.graph_exec.specs.declared.transition.watcher.Heard.{Heard}
+use Rattle.graph_exec.specs.declared.transition.watcher.Heard.TheVariants as heard
 
 -- the text of some lines by the names of a cluster; without names they have none
 abbrev pub text_of : Option Cluster → List RunLine → List ℕ
@@ -29,9 +29,9 @@ closing_line number true = line.Complete number
 closing_line number false = line.Aborted number
 
 -- what was told before and after some lines: all of their text where the watcher goes on, a front of it where it stops. It stays told or untold
-abbrev pub Tells : Option Cluster → List RunLine → Option (List ℕ) → Option (List ℕ) → Heard → Type 0
-Tells names lines before after heard.Go = Adds before (text_of names lines) after
-Tells names lines before after heard.Stop = AddsPrefix (text_of names lines) before after
+abbrev pub TellsLines : Option Cluster → List RunLine → Option (List ℕ) → Option (List ℕ) → Heard → Type 0
+TellsLines names lines before after heard.Go = Adds before (text_of names lines) after
+TellsLines names lines before after heard.Stop = AddsPrefix (text_of names lines) before after
 
 -- what holds a leaf back is a rule with a name, so that each line is short
 abbrev pub ReasonsHaveNames : Placed → Type 0

@@ -7,10 +7,10 @@ use Rattle.cluster_types.specs.Answering.{applies_after}
 use Rattle.cluster_types.specs.Journals.{in_flight}
 use Rattle.cluster_types.specs.Sources.{Says}
 use Rattle.cluster_types.specs.Steps.{HasEnded, IsWaiting, aborts, all_succeeded, flying, has_aborted, outside}
-use Rattle.graph_exec.specs.declared.ends.WatchedEnd.{WatchedEnd}
-use Rattle.graph_exec.specs.declared.ends.WatchedEnd.TheVariants as how
-use Rattle.graph_exec.specs.declared.outcomes.Next.{Next}
-use Rattle.graph_exec.specs.declared.outcomes.Next.TheVariants as next
+use Rattle.graph_exec.specs.declared.transition.ends.WatchedEnd.{WatchedEnd}
+use Rattle.graph_exec.specs.declared.transition.ends.WatchedEnd.TheVariants as how
+use Rattle.graph_exec.specs.declared.transition.outcomes.Next.{Next}
+use Rattle.graph_exec.specs.declared.transition.outcomes.Next.TheVariants as next
 use Rattle.graph_exec.specs.Running.{Running, Went, going}
 use Rattle.graph_exec.specs.Saying.{TakesAnswers}
 

@@ -9,24 +9,24 @@ use Rattle.cluster_types.specs.declared.journal.Promotion.{Promotion}
 use Rattle.cluster_types.specs.declared.placement.Placed.{Placed}
 use Rattle.cluster_types.specs.declared.run.RunLine.{RunLine}
 use Rattle.cluster_types.specs.declared.states.States.{States}
-use Rattle.cluster_types.specs.Runs.{Standing, due, idle, Runs, RunsOn, IsAsking, IsBetween, IsCut, IsOver, journal_at}
+use Rattle.cluster_types.specs.Runs.{RunStanding, due, idle, Runs, RunsOn, IsAsking, IsBetween, IsCutAt, IsOver, journal_at}
 use Rattle.cluster_types.specs.Graphs.{GraphOf}
 use Rattle.cluster_types.specs.Plans.{CarriesOut}
 use Rattle.cluster_types.specs.Unpacked.{states_of}
 use Rattle.graph_exec.specs.Logs.{JournalOf}
-use Rattle.graph_exec.specs.Promises.{IsPlanned}
+use Rattle.graph_exec.specs.Promises.{IsGraphPlanned}
 use Rattle.graph_exec.specs.Running.{Running}
 use Rattle.graph_exec.specs.Saying.{TakesAnswers}
 use Rattle.graph_exec.specs.Telling.{ReasonsHaveNames, text_of}
-use Rattle.graph_exec.specs.declared.planning.KeptPlan.{KeptPlan}
-use Rattle.graph_exec.specs.declared.planning.Planned.{Planned}
-use Rattle.graph_exec.specs.declared.stop.ReplayStop.{ReplayStop}
-use Rattle.graph_exec.specs.declared.stop.ReplayStop.TheVariants as stop
+use Rattle.graph_exec.specs.declared.run.planning.KeptPlan.{KeptPlan}
+use Rattle.graph_exec.specs.declared.run.planning.Planned.{Planned}
+use Rattle.graph_exec.specs.declared.run.stop.ReplayStop.{ReplayStop}
+use Rattle.graph_exec.specs.declared.run.stop.ReplayStop.TheVariants as stop
 use Rattle.graph_exec.specs.Replays.{Setting, Sight}
 
 -- the journal that is handed back where a run stands
-abbrev pub journal_of : Setting → Standing → Journal
-journal_of s at = record { events = journal_at at; promotions = s.promotions }
+abbrev pub journal_back : Setting → RunStanding → Journal
+journal_back s at = record { events = journal_at at; promotions = s.promotions }
 
 -- a journal without what it tells
 abbrev pub plain_of : JournalOf → Journal
@@ -38,55 +38,55 @@ left_of r = record { events = r.planned_at ++ r.since; promotions = r.promotions
 
 -- the run from a standing on prints these lines up to another, and each of its answers was said: they are those that were taken, where the answers to come
 -- are told
-pub record IsSaid (s : Setting) (from at : Standing) (lines : List RunLine) (rest left : Option (List Answer)) : Type 0 where
+pub record IsSaid (s : Setting) (from at : RunStanding) (lines : List RunLine) (rest left : Option (List Answer)) : Type 0 where
   pub answers : List Answer
   pub runs : (more : List Answer) → Runs s.cluster s.promotions false from (Some (answers ++ more)) lines at (Some more)
   pub taken : TakesAnswers rest answers left
 
-module _ (s : Setting) (from : Standing) (old new : Sight) where
+module _ (s : Setting) (from : RunStanding) (old new : Sight) where
   -- the run went on to here, and its lines were told. While a steady source isn't over, each of its answers was said
-  pub record Came (at : Standing) : Type 0 where
+  pub record HasComeTo (at : RunStanding) : Type 0 where
     pub lines : List RunLine
     pub runs : Runs s.cluster s.promotions s.whole from old.rest lines at new.rest
     pub told : Adds old.text (text_of s.names lines) new.text
     pub said : s.steady ≡ true → new.over ≡ false → IsSaid s from at lines old.rest new.rest
 
   -- the same, where the journal is kept with what it tells
-  pub record CameTo (at : List Event → Standing) (journal : JournalOf) : Type 0 where
+  pub record CameTo (at : List Event → RunStanding) (journal : JournalOf) : Type 0 where
     pub cluster_stays : journal.cluster ≡ s.cluster
     pub promotions_stay : journal.promotions ≡ s.promotions
-    pub came : Came (at journal.events)
+    pub came : HasComeTo (at journal.events)
 
   pub record EndsWhole (journal : Journal) : Type 0 where
-    pub last : Standing
+    pub last : RunStanding
     pub lines : List RunLine
     pub runs : Runs s.cluster s.promotions s.whole from old.rest lines last new.rest
     pub told : Adds old.text (text_of s.names lines) new.text
     pub over : IsOver s.cluster s.promotions s.whole last new.rest
-    pub leaves : journal ≡ journal_of s last
+    pub leaves : journal ≡ journal_back s last
 
-  pub record EndsCut (journal : Journal) (given : Answer) : Type 0 where
-    pub last : Standing
+  pub record RunEndsCut (journal : Journal) (given : Answer) : Type 0 where
+    pub last : RunStanding
     pub unread : Option (List Answer)
     pub lines : List RunLine
     pub runs : Runs s.cluster s.promotions s.whole from old.rest lines last unread
     pub told : Adds old.text (text_of s.names lines) new.text
-    pub cut : IsCut s.cluster s.promotions s.whole last unread given new.rest
-    pub leaves : journal ≡ journal_of s last
+    pub cut : IsCutAt s.cluster s.promotions s.whole last unread given new.rest
+    pub leaves : journal ≡ journal_back s last
 
   pub record EndsBroken (journal : Journal) : Type 0 where
-    pub last : Standing
+    pub last : RunStanding
     pub lines : List RunLine
     pub runs : Runs s.cluster s.promotions s.whole from old.rest lines last new.rest
     pub told : Adds old.text (text_of s.names lines) new.text
     pub asking : IsAsking s.cluster s.promotions s.whole last
     pub said : s.steady ≡ true → IsSaid s from last lines old.rest new.rest
     pub not_over : s.steady ≡ true → old.over ≡ false
-    pub leaves : journal ≡ journal_of s last
+    pub leaves : journal ≡ journal_back s last
 
   pub record EndsStopped (journal : Journal) : Type 0 where
-    pub before : Standing
-    pub next : Standing
+    pub before : RunStanding
+    pub next : RunStanding
     pub middle : Option (List Answer)
     pub text : Option (List ℕ)
     pub lines : List RunLine
@@ -95,23 +95,23 @@ module _ (s : Setting) (from : Standing) (old new : Sight) where
     pub told : Adds old.text (text_of s.names lines) text
     pub stopped : RunsOn s.cluster s.promotions s.whole before middle call next new.rest
     pub front : AddsPrefix (text_of s.names call) text new.text
-    pub leaves : journal ≡ journal_of s next
+    pub leaves : journal ≡ journal_back s next
 
-  pub record EndsBetween : Type 0 where
-    pub at : Standing
+  pub record RunEndsBetween : Type 0 where
+    pub at : RunStanding
     pub lines : List RunLine
     pub runs : Runs s.cluster s.promotions s.whole from old.rest lines at new.rest
     pub told : Adds old.text (text_of s.names lines) new.text
     pub between : IsBetween s.cluster s.promotions s.whole at
 
   -- how it ended on the way
-  abbrev pub EndsAs : Result Journal ReplayStop → Type 0
-  EndsAs (Ok journal) = EndsWhole journal
-  EndsAs (Err (stop.Unexpected journal given)) = EndsCut journal given
-  EndsAs (Err (stop.SourceFault journal)) = EndsBroken journal
-  EndsAs (Err (stop.Stopped journal)) = EndsStopped journal
-  EndsAs (Err (stop.Most journal)) = ⊥
-  EndsAs (Err stop.NoMemory) = EndsBetween
+  abbrev pub RunEndsAs : Result Journal ReplayStop → Type 0
+  RunEndsAs (Ok journal) = EndsWhole journal
+  RunEndsAs (Err (stop.Unexpected journal given)) = RunEndsCut journal given
+  RunEndsAs (Err (stop.SourceFault journal)) = EndsBroken journal
+  RunEndsAs (Err (stop.Stopped journal)) = EndsStopped journal
+  RunEndsAs (Err (stop.Most journal)) = ⊥
+  RunEndsAs (Err stop.NoMemory) = RunEndsBetween
 
 -- nothing of the graph has begun
 abbrev pub fresh_on : JournalOf → GraphOf → Running
@@ -126,7 +126,7 @@ pub record IsReady (journal : JournalOf) (p : Planned) : Type 0 where
     since = [];
     promotions = journal.promotions;
   }
-  pub plan : IsPlanned p.executor p.placed
+  pub plan : IsGraphPlanned p.executor p.placed
   pub names : ReasonsHaveNames p.placed
 
 -- for each journal that tells the states that a plan was made for, its graph carries it out
@@ -139,11 +139,11 @@ abbrev pub ServesAgain : Cluster → States → Planned → Type 0
 ServesAgain c states p = Serves c (record { states = states; placed = p.placed; graph = p.executor.graph })
 
 -- its graph carries out a plan
-pub record HasPlan (r : Running) : Type 0 where
+pub record HasPlannedGraph (r : Running) : Type 0 where
   pub placed : Placed
-  pub planned : IsPlanned r placed
+  pub planned : IsGraphPlanned r placed
 
 -- where a run stands behind a transition, by whether it is complete
-abbrev pub closed_at : ℕ → Bool → (List Event → Standing)
+abbrev pub closed_at : ℕ → Bool → (List Event → RunStanding)
 closed_at number true = idle number
 closed_at number false = due (number + 1)

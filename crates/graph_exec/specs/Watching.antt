@@ -7,12 +7,12 @@ use Rattle.cluster_types.specs.declared.journal.Answer.{Answer}
 use Rattle.cluster_types.specs.declared.journal.Event.{Event}
 use Rattle.cluster_types.specs.Steps.{StepsOn}
 use Rattle.cluster_types.specs.Texts.{event_lines}
-use Rattle.graph_exec.specs.declared.ends.End.{End}
-use Rattle.graph_exec.specs.declared.ends.End.TheVariants as plain
-use Rattle.graph_exec.specs.declared.ends.WatchedEnd.{WatchedEnd}
-use Rattle.graph_exec.specs.declared.ends.WatchedEnd.TheVariants as how
-use Rattle.graph_exec.specs.declared.watcher.Heard.{Heard}
-use Rattle.graph_exec.specs.declared.watcher.Heard.TheVariants as heard
+use Rattle.graph_exec.specs.declared.transition.ends.End.{End}
+use Rattle.graph_exec.specs.declared.transition.ends.End.TheVariants as plain
+use Rattle.graph_exec.specs.declared.transition.ends.WatchedEnd.{WatchedEnd}
+use Rattle.graph_exec.specs.declared.transition.ends.WatchedEnd.TheVariants as how
+use Rattle.graph_exec.specs.declared.transition.watcher.Heard.{Heard}
+use Rattle.graph_exec.specs.declared.transition.watcher.Heard.TheVariants as heard
 use Rattle.graph_exec.specs.Running.{Running, Went, going, later}
 use Rattle.graph_exec.specs.Telling.{text_of}
 
@@ -33,26 +33,26 @@ heard_in (Some end) = heard_at end
 heard_in None = heard.Go
 
 -- the lines of all that has happened from one moment to the other were told
-pub record IsTold (names : Option Cluster) (old new : Running) (before after : Option (List ℕ)) : Type 0 where
+pub record AreLinesTold (names : Option Cluster) (old new : Running) (before after : Option (List ℕ)) : Type 0 where
   pub events : List Event
   pub happened : new.since ≡ old.since ++ events
   pub added : Adds before (text_of names (flat_map event_lines events)) after
 
 -- the watcher stopped at the last step: the lines of all steps before it were told, and a front of its own
-pub record IsCutOff (whole : Bool) (names : Option Cluster) (old new : Running) (rest left : Option (List Answer)) (before after : Option (List ℕ)) : Type 0 where
+pub record IsWatcherCutOff (whole : Bool) (names : Option Cluster) (old new : Running) (rest left : Option (List Answer)) (before after : Option (List ℕ)) : Type 0 where
   pub at : Running
   pub middle : Option (List Answer)
   pub text : Option (List ℕ)
   pub events : List Event
   pub went : Went whole old at rest middle
-  pub told : IsTold names old at before text
+  pub told : AreLinesTold names old at before text
   pub step : StepsOn (going at) whole at.since middle events left
   pub last : new ≡ later at events
   pub added : AddsPrefix (text_of names (flat_map event_lines events)) text after
 
 abbrev pub Hears : Bool → Option Cluster → Running → Running → Option (List Answer) → Option (List Answer) → Option (List ℕ) → Option (List ℕ) → Heard → Type 0
-Hears whole names old new rest left before after heard.Go = IsTold names old new before after
-Hears whole names old new rest left before after heard.Stop = IsCutOff whole names old new rest left before after
+Hears whole names old new rest left before after heard.Go = AreLinesTold names old new before after
+Hears whole names old new rest left before after heard.Stop = IsWatcherCutOff whole names old new rest left before after
 
 -- what a watcher has come to, by what it said at last: it went on each time, or stopped then
 abbrev pub HasHeard : Type 0 → Type 0 → Heard → Type 0

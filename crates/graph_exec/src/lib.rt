@@ -3,64 +3,26 @@
 //! Administration, "Transitions"; when a run ends is a rule of this project).
 #![tactic(auto)]
 
-// What an event means for a transition.
-mod meaning;
-
-// What is kept of a transition: its journal, and which actions are in flight.
-mod flight;
-mod known_journal;
-mod log;
-
-// Where the answers come from, and who is told.
-mod failing;
-mod outcomes;
-mod script;
-mod watcher;
-
-// A transition, step by step.
-mod applying;
-mod course;
-mod ending;
-mod executor;
-mod resting;
-mod taking;
-
-// A transition over a source, to its end.
-mod ends;
-mod rounds;
+// One transition: what is kept of it, where its answers come from, and how it goes to its end.
 mod transition;
 
-// How a run ends.
-mod run_ending;
-mod stop;
+// A run: transition after transition, told as it goes, or kept.
+mod run;
 
-// One transition of a run, from its plan to what comes right after it.
-mod carrying_out;
-mod idling;
-mod planning;
-mod same_states;
-mod turning;
-
-// A run that is told as it goes.
-mod watched;
-
-// A run that is kept.
-mod keeping;
-mod kept;
-
-pub use course::{NotBegun, Parts};
-pub use ends::{End, WatchedEnd};
-pub use executor::{Executor, NotMade};
-pub use failing::Failing;
-pub use flight::InFlight;
-pub use kept::replay;
-pub use known_journal::KnownJournal;
-pub use meaning::is_success;
-pub use outcomes::{Next, Outcomes};
-pub use resting::{NotTaken, Resting};
-pub use script::Script;
-pub use stop::{ReplayEnd, ReplayStop};
-pub use taking::Unexpected;
-pub use transition::{run_transition, run_watched};
-pub use watched::replay_watched;
-pub use watcher::{Heard, Unwatched, Watcher};
+pub use run::kept::replay;
+pub use run::stop::{ReplayEnd, ReplayStop};
+pub use run::watched::replay_watched;
+pub use transition::course::{NotBegun, Parts};
+pub use transition::ends::{End, WatchedEnd};
+pub use transition::executor::{Executor, NotMade};
+pub use transition::failing::Failing;
+pub use transition::flight::InFlight;
+pub use transition::known_journal::KnownJournal;
+pub use transition::meaning::is_success;
+pub use transition::outcomes::{Next, Outcomes};
+pub use transition::over_source::{run_transition, run_watched};
+pub use transition::resting::{NotTaken, Resting};
+pub use transition::script::Script;
+pub use transition::taking::Unexpected;
+pub use transition::waiting::Waiting;
+pub use transition::watcher::{Heard, Unwatched, Watcher};

@@ -5,19 +5,19 @@ use Rattle.std.specs.Str.Parse.{digits_value}
 use Rattle.std.proofs.lemmas.Bool.Decides.{nat_tests}
 use Rattle.faults.specs.Digits.{is_number}
 use Rattle.cluster_types.specs.declared.cluster.Cluster.{Cluster}
-use Rattle.input_reading.specs.Names.{node_of, place_of}
-use Rattle.input_reading.specs.Numbers.{seconds_of}
-use Rattle.input_reading.specs.Places.{Words, node_at, seconds_at, word_at}
+use Rattle.input_reading.specs.Names.{node_of_word, place_of_first}
+use Rattle.input_reading.specs.Numbers.{read_seconds}
+use Rattle.input_reading.specs.Places.{WordsOfLine, node_at, seconds_at, word_at}
 use Rattle.input_reading.proofs.Steps.{any_step, given, where_true}
 
-place_within : {X : Type 0} (test : X → Bool) (xs : List X) → IfSome (place_of test xs) (λ n. nat_lt n (length xs) ≡ true)
+place_within : {X : Type 0} (test : X → Bool) (xs : List X) → IfSome (place_of_first test xs) (λ n. nat_lt n (length xs) ≡ true)
 place_within test xs =
     where_true (λ n. nat_lt n (length xs) ≡ true) (nat_lt (position_or_len test xs) (length xs)) (position_or_len test xs) (λ h. h)
 
 -- a node that is named is one of the cluster
-pub node_known : (c : Cluster) (place : ℕ) (words : Words) → IfOk (node_at c place words) (λ n. nat_lt n (length c.nodes) ≡ true)
+pub node_known : (c : Cluster) (place : ℕ) (words : WordsOfLine) → IfOk (node_at c place words) (λ n. nat_lt n (length c.nodes) ≡ true)
 unfolding node_at
-node_known c place words = any_step _ (word_at place words) _ (λ word. given _ (node_of c word) _ (place_within _ c.nodes))
+node_known c place words = any_step _ (word_at place words) _ (λ word. given _ (node_of_word c word) _ (place_within _ c.nodes))
 
 small : (a : Bool) (n : ℕ) → a && nat_le n 1099511627775 ≡ true → nat_lt n (2 ^ 40) ≡ true
 small true n h = grind (arith, nat_tests)
@@ -27,8 +27,8 @@ below : (word : List ℕ) → is_number 1099511627775 word ≡ true → nat_lt (
 below word h = small _ (digits_value 10 word) h
 
 -- seconds are below 2^40
-pub seconds_small : (place : ℕ) (words : Words) → IfOk (seconds_at place words) (λ s. nat_lt s (2 ^ 40) ≡ true)
+pub seconds_small : (place : ℕ) (words : WordsOfLine) → IfOk (seconds_at place words) (λ s. nat_lt s (2 ^ 40) ≡ true)
 unfolding seconds_at
 seconds_small place words =
-    any_step _ (word_at place words) _ (λ word. given _ (seconds_of word) _
+    any_step _ (word_at place words) _ (λ word. given _ (read_seconds word) _
     (where_true (λ s. nat_lt s (2 ^ 40) ≡ true) (is_number 1099511627775 word) (digits_value 10 word) (below word)))

@@ -22,38 +22,38 @@ use Rattle.crm_parse.specs.Marks as marks
 use Rattle.crm_parse.specs.Marks.{last_at, misplaced, sections_of, status_at}
 use Rattle.crm_parse.specs.Statements as statements
 use Rattle.crm_parse.specs.Statements.{draft_of, statements_of}
-use Rattle.cluster_model.specs.declared.expand_fault.ExpandCause.{ExpandCause}
+use Rattle.cluster_model.specs.declared.expansion.expand_fault.ExpandCause.{ExpandCause}
 use Rattle.cluster_model.specs.Expansion.{expansion_of, leaves_with_spans}
 use Rattle.cluster_model.specs.Faults as expanding
 use Rattle.cluster_model.specs.Faults.{fault_of, kinds_of, nothing_seen, seen_after}
-use Rattle.cluster_model.specs.declared.leaves.Leaves.{Leaves}
-use Rattle.cluster_model.specs.declared.fault.ModelCause.{ModelCause}
+use Rattle.cluster_model.specs.declared.expansion.leaves.Leaves.{Leaves}
+use Rattle.cluster_model.specs.declared.resolution.fault.ModelCause.{ModelCause}
 use Rattle.cluster_model.specs.Directories.{directory_of}
 use Rattle.cluster_model.specs.FirstFaults as modelling
 use Rattle.cluster_model.specs.Resolution.{cause_after, cluster_of, resolution_of}
 use Rattle.cluster_types.specs.declared.cluster.Cluster.{Cluster}
 use Rattle.cluster_types.specs.declared.run.RunLine.{RunLine}
 use Rattle.cluster_types.specs.Journals.{moment_of}
-use Rattle.input_reading.specs.declared.word_cause.WordCause.{WordCause}
-use Rattle.input_reading.specs.declared.text.RunTextLine.{RunTextLine}
+use Rattle.input_reading.specs.declared.words.word_cause.WordCause.{WordCause}
+use Rattle.input_reading.specs.declared.run.text.RunTextLine.{RunTextLine}
 use Rattle.input_reading.specs.RunReading as runs
-use Rattle.input_reading.specs.RunReading.{line_of_words, lines_of, text_line}
+use Rattle.input_reading.specs.RunReading.{line_of_words, read_run_lines, text_line}
 use Rattle.input_reading.specs.declared.history_fault.ResultCause.TheVariants.{TooManyResults}
 use Rattle.input_reading.specs.declared.history_fault.StatusCause.TheVariants.{Repeated}
 use Rattle.input_reading.specs.HistoryCauses.{result_cause, status_cause}
 use Rattle.input_reading.specs.FirstJournal as journals
-use Rattle.input_reading.specs.FirstJournal.{is_repeated, status_of}
+use Rattle.input_reading.specs.FirstJournal.{is_repeated, status_journal}
 use Rattle.input_reading.specs.Results as answers
 use Rattle.input_reading.specs.Results.{answer_of, moment_after, most_results, results_of}
 use Rattle.input_reading.specs.Status.{told_of}
 use Rattle.faults.specs.declared.fault.Fault.TheVariants.{At, NoMemory}
-use Rattle.input_reading.specs.declared.cause.InputCause.{InputCause}
-use Rattle.input_reading.specs.declared.cause.InputCause.TheVariants as cause
-use Rattle.input_reading.specs.declared.reading.Configuration.{Configuration}
-use Rattle.input_reading.specs.declared.reading.Head.{Head}
-use Rattle.input_reading.specs.declared.reading.Input.{Input}
-use Rattle.input_reading.specs.Reading.{IsFaulty, IsReadable, configuration_lines, configuration_of, following_lines, head_of, input_of, line_behind, status_lines, with_cluster, with_results}
-use Rattle.input_reading.specs.declared.trace.Trace.{Trace}
+use Rattle.input_reading.specs.declared.input.cause.InputCause.{InputCause}
+use Rattle.input_reading.specs.declared.input.cause.InputCause.TheVariants as cause
+use Rattle.input_reading.specs.declared.input.reading.Configuration.{Configuration}
+use Rattle.input_reading.specs.declared.input.reading.Head.{Head}
+use Rattle.input_reading.specs.declared.input.reading.Input.{Input}
+use Rattle.input_reading.specs.Reading.{IsFaultyText, IsReadable, configuration_lines, configuration_of, following_lines, head_of, input_of, line_behind, status_lines, with_cluster, with_results}
+use Rattle.input_reading.specs.declared.input.trace.Trace.{Trace}
 use Rattle.input_reading.specs.Sections.{sections_with_trace}
 use Rattle.input_reading.specs.Traces.{IsFaultyTrace, IsReadableTrace, trace_of, with_run}
 
@@ -101,24 +101,24 @@ unless_stands cause_of (Some NoMemory) given h = absurd h
 
 -- the words of a text
 -- the first of some faults and of more
-first_of : (some more : List (Fault LexCause)) → StandsAt (lines.first_fault some) → StandsAt (lines.first_fault more) → StandsAt (lines.first_fault (some ++ more))
+first_of : (some more : List (Fault LexCause)) → StandsAt (lines.first_lex_fault some) → StandsAt (lines.first_lex_fault more) → StandsAt (lines.first_lex_fault (some ++ more))
 first_of [] more one other = other
 first_of (fault ∷ some) more one other = one
 
-first_if : (test : Bool) (n : ℕ) (why : LexCause) → StandsAt (lines.first_fault (fault_if test n why))
+first_if : (test : Bool) (n : ℕ) (why : LexCause) → StandsAt (lines.first_lex_fault (fault_if test n why))
 first_if true n why = tt
 first_if false n why = tt
 
-first_bytes : (n : ℕ) (line : List ℕ) → StandsAt (lines.first_fault (byte_faults n line))
+first_bytes : (n : ℕ) (line : List ℕ) → StandsAt (lines.first_lex_fault (byte_faults n line))
 first_bytes n line =
     first_of (fault_if (not (is_utf8 (content line))) n NotUtf8) (fault_if (list_any is_control (content line)) n ControlByte)
     (first_if (not (is_utf8 (content line))) n NotUtf8) (first_if (list_any is_control (content line)) n ControlByte)
 
-first_all : (n : ℕ) (group : List (List ℕ)) → StandsAt (lines.first_fault (all_byte_faults n group))
+first_all : (n : ℕ) (group : List (List ℕ)) → StandsAt (lines.first_lex_fault (all_byte_faults n group))
 first_all n [] = tt
 first_all n (line ∷ group) = first_of (byte_faults n line) (all_byte_faults (n + 1) group) (first_bytes n line) (first_all (n + 1) group)
 
-first_group : (n : ℕ) (group : List (List ℕ)) → StandsAt (lines.first_fault (faults n group))
+first_group : (n : ℕ) (group : List (List ℕ)) → StandsAt (lines.first_lex_fault (faults n group))
 first_group n [] = tt
 first_group n (line ∷ group) =
     let all = line ∷ group in
@@ -129,16 +129,16 @@ first_group n (line ∷ group) =
     (first_of (byte_faults n line) (fault_if quote_open n OpenQuote ++ others) (first_bytes n line)
     (first_of (fault_if quote_open n OpenQuote) others (first_if quote_open n OpenQuote) (first_all (n + 1) group)))
 
-first_text : (n : ℕ) (groups : List (List (List ℕ))) → StandsAt (lines.first_fault (faults_from n groups))
+first_text : (n : ℕ) (groups : List (List (List ℕ))) → StandsAt (lines.first_lex_fault (faults_from n groups))
 first_text n [] = tt
 first_text n (group ∷ groups) =
     first_of (faults n group) (faults_from (n + length group) groups) (first_group n group) (first_text (n + length group) groups)
 
 words_stand : (text : List ℕ) → Stands (faulting cause.Words (reads text))
-words_stand text = unless_stands cause.Words (lines.first_fault (faults_from 1 (raw_lines text))) (rows_from 1 (raw_lines text)) (first_text 1 (raw_lines text))
+words_stand text = unless_stands cause.Words (lines.first_lex_fault (faults_from 1 (raw_lines text))) (rows_from 1 (raw_lines text)) (first_text 1 (raw_lines text))
 
 -- the sections
-unless_misplaced : (wrong : Option ℕ) (found : SectionMarks) → Stands (faulting cause.Statements (marks.unless wrong found))
+unless_misplaced : (wrong : Option ℕ) (found : SectionMarks) → Stands (faulting cause.Statements (marks.marks_unless wrong found))
 unless_misplaced None found = tt
 unless_misplaced (Some line) found = tt
 
@@ -148,7 +148,7 @@ sections_stand found =
     unless_misplaced (misplaced last [] found) (record { status_at = status_at last found; results_at = last_at last found; end = length found })
 
 marks_stand : (wrong : Option ℕ) (found : AuditMarks)
-    → Stands {A = SectionMarks} (faulting cause.Statements (marks.unless wrong found >>= (λ (at : AuditMarks). Ok (record { status_at = at.status_at; results_at = at.trace_at; end = at.end }))))
+    → Stands {A = SectionMarks} (faulting cause.Statements (marks.marks_unless wrong found >>= (λ (at : AuditMarks). Ok (record { status_at = at.status_at; results_at = at.trace_at; end = at.end }))))
 marks_stand None found = tt
 marks_stand (Some line) found = tt
 
@@ -185,8 +185,8 @@ unfolding fault_of
 leaves_stand found =
     let kinds = kinds_of found in
     unless_stands cause.Leaves (fault_of found) (leaves_with_spans found)
-    (first_expands (λ s l. expanding.cause_of kinds s l.form) (λ s l. seen_after s l.form)
-    (expanding.first_fault kinds) (λ s. refl) (λ s l ls. refl) nothing_seen found)
+    (first_expands (λ s l. expanding.expand_cause_of kinds s l.form) (λ s l. seen_after s l.form)
+    (expanding.first_expand_fault kinds) (λ s. refl) (λ s l ls. refl) nothing_seen found)
 
 -- the cluster
 first_model : (cause : List Statement → Statement → Option ModelCause) (before ls : List Statement) → StandsAt (modelling.first_fault cause before ls)
@@ -206,18 +206,18 @@ by_test P true one other = one
 by_test P false one other = other
 
 -- the status
-status_stands : (c : Cluster) (found : List Line) → Stands (faulting cause.Status (status_of c found))
+status_stands : (c : Cluster) (found : List Line) → Stands (faulting cause.Status (status_journal c found))
 status_stands c found =
-    let told = all_hold (λ r. Stands (faulting cause.Status r)) (journals.with_line c) (journals.with_lines c) (λ s. tt) (λ s. refl) (λ s l ls. by_cases (journals.with_line c s l) _)
+    let told = all_hold (λ r. Stands (faulting cause.Status r)) (journals.with_status_line c) (journals.with_status_lines c) (λ s. tt) (λ s. refl) (λ s l ls. by_cases (journals.with_status_line c s l) _)
     (λ s l. by_result (λ r. Stands (faulting cause.Status (faulting status_cause (on_line l.line r) >>= journals.with_told s l.line)))
     (λ x. by_test (λ test. Stands (faulting cause.Status (if test then Err (At l.line Repeated) else Ok (s ++ x ∷ [])))) (is_repeated s x) tt tt) (λ why. tt) (told_of c l.words)) [] found in
     by_result (λ r. Stands (faulting cause.Status r) → Stands (faulting cause.Status (r >>= (λ told. Ok (journals.journal_of c told))))) (λ x h. tt) (λ fault h. h)
-    (journals.with_lines c [] found) told
+    (journals.with_status_lines c [] found) told
 
 -- the results
 results_stand : (c : Cluster) (start : ℕ) (found : List Line) → Stands (faulting cause.Results (results_of c start found))
 results_stand c start found =
-    all_hold (λ r. Stands (faulting cause.Results r)) (answers.with_result c start) (answers.with_results c start) (λ s. tt) (λ s. refl) (λ s l ls. by_cases (answers.with_result c start s l) _)
+    all_hold (λ r. Stands (faulting cause.Results r)) (answers.with_result c start) (answers.with_result_lines c start) (λ s. tt) (λ s. refl) (λ s l ls. by_cases (answers.with_result c start s l) _)
     (λ s l. by_test
     (λ test. Stands (faulting cause.Results (
     (if test then faulting result_cause (on_line l.line (answer_of c (moment_after start s) l.words)) else Err (At l.line TooManyResults))
@@ -233,8 +233,8 @@ module _ (c : Cluster) where
   with_one s l = text_line c l >>= (λ (one : RunTextLine). Ok (s ++ one ∷ []))
 
   by_line : (s : List RunTextLine) (ls : List Line) (read : Result RunTextLine (Fault WordCause))
-      → (read >>= (λ (one : RunTextLine). runs.with_lines c (s ++ one ∷ []) ls))
-      ≡ elim (read >>= (λ (one : RunTextLine). Ok (s ++ one ∷ []))) [ Err fault ↦ Err fault | Ok more ↦ runs.with_lines c more ls ]
+      → (read >>= (λ (one : RunTextLine). runs.with_run_lines c (s ++ one ∷ []) ls))
+      ≡ elim (read >>= (λ (one : RunTextLine). Ok (s ++ one ∷ []))) [ Err fault ↦ Err fault | Ok more ↦ runs.with_run_lines c more ls ]
   by_line s ls (Ok one) = refl
   by_line s ls (Err fault) = refl
 
@@ -243,9 +243,9 @@ module _ (c : Cluster) where
       (on_line l.line r >>= (λ (what : RunLine). Ok (record { line = l.line; what = what }))) >>= (λ (one : RunTextLine). Ok (s ++ one ∷ [])))))
       (λ what. tt) (λ why. tt) (line_of_words c l.words)
 
-  run_stands : (found : List Line) → Stands (faulting cause.Run (lines_of c found))
+  run_stands : (found : List Line) → Stands (faulting cause.Run (read_run_lines c found))
   run_stands found =
-      all_hold (λ r. Stands (faulting cause.Run r)) with_one (runs.with_lines c) (λ s. tt) (λ s. refl) (λ s l ls. by_line s ls (text_line c l)) one_stands [] found
+      all_hold (λ r. Stands (faulting cause.Run r)) with_one (runs.with_run_lines c) (λ s. tt) (λ s. refl) (λ s l ls. by_line s ls (text_line c l)) one_stands [] found
 
 -- the whole text
 configuration_stands : (sections : List Line → Result SectionMarks (Fault ParseCause)) → ((found : List Line) → Stands (faulting cause.Statements (sections found)))
@@ -259,7 +259,7 @@ configuration_stands sections stand text =
 
 head_stands : (crm : Crm) (cluster : Cluster) (found : List Line) → Stands (head_of crm cluster found)
 unfolding head_of
-head_stands crm cluster found = stands_bind (faulting cause.Status (status_of cluster found)) _ (status_stands cluster found) (λ journal. tt)
+head_stands crm cluster found = stands_bind (faulting cause.Status (status_journal cluster found)) _ (status_stands cluster found) (λ journal. tt)
 
 with_results_stands : (head : Head) (found : List Line) → Stands (with_results head found)
 unfolding with_results
@@ -281,7 +281,7 @@ input_stands text =
 
 with_run_stands : (after : ℕ) (head : Head) (found : List Line) → Stands (with_run after head found)
 unfolding with_run
-with_run_stands after head found = stands_bind (faulting cause.Run (lines_of head.cluster found)) _ (run_stands head.cluster found) (λ run. tt)
+with_run_stands after head found = stands_bind (faulting cause.Run (read_run_lines head.cluster found)) _ (run_stands head.cluster found) (λ run. tt)
 
 trace_stands : (text : List ℕ) → Stands (trace_of text)
 unfolding trace_of
@@ -291,13 +291,13 @@ trace_stands text =
     stands_bind (head_of found.crm cluster (status_lines found.marks found.lines)) _ (head_stands found.crm cluster (status_lines found.marks found.lines)) (λ head.
     with_run_stands (line_behind found.lines) head (following_lines found.marks found.lines))))
 
-either : (text : List ℕ) (read : Result Input (Fault InputCause)) → input_of text ≡ read → Stands read → IsReadable text ⊎ IsFaulty text
+either : (text : List ℕ) (read : Result Input (Fault InputCause)) → input_of text ≡ read → Stands read → IsReadable text ⊎ IsFaultyText text
 either text (Ok input) r h = inl (record { whole = input; reads = r })
 either text (Err (At line why)) r h = inr (record { line = line; why = why; fault = r })
 either text (Err NoMemory) r h = absurd h
 
 -- each text is read or has a fault
-pub read_or_faulty : (text : List ℕ) → IsReadable text ⊎ IsFaulty text
+pub read_or_faulty : (text : List ℕ) → IsReadable text ⊎ IsFaultyText text
 read_or_faulty text = either text (input_of text) refl (input_stands text)
 
 either_trace : (text : List ℕ) (read : Result Trace (Fault InputCause)) → trace_of text ≡ read → Stands read → IsReadableTrace text ⊎ IsFaultyTrace text

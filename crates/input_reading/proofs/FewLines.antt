@@ -7,7 +7,7 @@ use Rattle.faults.proofs.Steps.{unless-ok}
 use Rattle.crm_lex.specs.declared.line.Line.{Line}
 use Rattle.crm_lex.specs.LogicalLines.{line_text}
 use Rattle.crm_lex.specs.RawLines.{goes_on, joined, onto_group, physical_lines, raw_lines}
-use Rattle.crm_lex.specs.Reading.{faults_from, first_fault, reads, row, rows_from}
+use Rattle.crm_lex.specs.Reading.{faults_from, first_lex_fault, reads, row, rows_from}
 use Rattle.crm_lex.specs.Words.{words_of}
 use Rattle.crm_lex.proofs.FaultOrder.{count_lines}
 use Rattle.crm_lex.proofs.PhysicalLines.{few_lines}
@@ -41,7 +41,7 @@ few_groups continues (line ∷ lines) = split (goes_on continues line) (few_grou
 
 pub few_rows_read : (text : List ℕ) (lines : List Line) → reads text ≡ Ok lines → length lines ≤ length text
 few_rows_read text lines e =
-    let rows = (unless-ok (first_fault (faults_from 1 (raw_lines text))) (rows_from 1 (raw_lines text)) lines e).1 in
+    let rows = (unless-ok (first_lex_fault (faults_from 1 (raw_lines text))) (rows_from 1 (raw_lines text)) lines e).1 in
     let short : length (rows_from 1 (raw_lines text)) ≤ length text = omega (arith, few_rows 1 (raw_lines text), few_groups false (physical_lines text), few_lines text) in
     subst (λ (found : List Line). length found ≤ length text) rows short
 
@@ -101,7 +101,7 @@ one_before m (suc k) (first ∷ lines) (Some line) all some e = one_before m k l
 pub few_lines_before : (text : List ℕ) (lines : List Line) → reads text ≡ Ok lines → line_behind lines ≤ 1 + length text
 few_lines_before text lines e =
     let groups = raw_lines text in
-    let rows = (unless-ok (first_fault (faults_from 1 groups)) (rows_from 1 groups) lines e).1 in
+    let rows = (unless-ok (first_lex_fault (faults_from 1 groups)) (rows_from 1 groups) lines e).1 in
     let bound : 1 + count_lines groups ≤ 1 + length text = omega (arith, in_joined false (physical_lines text), few_lines text) in
     let all : AllBefore (1 + length text) lines
     = subst (λ (found : List Line). AllBefore (1 + length text) found) rows

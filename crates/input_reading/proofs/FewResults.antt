@@ -11,9 +11,9 @@ use Rattle.faults.specs.Reading.{faulting, on_line}
 use Rattle.faults.proofs.Steps.{bind-ok}
 use Rattle.input_reading.specs.declared.history_fault.ResultCause.{ResultCause}
 use Rattle.input_reading.specs.declared.history_fault.ResultCause.TheVariants.{TooManyResults}
-use Rattle.input_reading.specs.declared.results.ResultLine.{ResultLine}
+use Rattle.input_reading.specs.declared.results.result_lines.ResultLine.{ResultLine}
 use Rattle.input_reading.specs.HistoryCauses.{result_cause}
-use Rattle.input_reading.specs.Results.{answer_of, moment_after, result_of, results_of, with_result, with_results}
+use Rattle.input_reading.specs.Results.{answer_of, moment_after, result_of, results_of, with_result, with_result_lines}
 
 -- a line that is read stands after fewer
 fewer_if : (test : Bool) (line : ℕ) (read : Result Answer (Fault ResultCause)) (given : Answer)
@@ -38,10 +38,10 @@ one_more c start results line more e =
     subst (λ (found : List ResultLine). length found ≤ 10000) (sym made) (omega (arith, before, joined))
 
 few_with : (c : Cluster) (start : ℕ) (results : List ResultLine) (lines : List Line) (all : List ResultLine) → length results ≤ 10000
-    → with_results c start results lines ≡ Ok all → length all ≤ 10000
+    → with_result_lines c start results lines ≡ Ok all → length all ≤ 10000
 few_with c start results [] all few e = let same : all ≡ results = cc in subst (λ (found : List ResultLine). length found ≤ 10000) (sym same) few
 few_with c start results (line ∷ lines) all few e =
-    let (more, is, rest) = bind-ok (with_result c start results line) (λ more. with_results c start more lines) all e in
+    let (more, is, rest) = bind-ok (with_result c start results line) (λ more. with_result_lines c start more lines) all e in
     few_with c start more lines all (one_more c start results line more is) rest
 
 pub few_results : (c : Cluster) (start : ℕ) (lines : List Line) (all : List ResultLine) → results_of c start lines ≡ Ok all → length all ≤ 10000

@@ -13,9 +13,9 @@ use Rattle.cluster_types.specs.declared.journal.Promotion.{Promotion}
 use Rattle.cluster_types.specs.Journals as journals
 use Rattle.cluster_types.specs.Journals.{NodeWord, Orderly, first_events, in_flight, is_reported, leaving, moment_of, seconds_of}
 use Rattle.cluster_types.proofs.JournalLaws.{in-order, nothing-in-flight}
-use Rattle.input_reading.specs.declared.told.Told.{Told}
-use Rattle.input_reading.specs.declared.told.Told.TheVariants as told
-use Rattle.input_reading.specs.FirstJournal.{all_differ, events_of, history_of, is_again, is_known, is_repeated, is_same_cell, now_of, promotion_in, quorum_of, word_of}
+use Rattle.input_reading.specs.declared.status.told.Told.{Told}
+use Rattle.input_reading.specs.declared.status.told.Told.TheVariants as told
+use Rattle.input_reading.specs.FirstJournal.{all_differ, events_of, history_of, is_again, is_known, is_repeated, is_promotion_of_same_cell, now_of, promotion_in, quorum_of, word_of}
 
 -- one more line
 pub one_more_known : (nodes : ℕ) (before : List Told) (one : Told) → list_all (is_known nodes) before ≡ true → is_known nodes one ≡ true
@@ -111,15 +111,15 @@ journal_moment c lines h =
 -- no cell has two promotion scores
 abbrev cells_differ : List Promotion → Bool
 cells_differ [] = true
-cells_differ (p ∷ ps) = not (list_any (is_same_cell p) ps) && cells_differ ps
+cells_differ (p ∷ ps) = not (list_any (is_promotion_of_same_cell p) ps) && cells_differ ps
 
-same_of_cell : (p : Promotion) (lines : List Told) → list_any (is_same_cell p) (filter_map promotion_in lines) ≡ list_any (is_again (told.Promoting p)) lines
+same_of_cell : (p : Promotion) (lines : List Told) → list_any (is_promotion_of_same_cell p) (filter_map promotion_in lines) ≡ list_any (is_again (told.Promoting p)) lines
 same_of_cell p [] = refl
 same_of_cell p (told.Now seconds ∷ lines) = same_of_cell p lines
 same_of_cell p (told.Quorum now ∷ lines) = same_of_cell p lines
 same_of_cell p (told.Node node word ∷ lines) = same_of_cell p lines
 same_of_cell p (told.Past event ∷ lines) = same_of_cell p lines
-same_of_cell p (told.Promoting q ∷ lines) = ap (λ b. is_same_cell p q || b) (same_of_cell p lines)
+same_of_cell p (told.Promoting q ∷ lines) = ap (λ b. is_promotion_of_same_cell p q || b) (same_of_cell p lines)
 
 cells_of : (lines : List Told) → all_differ lines ≡ true → cells_differ (filter_map promotion_in lines) ≡ true
 cells_of [] h = refl
@@ -128,9 +128,9 @@ cells_of (told.Quorum now ∷ lines) h = cells_of lines (later (not (list_any (i
 cells_of (told.Node node word ∷ lines) h = cells_of lines (later (not (list_any (is_again (told.Node node word)) lines)) _ h)
 cells_of (told.Past event ∷ lines) h = cells_of lines (later (not (list_any (is_again (told.Past event)) lines)) _ h)
 cells_of (told.Promoting p ∷ lines) h =
-    let none : list_any (is_same_cell p) (filter_map promotion_in lines) ≡ false =
+    let none : list_any (is_promotion_of_same_cell p) (filter_map promotion_in lines) ≡ false =
     same_of_cell p lines ∙ denied_first (list_any (is_again (told.Promoting p)) lines) _ h in
-    and_from (not (list_any (is_same_cell p) (filter_map promotion_in lines))) _ (ap not none)
+    and_from (not (list_any (is_promotion_of_same_cell p) (filter_map promotion_in lines))) _ (ap not none)
     (cells_of lines (later (not (list_any (is_again (told.Promoting p)) lines)) _ h))
 
 none_at : {X : Type 0} (test : X → Bool) (xs : List X) (j : ℕ) (d : X) → list_any test xs ≡ false → j < length xs → test (get_or xs j d) ≡ false
@@ -138,13 +138,13 @@ none_at test [] j d h m = absurd (omega (arith, m))
 none_at test (x ∷ xs) zero d h m = (or_parts (test x) (list_any test xs) h).0
 none_at test (x ∷ xs) (suc j) d h m = none_at test xs j d (or_parts (test x) (list_any test xs) h).1 (omega (arith, m))
 
-pairs_of : (ps : List Promotion) → cells_differ ps ≡ true → AllPairs (λ (one other : Promotion). is_same_cell one other ≡ false) ps
+pairs_of : (ps : List Promotion) → cells_differ ps ≡ true → AllPairs (λ (one other : Promotion). is_promotion_of_same_cell one other ≡ false) ps
 pairs_of [] h i j d l m = absurd (omega (arith, m))
 pairs_of (p ∷ ps) h zero zero d l m = absurd (omega (arith, l))
-pairs_of (p ∷ ps) h zero (suc j) d l m = none_at (is_same_cell p) ps j d (denied_first (list_any (is_same_cell p) ps) _ h) (omega (arith, m))
+pairs_of (p ∷ ps) h zero (suc j) d l m = none_at (is_promotion_of_same_cell p) ps j d (denied_first (list_any (is_promotion_of_same_cell p) ps) _ h) (omega (arith, m))
 pairs_of (p ∷ ps) h (suc i) zero d l m = absurd (omega (arith, l))
-pairs_of (p ∷ ps) h (suc i) (suc j) d l m = pairs_of ps (later (not (list_any (is_same_cell p) ps)) _ h) i j d (omega (arith, l)) (omega (arith, m))
+pairs_of (p ∷ ps) h (suc i) (suc j) d l m = pairs_of ps (later (not (list_any (is_promotion_of_same_cell p) ps)) _ h) i j d (omega (arith, l)) (omega (arith, m))
 
 pub promotions_differ : (lines : List Told) → all_differ lines ≡ true
-    → AllPairs (λ (one other : Promotion). is_same_cell one other ≡ false) (filter_map promotion_in lines)
+    → AllPairs (λ (one other : Promotion). is_promotion_of_same_cell one other ≡ false) (filter_map promotion_in lines)
 promotions_differ lines h = pairs_of (filter_map promotion_in lines) (cells_of lines h)

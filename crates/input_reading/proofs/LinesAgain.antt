@@ -18,8 +18,8 @@ use Rattle.cluster_types.specs.Fields.{leaf_name}
 use Rattle.cluster_types.specs.Texts.{node_name}
 use Rattle.cluster_types.specs.Valid.{IsValid}
 use Rattle.crm_lex.specs.Names.{is_name}
-use Rattle.input_reading.specs.Places.{Words, code_at, leaf_at, node_at, number_at, seconds_at, yes_at}
-use Rattle.input_reading.specs.Results.{answer_of, end_line, lost_line, quorum_line, report_line, result_word, timeout_line, up_line, wait_line}
+use Rattle.input_reading.specs.Places.{WordsOfLine, code_at, leaf_at, node_at, number_at, seconds_at, yes_at}
+use Rattle.input_reading.specs.Results.{answer_of, end_line, lost_line, quorum_answer, report_line, result_word, timeout_line, up_line, wait_line}
 use Rattle.input_reading.specs.LineWords.{action_word, action_word_at, id_at, line_word, pin_at, reason_of, target_at}
 use Rattle.input_reading.specs.RunReading.{aborted_line, answer_line, begin_line, complete_line, fence_at_end, held_line, lacking_line, line_of_words, migrate_from_at_end, migrate_to_at_end, monitor_at_end, number_alone, operation_at_end, pinned_line, plain_line, probe_at_end, target_line, transition_line, unexpected_line}
 use Rattle.input_reading.specs.Written.{IsActionOf, IsAnswerOf, IsLineOf, IsNumber}
@@ -28,28 +28,28 @@ use Rattle.input_reading.proofs.Numbers.{code_again, number_again, seconds_again
 use Rattle.input_reading.proofs.WordsOfLines.{line_words}
 
 -- what stands at a place
-number_is : (place : ℕ) (words : Words) (n : ℕ) → slice_get words place ≡ Some (decimal n) → IsNumber n → number_at place words ≡ Ok n
+number_is : (place : ℕ) (words : WordsOfLine) (n : ℕ) → slice_get words place ≡ Some (decimal n) → IsNumber n → number_at place words ≡ Ok n
 unfolding number_at
 number_is place words n there is = let read = number_again n is in rw (there, read) refl
 
-code_is : (place : ℕ) (words : Words) (n : ℕ) → slice_get words place ≡ Some (decimal n) → n < 256 → code_at place words ≡ Ok n
+code_is : (place : ℕ) (words : WordsOfLine) (n : ℕ) → slice_get words place ≡ Some (decimal n) → n < 256 → code_at place words ≡ Ok n
 unfolding code_at
 code_is place words n there low = let read = code_again n low in rw (there, read) refl
 
-seconds_is : (place : ℕ) (words : Words) (n : ℕ) → slice_get words place ≡ Some (decimal n) → n < 2 ^ 40 → seconds_at place words ≡ Ok n
+seconds_is : (place : ℕ) (words : WordsOfLine) (n : ℕ) → slice_get words place ≡ Some (decimal n) → n < 2 ^ 40 → seconds_at place words ≡ Ok n
 unfolding seconds_at
 seconds_is place words n there low = let read = seconds_again n low in rw (there, read) refl
 
-id_is : (place : ℕ) (words : Words) (id : List ℕ) → slice_get words place ≡ Some id → is_name id ≡ true → id_at place words ≡ Ok id
+id_is : (place : ℕ) (words : WordsOfLine) (id : List ℕ) → slice_get words place ≡ Some id → is_name id ≡ true → id_at place words ≡ Ok id
 unfolding id_at
 id_is place words id there is = rw (there, is) refl
 
 module _ (c : Cluster) (valid : IsValid c) where
-  node_is : (place : ℕ) (words : Words) (n : ℕ) → slice_get words place ≡ Some (node_name c n) → n < length c.nodes → node_at c place words ≡ Ok n
+  node_is : (place : ℕ) (words : WordsOfLine) (n : ℕ) → slice_get words place ≡ Some (node_name c n) → n < length c.nodes → node_at c place words ≡ Ok n
   unfolding node_at
   node_is place words n there h = let read = node_again c valid n h in rw (there, read) refl
 
-  leaf_is : (place : ℕ) (words : Words) (r : ℕ) → slice_get words place ≡ Some (leaf_name c r) → r < length c.leaves → leaf_at c place words ≡ Ok r
+  leaf_is : (place : ℕ) (words : WordsOfLine) (r : ℕ) → slice_get words place ≡ Some (leaf_name c r) → r < length c.leaves → leaf_at c place words ≡ Ok r
   unfolding leaf_at
   leaf_is place words r there h = let read = leaf_again c valid r h in rw (there, read) refl
 
@@ -84,7 +84,7 @@ module _ (c : Cluster) (valid : IsValid c) where
       rw (number_is 1 ws k refl h, leaf_is 3 ws r refl (g.0).leaf, node_is 4 ws source refl (g.0).node, node_is 5 ws target refl g.1) refl
 
   taken_again : (given : Answer) → IsAnswerOf c given → line_of_words c (line_words c (line.Taken given)) ≡ Ok (line.Taken given)
-  unfolding line_of_words line_word answer_line answer_of result_word end_line timeout_line lost_line up_line quorum_line wait_line report_line yes_at
+  unfolding line_of_words line_word answer_line answer_of result_word end_line timeout_line lost_line up_line quorum_answer wait_line report_line yes_at
   taken_again (answer.End k code) h =
       let ws = line_words c (line.Taken (answer.End k code)) in
       rw (number_is 1 ws k refl h.0, code_is 2 ws code refl h.1) refl

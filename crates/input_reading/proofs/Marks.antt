@@ -4,20 +4,20 @@ use Rattle.std.specs.List.{position_or_len}
 use Rattle.std.proofs.lemmas.List.Sums.{prefix_len-le-length}
 use Rattle.crm_lex.specs.declared.line.Line.{Line}
 use Rattle.crm_parse.specs.declared.marks.SectionMarks.{SectionMarks}
-use Rattle.crm_parse.specs.Marks.{audit_sections_of, begins_with, last_at, misplaced, sections_of, status_at, unless}
+use Rattle.crm_parse.specs.Marks.{audit_sections_of, begins_with, last_at, misplaced, sections_of, status_at, marks_unless}
 use Rattle.faults.specs.declared.fault.Fault.{Fault}
 use Rattle.faults.specs.Reading.{Gives, faulting}
 use Rattle.faults.proofs.Steps.{bind-ok, faulting-ok}
-use Rattle.input_reading.specs.declared.cause.InputCause.{InputCause}
-use Rattle.input_reading.specs.declared.cause.InputCause.TheVariants as cause
-use Rattle.input_reading.specs.declared.sections.LastSection.{LastSection}
-use Rattle.input_reading.specs.declared.sections.LastSection.TheVariants.{Results, Trace}
+use Rattle.input_reading.specs.declared.input.cause.InputCause.{InputCause}
+use Rattle.input_reading.specs.declared.input.cause.InputCause.TheVariants as cause
+use Rattle.input_reading.specs.declared.input.sections.LastSection.{LastSection}
+use Rattle.input_reading.specs.declared.input.sections.LastSection.TheVariants.{Results, Trace}
 use Rattle.input_reading.specs.Sections.{sections_by}
 
 pub position_within : {X : Type 0} (p : X → Bool) (xs : List X) → position_or_len p xs ≤ length xs
 position_within p xs = prefix_len-le-length (λ x. not (p x)) xs
 
-unless_given : {Marks : Type 0} (wrong : Option ℕ) (one other : Marks) → unless wrong one ≡ Ok other → one ≡ other
+unless_given : {Marks : Type 0} (wrong : Option ℕ) (one other : Marks) → marks_unless wrong one ≡ Ok other → one ≡ other
 unless_given None one other e = cc
 unless_given (Some line) one other e = absurd cc
 

@@ -14,7 +14,7 @@ use Rattle.cluster_types.specs.Texts.{node_name}
 use Rattle.cluster_types.specs.Valid.{IsValid}
 use Rattle.crm_lex.specs.Names.{is, is_name}
 use Rattle.crm_parse.proofs.Binds.{is-true, is-same}
-use Rattle.input_reading.specs.Names.{leaf_of, node_of, place_of}
+use Rattle.input_reading.specs.Names.{leaf_of_word, node_of_word, place_of_first}
 
 -- what stands at a place
 found_at : {X : Type 0} (xs : List X) (n : ℕ) → n < length xs → (x : X) × (slice_get xs n ≡ Some x)
@@ -23,7 +23,7 @@ found_at (x ∷ xs) zero h = (x, refl)
 found_at (x ∷ xs) (suc n) h = found_at xs n (omega (arith, h))
 
 module _ {X : Type 0} (name_of : X → List ℕ) (xs : List X) (apart : AllPairs (λ (one other : X). name_of one ≢ name_of other) xs) where
-  place_again : (n : ℕ) (x : X) → slice_get xs n ≡ Some x → place_of (λ y. is (name_of y) (name_of x)) xs ≡ Some n
+  place_again : (n : ℕ) (x : X) → slice_get xs n ≡ Some x → place_of_first (λ y. is (name_of y) (name_of x)) xs ≡ Some n
   place_again n x e =
       let within : n < length xs = slice_get_within xs n x e in
       let at : get_or xs n x ≡ x = get_or_from_slice_get xs n x x e in
@@ -37,12 +37,12 @@ module _ {X : Type 0} (name_of : X → List ℕ) (xs : List X) (apart : AllPairs
       rw (place, yes) refl
 
 module _ (c : Cluster) (valid : IsValid c) where
-  pub node_again : (n : ℕ) → n < length c.nodes → node_of c (node_name c n) ≡ Some n
+  pub node_again : (n : ℕ) → n < length c.nodes → node_of_word c (node_name c n) ≡ Some n
   node_again n h =
       let (node, e) = found_at c.nodes n h in
       rw e (place_again (λ (node : Node). node.name) c.nodes valid.node_names n node e)
 
-  pub leaf_again : (r : ℕ) → r < length c.leaves → leaf_of c (leaf_name c r) ≡ Some r
+  pub leaf_again : (r : ℕ) → r < length c.leaves → leaf_of_word c (leaf_name c r) ≡ Some r
   leaf_again r h =
       let (leaf, e) = found_at c.leaves r h in
       rw e (place_again (λ (leaf : Leaf). leaf.name) c.leaves valid.leaf_names r leaf e)

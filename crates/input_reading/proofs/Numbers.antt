@@ -10,7 +10,7 @@ use Rattle.std.proofs.lemmas.Fmt.{decimal_nonempty, digits_decimal, digits_value
 use Rattle.crm_lex.specs.Names.{is_name, is_name_byte}
 use Rattle.faults.specs.Digits.{number_up_to}
 use Rattle.faults.proofs.Numbers.{digits, is_number-true}
-use Rattle.input_reading.specs.Numbers.{above_0, code_of, number_of, seconds_of}
+use Rattle.input_reading.specs.Numbers.{above_0, read_exit_code, read_action_number, read_seconds}
 use Rattle.input_reading.specs.Written.{IsNumber}
 
 up_to_again : (most n : ℕ) → n ≤ most → n < 2 ^ 64 → number_up_to most (decimal n) ≡ Some n
@@ -19,16 +19,16 @@ up_to_again most n le h =
     let is = is_number-true most (decimal n) (digits_decimal digits n h) (decimal_nonempty n h) (omega (arith, value, le)) in
     rw is (ap Some value)
 
-pub number_again : (n : ℕ) → IsNumber n → number_of (decimal n) ≡ Some n
+pub number_again : (n : ℕ) → IsNumber n → read_action_number (decimal n) ≡ Some n
 number_again n is =
     let read : number_up_to 4294967295 (decimal n) ≡ Some n = up_to_again 4294967295 n (omega (arith, is.high)) (omega (arith, is.high)) in
     let above : (n == 0) ≡ false = (let low = is.low in grind (arith, nat_tests)) in
     ap above_0 read ∙ rw above refl
 
-pub code_again : (code : ℕ) → code < 256 → code_of (decimal code) ≡ Some code
+pub code_again : (code : ℕ) → code < 256 → read_exit_code (decimal code) ≡ Some code
 code_again code h = up_to_again 255 code (omega (arith, h)) (omega (arith, h))
 
-pub seconds_again : (seconds : ℕ) → seconds < 2 ^ 40 → seconds_of (decimal seconds) ≡ Some seconds
+pub seconds_again : (seconds : ℕ) → seconds < 2 ^ 40 → read_seconds (decimal seconds) ≡ Some seconds
 seconds_again seconds h = up_to_again 1099511627775 seconds (omega (arith, h)) (omega (arith, h))
 
 digit_byte : (b : ℕ) → is_ascii_digit b ≡ true → is_name_byte b ≡ true

@@ -18,18 +18,18 @@ use Rattle.cluster_types.specs.Fields.{monitors}
 use Rattle.cluster_types.specs.Answering.{role_of_interval}
 use Rattle.cluster_types.specs.Journals.{Orderly, in_flight, is_reported}
 use Rattle.faults.specs.Reading.{◌>>=◌, faulting, on_line}
-use Rattle.input_reading.specs.Places.{Words, end_at, leaf_at, node_at, seconds_at, word_at, yes_at}
+use Rattle.input_reading.specs.Places.{WordsOfLine, line_end_at, leaf_at, node_at, seconds_at, word_at, yes_at}
 use Rattle.input_reading.proofs.Bounds.{node_known, seconds_small}
 use Rattle.input_reading.proofs.Steps.{any_step, either_way, step}
 use Rattle.input_reading.specs.FirstJournal as journals
-use Rattle.input_reading.specs.FirstJournal.{is_known, is_repeated, status_of}
+use Rattle.input_reading.specs.FirstJournal.{is_known, is_repeated, status_journal}
 use Rattle.input_reading.specs.HistoryCauses.{status_cause}
-use Rattle.input_reading.specs.Status.{action_as, cleanup_line, interval_at, node_line, now_line, op_at, op_line, outcome_at, promotable_at, promotion_line, quorum_line, score_at, state_at, status_word, told_as, told_of}
+use Rattle.input_reading.specs.Status.{history_action, cleanup_line, interval_at, node_line, now_line, op_at, op_line, outcome_at, promotable_at, promotion_line, quorum_line, score_at, state_at, status_word, told_as, told_of}
 use Rattle.input_reading.proofs.FirstJournals.{journal_in_order, journal_is_idle, one_more_known}
 
 -- what an operation says of its node
 action_known : (c : Cluster) (op : Op) (r n interval : ℕ) (outcome : Outcome) (moment : ℕ) → nat_lt n (length c.nodes) ≡ true
-    → is_reported (length c.nodes) (Ended 0 (action_as c op r n interval) outcome moment) ≡ true
+    → is_reported (length c.nodes) (Ended 0 (history_action c op r n interval) outcome moment) ≡ true
 action_known c Start r n interval outcome moment h = h
 action_known c Stop r n interval outcome moment h = h
 action_known c Promote r n interval outcome moment h = h
@@ -45,41 +45,41 @@ action_known c Monitor r n interval outcome moment h = probe_known (interval == 
     probe_known false = h
 
 -- each form of a line
-now_known : (n : ℕ) (words : Words) → IfOk (now_line words) (λ t. is_known n t ≡ true)
+now_known : (n : ℕ) (words : WordsOfLine) → IfOk (now_line words) (λ t. is_known n t ≡ true)
 unfolding now_line
-now_known n words = step _ _ (seconds_at 1 words) _ (seconds_small 1 words) (λ seconds h. any_step _ (end_at 2 words) _ (λ u. h))
+now_known n words = step _ _ (seconds_at 1 words) _ (seconds_small 1 words) (λ seconds h. any_step _ (line_end_at 2 words) _ (λ u. h))
 
-quorum_known : (n : ℕ) (words : Words) → IfOk (quorum_line words) (λ t. is_known n t ≡ true)
+quorum_known : (n : ℕ) (words : WordsOfLine) → IfOk (quorum_line words) (λ t. is_known n t ≡ true)
 unfolding quorum_line
-quorum_known n words = any_step _ (yes_at 1 words) _ (λ now. any_step _ (end_at 2 words) _ (λ u. refl))
+quorum_known n words = any_step _ (yes_at 1 words) _ (λ now. any_step _ (line_end_at 2 words) _ (λ u. refl))
 
-state_known : (c : Cluster) (n : ℕ) (words : Words) → IfOk (node_line c words) (λ t. is_known n t ≡ true)
+state_known : (c : Cluster) (n : ℕ) (words : WordsOfLine) → IfOk (node_line c words) (λ t. is_known n t ≡ true)
 unfolding node_line
 state_known c n words =
-    any_step _ (node_at c 1 words) _ (λ node. any_step _ (state_at 2 words) _ (λ state. any_step _ (end_at 3 words) _ (λ u. refl)))
+    any_step _ (node_at c 1 words) _ (λ node. any_step _ (state_at 2 words) _ (λ state. any_step _ (line_end_at 3 words) _ (λ u. refl)))
 
-op_known : (c : Cluster) (words : Words) → IfOk (op_line c words) (λ t. is_known (length c.nodes) t ≡ true)
+op_known : (c : Cluster) (words : WordsOfLine) → IfOk (op_line c words) (λ t. is_known (length c.nodes) t ≡ true)
 unfolding op_line
 op_known c words =
     step _ _ (node_at c 1 words) _ (node_known c 1 words) (λ node h. any_step _ (leaf_at c 2 words) _ (λ leaf.
     any_step _ (op_at c leaf 3 words) _ (λ op. any_step _ (interval_at op 4 words) _ (λ interval.
     any_step _ (outcome_at 5 words) _ (λ outcome. any_step _ (seconds_at 6 words) _ (λ moment.
-    any_step _ (end_at 7 words) _ (λ u. action_known c op leaf node interval outcome moment h)))))))
+    any_step _ (line_end_at 7 words) _ (λ u. action_known c op leaf node interval outcome moment h)))))))
 
-cleanup_known : (c : Cluster) (words : Words) → IfOk (cleanup_line c words) (λ t. is_known (length c.nodes) t ≡ true)
+cleanup_known : (c : Cluster) (words : WordsOfLine) → IfOk (cleanup_line c words) (λ t. is_known (length c.nodes) t ≡ true)
 unfolding cleanup_line
 cleanup_known c words =
     step _ _ (node_at c 1 words) _ (node_known c 1 words) (λ node h. any_step _ (leaf_at c 2 words) _ (λ leaf.
-    any_step _ (end_at 3 words) _ (λ u. h)))
+    any_step _ (line_end_at 3 words) _ (λ u. h)))
 
-promotion_known : (c : Cluster) (n : ℕ) (words : Words) → IfOk (promotion_line c words) (λ t. is_known n t ≡ true)
+promotion_known : (c : Cluster) (n : ℕ) (words : WordsOfLine) → IfOk (promotion_line c words) (λ t. is_known n t ≡ true)
 unfolding promotion_line
 promotion_known c n words =
     any_step _ (node_at c 1 words) _ (λ node. any_step _ (promotable_at c 2 words) _ (λ leaf. any_step _ (score_at 3 words) _ (λ score.
-    any_step _ (end_at 4 words) _ (λ u. refl))))
+    any_step _ (line_end_at 4 words) _ (λ u. refl))))
 
 -- and so each line
-form_known : (c : Cluster) (words : Words) (word : List ℕ)
+form_known : (c : Cluster) (words : WordsOfLine) (word : List ℕ)
     → IfOk (status_word word) (λ form. IfOk (told_as c form words) (λ t. is_known (length c.nodes) t ≡ true))
 unfolding status_word
 form_known c words word =
@@ -89,7 +89,7 @@ form_known c words word =
     (either_way _ (is word (codes "cleanup")) _ _ (cleanup_known c words)
     (either_way _ (is word (codes "promotion")) _ _ (promotion_known c n words) tt)))))
 
-told_known : (c : Cluster) (words : Words) → IfOk (told_of c words) (λ t. is_known (length c.nodes) t ≡ true)
+told_known : (c : Cluster) (words : WordsOfLine) → IfOk (told_of c words) (λ t. is_known (length c.nodes) t ≡ true)
 unfolding told_of
 told_known c words =
     any_step _ (word_at 0 words) _ (λ word. step _ _ (status_word word) _ (form_known c words word) (λ form h. h))
@@ -106,10 +106,10 @@ module _ {S L F : Type 0} (Kept : S → Type 0) (next : S → L → Result S F) 
       (step Kept Kept (next s l) (λ more. run more ls) (each s l h) (λ more k. all_kept more ls k))
 
 lines_known : (c : Cluster) (lines : List Line)
-    → IfOk (journals.with_lines c [] lines) (λ told. list_all (is_known (length c.nodes)) told ≡ true)
+    → IfOk (journals.with_status_lines c [] lines) (λ told. list_all (is_known (length c.nodes)) told ≡ true)
 lines_known c lines =
     let n = length c.nodes in
-    all_kept (λ told. list_all (is_known n) told ≡ true) (journals.with_line c) (journals.with_lines c) (λ s. refl) (λ s l ls. refl)
+    all_kept (λ told. list_all (is_known n) told ≡ true) (journals.with_status_line c) (journals.with_status_lines c) (λ s. refl) (λ s l ls. refl)
     (λ s l h.
     by_result (λ r. IfOk r (λ t. is_known n t ≡ true) → IfOk (faulting status_cause (on_line l.line r) >>= journals.with_told s l.line) (λ told. list_all (is_known n) told ≡ true))
     (λ x k. either_way _ (is_repeated s x) _ _ tt (one_more_known n s x h k)) (λ why k. tt) (told_of c l.words) (told_known c l.words))
@@ -117,17 +117,17 @@ lines_known c lines =
 
 -- what holds of the events of what they tell holds of the journal
 by_lines : (c : Cluster) (P : List Event → Type 0) (lines : List Line) (journal : Journal)
-    → IfOk (journals.with_lines c [] lines) (λ told. P (journals.events_of c told)) → status_of c lines ≡ Ok journal → P journal.events
+    → IfOk (journals.with_status_lines c [] lines) (λ told. P (journals.events_of c told)) → status_journal c lines ≡ Ok journal → P journal.events
 by_lines c P lines journal =
     by_result (λ r. IfOk r (λ told. P (journals.events_of c told)) → (r >>= (λ told. Ok (journals.journal_of c told))) ≡ Ok journal → P journal.events)
     (λ told h e. let same : journals.journal_of c told ≡ journal = cc in subst (λ (j : Journal). P j.events) same h)
-    (λ fault h e. absurd cc) (journals.with_lines c [] lines)
+    (λ fault h e. absurd cc) (journals.with_status_lines c [] lines)
 
-pub journal_orderly : (c : Cluster) (lines : List Line) (journal : Journal) → status_of c lines ≡ Ok journal → Orderly journal.events
+pub journal_orderly : (c : Cluster) (lines : List Line) (journal : Journal) → status_journal c lines ≡ Ok journal → Orderly journal.events
 journal_orderly c lines journal =
-    by_lines c Orderly lines journal (IfOk-weaker (journals.with_lines c [] lines) _ _ (journal_in_order c) (lines_known c lines))
+    by_lines c Orderly lines journal (IfOk-weaker (journals.with_status_lines c [] lines) _ _ (journal_in_order c) (lines_known c lines))
 
-pub journal_idle : (c : Cluster) (lines : List Line) (journal : Journal) → status_of c lines ≡ Ok journal → in_flight journal.events ≡ []
+pub journal_idle : (c : Cluster) (lines : List Line) (journal : Journal) → status_journal c lines ≡ Ok journal → in_flight journal.events ≡ []
 journal_idle c lines journal =
     by_lines c (λ es. in_flight es ≡ []) lines journal
-    (IfOk-weaker (journals.with_lines c [] lines) _ _ (journal_is_idle c) (lines_known c lines))
+    (IfOk-weaker (journals.with_status_lines c [] lines) _ _ (journal_is_idle c) (lines_known c lines))

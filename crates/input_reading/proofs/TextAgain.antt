@@ -19,16 +19,16 @@ use Rattle.cluster_types.specs.Texts.{run_line}
 use Rattle.cluster_types.specs.Valid.{IsValid}
 use Rattle.crm_lex.specs.Names.{is_name, is_name_byte}
 use Rattle.crm_lex.specs.Reading.{reads}
-use Rattle.crm_parse.proofs.Clean.{EachClean, clean-name}
-use Rattle.crm_parse.specs.Items.{word}
-use Rattle.crm_parse.specs.Quoting.{Item, begins_with_hash, is_plain, item_word, line_of, needs_quotes, quoted, spaced}
-use Rattle.crm_parse.proofs.Lines.{is_filled}
-use Rattle.crm_parse.proofs.TextReads.{Readable, ended_lines, text-reads}
-use Rattle.crm_parse.proofs.TextReads as text
-use Rattle.input_reading.specs.Places.{Words}
-use Rattle.input_reading.specs.declared.text.RunTextLine.{RunTextLine}
-use Rattle.input_reading.specs.RunReading.{text_line, with_lines}
-use Rattle.input_reading.specs.Written.{IsActionOf, IsAnswerOf, IsLineOf, IsNumber, ReadsAgain, numbered}
+use Rattle.crm_print.proofs.Clean.{EachClean, clean-name}
+use Rattle.crm_print.specs.Items.{word}
+use Rattle.crm_print.specs.Quoting.{Item, begins_with_hash, is_plain, item_word, items_line, needs_quotes, quoted, spaced}
+use Rattle.crm_print.proofs.Lines.{is_filled}
+use Rattle.crm_print.proofs.TextReads.{Readable, ended_lines, text-reads}
+use Rattle.crm_print.proofs.TextReads as text
+use Rattle.input_reading.specs.Places.{WordsOfLine}
+use Rattle.input_reading.specs.declared.run.text.RunTextLine.{RunTextLine}
+use Rattle.input_reading.specs.RunReading.{text_line, with_run_lines}
+use Rattle.input_reading.specs.Written.{IsActionOf, IsAnswerOf, IsLineOf, IsNumber, ReadsAgain, with_line_numbers}
 use Rattle.input_reading.proofs.LinesAgain.{line_again}
 use Rattle.input_reading.proofs.Names.{leaf_is_name, node_is_name}
 use Rattle.input_reading.proofs.Numbers.{number_is_name}
@@ -84,29 +84,29 @@ written_name : (w : List ℕ) → IsName w → quoted w ++ [] ≡ w
 written_name w h = let plain = plain_name w h in rw plain (append-nil w)
 
 -- names behind spaces
-spaced-names : (ws : Words) → AllByRecursion IsName ws → flat_map spaced (map word ws) ≡ flat_map (λ (w : List ℕ). 32 ∷ w) ws
+spaced-names : (ws : WordsOfLine) → AllByRecursion IsName ws → flat_map spaced (map word ws) ≡ flat_map (λ (w : List ℕ). 32 ∷ w) ws
 spaced-names [] h = refl
 spaced-names (w ∷ ws) h =
     let first = written_name w h.0 in
     let rest = spaced-names ws h.1 in
     rw (first, rest) refl
 
-line-names : (ws : Words) → AllByRecursion IsName ws → line_of (map word ws) ≡ joined ws
+line-names : (ws : WordsOfLine) → AllByRecursion IsName ws → items_line (map word ws) ≡ joined ws
 line-names [] h = refl
 line-names (w ∷ ws) h =
     let first = written_name w h.0 in
     let rest = spaced-names ws h.1 in
     rw (first, rest) refl
 
-filled-names : (ws : Words) → list_all is_filled (map word ws) ≡ true
+filled-names : (ws : WordsOfLine) → list_all is_filled (map word ws) ≡ true
 filled-names [] = refl
 filled-names (w ∷ ws) = filled-names ws
 
-clean-names : (ws : Words) → AllByRecursion IsName ws → EachClean (map word ws)
+clean-names : (ws : WordsOfLine) → AllByRecursion IsName ws → EachClean (map word ws)
 clean-names [] h = tt
 clean-names (w ∷ ws) h = ((clean-name w h.0, tt), clean-names ws h.1)
 
-short-names : (ws : Words) → AllByRecursion IsName ws → length (flat_map (λ (w : List ℕ). 32 ∷ w) ws) ≤ 257 * length ws
+short-names : (ws : WordsOfLine) → AllByRecursion IsName ws → length (flat_map (λ (w : List ℕ). 32 ∷ w) ws) ≤ 257 * length ws
 short-names [] h = omega arith
 short-names (w ∷ ws) h =
     let first = short_name w h.0 in
@@ -114,7 +114,7 @@ short-names (w ∷ ws) h =
     omega (arith, length-append (32 ∷ w) (flat_map (λ (v : List ℕ). 32 ∷ v) ws))
 
 -- a line of a few names can be read
-readable-names : (w : List ℕ) (ws : Words) → AllByRecursion IsName (w ∷ ws) → length ws ≤ 8 → Readable (map word (w ∷ ws))
+readable-names : (w : List ℕ) (ws : WordsOfLine) → AllByRecursion IsName (w ∷ ws) → length ws ≤ 8 → Readable (map word (w ∷ ws))
 readable-names w ws h few =
     let first = short_name w h.0 in
     let rest = short-names ws h.1 in
@@ -184,13 +184,13 @@ module _ (c : Cluster) (valid : IsValid c) where
   line_names (line.Unexpected l) h = (refl, (number_name l h, tt))
 
 -- no line has many words
-record Few (ws : Words) : Type 0 where
+record Few (ws : WordsOfLine) : Type 0 where
   first : List ℕ
-  others : Words
+  others : WordsOfLine
   are : ws ≡ first ∷ others
   few : length others ≤ 8
 
-few : (w : List ℕ) (ws : Words) → length ws ≤ 8 → Few (w ∷ ws)
+few : (w : List ℕ) (ws : WordsOfLine) → length ws ≤ 8 → Few (w ∷ ws)
 few w ws h = record { first = w; others = ws; are = refl; few = h }
 
 module _ (c : Cluster) where
@@ -233,7 +233,7 @@ module _ (c : Cluster) where
   abbrev items : RunLine → List Item
   items l = map word (line_words c l)
 
-words-again : (ws : Words) → map item_word (map word ws) ≡ ws
+words-again : (ws : WordsOfLine) → map item_word (map word ws) ≡ ws
 words-again [] = refl
 words-again (w ∷ ws) = let first : item_word (word w) ≡ w = append-nil w in let rest = words-again ws in rw (first, rest) refl
 
@@ -251,7 +251,7 @@ module _ (c : Cluster) (valid : IsValid c) where
   text_is : (lines : List RunLine) → AllByRecursion (IsLineOf c) lines → flat_map (run_line c) lines ≡ ended_lines (map (items c) lines)
   text_is [] h = refl
   text_is (l ∷ lines) h =
-      let first : run_line c l ≡ line_of (items c l) ++ 10 ∷ []
+      let first : run_line c l ≡ items_line (items c l) ++ 10 ∷ []
       = line-joined c l ∙ ap (λ t. t ++ 10 ∷ []) (sym (line-names (line_words c l) (line_names c valid l h.0))) in
       let rest = text_is lines h.1 in
       rw (first, rest) refl
@@ -264,13 +264,13 @@ module _ (c : Cluster) (valid : IsValid c) where
       rw (words, same) refl
 
   lines_again : (at : ℕ) (so_far : List RunTextLine) (lines : List RunLine) → AllByRecursion (IsLineOf c) lines
-      → with_lines c so_far (text.numbered at (map (items c) lines)) ≡ Ok (so_far ++ numbered at lines)
+      → with_run_lines c so_far (text.numbered at (map (items c) lines)) ≡ Ok (so_far ++ with_line_numbers at lines)
   lines_again at so_far [] h = ap Ok (sym (append-nil so_far))
   lines_again at so_far (l ∷ lines) h =
       let first = one_again at l h.0 in
       let one : RunTextLine = record { line = at; what = l } in
       let rest = lines_again (at + 1) (so_far ++ one ∷ []) lines h.1 in
-      rw first (rest ∙ ap Ok (append_assoc so_far (one ∷ []) (numbered (at + 1) lines)))
+      rw first (rest ∙ ap Ok (append_assoc so_far (one ∷ []) (with_line_numbers (at + 1) lines)))
 
   pub text_again : (lines : List RunLine) → AllByRecursion (IsLineOf c) lines → ReadsAgain c lines
   text_again lines h = record {

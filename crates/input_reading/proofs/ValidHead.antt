@@ -10,10 +10,10 @@ use Rattle.input_reading.proofs.StatusJournals.{journal_idle, journal_orderly}
 use Rattle.faults.specs.declared.fault.Fault.{Fault}
 use Rattle.faults.specs.Reading.{Gives}
 use Rattle.lemmas.proofs.Results.{by_result}
-use Rattle.input_reading.specs.declared.cause.InputCause.{InputCause}
-use Rattle.input_reading.specs.declared.cause.InputCause.TheVariants as cause
-use Rattle.input_reading.specs.declared.reading.Configuration.{Configuration}
-use Rattle.input_reading.specs.declared.reading.Head.{Head}
+use Rattle.input_reading.specs.declared.input.cause.InputCause.{InputCause}
+use Rattle.input_reading.specs.declared.input.cause.InputCause.TheVariants as cause
+use Rattle.input_reading.specs.declared.input.reading.Configuration.{Configuration}
+use Rattle.input_reading.specs.declared.input.reading.Head.{Head}
 use Rattle.input_reading.specs.Reading.{configuration_of, head_of, start_of, status_lines}
 use Rattle.input_reading.proofs.ValidInput.{head_made, passed, passed_on, read_from}
 

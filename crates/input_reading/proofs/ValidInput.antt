@@ -6,7 +6,7 @@ use Rattle.crm_parse.specs.declared.fault.ParseCause.{ParseCause}
 use Rattle.crm_parse.specs.declared.marks.SectionMarks.{SectionMarks}
 use Rattle.crm_parse.specs.declared.statement.Crm.{Crm}
 use Rattle.crm_parse.specs.declared.statement.Statement.{Statement}
-use Rattle.cluster_model.specs.declared.leaves.Leaves.{Leaves}
+use Rattle.cluster_model.specs.declared.expansion.leaves.Leaves.{Leaves}
 use Rattle.crm_parse.specs.Marks.{sections_of}
 use Rattle.crm_parse.specs.Statements.{statements_of}
 use Rattle.cluster_model.specs.Expansion.{expansion_of}
@@ -15,7 +15,7 @@ use Rattle.cluster_model.proofs.ValidCluster.{resolved_valid}
 use Rattle.cluster_types.specs.declared.cluster.Cluster.{Cluster}
 use Rattle.cluster_types.specs.Journals.{Orderly, in_flight, moment_of}
 use Rattle.cluster_types.specs.Valid.{IsValid}
-use Rattle.input_reading.specs.FirstJournal.{status_of}
+use Rattle.input_reading.specs.FirstJournal.{status_journal}
 use Rattle.input_reading.specs.Results.{most_results, results_of}
 use Rattle.input_reading.proofs.StatusJournals.{journal_idle, journal_orderly}
 use Rattle.faults.specs.declared.fault.Fault.{Fault}
@@ -23,12 +23,12 @@ use Rattle.faults.specs.Reading.{Gives, faulting, ◌>>=◌}
 use Rattle.faults.proofs.Steps.{faulting-ok}
 use Rattle.lemmas.proofs.Results.{by_result}
 use Rattle.input_reading.proofs.FewResults.{few_results}
-use Rattle.input_reading.specs.declared.cause.InputCause.{InputCause}
-use Rattle.input_reading.specs.declared.cause.InputCause.TheVariants as cause
-use Rattle.input_reading.specs.declared.reading.Configuration.{Configuration}
-use Rattle.input_reading.specs.declared.reading.Head.{Head}
-use Rattle.input_reading.specs.declared.reading.Input.{Input}
-use Rattle.input_reading.specs.Reading.{Reads, configuration_lines, configuration_of, following_lines, head_of, input_of, status_lines, with_cluster, with_results}
+use Rattle.input_reading.specs.declared.input.cause.InputCause.{InputCause}
+use Rattle.input_reading.specs.declared.input.cause.InputCause.TheVariants as cause
+use Rattle.input_reading.specs.declared.input.reading.Configuration.{Configuration}
+use Rattle.input_reading.specs.declared.input.reading.Head.{Head}
+use Rattle.input_reading.specs.declared.input.reading.Input.{Input}
+use Rattle.input_reading.specs.Reading.{ReadsInput, configuration_lines, configuration_of, following_lines, head_of, input_of, status_lines, with_cluster, with_results}
 
 -- a step that was passed: what it gave, and what the steps behind it give
 pub record IsPassed {A B F : Type 0} (step : Result A F) (next : A → Result B (Fault InputCause)) (end : B) : Type 0 where
@@ -72,18 +72,18 @@ read_from sections text found e =
 record IsMade (cluster : Cluster) (input : Input) : Type 0 where
   same : input.head.cluster ≡ cluster
   lines : List Line
-  journal : status_of cluster lines ≡ Ok input.head.journal
+  journal : status_journal cluster lines ≡ Ok input.head.journal
   few : length input.results ≤ 10000
 
 -- the head of some lines
 pub record IsHead (cluster : Cluster) (lines : List Line) (head : Head) : Type 0 where
   pub same : head.cluster ≡ cluster
-  pub journal : status_of cluster lines ≡ Ok head.journal
+  pub journal : status_journal cluster lines ≡ Ok head.journal
 
 pub head_made : (crm : Crm) (cluster : Cluster) (lines : List Line) (head : Head) → head_of crm cluster lines ≡ Ok head → IsHead cluster lines head
 unfolding head_of
 head_made crm cluster lines head e =
-    let journal = passed cause.Status (status_of cluster lines) _ head e in
+    let journal = passed cause.Status (status_journal cluster lines) _ head e in
     let made : head ≡ record { crm = crm; cluster = cluster; journal = journal.gave } = cc in
     rw made (record { same = refl; journal = journal.is })
 
@@ -122,7 +122,7 @@ pub record IsStepped (text : List ℕ) (input : Input) : Type 0 where
   pub resolves : resolution_of found.leaves found.crm.statements ≡ Ok cluster
   pub made : with_cluster with_results found cluster ≡ Ok input
 
-pub stepped : (text : List ℕ) (input : Input) → Reads text input → IsStepped text input
+pub stepped : (text : List ℕ) (input : Input) → ReadsInput text input → IsStepped text input
 unfolding input_of
 stepped text input r =
     let found = passed_on (configuration_of sections_of text) _ input r in
@@ -130,7 +130,7 @@ stepped text input r =
     record { found = found.gave; cluster = cluster.gave; configuration = found.is; resolves = cluster.is; made = cluster.goes_on }
 
 -- what is read is valid
-module _ (text : List ℕ) (input : Input) (r : Reads text input) where
+module _ (text : List ℕ) (input : Input) (r : ReadsInput text input) where
   steps : IsStepped text input
   steps = stepped text input r
 

@@ -10,14 +10,14 @@ use Rattle.input_reading.proofs.StatusJournals.{journal_idle, journal_orderly}
 use Rattle.faults.specs.declared.fault.Fault.{Fault}
 use Rattle.faults.specs.Reading.{Gives}
 use Rattle.lemmas.proofs.Results.{by_result}
-use Rattle.input_reading.specs.RunReading.{lines_of}
+use Rattle.input_reading.specs.RunReading.{read_run_lines}
 use Rattle.input_reading.specs.Written.{AreNamed}
 use Rattle.input_reading.proofs.NamedLines.{read_named}
-use Rattle.input_reading.specs.declared.cause.InputCause.{InputCause}
-use Rattle.input_reading.specs.declared.cause.InputCause.TheVariants as cause
-use Rattle.input_reading.specs.declared.reading.Configuration.{Configuration}
-use Rattle.input_reading.specs.declared.reading.Head.{Head}
-use Rattle.input_reading.specs.declared.trace.Trace.{Trace}
+use Rattle.input_reading.specs.declared.input.cause.InputCause.{InputCause}
+use Rattle.input_reading.specs.declared.input.cause.InputCause.TheVariants as cause
+use Rattle.input_reading.specs.declared.input.reading.Configuration.{Configuration}
+use Rattle.input_reading.specs.declared.input.reading.Head.{Head}
+use Rattle.input_reading.specs.declared.input.trace.Trace.{Trace}
 use Rattle.input_reading.specs.Reading.{configuration_of, following_lines, head_of, line_behind, status_lines}
 use Rattle.input_reading.specs.Sections.{sections_with_trace}
 use Rattle.input_reading.specs.Traces.{ReadsTrace, trace_of, with_run}
@@ -31,17 +31,17 @@ record IsStepped (text : List ℕ) (trace : Trace) : Type 0 where
   resolves : resolution_of found.leaves found.crm.statements ≡ Ok cluster
   head : head_of found.crm cluster (status_lines found.marks found.lines) ≡ Ok trace.head
   lines : List Line
-  run : lines_of trace.head.cluster lines ≡ Ok trace.run.lines
+  run : read_run_lines trace.head.cluster lines ≡ Ok trace.run.lines
 
 -- the lines of a run behind a head
 record IsRunBehind (head : Head) (lines : List Line) (trace : Trace) : Type 0 where
   same : head ≡ trace.head
-  run : lines_of head.cluster lines ≡ Ok trace.run.lines
+  run : read_run_lines head.cluster lines ≡ Ok trace.run.lines
 
 run_behind : (after : ℕ) (head : Head) (lines : List Line) (trace : Trace) → with_run after head lines ≡ Ok trace → IsRunBehind head lines trace
 unfolding with_run
 run_behind after head lines trace e =
-    let run = passed cause.Run (lines_of head.cluster lines) _ trace e in
+    let run = passed cause.Run (read_run_lines head.cluster lines) _ trace e in
     let made : record { head = head; run = record { lines = run.gave }; after = after } ≡ trace = cc in
     subst (λ (t : Trace). IsRunBehind head lines t) made (record { same = refl; run = run.is })
 
@@ -62,7 +62,7 @@ stepped text trace r =
       resolves = cluster.is;
       head = subst (λ (h : Head). head_of found.gave.crm cluster.gave status ≡ Ok h) run.same head.is;
       lines = behind;
-      run = subst (λ (h : Head). lines_of h.cluster behind ≡ Ok trace.run.lines) run.same run.run;
+      run = subst (λ (h : Head). read_run_lines h.cluster behind ≡ Ok trace.run.lines) run.same run.run;
     }
 
 module _ (text : List ℕ) (trace : Trace) (r : ReadsTrace text trace) where

@@ -14,14 +14,14 @@ use Rattle.cluster_types.specs.declared.run.RunLine.{RunLine}
 use Rattle.cluster_types.specs.declared.run.RunLine.TheVariants as line
 use Rattle.cluster_types.specs.Fields.{leaf_name}
 use Rattle.cluster_types.specs.Texts.{node_name, pin_text, run_line, target_text}
-use Rattle.input_reading.specs.Places.{Words}
+use Rattle.input_reading.specs.Places.{WordsOfLine}
 
 -- words parted by spaces
-abbrev pub joined : Words → List ℕ
+abbrev pub joined : WordsOfLine → List ℕ
 joined [] = []
 joined (word ∷ words) = word ++ flat_map (λ (w : List ℕ). 32 ∷ w) words
 
-abbrev pub reason_words : NoReason → Words
+abbrev pub reason_words : NoReason → WordsOfLine
 reason_words NoCopies = codes "NoCopies" ∷ []
 reason_words Stopped = codes "Stopped" ∷ []
 reason_words OnFail = codes "OnFail" ∷ []
@@ -54,7 +54,7 @@ ended_three : (b x r s n d e : List ℕ)
 ended_three b x r s n d e = simp append_assoc
 
 module _ (c : Cluster) where
-  abbrev pub action_words : Action → Words
+  abbrev pub action_words : Action → WordsOfLine
   action_words (Fence n) = codes "fence" ∷ node_name c n ∷ []
   action_words (Probe r n) = codes "probe" ∷ leaf_name c r ∷ node_name c n ∷ []
   action_words (Cell Start r n interval role) = codes "start" ∷ leaf_name c r ∷ node_name c n ∷ []
@@ -65,7 +65,7 @@ module _ (c : Cluster) where
   action_words (MigrateTo r source target) = codes "migrate_to" ∷ leaf_name c r ∷ node_name c source ∷ node_name c target ∷ []
   action_words (MigrateFrom r source target) = codes "migrate_from" ∷ leaf_name c r ∷ node_name c source ∷ node_name c target ∷ []
 
-  abbrev pub answer_words : Answer → Words
+  abbrev pub answer_words : Answer → WordsOfLine
   answer_words (answer.End k code) = codes "end" ∷ decimal k ∷ decimal code ∷ []
   answer_words (answer.Timeout k) = codes "timeout" ∷ decimal k ∷ []
   answer_words (answer.Lost n) = codes "lost" ∷ node_name c n ∷ []
@@ -75,7 +75,7 @@ module _ (c : Cluster) where
   answer_words (answer.Wait seconds) = codes "wait" ∷ decimal seconds ∷ []
   answer_words (answer.Report n r interval code) = codes "report" ∷ node_name c n ∷ leaf_name c r ∷ decimal interval ∷ decimal code ∷ []
 
-  abbrev pub line_words : RunLine → Words
+  abbrev pub line_words : RunLine → WordsOfLine
   line_words (line.Transition k) = codes "transition" ∷ decimal k ∷ []
   line_words (line.Pinned r pin) = codes "pinned" ∷ leaf_name c r ∷ pin_text c pin ∷ []
   line_words (line.Goal r n target) = codes "target" ∷ leaf_name c r ∷ node_name c n ∷ target_text c target ∷ []

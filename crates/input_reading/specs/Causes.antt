@@ -2,19 +2,19 @@
 use Rattle.std.specs.Prelude.{ℕ, List, ◌++◌, codes, decimal}
 use Rattle.crm_parse.specs.declared.fault.ParseCause.{ParseCause}
 use Rattle.crm_parse.specs.declared.fault.ParseCause.TheVariants as parse
-use Rattle.cluster_model.specs.declared.expand_fault.ExpandCause.{ExpandCause}
-use Rattle.cluster_model.specs.declared.expand_fault.ExpandCause.TheVariants as expand
-use Rattle.cluster_model.specs.declared.fault.ModelCause.{ModelCause}
-use Rattle.cluster_model.specs.declared.fault.ModelCause.TheVariants as model
+use Rattle.cluster_model.specs.declared.expansion.expand_fault.ExpandCause.{ExpandCause}
+use Rattle.cluster_model.specs.declared.expansion.expand_fault.ExpandCause.TheVariants as expand
+use Rattle.cluster_model.specs.declared.resolution.fault.ModelCause.{ModelCause}
+use Rattle.cluster_model.specs.declared.resolution.fault.ModelCause.TheVariants as model
 use Rattle.input_reading.specs.declared.history_fault.StatusCause.{StatusCause}
 use Rattle.input_reading.specs.declared.history_fault.StatusCause.TheVariants as status
 use Rattle.crm_lex.specs.Causes.{lex_name}
 use Rattle.input_reading.specs.declared.history_fault.ResultCause.{ResultCause}
 use Rattle.input_reading.specs.declared.history_fault.ResultCause.TheVariants as result
-use Rattle.input_reading.specs.declared.word_cause.WordCause.{WordCause}
-use Rattle.input_reading.specs.declared.word_cause.WordCause.TheVariants as word
-use Rattle.input_reading.specs.declared.cause.InputCause.{InputCause}
-use Rattle.input_reading.specs.declared.cause.InputCause.TheVariants.{Words, Statements, Leaves, Cluster, Status, Results, Run}
+use Rattle.input_reading.specs.declared.words.word_cause.WordCause.{WordCause}
+use Rattle.input_reading.specs.declared.words.word_cause.WordCause.TheVariants as word
+use Rattle.input_reading.specs.declared.input.cause.InputCause.{InputCause}
+use Rattle.input_reading.specs.declared.input.cause.InputCause.TheVariants.{Words, Statements, Leaves, Cluster, Status, Results, Run}
 
 abbrev pub parse_name : ParseCause → List ℕ
 parse_name parse.UnknownStatement = codes "UnknownStatement"

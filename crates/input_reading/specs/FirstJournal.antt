@@ -13,22 +13,22 @@ use Rattle.faults.specs.declared.fault.Fault.TheVariants.{At}
 use Rattle.faults.specs.Reading.{◌>>=◌, faulting, on_line}
 use Rattle.input_reading.specs.declared.history_fault.StatusCause.{StatusCause}
 use Rattle.input_reading.specs.declared.history_fault.StatusCause.TheVariants.{Repeated}
-use Rattle.input_reading.specs.declared.told.NodeWord.{NodeWord}
-use Rattle.input_reading.specs.declared.told.NodeWord.TheVariants as said
-use Rattle.input_reading.specs.declared.told.Told.{Told}
-use Rattle.input_reading.specs.declared.told.Told.TheVariants.{Now, Quorum, Node, Past, Promoting}
+use Rattle.input_reading.specs.declared.status.told.NodeWord.{NodeWord}
+use Rattle.input_reading.specs.declared.status.told.NodeWord.TheVariants as said
+use Rattle.input_reading.specs.declared.status.told.Told.{Told}
+use Rattle.input_reading.specs.declared.status.told.Told.TheVariants.{Now, Quorum, Node, Past, Promoting}
 use Rattle.input_reading.specs.HistoryCauses.{status_cause}
 use Rattle.input_reading.specs.Status.{told_of}
 
-abbrev pub is_same_cell : Promotion → Promotion → Bool
-is_same_cell one other = one.leaf == other.leaf && one.node == other.node
+abbrev pub is_promotion_of_same_cell : Promotion → Promotion → Bool
+is_promotion_of_same_cell one other = one.leaf == other.leaf && one.node == other.node
 
 -- the second line says again what may be said once: the moment, quorum, the state of a node, the promotion score of a cell
 abbrev pub is_again : Told → Told → Bool
 is_again (Now before) (Now seconds) = true
 is_again (Quorum before) (Quorum now) = true
 is_again (Node before state) (Node node word) = before == node
-is_again (Promoting before) (Promoting promotion) = is_same_cell before promotion
+is_again (Promoting before) (Promoting promotion) = is_promotion_of_same_cell before promotion
 is_again _ _ = false
 
 abbrev pub is_repeated : List Told → Told → Bool
@@ -38,13 +38,13 @@ is_repeated before told = list_any (λ earlier. is_again earlier told) before
 abbrev pub with_told : List Told → ℕ → Told → Result (List Told) (Fault StatusCause)
 with_told before line told = if is_repeated before told then Err (At line Repeated) else Ok (before ++ told ∷ [])
 
-abbrev pub with_line : Cluster → List Told → Line → Result (List Told) (Fault StatusCause)
-with_line c before line = faulting status_cause (on_line line.line (told_of c line.words)) >>= with_told before line.line
+abbrev pub with_status_line : Cluster → List Told → Line → Result (List Told) (Fault StatusCause)
+with_status_line c before line = faulting status_cause (on_line line.line (told_of c line.words)) >>= with_told before line.line
 
 -- what some lines tell, and what further lines do; the first line that is at fault counts
-abbrev pub with_lines : Cluster → List Told → List Line → Result (List Told) (Fault StatusCause)
-with_lines c before [] = Ok before
-with_lines c before (line ∷ lines) = with_line c before line >>= (λ more. with_lines c more lines)
+abbrev pub with_status_lines : Cluster → List Told → List Line → Result (List Told) (Fault StatusCause)
+with_status_lines c before [] = Ok before
+with_status_lines c before (line ∷ lines) = with_status_line c before line >>= (λ more. with_status_lines c more lines)
 
 -- the first that is said of something
 abbrev pub first_said : {X : Type 0} → (Told → Option X) → List Told → Option X
@@ -101,8 +101,8 @@ abbrev pub journal_of : Cluster → List Told → Journal
 journal_of c told = record { events = events_of c told; promotions = filter_map promotion_in told }
 
 -- the first journal of the lines of a status, or their first fault
-abbrev pub status_of : Cluster → List Line → Result Journal (Fault StatusCause)
-status_of c lines = with_lines c [] lines >>= (λ told. Ok (journal_of c told))
+abbrev pub status_journal : Cluster → List Line → Result Journal (Fault StatusCause)
+status_journal c lines = with_status_lines c [] lines >>= (λ told. Ok (journal_of c told))
 
 -- the line tells of a node of the cluster, and of seconds below 2^40, where it tells of some that count
 abbrev pub is_known : ℕ → Told → Bool

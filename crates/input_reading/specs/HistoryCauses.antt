@@ -1,6 +1,6 @@
 -- The causes of words as causes of a status and of a result line.
-use Rattle.input_reading.specs.declared.word_cause.WordCause.{WordCause}
-use Rattle.input_reading.specs.declared.word_cause.WordCause.TheVariants.{UnknownStatement, MissingWord, ExtraWord, BadValue, UnknownName}
+use Rattle.input_reading.specs.declared.words.word_cause.WordCause.{WordCause}
+use Rattle.input_reading.specs.declared.words.word_cause.WordCause.TheVariants.{UnknownStatement, MissingWord, ExtraWord, BadValue, UnknownName}
 use Rattle.input_reading.specs.declared.history_fault.ResultCause.{ResultCause}
 use Rattle.input_reading.specs.declared.history_fault.ResultCause.TheVariants as result_line
 use Rattle.input_reading.specs.declared.history_fault.StatusCause.{StatusCause}

@@ -10,13 +10,13 @@ use Rattle.cluster_types.specs.declared.placement.Target.{Target}
 use Rattle.cluster_types.specs.declared.placement.Target.TheVariants as target
 use Rattle.crm_lex.specs.Names.{is, is_name}
 use Rattle.faults.specs.Reading.{◌>>=◌}
-use Rattle.input_reading.specs.declared.word_cause.WordCause.{WordCause}
-use Rattle.input_reading.specs.declared.word_cause.WordCause.TheVariants.{BadValue}
-use Rattle.input_reading.specs.Places.{Words, word_at}
-use Rattle.input_reading.specs.declared.words.ActionWord.{ActionWord}
-use Rattle.input_reading.specs.declared.words.ActionWord.TheVariants as action
-use Rattle.input_reading.specs.declared.words.LineWord.{LineWord}
-use Rattle.input_reading.specs.declared.words.LineWord.TheVariants as word
+use Rattle.input_reading.specs.declared.words.word_cause.WordCause.{WordCause}
+use Rattle.input_reading.specs.declared.words.word_cause.WordCause.TheVariants.{BadValue}
+use Rattle.input_reading.specs.Places.{WordsOfLine, word_at}
+use Rattle.input_reading.specs.declared.run.words.ActionWord.{ActionWord}
+use Rattle.input_reading.specs.declared.run.words.ActionWord.TheVariants as action
+use Rattle.input_reading.specs.declared.run.words.LineWord.{LineWord}
+use Rattle.input_reading.specs.declared.run.words.LineWord.TheVariants as word
 
 -- what a first word begins. A line of none of these words may be an answer
 unfoldable pub line_word : List ℕ → LineWord
@@ -32,8 +32,8 @@ line_word text =
     else word.Answer
 
 -- why a leaf is left as it is
-abbrev pub pin_of : List ℕ → Option Pin
-pin_of text =
+abbrev pub pin_named : List ℕ → Option Pin
+pin_named text =
     if is text (codes "unmanaged") then Some Unmanaged else if is text (codes "blocked") then Some Blocked else None
 
 -- what a leaf is to be on a node
@@ -68,23 +68,23 @@ action_word text =
     else None
 
 -- what stands at a place, counted from 0
-unfoldable pub pin_at : ℕ → Words → Result Pin WordCause
+unfoldable pub pin_at : ℕ → WordsOfLine → Result Pin WordCause
 pin_at place words = do
   text ← word_at place words
-  ok_or (pin_of text) BadValue
+  ok_or (pin_named text) BadValue
 
-unfoldable pub target_at : ℕ → Words → Result Target WordCause
+unfoldable pub target_at : ℕ → WordsOfLine → Result Target WordCause
 target_at place words = do
   text ← word_at place words
   ok_or (target_of text) BadValue
 
 -- the id of a rule
-unfoldable pub id_at : ℕ → Words → Result (List ℕ) WordCause
+unfoldable pub id_at : ℕ → WordsOfLine → Result (List ℕ) WordCause
 id_at place words = do
   text ← word_at place words
   if is_name text then Ok text else Err BadValue
 
-unfoldable pub action_word_at : ℕ → Words → Result ActionWord WordCause
+unfoldable pub action_word_at : ℕ → WordsOfLine → Result ActionWord WordCause
 action_word_at place words = do
   text ← word_at place words
   ok_or (action_word text) BadValue

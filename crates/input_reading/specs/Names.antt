@@ -8,13 +8,13 @@ use Rattle.cluster_types.specs.declared.leaf.Leaf.{Leaf}
 use Rattle.cluster_types.specs.declared.node.Node.{Node}
 
 -- the place of the first that passes
-abbrev pub place_of : {X : Type 0} → (X → Bool) → List X → Option ℕ
-place_of test xs = if nat_lt (position_or_len test xs) (length xs) then Some (position_or_len test xs) else None
+abbrev pub place_of_first : {X : Type 0} → (X → Bool) → List X → Option ℕ
+place_of_first test xs = if nat_lt (position_or_len test xs) (length xs) then Some (position_or_len test xs) else None
 
 -- the node of this name
-abbrev pub node_of : Cluster → List ℕ → Option ℕ
-node_of c word = place_of (λ (node : Node). is node.name word) c.nodes
+abbrev pub node_of_word : Cluster → List ℕ → Option ℕ
+node_of_word c word = place_of_first (λ (node : Node). is node.name word) c.nodes
 
 -- the leaf of this name
-abbrev pub leaf_of : Cluster → List ℕ → Option ℕ
-leaf_of c word = place_of (λ (leaf : Leaf). is leaf.name word) c.leaves
+abbrev pub leaf_of_word : Cluster → List ℕ → Option ℕ
+leaf_of_word c word = place_of_first (λ (leaf : Leaf). is leaf.name word) c.leaves

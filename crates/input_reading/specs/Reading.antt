@@ -16,13 +16,13 @@ use Rattle.cluster_model.specs.Expansion.{expansion_of}
 use Rattle.cluster_model.specs.Resolution.{resolution_of}
 use Rattle.cluster_types.specs.declared.cluster.Cluster.{Cluster}
 use Rattle.cluster_types.specs.Journals.{moment_of}
-use Rattle.input_reading.specs.FirstJournal.{status_of}
+use Rattle.input_reading.specs.FirstJournal.{status_journal}
 use Rattle.input_reading.specs.Results.{results_of}
-use Rattle.input_reading.specs.declared.cause.InputCause.{InputCause}
-use Rattle.input_reading.specs.declared.cause.InputCause.TheVariants as cause
-use Rattle.input_reading.specs.declared.reading.Configuration.{Configuration}
-use Rattle.input_reading.specs.declared.reading.Head.{Head}
-use Rattle.input_reading.specs.declared.reading.Input.{Input}
+use Rattle.input_reading.specs.declared.input.cause.InputCause.{InputCause}
+use Rattle.input_reading.specs.declared.input.cause.InputCause.TheVariants as cause
+use Rattle.input_reading.specs.declared.input.reading.Configuration.{Configuration}
+use Rattle.input_reading.specs.declared.input.reading.Head.{Head}
+use Rattle.input_reading.specs.declared.input.reading.Input.{Input}
 
 -- the most bytes that an input may have: 16 MiB. And the most of a logical line of it, without line ends (rules of this project)
 abbrev pub most_bytes : ℕ
@@ -60,7 +60,7 @@ configuration_of sections text = do
 -- the head of an input: its configuration, which says this cluster, and the journal that these lines of the status tell
 unfoldable pub head_of : Crm → Cluster → List Line → Result Head (Fault InputCause)
 head_of crm cluster lines = do
-  journal ← faulting cause.Status (status_of cluster lines)
+  journal ← faulting cause.Status (status_journal cluster lines)
   Ok (record { crm = crm; cluster = cluster; journal = journal })
 
 -- the order of the steps, where what follows the status is read so, with the head before it
@@ -72,9 +72,9 @@ module _ {X : Type 0} (read_on : Head → List Line → Result X (Fault InputCau
 
 -- the steps of reading a text that has these sections, where what follows the status is read so, from all lines and the head. They are the words of all
 -- lines, the sections, the statements, the leaves, the cluster, the status and what follows it
-abbrev pub steps_of : {X : Type 0} (sections : List Line → Result SectionMarks (Fault ParseCause))
+abbrev pub reading_steps : {X : Type 0} (sections : List Line → Result SectionMarks (Fault ParseCause))
     (read_on : List Line → Head → List Line → Result X (Fault InputCause)) → List ℕ → Result X (Fault InputCause)
-steps_of sections read_on text = do
+reading_steps sections read_on text = do
   found ← configuration_of sections text
   cluster ← faulting cause.Cluster (resolution_of found.leaves found.crm.statements)
   with_cluster (read_on found.lines) found cluster
@@ -91,25 +91,25 @@ with_results head lines = do
 
 -- what is read of a whole text, or its fault: that of the first step that fails
 unfoldable pub input_of : List ℕ → Result Input (Fault InputCause)
-input_of text = steps_of sections_of (λ all. with_results) text
+input_of text = reading_steps sections_of (λ all. with_results) text
 
 -- what is read of a head that stands alone, or its fault: the same steps without the last
 unfoldable pub start_of : List ℕ → Result Head (Fault InputCause)
-start_of text = steps_of sections_of (λ all. nothing_yet) text
+start_of text = reading_steps sections_of (λ all. nothing_yet) text
 
 -- the text is read, and says this
-abbrev pub Reads : List ℕ → Input → Type 0
-Reads text input = input_of text ≡ Ok input
+abbrev pub ReadsInput : List ℕ → Input → Type 0
+ReadsInput text input = input_of text ≡ Ok input
 
 -- the text isn't read: it has a fault at this line, for this cause
-abbrev pub IsRefused : List ℕ → ℕ → InputCause → Type 0
-IsRefused text line why = input_of text ≡ Err (At line why)
+abbrev pub IsTextRefused : List ℕ → ℕ → InputCause → Type 0
+IsTextRefused text line why = input_of text ≡ Err (At line why)
 
 pub record IsReadable (text : List ℕ) : Type 0 where
   pub whole : Input
-  pub reads : Reads text whole
+  pub reads : ReadsInput text whole
 
-pub record IsFaulty (text : List ℕ) : Type 0 where
+pub record IsFaultyText (text : List ℕ) : Type 0 where
   pub line : ℕ
   pub why : InputCause
-  pub fault : IsRefused text line why
+  pub fault : IsTextRefused text line why

@@ -2,8 +2,8 @@
 use Rattle.cluster_types.specs.declared.placement.NoReason.TheVariants as reason
 use Rattle.cluster_types.specs.declared.run.RunLine.{RunLine}
 use Rattle.cluster_types.specs.declared.run.RunLine.TheVariants.{Lacking}
-use Rattle.input_reading.specs.declared.line.Said.{Said}
-use Rattle.input_reading.specs.declared.line.Said.TheVariants.{Line, Held}
+use Rattle.input_reading.specs.declared.run.line.Said.{Said}
+use Rattle.input_reading.specs.declared.run.line.Said.TheVariants.{Line, Held}
 
 abbrev pub said_of : Said → RunLine
 said_of (Line line) = line

@@ -7,8 +7,8 @@ use Rattle.crm_parse.specs.declared.marks.SectionMarks.{SectionMarks}
 use Rattle.crm_parse.specs.Marks.{audit_sections_of, sections_of}
 use Rattle.faults.specs.declared.fault.Fault.{Fault}
 use Rattle.faults.specs.Reading.{◌>>=◌}
-use Rattle.input_reading.specs.declared.sections.LastSection.{LastSection}
-use Rattle.input_reading.specs.declared.sections.LastSection.TheVariants.{Results, Trace}
+use Rattle.input_reading.specs.declared.input.sections.LastSection.{LastSection}
+use Rattle.input_reading.specs.declared.input.sections.LastSection.TheVariants.{Results, Trace}
 
 -- the sections of a text with a trace, where the trace stands in the place of the results
 abbrev pub sections_with_trace : List Line → Result SectionMarks (Fault ParseCause)

@@ -16,16 +16,16 @@ use Rattle.cluster_types.specs.Fields.{is_promotable, monitors}
 use Rattle.cluster_types.specs.Answering.{role_of_interval}
 use Rattle.faults.specs.Digits.{number_up_to}
 use Rattle.faults.specs.Reading.{◌>>=◌}
-use Rattle.input_reading.specs.declared.word_cause.WordCause.{WordCause}
-use Rattle.input_reading.specs.declared.word_cause.WordCause.TheVariants.{BadValue, UnknownStatement}
-use Rattle.input_reading.specs.Numbers.{code_of, interval_of}
-use Rattle.input_reading.specs.Places.{Words, end_at, leaf_at, node_at, seconds_at, word_at, yes_at}
-use Rattle.input_reading.specs.declared.status_lines.StatusWord.{StatusWord}
-use Rattle.input_reading.specs.declared.status_lines.StatusWord.TheVariants as first
-use Rattle.input_reading.specs.declared.told.NodeWord.{NodeWord}
-use Rattle.input_reading.specs.declared.told.NodeWord.TheVariants.{Online, Offline, Unclean}
-use Rattle.input_reading.specs.declared.told.Told.{Told}
-use Rattle.input_reading.specs.declared.told.Told.TheVariants.{Now, Quorum, Node, Past, Promoting}
+use Rattle.input_reading.specs.declared.words.word_cause.WordCause.{WordCause}
+use Rattle.input_reading.specs.declared.words.word_cause.WordCause.TheVariants.{BadValue, UnknownStatement}
+use Rattle.input_reading.specs.Numbers.{read_exit_code, read_interval}
+use Rattle.input_reading.specs.Places.{WordsOfLine, line_end_at, leaf_at, node_at, seconds_at, word_at, yes_at}
+use Rattle.input_reading.specs.declared.status.status_lines.StatusWord.{StatusWord}
+use Rattle.input_reading.specs.declared.status.status_lines.StatusWord.TheVariants as first
+use Rattle.input_reading.specs.declared.status.told.NodeWord.{NodeWord}
+use Rattle.input_reading.specs.declared.status.told.NodeWord.TheVariants.{Online, Offline, Unclean}
+use Rattle.input_reading.specs.declared.status.told.Told.{Told}
+use Rattle.input_reading.specs.declared.status.told.Told.TheVariants.{Now, Quorum, Node, Past, Promoting}
 
 -- what a first word begins
 unfoldable pub status_word : List ℕ → Result StatusWord WordCause
@@ -39,17 +39,17 @@ status_word word =
     else Err UnknownStatement
 
 -- `now SECONDS`
-unfoldable pub now_line : Words → Result Told WordCause
+unfoldable pub now_line : WordsOfLine → Result Told WordCause
 now_line words = do
   seconds ← seconds_at 1 words
-  end ← end_at 2 words
+  end ← line_end_at 2 words
   Ok (Now seconds)
 
 -- `quorum yes` or `quorum no`
-unfoldable pub quorum_line : Words → Result Told WordCause
+unfoldable pub quorum_line : WordsOfLine → Result Told WordCause
 quorum_line words = do
   now ← yes_at 1 words
-  end ← end_at 2 words
+  end ← line_end_at 2 words
   Ok (Quorum now)
 
 abbrev pub node_word : List ℕ → Option NodeWord
@@ -59,21 +59,21 @@ node_word word =
     else if is word (codes "unclean") then Some Unclean
     else None
 
-unfoldable pub state_at : ℕ → Words → Result NodeWord WordCause
+unfoldable pub state_at : ℕ → WordsOfLine → Result NodeWord WordCause
 state_at place words = do
   word ← word_at place words
   ok_or (node_word word) BadValue
 
 -- `node NODE online`, `offline` or `unclean`
-unfoldable pub node_line : Cluster → Words → Result Told WordCause
+unfoldable pub node_line : Cluster → WordsOfLine → Result Told WordCause
 node_line c words = do
   node ← node_at c 1 words
   state ← state_at 2 words
-  end ← end_at 3 words
+  end ← line_end_at 3 words
   Ok (Node node state)
 
-abbrev pub op_of : List ℕ → Option Op
-op_of word =
+abbrev pub operation_named : List ℕ → Option Op
+operation_named word =
     if is word (codes "start") then Some Start
     else if is word (codes "stop") then Some Stop
     else if is word (codes "promote") then Some Promote
@@ -91,38 +91,38 @@ abbrev pub fitting : Cluster → ℕ → Op → Result Op WordCause
 fitting c r op = if may_have c r op then Ok op else Err BadValue
 
 -- an operation that the leaf may have
-unfoldable pub op_at : Cluster → ℕ → ℕ → Words → Result Op WordCause
+unfoldable pub op_at : Cluster → ℕ → ℕ → WordsOfLine → Result Op WordCause
 op_at c r place words = do
   word ← word_at place words
-  op ← ok_or (op_of word) BadValue
+  op ← ok_or (operation_named word) BadValue
   fitting c r op
 
 -- the milliseconds of an operation: 0 but for a monitor
 abbrev pub interval_as : Op → List ℕ → Option ℕ
-interval_as Monitor word = interval_of word
+interval_as Monitor word = read_interval word
 interval_as _ word = number_up_to 0 word
 
-unfoldable pub interval_at : Op → ℕ → Words → Result ℕ WordCause
+unfoldable pub interval_at : Op → ℕ → WordsOfLine → Result ℕ WordCause
 interval_at op place words = do
   word ← word_at place words
   ok_or (interval_as op word) BadValue
 
 -- an exit code, or that the operation was killed after its time
 abbrev pub outcome_of : List ℕ → Option Outcome
-outcome_of word = if is word (codes "timeout") then Some TimedOut else option_map Code (code_of word)
+outcome_of word = if is word (codes "timeout") then Some TimedOut else option_map Code (read_exit_code word)
 
-unfoldable pub outcome_at : ℕ → Words → Result Outcome WordCause
+unfoldable pub outcome_at : ℕ → WordsOfLine → Result Outcome WordCause
 outcome_at place words = do
   word ← word_at place words
   ok_or (outcome_of word) BadValue
 
 -- the operation as an action of the cell: a monitor of interval 0 is a probe, and another has the role of its interval's statement
-abbrev pub action_as : Cluster → Op → ℕ → ℕ → ℕ → Action
-action_as c Monitor r n interval = if interval == 0 then Probe r n else Cell Monitor r n interval (role_of_interval (monitors c r) interval)
-action_as c op r n interval = Cell op r n 0 role.Started
+abbrev pub history_action : Cluster → Op → ℕ → ℕ → ℕ → Action
+history_action c Monitor r n interval = if interval == 0 then Probe r n else Cell Monitor r n interval (role_of_interval (monitors c r) interval)
+history_action c op r n interval = Cell op r n 0 role.Started
 
 -- `op NODE LEAF OP MS CODE SECONDS`: an operation that ended. It has the number 0
-unfoldable pub op_line : Cluster → Words → Result Told WordCause
+unfoldable pub op_line : Cluster → WordsOfLine → Result Told WordCause
 op_line c words = do
   node ← node_at c 1 words
   leaf ← leaf_at c 2 words
@@ -130,42 +130,42 @@ op_line c words = do
   interval ← interval_at op 4 words
   outcome ← outcome_at 5 words
   moment ← seconds_at 6 words
-  end ← end_at 7 words
-  Ok (Past (Ended 0 (action_as c op leaf node interval) outcome moment))
+  end ← line_end_at 7 words
+  Ok (Past (Ended 0 (history_action c op leaf node interval) outcome moment))
 
 -- `cleanup NODE LEAF`
-unfoldable pub cleanup_line : Cluster → Words → Result Told WordCause
+unfoldable pub cleanup_line : Cluster → WordsOfLine → Result Told WordCause
 cleanup_line c words = do
   node ← node_at c 1 words
   leaf ← leaf_at c 2 words
-  end ← end_at 3 words
+  end ← line_end_at 3 words
   Ok (Past (Cleanup leaf node))
 
 abbrev pub promotable : Cluster → ℕ → Result ℕ WordCause
 promotable c r = if is_promotable c r then Ok r else Err BadValue
 
 -- a promotable leaf
-unfoldable pub promotable_at : Cluster → ℕ → Words → Result ℕ WordCause
+unfoldable pub promotable_at : Cluster → ℕ → WordsOfLine → Result ℕ WordCause
 promotable_at c place words = do
   leaf ← leaf_at c place words
   promotable c leaf
 
 -- the points of a score
-unfoldable pub score_at : ℕ → Words → Result ℤ WordCause
+unfoldable pub score_at : ℕ → WordsOfLine → Result ℤ WordCause
 score_at place words = do
   word ← word_at place words
   ok_or (read_score word) BadValue
 
 -- `promotion NODE LEAF SCORE`
-unfoldable pub promotion_line : Cluster → Words → Result Told WordCause
+unfoldable pub promotion_line : Cluster → WordsOfLine → Result Told WordCause
 promotion_line c words = do
   node ← node_at c 1 words
   leaf ← promotable_at c 2 words
   score ← score_at 3 words
-  end ← end_at 4 words
+  end ← line_end_at 4 words
   Ok (Promoting (record { leaf = leaf; node = node; score = score }))
 
-abbrev pub told_as : Cluster → StatusWord → Words → Result Told WordCause
+abbrev pub told_as : Cluster → StatusWord → WordsOfLine → Result Told WordCause
 told_as c first.Now words = now_line words
 told_as c first.Quorum words = quorum_line words
 told_as c first.Node words = node_line c words
@@ -174,7 +174,7 @@ told_as c first.Cleanup words = cleanup_line c words
 told_as c first.Promotion words = promotion_line c words
 
 -- what the words of a line tell
-unfoldable pub told_of : Cluster → Words → Result Told WordCause
+unfoldable pub told_of : Cluster → WordsOfLine → Result Told WordCause
 told_of c words = do
   word ← word_at 0 words
   form ← status_word word

@@ -5,23 +5,23 @@ use Rattle.faults.specs.declared.fault.Fault.{Fault}
 use Rattle.faults.specs.declared.fault.Fault.TheVariants.{At}
 use Rattle.faults.specs.Reading.{◌>>=◌, faulting}
 use Rattle.crm_lex.specs.declared.line.Line.{Line}
-use Rattle.input_reading.specs.RunReading.{lines_of}
-use Rattle.input_reading.specs.declared.cause.InputCause.{InputCause}
-use Rattle.input_reading.specs.declared.cause.InputCause.TheVariants as cause
-use Rattle.input_reading.specs.declared.reading.Head.{Head}
-use Rattle.input_reading.specs.declared.trace.Trace.{Trace}
-use Rattle.input_reading.specs.Reading.{line_behind, steps_of}
+use Rattle.input_reading.specs.RunReading.{read_run_lines}
+use Rattle.input_reading.specs.declared.input.cause.InputCause.{InputCause}
+use Rattle.input_reading.specs.declared.input.cause.InputCause.TheVariants as cause
+use Rattle.input_reading.specs.declared.input.reading.Head.{Head}
+use Rattle.input_reading.specs.declared.input.trace.Trace.{Trace}
+use Rattle.input_reading.specs.Reading.{line_behind, reading_steps}
 use Rattle.input_reading.specs.Sections.{sections_with_trace}
 
 -- the lines of a run follow, and the last line of the text stands before this one
 unfoldable pub with_run : ℕ → Head → List Line → Result Trace (Fault InputCause)
 with_run after head lines = do
-  run ← faulting cause.Run (lines_of head.cluster lines)
+  run ← faulting cause.Run (read_run_lines head.cluster lines)
   Ok (record { head = head; run = record { lines = run }; after = after })
 
 -- what is read of a whole text, or its fault: that of the first step that fails
 unfoldable pub trace_of : List ℕ → Result Trace (Fault InputCause)
-trace_of text = steps_of sections_with_trace (λ all. with_run (line_behind all)) text
+trace_of text = reading_steps sections_with_trace (λ all. with_run (line_behind all)) text
 
 -- the text is read, and says this
 abbrev pub ReadsTrace : List ℕ → Trace → Type 0

@@ -19,8 +19,8 @@ use Rattle.cluster_types.specs.Texts.{run_line}
 use Rattle.crm_lex.specs.declared.line.Line.{Line}
 use Rattle.crm_lex.specs.Names.{is_name}
 use Rattle.crm_lex.specs.Reading.{reads}
-use Rattle.input_reading.specs.declared.text.RunTextLine.{RunTextLine}
-use Rattle.input_reading.specs.RunReading.{lines_of}
+use Rattle.input_reading.specs.declared.run.text.RunTextLine.{RunTextLine}
+use Rattle.input_reading.specs.RunReading.{read_run_lines}
 
 -- a number of a transition, of an action or of a line, or the milliseconds of a recurring monitor
 pub record IsNumber (n : ℕ) : Type 0 where
@@ -71,20 +71,20 @@ IsLineOf c (line.Aborted k) = IsNumber k
 IsLineOf c (line.Unexpected l) = IsNumber l
 
 -- the rule that a line says to hold a leaf back, if it does, has a name
-abbrev pub IsNamed : RunLine → Type 0
-IsNamed (line.Lacking r (Held id)) = is_name id ≡ true
-IsNamed _ = Unit {0}
+abbrev pub IsLineNamed : RunLine → Type 0
+IsLineNamed (line.Lacking r (Held id)) = is_name id ≡ true
+IsLineNamed _ = Unit {0}
 
 abbrev pub AreNamed : List RunTextLine → Type 0
-AreNamed lines = AllByRecursion (λ (l : RunTextLine). IsNamed l.what) lines
+AreNamed lines = AllByRecursion (λ (l : RunTextLine). IsLineNamed l.what) lines
 
 -- lines with the numbers of the lines on which they stand, of which the first is given
-abbrev pub numbered : ℕ → List RunLine → List RunTextLine
-numbered l [] = []
-numbered l (what ∷ more) = record { line = l; what = what } ∷ numbered (l + 1) more
+abbrev pub with_line_numbers : ℕ → List RunLine → List RunTextLine
+with_line_numbers l [] = []
+with_line_numbers l (what ∷ more) = record { line = l; what = what } ∷ with_line_numbers (l + 1) more
 
 -- the text of the lines is read as the same lines
 pub record ReadsAgain (c : Cluster) (lines : List RunLine) : Type 0 where
   pub read : List Line
   pub are_lines : reads (flat_map (run_line c) lines) ≡ Ok read
-  pub same : lines_of c read ≡ Ok (numbered 1 lines)
+  pub same : read_run_lines c read ≡ Ok (with_line_numbers 1 lines)

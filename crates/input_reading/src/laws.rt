@@ -3,18 +3,18 @@
 ghost use Rattle.std.specs.Prelude.{◌≡◌, ◌⊎◌, ℕ, List, []};
 ghost use Rattle.cluster_types.specs.Journals.{Orderly, in_flight};
 ghost use Rattle.cluster_types.specs.Valid.{IsValid};
-ghost use Rattle.input_reading.specs.Reading.{IsFaulty, IsReadable, IsRefused, Reads};
+ghost use Rattle.input_reading.specs.Reading.{IsFaultyText, IsReadable, IsTextRefused, ReadsInput};
 ghost use Rattle.input_reading.specs.Traces.{IsFaultyTrace, IsReadableTrace, IsTraceRefused, ReadsTrace};
-ghost use Rattle.input_reading.specs.declared.cause.InputCause.{InputCause as CauseOf};
-ghost use Rattle.input_reading.specs.declared.reading.Input.{Input as InputOf};
-ghost use Rattle.input_reading.specs.declared.trace.Trace.{Trace as TraceOf};
+ghost use Rattle.input_reading.specs.declared.input.cause.InputCause.{InputCause as CauseOf};
+ghost use Rattle.input_reading.specs.declared.input.reading.Input.{Input as InputOf};
+ghost use Rattle.input_reading.specs.declared.input.trace.Trace.{Trace as TraceOf};
 
 /// A text is read as one input, or it has one fault, and never both.
 pub fn one_reading()
-    ensures either { (text : List ℕ) → IsReadable text ⊎ IsFaulty text }
-    ensures not_both { (text : List ℕ) → IsReadable text → ¬ IsFaulty text }
-    ensures one_input { (text : List ℕ) (one other : InputOf) → Reads text one → Reads text other → one ≡ other }
-    ensures one_fault { (text : List ℕ) (line other : ℕ) (why cause : CauseOf) → IsRefused text line why → IsRefused text other cause
+    ensures either { (text : List ℕ) → IsReadable text ⊎ IsFaultyText text }
+    ensures not_both { (text : List ℕ) → IsReadable text → ¬ IsFaultyText text }
+    ensures one_input { (text : List ℕ) (one other : InputOf) → ReadsInput text one → ReadsInput text other → one ≡ other }
+    ensures one_fault { (text : List ℕ) (line other : ℕ) (why cause : CauseOf) → IsTextRefused text line why → IsTextRefused text other cause
         → (line ≡ other) × (why ≡ cause) }
 {}
 
@@ -29,7 +29,7 @@ pub fn one_reading_of_a_trace()
 
 /// What is read of a text is valid: its cluster is, and its first journal is in order and has nothing in flight.
 pub fn what_is_read_is_valid()
-    ensures cluster { (text : List ℕ) (input : InputOf) → Reads text input → IsValid input.head.cluster }
-    ensures orderly { (text : List ℕ) (input : InputOf) → Reads text input → Orderly input.head.journal.events }
-    ensures idle { (text : List ℕ) (input : InputOf) → Reads text input → in_flight input.head.journal.events ≡ [] }
+    ensures cluster { (text : List ℕ) (input : InputOf) → ReadsInput text input → IsValid input.head.cluster }
+    ensures orderly { (text : List ℕ) (input : InputOf) → ReadsInput text input → Orderly input.head.journal.events }
+    ensures idle { (text : List ℕ) (input : InputOf) → ReadsInput text input → in_flight input.head.journal.events ≡ [] }
 {}

@@ -6,7 +6,7 @@ use Rattle.std.proofs.lemmas.List.Sums.{sum_by-append}
 use Rattle.std.specs.List.{concat, slice_split, onto_first}
 use Rattle.crm_lex.specs.LogicalLines.{is_comment, joint, joined_text, line_text, with_joint}
 use Rattle.crm_lex.specs.RawLines.{content, is_line_end, raw_lines}
-use Rattle.crm_lex.specs.Reading.{faults_from, first_fault, reads, row, rows_from}
+use Rattle.crm_lex.specs.Reading.{faults_from, first_lex_fault, reads, row, rows_from}
 use Rattle.crm_lex.specs.Words.{first_byte, has_pieces, is_gap, letters, pieces, place_after, words_of}
 use Rattle.faults.proofs.Steps.{unless-ok}
 use Rattle.crm_lex.specs.declared.line.Line.{Line}
@@ -85,6 +85,6 @@ few_in_rows n (group ∷ groups) =
 
 pub few_words_read : (text : List ℕ) (lines : List Line) → reads text ≡ Ok lines → words_in lines ≤ length text
 few_words_read text lines e =
-    let rows = (unless-ok (first_fault (faults_from 1 (raw_lines text))) (rows_from 1 (raw_lines text)) lines e).1 in
+    let rows = (unless-ok (first_lex_fault (faults_from 1 (raw_lines text))) (rows_from 1 (raw_lines text)) lines e).1 in
     let bytes = ap length (whole_by_pieces text) in
     subst (λ (found : List Line). words_in found ≤ length text) rows (omega (arith, few_in_rows 1 (raw_lines text), bytes))

@@ -18,8 +18,8 @@ report (Err (At line cause)) = codes "line " ++ (decimal line ++ (codes ": " ++ 
 report (Err NoMemory) = []
 
 -- the word that asks for the time
-abbrev pub is_time : List ℕ → Bool
-is_time word = pointwise nat_eq word (codes "time")
+abbrev pub is_time_word : List ℕ → Bool
+is_time_word word = pointwise nat_eq word (codes "time")
 
 -- what is printed where a text of so many bytes was cut five times in so many nanoseconds: its bytes, and how many are cut in a second
 abbrev pub speed : ℕ → ℕ → List ℕ

@@ -1,6 +1,6 @@
 ghost use Rattle.std.specs.Prelude.{◌≡◌, ◌<◌, ◌^◌, IfOk, string_bytes};
 ghost use Rattle.std.specs.List.{list_any};
-ghost use Rattle.lex_bench.specs.Counting.{is_time, speed};
+ghost use Rattle.lex_bench.specs.Counting.{is_time_word, speed};
 
 use std::alloc::{AllocError, Global};
 
@@ -9,7 +9,7 @@ pub const PASSES: u32 = 5;
 
 /// One of the words is `time`.
 pub fn asks_for_time(words: &[String]) -> bool
-    ensures { result ≡ list_any (λ word. is_time (string_bytes word)) words.now }
+    ensures { result ≡ list_any (λ word. is_time_word (string_bytes word)) words.now }
 {
     words.iter().any(|word| word.as_str() == "time")
 }

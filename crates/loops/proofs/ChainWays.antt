@@ -1,11 +1,11 @@
 -- Chains of links are ways along their edges.
 use Rattle.std.proofs.Common.{◌≡◌, ◌+◌, ◌*◌, ◌==◌, ℕ, suc, zero, Bool, true, false, List, [], ◌∷◌, length, map, filter, cond, fold, max, refl, sym, ◌∙◌, ap, inl, inr, Contains}
-use Rattle.loops.specs.declared.edge.Edge.{Edge}
-use Rattle.loops.specs.Loops.{HasNoLoop as NoLoopOfEdges}
-use Rattle.loops.specs.Longest.{longest, longest_within}
-use Rattle.loops.proofs.Paths.{loop_or_none}
+use Rattle.edges.specs.declared.edge.Edge.{Edge}
+use Rattle.edges.specs.Loops.{HasNoLoop as NoLoopOfEdges}
+use Rattle.edges.specs.Longest.{longest, longest_within}
+use Rattle.edges.proofs.Paths.{loop_or_none}
 use Rattle.cluster_types.specs.declared.cluster.Cluster.{Cluster}
-use Rattle.cluster_types.specs.Numbers.{HasNoLoop, Link, StepOf, chain_within, is_same_step, links, rank}
+use Rattle.cluster_types.specs.Numbers.{StepsHaveNoLoop, Link, StepOf, chain_within, is_same_step, links, rank}
 use Rattle.loops.specs.Edges.{link_edge, step_edges, step_position}
 use Rattle.loops.specs.FirstLoops.{AllOrder}
 use Rattle.loops.proofs.LinkLoops.{BothStand, links_stand, steps_loop, steps_within}
@@ -15,7 +15,7 @@ use Rattle.loops.proofs.StepPlaces.{position_is, spot, steps_alike}
 
 module _ (c : Cluster) (ordered : AllOrder c) where
   -- without a loop of links there is none of edges
-  pub edges_free : HasNoLoop c → NoLoopOfEdges (4 * length c.leaves) (step_edges c)
+  pub edges_free : StepsHaveNoLoop c → NoLoopOfEdges (4 * length c.leaves) (step_edges c)
   edges_free free = elim (loop_or_none (4 * length c.leaves) (step_edges c) (steps_within c ordered)) [
     | inl l ↦ absurd (steps_apart c (steps_loop c ordered l) free)
     | inr none ↦ none

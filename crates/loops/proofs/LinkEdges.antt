@@ -6,16 +6,16 @@ use Rattle.std.proofs.lemmas.List.{take_more, append_assoc, append-nil, map-appe
 use Rattle.std.proofs.lemmas.List.FromFn.{map-range_with_len_more}
 use Rattle.std.proofs.lemmas.List.Elements.{filter-append}
 use Rattle.lemmas.proofs.Ranges.{range-more}
-use Rattle.loops.specs.declared.edge.Edge.{Edge}
+use Rattle.edges.specs.declared.edge.Edge.{Edge}
 use Rattle.cluster_types.specs.declared.cluster.Cluster.{Cluster}
 use Rattle.cluster_types.specs.declared.rules.Order.{Order}
 use Rattle.cluster_types.specs.Numbers.{Link, leaf_links, order_links}
-use Rattle.loops.specs.Edges.{counts, edges_of, link_edge, step_edges}
-use Rattle.loops.specs.FirstLoops.{with_orders}
+use Rattle.loops.specs.Edges.{counts_link, edges_of, link_edge, step_edges}
+use Rattle.loops.specs.FirstLoops.{with_first_orders}
 
 pub edges_joined : (c : Cluster) (some more : List Link) → edges_of c (some ++ more) ≡ edges_of c some ++ edges_of c more
 edges_joined c some more =
-    ap (map link_edge) (filter-append (counts c) some more) ∙ map-append link_edge (filter (counts c) some) (filter (counts c) more)
+    ap (map link_edge) (filter-append (counts_link c) some more) ∙ map-append link_edge (filter (counts_link c) some) (filter (counts_link c) more)
 
 pub then_more : (c : Cluster) (before between after : List Edge) (some more : List Link) → between ≡ before ++ edges_of c some
     → after ≡ between ++ edges_of c more
@@ -38,9 +38,9 @@ leaf_then c n before after h more =
 
 -- the links of one order more
 pub order_then : (c : Cluster) (i : ℕ) (o : Order) (before after : List Edge) → i < length c.orders → o ≡ slice_index_or c.orders i o
-    → before ≡ step_edges (with_orders c i)
+    → before ≡ step_edges (with_first_orders c i)
     → after ≡ before ++ edges_of c (order_links o)
-    → after ≡ step_edges (with_orders c (i + 1))
+    → after ≡ step_edges (with_first_orders c (i + 1))
 order_then c i o before after lt is h more =
     let own : List Link = flat_map leaf_links (range_with_len 0 (length c.leaves)) in
     let some : List Link = flat_map order_links (take i c.orders) in
@@ -53,11 +53,11 @@ order_then c i o before after lt is h more =
 
 -- one end more
 pub end_then : (c : Cluster) (i end : ℕ) (before after : List ℕ)
-    → before ≡ map (λ k. length (step_edges (with_orders c (k + 1)))) (range_with_len 0 i)
+    → before ≡ map (λ k. length (step_edges (with_first_orders c (k + 1)))) (range_with_len 0 i)
     → after ≡ before ++ end ∷ []
-    → end ≡ length (step_edges (with_orders c (i + 1)))
-    → after ≡ map (λ k. length (step_edges (with_orders c (k + 1)))) (range_with_len 0 (i + 1))
+    → end ≡ length (step_edges (with_first_orders c (i + 1)))
+    → after ≡ map (λ k. length (step_edges (with_first_orders c (k + 1)))) (range_with_len 0 (i + 1))
 end_then c i end before after h more is =
-    let m = map-range_with_len_more (λ k. length (step_edges (with_orders c (k + 1)))) 0 i i (omega arith) in
-    more ∙ ap (λ t. t ++ end ∷ []) h ∙ ap (λ x. map (λ k. length (step_edges (with_orders c (k + 1)))) (range_with_len 0 i) ++ x ∷ []) is
+    let m = map-range_with_len_more (λ k. length (step_edges (with_first_orders c (k + 1)))) 0 i i (omega arith) in
+    more ∙ ap (λ t. t ++ end ∷ []) h ∙ ap (λ x. map (λ k. length (step_edges (with_first_orders c (k + 1)))) (range_with_len 0 i) ++ x ∷ []) is
     ∙ sym m

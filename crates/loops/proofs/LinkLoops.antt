@@ -2,16 +2,16 @@
 use Rattle.std.proofs.Common.{arith, ◌≡◌, ◌≢◌, ◌<◌, ◌*◌, ◌==◌, ◌&&◌, ℕ, Bool, true, false, [], ◌∷◌, ◌++◌, cond, map, length, refl, sym, ◌∙◌, ap, inl, inr, Contains}
 use Rattle.std.specs.List.{flat_map, range_with_len}
 use Rattle.std.proofs.lemmas.List.Elements.{Contains-append_cases}
-use Rattle.loops.specs.declared.edge.Edge.{Edge}
-use Rattle.loops.specs.Loops.{EndWithin, HasLoop, HasNoLoop as NoLoopOfEdges}
-use Rattle.loops.proofs.Relations.{EdgeFor, FollowsItself, StandsFor, WayFor, leads_of, nothing_follows_itself, one_follows_itself}
+use Rattle.edges.specs.declared.edge.Edge.{Edge}
+use Rattle.edges.specs.Loops.{EndsWithin, HasLoop, HasNoLoop as NoLoopOfEdges}
+use Rattle.edges.proofs.Relations.{EdgeFor, FollowsItself, StandsFor, WayFor, leads_of, nothing_follows_itself, one_follows_itself}
 use Rattle.cluster_types.specs.declared.cluster.Cluster.{Cluster}
 use Rattle.cluster_types.specs.declared.leaf.Op.{Op}
 use Rattle.cluster_types.specs.declared.leaf.Op.TheVariants.{Start, Stop, Promote, Demote, Monitor}
 use Rattle.cluster_types.specs.declared.rules.Order.{Order}
-use Rattle.cluster_types.specs.Numbers.{HasNoLoop, Link, StepOf, inverse_links, is_same_step, leaf_links, link, links, order_links, reaches}
+use Rattle.cluster_types.specs.Numbers.{StepsHaveNoLoop, Link, StepOf, inverse_links, is_same_step, leaf_links, link, links, order_links, reaches}
 use Rattle.cluster_types.specs.Precedence.{inverse, is_serialize, is_up, takers}
-use Rattle.loops.specs.Edges.{counts, link_edge, step_edges, step_position}
+use Rattle.loops.specs.Edges.{counts_link, link_edge, step_edges, step_position}
 use Rattle.loops.specs.FirstLoops.{AllOrder, OrdersSteps, StepsHaveLoop}
 use Rattle.lemmas.proofs.Members.{head_or_rest, in_map, in_none, of_filter, of_flat, of_map, of_range}
 use Rattle.loops.proofs.StepPlaces.{Stands, inverse_changes, position_is, position_within, same_spot, same_step, spot, step_itself, steps_alike}
@@ -92,7 +92,7 @@ module _ (c : Cluster) (o : Order) (ordered : OrdersSteps c o) where
 module _ (c : Cluster) (ordered : AllOrder c) where
   pub links_stand : (l : Link) → Contains (links c) l → BothStand (length c.leaves) l
   links_stand l h =
-      let k = of_filter (counts c) (flat_map leaf_links (range_with_len 0 (length c.leaves)) ++ flat_map order_links c.orders) l h in
+      let k = of_filter (counts_link c) (flat_map leaf_links (range_with_len 0 (length c.leaves)) ++ flat_map order_links c.orders) l h in
       elim (Contains-append_cases (flat_map leaf_links (range_with_len 0 (length c.leaves))) (flat_map order_links c.orders) l k.among) [
         | inl own ↦
             let f = of_flat leaf_links (range_with_len 0 (length c.leaves)) l own in
@@ -142,7 +142,7 @@ module _ (c : Cluster) (ordered : AllOrder c) where
       → is_same_step l.after t ≡ (spot (length c.leaves) l.after == spot (length c.leaves) t)
   alike l t h = let b = links_stand l h in steps_alike (length c.leaves) l.after t b.later
 
-  pub steps_free : NoLoopOfEdges (4 * length c.leaves) (step_edges c) → HasNoLoop c
+  pub steps_free : NoLoopOfEdges (4 * length c.leaves) (step_edges c) → StepsHaveNoLoop c
   steps_free free s =
       nothing_follows_itself (λ (l : Link) s. is_same_step l.before s) (λ (l : Link). l.after) is_same_step (links c) (reaches c)
       (λ _ _. refl) (λ _ _ _. refl)
@@ -165,7 +165,7 @@ module _ (c : Cluster) (ordered : AllOrder c) where
             (step_edges c) (spot (length c.leaves)) alike edge_for (4 * length c.leaves) l.step l.step l.reached;
       }
 
-  pub steps_within : EndWithin (4 * length c.leaves) (step_edges c)
+  pub steps_within : EndsWithin (4 * length c.leaves) (step_edges c)
   steps_within e h =
       let m = of_map link_edge (links c) e h in
       let b = links_stand m.source m.among in

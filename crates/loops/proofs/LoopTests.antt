@@ -7,17 +7,17 @@ use Rattle.std.proofs.lemmas.Bool.{both_ways, false_from_ne_true}
 use Rattle.std.proofs.lemmas.Bool.Decides.{nat_tests}
 use Rattle.lemmas.proofs.Booleans.{later, same_test, sooner}
 use Rattle.lemmas.proofs.Searches.{passes_by}
-use Rattle.loops.specs.declared.edge.Edge.{Edge}
-use Rattle.loops.specs.Loops.{HasLoop, HasNoLoop as NoLoopOfEdges}
+use Rattle.edges.specs.declared.edge.Edge.{Edge}
+use Rattle.edges.specs.Loops.{HasLoop, HasNoLoop as NoLoopOfEdges}
 use Rattle.cluster_types.specs.declared.cluster.Cluster.{Cluster}
 use Rattle.cluster_types.specs.declared.leaf.Leaf.{Leaf}
 use Rattle.cluster_types.specs.declared.placement.Decision.{Decision}
 use Rattle.cluster_types.specs.declared.rules.Colocation.{Colocation}
 use Rattle.cluster_types.specs.declared.rules.Order.{Order}
 use Rattle.cluster_types.specs.Decisions.{NeedsHaveNoLoop, all_decisions, is_same_decision, needs, needs_through}
-use Rattle.cluster_types.specs.Numbers.{HasNoLoop, Link, StepOf, is_same_step, links, reaches}
+use Rattle.cluster_types.specs.Numbers.{StepsHaveNoLoop, Link, StepOf, is_same_step, links, reaches}
 use Rattle.loops.specs.Edges.{colocation_edge, leaf_edges, need_edges, step_edges}
-use Rattle.loops.specs.FirstLoops.{AllJoin, AllOrder, IsFirstColocation, IsFirstOrder, NeedsHaveLoop, StepsHaveLoop, has_need_loop, has_step_loop, is_closed_by, with_colocations, with_orders}
+use Rattle.loops.specs.FirstLoops.{AllJoin, AllOrder, IsFirstColocation, IsFirstOrder, NeedsHaveLoop, StepsHaveLoop, has_need_loop, has_step_loop, is_closed_by, with_colocations, with_first_orders}
 use Rattle.lemmas.proofs.Members.{in_none}
 use Rattle.loops.proofs.FirstOrders.{first_ordered, own_free}
 use Rattle.loops.proofs.LinkLoops.{loop_of_steps, steps_free, steps_loop}
@@ -79,7 +79,7 @@ module _ (c : Cluster) where
       let b = begins (4 * length c.leaves) l.step l.step l.reached in
       passes_by (λ l. reaches c (4 * length c.leaves) l.before l.before) (links c) b.way b.among (rw b.from l.reached)
 
-  pub step_of_none : has_step_loop c ≡ false → HasNoLoop c
+  pub step_of_none : has_step_loop c ≡ false → StepsHaveNoLoop c
   step_of_none h s = false_from_ne_true _ (λ reached. both_ways _ h (step_of_loop (record { step = s; reached = reached })))
 
 -- a cluster with the first so many colocations of another
@@ -125,7 +125,7 @@ module _ (c d : Cluster) (joined : AllJoin c) (count : ℕ) (few : count ≤ len
 -- a cluster with the first so many orders of another
 module _ (c d : Cluster) (ordered : AllOrder c) (count : ℕ) (few : count ≤ length c.orders) (leaves : d.leaves ≡ c.leaves)
     (orders : d.orders ≡ take count c.orders) where
-  same_steps : step_edges d ≡ step_edges (with_orders c count)
+  same_steps : step_edges d ≡ step_edges (with_first_orders c count)
   same_steps =
       ap (λ (ls : List Leaf). step_edges record d { leaves = ls }) leaves
       ∙ ap (λ (os : List Order). step_edges record d { leaves = c.leaves; orders = os }) orders
@@ -135,16 +135,16 @@ module _ (c d : Cluster) (ordered : AllOrder c) (count : ℕ) (few : count ≤ l
       let s = first_ordered c ordered count o (rw orders at h) in
       record { first = rw leaves s.first; later = rw leaves s.later; first_word = s.first_word; later_word = s.later_word }
 
-  first_steps : StepsHaveLoop d → StepsHaveLoop (with_orders c count)
+  first_steps : StepsHaveLoop d → StepsHaveLoop (with_first_orders c count)
   first_steps l =
-      let looped : HasLoop (4 * length c.leaves) (step_edges (with_orders c count)) =
-      subst (λ (n : ℕ). HasLoop n (step_edges (with_orders c count))) (ap (λ (ls : List Leaf). 4 * length ls) leaves)
+      let looped : HasLoop (4 * length c.leaves) (step_edges (with_first_orders c count)) =
+      subst (λ (n : ℕ). HasLoop n (step_edges (with_first_orders c count))) (ap (λ (ls : List Leaf). 4 * length ls) leaves)
       (subst (λ (es : List Edge). HasLoop (4 * length d.leaves) es) same_steps (loop_of_steps d all_ordered l)) in
-      steps_loop (with_orders c count) (first_ordered c ordered count) looped
+      steps_loop (with_first_orders c count) (first_ordered c ordered count) looped
 
-  steps_of_first : StepsHaveLoop (with_orders c count) → StepsHaveLoop d
+  steps_of_first : StepsHaveLoop (with_first_orders c count) → StepsHaveLoop d
   steps_of_first l =
-      let looped : HasLoop (4 * length c.leaves) (step_edges (with_orders c count)) = loop_of_steps (with_orders c count) (first_ordered c ordered count) l in
+      let looped : HasLoop (4 * length c.leaves) (step_edges (with_first_orders c count)) = loop_of_steps (with_first_orders c count) (first_ordered c ordered count) l in
       steps_loop d all_ordered
       (subst (λ (n : ℕ). HasLoop n (step_edges d)) (sym (ap (λ (ls : List Leaf). 4 * length ls) leaves))
       (subst (λ (es : List Edge). HasLoop (4 * length c.leaves) es) (sym same_steps) looped))
@@ -160,7 +160,7 @@ module _ (c d : Cluster) (ordered : AllOrder c) (count : ℕ) (few : count ≤ l
       early h true e = e
       early h false e =
           let late : count ≤ place = grind (arith, nat_tests) in
-          absurd (steps_apart (with_orders c place) (steps_stay c ordered count place late (first_steps (loop_of_step d h))) closes.before)
+          absurd (steps_apart (with_first_orders c place) (steps_stay c ordered count place late (first_steps (loop_of_step d h))) closes.before)
 
 -- without rules there is no loop
 
@@ -172,9 +172,9 @@ no_needs c e =
     needs_free c joined
     (subst (λ (es : List Edge). NoLoopOfEdges (2 * length c.leaves) es) (sym same) (leaves_free (2 * length c.leaves) (length own) (length c.leaves)))
 
-pub no_steps : (c : Cluster) → c.orders ≡ [] → HasNoLoop c
+pub no_steps : (c : Cluster) → c.orders ≡ [] → StepsHaveNoLoop c
 no_steps c e =
     let ordered : AllOrder c = λ o h. absurd (in_none o (rw e at h)) in
-    let same : step_edges c ≡ step_edges (with_orders c 0) = ap (λ (os : List Order). step_edges record c { orders = os }) e in
+    let same : step_edges c ≡ step_edges (with_first_orders c 0) = ap (λ (os : List Order). step_edges record c { orders = os }) e in
     steps_free c ordered
     (subst (λ (es : List Edge). NoLoopOfEdges (4 * length c.leaves) es) (sym same) (own_free c (4 * length c.leaves)))

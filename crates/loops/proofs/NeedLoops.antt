@@ -6,11 +6,11 @@ use Rattle.std.proofs.lemmas.Bool.{cases_lt}
 use Rattle.std.proofs.lemmas.List.{length-append, length-map, take-append-le, take-map}
 use Rattle.std.proofs.lemmas.List.Elements.{Contains-append_cases}
 use Rattle.std.proofs.lemmas.List.FromFn.{length-map-range_with_len}
-use Rattle.loops.specs.declared.edge.Edge.{Edge}
-use Rattle.loops.specs.Loops.{ClosesFirst, EndWithin, HasLoop, HasNoLoop}
-use Rattle.loops.proofs.Endings.{one_way}
-use Rattle.loops.proofs.Paths.{none_where_rising}
-use Rattle.loops.proofs.Relations.{FollowsItself, StandsFor, leads_of, nothing_follows_itself, one_follows_itself}
+use Rattle.edges.specs.declared.edge.Edge.{Edge}
+use Rattle.edges.specs.Loops.{ClosesFirst, EndsWithin, HasLoop, HasNoLoop}
+use Rattle.edges.proofs.Endings.{one_way}
+use Rattle.edges.proofs.Paths.{none_where_rising}
+use Rattle.edges.proofs.Relations.{FollowsItself, StandsFor, leads_of, nothing_follows_itself, one_follows_itself}
 use Rattle.cluster_types.specs.declared.cluster.Cluster.{Cluster}
 use Rattle.cluster_types.specs.declared.leaf.Role.{Role}
 use Rattle.cluster_types.specs.declared.leaf.Role.TheVariants.{Started, Promoted}
@@ -63,7 +63,7 @@ module _ (c : Cluster) (joined : AllJoin c) where
   role_within r Started n lt = omega arith
   role_within r Promoted n lt = omega arith
 
-  pub needs_within : EndWithin (2 * length c.leaves) (need_edges c)
+  pub needs_within : EndsWithin (2 * length c.leaves) (need_edges c)
   needs_within e h = elim (Contains-append_cases (leaf_edges (length c.leaves)) (map colocation_edge c.colocations) e h) [
     | inl l ↦
         let m = of_map leaf_edge (range_with_len 0 (length c.leaves)) e l in

@@ -7,15 +7,15 @@ use Rattle.std.proofs.lemmas.List.Folds.{Any-from_list_any}
 use Rattle.std.proofs.lemmas.List.FromFn.{map-range_with_len_more}
 use Rattle.lemmas.proofs.Booleans.{sooner, later}
 use Rattle.lemmas.proofs.Searches.{passes_by}
-use Rattle.loops.specs.declared.edge.Edge.{Edge}
-use Rattle.loops.proofs.Relations.{EdgeFor, WayFor}
+use Rattle.edges.specs.declared.edge.Edge.{Edge}
+use Rattle.edges.proofs.Relations.{EdgeFor, WayFor}
 use Rattle.cluster_types.specs.declared.cluster.Cluster.{Cluster}
 use Rattle.cluster_types.specs.declared.leaf.Role.{Role}
 use Rattle.cluster_types.specs.declared.leaf.Role.TheVariants.{Started, Promoted}
 use Rattle.cluster_types.specs.declared.placement.Decision.{Decision}
 use Rattle.cluster_types.specs.declared.placement.Decision.TheVariants.{Place, Promote}
 use Rattle.cluster_types.specs.declared.rules.Colocation.{Colocation}
-use Rattle.cluster_types.specs.Decisions.{all_decisions, decision_of, is_place, is_same_decision, joins, leaf_of, needs}
+use Rattle.cluster_types.specs.Decisions.{all_decisions, decision_of, is_place, is_same_decision, makes_need, leaf_of, needs}
 use Rattle.loops.specs.Edges.{colocation_edge, decision_position, leaf_edge, leaf_edges, need_edges}
 use Rattle.loops.specs.FirstLoops.{JoinsLeaves}
 use Rattle.lemmas.proofs.Members.{Mapped, at_head, head_or_rest, in_flat, in_map, in_none, in_range, in_rest, of_flat, of_map, of_range}
@@ -122,7 +122,7 @@ module _ (c : Cluster) (joined : (col : Colocation) → Contains c.colocations c
         to = sym (ap decision_position same);
       }
 
-  edge_of_colocation : (w s : Decision) → Any (λ col. joins s w col ≡ true) c.colocations
+  edge_of_colocation : (w s : Decision) → Any (λ col. makes_need s w col ≡ true) c.colocations
       → EdgeFor (λ d. d) (need_edges c) decision_position w s
   edge_of_colocation w s (k, col, lt, at, h) =
       let dependent : s ≡ decision_of col.dependent col.dependent_role
@@ -139,10 +139,10 @@ module _ (c : Cluster) (joined : (col : Colocation) → Contains c.colocations c
   pub edge_for : (w s : Decision) → Contains (all_decisions c) w → needs c s w ≡ true
       → EdgeFor (λ d. d) (need_edges c) decision_position w s
   edge_for w s there h = on (not (is_place s) && is_same_decision w (Place (leaf_of s))) refl h where
-    on : (b : Bool) → (not (is_place s) && is_same_decision w (Place (leaf_of s))) ≡ b → b || list_any (joins s w) c.colocations ≡ true
+    on : (b : Bool) → (not (is_place s) && is_same_decision w (Place (leaf_of s))) ≡ b → b || list_any (makes_need s w) c.colocations ≡ true
         → EdgeFor (λ d. d) (need_edges c) decision_position w s
     on true e g = edge_of_leaf w s (leaf_there c w there) e
-    on false e g = edge_of_colocation w s (Any-from_list_any (joins s w) c.colocations g)
+    on false e g = edge_of_colocation w s (Any-from_list_any (makes_need s w) c.colocations g)
 
   way_of_leaf : (e : Edge) (s : Decision) → e.before ≡ decision_position s → Mapped leaf_edge (range_with_len 0 (length c.leaves)) e
       → WayFor (λ w s. needs c s w) (λ d. d) (all_decisions c) decision_position e s
@@ -169,7 +169,7 @@ module _ (c : Cluster) (joined : (col : Colocation) → Contains c.colocations c
         way = decision_of col.primary col.primary_role;
         among = decision_there c (decision_of col.primary col.primary_role) lt;
         begins = or_right (not (is_place s) && is_same_decision (decision_of col.primary col.primary_role) (Place (leaf_of s))) _
-            (passes_by (joins s (decision_of col.primary col.primary_role)) c.colocations col m.among
+            (passes_by (makes_need s (decision_of col.primary col.primary_role)) c.colocations col m.among
             (and_from (is_same_decision s (decision_of col.dependent col.dependent_role)) _
             (rw starts (is_itself (decision_of col.dependent col.dependent_role)))
             (is_itself (decision_of col.primary col.primary_role))));

@@ -4,16 +4,16 @@ use Rattle.std.specs.List.{flat_map, range_with_len}
 use Rattle.std.proofs.Math.Seq.{take-length}
 use Rattle.std.proofs.lemmas.Bool.{both_ways, cases_order}
 use Rattle.std.proofs.lemmas.List.Elements.{Contains-append_cases, Contains-append_left, Contains-append_right}
-use Rattle.loops.specs.declared.edge.Edge.{Edge}
-use Rattle.loops.specs.Loops.{HasLoop}
-use Rattle.loops.proofs.Fronts.{loop_with_more}
+use Rattle.edges.specs.declared.edge.Edge.{Edge}
+use Rattle.edges.specs.Loops.{HasLoop}
+use Rattle.edges.proofs.Fronts.{loop_with_more}
 use Rattle.cluster_types.specs.declared.cluster.Cluster.{Cluster}
 use Rattle.cluster_types.specs.declared.rules.Colocation.{Colocation}
 use Rattle.cluster_types.specs.declared.rules.Order.{Order}
 use Rattle.cluster_types.specs.Decisions.{NeedsHaveNoLoop}
-use Rattle.cluster_types.specs.Numbers.{HasNoLoop, Link, leaf_links, links, order_links}
-use Rattle.loops.specs.Edges.{counts, link_edge, need_edges, step_edges}
-use Rattle.loops.specs.FirstLoops.{AllJoin, AllOrder, ClosesNeeds, ClosesSteps, IsFirstColocation, IsFirstOrder, NeedsHaveLoop, StepsHaveLoop, with_colocations, with_orders}
+use Rattle.cluster_types.specs.Numbers.{StepsHaveNoLoop, Link, leaf_links, links, order_links}
+use Rattle.loops.specs.Edges.{counts_link, link_edge, need_edges, step_edges}
+use Rattle.loops.specs.FirstLoops.{AllJoin, AllOrder, ClosesNeeds, ClosesSteps, IsFirstColocation, IsFirstOrder, NeedsHaveLoop, StepsHaveLoop, with_colocations, with_first_orders}
 use Rattle.loops.proofs.FirstOrders.{first_ordered}
 use Rattle.loops.proofs.LinkLoops.{loop_of_steps, steps_loop}
 use Rattle.lemmas.proofs.Members.{contains_shorter, in_filter, in_flat, in_map, of_filter, of_flat, of_map}
@@ -22,7 +22,7 @@ use Rattle.loops.proofs.NeedLoops.{first_edges, first_joined, loop_of_needs, nee
 pub needs_apart : (c : Cluster) → NeedsHaveLoop c → NeedsHaveNoLoop c → ⊥
 needs_apart c l free = both_ways _ (free l.decision) l.needed
 
-pub steps_apart : (c : Cluster) → StepsHaveLoop c → HasNoLoop c → ⊥
+pub steps_apart : (c : Cluster) → StepsHaveLoop c → StepsHaveNoLoop c → ⊥
 steps_apart c l free = both_ways _ (free l.step) l.reached
 
 module _ (c : Cluster) (joined : AllJoin c) where
@@ -58,14 +58,14 @@ one_colocation c (Some j) (Some k) joined f g = elim (cases_order j k) [
   | inr (inr gt) ↦ absurd (not_later c joined k j gt g f)
 ]
 
-more_edges : (c : Cluster) (j k : ℕ) → j ≤ k → (e : Edge) → Contains (step_edges (with_orders c j)) e
-    → Contains (step_edges (with_orders c k)) e
+more_edges : (c : Cluster) (j k : ℕ) → j ≤ k → (e : Edge) → Contains (step_edges (with_first_orders c j)) e
+    → Contains (step_edges (with_first_orders c k)) e
 more_edges c j k le e h =
     let own : List Link = flat_map leaf_links (range_with_len 0 (length c.leaves)) in
     let some : List Link = flat_map order_links (take j c.orders) in
     let others : List Link = flat_map order_links (take k c.orders) in
-    let m = of_map link_edge (links (with_orders c j)) e h in
-    let kept = of_filter (counts (with_orders c j)) (own ++ some) m.source m.among in
+    let m = of_map link_edge (links (with_first_orders c j)) e h in
+    let kept = of_filter (counts_link (with_first_orders c j)) (own ++ some) m.source m.among in
     let among : Contains (own ++ others) m.source = elim (Contains-append_cases own some m.source kept.among) [
       | inl leaf ↦ Contains-append_left own others m.source leaf
       | inr order ↦
@@ -73,26 +73,26 @@ more_edges c j k le e h =
           Contains-append_right own others m.source
           (in_flat order_links (take k c.orders) f.source m.source (contains_shorter j k c.orders f.source le f.among) f.gives)
     ] in
-    let link : Contains (links (with_orders c k)) m.source
-    = in_filter (counts (with_orders c k)) (own ++ others) m.source among kept.passes in
-    rw m.gives at (in_map link_edge (links (with_orders c k)) m.source link)
+    let link : Contains (links (with_first_orders c k)) m.source
+    = in_filter (counts_link (with_first_orders c k)) (own ++ others) m.source among kept.passes in
+    rw m.gives at (in_map link_edge (links (with_first_orders c k)) m.source link)
 
 module _ (c : Cluster) (ordered : AllOrder c) where
   -- more orders keep a loop
-  pub steps_stay : (j k : ℕ) → j ≤ k → StepsHaveLoop (with_orders c j) → StepsHaveLoop (with_orders c k)
+  pub steps_stay : (j k : ℕ) → j ≤ k → StepsHaveLoop (with_first_orders c j) → StepsHaveLoop (with_first_orders c k)
   steps_stay j k le l =
-      steps_loop (with_orders c k) (first_ordered c ordered k)
-      (loop_with_more (step_edges (with_orders c j)) (step_edges (with_orders c k)) (more_edges c j k le) (4 * length c.leaves)
-      (loop_of_steps (with_orders c j) (first_ordered c ordered j) l))
+      steps_loop (with_first_orders c k) (first_ordered c ordered k)
+      (loop_with_more (step_edges (with_first_orders c j)) (step_edges (with_first_orders c k)) (more_edges c j k le) (4 * length c.leaves)
+      (loop_of_steps (with_first_orders c j) (first_ordered c ordered j) l))
 
-  pub all_orders_loop : StepsHaveLoop (with_orders c (length c.orders)) → StepsHaveLoop c
+  pub all_orders_loop : StepsHaveLoop (with_first_orders c (length c.orders)) → StepsHaveLoop c
   all_orders_loop l = subst (λ (os : List Order). StepsHaveLoop record c { orders = os }) (take-length c.orders) l
 
   some_steps : (k : ℕ) → ClosesSteps c k → StepsHaveLoop c
   some_steps k f = let w = f.within in all_orders_loop (steps_stay (k + 1) (length c.orders) (omega arith) f.closed)
 
   not_earlier : (j k : ℕ) → j < k → ClosesSteps c j → ClosesSteps c k → ⊥
-  not_earlier j k lt f g = steps_apart (with_orders c k) (steps_stay (j + 1) k (omega arith) f.closed) g.before
+  not_earlier j k lt f g = steps_apart (with_first_orders c k) (steps_stay (j + 1) k (omega arith) f.closed) g.before
 
 pub one_order : (c : Cluster) (a b : Option ℕ) → AllOrder c → IsFirstOrder c a → IsFirstOrder c b → a ≡ b
 one_order c None None ordered f g = refl

@@ -1,8 +1,8 @@
 -- The ranks are made up of those before them, and nothing else is.
 use Rattle.std.proofs.Common.{arith, ◌≡◌, ◌<◌, ◌≤◌, ◌+◌, ◌*◌, ℕ, suc, zero, List, [], ◌∷◌, length, map, fold, max, refl, sym, ◌∙◌, ap, Contains}
-use Rattle.loops.proofs.Longest.{fold_each, longest_are_heights, longest_bounded, map_alike}
+use Rattle.edges.proofs.Longest.{fold_each, longest_are_heights, longest_bounded, map_alike}
 use Rattle.cluster_types.specs.declared.cluster.Cluster.{Cluster}
-use Rattle.cluster_types.specs.Numbers.{HasNoLoop, Link, StepOf, is_same_step, links, rank}
+use Rattle.cluster_types.specs.Numbers.{StepsHaveNoLoop, Link, StepOf, is_same_step, links, rank}
 use Rattle.cluster_types.specs.Valid.{IsValid}
 use Rattle.loops.specs.Edges.{step_edges}
 use Rattle.loops.specs.FirstLoops.{AllOrder}
@@ -22,7 +22,7 @@ ranking_rises c height is l h =
     let at = is l.after in
     omega arith
 
-module _ (c : Cluster) (ordered : AllOrder c) (free : HasNoLoop c) where
+module _ (c : Cluster) (ordered : AllOrder c) (free : StepsHaveNoLoop c) where
   -- a bound of one more changes nothing
   pub rank_ranks : IsRanking c (rank c)
   rank_ranks s =

@@ -1,7 +1,7 @@
 -- The needs and the links of a cluster as edges between positions (rule of this project).
 use Rattle.std.specs.Prelude.{ℕ, ◌+◌, ◌*◌, ◌&&◌, Bool, List, length, map, filter, ◌++◌}
 use Rattle.std.specs.List.{range_with_len}
-use Rattle.loops.specs.declared.edge.Edge.{Edge}
+use Rattle.edges.specs.declared.edge.Edge.{Edge}
 use Rattle.cluster_types.specs.declared.cluster.Cluster.{Cluster}
 use Rattle.cluster_types.specs.declared.leaf.Op.{Op}
 use Rattle.cluster_types.specs.declared.leaf.Op.TheVariants as op
@@ -9,7 +9,7 @@ use Rattle.cluster_types.specs.declared.placement.Decision.{Decision}
 use Rattle.cluster_types.specs.declared.placement.Decision.TheVariants.{Place, Promote}
 use Rattle.cluster_types.specs.declared.rules.Colocation.{Colocation}
 use Rattle.cluster_types.specs.Decisions.{decision_of}
-use Rattle.loops.specs.FirstLoops.{with_orders}
+use Rattle.loops.specs.FirstLoops.{with_first_orders}
 use Rattle.cluster_types.specs.Numbers.{Link, StepOf, is_step, is_within_phase, links}
 
 -- two positions a leaf
@@ -48,12 +48,12 @@ abbrev pub link_edge : Link → Edge
 link_edge l = record { before = step_position l.before; after = step_position l.after }
 
 -- the link counts
-abbrev pub counts : Cluster → Link → Bool
-counts c l = is_within_phase l && is_step c l.before && is_step c l.after
+abbrev pub counts_link : Cluster → Link → Bool
+counts_link c l = is_within_phase l && is_step c l.before && is_step c l.after
 
 -- the edges of those of some links that count
 abbrev pub edges_of : Cluster → List Link → List Edge
-edges_of c some = map link_edge (filter (counts c) some)
+edges_of c some = map link_edge (filter (counts_link c) some)
 
 -- the edges of all links
 abbrev pub step_edges : Cluster → List Edge
@@ -61,4 +61,4 @@ step_edges c = map link_edge (links c)
 
 -- how many edges of links there are with the first order, with the first two, and so on
 abbrev pub order_ends : Cluster → List ℕ
-order_ends c = map (λ k. length (step_edges (with_orders c (k + 1)))) (range_with_len 0 (length c.orders))
+order_ends c = map (λ k. length (step_edges (with_first_orders c (k + 1)))) (range_with_len 0 (length c.orders))

@@ -7,7 +7,7 @@ use Rattle.cluster_types.specs.declared.placement.Decision.{Decision}
 use Rattle.cluster_types.specs.declared.rules.Colocation.{Colocation}
 use Rattle.cluster_types.specs.declared.rules.Order.{Order}
 use Rattle.cluster_types.specs.Decisions.{NeedsHaveNoLoop, all_decisions, needs_through}
-use Rattle.cluster_types.specs.Numbers.{HasNoLoop, StepOf, links, reaches}
+use Rattle.cluster_types.specs.Numbers.{StepsHaveNoLoop, StepOf, links, reaches}
 
 -- both leaves of the colocation are there
 pub record JoinsLeaves (c : Cluster) (col : Colocation) : Type 0 where
@@ -32,8 +32,8 @@ abbrev pub with_colocations : Cluster → ℕ → Cluster
 with_colocations c count = record c { colocations = take count c.colocations }
 
 -- the cluster with so many of its orders, the first ones
-abbrev pub with_orders : Cluster → ℕ → Cluster
-with_orders c count = record c { orders = take count c.orders }
+abbrev pub with_first_orders : Cluster → ℕ → Cluster
+with_first_orders c count = record c { orders = take count c.orders }
 
 -- some decision needs itself
 abbrev pub has_need_loop : Cluster → Bool
@@ -62,8 +62,8 @@ pub record ClosesNeeds (c : Cluster) (place : ℕ) : Type 0 where
 -- the links have no loop with the orders before this place, and with the one at it they have one
 pub record ClosesSteps (c : Cluster) (place : ℕ) : Type 0 where
   pub within : place < length c.orders
-  pub before : HasNoLoop (with_orders c place)
-  pub closed : StepsHaveLoop (with_orders c (place + 1))
+  pub before : StepsHaveNoLoop (with_first_orders c place)
+  pub closed : StepsHaveLoop (with_first_orders c (place + 1))
 
 -- where the needs get their first loop, and None where they have none
 abbrev pub IsFirstColocation : Cluster → Option ℕ → Type 0
@@ -72,7 +72,7 @@ IsFirstColocation c (Some place) = ClosesNeeds c place
 
 -- where the links get their first loop, and None where they have none
 abbrev pub IsFirstOrder : Cluster → Option ℕ → Type 0
-IsFirstOrder c None = HasNoLoop c
+IsFirstOrder c None = StepsHaveNoLoop c
 IsFirstOrder c (Some place) = ClosesSteps c place
 
 -- the first loop is closed among so many rules

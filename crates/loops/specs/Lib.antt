@@ -1,9 +1,3 @@
-pub mod Loops
-pub mod Clearing
-pub mod Longest
 pub mod FirstLoops
 pub mod Edges
 pub mod Ranks
-pub mod Ready
-pub mod Rows
-pub mod Freed

@@ -4,8 +4,8 @@ ghost use Rattle.cluster_types.specs.Decisions.{decision_of};
 ghost use Rattle.loops.specs.Edges.{colocation_edge, decision_position, leaf_edge, leaf_edges, need_edges};
 ghost use Rattle.loops.specs.FirstLoops.{AllJoin, IsFirstColocation, JoinsLeaves};
 
-use crate::{Edge, first_loop};
 use cluster_types::{Cluster, Colocation, LeafId, NoMemory, Role};
+use edges::{Edge, first_loop};
 use std::alloc::{AllocError, Global};
 
 /// Whether both leaves of the colocation are among so many.

@@ -1,9 +1,9 @@
 ghost use Rattle.std.specs.Prelude.{◌≡◌, ◌<◌, ◌++◌, ◌∷◌, [], OnOk};
 ghost use Rattle.cluster_types.specs.Numbers.{is_step, link, step_of};
-ghost use Rattle.loops.specs.Edges.{counts, edges_of, op_number, step_position};
+ghost use Rattle.loops.specs.Edges.{counts_link, edges_of, op_number, step_position};
 
-use crate::Edge;
 use cluster_types::{Cluster, LeafId, Op};
+use edges::Edge;
 use std::alloc::AllocError;
 
 /// An operation that changes a leaf, on whatever node.
@@ -42,7 +42,7 @@ fn is_there(cluster: &Cluster, step: Step) -> bool
 
 /// Whether both steps are there, and both give a role or both take one.
 fn is_counted(cluster: &Cluster, before: Step, after: Step) -> bool
-    ensures { result ≡ counts cluster.now (link before.what before.leaf after.what after.leaf) }
+    ensures { result ≡ counts_link cluster.now (link before.what before.leaf after.what after.leaf) }
 {
     before.what.is_up() == after.what.is_up()
         && is_there(cluster, before)

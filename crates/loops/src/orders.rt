@@ -6,9 +6,9 @@ ghost use Rattle.loops.specs.Edges.{edges_of, order_ends, step_edges};
 ghost use Rattle.loops.specs.FirstLoops.{AllOrder, IsFirstOrder, OrdersSteps};
 
 use crate::pushing::{push_leaf, push_order};
-use crate::{Edge, first_loop};
-use carry::done;
 use cluster_types::{Cluster, NoMemory, Op, Order};
+use edges::{Edge, first_loop};
+use faults::done;
 use std::alloc::{AllocError, Global};
 
 /// Whether an order is of steps of these leaves.

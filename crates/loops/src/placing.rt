@@ -5,7 +5,7 @@ ghost use Rattle.cluster_types.specs.declared.cluster.Cluster.{Cluster as Cluste
 ghost use Rattle.cluster_types.specs.declared.journal.Action.{Action as ActionOf};
 ghost use Rattle.cluster_types.specs.declared.journal.Action.TheVariants.{Cell};
 ghost use Rattle.cluster_types.specs.declared.leaf.Role.{Role as RoleOf};
-ghost use Rattle.cluster_types.specs.Numbers.{is_earlier, place_of};
+ghost use Rattle.cluster_types.specs.Numbers.{is_earlier, action_place};
 ghost use Rattle.cluster_types.specs.Precedence as precedence;
 ghost use Rattle.loops.specs.Ranks.{AreMigrating, AreRanks};
 
@@ -30,7 +30,7 @@ impl StepRanks {
         interval_ms: u32,
     ) -> Place
         ensures { (c : ClusterOf) (actions : List ActionOf) (role : RoleOf) → AreRanks c self.now → AreMigrating actions migrating.now
-            → result ≡ place_of c actions (Cell what leaf node interval_ms role) }
+            → result ≡ action_place c actions (Cell what leaf node interval_ms role) }
     {
         let rank = self.rank(what, leaf);
         match what {
@@ -64,7 +64,7 @@ impl StepRanks {
     /// doesn't. Nothing is said where the ranks are of another cluster, or the flags of other actions.
     pub fn place(&self, migrating: &[bool], action: &Action) -> Place
         ensures { (c : ClusterOf) (actions : List ActionOf) → AreRanks c self.now → AreMigrating actions migrating.now
-            → result ≡ place_of c actions action.now }
+            → result ≡ action_place c actions action.now }
     {
         match *action {
             Action::Fence { node } => Place {

@@ -4,9 +4,9 @@ ghost use Rattle.cluster_types.specs.Numbers.{inverse_links, leaf_links, link, o
 ghost use Rattle.cluster_types.specs.Precedence.{takers};
 ghost use Rattle.loops.specs.Edges.{edges_of};
 
-use crate::Edge;
 use crate::links::{Step, push_link};
 use cluster_types::{Cluster, LeafId, Op, Order, OrderKind};
+use edges::Edge;
 use std::alloc::AllocError;
 
 /// A step of the leaf.

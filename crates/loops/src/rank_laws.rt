@@ -2,22 +2,22 @@
 
 ghost use Rattle.std.specs.Prelude.{◌≡◌, ◌<◌, ℕ, Contains};
 ghost use Rattle.cluster_types.specs.declared.cluster.Cluster.{Cluster};
-ghost use Rattle.cluster_types.specs.Numbers.{HasNoLoop, Link, StepOf, links, rank};
+ghost use Rattle.cluster_types.specs.Numbers.{StepsHaveNoLoop, Link, StepOf, links, rank};
 ghost use Rattle.loops.specs.FirstLoops.{AllOrder};
 ghost use Rattle.loops.specs.Ranks.{IsRanking};
 
 /// The rank of a step is one more than the greatest rank of those that a link has before it, and 0 where there are none: the bound that
 /// the definition gives to chains cuts none off.
 pub fn ranks_are_longest_chains()
-    ensures { (c : Cluster) → AllOrder c → HasNoLoop c → IsRanking c (rank c) }
+    ensures { (c : Cluster) → AllOrder c → StepsHaveNoLoop c → IsRanking c (rank c) }
 {}
 
 /// Nothing else is made up so.
-pub fn ranks_are_one()
-    ensures { (c : Cluster) → AllOrder c → HasNoLoop c → (height : StepOf → ℕ) → IsRanking c height → (s : StepOf) → height s ≡ rank c s }
+pub fn ranks_are_unique()
+    ensures { (c : Cluster) → AllOrder c → StepsHaveNoLoop c → (height : StepOf → ℕ) → IsRanking c height → (s : StepOf) → height s ≡ rank c s }
 {}
 
 /// Ranks rise along each link.
 pub fn ranks_rise()
-    ensures { (c : Cluster) → AllOrder c → HasNoLoop c → (l : Link) → Contains (links c) l → rank c l.before < rank c l.after }
+    ensures { (c : Cluster) → AllOrder c → StepsHaveNoLoop c → (l : Link) → Contains (links c) l → rank c l.before < rank c l.after }
 {}

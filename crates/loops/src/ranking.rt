@@ -6,8 +6,9 @@ ghost use Rattle.cluster_types.specs.Numbers as numbers;
 ghost use Rattle.cluster_types.specs.Valid.{IsValid};
 ghost use Rattle.loops.specs.Ranks.{AreRanks, rank_in};
 
-use crate::{link_edges, longest_ways};
+use crate::link_edges;
 use cluster_types::{Cluster, LeafId, NoMemory, Op};
+use edges::longest_ways;
 use std::alloc::Global;
 use std::marker::Model;
 

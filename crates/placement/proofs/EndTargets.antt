@@ -14,7 +14,7 @@ use Rattle.cluster_types.specs.declared.placement.Target.TheVariants as target
 use Rattle.cluster_types.specs.declared.rules.Colocation.{Colocation}
 use Rattle.cluster_types.specs.declared.rules.Order.{Order}
 use Rattle.cluster_types.specs.Decisions.{decision_of}
-use Rattle.cluster_types.specs.Held.{AreTargets, ColocationMayHold, Held, IsClosed, Keeps, LacksFirst, LacksPrimary, OrderMayHold}
+use Rattle.cluster_types.specs.Held.{AreTargets, ColocationMayHold, Held, IsClosedUnderHolding, KeepsTarget, LacksFirst, LacksPrimary, OrderMayHold}
 use Rattle.cluster_types.specs.Pins.{pin_of}
 use Rattle.cluster_types.specs.Precedence.{is_mandatory_order, is_up, role_by}
 use Rattle.cluster_types.specs.Tables.{Targets, holds_role, is_in_scope, is_promoted_target, is_somewhere}
@@ -22,9 +22,9 @@ use Rattle.cluster_types.proofs.LeastSets.{held-least}
 use Rattle.cluster_types.proofs.OpLaws.{gives_one, up_of}
 use Rattle.cluster_types.proofs.TableCells.{promoted_somewhere}
 use Rattle.plan_laws.proofs.MadeOnes.{never_both}
-use Rattle.placement.specs.declared.dependencies.Dependency.{Dependency}
-use Rattle.placement.specs.Dependencies.{dependencies_by, from_colocation, from_order, may_hold}
-use Rattle.placement.specs.Taking.{IsSettled, has_primary}
+use Rattle.placement.specs.declared.held.dependencies.Dependency.{Dependency}
+use Rattle.placement.specs.Dependencies.{dependencies_by, from_colocation, from_order, may_hold_back}
+use Rattle.placement.specs.Taking.{IsRuleSettled, has_its_primary}
 use Rattle.placement.proofs.Lacking.{lacked, not_both}
 use Rattle.placement.proofs.LeftOfChosen.{IsLeft}
 use Rattle.placement.proofs.RuleOrigins.{colocation_there, order_there}
@@ -57,36 +57,36 @@ module _ (c : Cluster) (es : List Event) (chosen left : Targets) (is : IsLeft c 
       never_both (holds_role left r given n) h (not_held left r given n (gone (is.within r given n h))))
 
   module _ (pins : List (Option Pin)) (are : pins ≡ map (pin_of c es) (range_with_len 0 (length c.leaves)))
-      (settled : (rule : Dependency) → Contains (dependencies_by c pins) rule → IsSettled (length c.nodes) left rule) where
+      (settled : (rule : Dependency) → Contains (dependencies_by c pins) rule → IsRuleSettled (length c.nodes) left rule) where
     by_an_order : (o : Order) (n : ℕ) (first given : Role) → OrderMayHold c es chosen o n first given → LacksFirst c es chosen (HasGone left) o n first
         → HasGone left (decision_of o.then_leaf given) n
     by_an_order o n first given may lacks =
         let one : first ≡ role_by o.first_op = gives_one o.first_op first may.first_gives in
         let other : given ≡ role_by o.then_op = gives_one o.then_op given may.then_gives in
         let kind : is_mandatory_order o.kind ≡ true = rw may.mandatory refl in
-        let holds : may_hold o ≡ true
+        let holds : may_hold_back o ≡ true
         = and_from (is_mandatory_order o.kind && is_up o.first_op) (is_up o.then_op)
         (and_from (is_mandatory_order o.kind) (is_up o.first_op) kind (up_of o.first_op first may.first_gives)) (up_of o.then_op given may.then_gives) in
         let rule : Dependency = from_order o in
         let lacks_it : LacksFirst c es chosen (HasGone left) o n (role_by o.first_op) = subst (LacksFirst c es chosen (HasGone left) o n) one lacks in
-        let none : has_primary (length c.nodes) left rule n ≡ false
+        let none : has_its_primary (length c.nodes) left rule n ≡ false
         = lacked (length c.nodes) left rule n may.within (λ m low scope. missing o.first (role_by o.first_op) m (lacks_it m low (scoped o n m scope))) in
         has_gone left o.then_leaf given n
         (subst (λ (x : Role). holds_role left o.then_leaf x n ≡ false) (sym other)
-        (not_both (holds_role left rule.dependent rule.dependent_role n) (has_primary (length c.nodes) left rule n)
+        (not_both (holds_role left rule.dependent rule.dependent_role n) (has_its_primary (length c.nodes) left rule n)
         (settled rule (order_there c es pins are o may.present holds may.managed) n may.within) none))
 
     by_a_colocation : (col : Colocation) (n : ℕ) → ColocationMayHold c es chosen col n → LacksPrimary c es chosen (HasGone left) col n
         → HasGone left (decision_of col.dependent col.dependent_role) n
     by_a_colocation col n may lacks =
         let rule : Dependency = from_colocation col in
-        let none : has_primary (length c.nodes) left rule n ≡ false
+        let none : has_its_primary (length c.nodes) left rule n ≡ false
         = missing col.primary col.primary_role n lacks in
         has_gone left col.dependent col.dependent_role n
-        (not_both (holds_role left rule.dependent rule.dependent_role n) (has_primary (length c.nodes) left rule n)
+        (not_both (holds_role left rule.dependent rule.dependent_role n) (has_its_primary (length c.nodes) left rule n)
         (settled rule (colocation_there c es pins are col may.present may.mandatory may.managed) n may.within) none)
 
-    closed : IsClosed c es chosen (HasGone left)
+    closed : IsClosedUnderHolding c es chosen (HasGone left)
     closed = record {
       by_order = by_an_order;
       by_colocation = by_a_colocation;
@@ -98,7 +98,7 @@ module _ (c : Cluster) (es : List Event) (chosen left : Targets) (is : IsLeft c 
     held_has_gone : (d : Decision) (n : ℕ) → Held c es chosen d n → HasGone left d n
     held_has_gone d n h = held-least c es chosen (HasGone left) closed d n h
 
-    kept : (r n : ℕ) (t : Target) → left r n ≡ t → Keeps c es chosen r n t
+    kept : (r n : ℕ) (t : Target) → left r n ≡ t → KeepsTarget c es chosen r n t
     kept r n target.Nowhere e = λ h. is.held r role.Started n h (ap is_somewhere e)
     kept r n target.Started e = (
       is.within r role.Started n (ap is_somewhere e),

@@ -12,7 +12,7 @@ use Rattle.cluster_types.specs.declared.placement.Target.TheVariants as target
 use Rattle.cluster_types.specs.Decisions.{decision_of}
 use Rattle.cluster_types.specs.Held.{AreTargets, Held, by_colocation, by_order, by_place}
 use Rattle.cluster_types.specs.Tables.{Targets, holds_role}
-use Rattle.plan_laws.specs.HeldMarks.{Marks}
+use Rattle.plan_laws.specs.HeldMarks.{MarkedDecisions}
 use Rattle.plan_laws.proofs.HeldReason as held_rule
 use Rattle.plan_laws.proofs.KeptTargets as kept_targets
 use Rattle.plan_laws.proofs.MadeOnes.{never_both}
@@ -54,7 +54,7 @@ module _ (c : Cluster) (es : List Event) (chosen targets : Targets) (inside : St
 
   -- a place that is held is held by a rule
 
-  pub marks : Marks
+  pub marks : MarkedDecisions
   marks (Place r) n = holds_role chosen r role.Started n && not (holds_role targets r role.Started n)
   marks (Promote r) n = holds_role chosen r role.Promoted n && not (holds_role targets r role.Promoted n)
 

@@ -11,7 +11,7 @@ use Rattle.cluster_types.specs.declared.cluster.Cluster.{Cluster}
 use Rattle.cluster_types.specs.declared.journal.Promotion.{Promotion}
 use Rattle.cluster_types.proofs.TableCells.{ordered, same_place}
 use Rattle.cluster_types.specs.Terms.{promotion_score}
-use Rattle.placement.specs.Promotions.{AreSaid, is_free, said_of}
+use Rattle.placement.specs.Promotions.{AreSaid, is_vacant, score_said_of}
 
 -- the first stands; without one the new one counts if it is of the cell
 abbrev first_or : Option ℤ → Bool → ℤ → Option ℤ
@@ -25,7 +25,7 @@ said-last (Some q) p here = refl
 said-last None p true = refl
 said-last None p false = refl
 
-said-more : (before : List Promotion) (p : Promotion) (r n : ℕ) → said_of (before ++ p ∷ []) r n ≡ first_or (said_of before r n) (p.leaf == r && p.node == n) p.score
+said-more : (before : List Promotion) (p : Promotion) (r n : ℕ) → score_said_of (before ++ p ∷ []) r n ≡ first_or (score_said_of before r n) (p.leaf == r && p.node == n) p.score
 said-more before p r n =
     ap (option_map (λ (p : Promotion). p.score)) (find-append (λ (q : Promotion). q.leaf == r && q.node == n) before (p ∷ []))
     ∙ said-last (find (λ (q : Promotion). q.leaf == r && q.node == n) before) p (p.leaf == r && p.node == n)
@@ -44,9 +44,9 @@ module _ (c : Cluster) (before : List Promotion) (p : Promotion) (said : List (O
   first-kept None false h = refl
 
   -- what is kept of a cell stands where it is not free, or another cell is meant
-  stands : (r n : ℕ) → r < length c.leaves → n < length c.nodes → (said_of before r n ≡ None → is_of r n ≡ true → ⊥)
-      → slice_get said (place_of r n) ≡ Some (said_of (before ++ p ∷ []) r n)
-  stands r n leaf node h = are.each r n leaf node ∙ ap Some (sym (said-more before p r n ∙ first-kept (said_of before r n) (is_of r n) h))
+  stands : (r n : ℕ) → r < length c.leaves → n < length c.nodes → (score_said_of before r n ≡ None → is_of r n ≡ true → ⊥)
+      → slice_get said (place_of r n) ≡ Some (score_said_of (before ++ p ∷ []) r n)
+  stands r n leaf node h = are.each r n leaf node ∙ ap Some (sym (said-more before p r n ∙ first-kept (score_said_of before r n) (is_of r n) h))
 
   one-place : (r n : ℕ) → n < length c.nodes → p.node < length c.nodes → (place_of r n == place_of p.leaf p.node) ≡ is_of r n
   one-place r n node low =
@@ -87,16 +87,16 @@ module _ (c : Cluster) (before : List Promotion) (p : Promotion) (said : List (O
         within = slice_get_within said place None free
 
         each : (r n : ℕ) → r < length c.leaves → n < length c.nodes → (here : Bool) → is_of r n ≡ here
-            → slice_get (set said place (Some p.score)) (place_of r n) ≡ Some (said_of (before ++ p ∷ []) r n)
+            → slice_get (set said place (Some p.score)) (place_of r n) ≡ Some (score_said_of (before ++ p ∷ []) r n)
         each r n leaf node true e =
             let there = here-is r n e in
-            let none : said_of before r n ≡ None = ap (λ (kept : Option (Option ℤ)). unwrap_or kept None) (sym (are.each r n leaf node) ∙ (ap (slice_get said) there ∙ free)) in
-            let new : said_of (before ++ p ∷ []) r n ≡ Some p.score = said-more before p r n ∙ rw (none, e) refl in
+            let none : score_said_of before r n ≡ None = ap (λ (kept : Option (Option ℤ)). unwrap_or kept None) (sym (are.each r n leaf node) ∙ (ap (slice_get said) there ∙ free)) in
+            let new : score_said_of (before ++ p ∷ []) r n ≡ Some p.score = said-more before p r n ∙ rw (none, e) refl in
             ap (slice_get (set said place (Some p.score))) there
             ∙ (slice_get-get_or (set said place (Some p.score)) place None (omega (arith, within, length-set said place (Some p.score)))
             ∙ ap Some (get_or-set_same said place (Some p.score) None within ∙ sym new))
         each r n leaf node false e =
-            let low_place = slice_get_within said (place_of r n) (said_of before r n) (are.each r n leaf node) in
+            let low_place = slice_get_within said (place_of r n) (score_said_of before r n) (are.each r n leaf node) in
             let apart : (place_of r n == place) ≡ false = ap (λ k. place_of r n == k) at ∙ (one-place r n node low ∙ e) in
             slice_get-get_or (set said place (Some p.score)) (place_of r n) None (omega (arith, low_place, length-set said place (Some p.score)))
             ∙ (ap Some (get_or-set_other said place (place_of r n) (Some p.score) None (let f : place_of r n ≢ place = grind (arith, apart) in f))
@@ -113,7 +113,7 @@ none-said c cells size = record {
 }
 
 -- what is free keeps nothing, and what isn't keeps something or isn't there
-pub freed : (said : List (Option ℤ)) (place : ℕ) → is_free said place ≡ true → slice_get said place ≡ Some None
+pub freed : (said : List (Option ℤ)) (place : ℕ) → is_vacant said place ≡ true → slice_get said place ≡ Some None
 freed said place h = go (slice_get said place) h
   where
     go : (at : Option (Option ℤ)) → option_map_or is_none at false ≡ true → at ≡ Some None
@@ -121,11 +121,11 @@ freed said place h = go (slice_get said place) h
     go (Some (Some x)) e = absurd (false≢true e)
     go None e = absurd (false≢true e)
 
-pub taken : (said : List (Option ℤ)) (place : ℕ) → is_free said place ≡ false → slice_get said place ≡ Some None → ⊥
+pub taken : (said : List (Option ℤ)) (place : ℕ) → is_vacant said place ≡ false → slice_get said place ≡ Some None → ⊥
 taken said place h at = false≢true (sym h ∙ ap (λ kept. option_map_or is_none kept false) at)
 
 -- how much the leaf wants to be promoted is the first that is said, else -1
-pub wish-is : (promotions : List Promotion) (r n : ℕ) → promotion_score promotions r n ≡ unwrap_or (said_of promotions r n) (neg_ℤ (pos 1))
+pub wish-is : (promotions : List Promotion) (r n : ℕ) → promotion_score promotions r n ≡ unwrap_or (score_said_of promotions r n) (neg_ℤ (pos 1))
 wish-is promotions r n = go (find (λ (p : Promotion). p.leaf == r && p.node == n) promotions)
   where
     go : (first : Option Promotion) → option_map_or (λ (p : Promotion). p.score) first (neg_ℤ (pos 1)) ≡ unwrap_or (option_map (λ (p : Promotion). p.score) first) (neg_ℤ (pos 1))

@@ -7,12 +7,12 @@ use Rattle.std.proofs.lemmas.List.Sums.{count_by-le-length}
 use Rattle.std.proofs.lemmas.List.FromFn.{get_or-map-range_with_len, length-map-range_with_len}
 use Rattle.lemmas.proofs.Booleans.{first_of_three}
 use Rattle.lemmas.proofs.Counts.{count_more}
-use Rattle.score.specs.Row.{Tally, tally_of, Stands, finite_at}
+use Rattle.score.specs.Row.{Tally, score_tally_of, Stands, finite_at}
 use Rattle.cluster_types.specs.declared.cluster.Cluster.{Cluster}
 use Rattle.cluster_types.specs.declared.leaf.Role.{Role}
 use Rattle.cluster_types.specs.declared.rules.Location.{Location}
 use Rattle.cluster_types.specs.declared.rules.RuleLocation.{RuleLocation}
-use Rattle.placement.specs.Locations.{located, ruled, given, rule_holds_by}
+use Rattle.placement.specs.Locations.{located, ruled, scores_given, rule_holds_by}
 use Rattle.placement.specs.Rows.{each_of, few, IsRow, more_where}
 use Rattle.placement.proofs.FewTerms.{few-kept, few-append}
 use Rattle.placement.proofs.Tests.{swap}
@@ -31,7 +31,7 @@ none-each nodes =
 -- a list without terms for each node
 pub zero-row : (nodes : ℕ) (row : List Tally) → Stands row (replicate nodes []) → ((n : ℕ) → finite_at row n ≡ pos 0) → IsRow nodes nothing row
 zero-row nodes row is zeros = record {
-  stands = is ∙ ap (map tally_of) (none-each nodes);
+  stands = is ∙ ap (map score_tally_of) (none-each nodes);
   least = λ n low. let e = zeros n in omega (arith, ints, e);
   most = λ n low. let e = zeros n in omega (arith, ints, e);
 }
@@ -54,7 +54,7 @@ located-more passes r ls i l low is n =
     ∙ sym (kept-more (λ (l : Location). l.score) (λ l. l.leaf == r && l.node == n && passes l.role) ls i l low is)
 
 pub given-more : (c : Cluster) (moment : ℕ) (passes : Role → Bool) (r : ℕ) (ls : List Location) (rls : List RuleLocation) (i : ℕ) (rl : RuleLocation) → i < length rls → rl ≡ get_or rls i rl → (n : ℕ)
-    → more_where (λ n. (rl.leaf == r && passes rl.role) && rule_holds_by c moment rl n) rl.score (given c moment passes r ls (take i rls)) n ≡ given c moment passes r ls (take (i + 1) rls) n
+    → more_where (λ n. (rl.leaf == r && passes rl.role) && rule_holds_by c moment rl n) rl.score (scores_given c moment passes r ls (take i rls)) n ≡ scores_given c moment passes r ls (take (i + 1) rls) n
 given-more c moment passes r ls rls i rl low is n =
     append_assoc (located passes r ls n) (ruled c moment passes r (take i rls) n) _
     ∙ ap (λ ts. located passes r ls n ++ ts)
@@ -67,7 +67,7 @@ few-located passes r ls n =
     omega (arith, a, b)
 
 pub few-given : (c : Cluster) (moment : ℕ) (passes : Role → Bool) (r : ℕ) (ls : List Location) (rls : List RuleLocation) (n : ℕ)
-    → few (given c moment passes r ls rls n) ≤ count_by (λ (l : Location). l.leaf == r) ls + count_by (λ (rl : RuleLocation). rl.leaf == r) rls
+    → few (scores_given c moment passes r ls rls n) ≤ count_by (λ (l : Location). l.leaf == r) ls + count_by (λ (rl : RuleLocation). rl.leaf == r) rls
 few-given c moment passes r ls rls n =
     let a = few-located passes r ls n in
     let b = few-kept (λ (rl : RuleLocation). rl.score) (λ rl. rl.leaf == r && passes rl.role && rule_holds_by c moment rl n) rls in

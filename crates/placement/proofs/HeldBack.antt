@@ -12,14 +12,14 @@ use Rattle.cluster_types.specs.declared.rules.Colocation.{Colocation}
 use Rattle.cluster_types.specs.declared.rules.Order.{Order}
 use Rattle.cluster_types.specs.Choice.{is_mandatory}
 use Rattle.cluster_types.specs.Decisions.{decision_of, is_same_decision}
-use Rattle.cluster_types.specs.Held.{Gives, Held, LacksFirst}
+use Rattle.cluster_types.specs.Held.{ActionGives, Held, LacksFirst}
 use Rattle.cluster_types.specs.Precedence.{is_mandatory_order, is_up, role_by}
 use Rattle.cluster_types.specs.Reasons.{IsHeldByColocation, IsHeldByOrder}
 use Rattle.cluster_types.specs.Tables.{Targets, holds_role}
 use Rattle.cluster_types.proofs.OpLaws.{gives_by, gives_one, of_kind, up_of}
-use Rattle.placement.specs.Dependencies.{from_colocation, from_order, may_hold, of_colocation, of_order}
+use Rattle.placement.specs.Dependencies.{from_colocation, from_order, may_hold_back, of_colocation, of_order}
 use Rattle.placement.specs.Reasoning.{holds_back}
-use Rattle.placement.specs.Taking.{has_primary}
+use Rattle.placement.specs.Taking.{has_its_primary}
 use Rattle.placement.proofs.EndTargets.{has_gone, missing, scoped}
 use Rattle.placement.proofs.Lacking.{held_not, lacked, lacking}
 use Rattle.placement.proofs.LeftOfChosen.{IsLeft, in_scope}
@@ -34,7 +34,7 @@ module _ (c : Cluster) (es : List Event) (chosen targets : Targets) (is : IsLeft
           → holds_back (length c.nodes) targets r n (if b then Some (from_colocation col) else None) ≡ true → IsHeldByColocation c es chosen r n col
       go true e h =
           let its = is_same_decision (Place r) (decision_of col.dependent col.dependent_role) in
-          let has = has_primary (length c.nodes) targets (from_colocation col) n in
+          let has = has_its_primary (length c.nodes) targets (from_colocation col) n in
           record {
             mandatory = e;
             dependent = sooner its (not has) h;
@@ -45,27 +45,27 @@ module _ (c : Cluster) (es : List Event) (chosen targets : Targets) (is : IsLeft
 
   pub colocation_no : (col : Colocation) → IsHeldByColocation c es chosen r n col → holds_back (length c.nodes) targets r n (of_colocation col) ≡ true
   colocation_no col h =
-      let none : has_primary (length c.nodes) targets (from_colocation col) n ≡ false
+      let none : has_its_primary (length c.nodes) targets (from_colocation col) n ≡ false
       = missing c es chosen targets is col.primary col.primary_role n
       (λ was. has_gone targets col.primary col.primary_role n (gone col.primary col.primary_role n (h.lacking was))) in
       rw h.mandatory (held_not (is_same_decision (Place r) (decision_of col.dependent col.dependent_role))
-      (has_primary (length c.nodes) targets (from_colocation col) n) h.dependent none)
+      (has_its_primary (length c.nodes) targets (from_colocation col) n) h.dependent none)
 
   pub order_yes : (o : Order) → holds_back (length c.nodes) targets r n (of_order o) ≡ true → IsHeldByOrder c es chosen r n o
-  order_yes o h = go (may_hold o) refl h
+  order_yes o h = go (may_hold_back o) refl h
     where
-      go : (b : Bool) → may_hold o ≡ b → holds_back (length c.nodes) targets r n (if b then Some (from_order o) else None) ≡ true
+      go : (b : Bool) → may_hold_back o ≡ b → holds_back (length c.nodes) targets r n (if b then Some (from_order o) else None) ≡ true
           → IsHeldByOrder c es chosen r n o
       go true e h =
           let its = is_same_decision (Place r) (decision_of o.then_leaf (role_by o.then_op)) in
-          let has = has_primary (length c.nodes) targets (from_order o) n in
+          let has = has_its_primary (length c.nodes) targets (from_order o) n in
           let two = sooner (is_mandatory_order o.kind && is_up o.first_op) (is_up o.then_op) e in
           let same : Place r ≡ decision_of o.then_leaf (role_by o.then_op) = same_decision (Place r) _ (sooner its (not has) h) in
           let (leaf, starts) = placed_by r o.then_leaf (role_by o.then_op) same in
           record {
             mandatory = of_kind o.kind (sooner (is_mandatory_order o.kind) (is_up o.first_op) two);
             later = leaf;
-            starts = subst (Gives o.then_op) starts (gives_by o.then_op (later (is_mandatory_order o.kind && is_up o.first_op) (is_up o.then_op) e));
+            starts = subst (ActionGives o.then_op) starts (gives_by o.then_op (later (is_mandatory_order o.kind && is_up o.first_op) (is_up o.then_op) e));
             first = role_by o.first_op;
             gives = gives_by o.first_op (later (is_mandatory_order o.kind) (is_up o.first_op) two);
             lacking = λ m low scope was. is.held o.first (role_by o.first_op) m was
@@ -76,7 +76,7 @@ module _ (c : Cluster) (es : List Event) (chosen targets : Targets) (is : IsLeft
   pub order_no : (o : Order) → IsHeldByOrder c es chosen r n o → holds_back (length c.nodes) targets r n (of_order o) ≡ true
   order_no o h =
       let kind : is_mandatory_order o.kind ≡ true = rw h.mandatory refl in
-      let holds : may_hold o ≡ true
+      let holds : may_hold_back o ≡ true
       = and_from (is_mandatory_order o.kind && is_up o.first_op) (is_up o.then_op)
       (and_from (is_mandatory_order o.kind) (is_up o.first_op) kind (up_of o.first_op h.first h.gives)) (up_of o.then_op role.Started h.starts) in
       let starts : role_by o.then_op ≡ role.Started = sym (gives_one o.then_op role.Started h.starts) in
@@ -84,8 +84,8 @@ module _ (c : Cluster) (es : List Event) (chosen targets : Targets) (is : IsLeft
       let first : h.first ≡ role_by o.first_op = gives_one o.first_op h.first h.gives in
       let lacks : LacksFirst c es chosen (Held c es chosen) o n (role_by o.first_op)
       = subst (LacksFirst c es chosen (Held c es chosen) o n) first h.lacking in
-      let none : has_primary (length c.nodes) targets (from_order o) n ≡ false
+      let none : has_its_primary (length c.nodes) targets (from_order o) n ≡ false
       = lacked (length c.nodes) targets (from_order o) n lt (λ m low scope.
       missing c es chosen targets is o.first (role_by o.first_op) m (λ was.
       has_gone targets o.first (role_by o.first_op) m (gone o.first (role_by o.first_op) m (lacks m low (scoped o n m scope) was)))) in
-      rw holds (held_not (is_same_decision (Place r) (decision_of o.then_leaf (role_by o.then_op))) (has_primary (length c.nodes) targets (from_order o) n) same none)
+      rw holds (held_not (is_same_decision (Place r) (decision_of o.then_leaf (role_by o.then_op))) (has_its_primary (length c.nodes) targets (from_order o) n) same none)

@@ -8,21 +8,21 @@ use Rattle.std.proofs.lemmas.List.Folds.{Any-from_list_any}
 use Rattle.lemmas.proofs.Booleans.{sooner}
 use Rattle.lemmas.proofs.Counts.{count-is, count-none, count_agree}
 use Rattle.lemmas.proofs.Members.{of_filter, of_map}
-use Rattle.cluster_types.specs.declared.edges.Edge.{Edge}
-use Rattle.cluster_types.specs.Graphs.{EndWithin}
-use Rattle.loops.specs.declared.side.Side.TheVariants.{After}
-use Rattle.loops.specs.Rows.{edges_at, targets_of}
+use Rattle.edges.specs.declared.edge.Edge.{Edge}
+use Rattle.edges.specs.Loops.{EndsWithin}
+use Rattle.edges.specs.declared.side.Side.TheVariants.{After}
+use Rattle.edges.specs.Rows.{edges_at, edge_targets_of}
 use Rattle.placement.specs.Queueing.{held}
 
 -- each target stands at the end of an edge
-pub target-within : (positions : ℕ) (edges : List Edge) → EndWithin positions edges → (k x : ℕ) → Contains (targets_of edges k) x → x < positions
+pub target-within : (positions : ℕ) (edges : List Edge) → EndsWithin positions edges → (k x : ℕ) → Contains (edge_targets_of edges k) x → x < positions
 target-within positions edges ends k x there =
     let m = of_map (λ (e : Edge). e.after) (filter (λ (e : Edge). e.before == k) edges) x there in
     let f = of_filter (λ (e : Edge). e.before == k) edges m.source m.among in
     subst (λ (y : ℕ). y < positions) m.gives (ends m.source f.among).1
 
 -- no edge leads past the last position
-held-beyond : (positions : ℕ) (edges : List Edge) (made : List Bool) → EndWithin positions edges → (x : ℕ) → positions ≤ x → held edges made x ≡ 0
+held-beyond : (positions : ℕ) (edges : List Edge) (made : List Bool) → EndsWithin positions edges → (x : ℕ) → positions ≤ x → held edges made x ≡ 0
 held-beyond positions edges made ends x high =
     count-none (λ (e : Edge). x == e.after && not (slice_index_or made e.before false)) edges
     (false_from_ne_true (list_any (λ (e : Edge). x == e.after && not (slice_index_or made e.before false)) edges) (λ h.
@@ -40,13 +40,13 @@ module _ (edges : List Edge) (made : List Bool) (k : ℕ) (low : k < length made
   now = slice_set made k true
 
   -- the edges from a position hold no more once it is taken
-  count-row : (x : ℕ) (es : List Edge) → held es made x ≡ held es now x + count_by (◌==◌ x) (targets_of es k)
+  count-row : (x : ℕ) (es : List Edge) → held es made x ≡ held es now x + count_by (◌==◌ x) (edge_targets_of es k)
   count-row x [] = refl
   count-row x (e ∷ es) = on (e.before == k) refl (x == e.after) refl (count-row x es)
     where
       on : (from : Bool) → (e.before == k) ≡ from → (b : Bool) → (x == e.after) ≡ b
-          → held es made x ≡ held es now x + count_by (◌==◌ x) (targets_of es k)
-          → held (e ∷ es) made x ≡ held (e ∷ es) now x + count_by (◌==◌ x) (targets_of (e ∷ es) k)
+          → held es made x ≡ held es now x + count_by (◌==◌ x) (edge_targets_of es k)
+          → held (e ∷ es) made x ≡ held (e ∷ es) now x + count_by (◌==◌ x) (edge_targets_of (e ∷ es) k)
       on true from b at rest =
           let same : e.before ≡ k = eqb-true e.before k from in
           let was : slice_index_or made e.before false ≡ false = ap (λ y. slice_index_or made y false) same ∙ open_yet in
@@ -55,10 +55,10 @@ module _ (edges : List Edge) (made : List Bool) (k : ℕ) (low : k < length made
           count-is (λ (e : Edge). x == e.after && not (slice_index_or made e.before false)) e es b (rw (at, was) (and-true b)) in
           let none : held (e ∷ es) now x ≡ 0 + held es now x =
           count-is (λ (e : Edge). x == e.after && not (slice_index_or now e.before false)) e es false (rw (at, is) (and-false b)) in
-          let row : targets_of (e ∷ es) k ≡ e.after ∷ targets_of es k = rw from refl in
-          let more : count_by (◌==◌ x) (e.after ∷ targets_of es k) ≡ cond b 1 0 + count_by (◌==◌ x) (targets_of es k) =
-          count-is (◌==◌ x) e.after (targets_of es k) b at in
-          let all : count_by (◌==◌ x) (targets_of (e ∷ es) k) ≡ cond b 1 0 + count_by (◌==◌ x) (targets_of es k) = ap (count_by (◌==◌ x)) row ∙ more in
+          let row : edge_targets_of (e ∷ es) k ≡ e.after ∷ edge_targets_of es k = rw from refl in
+          let more : count_by (◌==◌ x) (e.after ∷ edge_targets_of es k) ≡ cond b 1 0 + count_by (◌==◌ x) (edge_targets_of es k) =
+          count-is (◌==◌ x) e.after (edge_targets_of es k) b at in
+          let all : count_by (◌==◌ x) (edge_targets_of (e ∷ es) k) ≡ cond b 1 0 + count_by (◌==◌ x) (edge_targets_of es k) = ap (count_by (◌==◌ x)) row ∙ more in
           omega arith
       on false from b at rest =
           let other : e.before ≢ k = eqb-false e.before k from in
@@ -67,14 +67,14 @@ module _ (edges : List Edge) (made : List Bool) (k : ℕ) (low : k < length made
           count-is (λ (e : Edge). x == e.after && not (slice_index_or made e.before false)) e es (b && not (slice_index_or made e.before false)) (rw at refl) in
           let is : held (e ∷ es) now x ≡ cond (b && not (slice_index_or made e.before false)) 1 0 + held es now x =
           count-is (λ (e : Edge). x == e.after && not (slice_index_or now e.before false)) e es (b && not (slice_index_or made e.before false)) (rw (at, still) refl) in
-          let row : targets_of (e ∷ es) k ≡ targets_of es k = rw from refl in
-          let all : count_by (◌==◌ x) (targets_of (e ∷ es) k) ≡ count_by (◌==◌ x) (targets_of es k) = ap (count_by (◌==◌ x)) row in
+          let row : edge_targets_of (e ∷ es) k ≡ edge_targets_of es k = rw from refl in
+          let all : count_by (◌==◌ x) (edge_targets_of (e ∷ es) k) ≡ count_by (◌==◌ x) (edge_targets_of es k) = ap (count_by (◌==◌ x)) row in
           omega arith
 
-  module _ (positions : ℕ) (ends : EndWithin positions edges) (counts : List ℕ) (size : length counts ≡ positions)
+  module _ (positions : ℕ) (ends : EndsWithin positions edges) (counts : List ℕ) (size : length counts ≡ positions)
       (counted : (x : ℕ) → x < positions → slice_index_or counts x 0 ≡ held edges made x) where
     -- so many can be counted off
-    pub row-few : (x : ℕ) → count_by (◌==◌ x) (targets_of edges k) ≤ slice_index_or counts x 0
+    pub row-few : (x : ℕ) → count_by (◌==◌ x) (edge_targets_of edges k) ≤ slice_index_or counts x 0
     row-few x =
         let all = count-row x edges in
         elim (cases_lt x positions) [
@@ -82,7 +82,7 @@ module _ (edges : List Edge) (made : List Bool) (k : ℕ) (low : k < length made
           | inr beyond ↦ (let none = held-beyond positions edges made ends x beyond in omega arith)
         ]
 
-    pub counted-next : (new : List ℕ) → ((x : ℕ) → slice_index_or new x 0 + count_by (◌==◌ x) (targets_of edges k) ≡ slice_index_or counts x 0)
+    pub counted-next : (new : List ℕ) → ((x : ℕ) → slice_index_or new x 0 + count_by (◌==◌ x) (edge_targets_of edges k) ≡ slice_index_or counts x 0)
         → (x : ℕ) → x < positions → slice_index_or new x 0 ≡ held edges now x
     counted-next new less x inside =
         let all = count-row x edges in

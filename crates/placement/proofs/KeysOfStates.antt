@@ -20,7 +20,7 @@ use Rattle.placement.specs.Scores.{score_in, scores_of}
 use Rattle.placement.specs.Usable.{is_usable_by}
 use Rattle.placement.proofs.OwnOfStates.{usable-is}
 use Rattle.placement.proofs.TableOfStates.{total-is}
-use Rattle.placement.specs.DecisionLists.{is_active_by_cell, key_by, totals_where_by}
+use Rattle.placement.specs.DecisionLists.{is_active_by_cell, compared_key, totals_where_by}
 use Rattle.placement.specs.Effective.{effective_in}
 use Rattle.placement.proofs.Alike.{map-on}
 
@@ -36,7 +36,7 @@ module _ (c : Cluster) (es : List Event) (ps : List Promotion) (d : Decision) (l
       let low = of_range 0 (length c.nodes) n k.among in
       total-is c es ps d n leaf (omega (arith, low)))
 
-  pub key-is : key_by c (states_of c es ps) (scores_of c es ps) d ≡ key_of c es ps d
+  pub key-is : compared_key c (states_of c es ps) (scores_of c es ps) d ≡ key_of c es ps d
   key-is =
       let active = ap greatest_of (totals-are (is_active_by_cell c (states_of c es ps) d) (λ n. is_active_for d (cell_state c (leaf_of d) n es))
       (λ n node. ap (λ s. option_map_or (λ (cell : Cell). is_active_for d cell.state) s false) (cell_kept c es ps (leaf_of d) n leaf node))) in

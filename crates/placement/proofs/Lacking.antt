@@ -7,8 +7,8 @@ use Rattle.lemmas.proofs.Members.{of_range}
 use Rattle.lemmas.proofs.Ranges.{some_in_range}
 use Rattle.cluster_types.specs.Tables.{Targets, holds_role}
 use Rattle.plan_laws.proofs.MadeOnes.{never_both}
-use Rattle.placement.specs.declared.dependencies.Dependency.{Dependency}
-use Rattle.placement.specs.Taking.{has_primary, is_anywhere}
+use Rattle.placement.specs.declared.held.dependencies.Dependency.{Dependency}
+use Rattle.placement.specs.Taking.{has_its_primary, is_anywhere}
 
 pub not_both : (a b : Bool) → a && not b ≡ false → b ≡ false → a ≡ false
 not_both true true h e = cc
@@ -34,7 +34,7 @@ module _ (nodes : ℕ) (table : Targets) (rule : Dependency) where
       (some_in_range (holds_role table rule.primary rule.primary_role) 0 nodes m (omega arith) (omega arith) there) h)
 
   -- then on no node in scope the primary holds its role
-  pub lacking : (n : ℕ) → has_primary nodes table rule n ≡ false → (m : ℕ) → m < nodes → (rule.local ≡ true → n ≡ m)
+  pub lacking : (n : ℕ) → has_its_primary nodes table rule n ≡ false → (m : ℕ) → m < nodes → (rule.local ≡ true → n ≡ m)
       → holds_role table rule.primary rule.primary_role m ≡ false
   lacking n h m lt scope = go rule.local refl h
     where
@@ -46,7 +46,7 @@ module _ (nodes : ℕ) (table : Targets) (rule : Dependency) where
 
   -- and where it doesn't, the dependency lacks it
   pub lacked : (n : ℕ) → n < nodes → ((m : ℕ) → m < nodes → (rule.local ≡ true → n ≡ m) → holds_role table rule.primary rule.primary_role m ≡ false)
-      → has_primary nodes table rule n ≡ false
+      → has_its_primary nodes table rule n ≡ false
   lacked n within none = go rule.local refl
     where
       go : (b : Bool) → rule.local ≡ b

@@ -31,7 +31,7 @@ use Rattle.plan_laws.proofs.MadeOnes.{never_both}
 use Rattle.plan_laws.proofs.TablesWithin.{StaysWithin}
 use Rattle.placement.specs.Dependencies.{of_colocation, of_order}
 use Rattle.placement.specs.Reads.{is_fail_stopped_in}
-use Rattle.placement.specs.Reasoning.{first_colocation, first_node, first_order, has_target, held_by, holds_back, id_of, or_held, plain_by, reason_by, reason_in}
+use Rattle.placement.specs.Reasoning.{first_colocation, first_target_node, first_order, has_target, held_by, holds_back, id_of, or_held, plain_by, reason_by, reason_in}
 use Rattle.placement.proofs.EndedCells.{ended, held_gone, rule_of}
 use Rattle.placement.proofs.FirstFound.{Least, finds_none, found_first, found_least, found_none}
 use Rattle.placement.proofs.HeldBack.{colocation_no, colocation_yes, order_no, order_yes}
@@ -121,7 +121,7 @@ module _ (c : Cluster) (es : List Event) (chosen targets : Targets) (inside : St
       )
       by_rule None is None too = absurd (no_rule_at_all is too)
 
-    from_node : plain_reason c es chosen r ≡ None → (o : Option ℕ) → first_node (length c.nodes) chosen r ≡ o
+    from_node : plain_reason c es chosen r ≡ None → (o : Option ℕ) → first_target_node (length c.nodes) chosen r ≡ o
         → HasReason c es chosen targets r (held_by c (length c.nodes) targets r o)
     from_node plainly (Some n) is =
         by_rule plainly n (found_least (λ m. is_somewhere (chosen r m)) 0 (length c.nodes) n is)
@@ -130,27 +130,27 @@ module _ (c : Cluster) (es : List Event) (chosen targets : Targets) (inside : St
         let some : is_chosen_nowhere c es chosen r ≡ false
         = some_node (copies c r == 0) (is_stopped_role (target_role_of c r)) (is_fail_stopped c r es) c.properties.stop_all (may_start c es)
         (is_chosen_nowhere c es chosen r) plainly in
-        let none_found : not (is_some (first_node (length c.nodes) chosen r)) ≡ true = ap (λ (o : Option ℕ). not (is_some o)) is in
+        let none_found : not (is_some (first_target_node (length c.nodes) chosen r)) ≡ true = ap (λ (o : Option ℕ). not (is_some o)) is in
         absurd (never_both (is_chosen_nowhere c es chosen r)
         (sym (finds_none (λ m. is_somewhere (chosen r m)) (range_with_len 0 (length c.nodes))) ∙ none_found) some)
 
     by_plain : (o : Option NoReason) → plain_reason c es chosen r ≡ o
-        → HasReason c es chosen targets r (or_held o (held_by c (length c.nodes) targets r (first_node (length c.nodes) chosen r)))
+        → HasReason c es chosen targets r (or_held o (held_by c (length c.nodes) targets r (first_target_node (length c.nodes) chosen r)))
     by_plain (Some reason) is = (free, nowhere, as_plain reason is)
-    by_plain None is = from_node is (first_node (length c.nodes) chosen r) refl
+    by_plain None is = from_node is (first_target_node (length c.nodes) chosen r) refl
 
   module _ (states : States) (starts : Bool) (pins : List (Option Pin)) (pinned : pins ≡ map (pin_of c es) (range_with_len 0 (length c.leaves)))
       (stopped : is_fail_stopped_in states r ≡ is_fail_stopped c r es) (rights : starts ≡ may_start c es) where
-    same_plain : plain_by c r (is_fail_stopped_in states r) starts (not (is_some (first_node (length c.nodes) chosen r))) ≡ plain_reason c es chosen r
+    same_plain : plain_by c r (is_fail_stopped_in states r) starts (not (is_some (first_target_node (length c.nodes) chosen r))) ≡ plain_reason c es chosen r
     same_plain =
-        ap (λ (b : Bool). plain_by c r b starts (not (is_some (first_node (length c.nodes) chosen r)))) stopped
-        ∙ ap (λ (b : Bool). plain_by c r (is_fail_stopped c r es) b (not (is_some (first_node (length c.nodes) chosen r)))) rights
+        ap (λ (b : Bool). plain_by c r b starts (not (is_some (first_target_node (length c.nodes) chosen r)))) stopped
+        ∙ ap (λ (b : Bool). plain_by c r (is_fail_stopped c r es) b (not (is_some (first_target_node (length c.nodes) chosen r)))) rights
         ∙ ap (plain_by c r (is_fail_stopped c r es) (may_start c es)) (finds_none (λ m. is_somewhere (chosen r m)) (range_with_len 0 (length c.nodes)))
 
     without_target : is_pinned c es r ≡ false → has_target (length c.nodes) targets r ≡ false
         → HasReason c es chosen targets r (reason_by c states starts (length c.nodes) chosen targets r)
     without_target free none_there =
-        by_plain free nowhere (plain_by c r (is_fail_stopped_in states r) starts (not (is_some (first_node (length c.nodes) chosen r)))) (sym same_plain)
+        by_plain free nowhere (plain_by c r (is_fail_stopped_in states r) starts (not (is_some (first_target_node (length c.nodes) chosen r)))) (sym same_plain)
       where
         nowhere : (n : ℕ) → n < length c.nodes → is_somewhere (targets r n) ≡ false
         nowhere n lt =

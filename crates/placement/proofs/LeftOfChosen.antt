@@ -19,9 +19,9 @@ use Rattle.cluster_types.specs.Precedence.{is_mandatory_order, is_up, role_by}
 use Rattle.cluster_types.specs.Tables.{Targets, holds_role, is_in_scope}
 use Rattle.cluster_types.proofs.OpLaws.{gives_by, of_kind}
 use Rattle.plan_laws.proofs.MadeOnes.{never_both}
-use Rattle.placement.specs.declared.dependencies.Dependency.{Dependency}
-use Rattle.placement.specs.Dependencies.{dependencies_by, from_colocation, from_order, may_hold}
-use Rattle.placement.specs.Taking.{Taken, has_primary, none_yet, one_more, takes, without}
+use Rattle.placement.specs.declared.held.dependencies.Dependency.{Dependency}
+use Rattle.placement.specs.Dependencies.{dependencies_by, from_colocation, from_order, may_hold_back}
+use Rattle.placement.specs.Taking.{TakenAway, has_its_primary, none_yet, one_more, takes, without}
 use Rattle.placement.proofs.Lacking.{lacking}
 use Rattle.placement.proofs.RolesTaken.{Gone, gone, lowered}
 use Rattle.placement.proofs.RuleOrigins.{Origin, a_colocation, an_order, origin}
@@ -44,19 +44,19 @@ module _ (c : Cluster) (es : List Event) (pins : List (Option Pin)) (are : pins 
     by_a_colocation col among mandatory free taken =
         let rule : Dependency = from_colocation col in
         let there = takes_held (length c.nodes) left rule n taken in
-        let none : has_primary (length c.nodes) left rule n ≡ false
-        = not-true (has_primary (length c.nodes) left rule n) (later (holds_role left rule.dependent rule.dependent_role n) (not (has_primary (length c.nodes) left rule n)) taken) in
+        let none : has_its_primary (length c.nodes) left rule n ≡ false
+        = not-true (has_its_primary (length c.nodes) left rule n) (later (holds_role left rule.dependent rule.dependent_role n) (not (has_its_primary (length c.nodes) left rule n)) taken) in
         by_colocation col n
         (record { present = among; mandatory = mandatory; managed = free; within = lt; chosen = is.within col.dependent col.dependent_role n there })
         (λ was. is.held col.primary col.primary_role n was (lacking (length c.nodes) left rule n none n lt (λ e. refl)))
 
-    by_an_order : (o : Order) → Contains c.orders o → may_hold o ≡ true → is_pinned c es o.then_leaf ≡ false
+    by_an_order : (o : Order) → Contains c.orders o → may_hold_back o ≡ true → is_pinned c es o.then_leaf ≡ false
         → takes (length c.nodes) left (from_order o) n ≡ true → Held c es chosen (decision_of o.then_leaf (role_by o.then_op)) n
     by_an_order o among holds free taken =
         let rule : Dependency = from_order o in
         let there = takes_held (length c.nodes) left rule n taken in
-        let none : has_primary (length c.nodes) left rule n ≡ false
-        = not-true (has_primary (length c.nodes) left rule n) (later (holds_role left rule.dependent rule.dependent_role n) (not (has_primary (length c.nodes) left rule n)) taken) in
+        let none : has_its_primary (length c.nodes) left rule n ≡ false
+        = not-true (has_its_primary (length c.nodes) left rule n) (later (holds_role left rule.dependent rule.dependent_role n) (not (has_its_primary (length c.nodes) left rule n)) taken) in
         let two = sooner (is_mandatory_order o.kind && is_up o.first_op) (is_up o.then_op) holds in
         by_order o n (role_by o.first_op) (role_by o.then_op)
         (record {
@@ -115,7 +115,7 @@ module _ (c : Cluster) (es : List Event) (pins : List (Option Pin)) (are : pins 
       by_last r given m was now held false e = is.held r given m was e
 
   -- so it is after all steps
-  pub left_of_chosen : (left : Targets) → Taken (dependencies_by c pins) (length c.nodes) chosen left → IsLeft c es chosen left
+  pub left_of_chosen : (left : Targets) → TakenAway (dependencies_by c pins) (length c.nodes) chosen left → IsLeft c es chosen left
   left_of_chosen _ (none_yet left same) = record {
     within = λ r given n h. sym (role_alike left chosen r given n (same r n)) ∙ h;
     held = λ r given n was now. absurd (never_both (holds_role left r given n) (role_alike left chosen r given n (same r n) ∙ was) now);

@@ -6,8 +6,8 @@ use Rattle.cluster_types.specs.declared.placement.Decision.{Decision}
 use Rattle.cluster_types.specs.Decisions.{Key, greater_key, is_among, is_less, is_same_decision, leaf_of, needs}
 use Rattle.plan_laws.proofs.MadeOnes.{stands_among}
 use Rattle.placement.specs.Flags.{slot_of}
-use Rattle.placement.specs.Lending.{AreKeys, effective_within, greater_by, is_raised, key_at, keys_among, lent_along, raises, with_lent}
-use Rattle.placement.specs.Links.{link}
+use Rattle.placement.specs.Lending.{AreKeys, effective_within, greater_by, is_raised, slot_key_at, keys_among, lent_along, raises, with_lent}
+use Rattle.placement.specs.Links.{lending_link}
 use Rattle.placement.proofs.EffectiveBounds.{each_within, most_within, own_within}
 use Rattle.placement.proofs.FlagLaws.{slot-within}
 use Rattle.placement.proofs.KeyOrder.{at_most_onward, least_bound, not_itself, own_kept, second_kept}
@@ -92,11 +92,11 @@ module _ (c : Cluster) (ds : List Decision) (key : Decision → Key) where
         go false e = own
 
     then_slots : (slots : List (Option Key)) → leaf_of x < length c.leaves → leaf_of f < length c.leaves → AreKeys (length c.leaves) (keys_among ds now) slots
-        → AreKeys (length c.leaves) (keys_among ds then_key) (lent_along slots (link x f))
-    then_slots slots low also are = go (raises slots (link x f)) refl
+        → AreKeys (length c.leaves) (keys_among ds then_key) (lent_along slots (lending_link x f))
+    then_slots slots low also are = go (raises slots (lending_link x f)) refl
       where
         lent : Option Key
-        lent = key_at slots f
+        lent = slot_key_at slots f
 
         kept : Decision → Option Key
         kept = keys_among ds now
@@ -107,10 +107,10 @@ module _ (c : Cluster) (ds : List Decision) (key : Decision → Key) where
             keys-same (length c.leaves) (λ d. if is_same_decision x d then with_lent (kept d) lent else kept d) new all (keys_among ds then_key)
             (λ d leaf. ap (λ (o : Option Key). if is_same_decision x d then with_lent (kept d) o else kept d) (kept-is (length c.leaves) kept slots are f also) ∙ same_lent d)
 
-        raised : (b : Bool) → raises slots (link x f) ≡ b → is_raised (kept x) lent ≡ b
+        raised : (b : Bool) → raises slots (lending_link x f) ≡ b → is_raised (kept x) lent ≡ b
         raised b e = sym (ap (λ (o : Option Key). is_raised o lent) (kept-is (length c.leaves) kept slots are x low)) ∙ e
 
-        go : (b : Bool) → raises slots (link x f) ≡ b → AreKeys (length c.leaves) (keys_among ds then_key) (if b then set slots (slot_of x) lent else slots)
+        go : (b : Bool) → raises slots (lending_link x f) ≡ b → AreKeys (length c.leaves) (keys_among ds then_key) (if b then set slots (slot_of x) lent else slots)
         go true e =
             let within_slots = slot-within (length c.leaves) x low in
             let size = are.size in
@@ -120,7 +120,7 @@ module _ (c : Cluster) (ds : List Decision) (key : Decision → Key) where
         go false e = told slots (lent-nothing (length c.leaves) kept slots x lent are (raised false e))
 
     pub then_lent : (slots : List (Option Key)) → leaf_of x < length c.leaves → leaf_of f < length c.leaves → needs c f x ≡ true → Lent now slots
-        → Lent then_key (lent_along slots (link x f))
+        → Lent then_key (lent_along slots (lending_link x f))
     then_lent slots low also wants is = record {
       are = then_slots slots low also is.are;
       least = λ d. at_most_onward (key d) (now d) (then_key d) (is.least d) (then_rises d);

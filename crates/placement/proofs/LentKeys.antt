@@ -4,14 +4,14 @@ use Rattle.std.proofs.lemmas.Bool.{eq-eqb}
 use Rattle.lemmas.proofs.Members.{at_head, head_or_rest, in_none, in_rest}
 use Rattle.loops.proofs.Needs.{same_decision}
 use Rattle.cluster_types.specs.declared.cluster.Cluster.{Cluster}
-use Rattle.cluster_types.specs.declared.edges.Edge.{Edge}
+use Rattle.edges.specs.declared.edge.Edge.{Edge}
 use Rattle.cluster_types.specs.declared.placement.Decision.{Decision}
 use Rattle.cluster_types.specs.Decisions.{Key, is_among, is_less, is_same_decision, leaf_of, needs}
 use Rattle.cluster_types.specs.Valid.{IsValid}
 use Rattle.plan_laws.proofs.MadeOnes.{stands_among}
 use Rattle.placement.specs.Flags.{slot_of}
-use Rattle.placement.specs.Lending.{AreKeys, effective_within, key_at, keys_among, lent_along}
-use Rattle.placement.specs.Links.{link, links_in}
+use Rattle.placement.specs.Lending.{AreKeys, effective_within, slot_key_at, keys_among, lent_along}
+use Rattle.placement.specs.Links.{lending_link, links_in}
 use Rattle.placement.proofs.EffectiveBounds.{each_within, most_within, own_within, reached_within}
 use Rattle.placement.proofs.FlagLaws.{same-slot}
 use Rattle.placement.proofs.KeyOrder.{at_most_onward, not_itself, one_key}
@@ -38,9 +38,9 @@ module _ (c : Cluster) (ds : List Decision) (key : Decision → Key) where
       next : Decision → Key
       lent : Lent c ds key next (fold lent_along slots es)
       rises : (d : Decision) → is_less (next d) (now d) ≡ false
-      follows : (d f : Decision) → Contains es (link d f) → Contains ds f → is_less (next d) (now f) ≡ false
+      follows : (d f : Decision) → Contains es (lending_link d f) → Contains ds f → is_less (next d) (now f) ≡ false
 
-    at_link : (now : Decision → Key) (x f d g : Decision) → link x f ≡ link d g → Contains ds g → is_less (then_key c ds key now x f d) (now g) ≡ false
+    at_link : (now : Decision → Key) (x f d g : Decision) → lending_link x f ≡ lending_link d g → Contains ds g → is_less (then_key c ds key now x f d) (now g) ≡ false
     at_link now x f d g e also =
         let one : x ≡ d = same_decision x d (sym (same-slot x d) ∙ eq-eqb (slot_of x) (slot_of d) (ap (λ (y : Edge). y.before) e)) in
         let other : f ≡ g = same_decision f g (sym (same-slot f g) ∙ eq-eqb (slot_of f) (slot_of g) (ap (λ (y : Edge). y.after) e)) in
@@ -54,7 +54,7 @@ module _ (c : Cluster) (ds : List Decision) (key : Decision → Key) where
       next = now;
       lent = is;
       rises = λ d. not_itself (now d);
-      follows = λ d f there also. absurd (in_none (link d f) there);
+      follows = λ d f there also. absurd (in_none (lending_link d f) there);
     }
     passed (e ∷ es) known now slots is =
         let l : Linked c valid ds low e = linked c valid ds low e (known e (at_head e es e refl)) in
@@ -68,7 +68,7 @@ module _ (c : Cluster) (ds : List Decision) (key : Decision → Key) where
           next = rest.next;
           lent = rest.lent;
           rises = λ d. at_most_onward (now d) (then_key c ds key now x f d) (rest.next d) (then_rises c ds key now x f d) (rest.rises d);
-          follows = λ d g there also. elim (head_or_rest e es (link d g) there) [
+          follows = λ d g there also. elim (head_or_rest e es (lending_link d g) there) [
             | inl same ↦ at_most_onward (now g) (then_key c ds key now x f d) (rest.next d) (at_link now x f d g (l.is ∙ same) also) (rest.rises d)
             | inr later ↦ at_most_onward (now g) (then_key c ds key now x f g) (rest.next d) (then_rises c ds key now x f g) (rest.follows d g later also)
           ];
@@ -94,7 +94,7 @@ module _ (c : Cluster) (ds : List Decision) (key : Decision → Key) where
         now = on.next;
         lent = on.lent;
         reached = reach_more t.now on.next on.lent.least
-            (λ d f there also wants. on.follows d f (all (link d f) (link-there c valid ds low f d there wants)) also) n t.reached;
+            (λ d f there also wants. on.follows d f (all (lending_link d f) (link-there c valid ds low f d there wants)) also) n t.reached;
       }
 
       -- and where the pass changed nothing, through however many
@@ -111,7 +111,7 @@ module _ (c : Cluster) (ds : List Decision) (key : Decision → Key) where
           still d there =
               one (on.next d) (t.now d)
               (sym (kept-is (length c.leaves) (keys_among ds on.next) (fold lent_along slots es) on.lent.are d (low d there) ∙ has on.next d there)
-              ∙ (ap (λ (ss : List (Option Key)). key_at ss d) same
+              ∙ (ap (λ (ss : List (Option Key)). slot_key_at ss d) same
               ∙ (kept-is (length c.leaves) (keys_among ds t.now) slots t.lent.are d (low d there) ∙ has t.now d there)))
 
           each : (m : ℕ) → Reach c ds key t.now m
@@ -119,7 +119,7 @@ module _ (c : Cluster) (ds : List Decision) (key : Decision → Key) where
           each (suc m) =
               reach_more t.now t.now t.lent.least (λ d f there also wants.
               subst (λ (k : Key). is_less k (t.now f) ≡ false) (still d there)
-              (on.follows d f (all (link d f) (link-there c valid ds low f d there wants)) also)) m (each m)
+              (on.follows d f (all (lending_link d f) (link-there c valid ds low f d there wants)) also)) m (each m)
 
   -- at first each has its own key
   pub first-turn : (slots : List (Option Key)) → AreKeys (length c.leaves) (keys_among ds key) slots → Turned 0 slots

@@ -11,17 +11,17 @@ use Rattle.lemmas.proofs.Members.{Flat, at_head, head_or_rest, in_flat, in_none,
 use Rattle.lemmas.proofs.Searches.{passes_by}
 use Rattle.loops.proofs.Needs.{is_itself, same_decision}
 use Rattle.cluster_types.specs.declared.cluster.Cluster.{Cluster}
-use Rattle.cluster_types.specs.declared.edges.Edge.{Edge}
+use Rattle.edges.specs.declared.edge.Edge.{Edge}
 use Rattle.cluster_types.specs.declared.placement.Decision.{Decision}
 use Rattle.cluster_types.specs.declared.placement.Decision.TheVariants.{Place, Promote}
 use Rattle.cluster_types.specs.declared.rules.Colocation.{Colocation}
-use Rattle.cluster_types.specs.Decisions.{decision_of, is_among, is_place, is_same_decision, joins, leaf_of, needs}
-use Rattle.cluster_types.specs.Graphs.{EndWithin}
+use Rattle.cluster_types.specs.Decisions.{decision_of, is_among, is_place, is_same_decision, makes_need, leaf_of, needs}
+use Rattle.edges.specs.Loops.{EndsWithin}
 use Rattle.cluster_types.specs.Valid.{IsValid}
 use Rattle.plan_laws.proofs.Ready.{needs_place}
 use Rattle.plan_laws.proofs.MadeOnes.{stands_among}
 use Rattle.placement.specs.Flags.{AreFlags, slot_of}
-use Rattle.placement.specs.Links.{link, links_in, promote_links, rule_links}
+use Rattle.placement.specs.Links.{lending_link, links_in, promote_links, rule_links}
 use Rattle.placement.specs.Queueing.{held}
 use Rattle.placement.proofs.FlagLaws.{flag-is, same-slot, slot-within}
 use Rattle.placement.proofs.ReadyFlags.{all-met, among-is}
@@ -33,7 +33,7 @@ pub needs_rule : (c : Cluster) (d : Decision) (col : Colocation) → Contains c.
 needs_rule c d col there same =
     let f = decision_of col.dependent col.dependent_role in
     or_right (not (is_place f) && is_same_decision d (Place (leaf_of f))) _
-    (passes_by (joins f d) c.colocations col there (and_from (is_same_decision f f) _ (is_itself f) (same-turned d (decision_of col.primary col.primary_role) ∙ same)))
+    (passes_by (makes_need f d) c.colocations col there (and_from (is_same_decision f f) _ (is_itself f) (same-turned d (decision_of col.primary col.primary_role) ∙ same)))
 
 module _ (c : Cluster) (valid : IsValid c) (ds : List Decision) (low : (d : Decision) → Contains ds d → leaf_of d < length c.leaves) where
   abbrev links : List Edge
@@ -46,21 +46,21 @@ module _ (c : Cluster) (valid : IsValid c) (ds : List Decision) (low : (d : Deci
     pub among : Contains ds needed
     pub within : leaf_of needing < length c.leaves
     pub wants : needs c needing needed ≡ true
-    pub is : link needed needing ≡ e
+    pub is : lending_link needed needing ≡ e
 
   by-promote : (d : Decision) (e : Edge) → Contains ds d → Contains (promote_links d) e → Linked e
-  by-promote (Place r) e there h = elim (head_or_rest (link (Place r) (Promote r)) [] e h) [
+  by-promote (Place r) e there h = elim (head_or_rest (lending_link (Place r) (Promote r)) [] e h) [
     | inl is ↦ record { needed = Place r; needing = Promote r; among = there; within = low (Place r) there; wants = needs_place c r; is = is }
     | inr none ↦ absurd (in_none e none)
   ]
   by-promote (Promote r) e there h = absurd (in_none e h)
 
   by-rule : (col : Colocation) (e : Edge) → Contains c.colocations col → (known : Bool) → is_among ds (decision_of col.primary col.primary_role) ≡ known
-      → Contains (if known then link (decision_of col.primary col.primary_role) (decision_of col.dependent col.dependent_role) ∷ [] else []) e → Linked e
+      → Contains (if known then lending_link (decision_of col.primary col.primary_role) (decision_of col.dependent col.dependent_role) ∷ [] else []) e → Linked e
   by-rule col e there true k h =
       let primary = decision_of col.primary col.primary_role in
       let dependent = decision_of col.dependent col.dependent_role in
-      elim (head_or_rest (link primary dependent) [] e h) [
+      elim (head_or_rest (lending_link primary dependent) [] e h) [
         | inl is ↦ record {
           needed = primary;
           needing = dependent;
@@ -82,7 +82,7 @@ module _ (c : Cluster) (valid : IsValid c) (ds : List Decision) (low : (d : Deci
   ]
 
   -- both ends are slots
-  pub links-within : EndWithin (length c.leaves * 2) links
+  pub links-within : EndsWithin (length c.leaves * 2) links
   links-within e h =
       let l = linked e h in
       let before = slot-within (length c.leaves) l.needed (low l.needed l.among) in
@@ -90,31 +90,31 @@ module _ (c : Cluster) (valid : IsValid c) (ds : List Decision) (low : (d : Deci
       subst (λ (x : Edge). (x.before < length c.leaves * 2) × (x.after < length c.leaves * 2)) l.is (before, after)
 
   -- and each need has its link
-  from-place : (d f : Decision) → Contains ds f → not (is_place d) && is_same_decision f (Place (leaf_of d)) ≡ true → Contains (flat_map promote_links ds) (link f d)
+  from-place : (d f : Decision) → Contains ds f → not (is_place d) && is_same_decision f (Place (leaf_of d)) ≡ true → Contains (flat_map promote_links ds) (lending_link f d)
   from-place (Place r) f there h = cc
   from-place (Promote r) (Promote s) there h = cc
   from-place (Promote r) (Place s) there h =
       let same : Place s ≡ Place r = same_decision (Place s) (Place r) h in
-      in_flat promote_links ds (Place s) (link (Place s) (Promote r)) there
-      (at_head (link (Place s) (Promote s)) [] (link (Place s) (Promote r)) (ap (λ (x : Decision). link (Place s) (Promote (leaf_of x))) same))
+      in_flat promote_links ds (Place s) (lending_link (Place s) (Promote r)) there
+      (at_head (lending_link (Place s) (Promote s)) [] (lending_link (Place s) (Promote r)) (ap (λ (x : Decision). lending_link (Place s) (Promote (leaf_of x))) same))
 
-  from-rule : (d f : Decision) → Contains ds f → Any (λ col. joins d f col ≡ true) c.colocations → Contains (flat_map (rule_links ds) c.colocations) (link f d)
+  from-rule : (d f : Decision) → Contains ds f → Any (λ col. makes_need d f col ≡ true) c.colocations → Contains (flat_map (rule_links ds) c.colocations) (lending_link f d)
   from-rule d f there (k, col, lt, at, j) =
       let primary = decision_of col.primary col.primary_role in
       let dependent = decision_of col.dependent col.dependent_role in
       let is_d : d ≡ dependent = same_decision d dependent (sooner (is_same_decision d dependent) _ j) in
       let is_f : f ≡ primary = same_decision f primary (later (is_same_decision d dependent) _ j) in
       let known : is_among ds primary ≡ true = ap (is_among ds) (sym is_f) ∙ among-is ds f there in
-      let whole : rule_links ds col ≡ link primary dependent ∷ [] = ap (λ (b : Bool). if b then link primary dependent ∷ [] else []) known in
-      let one : link primary dependent ≡ link f d = ap (λ (x : Decision). link x dependent) (sym is_f) ∙ ap (link f) (sym is_d) in
-      in_flat (rule_links ds) c.colocations col (link f d) (k, lt, at)
-      (subst (λ (es : List Edge). Contains es (link f d)) (sym whole) (at_head (link primary dependent) [] (link f d) one))
+      let whole : rule_links ds col ≡ lending_link primary dependent ∷ [] = ap (λ (b : Bool). if b then lending_link primary dependent ∷ [] else []) known in
+      let one : lending_link primary dependent ≡ lending_link f d = ap (λ (x : Decision). lending_link x dependent) (sym is_f) ∙ ap (lending_link f) (sym is_d) in
+      in_flat (rule_links ds) c.colocations col (lending_link f d) (k, lt, at)
+      (subst (λ (es : List Edge). Contains es (lending_link f d)) (sym whole) (at_head (lending_link primary dependent) [] (lending_link f d) one))
 
-  pub link-there : (d f : Decision) → Contains ds f → needs c d f ≡ true → Contains links (link f d)
+  pub link-there : (d f : Decision) → Contains ds f → needs c d f ≡ true → Contains links (lending_link f d)
   link-there d f there h =
-      either (not (is_place d) && is_same_decision f (Place (leaf_of d))) (list_any (joins d f) c.colocations) h
-      (λ p. Contains-append_left (flat_map promote_links ds) (flat_map (rule_links ds) c.colocations) (link f d) (from-place d f there p))
-      (λ r. Contains-append_right (flat_map promote_links ds) (flat_map (rule_links ds) c.colocations) (link f d) (from-rule d f there (Any-from_list_any (joins d f) c.colocations r)))
+      either (not (is_place d) && is_same_decision f (Place (leaf_of d))) (list_any (makes_need d f) c.colocations) h
+      (λ p. Contains-append_left (flat_map promote_links ds) (flat_map (rule_links ds) c.colocations) (lending_link f d) (from-place d f there p))
+      (λ r. Contains-append_right (flat_map promote_links ds) (flat_map (rule_links ds) c.colocations) (lending_link f d) (from-rule d f there (Any-from_list_any (makes_need d f) c.colocations r)))
 
   module _ (made : List Decision) (flags : List Bool) (are : AreFlags (length c.leaves) (is_among made) flags) where
     pub was-made : (d : Decision) → leaf_of d < length c.leaves → slice_index_or flags (slot_of d) false ≡ is_among made d
@@ -134,9 +134,9 @@ module _ (c : Cluster) (valid : IsValid c) (ds : List Decision) (low : (d : Deci
             let wants : needs c d f ≡ true = sooner (needs c d f) _ pass in
             let open_yet : not (is_among made f) ≡ true = later (needs c d f) _ pass in
             let l = link-there d f (i, lt, at) wants in
-            let holding : holds d (link f d) ≡ true = and_from (slot_of d == slot_of d) (not (slice_index_or flags (slot_of f) false)) (eq-eqb (slot_of d) (slot_of d) refl)
+            let holding : holds d (lending_link f d) ≡ true = and_from (slot_of d == slot_of d) (not (slice_index_or flags (slot_of f) false)) (eq-eqb (slot_of d) (slot_of d) refl)
             (ap not (was-made f (low f (i, lt, at))) ∙ open_yet) in
-            false≢true (sym (count_none (holds d) links none l.0 (link f d) l.1 l.2) ∙ holding)
+            false≢true (sym (count_none (holds d) links none l.0 (lending_link f d) l.1 l.2) ∙ holding)
 
     held-by : (d : Decision) → list_any (unmet d) ds ≡ false → held links flags (slot_of d) ≡ 0
     held-by d none = count-none (holds d) links (false_from_ne_true (list_any (holds d) links) (λ h. from (Any-from_list_any (holds d) links h)))

@@ -15,9 +15,9 @@ use Rattle.plan_laws.proofs.MadeOnes.{never_both, there}
 use Rattle.plan_laws.proofs.Reaches as reached
 use Rattle.plan_laws.proofs.Reaches.{Reaches, all_of_reached}
 use Rattle.plan_laws.proofs.Ready.{ready_is_one}
-use Rattle.placement.specs.declared.table.ScoreTable.{ScoreTable}
+use Rattle.placement.specs.declared.totals.table.ScoreTable.{ScoreTable}
 use Rattle.placement.specs.Scores.{scores_of}
-use Rattle.placement.specs.DecisionLists.{decisions_in, key_by}
+use Rattle.placement.specs.DecisionLists.{decisions_in, compared_key}
 use Rattle.placement.specs.Effective.{effective_in}
 use Rattle.placement.specs.Turns as turns
 use Rattle.placement.specs.Turns.{AreInOrder, IsFirstReady, WereMade, is_ready_in}
@@ -54,12 +54,12 @@ module _ (c : Cluster) (es : List Event) (ps : List Promotion) where
 
   pub order-decides : (states : States) (scores : ScoreTable) (pins : List (Option Pin)) (order : List Decision) → states ≡ states_of c es ps → scores ≡ scores_of c es ps
       → pins ≡ map (pin_of c es) (range_with_len 0 (length c.leaves))
-      → AreInOrder c (decisions_in c pins) (effective_in c (decisions_in c pins) (key_by c states scores)) order → Decides c es ps [] order
+      → AreInOrder c (decisions_in c pins) (effective_in c (decisions_in c pins) (compared_key c states scores)) order → Decides c es ps [] order
   order-decides states scores pins order told table pinned are =
       let ds = decisions c es in
-      let key = key_by c states scores in
+      let key = compared_key c states scores in
       let is : decisions_in c pins ≡ ds = decisions-are c es ps pins pinned in
       let within : (d : Decision) → Contains ds d → leaf_of d < length c.leaves = λ d h. decisions-within c pins d (subst (λ xs. Contains xs d) (sym is) h) in
       let keyed : (d : Decision) → Contains ds d → key d ≡ key_of c es ps d = λ d h.
-      ap (λ (s : States). key_by c s scores d) told ∙ (ap (λ (t : ScoreTable). key_by c (states_of c es ps) t d) table ∙ key-is c es ps d (within d h)) in
+      ap (λ (s : States). compared_key c s scores d) told ∙ (ap (λ (t : ScoreTable). compared_key c (states_of c es ps) t d) table ∙ key-is c es ps d (within d h)) in
       decides (effective_in c ds key) (effective-same c ds key (key_of c es ps) keyed) order (subst (λ xs. AreInOrder c xs (effective_in c xs key) order) is are)

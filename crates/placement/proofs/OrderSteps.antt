@@ -12,12 +12,12 @@ use Rattle.cluster_types.specs.declared.placement.Decision.TheVariants.{Place}
 use Rattle.cluster_types.specs.Decisions.{Key, is_among, leaf_of}
 use Rattle.cluster_types.specs.Valid.{IsValid}
 use Rattle.plan_laws.proofs.MadeBefore.{before_some_way}
-use Rattle.placement.specs.declared.queue.Queue.{Queue}
-use Rattle.placement.specs.declared.ranked.Ranked.{Ranked}
+use Rattle.placement.specs.declared.order.queue.Queue.{Queue}
+use Rattle.placement.specs.declared.order.ranked.Ranked.{Ranked}
 use Rattle.placement.specs.Effective.{goes_before}
 use Rattle.placement.specs.Flags.{AreFlags, slot_of}
 use Rattle.placement.specs.Links.{links_in}
-use Rattle.placement.specs.Queueing.{IsFirstPlace, IsQueue, is_at, is_free}
+use Rattle.placement.specs.Queueing.{IsFirstPlace, IsQueue, has_place, is_free}
 use Rattle.placement.specs.Turns.{AreSorted, IsFirstReady, is_ready_in, ranks_before, slots_of}
 use Rattle.placement.proofs.FlagLaws.{same-slot, slot-within}
 use Rattle.placement.proofs.LinkedNeeds.{all-met-by, was-made}
@@ -30,7 +30,7 @@ no_rank key = record { decision = Place 0; key = key (Place 0) }
 
 module _ (c : Cluster) (valid : IsValid c) (ds : List Decision) (low : (d : Decision) → Contains ds d → leaf_of d < length c.leaves)
     (key : Decision → Key) (ranked : List Ranked) (s : AreSorted key ds ranked) (q : Queue) (is : IsQueue (links_in c ds) (length c.leaves * 2) q)
-    (order : q.order.items ≡ slots_of ranked) (placed : (x : ℕ) → Contains q.order.items x → (p : ℕ) × (is_at q.places.items x p ≡ true))
+    (order : q.order.items ≡ slots_of ranked) (placed : (x : ℕ) → Contains q.order.items x → (p : ℕ) × (has_place q.places.items x p ≡ true))
     (made : List Decision) (flags : AreFlags (length c.leaves) (is_among made) q.made.items) where
   free-is : (d : Decision) → Contains ds d → is_free q.made.items q.counts.items (slot_of d) ≡ is_ready_in c ds made d
   free-is d there =
@@ -71,7 +71,7 @@ module _ (c : Cluster) (valid : IsValid c) (ds : List Decision) (low : (d : Deci
         within = in_ranked;
         decides = one;
         ready = is.waits.readied at.0 in_order
-            ∙ (ap (λ x. is_at q.places.items x at.0 && is_free q.made.items q.counts.items x) stood.1
+            ∙ (ap (λ x. has_place q.places.items x at.0 && is_free q.made.items q.counts.items x) stood.1
             ∙ (ap (λ b. b && is_free q.made.items q.counts.items (slot_of d)) at.1 ∙ free-is d there));
       }
 
@@ -102,7 +102,7 @@ module _ (c : Cluster) (valid : IsValid c) (ds : List Decision) (low : (d : Deci
         let l = long in
         let both = sym (is.waits.readied p (omega (arith, w, l))) ∙ first.is in
         sym (free-is next.decision next-known.0) ∙ (ap (is_free q.made.items q.counts.items) (sym (slot-at p w))
-        ∙ later (is_at q.places.items (slice_index_or q.order.items p 0) p) _ both)
+        ∙ later (has_place q.places.items (slice_index_or q.order.items p 0) p) _ both)
 
     behind : (e : Decision) (at : Stands e) → p < at.place → e ≢ next.decision → goes_before key next.decision e ≡ true
     behind e at lower other =

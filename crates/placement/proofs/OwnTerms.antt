@@ -7,7 +7,7 @@ use Rattle.cluster_types.specs.declared.rules.RuleLocation.{RuleLocation}
 use Rattle.cluster_types.specs.declared.states.States.{States}
 use Rattle.cluster_types.specs.Terms.{is_started}
 use Rattle.cluster_types.specs.Valid.{KeepsLimits}
-use Rattle.placement.specs.Locations.{given, is_unnamed}
+use Rattle.placement.specs.Locations.{scores_given, is_unnamed}
 use Rattle.placement.specs.OwnRows.{is_active_by, is_banned_by, stickiness_of, sticky_by, banned_by, own_by, own_size}
 use Rattle.placement.specs.Rows.{few}
 use Rattle.placement.proofs.FewTerms.{few-where, few-minus}
@@ -17,7 +17,7 @@ module _ (c : Cluster) (states : States) (r n : ℕ) where
   pub few-sticky : few (sticky_by c states r n) ≤ own_size c r
   few-sticky =
       let a = few-given c states.moment is_started r c.locations c.rule_locations n in
-      let b = few-where (is_active_by c states r) (stickiness_of c r) (given c states.moment is_started r c.locations c.rule_locations) n in
+      let b = few-where (is_active_by c states r) (stickiness_of c r) (scores_given c states.moment is_started r c.locations c.rule_locations) n in
       omega (arith, a, b)
 
   pub few-banned : few (banned_by c states r n) ≤ own_size c r

@@ -4,12 +4,12 @@ use Rattle.std.specs.Option.{option_map_or}
 use Rattle.std.proofs.lemmas.Bool.{cases_eq, cases_lt, eq-eqb}
 use Rattle.std.proofs.lemmas.List.{get_or-replicate, get_or-set_same, get_or-set_other, get_or_default, get_or_past, length-replicate, length-set}
 use Rattle.std.proofs.lemmas.Option.{same_Some}
-use Rattle.placement.specs.Queueing.{ArePlaces, is_at}
+use Rattle.placement.specs.Queueing.{ArePlaces, has_place}
 
 pub record Placed (positions : ℕ) (order : List ℕ) (done : ℕ) (places : List (Option ℕ)) : Type 0 where
   pub size : length places ≡ positions
   pub there : (x p : ℕ) → slice_index_or places x None ≡ Some p → (p < done) × (slice_index_or order p 0 ≡ x)
-  pub all : (q : ℕ) → q < done → (p : ℕ) × (is_at places (slice_index_or order q 0) p ≡ true)
+  pub all : (q : ℕ) → q < done → (p : ℕ) × (has_place places (slice_index_or order q 0) p ≡ true)
 
 module _ (positions : ℕ) (order : List ℕ) (i : ℕ) (places : List (Option ℕ)) (was : Placed positions order i places) (low : slice_index_or order i 0 < positions) where
   abbrev here : ℕ
@@ -21,7 +21,7 @@ module _ (positions : ℕ) (order : List ℕ) (i : ℕ) (places : List (Option �
   inside : here < length places
   inside = let s = was.size in omega (arith, low, s)
 
-  placed-here : is_at now here i ≡ true
+  placed-here : has_place now here i ≡ true
   placed-here =
       ap (λ (o : Option ℕ). option_map_or (λ q. q == i) o false) (get_or-set_same places here (Some i) None inside) ∙ eq-eqb i i refl
 
@@ -36,9 +36,9 @@ module _ (positions : ℕ) (order : List ℕ) (i : ℕ) (places : List (Option �
         (omega (arith, under), old.1)
   ]
 
-  all-now : (q : ℕ) → q < i + 1 → (p : ℕ) × (is_at now (slice_index_or order q 0) p ≡ true)
+  all-now : (q : ℕ) → q < i + 1 → (p : ℕ) × (has_place now (slice_index_or order q 0) p ≡ true)
   all-now q lt = elim (cases_eq (slice_index_or order q 0) here) [
-    | inl e ↦ (i, subst (λ y. is_at now y i ≡ true) (sym e) placed-here)
+    | inl e ↦ (i, subst (λ y. has_place now y i ≡ true) (sym e) placed-here)
     | inr other ↦ elim (cases_eq q i) [
       | inl same ↦ absurd (other (ap (λ y. slice_index_or order y 0) same))
       | inr before ↦
@@ -64,14 +64,14 @@ none-placed positions order places is = record {
     ]
 
 pub placed-all : (positions : ℕ) (order : List ℕ) (done : ℕ) (places : List (Option ℕ)) → Placed positions order done places → done ≤ length order → length order ≤ done
-    → ArePlaces order places × ((x : ℕ) → Contains order x → (p : ℕ) × (is_at places x p ≡ true))
+    → ArePlaces order places × ((x : ℕ) → Contains order x → (p : ℕ) × (has_place places x p ≡ true))
 placed-all positions order done places placed low high = (
   record { there = λ x p h. (let t = placed.there x p h in let u = t.0 in (omega (arith, u, low), t.1)) },
   λ x among. at x among,
 )
   where
-    at : (x : ℕ) → Contains order x → (p : ℕ) × (is_at places x p ≡ true)
+    at : (x : ℕ) → Contains order x → (p : ℕ) × (has_place places x p ≡ true)
     at x (k, lt, is) =
         let a = placed.all k (omega (arith, lt, high)) in
         let here : slice_index_or order k 0 ≡ x = get_or_default order k 0 x lt ∙ is in
-        (a.0, subst (λ y. is_at places y a.0 ≡ true) here a.1)
+        (a.0, subst (λ y. has_place places y a.0 ≡ true) here a.1)

@@ -1,10 +1,10 @@
 -- The position of the first place that is ready, in a queue.
 use Rattle.std.proofs.Common.{arith, ◌≡◌, ℕ, ◌<◌, ◌≤◌, ◌==◌, ◌∷◌, false, List, length, count_by, slice_index_or, Contains}
 use Rattle.std.proofs.lemmas.List.Elements.{Contains-get_or}
-use Rattle.cluster_types.specs.declared.edges.Edge.{Edge}
-use Rattle.loops.specs.Rows.{row_of, targets_of}
-use Rattle.loops.proofs.Filled.{row_is, row_order, row_room}
-use Rattle.placement.specs.declared.queue.Queue.{Queue}
+use Rattle.edges.specs.declared.edge.Edge.{Edge}
+use Rattle.edges.specs.Rows.{row_of, edge_targets_of}
+use Rattle.edges.proofs.Filled.{row_is, row_order, row_room}
+use Rattle.placement.specs.declared.order.queue.Queue.{Queue}
 use Rattle.placement.specs.Queueing.{IsFirstPlace, IsQueue}
 use Rattle.placement.proofs.HeldCounts.{row-few, target-within}
 use Rattle.placement.proofs.QueueSteps.{was-open}
@@ -28,7 +28,7 @@ module _ (edges : List Edge) (positions : ℕ) (q : Queue) (is : IsQueue edges p
   pub open-yet : slice_index_or q.made.items position false ≡ false
   open-yet = was-open q.order.items q.places.items is.places q.made.items q.counts.items q.ready is.waits.readied is.waits.ready_size place in-order first.is
 
-  pub row-is : row_of q.rows.ends.items q.rows.targets.items position ≡ targets_of edges position
+  pub row-is : row_of q.rows.ends.items q.rows.targets.items position ≡ edge_targets_of edges position
   row-is = row_is positions edges q.rows.ends.items q.rows.targets.items is.rows position position-low
 
   pub in-place : slice_index_or (0 ∷ q.rows.ends.items) position 0 ≤ slice_index_or q.rows.ends.items position 0
@@ -37,8 +37,8 @@ module _ (edges : List Edge) (positions : ℕ) (q : Queue) (is : IsQueue edges p
   pub with-room : slice_index_or q.rows.ends.items position 0 ≤ length q.rows.targets.items
   with-room = row_room positions edges q.rows.ends.items q.rows.targets.items is.rows position position-low
 
-  pub few : (x : ℕ) → count_by (◌==◌ x) (targets_of edges position) ≤ slice_index_or q.counts.items x 0
+  pub few : (x : ℕ) → count_by (◌==◌ x) (edge_targets_of edges position) ≤ slice_index_or q.counts.items x 0
   few = row-few edges q.made.items position in-made open-yet positions is.ends q.counts.items is.waits.counts_size is.waits.counted
 
-  pub row-low : (x : ℕ) → Contains (targets_of edges position) x → x < positions
+  pub row-low : (x : ℕ) → Contains (edge_targets_of edges position) x → x < positions
   row-low = target-within positions edges is.ends position

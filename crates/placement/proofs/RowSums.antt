@@ -2,7 +2,7 @@
 use Rattle.std.proofs.Common.{◌≡◌, ℕ, ◌<◌, ◌≤◌, ℤ, ◌+ℤ◌, List, [], ◌∷◌, ◌++◌, length, map, refl, ap, ◌∙◌, arith}
 use Rattle.std.specs.List.{range_with_len}
 use Rattle.std.proofs.lemmas.Int.{ints}
-use Rattle.score.specs.Row.{IsSumInRange, Tally, tally_of, Stands, finite_at, together}
+use Rattle.score.specs.Row.{IsSumInRange, Tally, score_tally_of, Stands, finite_at, together}
 use Rattle.placement.specs.Rows.{each_of, few, IsRow}
 use Rattle.placement.proofs.FewTerms.{few-append}
 use Rattle.placement.proofs.TermRows.{row-length}
@@ -17,7 +17,7 @@ pub add-rows : (nodes : ℕ) (f g : ℕ → List ℤ) (old other new : List Tall
     → ((n : ℕ) → n < length old → finite_at new n ≡ (finite_at old n +ℤ finite_at other n))
     → IsRow nodes f old → IsRow nodes g other → IsRow nodes (λ n. f n ++ g n) new
 add-rows nodes f g old other new stand sums one two = record {
-  stands = stand (each_of nodes f) (each_of nodes g) one.stands two.stands ∙ ap (map tally_of) (together-each f g (range_with_len 0 nodes));
+  stands = stand (each_of nodes f) (each_of nodes g) one.stands two.stands ∙ ap (map score_tally_of) (together-each f g (range_with_len 0 nodes));
   least = λ n low.
       let s = sums n (omega (arith, low, row-length nodes f old one)) in
       let a = one.least n low in

@@ -12,7 +12,7 @@ use Rattle.placement.proofs.EachNode.{each-more}
 use Rattle.placement.proofs.FewTerms.{few-kept}
 use Rattle.placement.proofs.Given.{taken, kept-more}
 use Rattle.placement.proofs.TermRows.{row-same}
-use Rattle.placement.specs.Counted.{counted}
+use Rattle.placement.specs.Counted.{counted_scores}
 
 -- one more node of those that pass
 pub one-node : (nodes : ℕ) (p : ℕ → Bool) (k : ℕ) (here : Bool) (term : ℤ) (terms : ℕ → List ℤ) (row : List Tally) → p k ≡ here
@@ -34,11 +34,11 @@ not-counted table d col nodes terms row e is =
 
 -- one colocation more
 pub counted-more : (table : Targets) (d : Decision) (cols : List Colocation) (i : ℕ) (col : Colocation) → i < length cols → col ≡ get_or cols i col → (n : ℕ)
-    → more_where (λ m. counts table d m col) col.score (counted table d (take i cols)) n ≡ counted table d (take (i + 1) cols) n
+    → more_where (λ m. counts table d m col) col.score (counted_scores table d (take i cols)) n ≡ counted_scores table d (take (i + 1) cols) n
 counted-more table d cols i col low is n = sym (kept-more (λ (x : Colocation). x.score) (counts table d n) cols i col low is)
 
 -- they are few
-pub few-counted : (table : Targets) (d : Decision) (cols : List Colocation) (i n : ℕ) → few (counted table d (take i cols) n) ≤ length cols
+pub few-counted : (table : Targets) (d : Decision) (cols : List Colocation) (i n : ℕ) → few (counted_scores table d (take i cols) n) ≤ length cols
 few-counted table d cols i n =
     let a = few-kept (λ (x : Colocation). x.score) (counts table d n) (take i cols) in
     let b = taken (counts table d n) cols i in

@@ -10,15 +10,15 @@ use Rattle.cluster_types.specs.declared.rules.Colocation.{Colocation}
 use Rattle.cluster_types.specs.declared.rules.Order.{Order}
 use Rattle.cluster_types.specs.Choice.{is_mandatory}
 use Rattle.cluster_types.specs.Pins.{is_pinned, is_pinned_in, pin_of}
-use Rattle.placement.specs.declared.dependencies.Dependency.{Dependency}
-use Rattle.placement.specs.Dependencies.{by_colocations, by_orders, dependencies_by, free_of, from_colocation, from_order, may_hold, of_colocation, of_order}
+use Rattle.placement.specs.declared.held.dependencies.Dependency.{Dependency}
+use Rattle.placement.specs.Dependencies.{by_colocations, by_orders, dependencies_by, free_of, from_colocation, from_order, may_hold_back, of_colocation, of_order}
 use Rattle.cluster_types.proofs.PinnedLeaves.{pin_known}
 
 module _ (c : Cluster) (es : List Event) (pins : List (Option Pin)) (are : pins ≡ map (pin_of c es) (range_with_len 0 (length c.leaves))) where
   pub data Origin (rule : Dependency) : Type 0 where
     a_colocation : (col : Colocation) → Contains c.colocations col → is_mandatory col ≡ true → is_pinned c es col.dependent ≡ false
         → from_colocation col ≡ rule → Origin rule
-    an_order : (o : Order) → Contains c.orders o → may_hold o ≡ true → is_pinned c es o.then_leaf ≡ false → from_order o ≡ rule → Origin rule
+    an_order : (o : Order) → Contains c.orders o → may_hold_back o ≡ true → is_pinned c es o.then_leaf ≡ false → from_order o ≡ rule → Origin rule
 
   -- of a list that has a rule just when its dependent is free
   free_one : (made rule : Dependency) → Contains (free_of pins (Some made)) rule → (made ≡ rule) × (is_pinned c es made.dependent ≡ false)
@@ -49,13 +49,13 @@ module _ (c : Cluster) (es : List Event) (pins : List (Option Pin)) (are : pins 
   of_orders : (rule : Dependency) → Contains (by_orders c pins c.orders) rule → Origin rule
   of_orders rule h = at (of_flat (λ o. free_of pins (of_order o)) c.orders rule h)
     where
-      from : (o : Order) (b : Bool) → may_hold o ≡ b → Contains c.orders o → Contains (free_of pins (if b then Some (from_order o) else None)) rule
+      from : (o : Order) (b : Bool) → may_hold_back o ≡ b → Contains c.orders o → Contains (free_of pins (if b then Some (from_order o) else None)) rule
           → Origin rule
       from o true e among h = let (same, free) = free_one (from_order o) rule h in an_order o among e free same
       from o false e among h = absurd (in_none rule h)
 
       at : Flat (λ o. free_of pins (of_order o)) c.orders rule → Origin rule
-      at f = from f.source (may_hold f.source) refl f.among f.gives
+      at f = from f.source (may_hold_back f.source) refl f.among f.gives
 
   pub origin : (rule : Dependency) → Contains (dependencies_by c pins) rule → Origin rule
   origin rule h = elim (Contains-append_cases (by_colocations c pins c.colocations) (by_orders c pins c.orders) rule h) [
@@ -76,7 +76,7 @@ module _ (c : Cluster) (es : List Event) (pins : List (Option Pin)) (are : pins 
       Contains-append_left (by_colocations c pins c.colocations) (by_orders c pins c.orders) (from_colocation col)
       (in_flat (λ col. free_of pins (of_colocation col)) c.colocations col (from_colocation col) among made)
 
-  pub order_there : (o : Order) → Contains c.orders o → may_hold o ≡ true → is_pinned c es o.then_leaf ≡ false
+  pub order_there : (o : Order) → Contains c.orders o → may_hold_back o ≡ true → is_pinned c es o.then_leaf ≡ false
       → Contains (dependencies_by c pins) (from_order o)
   order_there o among holds free =
       let made : Contains (free_of pins (of_order o)) (from_order o) = rw holds (free_there (from_order o) free) in

@@ -11,12 +11,12 @@ use Rattle.cluster_types.specs.declared.placement.Decision.{Decision}
 use Rattle.cluster_types.specs.Decisions.{Key, is_among, is_same_decision, leaf_of}
 use Rattle.cluster_types.proofs.TableCells.{get-at}
 use Rattle.placement.specs.Flags.{slot_of}
-use Rattle.placement.specs.Lending.{AreKeys, is_raised, key_at, keys_among, with_lent}
+use Rattle.placement.specs.Lending.{AreKeys, is_raised, slot_key_at, keys_among, with_lent}
 use Rattle.placement.proofs.FlagLaws.{same-slot, slot-within}
 use Rattle.placement.proofs.SameDecisions.{same-turned}
 
 module _ (leaves : ℕ) (kept : Decision → Option Key) (slots : List (Option Key)) (are : AreKeys leaves kept slots) where
-  pub kept-is : (d : Decision) → leaf_of d < leaves → key_at slots d ≡ kept d
+  pub kept-is : (d : Decision) → leaf_of d < leaves → slot_key_at slots d ≡ kept d
   kept-is d low = ap (λ (o : Option (Option Key)). unwrap_or o None) (are.each d low)
 
   pub keys-same : (other : Decision → Option Key) → ((d : Decision) → leaf_of d < leaves → kept d ≡ other d) → AreKeys leaves other slots

@@ -1,7 +1,7 @@
 -- The total of the colocations that count is the sum of what each gives, cut.
 use Rattle.std.proofs.Common.{◌≡◌, ℕ, Bool, true, false, not, ◌&&◌, ℤ, pos, ◌+ℤ◌, List, [], ◌∷◌, map, filter, fold, refl, sym, ap, arith}
 use Rattle.std.proofs.lemmas.Int.{ints}
-use Rattle.score.specs.Total.{infinity, minus_infinity, has, sum_of, cut, total_of}
+use Rattle.score.specs.Total.{infinity, minus_infinity, has_points, sum_of, cut, total_of}
 use Rattle.cluster_types.specs.declared.placement.Decision.{Decision}
 use Rattle.cluster_types.specs.declared.rules.Colocation.{Colocation}
 use Rattle.cluster_types.specs.Choice.{is_mandatory, is_separation, is_dependent}
@@ -18,12 +18,12 @@ module _ (table : Targets) (d : Decision) (n : ℕ) where
   finite col false true t u a b h = cc
   finite col false false t u a b h = (refl, refl)
 
-  no_infinity : (cols : List Colocation) → (has infinity (scores cols) ≡ false) × (has minus_infinity (scores cols) ≡ false)
+  no_infinity : (cols : List Colocation) → (has_points infinity (scores cols) ≡ false) × (has_points minus_infinity (scores cols) ≡ false)
   no_infinity [] = (refl, refl)
   no_infinity (col ∷ cols) = split (counts table d n col) refl (no_infinity cols)
     where
-      split : (t : Bool) → counts table d n col ≡ t → (has infinity (scores cols) ≡ false) × (has minus_infinity (scores cols) ≡ false)
-          → (has infinity (scores (col ∷ cols)) ≡ false) × (has minus_infinity (scores (col ∷ cols)) ≡ false)
+      split : (t : Bool) → counts table d n col ≡ t → (has_points infinity (scores cols) ≡ false) × (has_points minus_infinity (scores cols) ≡ false)
+          → (has_points infinity (scores (col ∷ cols)) ≡ false) × (has_points minus_infinity (scores (col ∷ cols)) ≡ false)
       split true h rest =
           let bounds = finite col (is_mandatory col) (is_separation col) (is_dependent d col) (holds_role table col.primary col.primary_role n) refl refl h in
           rw h ((rw (bounds.0, rest.0) refl), (rw (bounds.1, rest.1) refl))

@@ -16,7 +16,7 @@ use Rattle.cluster_types.proofs.StatesKept.{get_or-rows}
 use Rattle.cluster_types.specs.Terms.{base, is_promoted, location_scores, promotion_score, with_lenders}
 use Rattle.cluster_types.specs.Unpacked.{states_of}
 use Rattle.placement.specs.OwnRows.{terms_by}
-use Rattle.placement.specs.Scores.{cells_of, place_by, promote_by, score_at, score_in, scores_of, table_by}
+use Rattle.placement.specs.Scores.{cells_of, place_by, promote_by, score_in_list, score_in, scores_of, table_by}
 use Rattle.placement.proofs.JoinedOfStates.{all-joins, terms-is}
 
 -- cells that are the same
@@ -26,7 +26,7 @@ cells-same c f g h =
     (λ r leaf. map-same (f r) (g r) (length c.nodes) (λ n node. h r n leaf node))
 
 -- a node that is there has its score in the list
-score-there : (scores : List ℤ) (nodes r n : ℕ) → n < nodes → score_at scores nodes r n ≡ slice_index_or scores (r * nodes + n) (pos 0)
+score-there : (scores : List ℤ) (nodes r n : ℕ) → n < nodes → score_in_list scores nodes r n ≡ slice_index_or scores (r * nodes + n) (pos 0)
 score-there scores nodes r n h = let there : nat_lt n nodes ≡ true = grind (arith, nat_tests) in rw there refl
 
 module _ (c : Cluster) (es : List Event) (ps : List Promotion) where

@@ -5,8 +5,8 @@ use Rattle.lemmas.proofs.Booleans.{later, sooner}
 use Rattle.cluster_types.specs.declared.leaf.Role.{Role}
 use Rattle.cluster_types.specs.Tables.{Targets, holds_role}
 use Rattle.plan_laws.proofs.MadeOnes.{never_both}
-use Rattle.placement.specs.declared.dependencies.Dependency.{Dependency}
-use Rattle.placement.specs.Taking.{has_primary, has_primary_where, is_anywhere, takes}
+use Rattle.placement.specs.declared.held.dependencies.Dependency.{Dependency}
+use Rattle.placement.specs.Taking.{has_its_primary, has_primary_where, is_anywhere, takes}
 use Rattle.placement.proofs.Lacking.{anywhere_not, held_not, none_in_range}
 
 module _ (nodes : ℕ) (first : Targets) (rule : Dependency) (anywhere : Bool)
@@ -14,7 +14,7 @@ module _ (nodes : ℕ) (first : Targets) (rule : Dependency) (anywhere : Bool)
   known_anywhere : rule.local ≡ false → anywhere ≡ is_anywhere nodes first rule.primary rule.primary_role
   known_anywhere e = known ∙ ap (λ (b : Bool). not b && is_anywhere nodes first rule.primary rule.primary_role) e
 
-  same_primary : has_primary_where first rule anywhere n ≡ has_primary nodes first rule n
+  same_primary : has_primary_where first rule anywhere n ≡ has_its_primary nodes first rule n
   same_primary = go rule.local refl
     where
       go : (b : Bool) → rule.local ≡ b
@@ -32,7 +32,7 @@ module _ (nodes : ℕ) (first : Targets) (rule : Dependency) (anywhere : Bool)
   pub takes_now : (now : Targets) → ((r : ℕ) (given : Role) (m : ℕ) → holds_role now r given m ≡ true → holds_role first r given m ≡ true)
       → (holds_role now rule.dependent rule.dependent_role n && not (has_primary_where now rule anywhere n)) ≡ true → takes nodes now rule n ≡ true
   takes_now now less h =
-      held_not (holds_role now rule.dependent rule.dependent_role n) (has_primary nodes now rule n)
+      held_not (holds_role now rule.dependent rule.dependent_role n) (has_its_primary nodes now rule n)
       (sooner (holds_role now rule.dependent rule.dependent_role n) (not (has_primary_where now rule anywhere n)) h)
       (go rule.local refl (not-true (has_primary_where now rule anywhere n)
       (later (holds_role now rule.dependent rule.dependent_role n) (not (has_primary_where now rule anywhere n)) h)))

@@ -7,19 +7,19 @@ use Rattle.std.proofs.lemmas.List.Elements.{filter-append}
 use Rattle.std.proofs.lemmas.List.FromFn.{get_or-map-range_with_len, length-map-range_with_len}
 use Rattle.lemmas.proofs.Ranges.{map-same, map-set-range}
 use Rattle.score.specs.Total.{IsScore}
-use Rattle.score.specs.Row.{Tally, tally_of, Stands, is_finite, finite_part, finite_at, with_term}
+use Rattle.score.specs.Row.{Tally, score_tally_of, Stands, is_finite, finite_part, finite_at, with_term}
 use Rattle.placement.specs.Rows.{each_of, few, IsRow, IsRoomy, more_where}
 
 -- the same terms below the number of nodes
 pub row-same : (nodes : ℕ) (f g : ℕ → List ℤ) (row : List Tally) → ((n : ℕ) → n < nodes → f n ≡ g n) → IsRow nodes f row → IsRow nodes g row
 row-same nodes f g row h is = record {
-  stands = is.stands ∙ ap (map tally_of) (map-same f g nodes h);
+  stands = is.stands ∙ ap (map score_tally_of) (map-same f g nodes h);
   least = λ n low. subst (λ ts. neg_ℤ (pos (1000000 * few ts)) ≤ℤ finite_at row n) (h n low) (is.least n low);
   most = λ n low. subst (λ ts. finite_at row n ≤ℤ pos (1000000 * few ts)) (h n low) (is.most n low);
 }
 
 pub row-length : (nodes : ℕ) (f : ℕ → List ℤ) (row : List Tally) → IsRow nodes f row → length row ≡ nodes
-row-length nodes f row is = ap length is.stands ∙ (length-map (each_of nodes f) tally_of ∙ length-map-range_with_len f 0 nodes)
+row-length nodes f row is = ap length is.stands ∙ (length-map (each_of nodes f) score_tally_of ∙ length-map-range_with_len f 0 nodes)
 
 -- rows of few terms have room
 pub row-room : (nodes : ℕ) (f : ℕ → List ℤ) (row : List Tally) → IsRow nodes f row → ((n : ℕ) → n < nodes → few (f n) ≤ 900000) → (n : ℕ) → IsRoomy (finite_at row n)
@@ -32,7 +32,7 @@ row-room nodes f row is bound n = go (cases_lt n nodes)
         let k = bound n low in
         record { least = omega (arith, ints, a, k); most = omega (arith, ints, b, k) }
     go (inr high) =
-        let e = ap (λ (t : Tally). t.finite) (get_or_past row n (tally_of []) (omega (arith, high, row-length nodes f row is))) in
+        let e = ap (λ (t : Tally). t.finite) (get_or_past row n (score_tally_of []) (omega (arith, high, row-length nodes f row is))) in
         record { least = omega (arith, ints, e); most = omega (arith, ints, e) }
 
 few-more : (terms : List ℤ) (term : ℤ) (b : Bool) → is_finite term ≡ b → few (terms ++ term ∷ []) ≡ few terms + (if b then 1 else 0)
@@ -62,7 +62,7 @@ module _ (nodes node : ℕ) (term : ℤ) (terms : ℕ → List ℤ) (old new : L
       → finite_at new node ≡ (finite_at old node +ℤ finite_part term) → ((n : ℕ) → n ≢ node → finite_at new n ≡ finite_at old n)
       → IsRow nodes terms old → IsRow nodes more new
   put-row within stand here others is = record {
-    stands = stand (each_of nodes terms) is.stands ∙ ap (map tally_of) set-more;
+    stands = stand (each_of nodes terms) is.stands ∙ ap (map score_tally_of) set-more;
     least = λ n below. least n below (cases_eq n node);
     most = λ n below. most n below (cases_eq n node);
   }

@@ -16,8 +16,8 @@ use Rattle.cluster_types.specs.declared.rules.Colocation.{Colocation}
 use Rattle.cluster_types.specs.Terms.{is_tie, is_tied}
 use Rattle.cluster_types.specs.Valid.{IsValid}
 use Rattle.cluster_types.proofs.RuleLeaves.{role_leaf}
-use Rattle.placement.specs.declared.ties.Tie.{Tie}
-use Rattle.placement.specs.Ties.{AreTied, AreTies, lacks_mark, unmarked, mark_if, leads, is_missed, tie_of, tied_within}
+use Rattle.placement.specs.declared.totals.ties.Tie.{Tie}
+use Rattle.placement.specs.Ties.{AreTied, AreTies, lacks_mark, unmarked, with_mark_if, leads, is_missed, tie_of, tied_within}
 
 -- an element that passes
 some_passes : {X : Type 0} (p : X → Bool) (xs : List X) {P : Type 0} → list_any p xs ≡ true → ((x : X) → Contains xs x → p x ≡ true → P) → P
@@ -92,7 +92,7 @@ module _ (r : ℕ) (marks : List Bool) (tie : Tie) where
   unset : is_missed r marks tie ≡ true → get_or marks tie.dependent true ≡ false
   unset h = not-true (get_or marks tie.dependent true) (sooner (lacks_mark marks tie.dependent) (leads r marks tie) h)
 
-  pub fewer-if : (missed : Bool) → is_missed r marks tie ≡ missed → unmarked (mark_if marks tie.dependent missed) + cond missed 1 0 ≡ unmarked marks
+  pub fewer-if : (missed : Bool) → is_missed r marks tie ≡ missed → unmarked (with_mark_if marks tie.dependent missed) + cond missed 1 0 ≡ unmarked marks
   fewer-if true h = fewer-unmarked marks tie.dependent (unset h)
   fewer-if false h = omega arith
 
@@ -128,7 +128,7 @@ module _ (r : ℕ) (marks : List Bool) (tie : Tie) where
         by s (inr e) g =
             tied-longer c r known.most s (known.tied s (sym (get_or-set_other marks tie.dependent s true false e) ∙ g))
 
-    pub tied-if : (missed : Bool) → is_missed r marks tie ≡ missed → AreTied c r (mark_if marks tie.dependent missed)
+    pub tied-if : (missed : Bool) → is_missed r marks tie ≡ missed → AreTied c r (with_mark_if marks tie.dependent missed)
     tied-if true h = marked h
     tied-if false h = known
 

@@ -5,15 +5,15 @@ use Rattle.std.proofs.lemmas.Bool.{cases_lt}
 use Rattle.std.proofs.lemmas.List.{get_or_default}
 use Rattle.std.proofs.lemmas.List.Sorted.{Contains-permutation, IsPermutation-sym}
 use Rattle.lemmas.proofs.Members.{in_map}
-use Rattle.loops.specs.Loops.{HasNoLoop}
-use Rattle.loops.specs.Longest.{longest}
-use Rattle.loops.proofs.Longest.{heights_rise, longest_are_heights}
-use Rattle.placement.specs.declared.ties.Tie.{Tie}
-use Rattle.placement.specs.TieOrder.{AreHeightsOf, AreInOrder, EndAtLeaves, edge_of}
+use Rattle.edges.specs.Loops.{HasNoLoop}
+use Rattle.edges.specs.Longest.{longest}
+use Rattle.edges.proofs.Longest.{heights_rise, longest_are_heights}
+use Rattle.placement.specs.declared.totals.ties.Tie.{Tie}
+use Rattle.placement.specs.TieOrder.{AreHeightsOf, AreTiesInOrder, EndAtLeaves, edge_of}
 use Rattle.placement.proofs.TieSides.{edges-within}
 
 module _ (h : ℕ → ℕ) (ties : List Tie) (sorted : IsNonDecreasingBy (λ (tie : Tie). h tie.dependent) ties) where
-  pub in-order : ((tie : Tie) → Contains ties tie → h tie.primary < h tie.dependent) → AreInOrder ties
+  pub in-order : ((tie : Tie) → Contains ties tie → h tie.primary < h tie.dependent) → AreTiesInOrder ties
   in-order rises i j d low lower same = go (cases_lt i j)
     where
       rise : h (get_or ties j d).primary < h (get_or ties j d).dependent
@@ -27,7 +27,7 @@ module _ (h : ℕ → ℕ) (ties : List Tie) (sorted : IsNonDecreasingBy (λ (ti
           absurd (let f : ⊥ = omega (arith, up, at, rise) in f)
 
 module _ (leaves : ℕ) (old new : List Tie) (heights : List ℕ) (within : EndAtLeaves leaves old) (free : HasNoLoop leaves (map edge_of old)) where
-  pub put-in-order : AreHeightsOf leaves old heights → IsPermutation old new → IsNonDecreasingBy (λ (tie : Tie). get_or heights tie.dependent 0) new → AreInOrder new
+  pub put-in-order : AreHeightsOf leaves old heights → IsPermutation old new → IsNonDecreasingBy (λ (tie : Tie). get_or heights tie.dependent 0) new → AreTiesInOrder new
   put-in-order high same sorted = in-order (λ r. get_or heights r 0) new sorted (λ tie among.
       let was = Contains-permutation new old tie (IsPermutation-sym old new same) among in
       let ends = within tie was in

@@ -3,13 +3,13 @@ use Rattle.std.proofs.Common.{◌<◌, ℕ, List, length, map, filter, subst}
 use Rattle.std.specs.List.Sorted.{IsPermutation}
 use Rattle.std.proofs.lemmas.List.Sorted.{Contains-permutation, IsPermutation-sym}
 use Rattle.lemmas.proofs.Members.{of_map, of_filter}
-use Rattle.loops.specs.Loops.{EndWithin}
+use Rattle.edges.specs.Loops.{EndsWithin}
 use Rattle.cluster_types.specs.declared.cluster.Cluster.{Cluster}
 use Rattle.cluster_types.specs.declared.leaf.Role.TheVariants as role
 use Rattle.cluster_types.specs.Terms.{is_tie}
 use Rattle.cluster_types.specs.Valid.{IsValid}
 use Rattle.cluster_types.proofs.RuleLeaves.{role_leaf}
-use Rattle.placement.specs.declared.ties.Tie.{Tie}
+use Rattle.placement.specs.declared.totals.ties.Tie.{Tie}
 use Rattle.placement.specs.TieOrder.{EndAtLeaves, edge_of}
 use Rattle.placement.specs.Ties.{AreTies, tie_of, ties_of}
 
@@ -23,7 +23,7 @@ end-at-leaves c valid tie among =
       subst (λ (t : Tie). t.primary < length c.leaves) of_colocation.gives (role_leaf c col.primary col.primary_role known.primary),
     )
 
-pub edges-within : (leaves : ℕ) (ties : List Tie) → EndAtLeaves leaves ties → EndWithin leaves (map edge_of ties)
+pub edges-within : (leaves : ℕ) (ties : List Tie) → EndAtLeaves leaves ties → EndsWithin leaves (map edge_of ties)
 edges-within leaves ties within e among =
     let of_tie = of_map edge_of ties e among in
     let ends = within of_tie.source of_tie.among in

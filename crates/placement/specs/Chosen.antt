@@ -9,7 +9,7 @@ use Rattle.cluster_types.specs.Decisions.{Decides}
 use Rattle.cluster_types.specs.Pins.{pinned_targets}
 use Rattle.cluster_types.specs.Plans.{with_totals}
 use Rattle.cluster_types.specs.Tables.{targets_of}
-use Rattle.placement.specs.declared.deciding.Choices.{Choices}
+use Rattle.placement.specs.declared.choice.deciding.Choices.{Choices}
 
 -- the table that all decisions leave in their order, and each of them with its totals
 pub record AreChosen (c : Cluster) (es : List Event) (promotions : List Promotion) (choices : Choices) : Type 0 where

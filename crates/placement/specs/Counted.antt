@@ -5,5 +5,5 @@ use Rattle.cluster_types.specs.declared.rules.Colocation.{Colocation}
 use Rattle.cluster_types.specs.Tables.{Targets}
 use Rattle.placement.specs.Tests.{counts}
 
-abbrev pub counted : Targets → Decision → List Colocation → ℕ → List ℤ
-counted table d cols n = map (λ (col : Colocation). col.score) (filter (counts table d n) cols)
+abbrev pub counted_scores : Targets → Decision → List Colocation → ℕ → List ℤ
+counted_scores table d cols n = map (λ (col : Colocation). col.score) (filter (counts table d n) cols)

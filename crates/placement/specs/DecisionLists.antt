@@ -11,7 +11,7 @@ use Rattle.cluster_types.specs.declared.states.States.{States}
 use Rattle.cluster_types.specs.Decisions.{Key, greatest_of, is_active_for, leaf_of}
 use Rattle.cluster_types.specs.Fields.{is_promotable, priority}
 use Rattle.cluster_types.specs.Pins.{is_pinned_in}
-use Rattle.placement.specs.declared.table.ScoreTable.{ScoreTable}
+use Rattle.placement.specs.declared.totals.table.ScoreTable.{ScoreTable}
 use Rattle.placement.specs.OwnRows.{cell_by}
 use Rattle.placement.specs.Scores.{score_in}
 use Rattle.placement.specs.Usable.{is_usable_by}
@@ -33,8 +33,8 @@ module _ (c : Cluster) (states : States) (scores : ScoreTable) where
   abbrev pub totals_where_by : (ℕ → Bool) → Decision → List ℤ
   totals_where_by passes d = map (score_in scores d) (filter passes (range_with_len 0 (length c.nodes)))
 
-  abbrev pub key_by : Decision → Key
-  key_by d = record {
+  abbrev pub compared_key : Decision → Key
+  compared_key d = record {
     rank = priority c (leaf_of d);
     active = greatest_of (totals_where_by (is_active_by_cell c states d) d);
     usable = greatest_of (totals_where_by (is_usable_by c states) d);

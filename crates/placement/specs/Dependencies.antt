@@ -9,11 +9,11 @@ use Rattle.cluster_types.specs.declared.rules.Order.{Order}
 use Rattle.cluster_types.specs.Choice.{is_mandatory}
 use Rattle.cluster_types.specs.Pins.{is_pinned_in}
 use Rattle.cluster_types.specs.Precedence.{is_mandatory_order, is_up, role_by}
-use Rattle.placement.specs.declared.dependencies.Dependency.{Dependency}
+use Rattle.placement.specs.declared.held.dependencies.Dependency.{Dependency}
 
 -- the order may hold its then back: it is mandatory, and both its words give a role
-abbrev pub may_hold : Order → Bool
-may_hold o = is_mandatory_order o.kind && is_up o.first_op && is_up o.then_op
+abbrev pub may_hold_back : Order → Bool
+may_hold_back o = is_mandatory_order o.kind && is_up o.first_op && is_up o.then_op
 
 -- the then may hold its role only where the first holds its own, in scope
 abbrev pub from_order : Order → Dependency
@@ -36,7 +36,7 @@ from_colocation col = record {
 }
 
 abbrev pub of_order : Order → Option Dependency
-of_order o = if may_hold o then Some (from_order o) else None
+of_order o = if may_hold_back o then Some (from_order o) else None
 
 abbrev pub of_colocation : Colocation → Option Dependency
 of_colocation col = if is_mandatory col then Some (from_colocation col) else None

@@ -1,7 +1,7 @@
 -- What decisions lend to those that they need: their keys, step by step (follows from the definition of effective keys).
 use Rattle.std.specs.Prelude.{◌≡◌, ℕ, ◌*◌, ◌<◌, Bool, false, if◌then◌else◌, Option, Some, None, List, length, map, filter, fold, slice_get, slice_set, unwrap_or}
 use Rattle.cluster_types.specs.declared.cluster.Cluster.{Cluster}
-use Rattle.cluster_types.specs.declared.edges.Edge.{Edge}
+use Rattle.edges.specs.declared.edge.Edge.{Edge}
 use Rattle.cluster_types.specs.declared.placement.Decision.{Decision}
 use Rattle.cluster_types.specs.Decisions.{Key, greater_key, is_among, is_less, leaf_of, needs_through}
 use Rattle.placement.specs.Flags.{slot_of}
@@ -15,8 +15,8 @@ pub record AreKeys (leaves : ℕ) (kept : Decision → Option Key) (slots : List
 abbrev pub key_in : List (Option Key) → ℕ → Option Key
 key_in slots x = unwrap_or (slice_get slots x) None
 
-abbrev pub key_at : List (Option Key) → Decision → Option Key
-key_at slots d = key_in slots (slot_of d)
+abbrev pub slot_key_at : List (Option Key) → Decision → Option Key
+slot_key_at slots d = key_in slots (slot_of d)
 
 -- the greater of its own and a lent key, its own of equal ones
 abbrev pub greater_by : Key → Option Key → Key

@@ -38,8 +38,8 @@ module _ (c : Cluster) (moment : ℕ) where
   is_named_by_rule r rules n = list_any (λ (rl : RuleLocation). rl.leaf == r && rule_holds_by rl n) rules
 
   -- of both forms
-  abbrev pub given : (Role → Bool) → ℕ → List Location → List RuleLocation → ℕ → List ℤ
-  given passes r locations rules n = located passes r locations n ++ ruled passes r rules n
+  abbrev pub scores_given : (Role → Bool) → ℕ → List Location → List RuleLocation → ℕ → List ℤ
+  scores_given passes r locations rules n = located passes r locations n ++ ruled passes r rules n
 
   -- some location of either form names the leaf there
   abbrev pub is_located_by : ℕ → ℕ → Bool

@@ -11,7 +11,7 @@ use Rattle.cluster_types.specs.declared.rules.RuleLocation.{RuleLocation}
 use Rattle.cluster_types.specs.declared.states.Cell.{Cell}
 use Rattle.cluster_types.specs.declared.states.States.{States}
 use Rattle.cluster_types.specs.Terms.{is_active, is_started}
-use Rattle.placement.specs.Locations.{given, is_unnamed}
+use Rattle.placement.specs.Locations.{scores_given, is_unnamed}
 use Rattle.placement.specs.Rows.{IsRow, more_where}
 
 -- how much the leaf wants to stay
@@ -31,7 +31,7 @@ module _ (c : Cluster) (states : States) where
 
   -- what its locations give it
   abbrev pub given_by : ℕ → ℕ → List ℤ
-  given_by r = given c states.moment is_started r c.locations c.rule_locations
+  given_by r = scores_given c states.moment is_started r c.locations c.rule_locations
 
   -- and then its stickiness, where it is active
   abbrev pub sticky_by : ℕ → ℕ → List ℤ

@@ -2,10 +2,10 @@
 -- project).
 use Rattle.std.specs.Prelude.{◌≡◌, ℕ, ◌<◌, ◌==◌, ◌&&◌, Bool, true, false, not, Option, Some, None, MatchOption, List, length, count_by, slice_index_or, Contains}
 use Rattle.std.specs.Option.{option_map_or}
-use Rattle.cluster_types.specs.declared.edges.Edge.{Edge}
-use Rattle.cluster_types.specs.Graphs.{EndWithin}
-use Rattle.loops.specs.Rows.{AreRows}
-use Rattle.placement.specs.declared.queue.Queue.{Queue}
+use Rattle.edges.specs.declared.edge.Edge.{Edge}
+use Rattle.edges.specs.Loops.{EndsWithin}
+use Rattle.edges.specs.Rows.{AreRows}
+use Rattle.placement.specs.declared.order.queue.Queue.{Queue}
 
 -- how many edges lead to the position from others than were taken
 abbrev pub held : List Edge → List Bool → ℕ → ℕ
@@ -16,8 +16,8 @@ abbrev pub is_free : List Bool → List ℕ → ℕ → Bool
 is_free made counts x = not (slice_index_or made x false) && slice_index_or counts x 0 == 0
 
 -- the position has this place
-abbrev pub is_at : List (Option ℕ) → ℕ → ℕ → Bool
-is_at places x p = option_map_or (λ q. q == p) (slice_index_or places x None) false
+abbrev pub has_place : List (Option ℕ) → ℕ → ℕ → Bool
+has_place places x p = option_map_or (λ q. q == p) (slice_index_or places x None) false
 
 -- the places of positions, each of which stands in the order at its place
 pub record ArePlaces (order : List ℕ) (places : List (Option ℕ)) : Type 0 where
@@ -31,7 +31,7 @@ pub record Waits (edges : List Edge) (positions : ℕ) (order : List ℕ) (place
   pub ready_size : length ready ≡ length order
   pub counted : (x : ℕ) → x < positions → slice_index_or counts x 0 ≡ held edges made x
   pub readied : (p : ℕ) → p < length order
-      → slice_index_or ready p false ≡ (is_at places (slice_index_or order p 0) p && is_free made counts (slice_index_or order p 0))
+      → slice_index_or ready p false ≡ (has_place places (slice_index_or order p 0) p && is_free made counts (slice_index_or order p 0))
 
 -- the place is the first that is ready
 pub record IsFirstPlace (ready : List Bool) (p : ℕ) : Type 0 where
@@ -44,7 +44,7 @@ IsNextPlace ready place = MatchOption place ((p : ℕ) → p < length ready → 
 
 -- the queue of these edges between so many positions
 pub record IsQueue (edges : List Edge) (positions : ℕ) (q : Queue) : Type 0 where
-  pub ends : EndWithin positions edges
+  pub ends : EndsWithin positions edges
   pub inside : (x : ℕ) → Contains q.order.items x → x < positions
   pub rows : AreRows positions edges edges q.rows.ends.items q.rows.targets.items
   pub places : ArePlaces q.order.items q.places.items

@@ -3,7 +3,7 @@
 use Rattle.std.specs.Prelude.{ℕ, ◌+◌, ◌*◌, ◌&&◌, ◌||◌, nat_le, min, Bool, false, if◌then◌else◌, ℤ, Option, List, [], ◌∷◌, length, count_by, slice_get, unwrap_or}
 use Rattle.std.specs.List.{range_with_len}
 use Rattle.std.specs.Option.{option_map, option_map_or}
-use Rattle.score.specs.Choice.{is_candidate}
+use Rattle.score.specs.Choice.{is_candidate_node}
 use Rattle.score.specs.Total.{total_of}
 use Rattle.cluster_types.specs.declared.cluster.Cluster.{Cluster}
 use Rattle.cluster_types.specs.declared.placement.Decision.{Decision}
@@ -16,7 +16,7 @@ use Rattle.cluster_types.specs.Choice.{has_primaries, is_apart, is_kept_by, is_p
 use Rattle.cluster_types.specs.Decisions.{leaf_of}
 use Rattle.cluster_types.specs.Fields.{copies, promoted_copies, target_role_of}
 use Rattle.cluster_types.specs.Tables.{Targets}
-use Rattle.placement.specs.declared.table.ScoreTable.{ScoreTable}
+use Rattle.placement.specs.declared.totals.table.ScoreTable.{ScoreTable}
 use Rattle.placement.specs.OwnRows.{is_active_by}
 use Rattle.placement.specs.Scores.{score_in}
 use Rattle.placement.specs.Usable.{is_usable_by}
@@ -63,7 +63,7 @@ module _ (c : Cluster) (states : States) where
     -- the node may be chosen, where these are the totals
     abbrev pub is_candidate_in : Targets → Decision → List ℤ → ℕ → Bool
     is_candidate_in table d totals n =
-        (is_open_in table d n && (has_primaries c table d n && is_apart c table d n)) && is_candidate totals n
+        (is_open_in table d n && (has_primaries c table d n && is_apart c table d n)) && is_candidate_node totals n
 
 -- the total of a decision on a node, with the table so far
 abbrev pub total_in : Cluster → ScoreTable → Targets → Decision → ℕ → ℤ

@@ -15,10 +15,10 @@ use Rattle.cluster_types.specs.Decisions.{decision_of, is_same_decision}
 use Rattle.cluster_types.specs.Fields.{copies, target_role_of}
 use Rattle.cluster_types.specs.Pins.{is_pinned_in}
 use Rattle.cluster_types.specs.Tables.{Targets, is_somewhere}
-use Rattle.placement.specs.declared.dependencies.Dependency.{Dependency}
+use Rattle.placement.specs.declared.held.dependencies.Dependency.{Dependency}
 use Rattle.placement.specs.Dependencies.{of_colocation, of_order}
 use Rattle.placement.specs.Reads.{is_fail_stopped_in}
-use Rattle.placement.specs.Taking.{has_primary}
+use Rattle.placement.specs.Taking.{has_its_primary}
 
 -- the first reason that holds, of those that are no rule's: whether a failure stops the leaf, whether the cluster may start, whether it was chosen nowhere
 abbrev pub plain_by : Cluster → ℕ → Bool → Bool → Bool → Option NoReason
@@ -35,13 +35,13 @@ module _ (nodes : ℕ) (targets : Targets) where
   has_target r = list_any (λ n. is_somewhere (targets r n)) (range_with_len 0 nodes)
 
   -- the earliest node on which the leaf has a target
-  abbrev pub first_node : ℕ → Option ℕ
-  first_node r = find (λ n. is_somewhere (targets r n)) (range_with_len 0 nodes)
+  abbrev pub first_target_node : ℕ → Option ℕ
+  first_target_node r = find (λ n. is_somewhere (targets r n)) (range_with_len 0 nodes)
 
   -- the dependency holds the leaf back on the node, by the targets in the end
   abbrev pub holds_back : ℕ → ℕ → Option Dependency → Bool
   holds_back r n None = false
-  holds_back r n (Some rule) = is_same_decision (Place r) (decision_of rule.dependent rule.dependent_role) && not (has_primary nodes targets rule n)
+  holds_back r n (Some rule) = is_same_decision (Place r) (decision_of rule.dependent rule.dependent_role) && not (has_its_primary nodes targets rule n)
 
   abbrev pub first_colocation : Cluster → ℕ → ℕ → Option Colocation
   first_colocation c r n = find (λ col. holds_back r n (of_colocation col)) c.colocations
@@ -77,8 +77,8 @@ module _ (c : Cluster) (states : States) (may_start : Bool) (nodes : ℕ) (chose
   -- the reason of a leaf that needs one
   abbrev pub reason_by : ℕ → Option NoReason
   reason_by r =
-      or_held (plain_by c r (is_fail_stopped_in states r) may_start (not (is_some (first_node nodes chosen r))))
-      (held_by c nodes targets r (first_node nodes chosen r))
+      or_held (plain_by c r (is_fail_stopped_in states r) may_start (not (is_some (first_target_node nodes chosen r))))
+      (held_by c nodes targets r (first_target_node nodes chosen r))
 
   -- the reason of each leaf
   abbrev pub reason_in : List (Option Pin) → ℕ → Option NoReason

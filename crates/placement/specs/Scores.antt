@@ -9,7 +9,7 @@ use Rattle.cluster_types.specs.declared.placement.Decision.TheVariants.{Place, P
 use Rattle.cluster_types.specs.declared.states.States.{States}
 use Rattle.cluster_types.specs.Terms.{base}
 use Rattle.score.specs.Total.{total_of}
-use Rattle.placement.specs.declared.table.ScoreTable.{ScoreTable}
+use Rattle.placement.specs.declared.totals.table.ScoreTable.{ScoreTable}
 use Rattle.placement.specs.LendingRows.{all_joined}
 use Rattle.placement.specs.OwnRows.{terms_by}
 use Rattle.placement.specs.Promotions.{wished_by}
@@ -27,13 +27,13 @@ scores_of c es promotions = record {
 }
 
 -- the score of a leaf on a node in a list of those of so many nodes, and 0 where it has none
-abbrev pub score_at : List ℤ → ℕ → ℕ → ℕ → ℤ
-score_at scores nodes r n = if nat_lt n nodes then slice_index_or scores (r * nodes + n) (pos 0) else pos 0
+abbrev pub score_in_list : List ℤ → ℕ → ℕ → ℕ → ℤ
+score_in_list scores nodes r n = if nat_lt n nodes then slice_index_or scores (r * nodes + n) (pos 0) else pos 0
 
 -- the total of a decision on a node
 abbrev pub score_in : ScoreTable → Decision → ℕ → ℤ
-score_in table (Place r) n = score_at table.places table.nodes r n
-score_in table (Promote r) n = score_at table.promotes table.nodes r n
+score_in table (Place r) n = score_in_list table.places table.nodes r n
+score_in table (Promote r) n = score_in_list table.promotes table.nodes r n
 
 -- the same by the states of the cluster
 module _ (c : Cluster) (states : States) where

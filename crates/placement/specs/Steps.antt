@@ -13,7 +13,7 @@ use Rattle.cluster_types.specs.Choice.{after_decision, after_decisions, is_chose
 use Rattle.cluster_types.specs.Plans.{with_totals}
 use Rattle.cluster_types.specs.Tables.{Targets}
 use Rattle.cluster_types.specs.Unpacked.{states_of}
-use Rattle.placement.specs.declared.table.ScoreTable.{ScoreTable}
+use Rattle.placement.specs.declared.totals.table.ScoreTable.{ScoreTable}
 use Rattle.placement.specs.Scores.{scores_of}
 
 module _ (c : Cluster) (es : List Event) (promotions : List Promotion) where

@@ -6,7 +6,7 @@ use Rattle.cluster_types.specs.declared.leaf.Role.TheVariants as role
 use Rattle.cluster_types.specs.declared.placement.Target.{Target}
 use Rattle.cluster_types.specs.declared.placement.Target.TheVariants as target
 use Rattle.cluster_types.specs.Tables.{Targets, holds_role, with_cell}
-use Rattle.placement.specs.declared.dependencies.Dependency.{Dependency}
+use Rattle.placement.specs.declared.held.dependencies.Dependency.{Dependency}
 
 -- what is left of a target without the role
 abbrev pub below : Role → Target
@@ -35,20 +35,20 @@ module _ (nodes : ℕ) (table : Targets) where
   is_anywhere r given = list_any (holds_role table r given) (range_with_len 0 nodes)
 
   -- the primary holds its role where it counts for the node: there, or of a dependency that isn't local on any node
-  abbrev pub has_primary : Dependency → ℕ → Bool
-  has_primary rule n = has_primary_where table rule (is_anywhere rule.primary rule.primary_role) n
+  abbrev pub has_its_primary : Dependency → ℕ → Bool
+  has_its_primary rule n = has_primary_where table rule (is_anywhere rule.primary rule.primary_role) n
 
   -- the dependency takes its dependent's role away from the node
   abbrev pub takes : Dependency → ℕ → Bool
-  takes rule n = holds_role table rule.dependent rule.dependent_role n && not (has_primary rule n)
+  takes rule n = holds_role table rule.dependent rule.dependent_role n && not (has_its_primary rule n)
 
   -- on no node it does
-  abbrev pub IsSettled : Dependency → Type 0
-  IsSettled rule = (n : ℕ) → n < nodes → takes rule n ≡ false
+  abbrev pub IsRuleSettled : Dependency → Type 0
+  IsRuleSettled rule = (n : ℕ) → n < nodes → takes rule n ≡ false
 
 -- these targets are what is left of the chosen ones after some roles were taken away
-pub data Taken (rules : List Dependency) (nodes : ℕ) (chosen : Targets) : Targets → Type 0 where
-  none_yet : (left : Targets) → ((r n : ℕ) → left r n ≡ chosen r n) → Taken rules nodes chosen left
-  one_more : (before left : Targets) (rule : Dependency) (n : ℕ) → Taken rules nodes chosen before → Contains rules rule → n < nodes
+pub data TakenAway (rules : List Dependency) (nodes : ℕ) (chosen : Targets) : Targets → Type 0 where
+  none_yet : (left : Targets) → ((r n : ℕ) → left r n ≡ chosen r n) → TakenAway rules nodes chosen left
+  one_more : (before left : Targets) (rule : Dependency) (n : ℕ) → TakenAway rules nodes chosen before → Contains rules rule → n < nodes
       → takes nodes before rule n ≡ true → ((r m : ℕ) → left r m ≡ without before rule.dependent rule.dependent_role n r m)
-      → Taken rules nodes chosen left
+      → TakenAway rules nodes chosen left

@@ -2,7 +2,7 @@
 use Rattle.std.specs.Prelude.{ℕ, ◌&&◌, ◌||◌, not, Bool, if◌then◌else◌, ℤ, pos}
 use Rattle.cluster_types.specs.declared.placement.Decision.{Decision}
 use Rattle.cluster_types.specs.declared.rules.Colocation.{Colocation}
-use Rattle.cluster_types.specs.Choice.{is_dependent, is_primary, is_mandatory, is_separation, is_finite}
+use Rattle.cluster_types.specs.Choice.{is_dependent, is_primary, is_mandatory, is_separation, is_finite_colocation}
 use Rattle.cluster_types.specs.Tables.{Targets, holds_role}
 
 module _ (table : Targets) (d : Decision) (n : ℕ) (col : Colocation) where
@@ -19,7 +19,7 @@ module _ (table : Targets) (d : Decision) (n : ℕ) (col : Colocation) where
 
   -- it is finite, and counts
   abbrev pub counts : Bool
-  counts = is_finite col && is_dependent d col && holds_role table col.primary col.primary_role n
+  counts = is_finite_colocation col && is_dependent d col && holds_role table col.primary col.primary_role n
 
   -- the points that it gives
   abbrev pub points : ℤ

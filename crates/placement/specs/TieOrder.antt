@@ -1,9 +1,9 @@
 -- The order in which ties are followed (rule of this project).
 use Rattle.std.specs.Prelude.{◌≡◌, ◌<◌, ℕ, List, length, map, slice_index_or, Contains}
-use Rattle.loops.specs.declared.edge.Edge.{Edge}
-use Rattle.loops.specs.Longest.{longest}
-use Rattle.loops.specs.Loops.{HasNoLoop}
-use Rattle.placement.specs.declared.ties.Tie.{Tie}
+use Rattle.edges.specs.declared.edge.Edge.{Edge}
+use Rattle.edges.specs.Longest.{longest}
+use Rattle.edges.specs.Loops.{HasNoLoop}
+use Rattle.placement.specs.declared.totals.ties.Tie.{Tie}
 
 -- from the primary of a tie to its dependent
 abbrev pub edge_of : Tie → Edge
@@ -19,6 +19,6 @@ AreHeightsOf leaves ties heights =
     HasNoLoop leaves (map edge_of ties) → (r : ℕ) → r < leaves → slice_index_or heights r 0 ≡ longest leaves (map edge_of ties) r
 
 -- each tie stands behind those of its primary
-abbrev pub AreInOrder : List Tie → Type 0
-AreInOrder ties =
+abbrev pub AreTiesInOrder : List Tie → Type 0
+AreTiesInOrder ties =
     (i j : ℕ) (d : Tie) → i < length ties → j < length ties → (slice_index_or ties i d).dependent ≡ (slice_index_or ties j d).primary → i < j

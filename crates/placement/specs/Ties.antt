@@ -6,7 +6,7 @@ use Rattle.listed.specs.Flags.{is_marked}
 use Rattle.cluster_types.specs.declared.cluster.Cluster.{Cluster}
 use Rattle.cluster_types.specs.declared.rules.Colocation.{Colocation}
 use Rattle.cluster_types.specs.Terms.{is_tie, is_tied}
-use Rattle.placement.specs.declared.ties.Tie.{Tie}
+use Rattle.placement.specs.declared.totals.ties.Tie.{Tie}
 
 -- the tie that a colocation is
 abbrev pub tie_of : Colocation → Tie
@@ -29,8 +29,8 @@ abbrev pub unmarked : List Bool → ℕ
 unmarked marks = count_by not marks
 
 -- these marks, with one more where `more`
-abbrev pub mark_if : List Bool → ℕ → Bool → List Bool
-mark_if marks s more = if more then slice_set marks s true else marks
+abbrev pub with_mark_if : List Bool → ℕ → Bool → List Bool
+with_mark_if marks s more = if more then slice_set marks s true else marks
 
 -- the tie ties its dependent to r, or to a leaf that has a mark
 abbrev pub leads : ℕ → List Bool → Tie → Bool

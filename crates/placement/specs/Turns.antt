@@ -4,7 +4,7 @@ use Rattle.std.specs.List.{list_all}
 use Rattle.cluster_types.specs.declared.cluster.Cluster.{Cluster}
 use Rattle.cluster_types.specs.declared.placement.Decision.{Decision}
 use Rattle.cluster_types.specs.Decisions.{Key, is_among, is_less, is_place, leaf_of, needs}
-use Rattle.placement.specs.declared.ranked.Ranked.{Ranked}
+use Rattle.placement.specs.declared.order.ranked.Ranked.{Ranked}
 use Rattle.placement.specs.Effective.{goes_before}
 use Rattle.placement.specs.Flags.{slot_of}
 

@@ -14,8 +14,8 @@ ghost use Rattle.placement.specs.Scores.{scores_of};
 use crate::{
     Choices, ScoreTable, decide_all, decisions_in_order, pinned_table, pins, reasons, rows, targets,
 };
-use carry::with;
 use cluster_types::{Cluster, NoMemory, Pin, Placed, States};
+use faults::with;
 use std::alloc::Global;
 
 /// What is chosen for the leaves that aren't pinned, each decision at its turn.

@@ -14,7 +14,7 @@ use Rattle.cluster_types.specs.declared.placement.Decision.{Decision}
 use Rattle.cluster_types.specs.declared.placement.Decision.TheVariants.{Place}
 use Rattle.cluster_types.specs.declared.rules.Colocation.{Colocation}
 use Rattle.cluster_types.specs.Choice.{after_decisions, is_candidate, is_chosen, is_dependent, is_primary, is_separation}
-use Rattle.cluster_types.specs.Decisions.{all_decisions, decision_of, is_place, is_same_decision, joins, leaf_of, needs, needs_through}
+use Rattle.cluster_types.specs.Decisions.{all_decisions, decision_of, is_place, is_same_decision, makes_need, leaf_of, needs, needs_through}
 use Rattle.cluster_types.specs.Pins.{pinned_targets}
 use Rattle.cluster_types.specs.Tables.{Targets, holds_role}
 use Rattle.cluster_types.specs.Valid.{IsValid}
@@ -56,7 +56,7 @@ other_decisions c valid col present same =
     wants : needs c d d ≡ true
     wants =
         or_right (not (is_place d) && is_same_decision d (Place (leaf_of d))) _
-        (passes_by (joins d d) c.colocations col present
+        (passes_by (makes_need d d) c.colocations col present
         (and_from (is_same_decision d (decision_of col.dependent col.dependent_role)) _ (is_itself d) (rw (← same) (is_itself d))))
 
     some : 0 < length (all_decisions c)

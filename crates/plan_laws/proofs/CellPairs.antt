@@ -11,7 +11,7 @@ use Rattle.cluster_types.specs.declared.leaf.Op.TheVariants as op
 use Rattle.cluster_types.specs.declared.leaf.Role.TheVariants as role
 use Rattle.cluster_types.specs.Fields.{copies, is_promotable}
 use Rattle.cluster_types.specs.Needed.{Needed}
-use Rattle.cluster_types.specs.Numbers.{Link, is_before, is_earlier, link, links, place_of, rank, step_of}
+use Rattle.cluster_types.specs.Numbers.{Link, is_place_before, is_earlier, link, links, action_place, rank, step_of}
 use Rattle.cluster_types.specs.Precedence.{CellOf, both, change_cell, comes_first_in_cell, demotes_first, fences_first, gives_any, is_migrating, is_one_cell, is_one_leaf, is_some_cell, op_cell, probe_cell, probes_first, stops_first}
 use Rattle.cluster_types.specs.Tables.{Targets, holds_role}
 use Rattle.plan_laws.proofs.Links.{link_of_leaf}
@@ -39,13 +39,13 @@ module _ (c : Cluster) (es : List Event) (targets : Targets) (actions : List Act
   -- a stop comes before a start or a promote, whether its leaf migrates or not
   stop_start : (x y : Action) (r n s m : ℕ) → OfCell op.Stop x r n → OfCell op.Start y s m → is_earlier c actions x y ≡ true
   stop_start _ _ _ _ _ _ (of_cell r n i role) (of_cell s m j other) = go (is_migrating actions r) where
-    go : (b : Bool) → is_before (stop_place c actions r n b) (place_of c actions (Cell op.Start s m j other)) ≡ true
+    go : (b : Bool) → is_place_before (stop_place c actions r n b) (action_place c actions (Cell op.Start s m j other)) ≡ true
     go true = refl
     go false = refl
 
   stop_promote : (x y : Action) (r n s m : ℕ) → OfCell op.Stop x r n → OfCell op.Promote y s m → is_earlier c actions x y ≡ true
   stop_promote _ _ _ _ _ _ (of_cell r n i role) (of_cell s m j other) = go (is_migrating actions r) where
-    go : (b : Bool) → is_before (stop_place c actions r n b) (place_of c actions (Cell op.Promote s m j other)) ≡ true
+    go : (b : Bool) → is_place_before (stop_place c actions r n b) (action_place c actions (Cell op.Promote s m j other)) ≡ true
     go true = refl
     go false = refl
 
@@ -85,7 +85,7 @@ module _ (c : Cluster) (es : List Event) (targets : Targets) (actions : List Act
   demote_stop : (x y : Action) (r n s m : ℕ) → r ≡ s → Contains actions x → OfCell op.Demote x r n → OfCell op.Stop y s m → is_earlier c actions x y ≡ true
   demote_stop _ _ _ _ _ _ same inx (of_cell r n i role) (of_cell s m j other) = go (is_migrating actions s)
     where
-      go : (b : Bool) → is_before (place_of c actions (Cell op.Demote r n i role)) (stop_place c actions s m b) ≡ true
+      go : (b : Bool) → is_place_before (action_place c actions (Cell op.Demote r n i role)) (stop_place c actions s m b) ≡ true
       go true = refl
       go false =
           let need = needs (Cell op.Demote r n i role) inx in
@@ -108,7 +108,7 @@ module _ (c : Cluster) (es : List Event) (targets : Targets) (actions : List Act
   change_monitor : (x y : Action) (a : CellOf) (s m : ℕ) → change_cell x ≡ Some a → OfCell op.Monitor y s m → is_earlier c actions x y ≡ true
   change_monitor (Cell op.Start r n i role) _ a _ _ h (of_cell s m j other) = refl
   change_monitor (Cell op.Stop r n i role) _ a _ _ h (of_cell s m j other) = go (is_migrating actions r) where
-    go : (b : Bool) → is_before (stop_place c actions r n b) (place_of c actions (Cell op.Monitor s m j other)) ≡ true
+    go : (b : Bool) → is_place_before (stop_place c actions r n b) (action_place c actions (Cell op.Monitor s m j other)) ≡ true
     go true = refl
     go false = refl
   change_monitor (Cell op.Promote r n i role) _ a _ _ h (of_cell s m j other) = refl

@@ -16,9 +16,9 @@ use Rattle.cluster_types.specs.declared.leaf.Role.TheVariants as role
 use Rattle.cluster_types.specs.declared.placement.Decision.{Decision}
 use Rattle.cluster_types.specs.declared.placement.Target.TheVariants as target
 use Rattle.cluster_types.specs.Decisions.{all_decisions, decision_of, leaf_of}
-use Rattle.cluster_types.specs.Held.{Held, IsClosed, by_colocation, by_order, by_place}
+use Rattle.cluster_types.specs.Held.{Held, IsClosedUnderHolding, by_colocation, by_order, by_place}
 use Rattle.cluster_types.specs.Tables.{Targets, holds_role}
-use Rattle.plan_laws.specs.HeldMarks.{Marks, is_held_by}
+use Rattle.plan_laws.specs.HeldMarks.{MarkedDecisions, is_held_by}
 use Rattle.plan_laws.proofs.HeldRounds.{rules_give, stable_is_closed}
 use Rattle.plan_laws.proofs.MadeOnes.{never_both}
 use Rattle.plan_laws.proofs.StayHeld.{has, holds_is, nowhere_has_none}
@@ -61,26 +61,26 @@ module _ (c : Cluster) (es : List Event) (table : Targets) (inside : StaysWithin
   held_within _ _ (by_colocation col n may lacks) = role_within col.dependent col.dependent_role n may.chosen
   held_within _ _ (by_place r n promoted held) = role_within r role.Promoted n promoted
 
-  abbrev round : Marks → Marks
+  abbrev round : MarkedDecisions → MarkedDecisions
   round marks d n = marks d n || is_held_by c es table marks d n
 
-  round_sound : (marks : Marks) → ((d : Decision) (n : ℕ) → marks d n ≡ true → Held c es table d n) → (d : Decision) (n : ℕ) → round marks d n ≡ true → Held c es table d n
+  round_sound : (marks : MarkedDecisions) → ((d : Decision) (n : ℕ) → marks d n ≡ true → Held c es table d n) → (d : Decision) (n : ℕ) → round marks d n ≡ true → Held c es table d n
   round_sound marks sound d n h = go (marks d n) refl h
     where
       go : (b : Bool) → marks d n ≡ b → b || is_held_by c es table marks d n ≡ true → Held c es table d n
       go true e h = sound d n e
       go false e h = rules_give c es table marks sound d n h
 
-  abbrev is_new : Marks → Spot → Bool
+  abbrev is_new : MarkedDecisions → Spot → Bool
   is_new marks x = is_held_by c es table marks x.decision x.node && not (marks x.decision x.node)
 
   -- marks that have exactly the held cells
   pub record HeldCells : Type 0 where
-    pub marks : Marks
+    pub marks : MarkedDecisions
     pub sound : (d : Decision) (n : ℕ) → marks d n ≡ true → Held c es table d n
-    pub closed : IsClosed c es table (λ d n. marks d n ≡ true)
+    pub closed : IsClosedUnderHolding c es table (λ d n. marks d n ≡ true)
 
-  none_new : (marks : Marks) → ((d : Decision) (n : ℕ) → marks d n ≡ true → Held c es table d n) → list_any (is_new marks) spots ≡ false → HeldCells
+  none_new : (marks : MarkedDecisions) → ((d : Decision) (n : ℕ) → marks d n ≡ true → Held c es table d n) → list_any (is_new marks) spots ≡ false → HeldCells
   none_new marks sound none = record {
     marks = marks;
     sound = sound;
@@ -91,7 +91,7 @@ module _ (c : Cluster) (es : List Event) (table : Targets) (inside : StaysWithin
         never_both (list_any (is_new marks) spots) (passes_by (is_new marks) spots (record { decision = d; node = n }) (in_spots d n w.leaf w.node) new) none)));
   }
 
-  more_marked : (marks : Marks) → Any (λ x. is_new marks x ≡ true) spots
+  more_marked : (marks : MarkedDecisions) → Any (λ x. is_new marks x ≡ true) spots
       → count_by (λ x. marks x.decision x.node) spots < count_by (λ (x : Spot). round marks x.decision x.node) spots
   more_marked marks (k, x, lt, there, h) =
       count_one_more (λ (x : Spot). marks x.decision x.node) (λ (x : Spot). round marks x.decision x.node)
@@ -99,7 +99,7 @@ module _ (c : Cluster) (es : List Event) (table : Targets) (inside : StaysWithin
       (not-true (marks x.decision x.node) (later (is_held_by c es table marks x.decision x.node) (not (marks x.decision x.node)) h))
       (or_right (marks x.decision x.node) (is_held_by c es table marks x.decision x.node) (sooner (is_held_by c es table marks x.decision x.node) (not (marks x.decision x.node)) h))
 
-  search_on : (room : ℕ) (marks : Marks) → ((d : Decision) (n : ℕ) → marks d n ≡ true → Held c es table d n)
+  search_on : (room : ℕ) (marks : MarkedDecisions) → ((d : Decision) (n : ℕ) → marks d n ≡ true → Held c es table d n)
       → length spots ≤ count_by (λ (x : Spot). marks x.decision x.node) spots + room → HeldCells
   search_on zero marks sound enough = go (list_any (is_new marks) spots) refl
     where

@@ -12,16 +12,16 @@ use Rattle.cluster_types.specs.declared.rules.Colocation.{Colocation}
 use Rattle.cluster_types.specs.declared.rules.Order.{Order}
 use Rattle.cluster_types.specs.Choice.{is_dependent, is_mandatory}
 use Rattle.cluster_types.specs.Decisions.{decision_of, is_same_decision}
-use Rattle.cluster_types.specs.Held.{Gives, Held, by_colocation, by_order, by_place}
+use Rattle.cluster_types.specs.Held.{ActionGives, Held, by_colocation, by_order, by_place}
 use Rattle.cluster_types.specs.Precedence.{is_mandatory_order, is_up, role_by}
 use Rattle.cluster_types.specs.Reasons.{IsFirstOf, IsHeldByColocation, IsHeldByOrder}
 use Rattle.cluster_types.specs.Tables.{Targets}
 use Rattle.cluster_types.proofs.OpLaws.{gives_by, gives_one, of_kind, up_of}
-use Rattle.plan_laws.specs.HeldMarks.{Marks, lacks_first, lacks_primary}
+use Rattle.plan_laws.specs.HeldMarks.{MarkedDecisions, lacks_first, lacks_primary}
 use Rattle.plan_laws.proofs.HeldTests.{first_lacks, lacks_of_first, lacks_of_primary, primary_lacks}
 use Rattle.plan_laws.proofs.Firsts.{FirstOrNone, a_first, first_or_none, never, none_holds}
 
-module _ (c : Cluster) (es : List Event) (table : Targets) (marks : Marks) (sound : (d : Decision) (n : ℕ) → marks d n ≡ true → Held c es table d n)
+module _ (c : Cluster) (es : List Event) (table : Targets) (marks : MarkedDecisions) (sound : (d : Decision) (n : ℕ) → marks d n ≡ true → Held c es table d n)
     (marked : (d : Decision) (n : ℕ) → Held c es table d n → marks d n ≡ true) (r n : ℕ) where
   -- the two tests for a rule that holds the leaf
 
@@ -56,7 +56,7 @@ module _ (c : Cluster) (es : List Event) (table : Targets) (marks : Marks) (soun
       record {
         mandatory = of_kind o.kind (sooner (is_mandatory_order o.kind) (is_up o.first_op) two);
         later = leaf;
-        starts = subst (Gives o.then_op) starts (gives_by o.then_op (later _ (is_up o.then_op) three));
+        starts = subst (ActionGives o.then_op) starts (gives_by o.then_op (later _ (is_up o.then_op) three));
         first = role_by o.first_op;
         gives = gives_by o.first_op (later (is_mandatory_order o.kind) (is_up o.first_op) two);
         lacking = first_lacks c es table marks (Held c es table) sound o n (later _ (lacks_first c es table marks o n) h);
@@ -83,7 +83,7 @@ module _ (c : Cluster) (es : List Event) (table : Targets) (marks : Marks) (soun
       an_order o may.present (record {
         mandatory = may.mandatory;
         later = leaf;
-        starts = subst (Gives o.then_op) starts may.then_gives;
+        starts = subst (ActionGives o.then_op) starts may.then_gives;
         first = first;
         gives = may.first_gives;
         lacking = λ m within scope held. lacks m within scope held;

@@ -14,11 +14,11 @@ use Rattle.cluster_types.specs.declared.placement.Decision.{Decision}
 use Rattle.cluster_types.specs.declared.placement.Decision.TheVariants.{Place, Promote}
 use Rattle.cluster_types.specs.declared.rules.Order.{Order}
 use Rattle.cluster_types.specs.Decisions.{decision_of, is_same_decision}
-use Rattle.cluster_types.specs.Held.{Held, IsClosed, LacksFirst, OrderMayHold, by_colocation, by_order, by_place}
+use Rattle.cluster_types.specs.Held.{Held, IsClosedUnderHolding, LacksFirst, OrderMayHold, by_colocation, by_order, by_place}
 use Rattle.cluster_types.specs.Precedence.{role_by}
 use Rattle.cluster_types.specs.Tables.{Targets, holds_role}
 use Rattle.cluster_types.proofs.OpLaws.{gives_one}
-use Rattle.plan_laws.specs.HeldMarks.{Marks, colocation_holds, is_held_by, lacks_first, lacks_primary, may_colocation, may_order, order_holds, place_holds}
+use Rattle.plan_laws.specs.HeldMarks.{MarkedDecisions, colocation_holds, is_held_by, lacks_first, lacks_primary, may_colocation, may_order, order_holds, place_holds}
 use Rattle.plan_laws.proofs.HeldTests.{colocation_may, first_lacks, lacks_of_first, lacks_of_primary, may_of_colocation, may_of_order, order_may, primary_lacks}
 
 one_of_three : (a b d : Bool) → {X : Type 0} → (a ≡ true → X) → (b ≡ true → X) → (d ≡ true → X) → a || b || d ≡ true → X
@@ -29,7 +29,7 @@ one_of_three false false d f g h e = h e
 module _ (c : Cluster) (es : List Event) (table : Targets) where
   -- what the rules give of cells that are held is held
 
-  module _ (marks : Marks) (sound : (d : Decision) (n : ℕ) → marks d n ≡ true → Held c es table d n) where
+  module _ (marks : MarkedDecisions) (sound : (d : Decision) (n : ℕ) → marks d n ≡ true → Held c es table d n) where
     order_gives : (d : Decision) (n : ℕ) → Any (λ o. order_holds c es table marks d n o ≡ true) c.orders → Held c es table d n
     order_gives d n (k, o, lt, there, h) =
         let two = sooner _ (lacks_first c es table marks o n) h in
@@ -73,7 +73,7 @@ module _ (c : Cluster) (es : List Event) (table : Targets) where
   third_true false true d h = refl
   third_true false false d h = h
 
-  module _ (marks : Marks) (stable : (d : Decision) (n : ℕ) → is_held_by c es table marks d n ≡ true → marks d n ≡ true) where
+  module _ (marks : MarkedDecisions) (stable : (d : Decision) (n : ℕ) → is_held_by c es table marks d n ≡ true → marks d n ≡ true) where
     by_an_order : (o : Order) (n : ℕ) (first given : Role) → OrderMayHold c es table o n first given → LacksFirst c es table (λ d n. marks d n ≡ true) o n first
         → marks (decision_of o.then_leaf given) n ≡ true
     by_an_order o n first given may lacks =
@@ -88,7 +88,7 @@ module _ (c : Cluster) (es : List Event) (table : Targets) where
         (and_from (is_same_decision (decision_of o.then_leaf (role_by o.then_op)) (decision_of o.then_leaf (role_by o.then_op))) _
         (is_itself (decision_of o.then_leaf (role_by o.then_op))) (may_of_order c es table o n first given may)) lacking))))
 
-    pub stable_is_closed : IsClosed c es table (λ d n. marks d n ≡ true)
+    pub stable_is_closed : IsClosedUnderHolding c es table (λ d n. marks d n ≡ true)
     stable_is_closed = record {
       by_order = λ o n first given may lacks. by_an_order o n first given may lacks;
       by_colocation = λ col n may lacks.

@@ -18,7 +18,7 @@ use Rattle.cluster_types.specs.Pins.{is_pinned}
 use Rattle.cluster_types.specs.Precedence.{is_mandatory_order, is_up, role_by}
 use Rattle.cluster_types.specs.Tables.{Targets, holds_role, is_in_scope}
 use Rattle.cluster_types.proofs.OpLaws.{gives_by, gives_one, of_kind, up_of}
-use Rattle.plan_laws.specs.HeldMarks.{Marks, lacks_first, lacks_primary, may_colocation, may_order}
+use Rattle.plan_laws.specs.HeldMarks.{MarkedDecisions, lacks_first, lacks_primary, may_colocation, may_order}
 
 module _ (c : Cluster) (es : List Event) (table : Targets) where
   pub order_may : (o : Order) (n : ℕ) → Contains c.orders o → may_order c es table o n ≡ true → OrderMayHold c es table o n (role_by o.first_op) (role_by o.then_op)
@@ -67,7 +67,7 @@ module _ (c : Cluster) (es : List Event) (table : Targets) where
 
   -- what is lacking by the marks, of some set that has the marked cells
 
-  module _ (marks : Marks) (set : Decision → ℕ → Type 0) (has : (d : Decision) (n : ℕ) → marks d n ≡ true → set d n) where
+  module _ (marks : MarkedDecisions) (set : Decision → ℕ → Type 0) (has : (d : Decision) (n : ℕ) → marks d n ≡ true → set d n) where
     pub first_lacks : (o : Order) (n : ℕ) → lacks_first c es table marks o n ≡ true → LacksFirst c es table set o n (role_by o.first_op)
     first_lacks o n h m within scope held =
         has (decision_of o.first (role_by o.first_op)) m
@@ -82,7 +82,7 @@ module _ (c : Cluster) (es : List Event) (table : Targets) where
         (implied (holds_role table col.primary col.primary_role n) (marks (decision_of col.primary col.primary_role) n) h held)
 
   -- and back, where the marks have the set
-  module _ (marks : Marks) (set : Decision → ℕ → Type 0) (marked : (d : Decision) (n : ℕ) → set d n → marks d n ≡ true) where
+  module _ (marks : MarkedDecisions) (set : Decision → ℕ → Type 0) (marked : (d : Decision) (n : ℕ) → set d n → marks d n ≡ true) where
     pub lacks_of_first : (o : Order) (n : ℕ) → LacksFirst c es table set o n (role_by o.first_op) → lacks_first c es table marks o n ≡ true
     lacks_of_first o n lacks =
         all_pass (λ m. not (is_in_scope o n m && holds_role table o.first (role_by o.first_op) m) || marks (decision_of o.first (role_by o.first_op)) m)

@@ -15,7 +15,7 @@ use Rattle.cluster_types.specs.declared.rules.Order.{Order}
 use Rattle.cluster_types.specs.declared.rules.OrderKind.TheVariants as kind
 use Rattle.cluster_types.specs.Choice.{is_mandatory}
 use Rattle.cluster_types.specs.Decisions.{decision_of}
-use Rattle.cluster_types.specs.Held.{AreTargets, Gives, Held, by_order, by_colocation, by_place, Keeps, OrderMayHold, ColocationMayHold}
+use Rattle.cluster_types.specs.Held.{AreTargets, ActionGives, Held, by_order, by_colocation, by_place, KeepsTarget, OrderMayHold, ColocationMayHold}
 use Rattle.cluster_types.specs.Pins.{is_pinned}
 use Rattle.cluster_types.specs.Tables.{Targets, holds_role, is_in_scope, target_holds}
 use Rattle.cluster_types.specs.Valid.{IsValid}
@@ -25,7 +25,7 @@ use Rattle.lemmas.proofs.Searches.{passes_by}
 
 module _ (c : Cluster) (es : List Event) (table : Targets) where
   module _ (r n : ℕ) where
-    one_target : (t u : Target) → Keeps c es table r n t → Keeps c es table r n u → t ≡ u
+    one_target : (t u : Target) → KeepsTarget c es table r n t → KeepsTarget c es table r n u → t ≡ u
     one_target target.Nowhere target.Nowhere h k = refl
     one_target target.Nowhere target.Started h k = absurd (k.1 (h k.0))
     one_target target.Nowhere target.Promoted h k = absurd (k.1 (by_place r n k.0 (h (promoted_somewhere (table r n) k.0))))
@@ -37,7 +37,7 @@ module _ (c : Cluster) (es : List Event) (table : Targets) where
     one_target target.Promoted target.Promoted h k = refl
 
     -- a role that was chosen and isn't a target is held back
-    back_on : (t : Target) (given : Role) → Keeps c es table r n t → holds_role table r given n ≡ true → target_holds t given ≡ false
+    back_on : (t : Target) (given : Role) → KeepsTarget c es table r n t → holds_role table r given n ≡ true → target_holds t given ≡ false
         → Held c es table (decision_of r given) n
     back_on target.Nowhere role.Started k h f = k h
     back_on target.Nowhere role.Promoted k h f = by_place r n h (k (promoted_somewhere (table r n) h))
@@ -47,7 +47,7 @@ module _ (c : Cluster) (es : List Event) (table : Targets) where
     back_on target.Promoted role.Promoted k h f = cc
 
     -- a role of a target was chosen, and isn't held back
-    chosen_on : (t : Target) (given : Role) → Keeps c es table r n t → target_holds t given ≡ true → holds_role table r given n ≡ true
+    chosen_on : (t : Target) (given : Role) → KeepsTarget c es table r n t → target_holds t given ≡ true → holds_role table r given n ≡ true
     chosen_on target.Nowhere role.Started k h = cc
     chosen_on target.Nowhere role.Promoted k h = cc
     chosen_on target.Started role.Started k h = k.0
@@ -55,7 +55,7 @@ module _ (c : Cluster) (es : List Event) (table : Targets) where
     chosen_on target.Promoted role.Started k h = promoted_somewhere (table r n) k.0
     chosen_on target.Promoted role.Promoted k h = k.0
 
-    free_on : (t : Target) (given : Role) → Keeps c es table r n t → target_holds t given ≡ true → Held c es table (decision_of r given) n → ⊥
+    free_on : (t : Target) (given : Role) → KeepsTarget c es table r n t → target_holds t given ≡ true → Held c es table (decision_of r given) n → ⊥
     free_on target.Nowhere role.Started k h b = cc
     free_on target.Nowhere role.Promoted k h b = cc
     free_on target.Started role.Started k h b = k.1 b
@@ -64,15 +64,15 @@ module _ (c : Cluster) (es : List Event) (table : Targets) where
     free_on target.Promoted role.Promoted k h b = k.1 b
 
   module _ (targets : Targets) where
-    pub back : (r n : ℕ) (given : Role) → Keeps c es table r n (targets r n) → holds_role table r given n ≡ true → holds_role targets r given n ≡ false → Held c es table (decision_of r given) n
+    pub back : (r n : ℕ) (given : Role) → KeepsTarget c es table r n (targets r n) → holds_role table r given n ≡ true → holds_role targets r given n ≡ false → Held c es table (decision_of r given) n
     back r n role.Started k h f = back_on r n (targets r n) role.Started k h f
     back r n role.Promoted k h f = back_on r n (targets r n) role.Promoted k h f
 
-    pub chosen : (r n : ℕ) (given : Role) → Keeps c es table r n (targets r n) → holds_role targets r given n ≡ true → holds_role table r given n ≡ true
+    pub chosen : (r n : ℕ) (given : Role) → KeepsTarget c es table r n (targets r n) → holds_role targets r given n ≡ true → holds_role table r given n ≡ true
     chosen r n role.Started k h = chosen_on r n (targets r n) role.Started k h
     chosen r n role.Promoted k h = chosen_on r n (targets r n) role.Promoted k h
 
-    pub free : (r n : ℕ) (given : Role) → Keeps c es table r n (targets r n) → holds_role targets r given n ≡ true → Held c es table (decision_of r given) n → ⊥
+    pub free : (r n : ℕ) (given : Role) → KeepsTarget c es table r n (targets r n) → holds_role targets r given n ≡ true → Held c es table (decision_of r given) n → ⊥
     free r n role.Started k h b = free_on r n (targets r n) role.Started k h b
     free r n role.Promoted k h b = free_on r n (targets r n) role.Promoted k h b
 
@@ -122,7 +122,7 @@ module _ (c : Cluster) (es : List Event) (table : Targets) where
           let is : slice_index_or all m m ≡ m = let f = get_or-range_with_len 0 (length c.nodes) m m lt in omega (arith, f) in
           let some = passes_by there all m (m, omega arith, is) (and_from (is_in_scope o n m) (holds_role targets o.first first m) scope held) in cc)
 
-    pub after_firsts : (o : Order) (n : ℕ) (first later : Role) → Contains c.orders o → o.kind ≡ kind.Mandatory → Gives o.first_op first → Gives o.then_op later
+    pub after_firsts : (o : Order) (n : ℕ) (first later : Role) → Contains c.orders o → o.kind ≡ kind.Mandatory → ActionGives o.first_op first → ActionGives o.then_op later
         → is_pinned c es o.then_leaf ≡ false → n < length c.nodes → holds_role targets o.then_leaf later n ≡ true
         → (m : ℕ) × (m < length c.nodes) × (is_in_scope o n m ≡ true) × (holds_role targets o.first first m ≡ true)
     after_firsts o n first later present mandatory gives then_gives managed within h = go (list_any (there o n first) (all o n first)) refl

@@ -10,7 +10,7 @@ use Rattle.cluster_types.specs.declared.journal.Promotion.{Promotion}
 use Rattle.cluster_types.specs.declared.leaf.Role.TheVariants as role
 use Rattle.cluster_types.specs.declared.placement.Placed.{Placed}
 use Rattle.cluster_types.specs.Fields.{is_promotable}
-use Rattle.cluster_types.specs.Numbers.{is_earlier, place_of}
+use Rattle.cluster_types.specs.Numbers.{is_earlier, action_place}
 use Rattle.cluster_types.specs.Plans.{IsPlaced, IsPlan, precedes_by_number}
 use Rattle.cluster_types.specs.Precedence.{must_precede}
 use Rattle.cluster_types.specs.Steps.{numbered}
@@ -57,12 +57,12 @@ module _ (c : Cluster) (es : List Event) (ps : List Promotion) (placed : Placed)
 
       by : (less more : Bool) → nat_lt i j ≡ less → nat_lt j i ≡ more → i < j
       by true more l m = grind arith
-      by false true l m = absurd (not_both (place_of c actions x) (place_of c actions y) earlier (back (grind arith)))
+      by false true l m = absurd (not_both (action_place c actions x) (action_place c actions y) earlier (back (grind arith)))
       by false false l m =
           let same : i ≡ j = grind arith in
           let one : x ≡ y = (let g : slice_get actions j ≡ Some x = subst (λ z. slice_get actions z ≡ Some x) same at_i in cc) in
           let itself : is_earlier c actions y y ≡ true = subst (λ z. is_earlier c actions z y ≡ true) one earlier in
-          absurd (not_both (place_of c actions y) (place_of c actions y) itself itself)
+          absurd (not_both (action_place c actions y) (action_place c actions y) itself itself)
 
   lower : (j k : ℕ) (x y : Action) → OneBelow actions j x → OneBelow actions k y → must_precede c actions (is_earlier c actions) x y ≡ true → j < k
   lower j k x y one other h =

@@ -17,7 +17,7 @@ use Rattle.cluster_types.specs.CellStates.{cell_state}
 use Rattle.cluster_types.specs.Choice.{is_kept_by, is_permitted}
 use Rattle.cluster_types.specs.Decisions.{decision_of, leaf_of}
 use Rattle.cluster_types.specs.Fields.{copies}
-use Rattle.cluster_types.specs.Held.{Gives, started, promoted}
+use Rattle.cluster_types.specs.Held.{ActionGives, started, promoted}
 use Rattle.cluster_types.specs.Needed.{Cycled, FirstSet, GetsStep, Migrates, Needed, kept, runs, sent, step, steps_at, steps_of, taken_in}
 use Rattle.cluster_types.specs.Pins.{is_pinned}
 use Rattle.cluster_types.specs.Plans.{IsPlaced}
@@ -25,7 +25,7 @@ use Rattle.cluster_types.specs.Rights.{may_keep, may_start}
 use Rattle.cluster_types.specs.Tables.{Targets, holds_role, is_somewhere, targets_of}
 use Rattle.cluster_types.specs.Terms.{active_count}
 use Rattle.cluster_types.proofs.NeededLaws.{can_be_cycled}
-use Rattle.plan_laws.specs.Placing.{MayGive}
+use Rattle.plan_laws.specs.Placing.{MayGiveRole}
 use Rattle.plan_laws.proofs.ChosenTargets.{fitted}
 use Rattle.plan_laws.proofs.NeededSteps.{MustBeGiven, given_again, given_anew}
 use Rattle.plan_laws.proofs.StayHeld.{holds_is}
@@ -67,12 +67,12 @@ module _ (c : Cluster) (es : List Event) where
     targets = targets_of placed.table
 
     gives_with : (r n : ℕ) (given : Role) → r < length c.leaves → n < length c.nodes → is_pinned c es r ≡ false → holds_role targets r given n ≡ true
-        → (is_permitted c es (decision_of r given) n ≡ true → may_start c es ≡ true) → MayGive c es targets r n given
+        → (is_permitted c es (decision_of r given) n ≡ true → may_start c es ≡ true) → MayGiveRole c es targets r n given
     gives_with r n given low within free held may =
         let f = fitted c es ps placed is r n given low within free held in
         record { leaf = low; node = within; free = free; target = held; usable = f.usable; may = may f.permitted }
 
-    pub gives : (r n : ℕ) (o : Op) (given : Role) → r < length c.leaves → n < length c.nodes → Gives o given → GetsStep c es targets r n o → MayGive c es targets r n given
+    pub gives : (r n : ℕ) (o : Op) (given : Role) → r < length c.leaves → n < length c.nodes → ActionGives o given → GetsStep c es targets r n o → MayGiveRole c es targets r n given
     gives r n o given low within word (inl (cycled, there)) =
         let s : Steps targets r n o true = steps targets r n o true there in
         gives_with r n given low within s.free (holds_is targets r given n ∙ given_again (cell_state c r n es) (targets r n) o given word s.among)
@@ -82,31 +82,31 @@ module _ (c : Cluster) (es : List Event) where
         let m : MustBeGiven r given (cell_state c r n es) (targets r n) = given_anew r (cell_state c r n es) (targets r n) o given word s.among in
         gives_with r n given low within s.free (holds_is targets r given n ∙ m.wanted) (λ permitted. started_anew r n given permitted m.not_kept)
 
-    first_start : (r n : ℕ) → FirstSet c es targets (Cell op.Start r n 0 role.Started) → MayGive c es targets r n role.Started
+    first_start : (r n : ℕ) → FirstSet c es targets (Cell op.Start r n 0 role.Started) → MayGiveRole c es targets r n role.Started
     first_start r n (step _ _ _ low within gets) = gives r n op.Start role.Started low within started gets
 
-    first_promote : (r n : ℕ) → FirstSet c es targets (Cell op.Promote r n 0 role.Started) → MayGive c es targets r n role.Promoted
+    first_promote : (r n : ℕ) → FirstSet c es targets (Cell op.Promote r n 0 role.Started) → MayGiveRole c es targets r n role.Promoted
     first_promote r n (step _ _ _ low within gets) = gives r n op.Promote role.Promoted low within promoted gets
 
-    pub needed_start : (r n : ℕ) → Needed c es targets (Cell op.Start r n 0 role.Started) → MayGive c es targets r n role.Started
+    pub needed_start : (r n : ℕ) → Needed c es targets (Cell op.Start r n 0 role.Started) → MayGiveRole c es targets r n role.Started
     needed_start r n (kept _ first unless) = first_start r n first
 
-    pub needed_promote : (r n : ℕ) → Needed c es targets (Cell op.Promote r n 0 role.Started) → MayGive c es targets r n role.Promoted
+    pub needed_promote : (r n : ℕ) → Needed c es targets (Cell op.Promote r n 0 role.Started) → MayGiveRole c es targets r n role.Promoted
     needed_promote r n (kept _ first unless) = first_promote r n first
 
-    pub needed_migration : (r n m : ℕ) → Migrates c es targets r n m → MayGive c es targets r m role.Started
+    pub needed_migration : (r n m : ℕ) → Migrates c es targets r n m → MayGiveRole c es targets r m role.Started
     needed_migration r n m migrates = first_start r m migrates.started
 
     no_first_sending : (r n m : ℕ) → FirstSet c es targets (MigrateTo r n m) → ⊥
     no_first_sending r n m h = elim h [ ]
 
-    pub needed_sending : (r n m : ℕ) → Needed c es targets (MigrateTo r n m) → MayGive c es targets r m role.Started
+    pub needed_sending : (r n m : ℕ) → Needed c es targets (MigrateTo r n m) → MayGiveRole c es targets r m role.Started
     needed_sending r n m (sent _ _ _ migrates) = needed_migration r n m migrates
     needed_sending r n m (kept _ first unless) = absurd (no_first_sending r n m first)
 
     no_first_taking_in : (r n m : ℕ) → FirstSet c es targets (MigrateFrom r n m) → ⊥
     no_first_taking_in r n m h = elim h [ ]
 
-    pub needed_taking_in : (r n m : ℕ) → Needed c es targets (MigrateFrom r n m) → MayGive c es targets r m role.Started
+    pub needed_taking_in : (r n m : ℕ) → Needed c es targets (MigrateFrom r n m) → MayGiveRole c es targets r m role.Started
     needed_taking_in r n m (taken_in _ _ _ migrates) = needed_migration r n m migrates
     needed_taking_in r n m (kept _ first unless) = absurd (no_first_taking_in r n m first)

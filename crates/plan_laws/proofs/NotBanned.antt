@@ -4,7 +4,7 @@ use Rattle.std.specs.Prelude.{ℤ, pos, int_le}
 use Rattle.std.specs.Ordering.{int_eq}
 use Rattle.std.proofs.lemmas.List.Elements.{Contains-append_left, Contains-append_right}
 use Rattle.std.proofs.lemmas.Bool.{false_from_ne_true}
-use Rattle.score.specs.Total.{has, minus_infinity, total_of}
+use Rattle.score.specs.Total.{has_points, minus_infinity, total_of}
 use Rattle.lemmas.proofs.Searches.{passes_by}
 use Rattle.lemmas.proofs.Members.{at_head, in_flat, in_if}
 use Rattle.cluster_types.specs.declared.cluster.Cluster.{Cluster}
@@ -17,7 +17,7 @@ use Rattle.cluster_types.specs.Tables.{Targets}
 use Rattle.cluster_types.specs.Terms.{ban_scores, base, is_started, leaves_a_node, lenders, location_scores, opt_in_scores, own_terms, stickiness_scores, terms_of, with_lender, with_lenders}
 use Rattle.plan_laws.proofs.MadeOnes.{never_both}
 
-total_of_minus : (terms : List ℤ) → has minus_infinity terms ≡ true → total_of terms ≡ minus_infinity
+total_of_minus : (terms : List ℤ) → has_points minus_infinity terms ≡ true → total_of terms ≡ minus_infinity
 total_of_minus terms h = rw h refl
 
 first_is_minus : (x : ℤ) (rest : List ℤ) → x ≡ minus_infinity → total_of (x ∷ rest) ≡ minus_infinity
@@ -26,7 +26,7 @@ first_is_minus x rest e = rw e refl
 negative : (x : ℤ) → x ≡ minus_infinity → int_le (pos 0) x ≡ false
 negative x e = rw e refl
 
-minus_in : (terms : List ℤ) → Contains terms minus_infinity → has minus_infinity terms ≡ true
+minus_in : (terms : List ℤ) → Contains terms minus_infinity → has_points minus_infinity terms ≡ true
 minus_in terms h = passes_by (λ term. int_eq term minus_infinity) terms minus_infinity h refl
 
 module _ (c : Cluster) (es : List Event) where

@@ -12,7 +12,7 @@ use Rattle.cluster_types.specs.declared.rules.Order.{Order}
 use Rattle.cluster_types.specs.Fields.{is_promotable}
 use Rattle.cluster_types.specs.Needed.{IsDisturbed, Needed}
 use Rattle.cluster_types.specs.Numbers.{Link, is_earlier, is_step, is_within_phase, link, links, order_links, rank, step_of}
-use Rattle.cluster_types.specs.Precedence.{as_earlier, as_later, inverse, is_inverse_pair, is_migrating, is_ordered, is_pair, is_serialize, is_taken_back, is_up, takers}
+use Rattle.cluster_types.specs.Precedence.{as_earlier, as_later, inverse, is_inverse_pair, is_migrating, is_ordered, is_ordered_pair, is_serialize, is_taken_back, is_up, takers}
 use Rattle.cluster_types.specs.Tables.{Targets, is_in_scope}
 use Rattle.cluster_types.specs.Valid.{IsValidOrder, MayHaveWord}
 use Rattle.cluster_types.proofs.OpLaws.{stop_takes}
@@ -41,7 +41,7 @@ module _ (c : Cluster) (es : List Event) (targets : Targets) (actions : List Act
 
   -- a pair by two words in an order goes upward where it stands rightly, given that both its leaves are disturbed
   pair_upward : (o : Order) (p q : Op) (r s : ℕ) (x y : Action) → Contains actions x → Contains actions y → is_monitor p ≡ false → is_monitor q ≡ false
-      → (IsDisturbed c es targets r → IsDisturbed c es targets s → Rightly c actions p r q s) → is_pair actions o p r q s x y ≡ true
+      → (IsDisturbed c es targets r → IsDisturbed c es targets s → Rightly c actions p r q s) → is_ordered_pair actions o p r q s x y ≡ true
       → is_earlier c actions x y ≡ true
   pair_upward o p q r s x y inx iny mp mq w h =
       let b = both_there (λ a b. a.leaf == r && b.leaf == s && is_in_scope o a.node b.node) (as_earlier p x) (as_later actions q y) h in
@@ -147,8 +147,8 @@ module _ (c : Cluster) (es : List Event) (targets : Targets) (actions : List Act
       module _ (x y : Action) (inx : Contains actions x) (iny : Contains actions y) where
         taken_back_upward : is_up o.first_op && is_up o.then_op ≡ true → is_taken_back actions o x y ≡ true → is_earlier c actions x y ≡ true
         taken_back_upward up h =
-            let p = found (λ p. list_any (λ q. is_pair actions o p o.then_leaf q o.first x y) (takers o.first_op)) (takers o.then_op) h in
-            let q = found (λ q. is_pair actions o p.element o.then_leaf q o.first x y) (takers o.first_op) p.passes in
+            let p = found (λ p. list_any (λ q. is_ordered_pair actions o p o.then_leaf q o.first x y) (takers o.first_op)) (takers o.then_op) h in
+            let q = found (λ q. is_ordered_pair actions o p.element o.then_leaf q o.first x y) (takers o.first_op) p.passes in
             pair_upward o p.element q.element o.then_leaf o.first x y inx iny (taker_takes o.then_op p.element p.among).0 (taker_takes o.first_op q.element q.among).0
             (taken_rightly p.element q.element up p.among q.among) q.passes
 
@@ -156,7 +156,7 @@ module _ (c : Cluster) (es : List Event) (targets : Targets) (actions : List Act
         inverse_upward h = go (is_up o.first_op && is_up o.then_op) refl h
           where
             go : (b : Bool) → is_up o.first_op && is_up o.then_op ≡ b
-                → (if b then is_taken_back actions o x y else is_pair actions o (inverse o.then_op) o.then_leaf (inverse o.first_op) o.first x y) ≡ true
+                → (if b then is_taken_back actions o x y else is_ordered_pair actions o (inverse o.then_op) o.then_leaf (inverse o.first_op) o.first x y) ≡ true
                 → is_earlier c actions x y ≡ true
             go true e k = taken_back_upward e k
             go false e k =
@@ -166,9 +166,9 @@ module _ (c : Cluster) (es : List Event) (targets : Targets) (actions : List Act
   pub ordered_upward : (o : Order) → Contains c.orders o → IsValidOrder c o → (x y : Action) → Contains actions x → Contains actions y → is_ordered actions o x y ≡ true
       → is_earlier c actions x y ≡ true
   ordered_upward o present valid x y inx iny h =
-      let (plain, one) = and_parts (not (is_serialize o.kind)) (is_pair actions o o.first_op o.first o.then_op o.then_leaf x y || o.symmetrical && is_inverse_pair actions o x y) h in
+      let (plain, one) = and_parts (not (is_serialize o.kind)) (is_ordered_pair actions o o.first_op o.first o.then_op o.then_leaf x y || o.symmetrical && is_inverse_pair actions o x y) h in
       let kind = not-true (is_serialize o.kind) plain in
-      either (is_pair actions o o.first_op o.first o.then_op o.then_leaf x y) (o.symmetrical && is_inverse_pair actions o x y) one
+      either (is_ordered_pair actions o o.first_op o.first o.then_op o.then_leaf x y) (o.symmetrical && is_inverse_pair actions o x y) one
       (λ k. pair_upward o o.first_op o.then_op o.first o.then_leaf x y inx iny (word_is_step c o.first o.first_op valid.first) (word_is_step c o.then_leaf o.then_op valid.later)
       (own_rightly o present valid kind) k)
       (λ k. let (both_ways, turned) = and_parts o.symmetrical (is_inverse_pair actions o x y) k in inverse_upward o present valid kind both_ways x y inx iny turned)

@@ -6,16 +6,16 @@ use Rattle.cluster_types.specs.declared.journal.Action.{Action}
 use Rattle.cluster_types.specs.declared.journal.Action.TheVariants.{MigrateTo}
 use Rattle.cluster_types.specs.declared.leaf.Op.{Op}
 use Rattle.cluster_types.specs.declared.leaf.Op.TheVariants as op
-use Rattle.cluster_types.specs.Numbers.{Place, is_before, is_earlier, is_within_phase, link, place, place_of, rank, step_of}
+use Rattle.cluster_types.specs.Numbers.{Place, is_place_before, is_earlier, is_within_phase, link, place, action_place, rank, step_of}
 use Rattle.cluster_types.specs.Precedence.{is_migrating, is_up, sends}
 use Rattle.plan_laws.proofs.Roles.{GivesTo, gives_start, gives_sent, gives_promote, TakesFrom, asks, takes_stop, takes_demote}
 use Rattle.plan_laws.proofs.Words.{Earlier, first_start, first_taken_in, first_stop, first_promote, first_demote, Later, then_start, then_sent_to, then_sent_off, then_stop, then_promote, then_demote}
 
 -- of two stops or demotes, and of two starts or promotes, the one of lower rank
-pub takes_by_rank : (a b : ℕ) (r s n m i j : ℕ) → nat_lt a b ≡ true → is_before (place 2 a r n i) (place 2 b s m j) ≡ true
+pub takes_by_rank : (a b : ℕ) (r s n m i j : ℕ) → nat_lt a b ≡ true → is_place_before (place 2 a r n i) (place 2 b s m j) ≡ true
 takes_by_rank a b r s n m i j h = rw h refl
 
-pub gives_by_rank : (a b : ℕ) (r s n m i j : ℕ) → nat_lt a b ≡ true → is_before (place 6 a r n i) (place 6 b s m j) ≡ true
+pub gives_by_rank : (a b : ℕ) (r s n m i j : ℕ) → nat_lt a b ≡ true → is_place_before (place 6 a r n i) (place 6 b s m j) ≡ true
 gives_by_rank a b r s n m i j h = rw h refl
 
 module _ (c : Cluster) (actions : List Action) where
@@ -39,7 +39,7 @@ module _ (c : Cluster) (actions : List Action) where
 
   -- a stop as the earlier: its leaf doesn't migrate
   after_stop : (q : Op) (y : Action) (r n s : ℕ) → Rightly op.Stop r q s → Later actions q y s → (b : Bool) → is_migrating actions r ≡ b
-      → is_before (stop_place r n b) (place_of c actions y) ≡ true
+      → is_place_before (stop_place r n b) (action_place c actions y) ≡ true
   after_stop q y r n s w l true e = absurd (w.first_stays e refl)
   after_stop _ _ r n _ w (then_start s m i role) false e = refl
   after_stop _ _ r n _ w (then_sent_to s f t) false e = refl
@@ -78,7 +78,7 @@ module _ (c : Cluster) (actions : List Action) where
 
   -- what takes a role or asks for it comes before what gives one, unless both leaves migrate
   stop_before : (y : Action) (r n s : ℕ) → GivesTo y s → Contains actions y → (is_migrating actions r ≡ true → is_migrating actions s ≡ true → ⊥)
-      → (b : Bool) → is_migrating actions r ≡ b → is_before (stop_place r n b) (place_of c actions y) ≡ true
+      → (b : Bool) → is_migrating actions r ≡ b → is_place_before (stop_place r n b) (action_place c actions y) ≡ true
   stop_before _ r n _ (gives_start s m i role) k w true e = refl
   stop_before _ r n _ (gives_sent s f t) k w true e = absurd (w e (sent_is_migrating s f t k))
   stop_before _ r n _ (gives_promote s m i role) k w true e = refl

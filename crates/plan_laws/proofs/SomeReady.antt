@@ -2,10 +2,10 @@
 use Rattle.std.proofs.Common.{arith, ◌≡◌, ◌<◌, ◌≤◌, ◌+◌, ◌*◌, ◌&&◌, ◌||◌, not, ℕ, suc, zero, Bool, true, false, List, [], ◌∷◌, ◌++◌, ◌⊎◌, inl, inr, refl, ◌∙◌, length, Contains}
 use Rattle.std.specs.List.{list_all, sum_by}
 use Rattle.std.proofs.lemmas.List.Sums.{get_or-le-sum_by}
-use Rattle.loops.specs.Loops.{HasNoLoop, RiseSomehow}
-use Rattle.loops.proofs.Heights.{rise_somehow}
-use Rattle.loops.proofs.Paths.{loop_or_none}
-use Rattle.loops.proofs.Relations.{EdgeFor}
+use Rattle.edges.specs.Loops.{HasNoLoop, RiseSomehow}
+use Rattle.edges.proofs.Heights.{rise_somehow}
+use Rattle.edges.proofs.Paths.{loop_or_none}
+use Rattle.edges.proofs.Relations.{EdgeFor}
 use Rattle.loops.specs.Edges.{decision_position, need_edges}
 use Rattle.loops.specs.FirstLoops.{AllJoin, NeedsHaveLoop}
 use Rattle.loops.proofs.FromValid.{valid_join}

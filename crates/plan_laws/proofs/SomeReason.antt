@@ -16,12 +16,12 @@ use Rattle.cluster_types.specs.declared.placement.Target.TheVariants as target
 use Rattle.cluster_types.specs.Choice.{is_stopped_role}
 use Rattle.cluster_types.specs.Failures.{is_fail_stopped}
 use Rattle.cluster_types.specs.Fields.{copies, target_role_of}
-use Rattle.cluster_types.specs.Held.{AreTargets, Held, Keeps}
+use Rattle.cluster_types.specs.Held.{AreTargets, Held, KeepsTarget}
 use Rattle.cluster_types.specs.Pins.{is_pinned}
 use Rattle.cluster_types.specs.Reasons.{HasReason, is_chosen_nowhere, plain_reason}
 use Rattle.cluster_types.specs.Rights.{may_start}
 use Rattle.cluster_types.specs.Tables.{Targets, is_somewhere}
-use Rattle.plan_laws.specs.HeldMarks.{Marks}
+use Rattle.plan_laws.specs.HeldMarks.{MarkedDecisions}
 use Rattle.plan_laws.proofs.Firsts.{LeastOf, least_of}
 use Rattle.plan_laws.proofs.HeldReason.{FirstRule, first_rule}
 use Rattle.plan_laws.proofs.MadeOnes.{never_both}
@@ -32,7 +32,7 @@ is_nowhere target.Nowhere h = refl
 is_nowhere target.Started h = cc
 is_nowhere target.Promoted h = cc
 
-module _ (c : Cluster) (es : List Event) (table targets : Targets) (are : AreTargets c es table targets) (marks : Marks)
+module _ (c : Cluster) (es : List Event) (table targets : Targets) (are : AreTargets c es table targets) (marks : MarkedDecisions)
     (sound : (d : Decision) (n : ℕ) → marks d n ≡ true → Held c es table d n) (marked : (d : Decision) (n : ℕ) → Held c es table d n → marks d n ≡ true)
     (r : ℕ) (low : r < length c.leaves) where
   -- no plain reason is a rule's
@@ -90,7 +90,7 @@ module _ (c : Cluster) (es : List Event) (table targets : Targets) (are : AreTar
     held_at : (n : ℕ) → n < length c.nodes → is_somewhere (table r n) ≡ true → Held c es table (Place r) n
     held_at n within chosen = go (targets r n) (is_nowhere (targets r n) (nowhere n within)) (are r n low within)
       where
-        go : (t : Target) → t ≡ target.Nowhere → Keeps c es table r n t → Held c es table (Place r) n
+        go : (t : Target) → t ≡ target.Nowhere → KeepsTarget c es table r n t → Held c es table (Place r) n
         go target.Nowhere e kept = kept chosen
         go target.Started e kept = cc
         go target.Promoted e kept = cc

@@ -12,7 +12,7 @@ use Rattle.cluster_types.specs.declared.leaf.Op.TheVariants as op
 use Rattle.cluster_types.specs.declared.leaf.Role.TheVariants as role
 use Rattle.cluster_types.specs.Fields.{is_promotable}
 use Rattle.cluster_types.specs.Needed.{Needed, sent}
-use Rattle.cluster_types.specs.Numbers.{is_before, is_earlier, place_of}
+use Rattle.cluster_types.specs.Numbers.{is_place_before, is_earlier, action_place}
 use Rattle.cluster_types.specs.Precedence.{comes_first_in_cell, demotes_first, fences_first, is_across, is_migrating, is_ordered, is_serialize, is_serialized, migrates_first, must_precede, parts_first, probes_first, stops_first}
 use Rattle.cluster_types.specs.Tables.{Targets, holds_role}
 use Rattle.cluster_types.specs.Valid.{IsValid}
@@ -30,7 +30,7 @@ module _ (c : Cluster) (es : List Event) (targets : Targets) (actions : List Act
 
   -- of a migrating leaf
   taken_stop : (r f t n s : ℕ) → r ≡ s → Contains actions (MigrateFrom r f t) → (b : Bool) → is_migrating actions s ≡ b
-      → is_before (place_of c actions (MigrateFrom r f t)) (stop_place c actions s n b) ≡ true
+      → is_place_before (action_place c actions (MigrateFrom r f t)) (stop_place c actions s n b) ≡ true
   taken_stop r f t n s same inx true e = refl
   taken_stop r f t n s same inx false e =
       let sends_it = (needed (MigrateTo r f t)).1 (sent r f t (migrates_by_taken c es targets r f t (needs (MigrateFrom r f t) inx))) in

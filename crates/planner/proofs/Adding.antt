@@ -1,11 +1,11 @@
 -- Groups of edges that are added one after the other.
 use Rattle.std.proofs.Common.{arith, ◌<◌, ◌≤◌, ◌+◌, ◌++◌, ◌⊎◌, ℕ, List, [], sym, ap, ◌∙◌}
 use Rattle.std.proofs.lemmas.List.{append-nil, append_assoc, length-append}
-use Rattle.cluster_types.specs.declared.edges.Edge.{Edge}
-use Rattle.planner.specs.Groups.{Adds}
+use Rattle.edges.specs.declared.edge.Edge.{Edge}
+use Rattle.planner.specs.Groups.{AddsGroup}
 use Rattle.planner.proofs.Groups.{group_after, group_says, no_group}
 
-pub adds_none : (actions : ℕ) (list : List Edge) (from : ℕ) → actions ≤ from → Adds actions list list from from 0 (λ x y. ⊥)
+pub adds_none : (actions : ℕ) (list : List Edge) (from : ℕ) → actions ≤ from → AddsGroup actions list list from from 0 (λ x y. ⊥)
 adds_none actions list from le = record {
   more = [];
   list_is = sym (append-nil list);
@@ -13,8 +13,8 @@ adds_none actions list from le = record {
   few = omega arith;
 }
 
-pub adds_after : (actions : ℕ) (a b d : List Edge) (from mid upto k l : ℕ) (R S : ℕ → ℕ → Type 0) → Adds actions a b from mid k R → Adds actions b d mid upto l S
-    → Adds actions a d from upto (k + l) (λ x y. R x y ⊎ S x y)
+pub adds_after : (actions : ℕ) (a b d : List Edge) (from mid upto k l : ℕ) (R S : ℕ → ℕ → Type 0) → AddsGroup actions a b from mid k R → AddsGroup actions b d mid upto l S
+    → AddsGroup actions a d from upto (k + l) (λ x y. R x y ⊎ S x y)
 adds_after actions a b d from mid upto k l R S one two = record {
   more = one.more ++ two.more;
   list_is = two.list_is ∙ (ap (λ v. v ++ two.more) one.list_is ∙ append_assoc a one.more two.more);
@@ -27,7 +27,7 @@ adds_after actions a b d from mid upto k l R S one two = record {
 }
 
 pub adds_says : (actions : ℕ) (a b : List Edge) (from upto k l : ℕ) (R S : ℕ → ℕ → Type 0) → ((x y : ℕ) → x < actions → y < actions → R x y → S x y)
-    → ((x y : ℕ) → x < actions → y < actions → S x y → R x y) → k ≤ l → Adds actions a b from upto k R → Adds actions a b from upto l S
+    → ((x y : ℕ) → x < actions → y < actions → S x y → R x y) → k ≤ l → AddsGroup actions a b from upto k R → AddsGroup actions a b from upto l S
 adds_says actions a b from upto k l R S f g le one = record {
   more = one.more;
   list_is = one.list_is;

@@ -4,22 +4,22 @@ use Rattle.std.specs.List.{list_any, slice_get, sum_by}
 use Rattle.std.proofs.lemmas.List.{length-append}
 use Rattle.std.proofs.lemmas.List.Sums.{sum_by-cons}
 use Rattle.cluster_types.specs.declared.cluster.Cluster.{Cluster}
-use Rattle.cluster_types.specs.declared.edges.Edge.{Edge}
-use Rattle.cluster_types.specs.declared.edges.Edges.{Edges}
+use Rattle.edges.specs.declared.edge.Edge.{Edge}
+use Rattle.cluster_types.specs.declared.graph_edges.Edges.{Edges}
 use Rattle.cluster_types.specs.declared.journal.Action.{Action}
 use Rattle.cluster_types.specs.declared.rules.Order.{Order}
 use Rattle.cluster_types.specs.Numbers.{is_earlier}
 use Rattle.cluster_types.specs.Plans.{is_of_either, most_edges}
-use Rattle.cluster_types.specs.Graphs.{Leads}
+use Rattle.cluster_types.specs.Graphs.{LeadsByGates}
 use Rattle.cluster_types.specs.Precedence.{is_serialize, is_serialized, must_precede}
-use Rattle.planner.specs.declared.sides.Join.{Join}
+use Rattle.planner.specs.declared.precedence.sides.Join.{Join}
 use Rattle.planner.specs.Chains.{serialized_at, serialized_of}
-use Rattle.planner.specs.Gates.{edges_of}
-use Rattle.planner.specs.Groups.{Adds}
+use Rattle.planner.specs.Gates.{edges_of_joins}
+use Rattle.planner.specs.Groups.{AddsGroup}
 use Rattle.planner.specs.Joins.{joins_of}
 use Rattle.planner.specs.Places.{places_of}
 use Rattle.planner.specs.Precede.{AreEdges}
-use Rattle.planner.specs.Rooms.{Builds, IsWithin, rows_of_join, width_of_join}
+use Rattle.planner.specs.Rooms.{Builds, IsActionWithin, rows_of_join, width_of_join}
 use Rattle.planner.specs.Serials.{most_serial, serial_room}
 use Rattle.planner.proofs.AllJoins.{JoinFits, leads_precede, whole_group}
 use Rattle.planner.proofs.Bound.{joins_few_apart, most_other}
@@ -63,7 +63,7 @@ module _ (actions : List Action) where
   pub few_actions : (c : Cluster) → most_edges c actions ≤ 2000000000 → length actions ≤ 2000000000
   few_actions c most = omega arith
 
-module _ (c : Cluster) (actions : List Action) (inside : (a : Action) → Contains actions a → IsWithin c a) where
+module _ (c : Cluster) (actions : List Action) (inside : (a : Action) → Contains actions a → IsActionWithin c a) where
   abbrev Chained : ℕ → ℕ → Type 0
   Chained x y = list_any (serialized_at actions (is_earlier c actions) x y) c.orders ≡ true
 
@@ -81,7 +81,7 @@ module _ (c : Cluster) (actions : List Action) (inside : (a : Action) → Contai
   base_enough list base builds = let o = (all_joins c actions inside).ordered in let e = builds.base_is in omega arith
 
   pub whole : (list all : List Edge) (base upto : ℕ) → Builds c actions (places_of actions) list base (joins_of c)
-      → Adds (length actions) list all base upto (sum_by (most_serial actions) c.orders) Chained
+      → AddsGroup (length actions) list all base upto (sum_by (most_serial actions) c.orders) Chained
       → (edges : Edges) → edges.list ≡ all → edges.positions ≡ upto → AreEdges c actions (is_earlier c actions) edges
   whole list all base upto builds adds edges list_is positions_is =
       let e = list_is ∙ (adds.list_is ∙ ap (λ v. v ++ adds.more) builds.list_is) in
@@ -89,7 +89,7 @@ module _ (c : Cluster) (actions : List Action) (inside : (a : Action) → Contai
       builds.base_is Chained chained_is adds.group in
       record {
         leads = λ x y a b l m h k.
-            subst (λ v. Leads (length actions) v x y ↔ (must_precede c actions (is_earlier c actions) a b ≡ true)) (sym e)
+            subst (λ v. LeadsByGates (length actions) v x y ↔ (must_precede c actions (is_earlier c actions) a b ≡ true)) (sym e)
             (leads_precede c actions (rows_of_join c) (width_of_join c) (places_of actions) (is_earlier c actions) (length actions) base upto adds.more (omega arith) fits
             builds.base_is Chained chained_is adds.group x y a b l m h k);
         positions = let o = group.ordered in omega arith;
@@ -98,7 +98,7 @@ module _ (c : Cluster) (actions : List Action) (inside : (a : Action) → Contai
         few =
             let joins = joins_few_apart c actions (few c actions) (length actions) in
             let chains = adds.few in
-            let l = length-append (edges_of c actions (rows_of_join c) (width_of_join c) (places_of actions) (length actions) (joins_of c)) adds.more in
+            let l = length-append (edges_of_joins c actions (rows_of_join c) (width_of_join c) (places_of actions) (length actions) (joins_of c)) adds.more in
             let long = ap length e in
             let k = kinds actions c.orders in
             omega arith;

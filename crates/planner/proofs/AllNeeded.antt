@@ -23,9 +23,9 @@ use Rattle.cluster_types.specs.Tables.{Targets}
 use Rattle.cluster_types.proofs.NeededLaws.{bounds_of_first}
 use Rattle.loops.specs.FirstLoops.{AllJoin, AllOrder}
 use Rattle.loops.proofs.StepPlaces.{same_op}
-use Rattle.planner.specs.Actions.{cell_actions, free_leaf_actions, has_op, is_elsewhere, is_filled, is_free, leaves_actions, migrations_of, migrations_to, monitor_action, monitors_in, probes_in, source_of, stays_needed, step_action, steps_in, wanted}
-use Rattle.planner.specs.Cycling.{Marks}
-use Rattle.planner.specs.declared.steps.CellNeed.{CellNeed}
+use Rattle.planner.specs.Actions.{cell_actions, free_leaf_actions, includes_op, is_elsewhere, is_filled, is_undisturbed, leaves_actions, migrations_of, migrations_to, leaf_monitor, monitors_in, probes_in, migration_source, stays_needed, step_action, steps_in, wanted}
+use Rattle.planner.specs.Cycling.{MarkedCells}
+use Rattle.planner.specs.declared.needed.steps.CellNeed.{CellNeed}
 use Rattle.planner.proofs.Conditions.{in_unless, of_if, of_one, of_unless}
 use Rattle.planner.proofs.Harmless.{free_of, is_free_where}
 use Rattle.planner.proofs.SentFrom.{is_sent_from, sent_from}
@@ -78,11 +78,11 @@ module _ (c : Cluster) (es : List Event) (targets : Targets) where
   managed_of r n o (inl g) = (of_unless (is_pinned c es r) (steps_of (cell_state c r n es) (targets r n) true) o g.1).fails
   managed_of r n o (inr g) = (of_unless (is_pinned c es r) (steps_of (cell_state c r n es) (targets r n) false) o g.1).fails
 
-  module _ (need : ℕ → ℕ → CellNeed) (marked : Marks) (told : Tells c es targets need marked) (ordered : AllOrder c) (joined : AllJoin c)
+  module _ (need : ℕ → ℕ → CellNeed) (marked : MarkedCells) (told : Tells c es targets need marked) (ordered : AllOrder c) (joined : AllJoin c)
       (touched free : ℕ → Bool) (known : (r : ℕ) → r < length c.leaves → touched r ≡ true ↔ IsDisturbed c es targets r)
-      (free_is : (r : ℕ) → r < length c.leaves → free r ≡ is_free c touched r) where
+      (free_is : (r : ℕ) → r < length c.leaves → free r ≡ is_undisturbed c touched r) where
     abbrev source : ℕ → Option ℕ
-    source r = source_of c need marked (free r) r
+    source r = migration_source c need marked (free r) r
 
     from_source : (r n m : ℕ) → Migrates c es targets r n m → source r ≡ Some n
     from_source r n m g =
@@ -91,7 +91,7 @@ module _ (c : Cluster) (es : List Event) (targets : Targets) where
           allowed = g.allowed;
           uncloned = g.uncloned;
           plain = g.plain;
-          is_free =
+          is_undisturbed =
               free_is r b.0
               ∙ is_free_where c es targets touched known r ordered joined record { orders = g.orders; colocations = g.colocations };
           within = b.1;
@@ -173,7 +173,7 @@ module _ (c : Cluster) (es : List Event) (targets : Targets) where
         let b = bounds_of_first c es targets op.Stop r n 0 role.Started g.stopped in
         let e = bounds_of_first c es targets op.Start r m 0 role.Started g.started in
         let lm : m < length c.nodes = e.1 in
-        let here : not (n == m) && has_op op.Start (steps_in need marked r m) ≡ true
+        let here : not (n == m) && includes_op op.Start (steps_in need marked r m) ≡ true
         = and_from (not (n == m)) _ (not_from_false (n == m) (ne_eqb n m (λ s. g.away (sym s))))
         (has_it op.Start (steps_in need marked r m) (got c es targets need marked told r m op.Start b.0 lm (start_of r m g.started))) in
         let to : Contains (migrations_to need marked r n m) a = rw here h in
@@ -211,12 +211,12 @@ module _ (c : Cluster) (es : List Event) (targets : Targets) where
           (step_kept r n o lr ln g k)) in
           Contains-append_right fences all (step_action r n o) (in_cell r n (step_action r n o) lr ln
           (Contains-append_right (probes_in need r n) _ (step_action r n o)
-          (Contains-append_left _ (map (monitor_action r n) (monitors_in c need marked r n)) (step_action r n o) there)))
+          (Contains-append_left _ (map (leaf_monitor r n) (monitors_in c need marked r n)) (step_action r n o) there)))
       first_there _ (monitor r n m lr ln h g) k =
-          Contains-append_right fences all (monitor_action r n m) (in_cell r n (monitor_action r n m) lr ln
-          (Contains-append_right (probes_in need r n) _ (monitor_action r n m)
-          (Contains-append_right (map (step_action r n) (filter (stays_needed (is_elsewhere (source r) n)) (steps_in need marked r n))) _ (monitor_action r n m)
-          (in_map (monitor_action r n) (monitors_in c need marked r n) m (watch_in r n m lr ln h g)))))
+          Contains-append_right fences all (leaf_monitor r n m) (in_cell r n (leaf_monitor r n m) lr ln
+          (Contains-append_right (probes_in need r n) _ (leaf_monitor r n m)
+          (Contains-append_right (map (step_action r n) (filter (stays_needed (is_elsewhere (source r) n)) (steps_in need marked r n))) _ (leaf_monitor r n m)
+          (in_map (leaf_monitor r n) (monitors_in c need marked r n) m (watch_in r n m lr ln h g)))))
 
       pub there : (a : Action) → Needed c es targets a → Contains (fences ++ all) a
       there a (kept _ f k) = first_there a f k
@@ -255,13 +255,13 @@ module _ (c : Cluster) (es : List Event) (targets : Targets) where
           (not-true (is_elsewhere (source r) n && is_same_op op.Start m.source) k.passes)
           (and_from (is_elsewhere (source r) n) _ sent start))))
 
-      of_watch : (r n : ℕ) (a : Action) → r < length c.leaves → n < length c.nodes → Contains (map (monitor_action r n) (monitors_in c need marked r n)) a
+      of_watch : (r n : ℕ) (a : Action) → r < length c.leaves → n < length c.nodes → Contains (map (leaf_monitor r n) (monitors_in c need marked r n)) a
           → Needed c es targets a
       of_watch r n a lr ln h =
-          let m = of_map (monitor_action r n) (monitors_in c need marked r n) a h in
+          let m = of_map (leaf_monitor r n) (monitors_in c need marked r n) a h in
           let w = watch_of r n m.source lr ln m.among in
           subst (Needed c es targets) m.gives
-          (kept (monitor_action r n m.source) (monitor r n m.source lr ln w.0 w.1) (λ s t u g e. (let f : op.Monitor ≡ op.Start = ap word_of e in cc)))
+          (kept (leaf_monitor r n m.source) (monitor r n m.source lr ln w.0 w.1) (λ s t u g e. (let f : op.Monitor ≡ op.Start = ap word_of e in cc)))
 
       of_cell : (r n : ℕ) (a : Action) → r < length c.leaves → n < length c.nodes → Contains (cell_actions c need marked (source r) r n) a → Needed c es targets a
       of_cell r n a lr ln h = elim (Contains-append_cases (probes_in need r n) _ a h) [
@@ -278,7 +278,7 @@ module _ (c : Cluster) (es : List Event) (targets : Targets) where
           let f = of_flat (migrations_to need marked r n) (range_with_len 0 (length c.nodes)) a h in
           let w = of_range 0 (length c.nodes) f.source f.among in
           let lm : f.source < length c.nodes = omega arith in
-          let t = of_if (not (n == f.source) && has_op op.Start (steps_in need marked r f.source)) (MigrateTo r n f.source ∷ MigrateFrom r n f.source ∷ []) a f.gives in
+          let t = of_if (not (n == f.source) && includes_op op.Start (steps_in need marked r f.source)) (MigrateTo r n f.source ∷ MigrateFrom r n f.source ∷ []) a f.gives in
           let start = it_is op.Start (steps_in need marked r f.source) (later (not (n == f.source)) _ t.holds) in
           let g = migrates r n f.source lr lm e (not-true (n == f.source) (sooner (not (n == f.source)) _ t.holds))
           (gets c es targets need marked told r f.source op.Start lr lm start) in

@@ -5,16 +5,16 @@ use Rattle.std.proofs.lemmas.List.{length-append}
 use Rattle.std.proofs.lemmas.List.Concat.{flat_map-cons}
 use Rattle.std.proofs.lemmas.List.Sums.{sum_by-cons}
 use Rattle.cluster_types.specs.declared.cluster.Cluster.{Cluster}
-use Rattle.cluster_types.specs.declared.edges.Edge.{Edge}
+use Rattle.edges.specs.declared.edge.Edge.{Edge}
 use Rattle.cluster_types.specs.declared.journal.Action.{Action}
 use Rattle.cluster_types.specs.declared.rules.Colocation.{Colocation}
 use Rattle.cluster_types.specs.declared.rules.Order.{Order}
 use Rattle.cluster_types.specs.Choice.{is_separation}
 use Rattle.cluster_types.specs.Plans.{is_of_either}
 use Rattle.cluster_types.specs.Precedence.{CellOf, inverse, is_serialize, is_up}
-use Rattle.planner.specs.declared.sides.Join.{Join}
-use Rattle.planner.specs.declared.sides.Side.TheVariants as side
-use Rattle.planner.specs.Gates.{chain_edges, chain_step, edge, edge_in, edge_out, edges_at, edges_of, gates_upto, join_edges, key_at, next_gate, then_step}
+use Rattle.planner.specs.declared.precedence.sides.Join.{Join}
+use Rattle.planner.specs.declared.precedence.sides.Side.TheVariants as side
+use Rattle.planner.specs.Gates.{chain_edges, chain_step, edge, edge_in, edge_out, gate_edges_at, edges_of_joins, gates_upto, join_edges, key_at, next_gate, then_step}
 use Rattle.planner.specs.Joins.{colocation_joins, first_joins, inverse_join, join, joins_of, order_joins, own_join, stands}
 use Rattle.planner.specs.Places.{places_of}
 use Rattle.planner.specs.Rooms.{rows_of_join, width_of_join}
@@ -33,8 +33,8 @@ out_one base width i None = omega arith
 pub join_few : (base width : ℕ) (from to : ℕ → Option CellOf) (places : List ℕ) → length (join_edges base width from to places) ≤ 2 * length places
 join_few base width from to [] = omega arith
 join_few base width from to (i ∷ is) =
-    let e = ap length (flat_map-cons (edges_at base width from to) i is) in
-    let l = length-append (edges_at base width from to i) (flat_map (edges_at base width from to) is) in
+    let e = ap length (flat_map-cons (gate_edges_at base width from to) i is) in
+    let l = length-append (gate_edges_at base width from to i) (flat_map (gate_edges_at base width from to) is) in
     let m = length-append (edge_in base width (from i) i) (edge_out base width (to i) i) in
     let a = in_one base width i (from i) in
     let b = out_one base width i (to i) in
@@ -47,7 +47,7 @@ most_other actions o = if is_serialize o.kind then 0 else 4 * count_by (is_of_ei
 
 module _ (c : Cluster) (actions : List Action) where
   abbrev edges_by : ℕ → List Join → List Edge
-  edges_by base js = edges_of c actions (rows_of_join c) (width_of_join c) (places_of actions) base js
+  edges_by base js = edges_of_joins c actions (rows_of_join c) (width_of_join c) (places_of actions) base js
 
   one_few : (base : ℕ) (j : Join) (js : List Join) → length (edges_by base (j ∷ js)) ≤ 2 * length (places_of actions j) + length (edges_by (base + width_of_join c j * rows_of_join c j) js)
   one_few base j js =

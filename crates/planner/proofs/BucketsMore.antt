@@ -11,9 +11,9 @@ use Rattle.cluster_types.specs.declared.journal.Action.{Action}
 use Rattle.cluster_types.specs.declared.journal.Action.TheVariants.{Fence, Probe, Cell, MigrateTo, MigrateFrom}
 use Rattle.cluster_types.specs.declared.leaf.Op.TheVariants as op
 use Rattle.cluster_types.specs.Precedence.{change_cell}
-use Rattle.planner.specs.Chains.{changed_node, is_at, node_at}
+use Rattle.planner.specs.Chains.{changed_node, is_at, changed_node_at}
 use Rattle.planner.specs.Index.{with_place}
-use Rattle.planner.specs.Rooms.{IsWithin}
+use Rattle.planner.specs.Rooms.{IsActionWithin}
 use Rattle.planner.proofs.IndexMore.{empty_at, filter_last, set_on}
 
 abbrev AreAt : (ℕ → Option ℕ) → ℕ → List (List ℕ) → List ℕ → Type 0
@@ -48,7 +48,7 @@ pub no_buckets : (key : ℕ → Option ℕ) (nodes : ℕ) (buckets : List (List 
 no_buckets key nodes buckets e m within = ap (λ v. unwrap_or (slice_get v m) []) e ∙ (unwrap_or-slice_get (replicate nodes []) m [] ∙ empty_at nodes m)
 
 -- a cell that an action changes is on a node of the cluster
-changed_within : (c : Cluster) (a : Action) → IsWithin c a → IfSome (changed_node (change_cell a)) (λ m. m < length c.nodes)
+changed_within : (c : Cluster) (a : Action) → IsActionWithin c a → IfSome (changed_node (change_cell a)) (λ m. m < length c.nodes)
 changed_within c (Fence n) h = tt
 changed_within c (Probe r n) h = tt
 changed_within c (Cell op.Start r n i role) h = h.1
@@ -59,8 +59,8 @@ changed_within c (Cell op.Monitor r n i role) h = tt
 changed_within c (MigrateTo r s t) h = tt
 changed_within c (MigrateFrom r s t) h = tt
 
-pub node_within : (c : Cluster) (actions : List Action) → ((a : Action) → Contains actions a → IsWithin c a) → (place : ℕ) (v : Option ℕ) → place < length actions
-    → v ≡ node_at actions place → IfSome v (λ m. m < length c.nodes)
+pub node_within : (c : Cluster) (actions : List Action) → ((a : Action) → Contains actions a → IsActionWithin c a) → (place : ℕ) (v : Option ℕ) → place < length actions
+    → v ≡ changed_node_at actions place → IfSome v (λ m. m < length c.nodes)
 node_within c actions inside place v l e =
     let d = Fence 0 in
     let at = slice_get-get_or actions place d l in

@@ -7,12 +7,12 @@ use Rattle.std.proofs.lemmas.List.Sums.{sum_by-cons, sum_by-le}
 use Rattle.std.proofs.lemmas.List.{append-nil, append_assoc, length-append}
 use Rattle.std.proofs.lemmas.List.FromFn.{length-range_with_len}
 use Rattle.cluster_types.specs.declared.cluster.Cluster.{Cluster}
-use Rattle.cluster_types.specs.declared.edges.Edge.{Edge}
+use Rattle.edges.specs.declared.edge.Edge.{Edge}
 use Rattle.cluster_types.specs.declared.journal.Action.{Action}
 use Rattle.cluster_types.specs.Precedence.{CellOf}
-use Rattle.planner.specs.declared.sides.Join.{Join}
-use Rattle.planner.specs.Gates.{edge_in, edge_out, edges_at, edges_of, gates_upto, join_edges, key_at}
-use Rattle.planner.specs.Joins.{first_joins, key_of, one_if, stands}
+use Rattle.planner.specs.declared.precedence.sides.Join.{Join}
+use Rattle.planner.specs.Gates.{edge_in, edge_out, gate_edges_at, edges_of_joins, gates_upto, join_edges, key_at}
+use Rattle.planner.specs.Joins.{first_joins, side_key_of, one_if, stands}
 use Rattle.planner.specs.Rooms.{Builds, rows_of, rows_of_join, width_of, width_of_join}
 
 module _ (c : Cluster) (actions : List Action) (leaves width : Join → ℕ) (places : Join → List ℕ) where
@@ -22,14 +22,14 @@ module _ (c : Cluster) (actions : List Action) (leaves width : Join → ℕ) (pl
   upto-append base (x ∷ xs) ys = upto-append (base + width x * leaves x) xs ys
 
   pub edges-append : (base : ℕ) (xs ys : List Join)
-      → edges_of c actions leaves width places base (xs ++ ys)
-      ≡ edges_of c actions leaves width places base xs ++ edges_of c actions leaves width places (gates_upto c actions leaves width places base xs) ys
+      → edges_of_joins c actions leaves width places base (xs ++ ys)
+      ≡ edges_of_joins c actions leaves width places base xs ++ edges_of_joins c actions leaves width places (gates_upto c actions leaves width places base xs) ys
   edges-append base [] ys = refl
   edges-append base (x ∷ xs) ys =
       ap (λ v. join_edges base (width x) (key_at c actions x.from) (key_at c actions x.to) (places x) ++ v) (edges-append (base + width x * leaves x) xs ys)
       ∙ sym (append_assoc (join_edges base (width x) (key_at c actions x.from) (key_at c actions x.to) (places x))
-      (edges_of c actions leaves width places (base + width x * leaves x) xs)
-      (edges_of c actions leaves width places (gates_upto c actions leaves width places (base + width x * leaves x) xs) ys))
+      (edges_of_joins c actions leaves width places (base + width x * leaves x) xs)
+      (edges_of_joins c actions leaves width places (gates_upto c actions leaves width places (base + width x * leaves x) xs) ys))
 
 pub builds_none : (c : Cluster) (actions : List Action) (places : Join → List ℕ) → Builds c actions places [] (length actions) []
 builds_none c actions places = record { list_is = refl; base_is = refl }
@@ -42,9 +42,9 @@ builds_more c actions places list base js j ps more on b p e f = record {
   list_is =
       e ∙ (ap (λ v. list ++ join_edges base (width_of c j.from) (key_at c actions j.from) (key_at c actions j.to) v) p
       ∙ (ap (λ v. v ++ join_edges base (width_of c j.from) (key_at c actions j.from) (key_at c actions j.to) (places j)) b.list_is
-      ∙ (ap (λ v. edges_of c actions (rows_of_join c) (width_of_join c) places (length actions) js
+      ∙ (ap (λ v. edges_of_joins c actions (rows_of_join c) (width_of_join c) places (length actions) js
       ++ join_edges v (width_of c j.from) (key_at c actions j.from) (key_at c actions j.to) (places j)) b.base_is
-      ∙ (ap (λ v. edges_of c actions (rows_of_join c) (width_of_join c) places (length actions) js ++ v)
+      ∙ (ap (λ v. edges_of_joins c actions (rows_of_join c) (width_of_join c) places (length actions) js ++ v)
       (sym (append-nil (join_edges (gates_upto c actions (rows_of_join c) (width_of_join c) places (length actions) js) (width_of c j.from) (key_at c actions j.from)
       (key_at c actions j.to) (places j))))
       ∙ sym (edges-append c actions (rows_of_join c) (width_of_join c) places (length actions) js (j ∷ []))))));
@@ -92,23 +92,23 @@ module _ (c : Cluster) (actions : List Action) (leaves width : Join → ℕ) whe
   out_length base width i (Some a) = refl
   out_length base width i None = refl
 
-  at_length : (base width : ℕ) (from to : ℕ → Option CellOf) (i : ℕ) → length (edges_at base width from to i) ≡ one_if c actions (from i) + one_if c actions (to i)
+  at_length : (base width : ℕ) (from to : ℕ → Option CellOf) (i : ℕ) → length (gate_edges_at base width from to i) ≡ one_if c actions (from i) + one_if c actions (to i)
   at_length base width from to i =
       let a = in_length base width i (from i) in
       let b = out_length base width i (to i) in
       let l = length-append (edge_in base width (from i) i) (edge_out base width (to i) i) in
       omega arith
 
-  edges_length : (base : ℕ) (js : List Join) → length (edges_of c actions leaves width places base js) ≡ sum_by (stands_at js) (range_with_len 0 (length actions))
+  edges_length : (base : ℕ) (js : List Join) → length (edges_of_joins c actions leaves width places base js) ≡ sum_by (stands_at js) (range_with_len 0 (length actions))
   edges_length base [] = sym (no_sum (range_with_len 0 (length actions)))
   edges_length base (j ∷ js) =
-      let one = length-flat_map (edges_at base (width j) (key_at c actions j.from) (key_at c actions j.to)) (range_with_len 0 (length actions)) in
-      let same = same_sum (λ i. length (edges_at base (width j) (key_at c actions j.from) (key_at c actions j.to) i))
+      let one = length-flat_map (gate_edges_at base (width j) (key_at c actions j.from) (key_at c actions j.to)) (range_with_len 0 (length actions)) in
+      let same = same_sum (λ i. length (gate_edges_at base (width j) (key_at c actions j.from) (key_at c actions j.to) i))
       (λ i. one_if c actions (key_at c actions j.from i) + one_if c actions (key_at c actions j.to i))
       (at_length base (width j) (key_at c actions j.from) (key_at c actions j.to)) (range_with_len 0 (length actions)) in
       let rest = edges_length (base + width j * leaves j) js in
       let l = length-append (join_edges base (width j) (key_at c actions j.from) (key_at c actions j.to) (range_with_len 0 (length actions)))
-      (edges_of c actions leaves width places (base + width j * leaves j) js) in
+      (edges_of_joins c actions leaves width places (base + width j * leaves j) js) in
       let both = both_sums (λ i. one_if c actions (key_at c actions j.from i) + one_if c actions (key_at c actions j.to i)) (stands_at js) (range_with_len 0 (length actions)) in
       let cons = same_sum (λ i. one_if c actions (key_at c actions j.from i) + one_if c actions (key_at c actions j.to i) + stands_at js i) (stands_at (j ∷ js))
       (λ i. sym (sum_by-cons (λ (j : Join). one_if c actions (key_at c actions j.from i) + one_if c actions (key_at c actions j.to i)) j js)) (range_with_len 0 (length actions)) in
@@ -121,15 +121,15 @@ module _ (c : Cluster) (actions : List Action) (leaves width : Join → ℕ) whe
       on : (v : Option Action) → slice_get actions i ≡ v → stands_at first_joins i ≤ 5
       on (Some a) h =
           let same : stands_at first_joins i ≡ stands c actions first_joins a =
-          ap (λ v. sum_by (λ (j : Join). one_if c actions (option_map_or (key_of c actions j.from) v None) + one_if c actions (option_map_or (key_of c actions j.to) v None)) first_joins) h in
+          ap (λ v. sum_by (λ (j : Join). one_if c actions (option_map_or (side_key_of c actions j.from) v None) + one_if c actions (option_map_or (side_key_of c actions j.to) v None)) first_joins) h in
           let f = few a in
           omega arith
       on None h =
           let same : stands_at first_joins i ≡ 0 =
-          ap (λ v. sum_by (λ (j : Join). one_if c actions (option_map_or (key_of c actions j.from) v None) + one_if c actions (option_map_or (key_of c actions j.to) v None)) first_joins) h in
+          ap (λ v. sum_by (λ (j : Join). one_if c actions (option_map_or (side_key_of c actions j.from) v None) + one_if c actions (option_map_or (side_key_of c actions j.to) v None)) first_joins) h in
           omega arith
 
-  pub few_edges : ((x : Action) → stands c actions first_joins x ≤ 5) → (base : ℕ) → length (edges_of c actions leaves width places base first_joins) ≤ 5 * length actions
+  pub few_edges : ((x : Action) → stands c actions first_joins x ≤ 5) → (base : ℕ) → length (edges_of_joins c actions leaves width places base first_joins) ≤ 5 * length actions
   few_edges few base =
       let size = edges_length base first_joins in
       let most = sum_by-le (stands_at first_joins) 5 (range_with_len 0 (length actions)) (λ k d l. few_at few (slice_index_or (range_with_len 0 (length actions)) k d)) in

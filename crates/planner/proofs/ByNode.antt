@@ -5,7 +5,7 @@ use Rattle.std.specs.Option.{option_map_or}
 use Rattle.std.proofs.lemmas.Bool.{eqb-true}
 use Rattle.cluster_types.specs.declared.journal.Action.{Action}
 use Rattle.cluster_types.specs.Precedence.{CellOf, cell_of, change_cell}
-use Rattle.planner.specs.Chains.{changed_node, changes_at, is_at, is_on, node_at}
+use Rattle.planner.specs.Chains.{changed_node, changes_at, is_at, is_cell_on, changed_node_at}
 use Rattle.planner.specs.Gates.{InChain, StandsBefore, here, later}
 use Rattle.planner.specs.Joins.{in_leaf}
 use Rattle.lemmas.proofs.Members.{in_filter, of_filter}
@@ -50,27 +50,27 @@ module _ (p : ℕ → Bool) (x y : ℕ) where
       record { first = h.first; then_is = h.then_is; before = stands_in_some places (u x h.first) (v y h.then_is) h.before }
 
 -- what changes a cell of the leaf on a node is at the node
-changes_on : (r m : ℕ) (u : Option CellOf) → is_on m (in_leaf r true u) ≡ true → is_at m (changed_node u) ≡ true
+changes_on : (r m : ℕ) (u : Option CellOf) → is_cell_on m (in_leaf r true u) ≡ true → is_at m (changed_node u) ≡ true
 changes_on r m (Some a) h = on (a.leaf == r) h
   where
-    on : (b : Bool) → is_on m (if b then cell_of 0 a.node else None) ≡ true → (a.node == m) ≡ true
+    on : (b : Bool) → is_cell_on m (if b then cell_of 0 a.node else None) ≡ true → (a.node == m) ≡ true
     on true e = e
     on false e = cc
 changes_on r m None h = cc
 
-pub changes_node : (actions : List Action) (r m i : ℕ) → changes_at actions r true m i ≡ true → is_at m (node_at actions i) ≡ true
+pub changes_node : (actions : List Action) (r m i : ℕ) → changes_at actions r true m i ≡ true → is_at m (changed_node_at actions i) ≡ true
 changes_node actions r m i h = on (slice_get actions i) h
   where
-    on : (v : Option Action) → option_map_or (λ a. is_on m (in_leaf r true (change_cell a))) v false ≡ true
+    on : (v : Option Action) → option_map_or (λ a. is_cell_on m (in_leaf r true (change_cell a))) v false ≡ true
         → is_at m (option_map_or (λ a. changed_node (change_cell a)) v None) ≡ true
     on (Some a) e = changes_on r m (change_cell a) e
     on None e = cc
 
 -- chains for all nodes are for node 0
-zero_on : (r m : ℕ) (u : Option CellOf) → is_on m (in_leaf r false u) ≡ true → m ≡ 0
+zero_on : (r m : ℕ) (u : Option CellOf) → is_cell_on m (in_leaf r false u) ≡ true → m ≡ 0
 zero_on r m (Some a) h = on (a.leaf == r) h
   where
-    on : (b : Bool) → is_on m (if b then cell_of 0 0 else None) ≡ true → m ≡ 0
+    on : (b : Bool) → is_cell_on m (if b then cell_of 0 0 else None) ≡ true → m ≡ 0
     on true e = sym (eqb-true 0 m e)
     on false e = cc
 zero_on r m None h = cc
@@ -78,7 +78,7 @@ zero_on r m None h = cc
 pub changes_zero : (actions : List Action) (r m i : ℕ) → changes_at actions r false m i ≡ true → m ≡ 0
 changes_zero actions r m i h = on (slice_get actions i) h
   where
-    on : (v : Option Action) → option_map_or (λ a. is_on m (in_leaf r false (change_cell a))) v false ≡ true → m ≡ 0
+    on : (v : Option Action) → option_map_or (λ a. is_cell_on m (in_leaf r false (change_cell a))) v false ≡ true → m ≡ 0
     on (Some a) e = zero_on r m (change_cell a) e
     on None e = cc
 

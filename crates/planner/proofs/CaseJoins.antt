@@ -9,7 +9,7 @@ use Rattle.cluster_types.specs.declared.journal.Action.TheVariants.{Fence, Probe
 use Rattle.cluster_types.specs.declared.leaf.Op.TheVariants as op
 use Rattle.cluster_types.specs.Fields.{copies}
 use Rattle.cluster_types.specs.Precedence.{CellOf, both, cell_of, comes_first_in_cell, fences_first, gives_any, is_one_cell, is_one_leaf, is_some_cell, migrates_first, op_cell}
-use Rattle.planner.specs.Joins.{alone, before_monitor, before_stop, by_leaf, fence_cell, send_cell, take_cell, take_in_cell, together}
+use Rattle.planner.specs.Joins.{alone, before_monitor, before_stop, by_leaf, fence_cell, send_cell, take_cell, take_in_cell, same_join_cell}
 
 pub one_leaf_joined : (u v : Option CellOf) → both is_one_leaf u v ≡ both is_one_cell (by_leaf u) (by_leaf v)
 one_leaf_joined (Some a) (Some b) = sym (and-true (a.leaf == b.leaf))
@@ -36,10 +36,10 @@ alone_joined c (Some a) (Some b) = alone_on c a.leaf b.leaf a.node b.node (a.lea
 alone_joined c (Some a) None = refl
 alone_joined c None v = refl
 
-pub fences_joined : (x y : Action) → fences_first x y ≡ both is_one_cell (fence_cell x) (together (gives_any y))
+pub fences_joined : (x y : Action) → fences_first x y ≡ both is_one_cell (fence_cell x) (same_join_cell (gives_any y))
 fences_joined (Fence n) y = on (gives_any y)
   where
-    on : (v : Option CellOf) → is_some_cell v ≡ both is_one_cell (cell_of 0 0) (together v)
+    on : (v : Option CellOf) → is_some_cell v ≡ both is_one_cell (cell_of 0 0) (same_join_cell v)
     on (Some a) = refl
     on None = refl
 fences_joined (Probe r n) y = refl

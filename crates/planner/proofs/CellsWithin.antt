@@ -7,8 +7,8 @@ use Rattle.cluster_types.specs.declared.leaf.Op.{Op}
 use Rattle.cluster_types.specs.declared.leaf.Op.TheVariants as op
 use Rattle.cluster_types.specs.Fields.{copies}
 use Rattle.cluster_types.specs.Precedence.{CellOf, cell_of, change_cell, gives_any, is_same_op, op_cell, probe_cell, start_cell}
-use Rattle.planner.specs.Joins.{alone, before_monitor, before_stop, by_leaf, fence_cell, in_leaf, send_cell, take_cell, take_in_cell, together}
-use Rattle.planner.specs.Rooms.{IsWithin, nodes_if}
+use Rattle.planner.specs.Joins.{alone, before_monitor, before_stop, by_leaf, fence_cell, in_leaf, send_cell, take_cell, take_in_cell, same_join_cell}
+use Rattle.planner.specs.Rooms.{IsActionWithin, nodes_if}
 
 module _ (c : Cluster) where
   abbrev pub In : ℕ → ℕ → Option CellOf → Type 0
@@ -17,7 +17,7 @@ module _ (c : Cluster) where
   abbrev pub Here : Option CellOf → Type 0
   Here u = In (length c.leaves) (length c.nodes) u
 
-  pub op_here : (o : Op) (a : Action) → IsWithin c a → Here (op_cell o a)
+  pub op_here : (o : Op) (a : Action) → IsActionWithin c a → Here (op_cell o a)
   op_here o (Fence n) h = tt
   op_here o (Probe r n) h = tt
   op_here o (Cell p r n i role) h = on (is_same_op o p)
@@ -28,21 +28,21 @@ module _ (c : Cluster) where
   op_here o (MigrateTo r s t) h = tt
   op_here o (MigrateFrom r s t) h = tt
 
-  pub probe_here : (a : Action) → IsWithin c a → Here (probe_cell a)
+  pub probe_here : (a : Action) → IsActionWithin c a → Here (probe_cell a)
   probe_here (Fence n) h = tt
   probe_here (Probe r n) h = h
   probe_here (Cell p r n i role) h = tt
   probe_here (MigrateTo r s t) h = tt
   probe_here (MigrateFrom r s t) h = tt
 
-  pub start_here : (a : Action) → IsWithin c a → Here (start_cell a)
+  pub start_here : (a : Action) → IsActionWithin c a → Here (start_cell a)
   start_here (Fence n) h = tt
   start_here (Probe r n) h = tt
   start_here (Cell p r n i role) h = op_here op.Start (Cell p r n i role) h
   start_here (MigrateTo r s t) h = (h.0, h.2)
   start_here (MigrateFrom r s t) h = tt
 
-  pub gives_here : (a : Action) → IsWithin c a → Here (gives_any a)
+  pub gives_here : (a : Action) → IsActionWithin c a → Here (gives_any a)
   gives_here (Fence n) h = tt
   gives_here (Probe r n) h = tt
   gives_here (Cell op.Start r n i role) h = h
@@ -53,7 +53,7 @@ module _ (c : Cluster) where
   gives_here (MigrateTo r s t) h = (h.0, h.2)
   gives_here (MigrateFrom r s t) h = tt
 
-  pub change_here : (a : Action) → IsWithin c a → Here (change_cell a)
+  pub change_here : (a : Action) → IsActionWithin c a → Here (change_cell a)
   change_here (Fence n) h = tt
   change_here (Probe r n) h = tt
   change_here (Cell op.Start r n i role) h = h
@@ -64,21 +64,21 @@ module _ (c : Cluster) where
   change_here (MigrateTo r s t) h = tt
   change_here (MigrateFrom r s t) h = tt
 
-  pub before_stop_here : (a : Action) → IsWithin c a → Here (before_stop a)
+  pub before_stop_here : (a : Action) → IsActionWithin c a → Here (before_stop a)
   before_stop_here (Fence n) h = tt
   before_stop_here (Probe r n) h = tt
   before_stop_here (Cell p r n i role) h = op_here op.Demote (Cell p r n i role) h
   before_stop_here (MigrateTo r s t) h = tt
   before_stop_here (MigrateFrom r s t) h = (h.0, h.1)
 
-  pub before_monitor_here : (a : Action) → IsWithin c a → Here (before_monitor a)
+  pub before_monitor_here : (a : Action) → IsActionWithin c a → Here (before_monitor a)
   before_monitor_here (Fence n) h = tt
   before_monitor_here (Probe r n) h = tt
   before_monitor_here (Cell p r n i role) h = change_here (Cell p r n i role) h
   before_monitor_here (MigrateTo r s t) h = tt
   before_monitor_here (MigrateFrom r s t) h = (h.0, h.2)
 
-  pub take_here : (a : Action) → IsWithin c a → Here (take_cell a)
+  pub take_here : (a : Action) → IsActionWithin c a → Here (take_cell a)
   take_here (Fence n) h = tt
   take_here (Probe r n) h = tt
   take_here (Cell op.Start r n i role) h = tt
@@ -93,7 +93,7 @@ module _ (c : Cluster) where
   by_leaf_in (Some a) h = (h.0, omega arith)
   by_leaf_in None h = tt
 
-  pub together_in : (u : Option CellOf) → In 1 1 (together u)
+  pub together_in : (u : Option CellOf) → In 1 1 (same_join_cell u)
   together_in (Some a) = (omega arith, omega arith)
   together_in None = tt
 
@@ -121,14 +121,14 @@ module _ (c : Cluster) where
   fence_in (MigrateTo r s t) = tt
   fence_in (MigrateFrom r s t) = tt
 
-  pub send_in : (a : Action) → IsWithin c a → In (length c.leaves) 1 (send_cell a)
+  pub send_in : (a : Action) → IsActionWithin c a → In (length c.leaves) 1 (send_cell a)
   send_in (Fence n) h = tt
   send_in (Probe r n) h = tt
   send_in (Cell p r n i role) h = tt
   send_in (MigrateTo r s t) h = (h.0, omega arith)
   send_in (MigrateFrom r s t) h = tt
 
-  pub take_in_in : (a : Action) → IsWithin c a → In (length c.leaves) 1 (take_in_cell a)
+  pub take_in_in : (a : Action) → IsActionWithin c a → In (length c.leaves) 1 (take_in_cell a)
   take_in_in (Fence n) h = tt
   take_in_in (Probe r n) h = tt
   take_in_in (Cell p r n i role) h = tt

@@ -1,7 +1,7 @@
 -- The edges of a chain, position by position.
 use Rattle.std.proofs.Common.{arith, ◌≡◌, ◌<◌, ◌≤◌, ◌+◌, ◌⊎◌, inl, inr, if◌then◌else◌, ℕ, Bool, true, false, List, [], ◌∷◌, ◌++◌, Contains, refl}
 use Rattle.std.proofs.lemmas.List.Elements.{Contains-append_cases, Contains-append_left, Contains-append_right}
-use Rattle.cluster_types.specs.declared.edges.Edge.{Edge}
+use Rattle.edges.specs.declared.edge.Edge.{Edge}
 use Rattle.lemmas.proofs.Searches.{of_none}
 use Rattle.cluster_types.proofs.Few.{of_one, of_two}
 use Rattle.cluster_types.proofs.GateGroups.{IsOwn, action, gate}

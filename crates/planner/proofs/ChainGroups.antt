@@ -1,8 +1,8 @@
 -- A chain leads from each of its first kind to each of its other kind behind it, and nowhere else.
 use Rattle.std.proofs.Common.{arith, ◌≡◌, ◌<◌, ◌≤◌, ◌+◌, ◌⊎◌, inl, inr, ℕ, Bool, true, List, [], ◌∷◌, ◌++◌, Contains, refl, sym, subst}
 use Rattle.std.proofs.lemmas.List.Elements.{Contains-append_cases}
-use Rattle.cluster_types.specs.declared.edges.Edge.{Edge}
-use Rattle.cluster_types.specs.Graphs.{Leads}
+use Rattle.edges.specs.declared.edge.Edge.{Edge}
+use Rattle.cluster_types.specs.Graphs.{LeadsByGates}
 use Rattle.planner.specs.Gates.{InChain, StandsBefore, here, later, chain_edges, chain_step, last_gate, next_gate, then_step}
 use Rattle.lemmas.proofs.Members.{head_or_rest, in_rest}
 use Rattle.planner.specs.Groups.{IsGroup}
@@ -26,7 +26,7 @@ module _ (actions : ℕ) (is_first is_then : ℕ → Bool) where
   later_enough : (from p : ℕ) → actions ≤ from → actions ≤ next_gate is_first is_then from p
   later_enough from p le = let n = next_of actions is_first is_then from p in omega arith
 
-  start_only : (from : ℕ) (places : List ℕ) → actions ≤ from → AllWithin places → (y : ℕ) → y < actions → Leads actions (chain from places) from y
+  start_only : (from : ℕ) (places : List ℕ) → actions ≤ from → AllWithin places → (y : ℕ) → y < actions → LeadsByGates actions (chain from places) from y
       → (is_then y ≡ true) × Contains places y
   start_only from [] le l y m h = absurd (none_leads actions from y h)
   start_only from (p ∷ ps) le l y m h =
@@ -34,25 +34,25 @@ module _ (actions : ℕ) (is_first is_then : ℕ → Bool) where
       (start_only (next_gate is_first is_then from p) ps (later_enough from p le) (rest_within p ps l) y m)
     where
       go : FromStart actions is_first is_then from p ps le (l p (0, omega arith, refl)) (rest_within p ps l) y
-          → (Leads actions (chain (next_gate is_first is_then from p) ps) (next_gate is_first is_then from p) y → (is_then y ≡ true) × Contains ps y)
+          → (LeadsByGates actions (chain (next_gate is_first is_then from p) ps) (next_gate is_first is_then from p) y → (is_then y ≡ true) × Contains ps y)
           → (is_then y ≡ true) × Contains (p ∷ ps) y
       go (to_itself h q) f = (rw q h, (0, omega arith, sym q))
       go (onwards h) f = let r = f h in (r.0, in_rest p ps y r.1)
 
   start_all : (from : ℕ) (places : List ℕ) → actions ≤ from → AllWithin places → (y : ℕ) → is_then y ≡ true → Contains places y
-      → Leads actions (chain from places) from y
+      → LeadsByGates actions (chain from places) from y
   start_all from [] le l y h (k, m, n) = absurd (omega arith)
   start_all from (p ∷ ps) le l y h c =
       go (head_or_rest p ps y c) (start_all (next_gate is_first is_then from p) ps (later_enough from p le) (rest_within p ps l) y h)
     where
-      go : (p ≡ y) ⊎ Contains ps y → (Contains ps y → Leads actions (chain (next_gate is_first is_then from p) ps) (next_gate is_first is_then from p) y)
-          → Leads actions (chain from (p ∷ ps)) from y
+      go : (p ≡ y) ⊎ Contains ps y → (Contains ps y → LeadsByGates actions (chain (next_gate is_first is_then from p) ps) (next_gate is_first is_then from p) y)
+          → LeadsByGates actions (chain from (p ∷ ps)) from y
       go (inl q) f =
-          subst (λ v. Leads actions (chain from (p ∷ ps)) from v) q
+          subst (λ v. LeadsByGates actions (chain from (p ∷ ps)) from v) q
           (to_place actions is_first is_then from p ps le (l p (0, omega arith, refl)) (rest_within p ps l) (rw q h))
       go (inr k) f = start_on actions is_first is_then from p ps le (l p (0, omega arith, refl)) (rest_within p ps l) y (f k)
 
-  action_only : (from : ℕ) (places : List ℕ) → actions ≤ from → AllWithin places → (x y : ℕ) → x < actions → y < actions → Leads actions (chain from places) x y
+  action_only : (from : ℕ) (places : List ℕ) → actions ≤ from → AllWithin places → (x y : ℕ) → x < actions → y < actions → LeadsByGates actions (chain from places) x y
       → InChain is_first is_then places x y
   action_only from [] le l x y m n h = absurd (none_leads actions x y h)
   action_only from (p ∷ ps) le l x y m n h =
@@ -60,14 +60,14 @@ module _ (actions : ℕ) (is_first is_then : ℕ → Bool) where
       (action_only (next_gate is_first is_then from p) ps (later_enough from p le) (rest_within p ps l) x y m n)
     where
       go : FromAction actions is_first is_then from p ps le (l p (0, omega arith, refl)) (rest_within p ps l) x y
-          → (Leads actions (chain (next_gate is_first is_then from p) ps) x y → InChain is_first is_then ps x y) → InChain is_first is_then (p ∷ ps) x y
+          → (LeadsByGates actions (chain (next_gate is_first is_then from p) ps) x y → InChain is_first is_then ps x y) → InChain is_first is_then (p ∷ ps) x y
       go (itself_on h q k) f =
           let r = start_only (next_gate is_first is_then from p) ps (later_enough from p le) (rest_within p ps l) y n k in
           record { first = rw q h; then_is = r.0; before = subst (λ v. StandsBefore v y (p ∷ ps)) (sym q) (here ps r.1) }
       go (only_rest k) f = let r = f k in record { first = r.first; then_is = r.then_is; before = later p ps r.before }
 
   action_all : (x y from : ℕ) (places : List ℕ) → actions ≤ from → AllWithin places → is_first x ≡ true → is_then y ≡ true → StandsBefore x y places
-      → Leads actions (chain from places) x y
+      → LeadsByGates actions (chain from places) x y
   action_all x y from _ le l h k (here ps c) =
       action_on actions is_first is_then from x ps le (l x (0, omega arith, refl)) (rest_within x ps l) h y
       (start_all (next_gate is_first is_then from x) ps (later_enough from x le) (rest_within x ps l) y k c)

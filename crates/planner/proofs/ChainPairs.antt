@@ -6,24 +6,24 @@ use Rattle.std.proofs.lemmas.Bool.{eq-eqb, eqb-true}
 use Rattle.std.proofs.lemmas.List.{append_assoc, length-append}
 use Rattle.std.proofs.lemmas.List.Elements.{All-contains}
 use Rattle.std.proofs.lemmas.List.Sums.{sum_by-cons}
-use Rattle.cluster_types.specs.declared.edges.Edge.{Edge}
+use Rattle.edges.specs.declared.edge.Edge.{Edge}
 use Rattle.cluster_types.specs.declared.journal.Action.{Action}
 use Rattle.cluster_types.specs.declared.rules.Order.{Order}
 use Rattle.cluster_types.specs.Precedence.{CellOf, cell_of, change_cell}
-use Rattle.planner.specs.Chains.{IsChained, changes_at, is_on}
+use Rattle.planner.specs.Chains.{IsChained, changes_at, is_cell_on}
 use Rattle.planner.specs.Gates.{InChain, chain_edges, last_gate}
-use Rattle.planner.specs.Groups.{Adds, IsGroup}
+use Rattle.planner.specs.Groups.{AddsGroup, IsGroup}
 use Rattle.planner.specs.Joins.{in_leaf}
 use Rattle.planner.proofs.Bound.{chain_few, weight}
 use Rattle.planner.proofs.ChainGroups.{chain_group}
 use Rattle.planner.proofs.Groups.{group_after, group_says}
 
 -- an action changes cells of one leaf alone
-apart_on : (r s : ℕ) (local : Bool) (m : ℕ) (u : Option CellOf) → (r == s) ≡ false → is_on m (in_leaf r local u) ≡ true → is_on m (in_leaf s local u) ≡ true → ⊥
+apart_on : (r s : ℕ) (local : Bool) (m : ℕ) (u : Option CellOf) → (r == s) ≡ false → is_cell_on m (in_leaf r local u) ≡ true → is_cell_on m (in_leaf s local u) ≡ true → ⊥
 apart_on r s local m (Some a) d h k = on (a.leaf == r) (a.leaf == s) refl refl h k
   where
-    on : (p q : Bool) → (a.leaf == r) ≡ p → (a.leaf == s) ≡ q → is_on m (if p then cell_of 0 (if local then a.node else 0) else None) ≡ true
-        → is_on m (if q then cell_of 0 (if local then a.node else 0) else None) ≡ true → ⊥
+    on : (p q : Bool) → (a.leaf == r) ≡ p → (a.leaf == s) ≡ q → is_cell_on m (if p then cell_of 0 (if local then a.node else 0) else None) ≡ true
+        → is_cell_on m (if q then cell_of 0 (if local then a.node else 0) else None) ≡ true → ⊥
     on true true e f h k =
         let same : r ≡ s = sym (eqb-true a.leaf r e) ∙ eqb-true a.leaf s f in
         let x : true ≡ false = sym (eq-eqb r s same) ∙ d in
@@ -32,8 +32,8 @@ apart_on r s local m (Some a) d h k = on (a.leaf == r) (a.leaf == s) refl refl h
     on false q e f h k = cc
 apart_on r s local m None d h k = cc
 
-apart_at : (r s : ℕ) (local : Bool) (m : ℕ) (v : Option Action) → (r == s) ≡ false → option_map_or (λ a. is_on m (in_leaf r local (change_cell a))) v false ≡ true
-    → option_map_or (λ a. is_on m (in_leaf s local (change_cell a))) v false ≡ true → ⊥
+apart_at : (r s : ℕ) (local : Bool) (m : ℕ) (v : Option Action) → (r == s) ≡ false → option_map_or (λ a. is_cell_on m (in_leaf r local (change_cell a))) v false ≡ true
+    → option_map_or (λ a. is_cell_on m (in_leaf s local (change_cell a))) v false ≡ true → ⊥
 apart_at r s local m (Some a) d h k = apart_on r s local m (change_cell a) d h k
 apart_at r s local m None d h k = cc
 
@@ -91,7 +91,7 @@ module _ (actions : List Action) (o : Order) (m : ℕ) (places : List ℕ) (with
   one_group = chain_group (length actions) f t from places enough each_within
 
   pub adds_one : o.first ≡ o.then_leaf → (old new : List Edge) (upto : ℕ) → new ≡ old ++ chain_edges f t from places → upto ≡ last_gate f t from places + 1
-      → Adds (length actions) old new from upto (3 * length places) Chained
+      → AddsGroup (length actions) old new from upto (3 * length places) Chained
   adds_one same old new upto e u = record {
     more = chain_edges f t from places;
     list_is = e;
@@ -110,7 +110,7 @@ module _ (actions : List Action) (o : Order) (m : ℕ) (places : List ℕ) (with
 
   pub adds_two : (o.first ≡ o.then_leaf → ⊥) → (old mid new : List Edge) (on upto : ℕ) → mid ≡ old ++ chain_edges f t from places
       → on ≡ last_gate f t from places + 1 → new ≡ mid ++ chain_edges t f on places → upto ≡ last_gate t f on places + 1
-      → Adds (length actions) old new from upto (3 * length places) Chained
+      → AddsGroup (length actions) old new from upto (3 * length places) Chained
   adds_two differ old mid new on upto e u g v =
       let one = subst (λ w. IsGroup (length actions) from w (chain_edges f t from places) (InChain f t places)) (sym u) one_group in
       let on_enough : length actions ≤ on = (let a = one.enough in let b = one.ordered in omega arith) in

@@ -7,8 +7,8 @@ use Rattle.cluster_types.specs.declared.rules.Colocation.{Colocation}
 use Rattle.cluster_types.specs.declared.rules.Order.{Order}
 use Rattle.cluster_types.specs.Choice.{is_separation}
 use Rattle.cluster_types.specs.Precedence.{is_serialize, is_up, inverse}
-use Rattle.planner.specs.declared.sides.Join.{Join}
-use Rattle.planner.specs.declared.sides.Side.TheVariants as side
+use Rattle.planner.specs.declared.precedence.sides.Join.{Join}
+use Rattle.planner.specs.declared.precedence.sides.Side.TheVariants as side
 use Rattle.planner.specs.Joins.{colocation_joins, first_joins, inverse_join, join, joins_of, order_joins}
 use Rattle.planner.specs.Rooms.{IsEven}
 use Rattle.lemmas.proofs.Members.{of_flat}

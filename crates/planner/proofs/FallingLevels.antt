@@ -7,16 +7,16 @@ use Rattle.cluster_types.specs.declared.cluster.Cluster.{Cluster}
 use Rattle.cluster_types.specs.declared.journal.Event.{Event}
 use Rattle.cluster_types.specs.declared.leaf.Op.TheVariants.{Stop}
 use Rattle.cluster_types.specs.declared.rules.Order.{Order}
-use Rattle.cluster_types.specs.Numbers.{HasNoLoop, rank, step_of}
+use Rattle.cluster_types.specs.Numbers.{StepsHaveNoLoop, rank, step_of}
 use Rattle.cluster_types.specs.Tables.{Targets}
 use Rattle.loops.specs.FirstLoops.{AllOrder}
 use Rattle.lemmas.proofs.Members.{at_head, in_filter, in_none, in_rest, of_filter}
-use Rattle.planner.specs.Cycling.{AreCycling, Marks, NoneComesBack, is_cycling, with_order, with_orders}
+use Rattle.planner.specs.Cycling.{AreCycling, MarkedCells, NoneComesBack, is_cycling, with_order, with_orders}
 use Rattle.planner.specs.Levels.{at_level, below_level, is_at_level}
 use Rattle.planner.proofs.FallingOrders.{then_stops_first}
 
 -- one list of orders after another
-pub orders_joined : (c : Cluster) (es : List Event) (targets : Targets) (os ps : List Order) (marks : Marks)
+pub orders_joined : (c : Cluster) (es : List Event) (targets : Targets) (os ps : List Order) (marks : MarkedCells)
     → with_orders c es targets marks (os ++ ps) ≡ with_orders c es targets (with_orders c es targets marks os) ps
 orders_joined c es targets [] ps marks = refl
 orders_joined c es targets (o ∷ os) ps marks = orders_joined c es targets os ps (with_order c es targets marks o)
@@ -74,7 +74,7 @@ pub are_cycling : (c : Cluster) (top : ℕ) → ((o : Order) → Contains c.orde
 are_cycling c top all =
     (λ o h cycling. in_below c top o h cycling (all o h), λ o h. let b = below_of c top o h in (b.among, b.cycling))
 
-module _ (c : Cluster) (ordered : AllOrder c) (free : HasNoLoop c) where
+module _ (c : Cluster) (ordered : AllOrder c) (free : StepsHaveNoLoop c) where
   level_apart : (k : ℕ) (o p : Order) → Contains (at_level c k) o → Contains (below_level c (suc k)) p → p.then_leaf ≢ o.first
   level_apart k o p h g same =
       let l = level_of c k o h in

@@ -6,9 +6,9 @@ use Rattle.std.proofs.lemmas.Bool.{and_from}
 use Rattle.cluster_types.specs.declared.cluster.Cluster.{Cluster}
 use Rattle.cluster_types.specs.declared.leaf.Op.TheVariants.{Stop}
 use Rattle.cluster_types.specs.declared.rules.Order.{Order}
-use Rattle.cluster_types.specs.Numbers.{HasNoLoop, Link, inverse_links, leaf_links, link, links, order_links, rank, step_of}
+use Rattle.cluster_types.specs.Numbers.{StepsHaveNoLoop, Link, inverse_links, leaf_links, link, links, order_links, rank, step_of}
 use Rattle.cluster_types.specs.Precedence.{is_serialize, is_up, takers}
-use Rattle.loops.specs.Edges.{counts}
+use Rattle.loops.specs.Edges.{counts_link}
 use Rattle.loops.specs.FirstLoops.{AllOrder}
 use Rattle.cluster_types.proofs.OpLaws.{stop_takes}
 use Rattle.lemmas.proofs.Members.{head_or_rest, in_filter, in_flat, in_map, in_rest}
@@ -45,12 +45,12 @@ module _ (c : Cluster) (o : Order) (k : Cycles o) where
 
   pub among_links : Contains c.orders o → Contains (links c) (stops_link o)
   among_links h =
-      in_filter (counts c) (Rattle.std.specs.Prelude.◌++◌ (flat_map leaf_links (range_with_len 0 (length c.leaves))) (flat_map order_links c.orders))
+      in_filter (counts_link c) (Rattle.std.specs.Prelude.◌++◌ (flat_map leaf_links (range_with_len 0 (length c.leaves))) (flat_map order_links c.orders))
       (stops_link o)
       (Contains-append_right (flat_map leaf_links (range_with_len 0 (length c.leaves))) (flat_map order_links c.orders) (stops_link o)
       (in_flat order_links c.orders o (stops_link o) h among_order)) refl
 
-module _ (c : Cluster) (ordered : AllOrder c) (free : HasNoLoop c) where
+module _ (c : Cluster) (ordered : AllOrder c) (free : StepsHaveNoLoop c) where
   -- the then stops before the first
   pub then_stops_first : (o : Order) → Contains c.orders o → is_cycling o ≡ true
       → rank c (step_of Stop o.then_leaf) < rank c (step_of Stop o.first)

@@ -23,9 +23,9 @@ use Rattle.cluster_types.specs.Needed.{FirstSet, Needed, fence, kept, monitor, p
 use Rattle.cluster_types.specs.Plans.{is_of_either, most_edges}
 use Rattle.cluster_types.specs.Tables.{Targets, targets_of}
 use Rattle.cluster_types.specs.Valid.{IsValid}
-use Rattle.planner.specs.Leaves.{leaf_of}
+use Rattle.planner.specs.Leaves.{action_leaf}
 use Rattle.planner.specs.Places.{is_of_leaf}
-use Rattle.planner.specs.Rooms.{IsWithin}
+use Rattle.planner.specs.Rooms.{IsActionWithin}
 use Rattle.planner.proofs.Counts.{both_counts}
 use Rattle.planner.proofs.NeededWithin.{needed_within}
 use Rattle.plan_laws.proofs.CellSteps.{is_step}
@@ -90,7 +90,7 @@ module _ (c : Cluster) (actions : List Action) (valid : IsValid c) (planned : Ar
   kind_below _ (sent r n m g) = omega arith
   kind_below _ (taken_in r n m g) = omega arith
 
-  cell_below : (x : Action) → IsWithin c x → (leaf_of x < 1000) × (node_of x < 256)
+  cell_below : (x : Action) → IsActionWithin c x → (action_leaf x < 1000) × (node_of x < 256)
   cell_below (Fence n) h = let nodes = valid.limits.nodes in (omega arith, omega arith)
   cell_below (Probe r n) h = let nodes = valid.limits.nodes in let leaves = valid.limits.leaves in let a = h.0 in let b = h.1 in (omega arith, omega arith)
   cell_below (Cell o r n i role) h = let nodes = valid.limits.nodes in let leaves = valid.limits.leaves in let a = h.0 in let b = h.1 in (omega arith, omega arith)
@@ -102,7 +102,7 @@ module _ (c : Cluster) (actions : List Action) (valid : IsValid c) (planned : Ar
   spot x = node_of x * 16 + kind c x
 
   abbrev mark : Action → ℕ
-  mark x = leaf_of x * 4096 + spot x
+  mark x = action_leaf x * 4096 + spot x
 
   spot_below : (x : Action) → Needs x → spot x < 4096
   spot_below x h =
@@ -116,20 +116,20 @@ module _ (c : Cluster) (actions : List Action) (valid : IsValid c) (planned : Ar
       let b = spot_below x (needs x h) in
       omega arith
 
-  same_spot : (x y : Action) → Needs x → Needs y → leaf_of x ≡ leaf_of y → spot x ≡ spot y → x ≡ y
+  same_spot : (x y : Action) → Needs x → Needs y → action_leaf x ≡ action_leaf y → spot x ≡ spot y → x ≡ y
   same_spot x y h k e f =
       let cell = same_from_place (node_of x) (kind c x) (node_of y) (kind c y) 16 (kind_below x h) (kind_below y k) f in
       told_apart c planned.events planned.promotions planned.placed actions valid planned.goals planned.needed.needed x y h k e cell.0 cell.1
 
   same_mark : (x y : Action) → Contains actions x → Contains actions y → mark x ≡ mark y → x ≡ y
   same_mark x y h k e =
-      let spots = same_from_place (leaf_of x) (spot x) (leaf_of y) (spot y) 4096 (spot_below x (needs x h)) (spot_below y (needs y k)) e in
+      let spots = same_from_place (action_leaf x) (spot x) (action_leaf y) (spot y) 4096 (spot_below x (needs x h)) (spot_below y (needs y k)) e in
       same_spot x y (needs x h) (needs y k) spots.0 spots.1
 
   few_actions : length actions ≤ 4096000
   few_actions = few_told mark actions 4096000 mark_below same_mark planned.needed.once
 
-  its_leaf : (r : ℕ) (x : Action) → is_of_leaf r x ≡ true → leaf_of x ≡ r
+  its_leaf : (r : ℕ) (x : Action) → is_of_leaf r x ≡ true → action_leaf x ≡ r
   its_leaf r (Fence n) h = cc
   its_leaf r (Probe s n) h = eqb-true s r h
   its_leaf r (Cell o s n i role) h = eqb-true s r h

@@ -15,12 +15,12 @@ use Rattle.cluster_types.specs.Needed.{can_cycle}
 use Rattle.cluster_types.specs.Tables.{Targets}
 use Rattle.cluster_types.specs.Terms as terms
 use Rattle.planner.specs.ByNeeds as by_needs
-use Rattle.planner.specs.Cycling.{Marks, first_marks}
+use Rattle.planner.specs.Cycling.{MarkedCells, first_marks}
 use Rattle.planner.specs.Levels.{AreNeeds, need_in}
-use Rattle.planner.specs.declared.steps.CellNeed.{CellNeed}
+use Rattle.planner.specs.declared.needed.steps.CellNeed.{CellNeed}
 
 -- one leaf more
-pub row_more : (all : Marks) (k r n : ℕ) (now after here : Bool) → now ≡ (nat_lt r k && all r n) → after ≡ (now || r == k && here)
+pub row_more : (all : MarkedCells) (k r n : ℕ) (now after here : Bool) → now ≡ (nat_lt r k && all r n) → after ≡ (now || r == k && here)
     → here ≡ all k n → after ≡ (nat_lt r (k + 1) && all r n)
 row_more all k r n now after here was is flag = elim (cases_order r k) [
   | inl e ↦
@@ -43,7 +43,7 @@ row_more all k r n now after here was is flag = elim (cases_order r k) [
 ]
 
 module _ (c : Cluster) (es : List Event) (targets : Targets) (needs : List CellNeed) (are : AreNeeds c es targets needs) where
-  count_is : (r : ℕ) → r < length c.leaves → by_needs.active_count (length c.nodes) needs r ≡ terms.active_count c es r
+  count_is : (r : ℕ) → r < length c.leaves → by_needs.needed_active_count (length c.nodes) needs r ≡ terms.active_count c es r
   count_is r lt =
       count-same (λ n. terms.is_active (need_in (length c.nodes) needs r n).state) (λ n. terms.is_active (cell_state c r n es)) (length c.nodes)
       (λ n ln. ap (λ (need : CellNeed). terms.is_active need.state) (are r n lt ln))
@@ -64,7 +64,7 @@ module _ (c : Cluster) (es : List Event) (targets : Targets) (needs : List CellN
       ∙ ap (λ b. b && can_cycle c es targets r n && nat_lt (copies c r) (terms.active_count c es r)) (and-false (nat_lt r (length c.leaves)))
 
   on_nodes : (r n : ℕ) (often : Bool) (flags : List Bool) → r < length c.leaves
-      → often ≡ nat_lt (copies c r) (by_needs.active_count (length c.nodes) needs r)
+      → often ≡ nat_lt (copies c r) (by_needs.needed_active_count (length c.nodes) needs r)
       → flags ≡ map (λ n. (need_in (length c.nodes) needs r n).can_cycle && often) (range_with_len 0 (length c.nodes))
       → slice_index_or flags n false ≡ first_marks c es targets r n
   on_nodes r n often flags lr is made = ap (λ fs. slice_index_or fs n false) made ∙ elim (cases_lt n (length c.nodes)) [
@@ -78,7 +78,7 @@ module _ (c : Cluster) (es : List Event) (targets : Targets) (needs : List CellN
   ]
 
   pub flag_is : (nodes : ℕ) → nodes ≡ length c.nodes → (r n : ℕ) (often : Bool) (flags : List Bool) → r < length c.leaves
-      → often ≡ nat_lt (copies c r) (by_needs.active_count nodes needs r)
+      → often ≡ nat_lt (copies c r) (by_needs.needed_active_count nodes needs r)
       → flags ≡ map (λ n. (need_in nodes needs r n).can_cycle && often) (range_with_len 0 nodes)
       → slice_index_or flags n false ≡ first_marks c es targets r n
   flag_is nodes e r n often flags lr is made = on_nodes r n often flags lr (rw e at is) (rw e at made)
@@ -91,9 +91,9 @@ module _ (c : Cluster) (es : List Event) (targets : Targets) (needs : List CellN
     on true = refl
     on false = refl
 
-  pub all_first : (marks : Marks) (k : ℕ) → k ≡ length c.leaves → ((r n : ℕ) → marks r n ≡ (nat_lt r k && first_marks c es targets r n))
+  pub all_first : (marks : MarkedCells) (k : ℕ) → k ≡ length c.leaves → ((r n : ℕ) → marks r n ≡ (nat_lt r k && first_marks c es targets r n))
       → marks ≡ first_marks c es targets
   all_first marks k e each = fun_ext (λ r. fun_ext (λ n. each r n ∙ ap (λ j. nat_lt r j && first_marks c es targets r n) e ∙ whole r n))
 
-pub none_first : (all : Marks) (marks : Bool) (k r n : ℕ) → k ≡ 0 → marks ≡ false → marks ≡ (nat_lt r k && all r n)
+pub none_first : (all : MarkedCells) (marks : Bool) (k r n : ℕ) → k ≡ 0 → marks ≡ false → marks ≡ (nat_lt r k && all r n)
 none_first all marks k r n e h = h ∙ ap (λ b. b && all r n) (sym (le-ltb r k (omega arith)))

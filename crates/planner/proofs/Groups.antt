@@ -1,8 +1,8 @@
 -- Groups of edges, each with gates of its own and a relation that it says of the actions.
 use Rattle.std.proofs.Common.{arith, ◌<◌, ◌≤◌, ◌⊎◌, inl, inr, ℕ, List, [], ◌++◌, Contains}
 use Rattle.std.proofs.lemmas.List.Elements.{Contains-append_cases}
-use Rattle.cluster_types.specs.declared.edges.Edge.{Edge}
-use Rattle.cluster_types.specs.Graphs.{Leads, direct, through}
+use Rattle.edges.specs.declared.edge.Edge.{Edge}
+use Rattle.cluster_types.specs.Graphs.{LeadsByGates, direct, through}
 use Rattle.planner.specs.Groups.{IsGroup, IsOwnEnd}
 use Rattle.cluster_types.proofs.GateGroups.{IsOwn, action, gate, one_group, of_old, of_more}
 
@@ -20,7 +20,7 @@ own_ends actions from e (h, k) = (to_own actions from e.before h, to_own actions
 pub ends_own : (actions from : ℕ) (e : Edge) → IsOwnEnd actions from e.before × IsOwnEnd actions from e.after → IsOwn actions from e.before × IsOwn actions from e.after
 ends_own actions from e (h, k) = (of_own actions from e.before h, of_own actions from e.after k)
 
-pub none_leads : (actions x y : ℕ) → Leads actions [] x y → ⊥
+pub none_leads : (actions x y : ℕ) → LeadsByGates actions [] x y → ⊥
 none_leads actions _ _ (direct e (k, l, h)) = omega arith
 none_leads actions _ _ (through e y (k, l, h) g rest) = omega arith
 
@@ -46,14 +46,14 @@ module _ (actions from mid upto : ℕ) (old more : List Edge) (R S : ℕ → ℕ
   mid_enough : actions ≤ mid
   mid_enough = let a = one.enough in let b = one.ordered in omega arith
 
-  both_only : (x y : ℕ) → x < actions → y < actions → Leads actions (old ++ more) x y → R x y ⊎ S x y
+  both_only : (x y : ℕ) → x < actions → y < actions → LeadsByGates actions (old ++ more) x y → R x y ⊎ S x y
   both_only x y l m h =
       elim (one_group actions mid old more mid_enough one.below two_own x y h l) [
         | inl k ↦ inl (one.only x y l m k)
         | inr k ↦ inr (two.only x y l m k)
       ]
 
-  both_all : (x y : ℕ) → x < actions → y < actions → R x y ⊎ S x y → Leads actions (old ++ more) x y
+  both_all : (x y : ℕ) → x < actions → y < actions → R x y ⊎ S x y → LeadsByGates actions (old ++ more) x y
   both_all x y l m (inl k) = of_old actions mid old more mid_enough one.below two_own x y (one.all x y l m k)
   both_all x y l m (inr k) = of_more actions mid old more mid_enough one.below two_own x y (two.all x y l m k)
 

@@ -19,7 +19,7 @@ use Rattle.cluster_types.specs.Precedence.{is_same_op, is_serialize}
 use Rattle.cluster_types.specs.Tables.{Targets}
 use Rattle.loops.specs.FirstLoops.{AllJoin, AllOrder}
 use Rattle.loops.proofs.StepPlaces.{same_op}
-use Rattle.planner.specs.Actions.{is_free, is_harmless_colocation, is_harmless_order, keeps_first}
+use Rattle.planner.specs.Actions.{is_undisturbed, is_harmless_colocation, is_harmless_order, keeps_first}
 
 -- the first of an order, by tests: it is this leaf, the kind is Serialize, the word is a start, and the then gets a step
 first_kept : (same s u t : Bool) → not (same && ((s || not u) && t)) ≡ true → same ≡ true → ((s ≡ false) × (u ≡ true)) ⊎ (t ≡ false)
@@ -147,7 +147,7 @@ module _ (c : Cluster) (es : List Event) (targets : Targets) (touched : ℕ → 
       pub colocations : (col : Colocation) → Contains c.colocations col → IsHarmlessColocation c es targets r col
 
     module _ (ordered : AllOrder c) (joined : AllJoin c) where
-      pub free_of : is_free c touched r ≡ true → Free
+      pub free_of : is_undisturbed c touched r ≡ true → Free
       free_of h = record {
         orders = λ o k. (
             let s = ordered o k in
@@ -158,7 +158,7 @@ module _ (c : Cluster) (es : List Event) (targets : Targets) (touched : ℕ → 
             (each_passes (is_harmless_colocation touched r) c.colocations col (later (list_all (is_harmless_order touched r) c.orders) _ h) k));
       }
 
-      pub is_free_where : Free → is_free c touched r ≡ true
+      pub is_free_where : Free → is_undisturbed c touched r ≡ true
       is_free_where f =
           and_from (list_all (is_harmless_order touched r) c.orders) _
           (all_pass (is_harmless_order touched r) c.orders (λ o k. let s = ordered o k in (order_harmless o s.first s.later).1 (f.orders o k)))

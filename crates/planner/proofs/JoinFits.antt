@@ -7,12 +7,12 @@ use Rattle.std.proofs.lemmas.List.Elements.{Contains-append_cases, Contains-appe
 use Rattle.cluster_types.specs.declared.cluster.Cluster.{Cluster}
 use Rattle.cluster_types.specs.declared.journal.Action.{Action}
 use Rattle.cluster_types.specs.Precedence.{CellOf}
-use Rattle.planner.specs.declared.sides.Join.{Join}
-use Rattle.planner.specs.declared.sides.Side.{Side}
+use Rattle.planner.specs.declared.precedence.sides.Join.{Join}
+use Rattle.planner.specs.declared.precedence.sides.Side.{Side}
 use Rattle.planner.specs.Gates.{key_at}
-use Rattle.planner.specs.Joins.{key_of}
+use Rattle.planner.specs.Joins.{side_key_of}
 use Rattle.planner.specs.Places.{all_places, is_of_leaf, leaf_places, places_by, places_of, rule_places, side_leaf}
-use Rattle.planner.specs.Rooms.{IsEven, IsWithin, rows_of, width_of}
+use Rattle.planner.specs.Rooms.{IsEven, IsActionWithin, rows_of, width_of}
 use Rattle.planner.proofs.JoinGroups.{Fits}
 use Rattle.planner.proofs.KeysRoom.{place_within}
 use Rattle.planner.proofs.LeafKeys.{of_side}
@@ -61,7 +61,7 @@ module _ (c : Cluster) (actions : List Action) where
 
   -- the action at a position at which a side has a cell
   module _ (s : Side) (i : ℕ) (k : CellOf) (l : i < length actions) (h : key_at c actions s i ≡ Some k) where
-    stands_on : (v : Option Action) → slice_get actions i ≡ v → option_map_or (key_of c actions s) v None ≡ Some k → (r : ℕ) → side_leaf s ≡ Some r
+    stands_on : (v : Option Action) → slice_get actions i ≡ v → option_map_or (side_key_of c actions s) v None ≡ Some k → (r : ℕ) → side_leaf s ≡ Some r
         → Contains (leaf_places actions r) i
     stands_on (Some a) at h r e = leaf_there r i a l at (of_side actions c a k s r e h)
     stands_on None at h r e = cc
@@ -69,7 +69,7 @@ module _ (c : Cluster) (actions : List Action) where
     pub stands_there : (r : ℕ) → side_leaf s ≡ Some r → Contains (leaf_places actions r) i
     stands_there r e = stands_on (slice_get actions i) refl h r e
 
-  module _ (inside : (a : Action) → Contains actions a → IsWithin c a) (j : Join) (even : IsEven c j) where
+  module _ (inside : (a : Action) → Contains actions a → IsActionWithin c a) (j : Join) (even : IsEven c j) where
     from_on : (u v : Option ℕ) → side_leaf j.from ≡ u → side_leaf j.to ≡ v → (i : ℕ) (k : CellOf) → i < length actions → key_at c actions j.from i ≡ Some k
         → Contains (places_by actions u v) i
     from_on (Some r) (Some s) e f i k l h = one_there r s i (stands_there j.from i k l h r e)

@@ -3,11 +3,11 @@ use Rattle.std.proofs.Common.{arith, ◌≡◌, ◌<◌, ◌≤◌, ◌+◌, ◌
 use Rattle.std.proofs.lemmas.Bool.{and_parts, eqb-true}
 use Rattle.std.proofs.lemmas.List.Elements.{Contains-append_cases, Contains-append_left, Contains-append_right}
 use Rattle.std.proofs.lemmas.Nat.{div-mul-add, mod-mul-add, mul-add-lt}
-use Rattle.cluster_types.specs.declared.edges.Edge.{Edge}
-use Rattle.cluster_types.specs.Graphs.{Leads, direct, through}
+use Rattle.edges.specs.declared.edge.Edge.{Edge}
+use Rattle.cluster_types.specs.Graphs.{LeadsByGates, direct, through}
 use Rattle.cluster_types.specs.Precedence.{CellOf, both, is_one_cell}
 use Rattle.cluster_types.proofs.GateGroups.{IsOwn, action, gate}
-use Rattle.planner.specs.Gates.{edge, edge_in, edge_out, edges_at, gate_of, join_edges}
+use Rattle.planner.specs.Gates.{edge, edge_in, edge_out, gate_edges_at, gate_of, join_edges}
 use Rattle.lemmas.proofs.Members.{in_flat, of_flat}
 use Rattle.planner.specs.Groups.{IsGroup}
 use Rattle.planner.proofs.Groups.{own_ends}
@@ -51,7 +51,7 @@ module _ (actions base leaves width : ℕ) (from to : ℕ → Option CellOf) (pl
 
   is_edge : (e : Edge) → Contains edges e → IsJoinEdge e
   is_edge e c =
-      let f = of_flat (edges_at base width from to) places e c in
+      let f = of_flat (gate_edges_at base width from to) places e c in
       let l = fits.within f.source f.among in
       elim (Contains-append_cases (edge_in base width (from f.source) f.source) (edge_out base width (to f.source) f.source) e f.gives) [
         | inl h ↦ by_in f.source (from f.source) e l refl h
@@ -60,13 +60,13 @@ module _ (actions base leaves width : ℕ) (from to : ℕ → Option CellOf) (pl
 
   has_in : (i : ℕ) (a : CellOf) → i < actions → from i ≡ Some a → Contains edges (edge i (gate_of base width a))
   has_in i a l h =
-      in_flat (edges_at base width from to) places i (edge i (gate_of base width a)) (fits.from_there i a l h)
+      in_flat (gate_edges_at base width from to) places i (edge i (gate_of base width a)) (fits.from_there i a l h)
       (Contains-append_left (edge_in base width (from i) i) (edge_out base width (to i) i) (edge i (gate_of base width a))
       (subst (λ v. Contains (edge_in base width v i) (edge i (gate_of base width a))) (sym h) (0, omega arith, refl)))
 
   has_out : (i : ℕ) (a : CellOf) → i < actions → to i ≡ Some a → Contains edges (edge (gate_of base width a) i)
   has_out i a l h =
-      in_flat (edges_at base width from to) places i (edge (gate_of base width a) i) (fits.to_there i a l h)
+      in_flat (gate_edges_at base width from to) places i (edge (gate_of base width a) i) (fits.to_there i a l h)
       (Contains-append_right (edge_in base width (from i) i) (edge_out base width (to i) i) (edge (gate_of base width a) i)
       (subst (λ v. Contains (edge_out base width v i) (edge (gate_of base width a) i)) (sym h) (0, omega arith, refl)))
 
@@ -85,7 +85,7 @@ module _ (actions base leaves width : ℕ) (from to : ℕ → Option CellOf) (pl
   joined_by x y a b h k e = rw h (rw k (rw e (itself b)))
 
   -- what leads on from a gate leads to an action of its cell
-  pub from_gate : (x y : ℕ) → Leads actions edges x y → (i : ℕ) (a : CellOf) → from i ≡ Some a → x ≡ gate_of base width a → y < actions → Joined i y
+  pub from_gate : (x y : ℕ) → LeadsByGates actions edges x y → (i : ℕ) (a : CellOf) → from i ≡ Some a → x ≡ gate_of base width a → y < actions → Joined i y
   from_gate _ _ (direct e c) i a h q l = at_end e (is_edge e c) q l
     where
       at_end : (e : Edge) → IsJoinEdge e → e.before ≡ gate_of base width a → e.after < actions → Joined i e.after
@@ -98,7 +98,7 @@ module _ (actions base leaves width : ℕ) (from to : ℕ → Option CellOf) (pl
       at_gate _ (into j b m k) g q = omega arith
       at_gate _ (out_of j b m k) g q = omega arith
 
-  only : (x y : ℕ) → x < actions → y < actions → Leads actions edges x y → Joined x y
+  only : (x y : ℕ) → x < actions → y < actions → LeadsByGates actions edges x y → Joined x y
   only _ _ l m (direct e c) = absurd (at_end e (is_edge e c) l m)
     where
       at_end : (e : Edge) → IsJoinEdge e → e.before < actions → e.after < actions → ⊥
@@ -111,7 +111,7 @@ module _ (actions base leaves width : ℕ) (from to : ℕ → Option CellOf) (pl
       at_gate _ (into j b n k) g l f = f j b k refl
       at_gate _ (out_of j b n k) g l f = absurd (omega arith)
 
-  all_on : (x y : ℕ) (u v : Option CellOf) → x < actions → y < actions → from x ≡ u → to y ≡ v → both is_one_cell u v ≡ true → Leads actions edges x y
+  all_on : (x y : ℕ) (u v : Option CellOf) → x < actions → y < actions → from x ≡ u → to y ≡ v → both is_one_cell u v ≡ true → LeadsByGates actions edges x y
   all_on x y (Some a) (Some b) l m h k e =
       let same : to y ≡ Some a = rw (one_cell a b e) k in
       through (edge x (gate_of base width a)) y (has_in x a l h) (omega arith) (direct (edge (gate_of base width a) y) (has_out y a m same))

@@ -7,7 +7,7 @@ use Rattle.cluster_types.specs.declared.journal.Action.{Action}
 use Rattle.cluster_types.specs.declared.leaf.Op.TheVariants as op
 use Rattle.cluster_types.specs.declared.rules.Order.{Order}
 use Rattle.cluster_types.specs.Precedence.{both, comes_first_in_cell, demotes_first, fences_first, gives_any, is_one_cell, is_ordered, is_serialized, migrates_first, must_precede, op_cell, parts_first, probe_cell, probes_first, stops_first}
-use Rattle.planner.specs.Joins.{before_monitor, before_stop, by_leaf, colocation_joins, fence_cell, alone, is_joined, joins_of, order_joins, send_cell, take_cell, take_in_cell, together}
+use Rattle.planner.specs.Joins.{before_monitor, before_stop, by_leaf, colocation_joins, fence_cell, alone, is_joined, joins_of, order_joins, send_cell, take_cell, take_in_cell, same_join_cell}
 use Rattle.planner.proofs.Tests.{any_either, any_flat, any_same}
 use Rattle.planner.proofs.CaseJoins.{alone_joined, fences_joined, in_cell_joined, one_leaf_joined, taken_joined}
 use Rattle.planner.proofs.RuleJoins.{order_joined, separation_joined}
@@ -37,7 +37,7 @@ module _ (c : Cluster) (actions : List Action) (is_earlier : Action → Action �
   joins-say =
       rw (list_any-append (is_joined c actions x y) (flat_map colocation_joins c.colocations) (flat_map order_joins c.orders))
       (regroup_by (probes_first x y) (both is_one_cell (by_leaf (probe_cell x)) (by_leaf (gives_any y))) (stops_first c x y) (both is_one_cell (alone c (op_cell op.Stop x)) (alone c (op_cell op.Start y)))
-      (fences_first x y) (both is_one_cell (fence_cell x) (together (gives_any y))) (demotes_first x y) (both is_one_cell (by_leaf (take_cell x)) (by_leaf (op_cell op.Promote y)))
+      (fences_first x y) (both is_one_cell (fence_cell x) (same_join_cell (gives_any y))) (demotes_first x y) (both is_one_cell (by_leaf (take_cell x)) (by_leaf (op_cell op.Promote y)))
       (list_any (λ col. parts_first col x y) c.colocations) (list_any (is_joined c actions x y) (flat_map colocation_joins c.colocations))
       (list_any (λ o. is_ordered actions o x y || is_serialized is_earlier o x y) c.orders) (list_any (is_joined c actions x y) (flat_map order_joins c.orders)) in_order
       (comes_first_in_cell x y) (migrates_first x y) (both is_one_cell (before_stop x) (op_cell op.Stop y)) (both is_one_cell (op_cell op.Start x) (op_cell op.Promote y))

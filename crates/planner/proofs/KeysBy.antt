@@ -9,15 +9,15 @@ use Rattle.cluster_types.specs.declared.journal.Action.{Action}
 use Rattle.cluster_types.specs.declared.journal.Action.TheVariants.{Fence, Probe, Cell, MigrateTo, MigrateFrom}
 use Rattle.cluster_types.specs.declared.leaf.Op.{Op}
 use Rattle.cluster_types.specs.declared.leaf.Op.TheVariants as op
-use Rattle.planner.specs.declared.sides.Side.{Side}
-use Rattle.planner.specs.declared.sides.Side.TheVariants as side
+use Rattle.planner.specs.declared.precedence.sides.Side.{Side}
+use Rattle.planner.specs.declared.precedence.sides.Side.TheVariants as side
 use Rattle.cluster_types.specs.Precedence.{CellOf, as_later, is_migrating}
-use Rattle.planner.specs.Joins.{in_leaf, key_of, later_demote, later_taker}
-use Rattle.planner.specs.Leaves.{key_by, later_by, later_demote_by, later_stop, later_taker_by, leaf_of}
+use Rattle.planner.specs.Joins.{in_leaf, side_key_of, later_demote, later_taker}
+use Rattle.planner.specs.Leaves.{key_by, later_by, later_demote_by, later_stop, later_taker_by, action_leaf}
 
 module _ (actions : List Action) where
   abbrev moves : Action → Bool
-  moves a = is_migrating actions (leaf_of a)
+  moves a = is_migrating actions (action_leaf a)
 
   stop_by : (a : Action) → later_stop (moves a) a ≡ as_later actions op.Stop a
   stop_by (Fence n) = refl
@@ -55,7 +55,7 @@ module _ (actions : List Action) where
   taker_by op.Demote a = refl
   taker_by op.Monitor a = refl
 
-  pub key-by : (c : Cluster) (s : Side) (a : Action) → key_by c (moves a) s a ≡ key_of c actions s a
+  pub key-by : (c : Cluster) (s : Side) (a : Action) → key_by c (moves a) s a ≡ side_key_of c actions s a
   key-by c (side.Later r word local) a = ap (in_leaf r local) (word_by word a)
   key-by c (side.LaterTakers r word local) a = ap (in_leaf r local) (taker_by word a)
   key-by c side.Probes a = refl
@@ -80,8 +80,8 @@ module _ (actions : List Action) where
   key-by c (side.EarlierTakers r word local) a = refl
 
 pub key_at_is : (c : Cluster) (actions : List Action) (migrating : List Bool) (s : Side) (place : ℕ) (a : Action) (m : Bool) (u : Option CellOf)
-    → slice_get actions place ≡ Some a → AreMigrating actions migrating → m ≡ get_or migrating (leaf_of a) false → u ≡ key_by c m s a
+    → slice_get actions place ≡ Some a → AreMigrating actions migrating → m ≡ get_or migrating (action_leaf a) false → u ≡ key_by c m s a
     → u ≡ key_at c actions s place
 key_at_is c actions migrating s place a m u at known is h =
-    let knows : m ≡ is_migrating actions (leaf_of a) = is ∙ known (leaf_of a) in
-    h ∙ (ap (λ v. key_by c v s a) knows ∙ (key-by actions c s a ∙ sym (ap (λ v. option_map_or (key_of c actions s) v None) at)))
+    let knows : m ≡ is_migrating actions (action_leaf a) = is ∙ known (action_leaf a) in
+    h ∙ (ap (λ v. key_by c v s a) knows ∙ (key-by actions c s a ∙ sym (ap (λ v. option_map_or (side_key_of c actions s) v None) at)))

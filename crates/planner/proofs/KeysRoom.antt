@@ -7,15 +7,15 @@ use Rattle.std.proofs.lemmas.Option.{get_or_from_slice_get, slice_get_within}
 use Rattle.cluster_types.specs.declared.cluster.Cluster.{Cluster}
 use Rattle.cluster_types.specs.declared.journal.Action.{Action}
 use Rattle.cluster_types.specs.Precedence.{CellOf}
-use Rattle.planner.specs.declared.sides.Join.{Join}
-use Rattle.planner.specs.declared.sides.Side.{Side}
+use Rattle.planner.specs.declared.precedence.sides.Join.{Join}
+use Rattle.planner.specs.declared.precedence.sides.Side.{Side}
 use Rattle.planner.specs.Gates.{gate_of, key_at}
-use Rattle.planner.specs.Joins.{key_of}
-use Rattle.planner.specs.Rooms.{HasRoom, IsEven, IsWithin, rows_of, width_of}
+use Rattle.planner.specs.Joins.{side_key_of}
+use Rattle.planner.specs.Rooms.{GatesHaveRoom, IsEven, IsActionWithin, rows_of, width_of}
 use Rattle.planner.proofs.KeysWithin.{key_within}
 
-module _ (c : Cluster) (actions : List Action) (inside : (a : Action) → Contains actions a → IsWithin c a) where
-  within_on : (s : Side) (place : ℕ) (v : Option Action) → slice_get actions place ≡ v → (a : CellOf) → option_map_or (key_of c actions s) v None ≡ Some a
+module _ (c : Cluster) (actions : List Action) (inside : (a : Action) → Contains actions a → IsActionWithin c a) where
+  within_on : (s : Side) (place : ℕ) (v : Option Action) → slice_get actions place ≡ v → (a : CellOf) → option_map_or (side_key_of c actions s) v None ≡ Some a
       → (a.leaf < rows_of c s) × (a.node < width_of c s)
   within_on s place (Some act) at a h =
       let l = slice_get_within actions place act at in
@@ -29,7 +29,7 @@ module _ (c : Cluster) (actions : List Action) (inside : (a : Action) → Contai
   below_room : (base width rows : ℕ) (a : CellOf) → base + width * rows < 4294967296 → a.leaf < rows → a.node < width → gate_of base width a < 4294967296
   below_room base width rows a room l m = let h = mul-add-lt a.leaf width a.node rows l m in omega arith
 
-  room_for : (j : Join) (base : ℕ) → IsEven c j → base + width_of c j.from * rows_of c j.from < 4294967296 → HasRoom c actions j base (width_of c j.from)
+  room_for : (j : Join) (base : ℕ) → IsEven c j → base + width_of c j.from * rows_of c j.from < 4294967296 → GatesHaveRoom c actions j base (width_of c j.from)
   room_for j base even room = record {
     from = λ place a h. let k = place_within j.from place a h in below_room base (width_of c j.from) (rows_of c j.from) a room k.0 k.1;
     to = λ place a h.
@@ -37,6 +37,6 @@ module _ (c : Cluster) (actions : List Action) (inside : (a : Action) → Contai
         below_room base (width_of c j.from) (rows_of c j.from) a room (subst (λ v. a.leaf < v) even.rows k.0) (subst (λ v. a.node < v) even.width k.1);
   }
 
-pub has_room : (c : Cluster) (actions : List Action) (j : Join) (base width : ℕ) → ((a : Action) → Contains actions a → IsWithin c a) → IsEven c j
-    → base + width_of c j.from * rows_of c j.from < 4294967296 → width ≡ width_of c j.from → HasRoom c actions j base width
-has_room c actions j base width inside even room is = subst (HasRoom c actions j base) (sym is) (room_for c actions inside j base even room)
+pub has_room : (c : Cluster) (actions : List Action) (j : Join) (base width : ℕ) → ((a : Action) → Contains actions a → IsActionWithin c a) → IsEven c j
+    → base + width_of c j.from * rows_of c j.from < 4294967296 → width ≡ width_of c j.from → GatesHaveRoom c actions j base width
+has_room c actions j base width inside even room is = subst (GatesHaveRoom c actions j base) (sym is) (room_for c actions inside j base even room)

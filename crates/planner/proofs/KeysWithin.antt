@@ -7,19 +7,19 @@ use Rattle.cluster_types.specs.declared.leaf.Op.{Op}
 use Rattle.cluster_types.specs.declared.leaf.Op.TheVariants as op
 use Rattle.cluster_types.specs.declared.leaf.Role.{Role}
 use Rattle.cluster_types.specs.declared.leaf.Role.TheVariants as role
-use Rattle.planner.specs.declared.sides.Side.{Side}
-use Rattle.planner.specs.declared.sides.Side.TheVariants as side
+use Rattle.planner.specs.declared.precedence.sides.Side.{Side}
+use Rattle.planner.specs.declared.precedence.sides.Side.TheVariants as side
 use Rattle.cluster_types.specs.Precedence.{as_earlier, as_later, cell_of, gives_any, gives_role, is_migrating, op_cell, probe_cell, takes_or_probes}
-use Rattle.planner.specs.Joins.{earlier_taker, key_of, later_demote, later_taker, take_cell}
-use Rattle.planner.specs.Rooms.{IsWithin, rows_of, width_of}
+use Rattle.planner.specs.Joins.{earlier_taker, side_key_of, later_demote, later_taker, take_cell}
+use Rattle.planner.specs.Rooms.{IsActionWithin, rows_of, width_of}
 use Rattle.planner.proofs.CellsWithin.{Here, In, alone_in, before_monitor_here, before_stop_here, by_leaf_in, fence_in, gives_here, in_leaf_in, op_here, probe_here, send_in, start_here, take_here, take_in_in, together_in}
 
 module _ (c : Cluster) where
-  role_here : (role : Role) (a : Action) → IsWithin c a → Here c (gives_role role a)
+  role_here : (role : Role) (a : Action) → IsActionWithin c a → Here c (gives_role role a)
   role_here role.Started a h = start_here c a h
   role_here role.Promoted a h = op_here c op.Promote a h
 
-  parts_here : (role : Role) (a : Action) → IsWithin c a → Here c (takes_or_probes role a)
+  parts_here : (role : Role) (a : Action) → IsActionWithin c a → Here c (takes_or_probes role a)
   parts_here role.Started (Fence n) h = tt
   parts_here role.Started (Probe r n) h = h
   parts_here role.Started (Cell o r n i other) h = op_here c op.Stop (Cell o r n i other) h
@@ -35,7 +35,7 @@ module _ (c : Cluster) where
   parts_here role.Promoted (MigrateTo r s t) h = tt
   parts_here role.Promoted (MigrateFrom r s t) h = tt
 
-  earlier_here : (o : Op) (a : Action) → IsWithin c a → Here c (as_earlier o a)
+  earlier_here : (o : Op) (a : Action) → IsActionWithin c a → Here c (as_earlier o a)
   earlier_here op.Start (Fence n) h = tt
   earlier_here op.Start (Probe r n) h = tt
   earlier_here op.Start (Cell o r n i role) h = op_here c op.Start (Cell o r n i role) h
@@ -46,7 +46,7 @@ module _ (c : Cluster) where
   earlier_here op.Demote a h = op_here c op.Demote a h
   earlier_here op.Monitor a h = op_here c op.Monitor a h
 
-  earlier_taker_here : (o : Op) (a : Action) → IsWithin c a → Here c (earlier_taker o a)
+  earlier_taker_here : (o : Op) (a : Action) → IsActionWithin c a → Here c (earlier_taker o a)
   earlier_taker_here op.Start a h = op_here c op.Stop a h
   earlier_taker_here op.Stop a h = tt
   earlier_taker_here op.Promote a h = take_here c a h
@@ -54,7 +54,7 @@ module _ (c : Cluster) where
   earlier_taker_here op.Monitor a h = tt
 
   module _ (actions : List Action) where
-    later_stop_here : (a : Action) → IsWithin c a → Here c (as_later actions op.Stop a)
+    later_stop_here : (a : Action) → IsActionWithin c a → Here c (as_later actions op.Stop a)
     later_stop_here (Fence n) h = tt
     later_stop_here (Probe r n) h = tt
     later_stop_here (Cell op.Start r n i role) h = tt
@@ -69,14 +69,14 @@ module _ (c : Cluster) where
     later_stop_here (MigrateTo r s t) h = (h.0, h.1)
     later_stop_here (MigrateFrom r s t) h = tt
 
-    later_here : (o : Op) (a : Action) → IsWithin c a → Here c (as_later actions o a)
+    later_here : (o : Op) (a : Action) → IsActionWithin c a → Here c (as_later actions o a)
     later_here op.Start a h = start_here c a h
     later_here op.Stop a h = later_stop_here a h
     later_here op.Promote a h = op_here c op.Promote a h
     later_here op.Demote a h = op_here c op.Demote a h
     later_here op.Monitor a h = op_here c op.Monitor a h
 
-    later_demote_here : (a : Action) → IsWithin c a → Here c (later_demote actions a)
+    later_demote_here : (a : Action) → IsActionWithin c a → Here c (later_demote actions a)
     later_demote_here (Fence n) h = tt
     later_demote_here (Probe r n) h = tt
     later_demote_here (Cell op.Start r n i role) h = tt
@@ -87,14 +87,14 @@ module _ (c : Cluster) where
     later_demote_here (MigrateTo r s t) h = (h.0, h.1)
     later_demote_here (MigrateFrom r s t) h = tt
 
-    later_taker_here : (o : Op) (a : Action) → IsWithin c a → Here c (later_taker actions o a)
+    later_taker_here : (o : Op) (a : Action) → IsActionWithin c a → Here c (later_taker actions o a)
     later_taker_here op.Start a h = later_stop_here a h
     later_taker_here op.Stop a h = tt
     later_taker_here op.Promote a h = later_demote_here a h
     later_taker_here op.Demote a h = tt
     later_taker_here op.Monitor a h = tt
 
-    pub key_within : (s : Side) (a : Action) → IsWithin c a → In c (rows_of c s) (width_of c s) (key_of c actions s a)
+    pub key_within : (s : Side) (a : Action) → IsActionWithin c a → In c (rows_of c s) (width_of c s) (side_key_of c actions s a)
     key_within side.Probes a h = by_leaf_in c (probe_cell a) (probe_here c a h)
     key_within side.Gives a h = by_leaf_in c (gives_any a) (gives_here c a h)
     key_within side.StopsAlone a h = alone_in c (op_cell op.Stop a) (op_here c op.Stop a h)

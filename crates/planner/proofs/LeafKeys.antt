@@ -10,9 +10,9 @@ use Rattle.cluster_types.specs.declared.leaf.Op.TheVariants as op
 use Rattle.cluster_types.specs.declared.leaf.Role.{Role}
 use Rattle.cluster_types.specs.declared.leaf.Role.TheVariants as role
 use Rattle.cluster_types.specs.Precedence.{CellOf, as_earlier, as_later, cell_of, gives_role, is_migrating, is_same_op, op_cell, start_cell, takes_or_probes}
-use Rattle.planner.specs.declared.sides.Side.{Side}
-use Rattle.planner.specs.declared.sides.Side.TheVariants as side
-use Rattle.planner.specs.Joins.{earlier_taker, in_leaf, key_of, later_demote, later_taker, take_cell}
+use Rattle.planner.specs.declared.precedence.sides.Side.{Side}
+use Rattle.planner.specs.declared.precedence.sides.Side.TheVariants as side
+use Rattle.planner.specs.Joins.{earlier_taker, in_leaf, side_key_of, later_demote, later_taker, take_cell}
 use Rattle.planner.specs.Places.{is_of_leaf, side_leaf}
 
 -- the cell is of a leaf of which the action is
@@ -137,7 +137,7 @@ module _ (actions : List Action) where
   in_leaf_of r by_node None a h k e = cc
 
   module _ (c : Cluster) (a : Action) (k : CellOf) where
-    pub of_side : (s : Side) (r : ℕ) → side_leaf s ≡ Some r → key_of c actions s a ≡ Some k → is_of_leaf r a ≡ true
+    pub of_side : (s : Side) (r : ℕ) → side_leaf s ≡ Some r → side_key_of c actions s a ≡ Some k → is_of_leaf r a ≡ true
     of_side (side.Parts q role) r e h = subst (λ v. is_of_leaf v a ≡ true) (some e) (in_leaf_of q true (takes_or_probes role a) a (parts_of role a) k h)
       where
         some : Some q ≡ Some r → q ≡ r

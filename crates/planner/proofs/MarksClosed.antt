@@ -9,26 +9,26 @@ use Rattle.cluster_types.specs.declared.cluster.Cluster.{Cluster}
 use Rattle.cluster_types.specs.declared.journal.Event.{Event}
 use Rattle.cluster_types.specs.declared.leaf.Role.{Role}
 use Rattle.cluster_types.specs.declared.rules.Order.{Order}
-use Rattle.cluster_types.specs.Needed.{IsClosed, OrderMayCycle, can_cycle, has_disturbing, steps_at}
+use Rattle.cluster_types.specs.Needed.{IsClosedUnderCycling, OrderMayCycle, can_cycle, has_disturbing, steps_at}
 use Rattle.cluster_types.specs.Precedence.{role_by}
 use Rattle.cluster_types.specs.Tables.{Targets, is_in_scope}
 use Rattle.cluster_types.proofs.OpLaws.{gives_one, up_of}
-use Rattle.planner.specs.Cycling.{Marks, NoneComesBack, first_marks, is_cycling, is_disturbed, may_be_marked, with_order, with_orders}
+use Rattle.planner.specs.Cycling.{MarkedCells, NoneComesBack, first_marks, is_cycling, is_disturbed, may_be_marked, with_order, with_orders}
 use Rattle.planner.proofs.OrderWords.{cycling_of}
 
 module _ (c : Cluster) (es : List Event) (targets : Targets) where
   -- what is marked stays so
-  pub stays_marked : (os : List Order) (marks : Marks) (r n : ℕ) → marks r n ≡ true → with_orders c es targets marks os r n ≡ true
+  pub stays_marked : (os : List Order) (marks : MarkedCells) (r n : ℕ) → marks r n ≡ true → with_orders c es targets marks os r n ≡ true
   stays_marked [] marks r n h = h
   stays_marked (o ∷ os) marks r n h = stays_marked os (with_order c es targets marks o) r n (or_left (marks r n) _ h)
 
   -- an order adds marks of its then alone
-  order_elsewhere : (marks : Marks) (o : Order) (r n : ℕ) → o.then_leaf ≢ r → with_order c es targets marks o r n ≡ marks r n
+  order_elsewhere : (marks : MarkedCells) (o : Order) (r n : ℕ) → o.then_leaf ≢ r → with_order c es targets marks o r n ≡ marks r n
   order_elsewhere marks o r n differ =
       let other : (r == o.then_leaf) ≡ false = ne_eqb r o.then_leaf (λ e. differ (sym e)) in
       rw other (or-false (marks r n))
 
-  pub elsewhere : (os : List Order) (marks : Marks) (r n : ℕ) → ((o : Order) → Contains os o → o.then_leaf ≢ r)
+  pub elsewhere : (os : List Order) (marks : MarkedCells) (r n : ℕ) → ((o : Order) → Contains os o → o.then_leaf ≢ r)
       → with_orders c es targets marks os r n ≡ marks r n
   elsewhere [] marks r n each = refl
   elsewhere (o ∷ os) marks r n each =
@@ -36,14 +36,14 @@ module _ (c : Cluster) (es : List Event) (targets : Targets) where
       ∙ order_elsewhere marks o r n (each o (at_head o os o refl))
 
   -- the first of the order is disturbed on some node in scope, by these marks
-  pub record Reaches (marks : Marks) (o : Order) (n : ℕ) : Type 0 where
+  pub record Reaches (marks : MarkedCells) (o : Order) (n : ℕ) : Type 0 where
     pub may : may_be_marked c es targets o n ≡ true
     pub node : ℕ
     pub within : node < length c.nodes
     pub scope : is_in_scope o n node ≡ true
     pub disturbed : is_disturbed c es targets marks o node ≡ true
 
-  marked_at_once : (marks : Marks) (o : Order) (n : ℕ) → Reaches marks o n → with_order c es targets marks o o.then_leaf n ≡ true
+  marked_at_once : (marks : MarkedCells) (o : Order) (n : ℕ) → Reaches marks o n → with_order c es targets marks o o.then_leaf n ≡ true
   marked_at_once marks o n h =
       let same : (o.then_leaf == o.then_leaf) ≡ true = eq-eqb o.then_leaf o.then_leaf refl in
       let found : list_any (λ m. is_in_scope o n m && is_disturbed c es targets marks o m) (range_with_len 0 (length c.nodes)) ≡ true
@@ -54,7 +54,7 @@ module _ (c : Cluster) (es : List Event) (targets : Targets) where
       (and_from (o.then_leaf == o.then_leaf) _ same (and_from (may_be_marked c es targets o n) _ h.may found))
 
   -- what the last marks say of the first of an order, the marks at its turn said
-  back_to : (marks : Marks) (o : Order) (os : List Order) (n : ℕ) → ((p : Order) → Contains (o ∷ os) p → p.then_leaf ≢ o.first)
+  back_to : (marks : MarkedCells) (o : Order) (os : List Order) (n : ℕ) → ((p : Order) → Contains (o ∷ os) p → p.then_leaf ≢ o.first)
       → Reaches (with_orders c es targets marks (o ∷ os)) o n → Reaches marks o n
   back_to marks o os n apart h =
       let same : with_orders c es targets marks (o ∷ os) o.first h.node ≡ marks o.first h.node
@@ -68,7 +68,7 @@ module _ (c : Cluster) (es : List Event) (targets : Targets) where
             || b && has_disturbing o.first_op (steps_at c es targets o.first h.node true)) (sym same) ∙ h.disturbed;
       }
 
-  pub all_marked : (os : List Order) (marks : Marks) → NoneComesBack os → (o : Order) (n : ℕ) → Contains os o
+  pub all_marked : (os : List Order) (marks : MarkedCells) → NoneComesBack os → (o : Order) (n : ℕ) → Contains os o
       → Reaches (with_orders c es targets marks os) o n → with_orders c es targets marks os o.then_leaf n ≡ true
   all_marked [] marks apart o n h reaches = absurd (in_none o h)
   all_marked (p ∷ os) marks apart o n h reaches = elim (head_or_rest p os o h) [
@@ -82,7 +82,7 @@ module _ (c : Cluster) (es : List Event) (targets : Targets) where
         rw (← e) (stays_marked os (with_order c es targets marks p) p.then_leaf n (marked_at_once marks p n (back_to marks p os n apart.0 own)))
 
   module _ (os : List Order) (all : (o : Order) → Contains c.orders o → is_cycling o ≡ true → Contains os o) (apart : NoneComesBack os) where
-    abbrev last_marks : Marks
+    abbrev last_marks : MarkedCells
     last_marks = with_orders c es targets (first_marks c es targets) os
 
     reached : (o : Order) (n m : ℕ) (first later : Role) → OrderMayCycle c es targets o n m first later
@@ -101,7 +101,7 @@ module _ (c : Cluster) (es : List Event) (targets : Targets) where
           disturbed = h;
         })
 
-    pub last_closed : IsClosed c es targets (λ r n. last_marks r n ≡ true)
+    pub last_closed : IsClosedUnderCycling c es targets (λ r n. last_marks r n ≡ true)
     last_closed = record {
       by_copies = λ r n lr ln can more.
           stays_marked os (first_marks c es targets) r n

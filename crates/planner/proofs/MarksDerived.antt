@@ -14,12 +14,12 @@ use Rattle.cluster_types.specs.Precedence.{role_by}
 use Rattle.cluster_types.specs.Tables.{Targets, holds_role, is_in_scope}
 use Rattle.cluster_types.specs.Terms.{active_count}
 use Rattle.cluster_types.proofs.OpLaws.{gives_by}
-use Rattle.planner.specs.Cycling.{Marks, first_marks, is_cycling, is_disturbed, is_marked_by, may_be_marked, with_order, with_orders}
+use Rattle.planner.specs.Cycling.{MarkedCells, first_marks, is_cycling, is_disturbed, is_marked_by, may_be_marked, with_order, with_orders}
 use Rattle.planner.proofs.OrderWords.{Cycles, cycles_of}
 
 module _ (c : Cluster) (es : List Event) (targets : Targets) where
   -- all that is marked is cycled
-  abbrev pub AllCycled : Marks → Type 0
+  abbrev pub AllCycled : MarkedCells → Type 0
   AllCycled marks = (r n : ℕ) → marks r n ≡ true → Cycled c es targets r n
 
   pub first_cycled : AllCycled (first_marks c es targets)
@@ -32,7 +32,7 @@ module _ (c : Cluster) (es : List Event) (targets : Targets) where
       by_copies r n (ltb-true _ _ (sooner lr ln two)) (ltb-true _ _ (later lr ln two)) (later (lr && ln) can three)
       (later (lr && ln && can) (nat_lt (copies c r) (active_count c es r)) h)
 
-  module _ (marks : Marks) (so_far : AllCycled marks) (o : Order) (among : Contains c.orders o) (cycling : is_cycling o ≡ true) where
+  module _ (marks : MarkedCells) (so_far : AllCycled marks) (o : Order) (among : Contains c.orders o) (cycling : is_cycling o ≡ true) where
     may_cycle : (n m : ℕ) → may_be_marked c es targets o n ≡ true → m < length c.nodes → is_in_scope o n m ≡ true
         → OrderMayCycle c es targets o n m (role_by o.first_op) (role_by o.then_op)
     may_cycle n m h lt scope =
@@ -88,7 +88,7 @@ module _ (c : Cluster) (es : List Event) (targets : Targets) where
     ]
 
   -- whatever orders come, and in whatever order
-  pub orders_cycled : (os : List Order) → ((o : Order) → Contains os o → Contains c.orders o × (is_cycling o ≡ true)) → (marks : Marks)
+  pub orders_cycled : (os : List Order) → ((o : Order) → Contains os o → Contains c.orders o × (is_cycling o ≡ true)) → (marks : MarkedCells)
       → AllCycled marks → AllCycled (with_orders c es targets marks os)
   orders_cycled [] each marks so_far = so_far
   orders_cycled (o ∷ os) each marks so_far =

@@ -9,7 +9,7 @@ use Rattle.cluster_types.specs.declared.cluster.Cluster.{Cluster}
 use Rattle.cluster_types.specs.declared.journal.Event.{Event}
 use Rattle.cluster_types.specs.declared.journal.Promotion.{Promotion}
 use Rattle.cluster_types.specs.NodeStates.{is_online}
-use Rattle.planner.specs.declared.report.Loss.{Loss}
+use Rattle.cluster_types.specs.declared.report.Loss.{Loss}
 use Rattle.planner.specs.Losses.{AreLosses, IsLoss}
 
 module _ (c : Cluster) (es : List Event) (ps : List Promotion) where

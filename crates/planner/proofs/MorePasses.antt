@@ -7,7 +7,7 @@ use Rattle.cluster_types.specs.declared.cluster.Cluster.{Cluster}
 use Rattle.cluster_types.specs.declared.journal.Event.{Event}
 use Rattle.cluster_types.specs.declared.rules.Order.{Order}
 use Rattle.cluster_types.specs.Tables.{Targets}
-use Rattle.planner.specs.Cycling.{Marks, with_order, with_orders}
+use Rattle.planner.specs.Cycling.{MarkedCells, with_order, with_orders}
 use Rattle.planner.specs.Levels.{at_level, below_level}
 use Rattle.planner.proofs.FallingLevels.{orders_joined}
 
@@ -29,22 +29,22 @@ filter_one_more p xs i x lt is passes =
 
 module _ (c : Cluster) (es : List Event) (targets : Targets) where
   -- one order more
-  pub orders_more : (p : Order → Bool) (xs : List Order) (i : ℕ) (o : Order) (first before after : Marks) → i < length xs
+  pub orders_more : (p : Order → Bool) (xs : List Order) (i : ℕ) (o : Order) (first before after : MarkedCells) → i < length xs
       → o ≡ slice_index_or xs i o → p o ≡ true
       → before ≡ with_orders c es targets first (filter p (take i xs))
       → after ≡ with_order c es targets before o
       → after ≡ with_orders c es targets first (filter p (take (i + 1) xs))
   orders_more p xs i o first before after lt is passes was step =
-      step ∙ ap (λ (m : Marks). with_order c es targets m o) was
+      step ∙ ap (λ (m : MarkedCells). with_order c es targets m o) was
       ∙ sym (orders_joined c es targets (filter p (take i xs)) (o ∷ []) first)
       ∙ ap (with_orders c es targets first) (sym (filter_one_more p xs i o lt is passes))
 
   -- one rank less
-  pub levels_less : (left k : ℕ) (before after last : Marks) → left ≡ suc k → after ≡ with_orders c es targets before (at_level c k)
+  pub levels_less : (left k : ℕ) (before after last : MarkedCells) → left ≡ suc k → after ≡ with_orders c es targets before (at_level c k)
       → with_orders c es targets before (below_level c left) ≡ last
       → with_orders c es targets after (below_level c k) ≡ last
   levels_less left k before after last e step was =
-      ap (λ (m : Marks). with_orders c es targets m (below_level c k)) step
+      ap (λ (m : MarkedCells). with_orders c es targets m (below_level c k)) step
       ∙ sym (orders_joined c es targets (at_level c k) (below_level c k) before)
       ∙ ap (λ j. with_orders c es targets before (below_level c j)) (sym e)
       ∙ was

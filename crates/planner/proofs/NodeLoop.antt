@@ -4,12 +4,12 @@ use Rattle.std.proofs.lemmas.Bool.{eqb-true}
 use Rattle.std.proofs.lemmas.List.Elements.{All-contains, All-from_get_or, Contains-get_or}
 use Rattle.std.proofs.lemmas.List.Sums.{count_by-le-length, length-filter, sum_by-cons}
 use Rattle.cluster_types.specs.declared.cluster.Cluster.{Cluster}
-use Rattle.cluster_types.specs.declared.edges.Edge.{Edge}
+use Rattle.edges.specs.declared.edge.Edge.{Edge}
 use Rattle.cluster_types.specs.declared.journal.Action.{Action}
 use Rattle.cluster_types.specs.declared.rules.Order.{Order}
-use Rattle.planner.specs.Chains.{IsChained, IsChainedSomewhere, changes_at, is_at, node_at, node_places}
-use Rattle.planner.specs.Groups.{Adds}
-use Rattle.planner.specs.Rooms.{IsWithin}
+use Rattle.planner.specs.Chains.{IsChained, IsChainedSomewhere, changes_at, is_at, changed_node_at, node_places}
+use Rattle.planner.specs.Groups.{AddsGroup}
+use Rattle.planner.specs.Rooms.{IsActionWithin}
 use Rattle.planner.proofs.Adding.{adds_after, adds_none, adds_says}
 use Rattle.planner.proofs.BucketsMore.{node_within}
 use Rattle.lemmas.proofs.Members.{of_filter}
@@ -21,26 +21,26 @@ bucket_within actions places m bucket is within =
     subst (λ v. All (λ place. place < length actions) v) (sym is)
     (All-from_get_or (λ place. place < length actions) (node_places actions m places) 0
     (λ i l. All-contains (λ place. place < length actions) places _ within
-    (of_filter (λ i. is_at m (node_at actions i)) places _ (Contains-get_or (node_places actions m places) i 0 l)).among))
+    (of_filter (λ i. is_at m (changed_node_at actions i)) places _ (Contains-get_or (node_places actions m places) i 0 l)).among))
 
 module _ (actions : List Action) (o : Order) (places : List ℕ) where
   abbrev below : ℕ → ℕ
-  below m = count_by (λ i. is_below m (node_at actions i)) places
+  below m = count_by (λ i. is_below m (changed_node_at actions i)) places
 
-  counted : (m : ℕ) (xs : List ℕ) → count_by (λ i. is_below m (node_at actions i)) xs + count_by (λ i. is_at m (node_at actions i)) xs
-      ≡ count_by (λ i. is_below (m + 1) (node_at actions i)) xs
+  counted : (m : ℕ) (xs : List ℕ) → count_by (λ i. is_below m (changed_node_at actions i)) xs + count_by (λ i. is_at m (changed_node_at actions i)) xs
+      ≡ count_by (λ i. is_below (m + 1) (changed_node_at actions i)) xs
   counted m [] = refl
   counted m (x ∷ xs) =
-      let a = sum_by-cons (λ i. cond {A = ℕ} (is_below m (node_at actions i)) 1 0) x xs in
-      let b = sum_by-cons (λ i. cond {A = ℕ} (is_at m (node_at actions i)) 1 0) x xs in
-      let d = sum_by-cons (λ i. cond {A = ℕ} (is_below (m + 1) (node_at actions i)) 1 0) x xs in
-      let e = one_more_below m (node_at actions x) in
+      let a = sum_by-cons (λ i. cond {A = ℕ} (is_below m (changed_node_at actions i)) 1 0) x xs in
+      let b = sum_by-cons (λ i. cond {A = ℕ} (is_at m (changed_node_at actions i)) 1 0) x xs in
+      let d = sum_by-cons (λ i. cond {A = ℕ} (is_below (m + 1) (changed_node_at actions i)) 1 0) x xs in
+      let e = one_more_below m (changed_node_at actions x) in
       let f = counted m xs in
       omega arith
 
   next_below : (m : ℕ) → below m + length (node_places actions m places) ≡ below (m + 1)
   next_below m =
-      let a = length-filter (λ i. is_at m (node_at actions i)) places in
+      let a = length-filter (λ i. is_at m (changed_node_at actions i)) places in
       let b = counted m places in
       omega arith
 
@@ -48,11 +48,11 @@ module _ (actions : List Action) (o : Order) (places : List ℕ) where
   none_below (Some n) = grind arith
   none_below None = refl
 
-  no_count : (xs : List ℕ) → count_by (λ i. is_below 0 (node_at actions i)) xs ≡ 0
+  no_count : (xs : List ℕ) → count_by (λ i. is_below 0 (changed_node_at actions i)) xs ≡ 0
   no_count [] = refl
   no_count (x ∷ xs) =
-      let a = sum_by-cons (λ i. cond {A = ℕ} (is_below 0 (node_at actions i)) 1 0) x xs in
-      let b : cond {A = ℕ} (is_below 0 (node_at actions x)) 1 0 ≡ 0 = ap (λ v. cond {A = ℕ} v 1 0) (none_below (node_at actions x)) in
+      let a = sum_by-cons (λ i. cond {A = ℕ} (is_below 0 (changed_node_at actions i)) 1 0) x xs in
+      let b : cond {A = ℕ} (is_below 0 (changed_node_at actions x)) 1 0 ≡ 0 = ap (λ v. cond {A = ℕ} v 1 0) (none_below (changed_node_at actions x)) in
       let d = no_count xs in
       omega arith
 
@@ -62,7 +62,7 @@ module _ (actions : List Action) (o : Order) (places : List ℕ) where
 
   -- what the loop keeps
   pub record Locals (old now : List Edge) (from base m : ℕ) : Type 0 where
-    pub adds : Adds (length actions) old now from base (3 * below m) (ChainedBelow m)
+    pub adds : AddsGroup (length actions) old now from base (3 * below m) (ChainedBelow m)
     pub room : base ≤ from + 2 * (below m + m)
 
   pub locals_none : (list : List Edge) (from : ℕ) → length actions ≤ from → Locals list list from from 0
@@ -74,23 +74,23 @@ module _ (actions : List Action) (o : Order) (places : List ℕ) where
   }
 
   module _ (local : o.local ≡ true) where
-    local_by : (r m i : ℕ) → changes_at actions r o.local m i ≡ true → is_at m (node_at actions i) ≡ true
+    local_by : (r m i : ℕ) → changes_at actions r o.local m i ≡ true → is_at m (changed_node_at actions i) ≡ true
     local_by r m i h = changes_node actions r m i (subst (λ b. changes_at actions r b m i ≡ true) local h)
 
     bucket_only : (m x y : ℕ) → IsChained actions o (node_places actions m places) m x y → IsChained actions o places m x y
-    bucket_only m x y (inl h) = inl (chain_in_all (λ i. is_at m (node_at actions i)) x y _ _ places h)
-    bucket_only m x y (inr h) = inr (chain_in_all (λ i. is_at m (node_at actions i)) x y _ _ places h)
+    bucket_only m x y (inl h) = inl (chain_in_all (λ i. is_at m (changed_node_at actions i)) x y _ _ places h)
+    bucket_only m x y (inr h) = inr (chain_in_all (λ i. is_at m (changed_node_at actions i)) x y _ _ places h)
 
     bucket_all : (m x y : ℕ) → IsChained actions o places m x y → IsChained actions o (node_places actions m places) m x y
-    bucket_all m x y (inl h) = inl (chain_in_some (λ i. is_at m (node_at actions i)) x y _ _ places (local_by o.first m) (local_by o.then_leaf m) h)
-    bucket_all m x y (inr h) = inr (chain_in_some (λ i. is_at m (node_at actions i)) x y _ _ places (local_by o.then_leaf m) (local_by o.first m) h)
+    bucket_all m x y (inl h) = inl (chain_in_some (λ i. is_at m (changed_node_at actions i)) x y _ _ places (local_by o.first m) (local_by o.then_leaf m) h)
+    bucket_all m x y (inr h) = inr (chain_in_some (λ i. is_at m (changed_node_at actions i)) x y _ _ places (local_by o.then_leaf m) (local_by o.first m) h)
 
     pub locals_more : (old now new : List Edge) (from base upto m : ℕ) (bucket : List ℕ) → Locals old now from base m → bucket ≡ node_places actions m places
-        → Adds (length actions) now new base upto (3 * length bucket) (IsChained actions o bucket m) → upto ≤ base + 2 * (length bucket + 1) → Locals old new from upto (m + 1)
+        → AddsGroup (length actions) now new base upto (3 * length bucket) (IsChained actions o bucket m) → upto ≤ base + 2 * (length bucket + 1) → Locals old new from upto (m + 1)
     locals_more old now new from base upto m bucket h is more room =
         let long : length bucket ≡ length (node_places actions m places) = ap length is in
         let next = next_below m in
-        let here = subst (λ v. Adds (length actions) now new base upto (3 * length bucket) (IsChained actions o v m)) is more in
+        let here = subst (λ v. AddsGroup (length actions) now new base upto (3 * length bucket) (IsChained actions o v m)) is more in
         record {
           adds =
               adds_says (length actions) old new from upto (3 * below m + 3 * length bucket) (3 * below (m + 1))
@@ -113,36 +113,36 @@ module _ (actions : List Action) (o : Order) (places : List ℕ) where
         split : (x y : ℕ) → ChainedBelow (m + 1) x y → ChainedBelow m x y ⊎ IsChained actions o (node_places actions m places) m x y
         split x y (k, less, c) = at k x y less (k == m) refl c
 
-    module _ (c : Cluster) (inside : (a : Action) → Contains actions a → IsWithin c a) where
+    module _ (c : Cluster) (inside : (a : Action) → Contains actions a → IsActionWithin c a) where
       at_is : (m : ℕ) (v : Option ℕ) → is_at m v ≡ true → Some m ≡ v
       at_is m (Some n) h = ap Some (sym (eqb-true n m h))
       at_is m None h = cc
 
       node_less : (r m x : ℕ) → x < length actions → changes_at actions r o.local m x ≡ true → m < length c.nodes
-      node_less r m x l h = node_within c actions inside x (Some m) l (at_is m (node_at actions x) (local_by r m x h))
+      node_less r m x l h = node_within c actions inside x (Some m) l (at_is m (changed_node_at actions x) (local_by r m x h))
 
       chained_less : (m x y : ℕ) → x < length actions → IsChained actions o places m x y → m < length c.nodes
       chained_less m x y l (inl h) = node_less o.first m x l h.first
       chained_less m x y l (inr h) = node_less o.then_leaf m x l h.first
 
       pub locals_all : (old now : List Edge) (from base : ℕ) → Locals old now from base (length c.nodes)
-          → Adds (length actions) old now from base (3 * length places) (IsChainedSomewhere actions o places)
+          → AddsGroup (length actions) old now from base (3 * length places) (IsChainedSomewhere actions o places)
       locals_all old now from base h =
-          let most = count_by-le-length (λ i. is_below (length c.nodes) (node_at actions i)) places in
+          let most = count_by-le-length (λ i. is_below (length c.nodes) (changed_node_at actions i)) places in
           adds_says (length actions) old now from base (3 * below (length c.nodes)) (3 * length places) (ChainedBelow (length c.nodes))
           (IsChainedSomewhere actions o places) (λ x y l k q. let (m, less, p) = q in (m, p)) (λ x y l k q. let (m, p) = q in (m, chained_less m x y l p, p))
           (omega arith) h.adds
 
       pub locals_room : (old now : List Edge) (from base : ℕ) → Locals old now from base (length c.nodes) → base ≤ from + 2 * (length places + length c.nodes)
       locals_room old now from base h =
-          let most = count_by-le-length (λ i. is_below (length c.nodes) (node_at actions i)) places in
+          let most = count_by-le-length (λ i. is_below (length c.nodes) (changed_node_at actions i)) places in
           let r = h.room in
           omega arith
 
   pub locals_fit : (old now : List Edge) (from base m : ℕ) → Locals old now from base m → base + 2 * (length (node_places actions m places) + 1)
       ≤ from + 2 * (length places + (m + 1))
   locals_fit old now from base m h =
-      let most = count_by-le-length (λ i. is_below (m + 1) (node_at actions i)) places in
+      let most = count_by-le-length (λ i. is_below (m + 1) (changed_node_at actions i)) places in
       let next = next_below m in
       let r = h.room in
       omega arith
@@ -155,8 +155,8 @@ module _ (actions : List Action) (o : Order) (places : List ℕ) where
     zero_chained m x y (inl h) = zero_by o.first m x h.first
     zero_chained m x y (inr h) = zero_by o.then_leaf m x h.first
 
-    pub together_all : (old now : List Edge) (from base most : ℕ) → Adds (length actions) old now from base most (IsChained actions o places 0)
-        → Adds (length actions) old now from base most (IsChainedSomewhere actions o places)
+    pub together_all : (old now : List Edge) (from base most : ℕ) → AddsGroup (length actions) old now from base most (IsChained actions o places 0)
+        → AddsGroup (length actions) old now from base most (IsChainedSomewhere actions o places)
     together_all old now from base most h =
         adds_says (length actions) old now from base most most (IsChained actions o places 0) (IsChainedSomewhere actions o places) (λ x y l k q. (0, q))
         (λ x y l k q. let (m, p) = q in subst (λ n. IsChained actions o places n x y) (zero_chained m x y p) p) (omega arith) h

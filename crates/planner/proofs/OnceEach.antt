@@ -19,10 +19,10 @@ use Rattle.cluster_types.specs.declared.states.NodeState.{NodeState}
 use Rattle.cluster_types.specs.Fields.{monitors}
 use Rattle.cluster_types.specs.Needed.{steps_of}
 use Rattle.cluster_types.specs.Pins.{is_unprobed_state}
-use Rattle.planner.specs.Actions.{all_fences, cell_actions, fences_in, free_leaf_actions, has_op, is_elsewhere, is_filled, is_unclean_in, is_wanted, leaf_actions, leaves_actions, migrations_of, migrations_to, monitor_action, monitors_in, probes_in, source_of, stays_needed, step_action, steps_in, wanted}
-use Rattle.planner.specs.Cycling.{Marks}
+use Rattle.planner.specs.Actions.{all_fences, cell_actions, fences_in, free_leaf_actions, includes_op, is_elsewhere, is_filled, is_unclean_in, is_wanted, leaf_actions, leaves_actions, migrations_of, migrations_to, leaf_monitor, monitors_in, probes_in, migration_source, stays_needed, step_action, steps_in, wanted}
+use Rattle.planner.specs.Cycling.{MarkedCells}
 use Rattle.planner.specs.Levels.{steps_by}
-use Rattle.planner.specs.declared.steps.CellNeed.{CellNeed}
+use Rattle.planner.specs.declared.needed.steps.CellNeed.{CellNeed}
 use Rattle.planner.proofs.Conditions.{of_if, of_one}
 use Rattle.planner.proofs.PairsApart.{no_pairs, pair_more, pairs_if, pairs_joined, pairs_mapped, pairs_of_range, pairs_unless}
 
@@ -69,7 +69,7 @@ abbrev four : List Op
 four = op.Demote ∷ op.Stop ∷ op.Start ∷ op.Promote ∷ []
 
 abbrev among_four : List Op → List Op
-among_four steps = filter (λ o. has_op o steps) four
+among_four steps = filter (λ o. includes_op o steps) four
 
 in_order : (s : CellState) (t : Target) (b : Bool) → steps_of s t b ≡ among_four (steps_of s t b)
 in_order cell.Unprobed target.Nowhere b = refl
@@ -130,7 +130,7 @@ steps_apart : (w : CellNeed) (b : Bool) → AllPairs (λ (x y : Op). x ≢ y) (s
 steps_apart w b =
     pairs_unless (λ (x y : Op). x ≢ y) w.pinned (steps_of w.state w.target b)
     (rw (← in_order w.state w.target b) at
-    (AllPairs-filter (λ (x y : Op). x ≢ y) (λ o. has_op o (steps_of w.state w.target b)) four four_apart))
+    (AllPairs-filter (λ (x y : Op). x ≢ y) (λ o. includes_op o (steps_of w.state w.target b)) four four_apart))
 
 steps_change : (w : CellNeed) (b : Bool) (o : Op) → Contains (steps_by w b) o → o ≢ op.Monitor
 steps_change w b o h = on w.pinned h where
@@ -138,7 +138,7 @@ steps_change w b o h = on w.pinned h where
   on true k = absurd (in_none o k)
   on false k =
       let k' : Contains (among_four (steps_of w.state w.target b)) o = subst (λ (os : List Op). Contains os o) (in_order w.state w.target b) k in
-      four_change o (of_filter (λ p. has_op p (steps_of w.state w.target b)) four o k').among
+      four_change o (of_filter (λ p. includes_op p (steps_of w.state w.target b)) four o k').among
 
 sort_of_step : (o : Op) (r n : ℕ) → o ≢ op.Monitor → sort_of (step_action r n o) ≡ 2
 sort_of_step op.Start r n d = refl
@@ -176,12 +176,12 @@ record IsOf (a : Action) (sort leaf node : ℕ) : Type 0 where
 kinds_differ : (a b : Action) (s t : ℕ) → sort_of a ≡ s → sort_of b ≡ t → s < t → a ≢ b
 kinds_differ a b s t e f lt same = let g : sort_of a ≡ sort_of b = ap sort_of same in let h : ⊥ = omega arith in h
 
-module _ (c : Cluster) (need : ℕ → ℕ → CellNeed) (marked : Marks) (source : Option ℕ) (r n : ℕ) where
+module _ (c : Cluster) (need : ℕ → ℕ → CellNeed) (marked : MarkedCells) (source : Option ℕ) (r n : ℕ) where
   abbrev steps_listed : List Action
   steps_listed = map (step_action r n) (filter (stays_needed (is_elsewhere source n)) (steps_in need marked r n))
 
   abbrev watches_listed : List Action
-  watches_listed = map (monitor_action r n) (monitors_in c need marked r n)
+  watches_listed = map (leaf_monitor r n) (monitors_in c need marked r n)
 
   of_probes : (a : Action) → Contains (probes_in need r n) a → IsOf a 1 r n
   of_probes a h =
@@ -200,7 +200,7 @@ module _ (c : Cluster) (need : ℕ → ℕ → CellNeed) (marked : Marks) (sourc
 
   of_watches : (a : Action) → Contains watches_listed a → IsOf a 3 r n
   of_watches a h =
-      let m = of_map (monitor_action r n) (monitors_in c need marked r n) a h in
+      let m = of_map (leaf_monitor r n) (monitors_in c need marked r n) a h in
       record { kind = ap sort_of (sym m.gives); leaf_is = ap leaf_of (sym m.gives); node_is = ap node_of (sym m.gives) }
 
   -- of each action of a cell
@@ -239,18 +239,18 @@ module _ (c : Cluster) (need : ℕ → ℕ → CellNeed) (marked : Marks) (sourc
 
       watches : AllPairs Differ watches_listed
       watches =
-          pairs_mapped (λ (one other : MonitorOf). one.interval_ms ≢ other.interval_ms) Differ (monitor_action r n) (λ x y d e. d (ap interval_of e))
+          pairs_mapped (λ (one other : MonitorOf). one.interval_ms ≢ other.interval_ms) Differ (leaf_monitor r n) (λ x y d e. d (ap interval_of e))
           (monitors_in c need marked r n)
           (pairs_unless (λ (one other : MonitorOf). one.interval_ms ≢ other.interval_ms) (need r n).pinned _
           (wanted_apart (λ (one other : MonitorOf). one.interval_ms ≢ other.interval_ms) (need r n).target (is_filled (steps_in need marked r n))
           (need r n).running (monitors c r) watched))
 
-module _ (c : Cluster) (need : ℕ → ℕ → CellNeed) (marked : Marks)
+module _ (c : Cluster) (need : ℕ → ℕ → CellNeed) (marked : MarkedCells)
     (watched : (r : ℕ) → AllPairs (λ (one other : MonitorOf). one.interval_ms ≢ other.interval_ms) (monitors c r)) where
   move_of : (r n m : ℕ) (a : Action) → Contains (migrations_to need marked r n m) a → IsOf a 4 r m
   move_of r n m a h =
       elim (head_or_rest (MigrateTo r n m) (MigrateFrom r n m ∷ []) a
-      (of_if (not (n == m) && has_op op.Start (steps_in need marked r m)) (MigrateTo r n m ∷ MigrateFrom r n m ∷ []) a h).among) [
+      (of_if (not (n == m) && includes_op op.Start (steps_in need marked r m)) (MigrateTo r n m ∷ MigrateFrom r n m ∷ []) a h).among) [
         | inl e ↦ record { kind = ap sort_of (sym e); leaf_is = ap leaf_of (sym e); node_is = ap node_of (sym e) }
         | inr k ↦
             let e : MigrateFrom r n m ≡ a = of_one (MigrateFrom r n m) a k in
@@ -259,7 +259,7 @@ module _ (c : Cluster) (need : ℕ → ℕ → CellNeed) (marked : Marks)
 
   moves_apart : (r n m : ℕ) → AllPairs Differ (migrations_to need marked r n m)
   moves_apart r n m =
-      pairs_if Differ (not (n == m) && has_op op.Start (steps_in need marked r m)) (MigrateTo r n m ∷ MigrateFrom r n m ∷ [])
+      pairs_if Differ (not (n == m) && includes_op op.Start (steps_in need marked r m)) (MigrateTo r n m ∷ MigrateFrom r n m ∷ [])
       (pair_more Differ (MigrateTo r n m) (MigrateFrom r n m ∷ []) (λ y k e. let s : MigrateFrom r n m ≡ y = of_one (MigrateFrom r n m) y k in cc)
       (one_alone (MigrateFrom r n m)))
 
@@ -307,13 +307,13 @@ module _ (c : Cluster) (need : ℕ → ℕ → CellNeed) (marked : Marks)
   module _ (free : ℕ → Bool) where
     leaves_apart : AllPairs Differ (leaves_actions c need marked free)
     leaves_apart =
-        pairs_of_range (λ r. free_leaf_actions c need marked (free r) r) leaf_of (λ r a h. (of_leaf (source_of c need marked (free r) r) r a h).1)
-        (λ r. leaf_apart (source_of c need marked (free r) r) r) 0 (length c.leaves)
+        pairs_of_range (λ r. free_leaf_actions c need marked (free r) r) leaf_of (λ r a h. (of_leaf (migration_source c need marked (free r) r) r a h).1)
+        (λ r. leaf_apart (migration_source c need marked (free r) r) r) 0 (length c.leaves)
 
     of_leaves : (a : Action) → Contains (leaves_actions c need marked free) a → 0 < sort_of a
     of_leaves a h =
         let f = of_flat (λ r. free_leaf_actions c need marked (free r) r) (range_with_len 0 (length c.leaves)) a h in
-        (of_leaf (source_of c need marked (free f.source) f.source) f.source a f.gives).0
+        (of_leaf (migration_source c need marked (free f.source) f.source) f.source a f.gives).0
 
     module _ (may_fence : Bool) (states : List NodeState) where
       of_fence : (n : ℕ) (a : Action) → Contains (fences_in may_fence states n) a → IsOf a 0 0 n

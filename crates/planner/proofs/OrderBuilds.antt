@@ -2,11 +2,11 @@
 use Rattle.std.proofs.Common.{arith, ◌≡◌, ◌<◌, ◌≤◌, ◌+◌, ◌*◌, ◌++◌, ◌&&◌, if◌then◌else◌, ℕ, Bool, true, false, List, [], ◌∷◌, length, refl, sym, ap, subst, ◌∙◌}
 use Rattle.std.proofs.lemmas.List.{append_assoc}
 use Rattle.cluster_types.specs.declared.cluster.Cluster.{Cluster}
-use Rattle.cluster_types.specs.declared.edges.Edge.{Edge}
+use Rattle.edges.specs.declared.edge.Edge.{Edge}
 use Rattle.cluster_types.specs.declared.journal.Action.{Action}
 use Rattle.cluster_types.specs.declared.rules.Order.{Order}
 use Rattle.cluster_types.specs.Precedence.{is_serialize, is_up}
-use Rattle.planner.specs.declared.sides.Join.{Join}
+use Rattle.planner.specs.declared.precedence.sides.Join.{Join}
 use Rattle.planner.specs.Gates.{join_edges, key_at}
 use Rattle.planner.specs.Index.{IsIndex, places_in}
 use Rattle.planner.specs.Joins.{inverse_join, order_joins, own_join, takers_join, turned_join}

@@ -19,9 +19,9 @@ use Rattle.cluster_types.specs.Precedence.{role_by}
 use Rattle.cluster_types.specs.Tables.{Targets, holds_role, is_in_scope, target_holds}
 use Rattle.cluster_types.proofs.TableCells.{by_target}
 use Rattle.planner.specs.ByNeeds as by_needs
-use Rattle.planner.specs.Cycling.{Marks, is_disturbed, is_marked_by, with_order}
+use Rattle.planner.specs.Cycling.{MarkedCells, is_disturbed, is_marked_by, with_order}
 use Rattle.planner.specs.Levels.{AreNeeds, marks_in, steps_by}
-use Rattle.planner.specs.declared.steps.CellNeed.{CellNeed}
+use Rattle.planner.specs.declared.needed.steps.CellNeed.{CellNeed}
 
 any_flag : (p : ℕ → Bool) (xs : List ℕ) → list_any (λ b. b) (map p xs) ≡ list_any p xs
 any_flag p [] = refl
@@ -46,11 +46,11 @@ any_one p nodes n lt = on (p n) refl where
       none (list_any (λ m. n == m && p m) (range_with_len 0 nodes)) refl h ∙ sym h
 
 module _ (c : Cluster) (es : List Event) (targets : Targets) (needs : List CellNeed) (are : AreNeeds c es targets needs)
-    (marks : Marks) (o : Order) (ordered : OrdersSteps c o) where
+    (marks : MarkedCells) (o : Order) (ordered : OrdersSteps c o) where
   abbrev flags : List Bool
-  flags = map (by_needs.is_disturbed (length c.nodes) needs marks o) (range_with_len 0 (length c.nodes))
+  flags = map (by_needs.is_disturbed_by_needs (length c.nodes) needs marks o) (range_with_len 0 (length c.nodes))
 
-  disturbed_alike : (m : ℕ) → m < length c.nodes → by_needs.is_disturbed (length c.nodes) needs marks o m ≡ is_disturbed c es targets marks o m
+  disturbed_alike : (m : ℕ) → m < length c.nodes → by_needs.is_disturbed_by_needs (length c.nodes) needs marks o m ≡ is_disturbed c es targets marks o m
   disturbed_alike m lt =
       ap (λ (need : CellNeed). has_disturbing o.first_op (steps_by need false) || marks o.first m && has_disturbing o.first_op (steps_by need true))
       (are o.first m ordered.first lt)
@@ -59,12 +59,12 @@ module _ (c : Cluster) (es : List Event) (targets : Targets) (needs : List CellN
       → (if local then slice_index_or flags n false else list_any (λ b. b) flags)
       ≡ list_any (λ m. (not local || n == m) && is_disturbed c es targets marks o m) (range_with_len 0 (length c.nodes))
   scoped n true lt =
-      get_or-map-range_with_len (by_needs.is_disturbed (length c.nodes) needs marks o) 0 (length c.nodes) n n false lt (omega arith)
+      get_or-map-range_with_len (by_needs.is_disturbed_by_needs (length c.nodes) needs marks o) 0 (length c.nodes) n n false lt (omega arith)
       ∙ disturbed_alike n lt
       ∙ sym (any_one (is_disturbed c es targets marks o) (length c.nodes) n lt)
   scoped n false lt =
-      any_flag (by_needs.is_disturbed (length c.nodes) needs marks o) (range_with_len 0 (length c.nodes))
-      ∙ any-same (by_needs.is_disturbed (length c.nodes) needs marks o) (is_disturbed c es targets marks o) (length c.nodes) disturbed_alike
+      any_flag (by_needs.is_disturbed_by_needs (length c.nodes) needs marks o) (range_with_len 0 (length c.nodes))
+      ∙ any-same (by_needs.is_disturbed_by_needs (length c.nodes) needs marks o) (is_disturbed c es targets marks o) (length c.nodes) disturbed_alike
 
   marked_alike : (n : ℕ) → n < length c.nodes
       → by_needs.is_marked_on (length c.nodes) needs o flags (list_any (λ b. b) flags) n ≡ is_marked_by c es targets marks o n
@@ -93,7 +93,7 @@ module _ (c : Cluster) (es : List Event) (targets : Targets) (needs : List CellN
         && list_any (λ m. is_in_scope o n m && is_disturbed c es targets marks o m) (range_with_len 0 (length c.nodes))) (sym out)
   ]
 
-  pub order_marked : (after : Marks)
+  pub order_marked : (after : MarkedCells)
       → ((r n : ℕ) → after r n ≡ (marks r n || r == o.then_leaf
       && slice_index_or (map (by_needs.is_marked_on (length c.nodes) needs o flags (list_any (λ b. b) flags)) (range_with_len 0 (length c.nodes))) n false))
       → after ≡ with_order c es targets marks o
@@ -102,8 +102,8 @@ module _ (c : Cluster) (es : List Event) (targets : Targets) (needs : List CellN
 
 -- with the flags as they were made
 module _ (c : Cluster) (es : List Event) (targets : Targets) (needs : List CellNeed) (are : AreNeeds c es targets needs)
-    (o : Order) (ordered : OrdersSteps c o) (cells dist made : List Bool) (after : Marks) where
-  on_nodes : dist ≡ map (by_needs.is_disturbed (length c.nodes) needs (marks_in (length c.nodes) cells) o) (range_with_len 0 (length c.nodes))
+    (o : Order) (ordered : OrdersSteps c o) (cells dist made : List Bool) (after : MarkedCells) where
+  on_nodes : dist ≡ map (by_needs.is_disturbed_by_needs (length c.nodes) needs (marks_in (length c.nodes) cells) o) (range_with_len 0 (length c.nodes))
       → made ≡ map (by_needs.is_marked_on (length c.nodes) needs o dist (list_any (λ b. b) dist)) (range_with_len 0 (length c.nodes))
       → ((r n : ℕ) → after r n ≡ (marks_in (length c.nodes) cells r n || r == o.then_leaf && slice_index_or made n false))
       → after ≡ with_order c es targets (marks_in (length c.nodes) cells) o
@@ -114,7 +114,7 @@ module _ (c : Cluster) (es : List Event) (targets : Targets) (needs : List CellN
       (m ∙ ap (λ ds. map (by_needs.is_marked_on (length c.nodes) needs o ds (list_any (λ b. b) ds)) (range_with_len 0 (length c.nodes))) d))
 
   pub marked_by_order : (nodes : ℕ) → nodes ≡ length c.nodes
-      → dist ≡ map (by_needs.is_disturbed nodes needs (marks_in nodes cells) o) (range_with_len 0 nodes)
+      → dist ≡ map (by_needs.is_disturbed_by_needs nodes needs (marks_in nodes cells) o) (range_with_len 0 nodes)
       → made ≡ map (by_needs.is_marked_on nodes needs o dist (list_any (λ b. b) dist)) (range_with_len 0 nodes)
       → ((r n : ℕ) → after r n ≡ (marks_in nodes cells r n || r == o.then_leaf && slice_index_or made n false))
       → after ≡ with_order c es targets (marks_in nodes cells) o

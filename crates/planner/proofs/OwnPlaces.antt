@@ -14,12 +14,12 @@ use Rattle.cluster_types.specs.declared.leaf.Role.TheVariants as role
 use Rattle.cluster_types.specs.declared.placement.Placed.{Placed}
 use Rattle.cluster_types.specs.Fields.{is_promotable, monitors}
 use Rattle.cluster_types.specs.Needed.{FirstSet, GetsStep, Needed, fence, kept, monitor, probe, sent, step, taken_in}
-use Rattle.cluster_types.specs.Numbers.{Place, link, place_of, rank, step_of}
+use Rattle.cluster_types.specs.Numbers.{Place, link, action_place, rank, step_of}
 use Rattle.cluster_types.specs.Plans.{IsPlaced}
 use Rattle.cluster_types.specs.Precedence.{is_migrating}
 use Rattle.cluster_types.specs.Tables.{Targets, targets_of}
 use Rattle.cluster_types.specs.Valid.{IsValid}
-use Rattle.planner.specs.Leaves.{leaf_of}
+use Rattle.planner.specs.Leaves.{action_leaf}
 use Rattle.plan_laws.proofs.CellSteps.{is_step}
 use Rattle.plan_laws.proofs.Links.{link_of_leaf}
 use Rattle.plan_laws.proofs.LowerNumbers.{promotable_target}
@@ -55,7 +55,7 @@ more_apart : (x y : ℕ) → y < x → x ≡ y → ⊥
 more_apart x y l e = omega arith
 
 module _ (c : Cluster) (actions : List Action) where
-  leaf_at : (x : Action) → (place_of c actions x).leaf ≡ leaf_of x
+  leaf_at : (x : Action) → (action_place c actions x).leaf ≡ action_leaf x
   leaf_at (Fence n) = refl
   leaf_at (Probe r n) = refl
   leaf_at (Cell op.Start r n i role) = refl
@@ -70,7 +70,7 @@ module _ (c : Cluster) (actions : List Action) where
   leaf_at (MigrateTo r s t) = refl
   leaf_at (MigrateFrom r s t) = refl
 
-  node_at : (x : Action) → (place_of c actions x).node ≡ node_of x
+  node_at : (x : Action) → (action_place c actions x).node ≡ node_of x
   node_at (Fence n) = refl
   node_at (Probe r n) = refl
   node_at (Cell op.Start r n i role) = refl
@@ -102,7 +102,7 @@ module _ (c : Cluster) (es : List Event) (ps : List Promotion) (placed : Placed)
       (link_of_leaf c r (link op.Demote r op.Stop r) low refl e refl (at_head (link op.Demote r op.Stop r) (link op.Start r op.Promote r ∷ []) (link op.Demote r op.Stop r) refl))
 
   step_kind : (r n : ℕ) (o : Op) → r < length c.leaves → n < length c.nodes → GetsStep c es targets r n o
-      → kind_by c (place_of c actions (Cell o r n 0 role.Started)) ≡ kind c (Cell o r n 0 role.Started)
+      → kind_by c (action_place c actions (Cell o r n 0 role.Started)) ≡ kind c (Cell o r n 0 role.Started)
   step_kind r n op.Start low l g =
       ap (λ (b : Bool). if b then 3 else 1)
       (apart_test (is_promotable c r) (rank c (step_of op.Start r)) (rank c (step_of op.Promote r)) (λ e. less_apart _ _ (start_below r low e)))
@@ -123,19 +123,19 @@ module _ (c : Cluster) (es : List Event) (ps : List Promotion) (placed : Placed)
       (and_from (is_promotable c r) (rank c (step_of op.Demote r) == rank c (step_of op.Demote r)) promotable (eq-eqb (rank c (step_of op.Demote r)) (rank c (step_of op.Demote r)) refl))
   step_kind r n op.Monitor low l g = let e : false ≡ true = (is_step c es targets r n op.Monitor g).fitting in cc
 
-  first_kind : (x : Action) → FirstSet c es targets x → kind_by c (place_of c actions x) ≡ kind c x
+  first_kind : (x : Action) → FirstSet c es targets x → kind_by c (action_place c actions x) ≡ kind c x
   first_kind _ (fence n h e) = refl
   first_kind _ (probe r n h l e) = refl
   first_kind _ (step r n o h l g) = step_kind r n o h l g
   first_kind _ (monitor r n m h l k g) = refl
 
-  needed_kind : (x : Action) → Needed c es targets x → kind_by c (place_of c actions x) ≡ kind c x
+  needed_kind : (x : Action) → Needed c es targets x → kind_by c (action_place c actions x) ≡ kind c x
   needed_kind x (kept _ f k) = first_kind x f
   needed_kind _ (sent r n m g) = refl
   needed_kind _ (taken_in r n m g) = refl
 
   pub own_place : ((a : Action) → Contains actions a ↔ Needed c es targets a) → (x y : Action) → Needed c es targets x → Needed c es targets y
-      → place_of c actions x ≡ place_of c actions y → x ≡ y
+      → action_place c actions x ≡ action_place c actions y → x ≡ y
   own_place needed x y h k e =
       told_apart c es ps placed actions valid is needed x y h k
       (sym (leaf_at c actions x) ∙ (ap (λ (p : Place). p.leaf) e ∙ leaf_at c actions y))

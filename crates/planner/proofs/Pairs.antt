@@ -7,7 +7,7 @@ use Rattle.lemmas.proofs.Booleans.{later, same_test, sooner}
 use Rattle.cluster_types.specs.declared.cluster.Cluster.{Cluster}
 use Rattle.cluster_types.specs.declared.journal.Action.{Action}
 use Rattle.cluster_types.specs.declared.journal.Action.TheVariants.{Fence}
-use Rattle.cluster_types.specs.Graphs.{GraphOf, IsBefore, IsGraph, is_before, is_number}
+use Rattle.cluster_types.specs.Graphs.{GraphOf, IsBefore, IsGraph, is_before, is_action_number}
 use Rattle.cluster_types.specs.Numbers.{is_earlier}
 use Rattle.cluster_types.specs.Plans.{precedes_by_number}
 use Rattle.cluster_types.specs.Steps.{numbered}
@@ -19,7 +19,7 @@ module _ (c : Cluster) (g : GraphOf) (is : IsGraph g) (are : AreEdges c g.action
   abbrev at : ℕ → Action
   at k = get_or g.actions (k - 1) (Fence 0)
 
-  number_within : (k : ℕ) → is_number g k ≡ true → (0 < k) × (k - 1 < length g.actions)
+  number_within : (k : ℕ) → is_action_number g k ≡ true → (0 < k) × (k - 1 < length g.actions)
   number_within k h =
       let positive : nat_lt 0 k ≡ true = sooner (nat_lt 0 k) (nat_le k (length g.actions)) h in
       let low : nat_le k (length g.actions) ≡ true = later (nat_lt 0 k) (nat_le k (length g.actions)) h in
@@ -30,7 +30,7 @@ module _ (c : Cluster) (g : GraphOf) (is : IsGraph g) (are : AreEdges c g.action
       let some : (k == 0) ≡ false = grind arith in
       ap (λ b. if b then None else slice_get g.actions (k - 1)) some ∙ slice_get-get_or g.actions (k - 1) (Fence 0) m
 
-  is_number_by : (k : ℕ) → 0 < k → k - 1 < length g.actions → is_number g k ≡ true
+  is_number_by : (k : ℕ) → 0 < k → k - 1 < length g.actions → is_action_number g k ≡ true
   is_number_by k l m =
       let positive : nat_lt 0 k ≡ true = grind arith in
       let low : nat_le k (length g.actions) ≡ true = grind arith in

@@ -2,7 +2,7 @@
 use Rattle.std.proofs.Common.{◌≡◌, ◌==◌, ◌&&◌, ◌||◌, nat_lt, nat_cmp, ℕ, Bool, true, false, cond, Ordering, is_lt, refl, ap, ◌∙◌}
 use Rattle.std.specs.declared.cmp.Ordering.TheVariants.{Less, Equal, Greater}
 use Rattle.std.specs.Ordering.{ordering_then}
-use Rattle.cluster_types.specs.Numbers.{Place, is_before}
+use Rattle.cluster_types.specs.Numbers.{Place, is_place_before}
 
 by_tests : (less same : Bool) (o : Ordering) → is_lt (ordering_then (cond less Less (cond same Equal Greater)) o) ≡ less || same && is_lt o
 by_tests true same o = refl
@@ -23,7 +23,7 @@ place_cmp a b =
     ordering_then (nat_cmp a.phase b.phase) (ordering_then (nat_cmp a.ranked b.ranked) (ordering_then (nat_cmp a.leaf b.leaf)
     (ordering_then (nat_cmp a.node b.node) (nat_cmp a.interval b.interval))))
 
-pub place_less : (a b : Place) → is_lt (place_cmp a b) ≡ is_before a b
+pub place_less : (a b : Place) → is_lt (place_cmp a b) ≡ is_place_before a b
 place_less a b =
     first_then a.phase b.phase _ _ (first_then a.ranked b.ranked _ _ (first_then a.leaf b.leaf _ _ (first_then a.node b.node _ _
     (alone (nat_lt a.interval b.interval) (a.interval == b.interval)))))

@@ -2,12 +2,12 @@
 use Rattle.std.proofs.Common.{◌≡◌, ◌<◌, ◌+◌, ◌*◌, ◌++◌, if◌then◌else◌, ℕ, true, List, [], ◌∷◌, length, sym, ap, subst}
 use Rattle.std.proofs.lemmas.List.{append_assoc}
 use Rattle.cluster_types.specs.declared.cluster.Cluster.{Cluster}
-use Rattle.cluster_types.specs.declared.edges.Edge.{Edge}
+use Rattle.edges.specs.declared.edge.Edge.{Edge}
 use Rattle.cluster_types.specs.declared.journal.Action.{Action}
 use Rattle.cluster_types.specs.declared.rules.Colocation.{Colocation}
 use Rattle.cluster_types.specs.Choice.{is_separation}
-use Rattle.planner.specs.declared.sides.Join.{Join}
-use Rattle.planner.specs.declared.sides.Side.TheVariants as side
+use Rattle.planner.specs.declared.precedence.sides.Join.{Join}
+use Rattle.planner.specs.declared.precedence.sides.Side.TheVariants as side
 use Rattle.planner.specs.Gates.{join_edges, key_at}
 use Rattle.planner.specs.Index.{IsIndex, places_in}
 use Rattle.planner.specs.Joins.{colocation_joins, join}

@@ -10,9 +10,9 @@ use Rattle.cluster_types.specs.declared.leaf.Op.TheVariants as op
 use Rattle.cluster_types.specs.declared.rules.Colocation.{Colocation}
 use Rattle.cluster_types.specs.declared.rules.Order.{Order}
 use Rattle.cluster_types.specs.Choice.{is_separation}
-use Rattle.cluster_types.specs.Precedence.{CellOf, as_earlier, as_later, both, cell_of, gives_role, inverse, is_inverse_pair, is_one_cell, is_ordered, is_pair, is_parted, is_serialize, is_taken_back, is_up, op_cell, parts_first, takers, takes_or_probes}
+use Rattle.cluster_types.specs.Precedence.{CellOf, as_earlier, as_later, both, cell_of, gives_role, inverse, is_inverse_pair, is_one_cell, is_ordered, is_ordered_pair, is_parted, is_serialize, is_taken_back, is_up, op_cell, parts_first, takers, takes_or_probes}
 use Rattle.cluster_types.specs.Tables.{is_in_scope}
-use Rattle.planner.specs.declared.sides.Side.TheVariants as side
+use Rattle.planner.specs.declared.precedence.sides.Side.TheVariants as side
 use Rattle.planner.specs.Joins.{join, colocation_joins, earlier_taker, in_leaf, inverse_join, is_joined, later_demote, later_taker, order_joins, take_cell}
 use Rattle.planner.proofs.Tests.{any_same}
 
@@ -137,19 +137,19 @@ module _ (c : Cluster) (actions : List Action) (o : Order) (x y : Action) where
   inverse_joined : is_inverse_pair actions o x y ≡ is_joined c actions x y (inverse_join o)
   inverse_joined = on (is_up o.first_op && is_up o.then_op)
     where
-      on : (b : Bool) → (if b then is_taken_back actions o x y else is_pair actions o (inverse o.then_op) o.then_leaf (inverse o.first_op) o.first x y)
+      on : (b : Bool) → (if b then is_taken_back actions o x y else is_ordered_pair actions o (inverse o.then_op) o.then_leaf (inverse o.first_op) o.first x y)
           ≡ is_joined c actions x y
           (if b then join (side.EarlierTakers o.then_leaf o.then_op o.local) (side.LaterTakers o.first o.first_op o.local)
           else join (side.Earlier o.then_leaf (inverse o.then_op) o.local) (side.Later o.first (inverse o.first_op) o.local))
       on true = taken_back_joined
       on false = ordered_joined o o.then_leaf o.first (as_earlier (inverse o.then_op) x) (as_later actions (inverse o.first_op) y)
 
-  own_joined : is_pair actions o o.first_op o.first o.then_op o.then_leaf x y
+  own_joined : is_ordered_pair actions o o.first_op o.first o.then_op o.then_leaf x y
       ≡ is_joined c actions x y (join (side.Earlier o.first o.first_op o.local) (side.Later o.then_leaf o.then_op o.local))
   own_joined = ordered_joined o o.first o.then_leaf (as_earlier o.first_op x) (as_later actions o.then_op y)
 
   pub order_joined : is_ordered actions o x y ≡ list_any (is_joined c actions x y) (order_joins o)
-  order_joined = on (is_serialize o.kind) o.symmetrical (is_pair actions o o.first_op o.first o.then_op o.then_leaf x y) (is_inverse_pair actions o x y) own_joined inverse_joined
+  order_joined = on (is_serialize o.kind) o.symmetrical (is_ordered_pair actions o o.first_op o.first o.then_op o.then_leaf x y) (is_inverse_pair actions o x y) own_joined inverse_joined
     where
       on : (b d p q : Bool) → p ≡ is_joined c actions x y (join (side.Earlier o.first o.first_op o.local) (side.Later o.then_leaf o.then_op o.local))
           → q ≡ is_joined c actions x y (inverse_join o)

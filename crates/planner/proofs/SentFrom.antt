@@ -18,9 +18,9 @@ use Rattle.cluster_types.specs.May.{may, may_promoted}
 use Rattle.cluster_types.specs.Needed.{GetsStep}
 use Rattle.cluster_types.specs.NodeStates.{is_online}
 use Rattle.cluster_types.specs.Tables.{Targets}
-use Rattle.planner.specs.Actions.{first_node, is_alone, is_on_state, is_source, may_be_sent, source_at, source_of, steps_in}
-use Rattle.planner.specs.Cycling.{Marks}
-use Rattle.planner.specs.declared.steps.CellNeed.{CellNeed}
+use Rattle.planner.specs.Actions.{first_node, is_alone, is_on_state, is_source, may_be_sent, source_at, migration_source, steps_in}
+use Rattle.planner.specs.Cycling.{MarkedCells}
+use Rattle.planner.specs.declared.needed.steps.CellNeed.{CellNeed}
 use Rattle.planner.proofs.StepTests.{found_is, has_it, it_is, only_found}
 use Rattle.planner.proofs.StepsGot.{Tells, gets, got}
 
@@ -69,7 +69,7 @@ module _ (c : Cluster) (es : List Event) (targets : Targets) where
     pub nowhere_else : (k : ℕ) → k < length c.nodes → k ≢ n → may c r k es ≡ false
     pub stopped : GetsStep c es targets r n op.Stop
 
-  module _ (need : ℕ → ℕ → CellNeed) (marked : Marks) (told : Tells c es targets need marked) (r : ℕ) (lr : r < length c.leaves) where
+  module _ (need : ℕ → ℕ → CellNeed) (marked : MarkedCells) (told : Tells c es targets need marked) (r : ℕ) (lr : r < length c.leaves) where
     may_known : (n : ℕ) → n < length c.nodes → (need r n).may ≡ may c r n es
     may_known n ln = ap (λ (w : CellNeed). w.may) (told.needs r n lr ln)
 
@@ -109,7 +109,7 @@ module _ (c : Cluster) (es : List Event) (targets : Targets) where
               (it_is op.Stop (steps_in need marked r n) (later (is_alone c need r n && is_on_state (need r n).state) _ s));
         }
 
-    pub sent_from : (n : ℕ) (free : Bool) → source_of c need marked free r ≡ Some n → Leaves r n free
+    pub sent_from : (n : ℕ) (free : Bool) → migration_source c need marked free r ≡ Some n → Leaves r n free
     sent_from n free h = on (may_be_sent c r free) refl h where
       source : (b : Bool) (k : ℕ) → is_source c need marked r k ≡ b → k < length c.nodes → may_be_sent c r free ≡ true
           → (if b then Some k else None) ≡ Some n → Leaves r n free
@@ -127,7 +127,7 @@ module _ (c : Cluster) (es : List Event) (targets : Targets) where
       on true m f = node (first_node c need r) refl m f
       on false m f = cc
 
-    pub is_sent_from : (n : ℕ) (free : Bool) → Leaves r n free → source_of c need marked free r ≡ Some n
+    pub is_sent_from : (n : ℕ) (free : Bool) → Leaves r n free → migration_source c need marked free r ≡ Some n
     is_sent_from n free l =
         let ln = l.within in
         let sent : may_be_sent c r free ≡ true

@@ -6,12 +6,12 @@ use Rattle.std.proofs.lemmas.List.{take_more}
 use Rattle.std.proofs.lemmas.List.Sums.{sum_by_push}
 use Rattle.lemmas.proofs.Searches.{any-more}
 use Rattle.cluster_types.specs.declared.cluster.Cluster.{Cluster}
-use Rattle.cluster_types.specs.declared.edges.Edge.{Edge}
+use Rattle.edges.specs.declared.edge.Edge.{Edge}
 use Rattle.cluster_types.specs.declared.journal.Action.{Action}
 use Rattle.cluster_types.specs.declared.rules.Order.{Order}
 use Rattle.cluster_types.specs.Numbers.{is_earlier}
 use Rattle.planner.specs.Chains.{serialized_at}
-use Rattle.planner.specs.Groups.{Adds}
+use Rattle.planner.specs.Groups.{AddsGroup}
 use Rattle.planner.specs.Serials.{most_serial, serial_room}
 use Rattle.planner.proofs.Adding.{adds_after, adds_none, adds_says}
 use Rattle.planner.proofs.AllJoins.{one_or}
@@ -22,7 +22,7 @@ module _ (c : Cluster) (actions : List Action) where
 
   -- what the loop keeps
   pub record Serials (old now : List Edge) (from base : ℕ) (orders : List Order) : Type 0 where
-    pub adds : Adds (length actions) old now from base (sum_by (most_serial actions) orders) (λ x y. list_any (says x y) orders ≡ true)
+    pub adds : AddsGroup (length actions) old now from base (sum_by (most_serial actions) orders) (λ x y. list_any (says x y) orders ≡ true)
     pub room : base ≤ from + sum_by (serial_room actions) orders
 
   pub serials_none : (list : List Edge) (from : ℕ) → length actions ≤ from → Serials list list from from []
@@ -34,7 +34,7 @@ module _ (c : Cluster) (actions : List Action) where
   }
 
   pub serials_more : (old now new : List Edge) (from base upto : ℕ) (orders : List Order) (i : ℕ) (d o : Order) → i < length orders → o ≡ get_or orders i d
-      → Serials old now from base (take i orders) → Adds (length actions) now new base upto (most_serial actions o) (λ x y. says x y o ≡ true)
+      → Serials old now from base (take i orders) → AddsGroup (length actions) now new base upto (most_serial actions o) (λ x y. says x y o ≡ true)
       → upto ≤ base + serial_room actions o → Serials old new from upto (take (i + 1) orders)
   serials_more old now new from base upto orders i d o l is h more room =
       let os = take i orders in

@@ -3,23 +3,23 @@ use Rattle.std.proofs.Common.{arith, ◌≡◌, ◌<◌, ◌≤◌, ◌*◌, ◌
 use Rattle.std.specs.List.{slice_get}
 use Rattle.std.proofs.lemmas.Option.{slice_get-get_or}
 use Rattle.cluster_types.specs.declared.cluster.Cluster.{Cluster}
-use Rattle.cluster_types.specs.declared.edges.Edge.{Edge}
+use Rattle.edges.specs.declared.edge.Edge.{Edge}
 use Rattle.cluster_types.specs.declared.journal.Action.{Action}
 use Rattle.cluster_types.specs.declared.journal.Action.TheVariants.{Fence}
 use Rattle.cluster_types.specs.declared.rules.Order.{Order}
-use Rattle.cluster_types.specs.Numbers.{is_earlier, place_of}
+use Rattle.cluster_types.specs.Numbers.{is_earlier, action_place}
 use Rattle.cluster_types.proofs.NumberLaws.{not_both}
 use Rattle.cluster_types.specs.Precedence.{is_across, is_serialize, is_serialized}
 use Rattle.cluster_types.specs.Plans.{is_of_either}
 use Rattle.planner.specs.Chains.{IsChainedSomewhere, earlier_of, is_earlier_at, serialized_at, serialized_of}
-use Rattle.planner.specs.Groups.{Adds}
+use Rattle.planner.specs.Groups.{AddsGroup}
 use Rattle.planner.specs.Serials.{AreSerials, most_serial}
 use Rattle.planner.proofs.Adding.{adds_none, adds_says}
 use Rattle.planner.proofs.Serialized.{chained_says, says_chained}
 
 once_of : (c : Cluster) (actions : List Action) (u v : Option Action) → earlier_of actions (is_earlier c actions) u v ≡ true
     → earlier_of actions (is_earlier c actions) v u ≡ true → ⊥
-once_of c actions (Some a) (Some b) h k = not_both (place_of c actions a) (place_of c actions b) h k
+once_of c actions (Some a) (Some b) h k = not_both (action_place c actions a) (action_place c actions b) h k
 once_of c actions (Some a) None h k = cc
 once_of c actions None v h k = cc
 
@@ -40,7 +40,7 @@ module _ (c : Cluster) (actions : List Action) (o : Order) where
       ∙ ap (λ v. serialized_of actions (is_earlier c actions) o (Some (at x)) v) (slice_get-get_or actions y (Fence 0) m)
 
   pub serial_adds : is_serialize o.kind ≡ true → (places : List ℕ) → AreSerials actions (is_earlier c actions) o places → (old new : List Edge) (from upto : ℕ)
-      → Adds (length actions) old new from upto (3 * length places) (IsChainedSomewhere actions o places) → Adds (length actions) old new from upto (most_serial actions o) Says
+      → AddsGroup (length actions) old new from upto (3 * length places) (IsChainedSomewhere actions o places) → AddsGroup (length actions) old new from upto (most_serial actions o) Says
   serial_adds kind places serial old new from upto h =
       let few = serial.few in
       let most : most_serial actions o ≡ 4 * count_by (is_of_either o.first o.then_leaf) actions =
@@ -65,7 +65,7 @@ module _ (c : Cluster) (actions : List Action) (o : Order) where
   says_none kind (Some a) None h = cc
   says_none kind None v h = cc
 
-  pub other_adds : is_serialize o.kind ≡ false → (list : List Edge) (from : ℕ) → length actions ≤ from → Adds (length actions) list list from from (most_serial actions o) Says
+  pub other_adds : is_serialize o.kind ≡ false → (list : List Edge) (from : ℕ) → length actions ≤ from → AddsGroup (length actions) list list from from (most_serial actions o) Says
   other_adds kind list from le =
       adds_says (length actions) list list from from 0 (most_serial actions o) (λ x y. ⊥) Says (λ x y l m h. absurd h)
       (λ x y l m h. says_none kind (slice_get actions x) (slice_get actions y) h) (omega arith) (adds_none (length actions) list from le)

@@ -7,7 +7,7 @@ use Rattle.lemmas.proofs.Booleans.{number_itself}
 use Rattle.cluster_types.specs.declared.journal.Action.{Action}
 use Rattle.cluster_types.specs.declared.rules.Order.{Order}
 use Rattle.cluster_types.specs.Precedence.{CellOf, both, cell_of, change_cell, is_across, is_one_cell, is_serialize, is_serialized}
-use Rattle.planner.specs.Chains.{AreInOrder, IsChained, changes_at, earlier_of, is_earlier_at, is_on}
+use Rattle.planner.specs.Chains.{ArePlacesInOrder, IsChained, changes_at, earlier_of, is_earlier_at, is_cell_on}
 use Rattle.planner.specs.Gates.{InChain}
 use Rattle.planner.specs.Joins.{in_leaf}
 use Rattle.planner.proofs.RuleJoins.{ordered_joined}
@@ -16,8 +16,8 @@ use Rattle.planner.proofs.ChainOrder.{comes_stands, stands_comes}
 -- two cells of a side by node are one where they are on one node
 pub record OnOne (u v : Option CellOf) : Type 0 where
   pub node : ℕ
-  pub one : is_on node u ≡ true
-  pub other : is_on node v ≡ true
+  pub one : is_cell_on node u ≡ true
+  pub other : is_cell_on node v ≡ true
 
 on_one : (u v : Option CellOf) → both is_one_cell u v ≡ true → OnOne u v
 on_one (Some a) (Some b) h =
@@ -35,11 +35,11 @@ zero_leaf r local (Some b) a h = on (b.leaf == r) h
     on false e = cc
 zero_leaf r local None a h = cc
 
-one_if_on : (r s : ℕ) (local : Bool) (u v : Option CellOf) (m : ℕ) → is_on m (in_leaf r local u) ≡ true → is_on m (in_leaf s local v) ≡ true
+one_if_on : (r s : ℕ) (local : Bool) (u v : Option CellOf) (m : ℕ) → is_cell_on m (in_leaf r local u) ≡ true → is_cell_on m (in_leaf s local v) ≡ true
     → both is_one_cell (in_leaf r local u) (in_leaf s local v) ≡ true
 one_if_on r s local u v m h k = on (in_leaf r local u) (in_leaf s local v) refl refl h k
   where
-    on : (p q : Option CellOf) → in_leaf r local u ≡ p → in_leaf s local v ≡ q → is_on m p ≡ true → is_on m q ≡ true → both is_one_cell p q ≡ true
+    on : (p q : Option CellOf) → in_leaf r local u ≡ p → in_leaf s local v ≡ q → is_cell_on m p ≡ true → is_cell_on m q ≡ true → both is_one_cell p q ≡ true
     on (Some a) (Some b) e f h k =
         let la = zero_leaf r local u a e in
         let lb = zero_leaf s local v b f in
@@ -50,13 +50,13 @@ one_if_on r s local u v m h k = on (in_leaf r local u) (in_leaf s local v) refl 
     on None q e f h k = cc
 
 module _ (actions : List Action) (is_earlier : Action → Action → Bool) (strict : (x y : ℕ) → is_earlier_at actions is_earlier x y ≡ true
-    → is_earlier_at actions is_earlier y x ≡ true → ⊥) (o : Order) (places : List ℕ) (ordered : AreInOrder actions is_earlier o places)
+    → is_earlier_at actions is_earlier y x ≡ true → ⊥) (o : Order) (places : List ℕ) (ordered : ArePlacesInOrder actions is_earlier o places)
     (x y : ℕ) (a b : Action) (within_x : x < length actions) (within_y : y < length actions) (at_x : slice_get actions x ≡ Some a) (at_y : slice_get actions y ≡ Some b) where
   abbrev Comes : ℕ → ℕ → Type 0
   Comes i j = is_earlier_at actions is_earlier i j ≡ true
 
-  changes_is : (r m i : ℕ) (e : Action) → slice_get actions i ≡ Some e → changes_at actions r o.local m i ≡ is_on m (in_leaf r o.local (change_cell e))
-  changes_is r m i e at = ap (λ v. option_map_or (λ e. is_on m (in_leaf r o.local (change_cell e))) v false) at
+  changes_is : (r m i : ℕ) (e : Action) → slice_get actions i ≡ Some e → changes_at actions r o.local m i ≡ is_cell_on m (in_leaf r o.local (change_cell e))
+  changes_is r m i e at = ap (λ v. option_map_or (λ e. is_cell_on m (in_leaf r o.local (change_cell e))) v false) at
 
   comes_is : is_earlier_at actions is_earlier x y ≡ is_earlier a b
   comes_is = ap (λ v. earlier_of actions is_earlier v (slice_get actions y)) at_x ∙ ap (λ v. earlier_of actions is_earlier (Some a) v) at_y

@@ -17,8 +17,8 @@ use Rattle.cluster_types.specs.Unpacked.{states_of}
 use Rattle.cluster_types.specs.Valid.{IsValid}
 use Rattle.loops.proofs.FromValid.{valid_order}
 use Rattle.loops.proofs.OneRanking.{rank_bounded}
-use Rattle.planner.specs.Actions.{all_fences, is_free, is_touched, leaves_actions}
-use Rattle.planner.specs.Cycling.{Marks, first_marks, with_orders}
+use Rattle.planner.specs.Actions.{all_fences, is_undisturbed, is_touched, leaves_actions}
+use Rattle.planner.specs.Cycling.{MarkedCells, first_marks, with_orders}
 use Rattle.planner.specs.Levels.{below_level, need_at}
 use Rattle.planner.proofs.Found.{found}
 use Rattle.planner.proofs.StepsGot.{Tells}
@@ -28,7 +28,7 @@ module _ (c : Cluster) (valid : IsValid c) (es : List Event) (ps : List Promotio
   below_top : (o : Order) → Contains c.orders o → rank c (step_of Stop o.first) < suc (4 * length c.leaves)
   below_top o h = let b = rank_bounded c (valid_order c valid.orders) valid.steps (step_of Stop o.first) in omega arith
 
-  abbrev marks : Marks
+  abbrev marks : MarkedCells
   marks = with_orders c es targets (first_marks c es targets) (below_level c (suc (4 * length c.leaves)))
 
   told : Tells c es targets (need_at c es targets) marks
@@ -41,10 +41,10 @@ module _ (c : Cluster) (valid : IsValid c) (es : List Event) (ps : List Promotio
   touched = map (is_touched c (need_at c es targets) marks) (range_with_len 0 (length c.leaves))
 
   abbrev free : List Bool
-  free = map (is_free c (is_marked touched)) (range_with_len 0 (length c.leaves))
+  free = map (is_undisturbed c (is_marked touched)) (range_with_len 0 (length c.leaves))
 
-  free_known : (r : ℕ) → r < length c.leaves → is_marked free r ≡ is_free c (is_marked touched) r
-  free_known r lr = get_or-map-range_with_len (is_free c (is_marked touched)) 0 (length c.leaves) r r _ lr (omega arith)
+  free_known : (r : ℕ) → r < length c.leaves → is_marked free r ≡ is_undisturbed c (is_marked touched) r
+  free_known r lr = get_or-map-range_with_len (is_undisturbed c (is_marked touched)) 0 (length c.leaves) r r _ lr (omega arith)
 
   abbrev pub needed_list : List Action
   needed_list = all_fences c (may_fence c es) (states_of c es ps).nodes ++ leaves_actions c (need_at c es targets) marks (is_marked free)

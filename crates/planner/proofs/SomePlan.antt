@@ -7,7 +7,7 @@ use Rattle.cluster_types.specs.declared.journal.Event.{Event}
 use Rattle.cluster_types.specs.declared.journal.Promotion.{Promotion}
 use Rattle.cluster_types.specs.declared.placement.Placed.{Placed}
 use Rattle.cluster_types.specs.Needed.{Needed}
-use Rattle.cluster_types.specs.Numbers.{AreNeeded, Place, is_before, is_earlier, place_of}
+use Rattle.cluster_types.specs.Numbers.{AreNeeded, Place, is_place_before, is_earlier, action_place}
 use Rattle.cluster_types.specs.Plans.{IsPlan}
 use Rattle.cluster_types.specs.Tables.{Targets, targets_of}
 use Rattle.cluster_types.specs.Valid.{IsValid}
@@ -21,15 +21,15 @@ use Rattle.planner.proofs.Sorting.{is_there, sorted, sorted_pairs, was_there}
 -- lists with the same actions say alike of each action where it stands
 module _ (c : Cluster) (xs ys : List Action) (there : (a : Action) → Contains xs a → Contains ys a) (back : (a : Action) → Contains ys a → Contains xs a) where
   pub earlier_alike : (a b : Action) → is_earlier c xs a b ≡ is_earlier c ys a b
-  earlier_alike a b = ap (λ (p : Place). is_before p (place_of c xs b)) (same_place c xs ys there back a) ∙ ap (is_before (place_of c ys a)) (same_place c xs ys there back b)
+  earlier_alike a b = ap (λ (p : Place). is_place_before p (action_place c xs b)) (same_place c xs ys there back a) ∙ ap (is_place_before (action_place c ys a)) (same_place c xs ys there back b)
 
 -- places come one behind the other
-chained : (p q r : Place) → is_before p q ≡ true → is_before q r ≡ true → is_before p r ≡ true
-chained p q r h k = on (is_before p r) (is_before r q) refl refl where
-  on : (a b : Bool) → is_before p r ≡ a → is_before r q ≡ b → is_before p r ≡ true
+chained : (p q r : Place) → is_place_before p q ≡ true → is_place_before q r ≡ true → is_place_before p r ≡ true
+chained p q r h k = on (is_place_before p r) (is_place_before r q) refl refl where
+  on : (a b : Bool) → is_place_before p r ≡ a → is_place_before r q ≡ b → is_place_before p r ≡ true
   on true b e f = e
   on false true e f = absurd (not_both q r k f)
-  on false false e f = let g : is_before p q ≡ false = chain_places p r q e f in cc
+  on false false e f = let g : is_place_before p q ≡ false = chain_places p r q e f in cc
 
 module _ (c : Cluster) (valid : IsValid c) (es : List Event) (ps : List Promotion) where
   abbrev pub goals : Placed
@@ -49,14 +49,14 @@ module _ (c : Cluster) (valid : IsValid c) (es : List Event) (ps : List Promotio
 
   either : (x y : Action) → Contains listed x → Contains listed y → x ≢ y → (less x y ≡ true) ⊎ (less y x ≡ true)
   either x y h k differ =
-      or_cases (less x y) (less y x) (one_first (place_of c listed x) (place_of c listed y)
+      or_cases (less x y) (less y x) (one_first (action_place c listed x) (action_place c listed y)
       (λ same. differ (own_place c es ps (placed c es ps) listed valid (is_placed c es ps) needed.needed x y ((needed.needed x).0 h) ((needed.needed y).0 k) same)))
 
   abbrev pub actions : List Action
   actions = sorted less listed
 
   in_order : AllPairs (λ x y. less x y ≡ true) actions
-  in_order = sorted_pairs less (λ x y z. chained (place_of c listed x) (place_of c listed y) (place_of c listed z)) listed needed.once either
+  in_order = sorted_pairs less (λ x y z. chained (action_place c listed x) (action_place c listed y) (action_place c listed z)) listed needed.once either
 
   pub is_plan : IsPlan c es ps goals actions
   is_plan = record {

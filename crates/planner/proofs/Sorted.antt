@@ -10,7 +10,7 @@ use Rattle.std.proofs.lemmas.Bool.{false_from_ne_true}
 use Rattle.cluster_types.specs.declared.cluster.Cluster.{Cluster}
 use Rattle.cluster_types.specs.declared.journal.Action.{Action}
 use Rattle.cluster_types.specs.Needed.{Needed}
-use Rattle.cluster_types.specs.Numbers.{AreNeeded, AreNumbered, is_earlier, place_of}
+use Rattle.cluster_types.specs.Numbers.{AreNeeded, AreNumbered, is_earlier, action_place}
 use Rattle.cluster_types.specs.Precedence.{sends}
 use Rattle.cluster_types.specs.Tables.{targets_of}
 use Rattle.cluster_types.specs.Valid.{IsValid}
@@ -50,8 +50,8 @@ module _ (c : Cluster) (valid : IsValid c) (xs ys : List Action) (planned : AreP
 
   less_weak : IsStrictWeakOrder less
   less_weak = record {
-    one_way = λ x y h. false_from_ne_true (less y x) (not_both (place_of c ys x) (place_of c ys y) h);
-    chain = λ x y z. chain_places (place_of c ys x) (place_of c ys y) (place_of c ys z);
+    one_way = λ x y h. false_from_ne_true (less y x) (not_both (action_place c ys x) (action_place c ys y) h);
+    chain = λ x y z. chain_places (action_place c ys x) (action_place c ys y) (action_place c ys z);
   }
 
   abbrev ties : Action → Action → Bool
@@ -59,7 +59,7 @@ module _ (c : Cluster) (valid : IsValid c) (xs ys : List Action) (planned : AreP
 
   apart : (a b : Action) → Contains xs a → Contains xs b → a ≢ b → ties a b ≡ false
   apart a b h k differ =
-      ap not (one_first (place_of c ys a) (place_of c ys b)
+      ap not (one_first (action_place c ys a) (action_place c ys b)
       (λ e. differ (own_place c planned.events planned.promotions planned.placed ys valid planned.goals needed_by a b ((planned.needed.needed a).0 h)
       ((planned.needed.needed b).0 k) e)))
 
@@ -71,10 +71,10 @@ module _ (c : Cluster) (valid : IsValid c) (xs ys : List Action) (planned : AreP
   ys_apart : IsDistinct ties ys
   ys_apart = IsDistinct-IsPermutation ties (λ x y. either_way (less x y) (less y x)) xs ys moved xs_apart
 
-  by_less : IsSortedByKey (place_of c ys) place_cmp ys → IsSortedBy less ys
-  by_less h = λ k d l m. sym (place_less (place_of c ys (get_or ys (k + 1) d)) (place_of c ys (get_or ys k d))) ∙ h k d l m
+  by_less : IsSortedByKey (action_place c ys) place_cmp ys → IsSortedBy less ys
+  by_less h = λ k d l m. sym (place_less (action_place c ys (get_or ys (k + 1) d)) (action_place c ys (get_or ys k d))) ∙ h k d l m
 
-  pub in_order : IsSortedByKey (place_of c ys) place_cmp ys → AllPairs (λ x y. is_earlier c ys x y ≡ true) ys
+  pub in_order : IsSortedByKey (action_place c ys) place_cmp ys → AllPairs (λ x y. is_earlier c ys x y ≡ true) ys
   in_order h = λ i j d l m.
       the_one (less (get_or ys i d) (get_or ys j d)) (less (get_or ys j d) (get_or ys i d)) (apart_from_distinct ties ys i j d ys_apart l m)
       (sorted_far less less_weak ys (by_less h) i j d (omega arith) m)
@@ -90,7 +90,7 @@ module _ (c : Cluster) (valid : IsValid c) (xs ys : List Action) (planned : AreP
       needed = needed_by;
       once = λ i j d l m e. (
           let itself = subst (λ v. is_earlier c ys v (get_or ys j d) ≡ true) e (up i j d l m) in
-          not_both (place_of c ys (get_or ys j d)) (place_of c ys (get_or ys j d)) itself itself);
+          not_both (action_place c ys (get_or ys j d)) (action_place c ys (get_or ys j d)) itself itself);
     };
   }
 

@@ -10,7 +10,7 @@ use Rattle.cluster_types.specs.declared.leaf.Op.{Op}
 use Rattle.cluster_types.specs.Precedence.{is_same_op}
 use Rattle.cluster_types.proofs.OpLaws.{op_itself}
 use Rattle.loops.proofs.StepPlaces.{same_op}
-use Rattle.planner.specs.Actions.{has_op, is_filled}
+use Rattle.planner.specs.Actions.{includes_op, is_filled}
 
 -- an element that passes, where some does
 pub record Passing {X : Type 0} (p : X → Bool) (xs : List X) : Type 0 where
@@ -23,10 +23,10 @@ some_of p xs h = on (Any-from_list_any p xs h) where
   on : Any (λ x. p x ≡ true) xs → Passing p xs
   on (k, x, l, at, e) = record { member = x; among = (k, l, at); passes = e }
 
-pub has_it : (o : Op) (os : List Op) → Contains os o → has_op o os ≡ true
+pub has_it : (o : Op) (os : List Op) → Contains os o → includes_op o os ≡ true
 has_it o os h = passes_by (is_same_op o) os o h (op_itself o)
 
-pub it_is : (o : Op) (os : List Op) → has_op o os ≡ true → Contains os o
+pub it_is : (o : Op) (os : List Op) → includes_op o os ≡ true → Contains os o
 it_is o os h = let f = some_of (is_same_op o) os h in subst (Contains os) (sym (same_op o f.member f.passes)) f.among
 
 pub filled : (os : List Op) (o : Op) → Contains os o → is_filled os ≡ true

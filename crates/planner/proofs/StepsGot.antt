@@ -10,17 +10,17 @@ use Rattle.cluster_types.specs.declared.leaf.Op.{Op}
 use Rattle.cluster_types.specs.Needed.{Cycled, GetsAny, GetsStep, IsDisturbed, steps_at}
 use Rattle.cluster_types.specs.Tables.{Targets}
 use Rattle.planner.specs.Actions.{is_filled, is_touched, steps_in}
-use Rattle.planner.specs.Cycling.{Marks}
+use Rattle.planner.specs.Cycling.{MarkedCells}
 use Rattle.planner.specs.Levels.{need_at, steps_by}
-use Rattle.planner.specs.declared.steps.CellNeed.{CellNeed}
+use Rattle.planner.specs.declared.needed.steps.CellNeed.{CellNeed}
 use Rattle.planner.proofs.StepTests.{filled, first_step, some_of}
 
 -- what cells need is told, and which of them are cycled
-pub record Tells (c : Cluster) (es : List Event) (targets : Targets) (need : ℕ → ℕ → CellNeed) (marked : Marks) : Type 0 where
+pub record Tells (c : Cluster) (es : List Event) (targets : Targets) (need : ℕ → ℕ → CellNeed) (marked : MarkedCells) : Type 0 where
   pub needs : (r n : ℕ) → r < length c.leaves → n < length c.nodes → need r n ≡ need_at c es targets r n
   pub cycled : (r n : ℕ) → marked r n ≡ true ↔ Cycled c es targets r n
 
-module _ (c : Cluster) (es : List Event) (targets : Targets) (need : ℕ → ℕ → CellNeed) (marked : Marks) (told : Tells c es targets need marked) where
+module _ (c : Cluster) (es : List Event) (targets : Targets) (need : ℕ → ℕ → CellNeed) (marked : MarkedCells) (told : Tells c es targets need marked) where
   steps_known : (r n : ℕ) → r < length c.leaves → n < length c.nodes → steps_in need marked r n ≡ steps_at c es targets r n (marked r n)
   steps_known r n lr ln = ap (λ (w : CellNeed). steps_by w (marked r n)) (told.needs r n lr ln)
 

@@ -19,7 +19,7 @@ use Rattle.cluster_types.specs.Plans.{IsPlaced}
 use Rattle.cluster_types.specs.Precedence.{is_migrating}
 use Rattle.cluster_types.specs.Tables.{Targets, targets_of}
 use Rattle.cluster_types.specs.Valid.{IsValid}
-use Rattle.planner.specs.Leaves.{leaf_of}
+use Rattle.planner.specs.Leaves.{action_leaf}
 use Rattle.plan_laws.proofs.CellSteps.{is_step}
 use Rattle.plan_laws.proofs.NeededActions.{migrating}
 use Rattle.plan_laws.proofs.Phases.{sent_is_migrating}
@@ -44,7 +44,7 @@ action_by c source goal r n k =
 
 module _ (c : Cluster) (es : List Event) (targets : Targets) (valid : IsValid c) (source goal : ℕ) where
   abbrev back : Action → Action
-  back x = action_by c source goal (leaf_of x) (node_of x) (kind c x)
+  back x = action_by c source goal (action_leaf x) (node_of x) (kind c x)
 
   watched : (r n k i : ℕ) (m : MonitorOf) → k ≡ 7 + i → i < 8 → slice_get (monitors c r) i ≡ Some m
       → action_by c source goal r n k ≡ Cell op.Monitor r n m.interval_ms m.role
@@ -78,7 +78,7 @@ module _ (c : Cluster) (es : List Event) (targets : Targets) (valid : IsValid c)
   abbrev Only : ℕ → Type 0
   Only r = (n m : ℕ) → Migrates c es targets r n m → (source ≡ n) × (goal ≡ m)
 
-  pub of_needed : (x : Action) → Needed c es targets x → Only (leaf_of x) → back x ≡ x
+  pub of_needed : (x : Action) → Needed c es targets x → Only (action_leaf x) → back x ≡ x
   of_needed x (kept _ f k) only = of_first x f
   of_needed _ (sent r n m g) only = ap (λ v. MigrateTo r n v) (only n m g).1
   of_needed _ (taken_in r n m g) only = ap (λ v. MigrateFrom r v m) (only n m g).0
@@ -111,14 +111,14 @@ module _ (c : Cluster) (es : List Event) (ps : List Promotion) (placed : Placed)
         only = λ n m k. absurd (both_ways (is_migrating actions r) h (sent_is_migrating c actions r n m ((needed (MigrateTo r n m)).1 (sent r n m k))));
       }
 
-  pub told_apart : (x y : Action) → Needed c es (targets_of placed.table) x → Needed c es (targets_of placed.table) y → leaf_of x ≡ leaf_of y → node_of x ≡ node_of y
+  pub told_apart : (x y : Action) → Needed c es (targets_of placed.table) x → Needed c es (targets_of placed.table) y → action_leaf x ≡ action_leaf y → node_of x ≡ node_of y
       → kind c x ≡ kind c y → x ≡ y
   told_apart x y h k e f g =
-      let way = way_of (leaf_of x) in
+      let way = way_of (action_leaf x) in
       let first = of_needed c es (targets_of placed.table) valid way.source way.goal x h way.only in
       let other = of_needed c es (targets_of placed.table) valid way.source way.goal y k
       (subst (λ r. (n m : ℕ) → Migrates c es (targets_of placed.table) r n m → (way.source ≡ n) × (way.goal ≡ m)) e way.only) in
       sym first
       ∙ (ap (λ r. action_by c way.source way.goal r (node_of x) (kind c x)) e
-      ∙ (ap (λ n. action_by c way.source way.goal (leaf_of y) n (kind c x)) f
-      ∙ (ap (action_by c way.source way.goal (leaf_of y) (node_of y)) g ∙ other)))
+      ∙ (ap (λ n. action_by c way.source way.goal (action_leaf y) n (kind c x)) f
+      ∙ (ap (action_by c way.source way.goal (action_leaf y) (node_of y)) g ∙ other)))

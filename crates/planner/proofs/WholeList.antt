@@ -25,9 +25,9 @@ use Rattle.cluster_types.specs.Unpacked.{states_of}
 use Rattle.cluster_types.specs.Valid.{IsValid}
 use Rattle.cluster_types.proofs.StatesKept.{node_kept}
 use Rattle.loops.proofs.FromValid.{valid_join, valid_order}
-use Rattle.planner.specs.Actions.{all_fences, fences_in, is_free, is_touched, is_unclean_in, leaves_actions}
-use Rattle.planner.specs.Cycling.{Marks}
-use Rattle.planner.specs.declared.steps.CellNeed.{CellNeed}
+use Rattle.planner.specs.Actions.{all_fences, fences_in, is_undisturbed, is_touched, is_unclean_in, leaves_actions}
+use Rattle.planner.specs.Cycling.{MarkedCells}
+use Rattle.planner.specs.declared.needed.steps.CellNeed.{CellNeed}
 use Rattle.planner.proofs.AllNeeded.{all_needed, there}
 use Rattle.planner.proofs.Conditions.{of_if, of_one}
 use Rattle.planner.proofs.OnceEach.{all_once}
@@ -67,9 +67,9 @@ module _ (c : Cluster) (valid : IsValid c) where
         subst (Needed c es targets) (of_one (Fence f.source) a l.among)
         (kept (Fence f.source) (fence f.source ln (sym (fence_known f.source ln) ∙ l.holds)) (λ s t u g e. cc))
 
-    module _ (need : ℕ → ℕ → CellNeed) (marked : Marks) (told : Tells c es targets need marked) (touched free : List Bool)
+    module _ (need : ℕ → ℕ → CellNeed) (marked : MarkedCells) (told : Tells c es targets need marked) (touched free : List Bool)
         (flags : touched ≡ map (is_touched c need marked) (range_with_len 0 (length c.leaves)))
-        (lefts : (r : ℕ) → r < length c.leaves → is_marked free r ≡ is_free c (is_marked touched) r) where
+        (lefts : (r : ℕ) → r < length c.leaves → is_marked free r ≡ is_undisturbed c (is_marked touched) r) where
       flag_known : (r : ℕ) → r < length c.leaves → is_marked touched r ≡ is_touched c need marked r
       flag_known r lr =
           ap (λ fs. is_marked fs r) flags

@@ -2,7 +2,7 @@
 use Rattle.std.proofs.Common.{arith, ◌≡◌, ◌≤◌, true, List, AllPairs, Contains}
 use Rattle.std.specs.List.Sorted.{IsPermutation}
 use Rattle.cluster_types.specs.declared.cluster.Cluster.{Cluster}
-use Rattle.cluster_types.specs.declared.edges.Edges.{Edges}
+use Rattle.cluster_types.specs.declared.graph_edges.Edges.{Edges}
 use Rattle.cluster_types.specs.declared.journal.Action.{Action}
 use Rattle.cluster_types.specs.Graphs.{IsGraph}
 use Rattle.cluster_types.specs.Needed.{Needed}
@@ -11,7 +11,7 @@ use Rattle.cluster_types.specs.Plans.{most_edges}
 use Rattle.cluster_types.specs.Tables.{targets_of}
 use Rattle.cluster_types.specs.Valid.{IsValid}
 use Rattle.planner.specs.Precede.{AreEdges, graph_by}
-use Rattle.planner.specs.Rooms.{IsWithin}
+use Rattle.planner.specs.Rooms.{IsActionWithin}
 use Rattle.planner.proofs.NeededWithin.{needed_within}
 use Rattle.planner.proofs.Upward.{is_graph}
 use Rattle.plan_laws.proofs.LowerNumbers.{promotable_target}
@@ -20,7 +20,7 @@ use Rattle.planner.proofs.Few.{few_edges}
 use Rattle.planner.proofs.Sorted.{numbered_by, planned_still}
 
 -- planned actions are within the cluster
-pub planned_within : (c : Cluster) (actions : List Action) → ArePlanned c actions → (a : Action) → Contains actions a → IsWithin c a
+pub planned_within : (c : Cluster) (actions : List Action) → ArePlanned c actions → (a : Action) → Contains actions a → IsActionWithin c a
 planned_within c actions planned a h = needed_within c planned.events (targets_of planned.placed.table) a ((planned.needed.needed a).0 h)
 
 module _ (c : Cluster) (valid : IsValid c) (xs ys : List Action) (planned : ArePlanned c xs) (moved : IsPermutation xs ys)
@@ -31,7 +31,7 @@ module _ (c : Cluster) (valid : IsValid c) (xs ys : List Action) (planned : AreP
   pub few : most_edges c ys ≤ 2000000000
   few = let e = few_edges c ys valid still in omega arith
 
-  pub inside : (a : Action) → Contains ys a → IsWithin c a
+  pub inside : (a : Action) → Contains ys a → IsActionWithin c a
   inside = planned_within c ys still
 
   pub graph : (edges : Edges) → AreEdges c ys (is_earlier c ys) edges → IsGraph (graph_by ys edges)

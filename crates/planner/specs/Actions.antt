@@ -21,12 +21,12 @@ use Rattle.cluster_types.specs.Needed.{is_monitor_for}
 use Rattle.cluster_types.specs.NodeStates.{is_unclean_state}
 use Rattle.cluster_types.specs.Pins.{is_unprobed_state}
 use Rattle.cluster_types.specs.Precedence.{is_same_op, is_serialize}
-use Rattle.planner.specs.Cycling.{Marks}
+use Rattle.planner.specs.Cycling.{MarkedCells}
 use Rattle.planner.specs.Levels.{steps_by}
-use Rattle.planner.specs.declared.steps.CellNeed.{CellNeed}
+use Rattle.planner.specs.declared.needed.steps.CellNeed.{CellNeed}
 
-abbrev pub has_op : Op → List Op → Bool
-has_op o steps = list_any (is_same_op o) steps
+abbrev pub includes_op : Op → List Op → Bool
+includes_op o steps = list_any (is_same_op o) steps
 
 abbrev pub is_filled : List Op → Bool
 is_filled [] = false
@@ -58,8 +58,8 @@ is_left_by_orders c touched r = list_all (is_harmless_order touched r) c.orders
 abbrev pub is_left_by_colocations : Cluster → (ℕ → Bool) → ℕ → Bool
 is_left_by_colocations c touched r = list_all (is_harmless_colocation touched r) c.colocations
 
-abbrev pub is_free : Cluster → (ℕ → Bool) → ℕ → Bool
-is_free c touched r = is_left_by_orders c touched r && is_left_by_colocations c touched r
+abbrev pub is_undisturbed : Cluster → (ℕ → Bool) → ℕ → Bool
+is_undisturbed c touched r = is_left_by_orders c touched r && is_left_by_colocations c touched r
 
 -- the monitors of a cell that aren't running, or all, by the bits of those that are
 abbrev pub is_wanted : Target → Bool → ℕ → MonitorOf → Bool
@@ -77,14 +77,14 @@ is_elsewhere (Some source) n = not (source == n)
 abbrev pub step_action : ℕ → ℕ → Op → Action
 step_action r n o = Cell o r n 0 role.Started
 
-abbrev pub monitor_action : ℕ → ℕ → MonitorOf → Action
-monitor_action r n m = Cell op.Monitor r n m.interval_ms m.role
+abbrev pub leaf_monitor : ℕ → ℕ → MonitorOf → Action
+leaf_monitor r n m = Cell op.Monitor r n m.interval_ms m.role
 
 -- where the leaf is sent to the node it isn't started there
 abbrev pub stays_needed : Bool → Op → Bool
 stays_needed is_sent_there o = not (is_sent_there && is_same_op op.Start o)
 
-abbrev pub steps_in : (ℕ → ℕ → CellNeed) → Marks → ℕ → ℕ → List Op
+abbrev pub steps_in : (ℕ → ℕ → CellNeed) → MarkedCells → ℕ → ℕ → List Op
 steps_in need marked r n = steps_by (need r n) (marked r n)
 
 -- the fence of the node, where it is unclean and the cluster may fence
@@ -113,25 +113,25 @@ abbrev pub probes_in : (ℕ → ℕ → CellNeed) → ℕ → ℕ → List Actio
 probes_in need r n = if is_unprobed_state (need r n).state then Probe r n ∷ [] else []
 
 -- the migration of the leaf from one node to another, where it is to be started there
-abbrev pub migrations_to : (ℕ → ℕ → CellNeed) → Marks → ℕ → ℕ → ℕ → List Action
+abbrev pub migrations_to : (ℕ → ℕ → CellNeed) → MarkedCells → ℕ → ℕ → ℕ → List Action
 migrations_to need marked r n m =
-    if not (n == m) && has_op op.Start (steps_in need marked r m) then MigrateTo r n m ∷ MigrateFrom r n m ∷ [] else []
+    if not (n == m) && includes_op op.Start (steps_in need marked r m) then MigrateTo r n m ∷ MigrateFrom r n m ∷ [] else []
 
-module _ (c : Cluster) (need : ℕ → ℕ → CellNeed) (marked : Marks) where
+module _ (c : Cluster) (need : ℕ → ℕ → CellNeed) (marked : MarkedCells) where
   -- the leaf gets a step anywhere
   abbrev pub is_touched : ℕ → Bool
   is_touched r = list_any (λ n. is_filled (steps_in need marked r n)) (range_with_len 0 (length c.nodes))
 
   abbrev pub is_source : ℕ → ℕ → Bool
-  is_source r n = is_alone c need r n && is_on_state (need r n).state && has_op op.Stop (steps_in need marked r n)
+  is_source r n = is_alone c need r n && is_on_state (need r n).state && includes_op op.Stop (steps_in need marked r n)
 
   abbrev pub source_at : ℕ → Option ℕ → Option ℕ
   source_at r None = None
   source_at r (Some n) = if is_source r n then Some n else None
 
   -- the node from which the leaf is sent, if it may migrate at all
-  abbrev pub source_of : Bool → ℕ → Option ℕ
-  source_of free r =
+  abbrev pub migration_source : Bool → ℕ → Option ℕ
+  migration_source free r =
       if may_be_sent c r free then source_at r (first_node c need r) else None
 
   abbrev pub monitors_in : ℕ → ℕ → List MonitorOf
@@ -142,7 +142,7 @@ module _ (c : Cluster) (need : ℕ → ℕ → CellNeed) (marked : Marks) where
   cell_actions source r n =
       probes_in need r n
       ++ (map (step_action r n) (filter (stays_needed (is_elsewhere source n)) (steps_in need marked r n))
-      ++ map (monitor_action r n) (monitors_in r n))
+      ++ map (leaf_monitor r n) (monitors_in r n))
 
   abbrev pub migrations_of : Option ℕ → ℕ → List Action
   migrations_of None r = []
@@ -153,7 +153,7 @@ module _ (c : Cluster) (need : ℕ → ℕ → CellNeed) (marked : Marks) where
 
   -- of a leaf that may migrate, as far as rules go, or may not
   abbrev pub free_leaf_actions : Bool → ℕ → List Action
-  free_leaf_actions free r = leaf_actions (source_of free r) r
+  free_leaf_actions free r = leaf_actions (migration_source free r) r
 
   abbrev pub leaves_actions : (ℕ → Bool) → List Action
   leaves_actions free = flat_map (λ r. free_leaf_actions (free r) r) (range_with_len 0 (length c.leaves))

@@ -6,13 +6,13 @@ use Rattle.cluster_types.specs.Needed.{has_disturbing}
 use Rattle.cluster_types.specs.Precedence.{role_by}
 use Rattle.cluster_types.specs.Tables.{target_holds}
 use Rattle.cluster_types.specs.Terms.{is_active}
-use Rattle.planner.specs.Cycling.{Marks}
+use Rattle.planner.specs.Cycling.{MarkedCells}
 use Rattle.planner.specs.Levels.{need_in, steps_by}
-use Rattle.planner.specs.declared.steps.CellNeed.{CellNeed}
+use Rattle.planner.specs.declared.needed.steps.CellNeed.{CellNeed}
 
 -- the first of the order is disturbed on node m
-abbrev pub is_disturbed : ℕ → List CellNeed → Marks → Order → ℕ → Bool
-is_disturbed nodes needs marks o m =
+abbrev pub is_disturbed_by_needs : ℕ → List CellNeed → MarkedCells → Order → ℕ → Bool
+is_disturbed_by_needs nodes needs marks o m =
     has_disturbing o.first_op (steps_by (need_in nodes needs o.first m) false)
     || marks o.first m && has_disturbing o.first_op (steps_by (need_in nodes needs o.first m) true)
 
@@ -23,5 +23,5 @@ is_marked_on nodes needs o flags somewhere n =
     && (if o.local then slice_index_or flags n false else somewhere)
 
 -- in how many cells the leaf is active
-abbrev pub active_count : ℕ → List CellNeed → ℕ → ℕ
-active_count nodes needs r = count_by (λ n. is_active (need_in nodes needs r n).state) (range_with_len 0 nodes)
+abbrev pub needed_active_count : ℕ → List CellNeed → ℕ → ℕ
+needed_active_count nodes needs r = count_by (λ n. is_active (need_in nodes needs r n).state) (range_with_len 0 nodes)

@@ -3,19 +3,19 @@ use Rattle.std.specs.Prelude.{◌≡◌, ℕ, ◌+◌, ◌*◌, Bool, true, if�
 use Rattle.std.specs.List.{flat_map}
 use Rattle.std.specs.Option.{option_map_or}
 use Rattle.cluster_types.specs.declared.cluster.Cluster.{Cluster}
-use Rattle.cluster_types.specs.declared.edges.Edge.{Edge}
+use Rattle.edges.specs.declared.edge.Edge.{Edge}
 use Rattle.cluster_types.specs.declared.journal.Action.{Action}
 use Rattle.cluster_types.specs.Precedence.{CellOf}
-use Rattle.planner.specs.declared.sides.Join.{Join}
-use Rattle.planner.specs.declared.sides.Side.{Side}
-use Rattle.planner.specs.Joins.{key_of}
+use Rattle.planner.specs.declared.precedence.sides.Join.{Join}
+use Rattle.planner.specs.declared.precedence.sides.Side.{Side}
+use Rattle.planner.specs.Joins.{side_key_of}
 
 abbrev pub edge : ℕ → ℕ → Edge
 edge x y = record { before = x; after = y }
 
 -- by which cell the action at a position stands on a side
 abbrev pub key_at : Cluster → List Action → Side → ℕ → Option CellOf
-key_at c actions side place = option_map_or (key_of c actions side) (slice_get actions place) None
+key_at c actions side place = option_map_or (side_key_of c actions side) (slice_get actions place) None
 
 module _ (base width : ℕ) where
   -- each cell of a join has a gate: those of one leaf stand together
@@ -31,20 +31,20 @@ module _ (base width : ℕ) where
   edge_out None place = []
 
   -- the edges of one action, by its cells on the two sides
-  abbrev pub edges_at : (ℕ → Option CellOf) → (ℕ → Option CellOf) → ℕ → List Edge
-  edges_at from to place = edge_in (from place) place ++ edge_out (to place) place
+  abbrev pub gate_edges_at : (ℕ → Option CellOf) → (ℕ → Option CellOf) → ℕ → List Edge
+  gate_edges_at from to place = edge_in (from place) place ++ edge_out (to place) place
 
   -- the edges of a join, over some positions
   abbrev pub join_edges : (ℕ → Option CellOf) → (ℕ → Option CellOf) → List ℕ → List Edge
-  join_edges from to places = flat_map (edges_at from to) places
+  join_edges from to places = flat_map (gate_edges_at from to) places
 
 -- the edges of some joins, each with gates of its own. How many leaves and nodes the cells of a join have, and at which positions its actions stand, is
 -- given with it
 module _ (c : Cluster) (actions : List Action) (leaves width : Join → ℕ) (places : Join → List ℕ) where
-  abbrev pub edges_of : ℕ → List Join → List Edge
-  edges_of base [] = []
-  edges_of base (j ∷ js) =
-      join_edges base (width j) (key_at c actions j.from) (key_at c actions j.to) (places j) ++ edges_of (base + width j * leaves j) js
+  abbrev pub edges_of_joins : ℕ → List Join → List Edge
+  edges_of_joins base [] = []
+  edges_of_joins base (j ∷ js) =
+      join_edges base (width j) (key_at c actions j.from) (key_at c actions j.to) (places j) ++ edges_of_joins (base + width j * leaves j) js
 
   abbrev pub gates_upto : ℕ → List Join → ℕ
   gates_upto base [] = base

@@ -8,9 +8,9 @@ use Rattle.cluster_types.specs.declared.leaf.Op.{Op}
 use Rattle.cluster_types.specs.declared.leaf.Op.TheVariants as op
 use Rattle.cluster_types.specs.declared.rules.Colocation.{Colocation}
 use Rattle.cluster_types.specs.declared.rules.Order.{Order}
-use Rattle.planner.specs.declared.sides.Join.{Join}
-use Rattle.planner.specs.declared.sides.Side.{Side}
-use Rattle.planner.specs.declared.sides.Side.TheVariants as side
+use Rattle.planner.specs.declared.precedence.sides.Join.{Join}
+use Rattle.planner.specs.declared.precedence.sides.Side.{Side}
+use Rattle.planner.specs.declared.precedence.sides.Side.TheVariants as side
 use Rattle.cluster_types.specs.Choice.{is_separation}
 use Rattle.cluster_types.specs.Fields.{copies}
 use Rattle.cluster_types.specs.Precedence.{CellOf, as_earlier, as_later, both, cell_of, change_cell, gives_any, gives_role, inverse, is_one_cell, is_serialize, is_up, op_cell, probe_cell, takes_or_probes}
@@ -20,9 +20,9 @@ abbrev pub by_leaf : Option CellOf → Option CellOf
 by_leaf (Some a) = cell_of a.leaf 0
 by_leaf None = None
 
-abbrev pub together : Option CellOf → Option CellOf
-together (Some a) = cell_of 0 0
-together None = None
+abbrev pub same_join_cell : Option CellOf → Option CellOf
+same_join_cell (Some a) = cell_of 0 0
+same_join_cell None = None
 
 -- by leaf where it has fewer copies than there are nodes, and else by cell
 abbrev pub alone : Cluster → Option CellOf → Option CellOf
@@ -75,29 +75,29 @@ later_taker actions op.Promote a = later_demote actions a
 later_taker actions _ a = None
 
 -- by which cell an action stands on a side, if it does
-abbrev pub key_of : Cluster → List Action → Side → Action → Option CellOf
-key_of c actions side.Probes a = by_leaf (probe_cell a)
-key_of c actions side.Gives a = by_leaf (gives_any a)
-key_of c actions side.StopsAlone a = alone c (op_cell op.Stop a)
-key_of c actions side.StartsAlone a = alone c (op_cell op.Start a)
-key_of c actions side.Fences a = fence_cell a
-key_of c actions side.GivesAnything a = together (gives_any a)
-key_of c actions side.BeforeStops a = before_stop a
-key_of c actions side.Stops a = op_cell op.Stop a
-key_of c actions side.Starts a = op_cell op.Start a
-key_of c actions side.Promotes a = op_cell op.Promote a
-key_of c actions side.BeforeMonitors a = before_monitor a
-key_of c actions side.Monitors a = op_cell op.Monitor a
-key_of c actions side.Takes a = by_leaf (take_cell a)
-key_of c actions side.PromotesOf a = by_leaf (op_cell op.Promote a)
-key_of c actions side.Sends a = send_cell a
-key_of c actions side.TakesIn a = take_in_cell a
-key_of c actions (side.Parts r role) a = in_leaf r true (takes_or_probes role a)
-key_of c actions (side.GivesRole r role) a = in_leaf r true (gives_role role a)
-key_of c actions (side.Earlier r word local) a = in_leaf r local (as_earlier word a)
-key_of c actions (side.EarlierTakers r word local) a = in_leaf r local (earlier_taker word a)
-key_of c actions (side.Later r word local) a = in_leaf r local (as_later actions word a)
-key_of c actions (side.LaterTakers r word local) a = in_leaf r local (later_taker actions word a)
+abbrev pub side_key_of : Cluster → List Action → Side → Action → Option CellOf
+side_key_of c actions side.Probes a = by_leaf (probe_cell a)
+side_key_of c actions side.Gives a = by_leaf (gives_any a)
+side_key_of c actions side.StopsAlone a = alone c (op_cell op.Stop a)
+side_key_of c actions side.StartsAlone a = alone c (op_cell op.Start a)
+side_key_of c actions side.Fences a = fence_cell a
+side_key_of c actions side.GivesAnything a = same_join_cell (gives_any a)
+side_key_of c actions side.BeforeStops a = before_stop a
+side_key_of c actions side.Stops a = op_cell op.Stop a
+side_key_of c actions side.Starts a = op_cell op.Start a
+side_key_of c actions side.Promotes a = op_cell op.Promote a
+side_key_of c actions side.BeforeMonitors a = before_monitor a
+side_key_of c actions side.Monitors a = op_cell op.Monitor a
+side_key_of c actions side.Takes a = by_leaf (take_cell a)
+side_key_of c actions side.PromotesOf a = by_leaf (op_cell op.Promote a)
+side_key_of c actions side.Sends a = send_cell a
+side_key_of c actions side.TakesIn a = take_in_cell a
+side_key_of c actions (side.Parts r role) a = in_leaf r true (takes_or_probes role a)
+side_key_of c actions (side.GivesRole r role) a = in_leaf r true (gives_role role a)
+side_key_of c actions (side.Earlier r word local) a = in_leaf r local (as_earlier word a)
+side_key_of c actions (side.EarlierTakers r word local) a = in_leaf r local (earlier_taker word a)
+side_key_of c actions (side.Later r word local) a = in_leaf r local (as_later actions word a)
+side_key_of c actions (side.LaterTakers r word local) a = in_leaf r local (later_taker actions word a)
 
 abbrev pub join : Side → Side → Join
 join from to = record { from = from; to = to }
@@ -147,7 +147,7 @@ joins_of c = first_joins ++ flat_map colocation_joins c.colocations ++ flat_map 
 module _ (c : Cluster) (actions : List Action) where
   -- the join has x before y
   abbrev pub is_joined : Action → Action → Join → Bool
-  is_joined x y j = both is_one_cell (key_of c actions j.from x) (key_of c actions j.to y)
+  is_joined x y j = both is_one_cell (side_key_of c actions j.from x) (side_key_of c actions j.to y)
 
   -- on how many sides an action stands: it has as many edges
   abbrev pub one_if : Option CellOf → ℕ
@@ -155,4 +155,4 @@ module _ (c : Cluster) (actions : List Action) where
   one_if None = 0
 
   abbrev pub stands : List Join → Action → ℕ
-  stands joins x = sum_by (λ (j : Join). one_if (key_of c actions j.from x) + one_if (key_of c actions j.to x)) joins
+  stands joins x = sum_by (λ (j : Join). one_if (side_key_of c actions j.from x) + one_if (side_key_of c actions j.to x)) joins

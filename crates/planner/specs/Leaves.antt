@@ -5,18 +5,18 @@ use Rattle.cluster_types.specs.declared.journal.Action.{Action}
 use Rattle.cluster_types.specs.declared.journal.Action.TheVariants.{Fence, Probe, Cell, MigrateTo, MigrateFrom}
 use Rattle.cluster_types.specs.declared.leaf.Op.{Op}
 use Rattle.cluster_types.specs.declared.leaf.Op.TheVariants as op
-use Rattle.planner.specs.declared.sides.Side.{Side}
-use Rattle.planner.specs.declared.sides.Side.TheVariants as side
+use Rattle.planner.specs.declared.precedence.sides.Side.{Side}
+use Rattle.planner.specs.declared.precedence.sides.Side.TheVariants as side
 use Rattle.cluster_types.specs.Precedence.{CellOf, cell_of, op_cell, start_cell}
-use Rattle.planner.specs.Joins.{in_leaf, key_of}
+use Rattle.planner.specs.Joins.{in_leaf, side_key_of}
 
 -- the leaf of an action, and 0 for a fence, which has none
-abbrev pub leaf_of : Action → ℕ
-leaf_of (Fence n) = 0
-leaf_of (Probe r n) = r
-leaf_of (Cell o r n interval role) = r
-leaf_of (MigrateTo r source target) = r
-leaf_of (MigrateFrom r source target) = r
+abbrev pub action_leaf : Action → ℕ
+action_leaf (Fence n) = 0
+action_leaf (Probe r n) = r
+action_leaf (Cell o r n interval role) = r
+action_leaf (MigrateTo r source target) = r
+action_leaf (MigrateFrom r source target) = r
 
 -- the later of a pair, where it is known whether the leaf of the action migrates
 abbrev pub later_stop : Bool → Action → Option CellOf
@@ -42,4 +42,4 @@ later_taker_by migrates _ a = None
 abbrev pub key_by : Cluster → Bool → Side → Action → Option CellOf
 key_by c migrates (side.Later r word local) a = in_leaf r local (later_by migrates word a)
 key_by c migrates (side.LaterTakers r word local) a = in_leaf r local (later_taker_by migrates word a)
-key_by c migrates other a = key_of c [] other a
+key_by c migrates other a = side_key_of c [] other a

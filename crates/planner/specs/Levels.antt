@@ -14,8 +14,8 @@ use Rattle.cluster_types.specs.Numbers.{rank, step_of}
 use Rattle.cluster_types.specs.Pins.{is_pinned}
 use Rattle.cluster_types.specs.Tables.{Targets}
 use Rattle.cluster_types.specs.Unpacked.{running_bits}
-use Rattle.planner.specs.Cycling.{Marks, is_cycling}
-use Rattle.planner.specs.declared.steps.CellNeed.{CellNeed}
+use Rattle.planner.specs.Cycling.{MarkedCells, is_cycling}
+use Rattle.planner.specs.declared.needed.steps.CellNeed.{CellNeed}
 
 abbrev pub steps_by : CellNeed → Bool → List Op
 steps_by need cycled = if need.pinned then [] else steps_of need.state need.target cycled
@@ -29,7 +29,7 @@ abbrev pub need_in : ℕ → List CellNeed → ℕ → ℕ → CellNeed
 need_in nodes needs r n = unwrap_or (slice_get needs (r * nodes + n)) no_need
 
 -- the cells that a list marks
-abbrev pub marks_in : ℕ → List Bool → Marks
+abbrev pub marks_in : ℕ → List Bool → MarkedCells
 marks_in nodes cells r n = nat_lt n nodes && slice_index_or cells (r * nodes + n) false
 
 -- what the steps of each cell hang on, leaf by leaf and node by node

@@ -8,8 +8,8 @@ use Rattle.cluster_types.specs.declared.journal.Promotion.{Promotion}
 use Rattle.cluster_types.specs.declared.placement.Placed.{Placed}
 use Rattle.cluster_types.specs.NodeStates.{is_online}
 use Rattle.cluster_types.specs.Plans.{IsPlaced}
-use Rattle.planner.specs.declared.report.Loss.{Loss}
-use Rattle.planner.specs.declared.report.Report.{Report}
+use Rattle.cluster_types.specs.declared.report.Loss.{Loss}
+use Rattle.cluster_types.specs.declared.report.Report.{Report}
 
 module _ (c : Cluster) (es : List Event) (promotions : List Promotion) where
   -- the loss has the pins, the table and the reasons of the placement for the journal with the loss of its node behind it

@@ -4,9 +4,9 @@ use Rattle.std.specs.List.{range_with_len}
 use Rattle.std.specs.Option.{option_map_or}
 use Rattle.cluster_types.specs.declared.journal.Action.{Action}
 use Rattle.cluster_types.specs.declared.journal.Action.TheVariants.{Fence, Probe, Cell, MigrateTo, MigrateFrom}
-use Rattle.planner.specs.declared.sides.Join.{Join}
-use Rattle.planner.specs.declared.sides.Side.{Side}
-use Rattle.planner.specs.declared.sides.Side.TheVariants as side
+use Rattle.planner.specs.declared.precedence.sides.Join.{Join}
+use Rattle.planner.specs.declared.precedence.sides.Side.{Side}
+use Rattle.planner.specs.declared.precedence.sides.Side.TheVariants as side
 
 abbrev pub is_of_leaf : ℕ → Action → Bool
 is_of_leaf r (Fence n) = false

@@ -1,9 +1,10 @@
 -- Edges that say what must precede what.
 use Rattle.std.specs.Prelude.{◌≡◌, ◌↔◌, ◌<◌, ◌≤◌, ℕ, Bool, true, List, Some, length, slice_get}
 use Rattle.cluster_types.specs.declared.cluster.Cluster.{Cluster}
-use Rattle.cluster_types.specs.declared.edges.Edges.{Edges}
+use Rattle.cluster_types.specs.declared.graph_edges.Edges.{Edges}
 use Rattle.cluster_types.specs.declared.journal.Action.{Action}
-use Rattle.cluster_types.specs.Graphs.{EndWithin, GraphOf, LeadUpward, Leads}
+use Rattle.cluster_types.specs.Graphs.{GraphOf, LeadUpward, LeadsByGates}
+use Rattle.edges.specs.Loops.{EndsWithin}
 use Rattle.cluster_types.specs.Plans.{most_edges}
 use Rattle.cluster_types.specs.Precedence.{must_precede}
 
@@ -11,9 +12,9 @@ use Rattle.cluster_types.specs.Precedence.{must_precede}
 -- their positions; those to gates lead upward
 pub record AreEdges (c : Cluster) (actions : List Action) (is_earlier : Action → Action → Bool) (edges : Edges) : Type 0 where
   pub leads : (x y : ℕ) (a b : Action) → x < length actions → y < length actions → slice_get actions x ≡ Some a → slice_get actions y ≡ Some b
-      → Leads (length actions) edges.list x y ↔ (must_precede c actions is_earlier a b ≡ true)
+      → LeadsByGates (length actions) edges.list x y ↔ (must_precede c actions is_earlier a b ≡ true)
   pub positions : length actions ≤ edges.positions
-  pub within : EndWithin edges.positions edges.list
+  pub within : EndsWithin edges.positions edges.list
   pub upward : LeadUpward (length actions) edges.list
   pub few : length edges.list ≤ most_edges c actions
 

@@ -4,34 +4,34 @@ use Rattle.std.specs.Coded.{Π_prop, →_prop, le_prop}
 use Rattle.cluster_types.specs.declared.cluster.Cluster.{Cluster}
 use Rattle.cluster_types.specs.declared.journal.Action.{Action}
 use Rattle.cluster_types.specs.Precedence.{CellOf}
-use Rattle.cluster_types.specs.declared.edges.Edge.{Edge}
+use Rattle.edges.specs.declared.edge.Edge.{Edge}
 use Rattle.cluster_types.specs.declared.journal.Action.TheVariants.{Fence, Probe, Cell, MigrateTo, MigrateFrom}
-use Rattle.planner.specs.declared.sides.Join.{Join}
-use Rattle.planner.specs.declared.sides.Side.{Side}
-use Rattle.planner.specs.declared.sides.Side.TheVariants as side
-use Rattle.planner.specs.Gates.{edges_of, gate_of, gates_upto, key_at}
+use Rattle.planner.specs.declared.precedence.sides.Join.{Join}
+use Rattle.planner.specs.declared.precedence.sides.Side.{Side}
+use Rattle.planner.specs.declared.precedence.sides.Side.TheVariants as side
+use Rattle.planner.specs.Gates.{edges_of_joins, gate_of, gates_upto, key_at}
 
 -- each cell of a join has a gate whose number has 32 bits
-pub record HasRoom (c : Cluster) (actions : List Action) (j : Join) (base width : ℕ) : Type 0 where
+pub record GatesHaveRoom (c : Cluster) (actions : List Action) (j : Join) (base width : ℕ) : Type 0 where
   pub from : (place : ℕ) (a : CellOf) → key_at c actions j.from place ≡ Some a → gate_of base width a < 4294967296
   pub to : (place : ℕ) (a : CellOf) → key_at c actions j.to place ≡ Some a → gate_of base width a < 4294967296
 
 -- the leaves and nodes of an action are those of the cluster
-abbrev pub IsWithin : Cluster → Action → Type 0
-IsWithin c (Fence n) = n < length c.nodes
-IsWithin c (Probe r n) = (r < length c.leaves) × (n < length c.nodes)
-IsWithin c (Cell o r n interval role) = (r < length c.leaves) × (n < length c.nodes)
-IsWithin c (MigrateTo r source target) = (r < length c.leaves) × (source < length c.nodes) × (target < length c.nodes)
-IsWithin c (MigrateFrom r source target) = (r < length c.leaves) × (source < length c.nodes) × (target < length c.nodes)
+abbrev pub IsActionWithin : Cluster → Action → Type 0
+IsActionWithin c (Fence n) = n < length c.nodes
+IsActionWithin c (Probe r n) = (r < length c.leaves) × (n < length c.nodes)
+IsActionWithin c (Cell o r n interval role) = (r < length c.leaves) × (n < length c.nodes)
+IsActionWithin c (MigrateTo r source target) = (r < length c.leaves) × (source < length c.nodes) × (target < length c.nodes)
+IsActionWithin c (MigrateFrom r source target) = (r < length c.leaves) × (source < length c.nodes) × (target < length c.nodes)
 
-within_prop : (c : Cluster) (a : Action) → IsProp (IsWithin c a)
+within_prop : (c : Cluster) (a : Action) → IsProp (IsActionWithin c a)
 within_prop c (Fence n) x y = le_prop x y
 within_prop c (Probe r n) x y = λ i. (le_prop x.0 y.0 i, le_prop x.1 y.1 i)
 within_prop c (Cell o r n interval role) x y = λ i. (le_prop x.0 y.0 i, le_prop x.1 y.1 i)
 within_prop c (MigrateTo r source target) x y = λ i. (le_prop x.0 y.0 i, le_prop x.1 y.1 i, le_prop x.2 y.2 i)
 within_prop c (MigrateFrom r source target) x y = λ i. (le_prop x.0 y.0 i, le_prop x.1 y.1 i, le_prop x.2 y.2 i)
 
-pub all_within_prop : (c : Cluster) (actions : List Action) → IsProp ((a : Action) → Contains actions a → IsWithin c a)
+pub all_within_prop : (c : Cluster) (actions : List Action) → IsProp ((a : Action) → Contains actions a → IsActionWithin c a)
 all_within_prop c actions = Π_prop (λ a. →_prop (within_prop c a))
 
 -- how many leaves and nodes the cells of a side have
@@ -82,7 +82,7 @@ width_of_join c j = width_of c j.from
 
 -- the edges that were built so far are those of some joins
 pub record Builds (c : Cluster) (actions : List Action) (places : Join → List ℕ) (list : List Edge) (base : ℕ) (js : List Join) : Type 0 where
-  pub list_is : list ≡ edges_of c actions (rows_of_join c) (width_of_join c) places (length actions) js
+  pub list_is : list ≡ edges_of_joins c actions (rows_of_join c) (width_of_join c) places (length actions) js
   pub base_is : base ≡ gates_upto c actions (rows_of_join c) (width_of_join c) places (length actions) js
 
 -- both sides of the join have as many leaves and nodes

@@ -5,7 +5,7 @@ use Rattle.cluster_types.specs.declared.journal.Action.{Action}
 use Rattle.cluster_types.specs.declared.rules.Order.{Order}
 use Rattle.cluster_types.specs.Plans.{is_of_either}
 use Rattle.cluster_types.specs.Precedence.{is_serialize}
-use Rattle.planner.specs.Chains.{AreInOrder}
+use Rattle.planner.specs.Chains.{ArePlacesInOrder}
 
 -- the numbers of a list, ascending, each once
 pub record AreAscending (all numbers : List ℕ) : Type 0 where
@@ -15,7 +15,7 @@ pub record AreAscending (all numbers : List ℕ) : Type 0 where
 
 -- the positions of an order's actions are in the order of numbers, and no more than its leaves have
 pub record AreSerials (actions : List Action) (is_earlier : Action → Action → Bool) (o : Order) (places : List ℕ) : Type 0 where
-  pub in_order : AreInOrder actions is_earlier o places
+  pub in_order : ArePlacesInOrder actions is_earlier o places
   pub within : All (λ place. place < length actions) places
   pub few : length places ≤ count_by (is_of_either o.first o.then_leaf) actions
 

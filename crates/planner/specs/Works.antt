@@ -4,15 +4,15 @@ use Rattle.cluster_types.specs.declared.cluster.Cluster.{Cluster}
 use Rattle.cluster_types.specs.declared.journal.Event.{Event}
 use Rattle.cluster_types.specs.Needed.{Cycled}
 use Rattle.cluster_types.specs.Tables.{Targets}
-use Rattle.planner.specs.Cycling.{Marks}
+use Rattle.planner.specs.Cycling.{MarkedCells}
 use Rattle.planner.specs.Levels.{AreNeeds, marks_in, need_in}
-use Rattle.planner.specs.declared.steps.CellNeed.{CellNeed}
-use Rattle.planner.specs.declared.work.CellWork.{CellWork}
+use Rattle.planner.specs.declared.needed.steps.CellNeed.{CellNeed}
+use Rattle.planner.specs.declared.needed.work.CellWork.{CellWork}
 
 abbrev pub needs_of : CellWork → ℕ → ℕ → CellNeed
 needs_of work = need_in work.marks.nodes work.needs.items
 
-abbrev pub marks_of : CellWork → Marks
+abbrev pub marks_of : CellWork → MarkedCells
 marks_of work = marks_in work.marks.nodes work.marks.cells.items
 
 -- the list says of each cell of the cluster what it needs, and the marks are those of the cells that are cycled

@@ -5,7 +5,7 @@ ghost use Rattle.cluster_types.specs.declared.cluster.Cluster.{Cluster};
 ghost use Rattle.cluster_types.specs.declared.journal.Event.{Event};
 ghost use Rattle.cluster_types.specs.declared.rules.Order.{Order};
 ghost use Rattle.cluster_types.specs.Needed.{Cycled};
-ghost use Rattle.cluster_types.specs.Numbers.{HasNoLoop};
+ghost use Rattle.cluster_types.specs.Numbers.{StepsHaveNoLoop};
 ghost use Rattle.cluster_types.specs.Tables.{Targets};
 ghost use Rattle.loops.specs.FirstLoops.{AllOrder};
 ghost use Rattle.planner.specs.Cycling.{AreCycling, FallByRank, NoneComesBack, first_marks, with_orders};
@@ -19,6 +19,6 @@ pub fn marks_of_orders_are_the_cycled()
 
 /// So it does where the orders stand by falling rank of the stops of their firsts.
 pub fn falling_orders_find_the_cycled()
-    ensures { (c : Cluster) → AllOrder c → HasNoLoop c → (es : List Event) (targets : Targets) (os : List Order)
+    ensures { (c : Cluster) → AllOrder c → StepsHaveNoLoop c → (es : List Event) (targets : Targets) (os : List Order)
         → AreCycling c os → FallByRank c os → (r n : ℕ) → with_orders c es targets (first_marks c es targets) os r n ≡ true ↔ Cycled c es targets r n }
 {}

@@ -5,48 +5,11 @@
 //! comes before which is told by edges between positions, few of them.
 #![tactic(auto)]
 
-// What each cell needs.
-mod knowing;
-mod steps;
+// Which actions are needed.
+mod needed;
 
-// Which cells are stopped and started again.
-mod activity;
-mod finding;
-mod marking;
-mod marks;
-mod passing;
-
-// Which leaves migrate, and from where.
-mod flags;
-mod sources;
-mod work;
-
-// The list of all actions.
-mod building;
-mod listing;
-
-// By which cell an action stands on a side of a join, and the edges of joins.
-mod edge_building;
-mod gates;
-mod keys;
-mod sides;
-
-// Which leaves are sent, where the actions of each leaf stand, and what all rules read of them.
-mod index;
-mod known;
-mod migrating;
-
-// The edges of each rule.
-mod buckets;
-mod chains;
-mod colocations;
-mod orders;
-mod rules;
-mod serialize;
-mod serials;
-
-// All edges.
-mod whole;
+// Which of the actions must precede which, as edges between positions.
+mod precedence;
 
 // The numbers of the actions.
 mod by_number;
@@ -57,7 +20,6 @@ mod planning;
 
 // What the loss of each node does.
 mod losing;
-mod report;
 
 // What follows from the definitions.
 mod action_laws;
@@ -66,17 +28,16 @@ mod laws;
 mod number_laws;
 
 pub use action_laws::{falling_orders_find_the_cycled, marks_of_orders_are_the_cycled};
-pub use building::actions;
 pub use edge_laws::{
     chains_say_what_is_serialized, edges_lead_to_higher_numbers, joins_say_what_must_precede,
     needed_actions_are_within,
 };
 pub use laws::there_is_one_plan;
 pub use losing::survive;
-pub use migrating::migrating_flags;
+pub use needed::building::actions;
 pub use number_laws::{needed_actions_have_places_of_their_own, plans_have_few_edges};
 pub use numbering::number;
 pub use planning::{plan, plan_of};
-pub use report::{Loss, Report};
-pub use sides::{Join, Side};
-pub use whole::edges;
+pub use precedence::migrating::migrating_flags;
+pub use precedence::sides::{Join, Side};
+pub use precedence::whole::edges;

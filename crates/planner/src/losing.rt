@@ -7,9 +7,8 @@ ghost use Rattle.cluster_types.specs.Valid.{IsValid};
 ghost use Rattle.state_unpack.specs.Known.{Knows};
 ghost use Rattle.planner.specs.Losses.{IsLoss, IsReport};
 
-use crate::report::{Loss, Report};
-use carry::with;
-use cluster_types::{Cluster, Event, Journal, NoMemory, NodeId, NodeState, States};
+use cluster_types::{Cluster, Event, Journal, Loss, NoMemory, NodeId, NodeState, Report, States};
+use faults::with;
 use listed::Listed;
 use placement::placement_of;
 use state_unpack::{Known, valid_clusters_have_few_monitors};

@@ -7,7 +7,7 @@ ghost use Rattle.cluster_types.specs.declared.journal.Event.{Event as EventOf};
 ghost use Rattle.cluster_types.specs.declared.journal.Promotion.{Promotion as PromotionOf};
 ghost use Rattle.cluster_types.specs.declared.placement.Placed.{Placed as PlacedOf};
 ghost use Rattle.cluster_types.specs.Needed.{Needed};
-ghost use Rattle.cluster_types.specs.Numbers.{place_of};
+ghost use Rattle.cluster_types.specs.Numbers.{action_place};
 ghost use Rattle.cluster_types.specs.Plans.{IsPlaced, most_edges};
 ghost use Rattle.cluster_types.specs.Tables.{targets_of};
 ghost use Rattle.cluster_types.specs.Valid.{IsValid};
@@ -18,7 +18,7 @@ pub fn needed_actions_have_places_of_their_own()
     ensures { (c : ClusterOf) (events : List EventOf) (promotions : List PromotionOf) (placed : PlacedOf) (actions : List ActionOf) (x y : ActionOf)
         → IsValid c → IsPlaced c events promotions placed
         → ((a : ActionOf) → Contains actions a ↔ Needed c events (targets_of placed.table) a)
-        → Contains actions x → Contains actions y → place_of c actions x ≡ place_of c actions y → x ≡ y }
+        → Contains actions x → Contains actions y → action_place c actions x ≡ action_place c actions y → x ≡ y }
 {}
 
 /// The graph of a plan of a valid cluster, however large, has at most a hundred million edges.

@@ -7,8 +7,8 @@ ghost use Rattle.cluster_types.specs.Valid.{IsValid};
 ghost use Rattle.planner.specs.Planned.{AreTold, IsPlanned};
 
 use crate::{actions, number};
-use carry::with;
 use cluster_types::{Cluster, Journal, NoMemory, Plan, States};
+use faults::with;
 use placement::placement_of;
 use state_unpack::{rights, unpack, valid_clusters_have_few_monitors};
 use std::alloc::Global;

@@ -3,7 +3,7 @@ use Rattle.std.proofs.Common.{arith, ◌≡◌, ◌<◌, ◌≤◌, ◌+◌, ◌
 use Rattle.std.proofs.lemmas.List.Elements.{All-contains}
 use Rattle.std.proofs.lemmas.List.Sums.{AllPass-from_list_all}
 use Rattle.lemmas.proofs.Booleans.{sooner, later}
-use Rattle.cluster_types.specs.declared.edges.Edge.{Edge}
+use Rattle.edges.specs.declared.edge.Edge.{Edge}
 use Rattle.cluster_types.proofs.RisingEdges.{graph-rising}
 use Rattle.cluster_types.specs.Graphs.{IsGraph}
 use Rattle.run_cases.specs.SmallGraph.{small_graph}

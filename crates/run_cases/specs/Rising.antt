@@ -1,6 +1,6 @@
 -- Which edges rise (rule of this project).
 use Rattle.std.specs.Prelude.{ℕ, nat_lt, ◌&&◌, Bool}
-use Rattle.cluster_types.specs.declared.edges.Edge.{Edge}
+use Rattle.edges.specs.declared.edge.Edge.{Edge}
 
 -- the edge leads from an action to a later one, of so many
 abbrev pub rises : ℕ → Edge → Bool

@@ -8,7 +8,7 @@ use cluster_types::{Answer, Cluster};
 use crm_lex::LexCause;
 use graph_exec::Next;
 use input_reading::ResultCause;
-use sim_core::{LineCause, LineOutcomes, LineStop};
+use live_run::{LineCause, LineOutcomes, LineStop};
 use std::alloc::Global;
 use std::process::Abort;
 
@@ -145,7 +145,7 @@ fn brings<S: Source>(outcomes: &mut LineOutcomes<'_, '_, S>, asked: &Asked) -> b
     outcomes.ask() == *next && outcomes.line() == *line && outcomes.stop() == *stop
 }
 
-#[tactic(auto, using(sim_core::proofs::Readers::fresh_reader))]
+#[tactic(auto, using(live_run::proofs::Readers::fresh_reader))]
 fn check_row(rt: &impl Abort, alloc: Global, cluster: &Cluster, row: &Row)
     requires { KeepsLimits cluster.now }
 {

@@ -1,6 +1,6 @@
 //! The texts of some cases, compared with those that another program made by the same rules.
 
-use agent_world::generate;
+use cases::generate;
 use std::alloc::Global;
 use std::process::Abort;
 use std::str;

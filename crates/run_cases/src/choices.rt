@@ -2,7 +2,7 @@
 
 ghost use Rattle.cluster_types.specs.Valid.{IsValid};
 
-use crate::cases::{Case, check_all};
+use crate::case_rows::{Case, check_all};
 use crate::plain::{Known, known_by};
 use crate::tables::have_points;
 use cluster_types::{Decided, Pin, Target};

@@ -1,6 +1,6 @@
 //! Which node is fenced after it was lost.
 
-use crate::cases::{Case, check_all};
+use crate::case_rows::{Case, check_all};
 use crate::plain::{Known, cluster_of, known_of};
 use cluster_types::{Action, Event, Journal, NodeId, Op, Outcome, Rights, Role};
 use listed::Listed;

@@ -6,8 +6,8 @@ ghost use Rattle.cluster_types.specs.Valid.{KeepsLimits};
 ghost use Rattle.state_unpack.specs.CellsKept.{has_few_monitors};
 
 use crate::starts::start_of;
-use agent_world::{Real, World};
 use cluster_types::{Cluster, Journal, LeafId, NodeId};
+use simulated::{Real, World};
 use std::alloc::Global;
 use std::process::Abort;
 

@@ -1,7 +1,7 @@
 //! Cases are read as any other input, and what the word `gen` writes of them.
 
 use crate::outcome::{Call, EASY, Pace, assert_outcome, easy};
-use agent_world::generate;
+use cases::generate;
 use input_reading::{Input, read_input};
 use sim_core::Status;
 use std::alloc::Global;

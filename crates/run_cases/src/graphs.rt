@@ -4,7 +4,7 @@ ghost use Rattle.std.specs.Prelude.{◌≡◌, ◌<◌, ◌≤◌, length};
 ghost use Rattle.cluster_types.specs.Unpacked.{states_of};
 ghost use Rattle.cluster_types.specs.Valid.{IsValid};
 
-use crate::cases::{Case, check_all};
+use crate::case_rows::{Case, check_all};
 use crate::plain::{Known, known_by};
 use crate::todos::{Todo, action};
 use cluster_types::{Graph, Op, Role};

@@ -3,7 +3,7 @@
 ghost use Rattle.std.specs.Prelude.{◌≡◌, ◌*◌, length};
 ghost use Rattle.cluster_types.specs.Valid.{IsValid, KeepsLimits};
 
-use crate::cases::{Case, check_all};
+use crate::case_rows::{Case, check_all};
 use crate::plain::{Known, known_by};
 use cluster_types::{Cluster, NoReason, Pin, Table, Target};
 use listed::Listed;

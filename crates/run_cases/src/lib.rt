@@ -6,7 +6,7 @@
 
 // What small texts say, and tests that are tables.
 #[cfg(test)]
-mod cases;
+mod case_rows;
 #[cfg(test)]
 mod plain;
 #[cfg(test)]

@@ -9,7 +9,7 @@ use cluster_io::MemorySink;
 use cluster_types::{Action, Answer, Cluster, Placed, Table, Target};
 use graph_exec::{Heard, Watcher};
 use listed::Listed;
-use sim_core::LineWriter;
+use live_run::LineWriter;
 use std::alloc::Global;
 use std::process::Abort;
 

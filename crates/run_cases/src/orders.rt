@@ -2,7 +2,7 @@
 
 ghost use Rattle.cluster_types.specs.Valid.{IsValid};
 
-use crate::cases::{Case, check_all};
+use crate::case_rows::{Case, check_all};
 use crate::plain::{Known, known_by};
 use cluster_types::{Decision, Pin, Table, Target};
 use placement::{decisions_in_order, pinned_table, pins, rows};

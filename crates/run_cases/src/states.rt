@@ -1,6 +1,6 @@
 //! What a journal tells of one leaf on one node.
 
-use crate::cases::{Case, check_all};
+use crate::case_rows::{Case, check_all};
 use crate::plain::{Known, cluster_of, known_of};
 use cluster_types::{Action, Cell, CellState, Event, Journal, Op, Outcome, Role};
 use listed::Listed;

@@ -1,6 +1,6 @@
 //! Tables of totals.
 
-use crate::cases::{Case, check_all};
+use crate::case_rows::{Case, check_all};
 use crate::plain::{Known, known_by};
 use cluster_types::{Decision, NodeId};
 use placement::{ScoreTable, rows};

@@ -3,8 +3,8 @@
 ghost use Rattle.cluster_types.specs.Valid.{KeepsLimits};
 
 use crate::starts::cluster_of;
-use agent_world::{Fate, Real, Reality, Standing, Turn};
 use cluster_types::{Action, Answer, Cluster};
+use simulated::{Fate, Real, Reality, Standing, Turn};
 use std::alloc::Global;
 use std::process::Abort;
 

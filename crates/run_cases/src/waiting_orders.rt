@@ -5,8 +5,8 @@ ghost use Rattle.run_cases.specs.SmallGraph.{small_graph};
 
 use crate::small_graphs::{PROBE_1, PROBE_2};
 use cluster_types::{Action, Edge, Edges, Graph};
+use graph_exec::Waiting;
 use listed::Listed;
-use loops::Waiting;
 use std::alloc::Global;
 use std::process::Abort;
 

@@ -1,6 +1,6 @@
 //! What is written of runs.
 
-ghost use Rattle.trace_text.specs.RunLines.{HasName, HasShortNames, IsNamed};
+ghost use Rattle.trace_text.specs.RunLines.{HasName, HasShortNames, IsReasonNamed};
 
 use crate::small_graphs::{PROBE_1, PROBE_2, START_1};
 use crate::starts::{CONFIGURATION, cluster_of};
@@ -36,7 +36,7 @@ fn add_targets(rt: &impl Abort, text: &mut Vec<u8>, cluster: &Cluster)
 
 fn add_reason(rt: &impl Abort, text: &mut Vec<u8>, cluster: &Cluster, reason: &NoReason)
     requires names { HasShortNames cluster.now }
-    requires named { IsNamed reason.now }
+    requires named { IsReasonNamed reason.now }
 {
     add(rt, text, cluster, &RunLineRef::Lacking(0, reason));
 }

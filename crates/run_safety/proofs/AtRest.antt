@@ -10,7 +10,7 @@ use Rattle.cluster_types.specs.declared.journal.Answer.{Answer}
 use Rattle.cluster_types.specs.declared.journal.Event.{Event}
 use Rattle.cluster_types.specs.declared.journal.Event.TheVariants.{Lost}
 use Rattle.cluster_types.specs.declared.journal.Outcome.TheVariants.{Gone}
-use Rattle.cluster_types.specs.Answering.{end_of}
+use Rattle.cluster_types.specs.Answering.{end_event}
 use Rattle.cluster_types.specs.Journals.{ends_number, in_flight, is_on}
 use Rattle.cluster_types.specs.Steps.{Transition, Goes, here, one_more, flight, flying, has_begun, is_in_flight_number, journal, numbers}
 use Rattle.cluster_types.proofs.SourceLaws.{none-in_flight}
@@ -24,12 +24,12 @@ use Rattle.run_safety.proofs.Truths.{refuse}
 module _ (t : Transition) where
   -- what ends with its node had begun
   gone_begun : (since : List Event) (n k : ℕ) (ps : List (ℕ × Action)) → Each (Flies t since) ps
-      → list_any (ends_number k) (map (end_of t.cluster (journal t since) (flying t since) Gone) (filter (λ (p : ℕ × Action). is_on n p.1) ps)) ≡ true → has_begun t since k ≡ true
+      → list_any (ends_number k) (map (end_event t.cluster (journal t since) (flying t since) Gone) (filter (λ (p : ℕ × Action). is_on n p.1) ps)) ≡ true → has_begun t since k ≡ true
   gone_begun since n k _ none h = cc
   gone_begun since n k _ (more p ps f rest) h = by (is_on n p.1) h (gone_begun since n k ps rest)
     where
-      by : (b : Bool) → list_any (ends_number k) (map (end_of t.cluster (journal t since) (flying t since) Gone) (cond b (p ∷ filter (λ (p : ℕ × Action). is_on n p.1) ps) (filter (λ (p : ℕ × Action). is_on n p.1) ps))) ≡ true
-          → (list_any (ends_number k) (map (end_of t.cluster (journal t since) (flying t since) Gone) (filter (λ (p : ℕ × Action). is_on n p.1) ps)) ≡ true → has_begun t since k ≡ true)
+      by : (b : Bool) → list_any (ends_number k) (map (end_event t.cluster (journal t since) (flying t since) Gone) (cond b (p ∷ filter (λ (p : ℕ × Action). is_on n p.1) ps) (filter (λ (p : ℕ × Action). is_on n p.1) ps))) ≡ true
+          → (list_any (ends_number k) (map (end_event t.cluster (journal t since) (flying t since) Gone) (filter (λ (p : ℕ × Action). is_on n p.1) ps)) ≡ true → has_begun t since k ≡ true)
           → has_begun t since k ≡ true
       by true h others = either (p.0 == k) _ h (λ e. subst (λ z. has_begun t since z ≡ true) (eqb-true p.0 k e) (sooner (has_begun t since p.0) _ f.in_flight)) others
       by false h others = others h

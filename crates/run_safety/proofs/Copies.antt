@@ -17,7 +17,7 @@ use Rattle.cluster_types.specs.Choice.{cap_of, is_stopped_role}
 use Rattle.cluster_types.specs.Failures.{is_fail_stopped}
 use Rattle.cluster_types.specs.Fields.{copies, target_role_of}
 use Rattle.cluster_types.specs.Journals.{Orderly}
-use Rattle.cluster_types.specs.Lawful.{count_of}
+use Rattle.cluster_types.specs.Lawful.{holder_count}
 use Rattle.cluster_types.specs.May.{may}
 use Rattle.cluster_types.specs.Precedence.{CellOf, gives_any, op_cell}
 use Rattle.cluster_types.specs.Rights.{may_start}
@@ -71,7 +71,7 @@ module _ (t : Transition) (targets : Targets) (carries : Carries t targets) (sou
         by true e =
             let counted = others_fewer (λ m. may t.cluster at.leaf m (journal t since)) (λ m. is_somewhere (targets at.leaf m)) at.node (length t.cluster.nodes) is_given.node
             is_given.somewhere (λ m low other on. targeted m low (first e m) on) in
-            let capped : count_of t.cluster t.planned_at targets at.leaf role.Started ≤ cap_of t.cluster t.planned_at (Place at.leaf) = sound.lawful.copies at.leaf is_given.leaf is_given.free in
+            let capped : holder_count t.cluster t.planned_at targets at.leaf role.Started ≤ cap_of t.cluster t.planned_at (Place at.leaf) = sound.lawful.copies at.leaf is_given.leaf is_given.free in
             let within = cap_copies t.cluster t.planned_at at.leaf in
             omega (arith, counted, capped, within)
         by false e =

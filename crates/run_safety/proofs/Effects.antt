@@ -12,7 +12,7 @@ use Rattle.cluster_types.specs.declared.journal.Outcome.TheVariants.{Code, Timed
 use Rattle.cluster_types.specs.declared.leaf.Op.TheVariants.{Start, Stop, Promote, Demote, Monitor}
 use Rattle.cluster_types.specs.declared.leaf.Role.TheVariants as role
 use Rattle.cluster_types.specs.May.{may, opens, closes}
-use Rattle.cluster_types.specs.Outcomes.{is_among}
+use Rattle.cluster_types.specs.Outcomes.{is_code_among}
 use Rattle.cluster_types.specs.Steps.{is_success}
 use Rattle.cluster_types.proofs.MayLaws.{may-last}
 use Rattle.run_safety.proofs.Touching.{gives_run, takes_run}
@@ -34,17 +34,17 @@ watched true true false false h f = cc
 watched true false i e h f = refl
 watched false d i e h f = refl
 
-started_codes : (o : Outcome) → is_among (0 ∷ 190 ∷ []) o ≡ true → is_among (7 ∷ []) o ≡ false
+started_codes : (o : Outcome) → is_code_among (0 ∷ 190 ∷ []) o ≡ true → is_code_among (7 ∷ []) o ≡ false
 started_codes (Code code) h = grind arith
 started_codes TimedOut h = cc
 started_codes Gone h = cc
 
-promoted_codes : (o : Outcome) → is_among (8 ∷ 191 ∷ []) o ≡ true → is_among (7 ∷ []) o ≡ false
+promoted_codes : (o : Outcome) → is_code_among (8 ∷ 191 ∷ []) o ≡ true → is_code_among (7 ∷ []) o ≡ false
 promoted_codes (Code code) h = grind arith
 promoted_codes TimedOut h = cc
 promoted_codes Gone h = cc
 
-probed_off : (o : Outcome) → is_among (7 ∷ []) o ≡ true → is_among (7 ∷ 5 ∷ []) o ≡ true
+probed_off : (o : Outcome) → is_code_among (7 ∷ []) o ≡ true → is_code_among (7 ∷ 5 ∷ []) o ≡ true
 probed_off (Code code) h = grind arith
 probed_off TimedOut h = cc
 probed_off Gone h = cc
@@ -75,7 +75,7 @@ module _ (c : Cluster) (r n : ℕ) where
 
   ends_open : (k m : ℕ) (y : Action) (o : Outcome) → is_success c y o ≡ true → gives_run r n y ≡ false → opens c r n (Ended k y o m) ≡ false
   ends_open k m (Fence node) o ok h = refl
-  ends_open k m (Probe leaf node) o ok h = excluded _ (is_among (7 ∷ 5 ∷ []) o) (probed_off o (first_passes _ false ok refl))
+  ends_open k m (Probe leaf node) o ok h = excluded _ (is_code_among (7 ∷ 5 ∷ []) o) (probed_off o (first_passes _ false ok refl))
   ends_open k m (Cell Start leaf node interval held) o ok h = and_left _ true h
   ends_open k m (Cell Stop leaf node interval held) o ok h = refl
   ends_open k m (Cell Promote leaf node interval held) o ok h = and_left _ true h
@@ -86,9 +86,9 @@ module _ (c : Cluster) (r n : ℕ) where
 
   ends_close : (k m : ℕ) (y : Action) (o : Outcome) → is_success c y o ≡ true → takes_run r n y ≡ false → closes c r n (Ended k y o m) ≡ false
   ends_close k m (Fence node) o ok h = rest_of (node == n) _ false h
-  ends_close k m (Probe leaf node) o ok h = and_left _ true (and_left _ (is_among (7 ∷ 5 ∷ []) o) h)
+  ends_close k m (Probe leaf node) o ok h = and_left _ true (and_left _ (is_code_among (7 ∷ 5 ∷ []) o) h)
   ends_close k m (Cell Start leaf node interval held) o ok h = refl
-  ends_close k m (Cell Stop leaf node interval held) o ok h = and_left _ true (and_left _ (is_among (0 ∷ []) o) h)
+  ends_close k m (Cell Stop leaf node interval held) o ok h = and_left _ true (and_left _ (is_code_among (0 ∷ []) o) h)
   ends_close k m (Cell Promote leaf node interval held) o ok h = refl
   ends_close k m (Cell Demote leaf node interval held) o ok h = refl
   ends_close k m (Cell Monitor leaf node interval role.Started) o ok h = watched _ _ _ _ ok (started_codes o)

@@ -13,7 +13,7 @@ use Rattle.cluster_types.specs.declared.journal.Outcome.{Outcome}
 use Rattle.cluster_types.specs.declared.states.NodeState.TheVariants as node
 use Rattle.cluster_types.specs.Journals.{was_fenced, last_sign}
 use Rattle.cluster_types.specs.NodeStates.{node_state}
-use Rattle.cluster_types.specs.Outcomes.{is_among}
+use Rattle.cluster_types.specs.Outcomes.{is_code_among}
 use Rattle.cluster_types.specs.Rights.{is_to_be_fenced}
 use Rattle.cluster_types.specs.Steps.{Transition, has_succeeded, journal, succeeds_number}
 use Rattle.cluster_types.specs.Tables.{Targets}
@@ -68,9 +68,9 @@ module _ (t : Transition) (targets : Targets) (carries : Carries t targets) (sin
   IsFenced es = last_sign n es ≡ Some was_fenced
 
   fence_shows : (es : List Event) (k m : ℕ) (y : Action) (o : Outcome) → IsFenced es → IsFenced (es ++ Ended k y o m ∷ [])
-  fence_shows es k m (Fence node) o was = by (node == n && is_among (0 ∷ []) o) refl
+  fence_shows es k m (Fence node) o was = by (node == n && is_code_among (0 ∷ []) o) refl
     where
-      by : (b : Bool) → (node == n && is_among (0 ∷ []) o) ≡ b → IsFenced (es ++ Ended k (Fence node) o m ∷ [])
+      by : (b : Bool) → (node == n && is_code_among (0 ∷ []) o) ≡ b → IsFenced (es ++ Ended k (Fence node) o m ∷ [])
       by true e = signed n es (Ended k (Fence node) o m) was_fenced (rw e refl)
       by false e = still n es (Ended k (Fence node) o m ∷ []) (more _ [] (rw e refl) no_more) ∙ was
   fence_shows es k m (Probe r node) o was = still n es _ (more _ [] refl no_more) ∙ was
@@ -88,7 +88,7 @@ module _ (t : Transition) (targets : Targets) (carries : Carries t targets) (sin
       is_fenced : IsFenced (journal t since)
       is_fenced =
           turned t IsFenced number.number (Fence n) number.is
-          (λ es o m ok. signed n es (Ended number.number (Fence n) o m) was_fenced (rw (number_itself n) (rw (first_passes (is_among (0 ∷ []) o) false ok refl) refl)))
+          (λ es o m ok. signed n es (Ended number.number (Fence n) o m) was_fenced (rw (number_itself n) (rw (first_passes (is_code_among (0 ∷ []) o) false ok refl) refl)))
           (λ es j y is was. inr (still n es (Begin j y ∷ []) (more _ [] refl no_more) ∙ was))
           (λ es j m y o is ok was. inr (fence_shows es j m y o was))
           (λ es s was. still n es (Wait s ∷ []) (more _ [] refl no_more) ∙ was) since calm (succeeded number)

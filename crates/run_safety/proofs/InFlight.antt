@@ -11,7 +11,7 @@ use Rattle.lemmas.proofs.Booleans.{number_itself}
 use Rattle.cluster_types.specs.declared.journal.Action.{Action}
 use Rattle.cluster_types.specs.declared.journal.Event.{Event}
 use Rattle.cluster_types.specs.declared.journal.Outcome.TheVariants.{Gone}
-use Rattle.cluster_types.specs.Answering.{end_of}
+use Rattle.cluster_types.specs.Answering.{end_event}
 use Rattle.cluster_types.specs.Journals.{is_on, ends_number}
 use Rattle.cluster_types.specs.Steps.{Transition, action_at, begins_number, flying, has_begun, has_ended, is_in_flight_number, journal, numbered, numbers}
 use Rattle.run_safety.proofs.Shapes.{gone_with}
@@ -88,5 +88,5 @@ ends_among k n end is (p ∷ ps) h = by (is_on n p.1) (p.0 == k) refl h (ends_am
 pub ends_with_node : (t : Transition) (since : List Event) (k n : ℕ) (a : Action) → action_at t k ≡ Some a → is_in_flight_number t since k ≡ true → is_on n a ≡ true
     → list_any (ends_number k) (gone_with t since n) ≡ true
 ends_with_node t since k n a is flies on =
-    ends_among k n (end_of t.cluster (journal t since) (flying t since) Gone) (λ p. refl) (flying t since)
+    ends_among k n (end_event t.cluster (journal t since) (flying t since) Gone) (λ p. refl) (flying t since)
     (among_flying t since k a (λ (p : ℕ × Action). p.0 == k && is_on n p.1) (rw (number_itself k) on) is flies)

@@ -11,7 +11,7 @@ use Rattle.cluster_types.specs.declared.journal.Event.{Event}
 use Rattle.cluster_types.specs.declared.journal.Event.TheVariants.{Up, Begin, Ended}
 use Rattle.cluster_types.specs.declared.journal.Outcome.{Outcome}
 use Rattle.cluster_types.specs.declared.journal.Outcome.TheVariants.{Gone}
-use Rattle.cluster_types.specs.Answering.{end_of}
+use Rattle.cluster_types.specs.Answering.{end_event}
 use Rattle.cluster_types.specs.Journals.{joined, Orderly, is_on, last_sign, sign_of, wants_node, was_fenced}
 use Rattle.cluster_types.specs.NodeStates.{is_online}
 use Rattle.cluster_types.specs.Steps.{Transition, aborts, action_at, begins_number, flying, has_aborted, is_in_flight_number, journal}
@@ -111,16 +111,16 @@ module _ (t : Transition) (keeps : KeepsToNodes t) (since : List Event) (stands 
   -- a loss: first ends what was in flight there, and then the node is gone
   pub gone_flies : (n : ℕ) (ps : List (ℕ × Action)) → Each (Flies t since) ps
       → Each (λ e. ((m : ℕ) → sign_of m e ≡ None) × ((m : ℕ) → wants_node m e ≡ true → last_sign m (journal t since) ≡ Some joined)
-      × ((k : ℕ) → begins_number k e ≡ false)) (map (end_of t.cluster (journal t since) (flying t since) Gone) (filter (λ (p : ℕ × Action). is_on n p.1) ps))
+      × ((k : ℕ) → begins_number k e ≡ false)) (map (end_event t.cluster (journal t since) (flying t since) Gone) (filter (λ (p : ℕ × Action). is_on n p.1) ps))
   gone_flies n _ none = none
   gone_flies n _ (more p ps f rest) = by (is_on n p.1) (gone_flies n ps rest)
     where
       Fits : Event → Type 0
       Fits e = ((m : ℕ) → sign_of m e ≡ None) × ((m : ℕ) → wants_node m e ≡ true → last_sign m (journal t since) ≡ Some joined) × ((k : ℕ) → begins_number k e ≡ false)
 
-      by : (b : Bool) → Each Fits (map (end_of t.cluster (journal t since) (flying t since) Gone) (filter (λ (p : ℕ × Action). is_on n p.1) ps))
-          → Each Fits (map (end_of t.cluster (journal t since) (flying t since) Gone) (cond b (p ∷ filter (λ (p : ℕ × Action). is_on n p.1) ps) (filter (λ (p : ℕ × Action). is_on n p.1) ps)))
+      by : (b : Bool) → Each Fits (map (end_event t.cluster (journal t since) (flying t since) Gone) (filter (λ (p : ℕ × Action). is_on n p.1) ps))
+          → Each Fits (map (end_event t.cluster (journal t since) (flying t since) Gone) (cond b (p ∷ filter (λ (p : ℕ × Action). is_on n p.1) ps) (filter (λ (p : ℕ × Action). is_on n p.1) ps)))
       by true after =
-          more (end_of t.cluster (journal t since) (flying t since) Gone p) _
+          more (end_event t.cluster (journal t since) (flying t since) Gone p) _
           ((λ m. gone_shows_nothing p.0 m _ p.1), (λ m w. stands.there p.0 m p.1 f.action f.in_flight w), (λ k. refl)) after
       by false after = after

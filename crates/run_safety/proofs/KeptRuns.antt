@@ -18,11 +18,11 @@ use Rattle.cluster_types.specs.declared.run.RunLine.{RunLine}
 use Rattle.cluster_types.specs.declared.run.RunLine.TheVariants as line
 use Rattle.cluster_types.specs.Pins.{pin_of}
 use Rattle.cluster_types.specs.Plans.{IsPlaced}
-use Rattle.cluster_types.specs.Runs.{Standing, due, amid, idle, RunsOn, plans, goes, completes, aborts, answers, Runs, journal_at}
-use Rattle.cluster_types.specs.Steps.{Applies, events_of, resting}
+use Rattle.cluster_types.specs.Runs.{RunStanding, due, amid, idle, RunsOn, plans, goes, completes, aborts, answers, Runs, journal_at}
+use Rattle.cluster_types.specs.Steps.{Applies, answer_events, resting}
 use Rattle.cluster_types.specs.Tables.{targets_of}
-use Rattle.cluster_types.specs.Texts.{Fits, all_passed_lines, end_lines, event_lines, target_lines}
-use Rattle.run_safety.specs.Kept.{AreWithin, IsKept}
+use Rattle.cluster_types.specs.Texts.{PassedFits, all_passed_lines, end_lines, event_lines, target_lines}
+use Rattle.run_safety.specs.Kept.{AreWithin, AreLinesKept}
 use Rattle.run_safety.proofs.Along.{along}
 use Rattle.run_safety.proofs.Kept.{between_passed, one_passed_more}
 use Rattle.run_safety.proofs.Printed.{answer_line}
@@ -59,22 +59,22 @@ module _ (c : Cluster) where
   pub record IsBegun (lines : List RunLine) (passed : List Passed) (k : ℕ) (es since : List Event) : Type 0 where
     pub number : k ≡ 1 + length passed
     pub within : AreWithin (length es) passed
-    pub fit : AllByRecursion (Fits c es) passed
+    pub fit : AllByRecursion (PassedFits c es) passed
     pub placed : Placed
     pub goals : PlacedFits c placed
     pub so_far : lines ≡ all_passed_lines c es 1 passed ++ ((line.Transition k ∷ target_lines c placed.pins (targets_of placed.table) placed.none) ++ flat_map event_lines since)
 
   pub record IsBetweenKept (lines : List RunLine) (passed : List Passed) (es : List Event) : Type 0 where
     pub within : AreWithin (length es) passed
-    pub fit : AllByRecursion (Fits c es) passed
+    pub fit : AllByRecursion (PassedFits c es) passed
     pub so_far : lines ≡ all_passed_lines c es 1 passed
 
-  abbrev KeepsAt : Standing → List RunLine → List Passed → Type 0
+  abbrev KeepsAt : RunStanding → List RunLine → List Passed → Type 0
   KeepsAt (due k es) lines passed = (k ≡ 1 + length passed) × IsBetweenKept lines passed es
   KeepsAt (amid k t since) lines passed = IsBegun lines passed k t.planned_at since
   KeepsAt (idle k es) lines passed = (k ≡ length passed) × (0 < k) × IsBetweenKept lines passed es
 
-  pub fits_more : (es ys : List Event) (p : Passed) → Fits c es p → Fits c (es ++ ys) p
+  pub fits_more : (es ys : List Event) (p : Passed) → PassedFits c es p → PassedFits c (es ++ ys) p
   fits_more es ys p fits = record {
     pins = fits.pins;
     reasons = fits.reasons;
@@ -84,7 +84,7 @@ module _ (c : Cluster) where
     within = let n = length-append es ys in let w = fits.within in omega (arith, n, w);
   }
 
-  fit_more : (es ys : List Event) (ps : List Passed) → AllByRecursion (Fits c es) ps → AllByRecursion (Fits c (es ++ ys)) ps
+  fit_more : (es ys : List Event) (ps : List Passed) → AllByRecursion (PassedFits c es) ps → AllByRecursion (PassedFits c (es ++ ys)) ps
   fit_more es ys [] h = tt
   fit_more es ys (p ∷ ps) h = (fits_more es ys p h.0, fit_more es ys ps h.1)
 
@@ -95,7 +95,7 @@ module _ (c : Cluster) where
       let n = length-append es since in
       let p = passed_by es begun.placed since ending in
       let head = (line.Transition k ∷ target_lines c begun.placed.pins (targets_of begun.placed.table) begun.placed.none) ++ flat_map event_lines since in
-      let new : Fits c (es ++ since) p = record {
+      let new : PassedFits c (es ++ since) p = record {
         pins = begun.goals.pins;
         reasons = begun.goals.reasons;
         nodes = begun.goals.nodes;
@@ -105,23 +105,23 @@ module _ (c : Cluster) where
       } in
       record {
         within = within_more (length (es ++ since)) passed p (still_within (length es) (length (es ++ since)) passed (omega (arith, n)) begun.within) (omega (arith, n)) (omega (arith, n));
-        fit = all_append (Fits c (es ++ since)) passed (p ∷ []) (fit_more es since passed begun.fit) (new, tt);
+        fit = all_append (PassedFits c (es ++ since)) passed (p ∷ []) (fit_more es since passed begun.fit) (new, tt);
         so_far = ap (λ z. z ++ end_lines c k ending) begun.so_far
             ∙ append_assoc (all_passed_lines c es 1 passed) head (end_lines c k ending)
             ∙ sym (one_passed_more es since c p refl refl 1 k passed begun.number begun.within);
       }
 
-  abbrev Some_kept : Standing → List RunLine → Type 0
+  abbrev Some_kept : RunStanding → List RunLine → Type 0
   Some_kept at lines = (passed : List Passed) × KeepsAt at lines passed
 
   counted_more : (ps : List Passed) (p : Passed) → length (ps ++ p ∷ []) ≡ 1 + length ps
   counted_more ps p = let n = length-append ps (p ∷ []) in omega (arith, n)
 
   idle_answer : (k : ℕ) (es : List Event) (given : Answer) (lines : List RunLine) (passed : List Passed) → k ≡ length passed → 0 < k → IsBetweenKept lines passed es → Applies (resting c es) [] given
-      → IsBetweenKept (lines ++ line.Taken given ∷ []) passed (es ++ events_of (resting c es) [] given)
+      → IsBetweenKept (lines ++ line.Taken given ∷ []) passed (es ++ answer_events (resting c es) [] given)
   idle_answer k es given lines [] e low kept applies = absurd (let f : ⊥ = omega (arith, e, low) in f)
   idle_answer k es given lines (q ∷ qs) e low kept applies =
-      let ys = events_of (resting c es) [] given in
+      let ys = answer_events (resting c es) [] given in
       let n = length-append es ys in
       record {
         within = still_within (length es) (length (es ++ ys)) (q ∷ qs) (omega (arith, n)) kept.within;
@@ -131,7 +131,7 @@ module _ (c : Cluster) where
       }
 
   module _ (promotions : List Promotion) (whole : Bool) where
-    one_kept : (at next : Standing) (rest left : Option (List Answer)) (lines more : List RunLine) → RunsOn c promotions whole at rest more next left → Some_kept at lines → Some_kept next (lines ++ more)
+    one_kept : (at next : RunStanding) (rest left : Option (List Answer)) (lines more : List RunLine) → RunsOn c promotions whole at rest more next left → Some_kept at lines → Some_kept next (lines ++ more)
     one_kept _ _ rest _ lines _ (plans k es _ placed actions plan) kept =
         let head = line.Transition k ∷ target_lines c placed.pins (targets_of placed.table) placed.none in (
           kept.0,
@@ -174,12 +174,12 @@ module _ (c : Cluster) where
         let number = kept.1.0 in
         (kept.0, (omega (arith, number), idle_answer k es given lines kept.0 kept.1.0 kept.1.1 kept.1.2 applies))
 
-    pub runs_kept : (es : List Event) (at : Standing) (rest left : Option (List Answer)) (lines : List RunLine) → Runs c promotions whole (due 1 es) rest lines at left → IsKept c (journal_at at) lines
+    pub runs_kept : (es : List Event) (at : RunStanding) (rest left : Option (List Answer)) (lines : List RunLine) → Runs c promotions whole (due 1 es) rest lines at left → AreLinesKept c (journal_at at) lines
     runs_kept es at rest left lines runs =
         by at (along c promotions whole (λ p _ before. Some_kept p before) (λ p q middle behind before more step kept. one_kept p q middle behind before more step kept)
         (due 1 es) at rest left [] lines runs ([], (refl, record { within = tt; fit = tt; so_far = refl })))
       where
-        by : (at : Standing) → Some_kept at lines → IsKept c (journal_at at) lines
+        by : (at : RunStanding) → Some_kept at lines → AreLinesKept c (journal_at at) lines
         by (due k es) kept = record { passed = kept.0; within = kept.1.1.within; fit = kept.1.1.fit; lines = kept.1.1.so_far }
         by (amid k t since) kept =
             let last = closed lines kept.0 k t.planned_at since end.Cut kept.1 in

@@ -11,7 +11,7 @@ use Rattle.cluster_types.specs.declared.journal.Answer.{Answer}
 use Rattle.cluster_types.specs.declared.journal.Event.{Event}
 use Rattle.cluster_types.specs.declared.journal.Event.TheVariants.{Up, Lost, Quorum, Wait, Ended}
 use Rattle.cluster_types.specs.declared.journal.Outcome.TheVariants.{Code, Gone}
-use Rattle.cluster_types.specs.Answering.{end_of, monitor_action, tells_news}
+use Rattle.cluster_types.specs.Answering.{end_event, monitor_action, tells_news}
 use Rattle.cluster_types.specs.Journals.{joined, Orderly, ends_number, is_on, last_sign, sign_of, wants_node}
 use Rattle.cluster_types.specs.NodeStates.{is_online}
 use Rattle.cluster_types.specs.Steps.{Transition, Goes, here, one_more, aborts, action_at, begins_number, flying, has_aborted, is_in_flight_number, journal}
@@ -86,7 +86,7 @@ module _ (t : Transition) (since : List Event) where
 pub gone_begins_nothing : (t : Transition) (since : List Event) (n : ℕ) → list_all begins_nothing (gone_with t since n ++ Lost n ∷ []) ≡ true
 gone_begins_nothing t since n =
     joined_all begins_nothing (gone_with t since n) (Lost n ∷ [])
-    (map_all begins_nothing (end_of t.cluster (journal t since) (flying t since) Gone) (λ p. refl) (filter (λ (p : ℕ × Action). is_on n p.1) (flying t since))) refl
+    (map_all begins_nothing (end_event t.cluster (journal t since) (flying t since) Gone) (λ p. refl) (filter (λ (p : ℕ × Action). is_on n p.1) (flying t since))) refl
 
 module _ (t : Transition) (keeps : KeepsToNodes t) where
   news_online : (since : List Event) (r n interval code : ℕ) → tells_news t.cluster (journal t since) (flying t since) n r interval code ≡ true

@@ -15,8 +15,8 @@ use Rattle.cluster_types.specs.declared.journal.Promotion.{Promotion}
 use Rattle.cluster_types.specs.declared.run.RunLine.{RunLine}
 use Rattle.cluster_types.specs.Answering.{is_number_of, most_from_outside}
 use Rattle.cluster_types.specs.Journals.{is_on, moment_of, seconds_of}
-use Rattle.cluster_types.specs.Runs.{Standing, RunsOn, plans, goes, completes, aborts, answers, Runs, journal_at}
-use Rattle.cluster_types.specs.Steps.{Transition, StepsOn, begins, takes, is_silent, Applies, events_of, flying, journal, outside, resting, silent_code}
+use Rattle.cluster_types.specs.Runs.{RunStanding, RunsOn, plans, goes, completes, aborts, answers, Runs, journal_at}
+use Rattle.cluster_types.specs.Steps.{Transition, StepsOn, begins, takes, is_silent, Applies, answer_events, flying, journal, outside, resting, silent_code}
 use Rattle.lemmas.proofs.Booleans.{later}
 use Rattle.run_safety.proofs.Along.{along}
 
@@ -30,7 +30,7 @@ gone_seconds m n (p ∷ ps) = gone_seconds m n ps
 
 module _ (t : Transition) (since : List Event) where
   -- what was said adds no seconds, or so many that the moment stays in its bound
-  pub answer_seconds : (given : Answer) → Applies t since given → moment_of (journal t since) < 2 ^ 40 → moment_of (journal t since) + sum_by seconds_of (events_of t since given) < 2 ^ 40
+  pub answer_seconds : (given : Answer) → Applies t since given → moment_of (journal t since) < 2 ^ 40 → moment_of (journal t since) + sum_by seconds_of (answer_events t since given) < 2 ^ 40
   answer_seconds (answer.End k code) applies low =
       let e = no_seconds (moment_of (journal t since)) (Code code) (find (is_number_of k) (flying t since)) in omega (arith, e, low)
   answer_seconds (answer.Timeout k) applies low =
@@ -54,7 +54,7 @@ joined_moment : (xs ys : List Event) → moment_of xs + sum_by seconds_of ys < 2
 joined_moment xs ys h = subst (λ z. z < 2 ^ 40) (sym (sum_by-append seconds_of xs ys)) h
 
 module _ (c : Cluster) (promotions : List Promotion) (whole : Bool) where
-  one_moment : (at next : Standing) (rest left : Option (List Answer)) (lines : List RunLine) → RunsOn c promotions whole at rest lines next left
+  one_moment : (at next : RunStanding) (rest left : Option (List Answer)) (lines : List RunLine) → RunsOn c promotions whole at rest lines next left
       → moment_of (journal_at at) < 2 ^ 40 → moment_of (journal_at next) < 2 ^ 40
   one_moment _ _ rest _ _ (plans k es _ placed actions plan) low = joined_moment es [] (omega (arith, low))
   one_moment _ _ rest left _ (goes k t since events _ _ step) low =
@@ -64,10 +64,10 @@ module _ (c : Cluster) (promotions : List Promotion) (whole : Bool) where
   one_moment _ _ rest left _ (answers k es _ _ given said applies) low =
       let t = resting c es in
       let same : journal t [] ≡ es = append-nil es in
-      joined_moment es (events_of t [] given) (subst (λ z. moment_of z + sum_by seconds_of (events_of t [] given) < 2 ^ 40) same
+      joined_moment es (answer_events t [] given) (subst (λ z. moment_of z + sum_by seconds_of (answer_events t [] given) < 2 ^ 40) same
       (answer_seconds t [] given applies (subst (λ z. moment_of z < 2 ^ 40) (sym same) low)))
 
-  pub moments_bounded : (at later : Standing) (rest left : Option (List Answer)) (lines : List RunLine) → Runs c promotions whole at rest lines later left
+  pub moments_bounded : (at later : RunStanding) (rest left : Option (List Answer)) (lines : List RunLine) → Runs c promotions whole at rest lines later left
       → moment_of (journal_at at) < 2 ^ 40 → moment_of (journal_at later) < 2 ^ 40
   moments_bounded at later rest left lines runs low =
       along c promotions whole (λ p _ _. moment_of (journal_at p) < 2 ^ 40) (λ p q middle behind before more step h. one_moment p q middle behind more step h) at later rest left [] lines runs low

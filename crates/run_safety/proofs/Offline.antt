@@ -15,7 +15,7 @@ use Rattle.cluster_types.specs.Failures.{failures_in_force}
 use Rattle.cluster_types.specs.Journals.{NodeSign, joined, went_down, was_lost, was_fenced, Orderly, last_sign, sign_of, wants_node}
 use Rattle.cluster_types.specs.May.{may, opens, closes, opens_cell}
 use Rattle.cluster_types.specs.NodeStates.{is_online, is_online_state, is_unclean, is_to_blame, state_by, wants_fence}
-use Rattle.cluster_types.specs.Outcomes.{effective, is_among, is_fence, fail_of}
+use Rattle.cluster_types.specs.Outcomes.{effective, is_code_among, is_fence, action_fail}
 use Rattle.cluster_types.proofs.MayLaws.{may-last}
 use Rattle.cluster_types.proofs.LastSigns.{signed}
 use Rattle.run_safety.proofs.Each.{more, none}
@@ -57,8 +57,8 @@ opens_wants r n (Ended k (Cell Start leaf node interval role) o moment) h = inl 
 opens_wants r n (Ended k (Cell Promote leaf node interval role) o moment) h = inl (later (leaf == r) (node == n) h)
 opens_wants r n (Ended k (Cell Demote leaf node interval role) o moment) h = inl (later (leaf == r) (node == n) h)
 opens_wants r n (Ended k (MigrateFrom leaf source target) o moment) h = inl (later (leaf == r) (target == n) h)
-opens_wants r n (Ended k (Probe leaf node) o moment) h = inl (later (leaf == r) (node == n) (sooner _ (not (is_among (7 ∷ 5 ∷ []) o)) h))
-opens_wants r n (Ended k (Cell Monitor leaf node interval role) o moment) h = inl (later (leaf == r) (node == n) (sooner _ (not (is_among (7 ∷ []) o)) h))
+opens_wants r n (Ended k (Probe leaf node) o moment) h = inl (later (leaf == r) (node == n) (sooner _ (not (is_code_among (7 ∷ 5 ∷ []) o)) h))
+opens_wants r n (Ended k (Cell Monitor leaf node interval role) o moment) h = inl (later (leaf == r) (node == n) (sooner _ (not (is_code_among (7 ∷ []) o)) h))
 opens_wants r n _ h = cc
 
 -- a sign by which a node is out closes its cells
@@ -85,9 +85,9 @@ signs_close c r n (Lost node) s h out = by (node == n) refl h
         let unfenced : not c.properties.fencing ≡ true = subst (λ z. is_out c.properties.fencing (Some z) ≡ true) same out in
         record { closes_it = rw e (rw unfenced refl); opens_none = refl }
     by false e h = absurd (let f : ⊥ = cc in f)
-signs_close c r n (Ended k (Fence node) o moment) s h out = by (node == n && is_among (0 ∷ []) o) refl h
+signs_close c r n (Ended k (Fence node) o moment) s h out = by (node == n && is_code_among (0 ∷ []) o) refl h
   where
-    by : (b : Bool) → (node == n && is_among (0 ∷ []) o) ≡ b → (if b then Some was_fenced else None) ≡ Some s → Closes c r n (Ended k (Fence node) o moment)
+    by : (b : Bool) → (node == n && is_code_among (0 ∷ []) o) ≡ b → (if b then Some was_fenced else None) ≡ Some s → Closes c r n (Ended k (Fence node) o moment)
     by true e h = record { closes_it = or_left _ _ e; opens_none = refl }
     by false e h = absurd (let f : ⊥ = cc in f)
 signs_close c r n _ s h out = absurd (let f : ⊥ = cc in f)
@@ -136,7 +136,7 @@ module _ (c : Cluster) (n : ℕ) (es : List Event) where
   blames_no_one off = any_none _ (λ r. any_none (wants_fence c) none_wants (failures_in_force c r n es)) (range_with_len 0 (length c.leaves))
     where
       none_wants : (e : Event) → wants_fence c e ≡ false
-      none_wants (Ended k a o moment) = rw off (unfenced (fail_of c a))
+      none_wants (Ended k a o moment) = rw off (unfenced (action_fail c a))
       none_wants (Up node) = refl
       none_wants (Down node) = refl
       none_wants (Lost node) = refl

@@ -7,10 +7,10 @@ use Rattle.cluster_types.specs.declared.journal.Answer.{Answer}
 use Rattle.cluster_types.specs.declared.journal.Event.{Event}
 use Rattle.cluster_types.specs.declared.journal.Promotion.{Promotion}
 use Rattle.cluster_types.specs.declared.run.RunLine.{RunLine}
-use Rattle.cluster_types.specs.Runs.{Standing, due, amid, idle, RunsOn, plans, goes, completes, aborts, answers, Runs, here, one_more, IsOver, IsCut, IsCutRun, IsWholeRun, journal_at}
+use Rattle.cluster_types.specs.Runs.{RunStanding, due, amid, idle, RunsOn, plans, goes, completes, aborts, answers, Runs, here, one_more, IsOver, IsCutAt, IsCutRun, IsWholeRun, journal_at}
 use Rattle.cluster_types.specs.Sources.{Says}
 use Rattle.cluster_types.specs.Steps.{Transition, StepsOn, begins, takes, is_silent, Applies, IsWaiting, resting}
-use Rattle.run_safety.specs.Followed.{IsTold, GoesOn, AreOnOneWay, this_first, other_first}
+use Rattle.run_safety.specs.Followed.{AreAnswersTold, GoesOn, AreOnOneWay, this_first, other_first}
 use Rattle.run_safety.specs.OnePlan.{PlansAreOne}
 use Rattle.run_safety.proofs.OneRun.{one_way, runs_told}
 use Rattle.run_safety.proofs.OneStep.{ended_waits, unsettled}
@@ -18,10 +18,10 @@ use Rattle.run_safety.proofs.Said.{says_one, some_or_none}
 
 module _ (c : Cluster) (promotions : List Promotion) (whole : Bool) where
   -- no step goes on from here
-  abbrev pub IsStuck : Standing → Option (List Answer) → Type 0
-  IsStuck at rest = (lines : List RunLine) (next : Standing) (left : Option (List Answer)) → RunsOn c promotions whole at rest lines next left → ⊥
+  abbrev pub IsStuck : RunStanding → Option (List Answer) → Type 0
+  IsStuck at rest = (lines : List RunLine) (next : RunStanding) (left : Option (List Answer)) → RunsOn c promotions whole at rest lines next left → ⊥
 
-  over_stuck : (at : Standing) (rest : Option (List Answer)) → IsTold rest → IsOver c promotions whole at rest → IsStuck at rest
+  over_stuck : (at : RunStanding) (rest : Option (List Answer)) → AreAnswersTold rest → IsOver c promotions whole at rest → IsStuck at rest
   over_stuck _ _ told over _ _ _ (plans k es _ placed actions plan) = over
   over_stuck _ _ told over _ _ _ (goes k t since events _ _ step) = over
   over_stuck _ _ told over _ _ _ (completes k t since _ ended unaborted) = over
@@ -29,7 +29,7 @@ module _ (c : Cluster) (promotions : List Promotion) (whole : Bool) where
   over_stuck _ rest told over _ _ left (answers k es _ _ given said applies) =
       some_or_none given (says_one whole rest left rest (Some given) None told said over).0
 
-  step_cut : (t : Transition) (since events : List Event) (rest next left : Option (List Answer)) (given : Answer) → IsTold rest → IsWaiting t since → Says whole rest (Some given) left
+  step_cut : (t : Transition) (since events : List Event) (rest next left : Option (List Answer)) (given : Answer) → AreAnswersTold rest → IsWaiting t since → Says whole rest (Some given) left
       → ¬ Applies t since given → StepsOn t whole since rest events next → ⊥
   step_cut t since _ rest _ left given told waiting said refused (begins _ k a begin) = unsettled t since k a begin waiting.settled
   step_cut t since _ rest next left given told waiting said refused (takes _ _ other also taken) =
@@ -38,7 +38,7 @@ module _ (c : Cluster) (promotions : List Promotion) (whole : Bool) where
   step_cut t since _ rest next left given told waiting said refused (is_silent _ _ k a also ends) =
       some_or_none given (says_one whole rest left next (Some given) None told said also).0
 
-  cut_stuck : (at : Standing) (rest left : Option (List Answer)) (given : Answer) → IsTold rest → IsCut c promotions whole at rest given left → IsStuck at rest
+  cut_stuck : (at : RunStanding) (rest left : Option (List Answer)) (given : Answer) → AreAnswersTold rest → IsCutAt c promotions whole at rest given left → IsStuck at rest
   cut_stuck _ rest left given told cut _ _ _ (plans k es _ placed actions plan) = cut.asking
   cut_stuck _ rest left given told cut _ _ next (goes k t since events _ _ step) = step_cut t since events rest next left given told cut.asking cut.said cut.refused step
   cut_stuck _ rest left given told cut _ _ _ (completes k t since _ ended unaborted) = ended_waits t since ended cut.asking
@@ -47,14 +47,14 @@ module _ (c : Cluster) (promotions : List Promotion) (whole : Bool) where
       let same = same_Some other given (says_one whole rest next left (Some other) (Some given) told also cut.said).0 in
       cut.refused (subst (λ z. Applies (resting c es) [] z) same applies)
 
-  stuck_here : (at later : Standing) (rest left : Option (List Answer)) (lines : List RunLine) → IsStuck at rest → Runs c promotions whole at rest lines later left
+  stuck_here : (at later : RunStanding) (rest left : Option (List Answer)) (lines : List RunLine) → IsStuck at rest → Runs c promotions whole at rest lines later left
       → (lines ≡ []) × (at ≡ later) × (rest ≡ left)
   stuck_here at _ rest _ _ stuck (here _ _) = (refl, refl, refl)
   stuck_here at later rest left _ stuck (one_more _ next _ _ middle _ lines more step runs) = absurd (stuck lines next middle step)
 
-  module _ (one_plan : PlansAreOne c promotions) (first : Standing) (rest : Option (List Answer)) (told : IsTold rest) where
+  module _ (one_plan : PlansAreOne c promotions) (first : RunStanding) (rest : Option (List Answer)) (told : AreAnswersTold rest) where
     -- a run that is stuck goes on from each other
-    pub before_stuck : (p q : Standing) (left right : Option (List Answer)) (lines others : List RunLine) → Runs c promotions whole first rest lines p left
+    pub before_stuck : (p q : RunStanding) (left right : Option (List Answer)) (lines others : List RunLine) → Runs c promotions whole first rest lines p left
         → Runs c promotions whole first rest others q right → IsStuck q right → GoesOn c promotions whole lines p left others q right
     before_stuck p q left right lines others one two stuck = by (one_way c promotions whole one_plan first p q rest left right lines others told one two)
       where
@@ -68,22 +68,22 @@ module _ (c : Cluster) (promotions : List Promotion) (whole : Bool) where
               joined = sym (g.joined ∙ ap (λ z. others ++ z) same.0 ∙ append-nil others) ∙ sym (append-nil lines);
             }
 
-    pub both_stuck : (p q : Standing) (left right : Option (List Answer)) (lines others : List RunLine) → Runs c promotions whole first rest lines p left
+    pub both_stuck : (p q : RunStanding) (left right : Option (List Answer)) (lines others : List RunLine) → Runs c promotions whole first rest lines p left
         → Runs c promotions whole first rest others q right → IsStuck p left → IsStuck q right → (lines ≡ others) × (p ≡ q) × (left ≡ right)
     both_stuck p q left right lines others one two stuck also =
         let g = before_stuck p q left right lines others one two also in
         let same = stuck_here p q left right g.more stuck g.runs in
         (sym (g.joined ∙ ap (λ z. lines ++ z) same.0 ∙ append-nil lines), same.1, same.2)
 
-  pub whole_stuck : (es left : List Event) (rest : Option (List Answer)) (lines : List RunLine) (told : IsTold rest) (run : IsWholeRun c promotions whole es rest lines left) → IsStuck run.last run.behind
+  pub whole_stuck : (es left : List Event) (rest : Option (List Answer)) (lines : List RunLine) (told : AreAnswersTold rest) (run : IsWholeRun c promotions whole es rest lines left) → IsStuck run.last run.behind
   whole_stuck es left rest lines told run = over_stuck run.last run.behind (runs_told c promotions whole (due 1 es) run.last rest run.behind lines run.steps told) run.over
 
-  pub cut_run_stuck : (es left : List Event) (rest behind : Option (List Answer)) (given : Answer) (lines : List RunLine) (told : IsTold rest)
+  pub cut_run_stuck : (es left : List Event) (rest behind : Option (List Answer)) (given : Answer) (lines : List RunLine) (told : AreAnswersTold rest)
       (run : IsCutRun c promotions whole es rest lines left given behind) → IsStuck run.last run.unread
   cut_run_stuck es left rest behind given lines told run =
       cut_stuck run.last run.unread behind given (runs_told c promotions whole (due 1 es) run.last rest run.unread lines run.steps told) run.cut
 
-  module _ (one_plan : PlansAreOne c promotions) (es : List Event) (rest : Option (List Answer)) (told : IsTold rest) where
+  module _ (one_plan : PlansAreOne c promotions) (es : List Event) (rest : Option (List Answer)) (told : AreAnswersTold rest) where
     pub whole_one : (left right : List Event) (lines others : List RunLine) → IsWholeRun c promotions whole es rest lines left → IsWholeRun c promotions whole es rest others right
         → (lines ≡ others) × (left ≡ right)
     whole_one left right lines others one two =
@@ -106,11 +106,11 @@ module _ (c : Cluster) (promotions : List Promotion) (whole : Bool) where
     whole_or_cut {R} left right lines others given behind one two =
         let same = both_stuck one_plan (due 1 es) rest told one.last two.last one.behind two.unread lines others one.steps two.steps
         (whole_stuck es left rest lines told one) (cut_run_stuck es right rest behind given others told two) in
-        let cut : IsCut c promotions whole one.last one.behind given behind =
-        subst (λ z. IsCut c promotions whole z one.behind given behind) (sym same.1) (subst (λ z. IsCut c promotions whole two.last z given behind) (sym same.2) two.cut) in
+        let cut : IsCutAt c promotions whole one.last one.behind given behind =
+        subst (λ z. IsCutAt c promotions whole z one.behind given behind) (sym same.1) (subst (λ z. IsCutAt c promotions whole two.last z given behind) (sym same.2) two.cut) in
         by one.last one.behind one.over cut (runs_told c promotions whole (due 1 es) one.last rest one.behind lines one.steps told)
       where
-        by : (at : Standing) (unread : Option (List Answer)) → IsOver c promotions whole at unread → IsCut c promotions whole at unread given behind → IsTold unread → R
+        by : (at : RunStanding) (unread : Option (List Answer)) → IsOver c promotions whole at unread → IsCutAt c promotions whole at unread given behind → AreAnswersTold unread → R
         by (due k es) unread over cut told = absurd over
         by (amid k t since) unread over cut told = absurd over
         by (idle k es) unread over cut told = some_or_none given (says_one whole unread behind unread (Some given) None told cut.said over).0

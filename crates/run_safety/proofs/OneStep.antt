@@ -8,10 +8,10 @@ use Rattle.cluster_types.specs.declared.journal.Event.{Event}
 use Rattle.cluster_types.specs.declared.journal.Event.TheVariants.{Begin}
 use Rattle.cluster_types.specs.declared.journal.Outcome.TheVariants.{Code}
 use Rattle.cluster_types.specs.Sources.{Says}
-use Rattle.cluster_types.specs.Steps.{Transition, Begins, StepsOn, begins, takes, is_silent, HasEnded, IsWaiting, EndsSilently, action_at, ended, events_of, flight, has_aborted, has_begun, has_room, is_settled, may_begin, numbers, silent_code}
+use Rattle.cluster_types.specs.Steps.{Transition, Begins, StepsOn, begins, takes, is_silent, HasEnded, IsWaiting, EndsSilently, action_at, ended, answer_events, flight, has_aborted, has_begun, has_room, is_settled, may_begin, numbers, silent_code}
 use Rattle.lemmas.proofs.Booleans.{sooner}
 use Rattle.std.proofs.lemmas.Bool.{not-true}
-use Rattle.run_safety.specs.Followed.{IsTold}
+use Rattle.run_safety.specs.Followed.{AreAnswersTold}
 use Rattle.run_safety.proofs.Said.{says_one, some_or_none}
 
 -- one that passes stands in the list
@@ -55,7 +55,7 @@ module _ (t : Transition) (since : List Event) where
   same_action : (j k : ℕ) (a b : Action) → j ≡ k → action_at t j ≡ Some a → action_at t k ≡ Some b → a ≡ b
   same_action j k a b e h g = let f : action_at t j ≡ Some b = subst (λ z. action_at t z ≡ Some b) (sym e) g in let s : Some a ≡ Some b = sym h ∙ f in cc
 
-  module _ (whole : Bool) (rest : Option (List Answer)) (told : IsTold rest) where
+  module _ (whole : Bool) (rest : Option (List Answer)) (told : AreAnswersTold rest) where
     begin_one : (k : ℕ) (a : Action) → Begins t since k a → (others : List Event) (left : Option (List Answer)) → StepsOn t whole since rest others left
         → (Begin k a ∷ [] ≡ others) × (rest ≡ left)
     begin_one k a one _ _ (begins _ j b two) =
@@ -66,12 +66,12 @@ module _ (t : Transition) (since : List Event) where
     begin_one k a one _ left (is_silent _ _ j b said ends) = unsettled k a one ends.waiting.settled
 
     take_one : (given : Answer) (middle : Option (List Answer)) → Says whole rest (Some given) middle → IsWaiting t since → (others : List Event) (left : Option (List Answer))
-        → StepsOn t whole since rest others left → (events_of t since given ≡ others) × (middle ≡ left)
+        → StepsOn t whole since rest others left → (answer_events t since given ≡ others) × (middle ≡ left)
     take_one given middle one waits _ _ (begins _ j b two) = unsettled j b two waits.settled
     take_one given middle one waits _ left (takes _ _ other said taken) =
         let same = says_one whole rest middle left (Some given) (Some other) told one said in
         let e : given ≡ other = cc in
-        (ap (events_of t since) e, same.1)
+        (ap (answer_events t since) e, same.1)
     take_one given middle one waits _ left (is_silent _ _ j b said ends) = some_or_none given (says_one whole rest middle left (Some given) None told one said).0
 
     silent_one : (k : ℕ) (a : Action) (middle : Option (List Answer)) → Says whole rest None middle → EndsSilently t since k a → (others : List Event) (left : Option (List Answer))

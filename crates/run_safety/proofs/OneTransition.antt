@@ -10,7 +10,7 @@ use Rattle.cluster_types.specs.declared.journal.Promotion.{Promotion}
 use Rattle.cluster_types.specs.Runs.{amid, goes, Runs, here, one_more}
 use Rattle.cluster_types.specs.Steps.{Transition, Goes, HasEnded, here as there, one_more as one_further}
 use Rattle.cluster_types.specs.Texts.{event_lines}
-use Rattle.run_safety.specs.Followed.{IsTold, IsPartOfRun}
+use Rattle.run_safety.specs.Followed.{AreAnswersTold, IsPartOfRun}
 use Rattle.run_safety.proofs.OneRun.{step_told}
 use Rattle.run_safety.proofs.OneStep.{ended_goes, step_one}
 
@@ -20,7 +20,7 @@ module _ (t : Transition) (whole : Bool) where
   moved since events others later middle other left e f rest =
       subst (λ z. Goes t whole (since ++ z) middle later left) (sym e) (subst (λ z. Goes t whole (since ++ others) z later left) (sym f) rest)
 
-  pub end_one : (since p q : List Event) (rest left right : Option (List Answer)) → IsTold rest → Goes t whole since rest p left → Goes t whole since rest q right → HasEnded t p → HasEnded t q
+  pub end_one : (since p q : List Event) (rest left right : Option (List Answer)) → AreAnswersTold rest → Goes t whole since rest p left → Goes t whole since rest q right → HasEnded t p → HasEnded t q
       → (p ≡ q) × (left ≡ right)
   end_one since _ _ rest _ _ told (there _ _) (there _ _) over also = (refl, refl)
   end_one since _ q rest _ right told (there _ _) (one_further _ others _ _ other _ step behind) over also = ended_goes t since whole others rest other over step

@@ -15,14 +15,14 @@ use Rattle.cluster_types.specs.declared.leaf.Role.TheVariants as role
 use Rattle.cluster_types.specs.CellStates.{last_outcome}
 use Rattle.cluster_types.specs.Cells.{is_of_cell, is_reset}
 use Rattle.cluster_types.specs.Failures.{failures_in_force, is_failure, is_outcome, outcomes}
-use Rattle.cluster_types.specs.Outcomes.{is_among, is_bad, is_ignored}
+use Rattle.cluster_types.specs.Outcomes.{is_code_among, is_bad, is_ignored}
 use Rattle.cluster_types.specs.Steps.{is_success, expected_codes}
 use Rattle.lemmas.proofs.Lasts.{last-more}
 use Rattle.lemmas.proofs.Booleans.{first_passes}
 use Rattle.state_unpack.proofs.MoreFailures.{outcomes-more}
 
 -- an expected code is good
-expected_good : (a : Action) (o : Outcome) → is_among (expected_codes a) o ≡ true → is_bad a o ≡ false
+expected_good : (a : Action) (o : Outcome) → is_code_among (expected_codes a) o ≡ true → is_bad a o ≡ false
 expected_good a TimedOut h = cc
 expected_good a Gone h = refl
 expected_good (Fence n) (Code code) h = grind arith
@@ -38,7 +38,7 @@ expected_good (MigrateFrom r n m) (Code code) h = grind arith
 
 -- a success that isn't ignored is no failure
 pub success_good : (c : Cluster) (a : Action) (o : Outcome) → is_success c a o ≡ true → is_ignored c a o ≡ false → is_bad a o ≡ false
-success_good c a o ok kept = expected_good a o (first_passes (is_among (expected_codes a) o) (is_ignored c a o) ok kept)
+success_good c a o ok kept = expected_good a o (first_passes (is_code_among (expected_codes a) o) (is_ignored c a o) ok kept)
 
 module _ (c : Cluster) (r n : ℕ) where
   module _ (es : List Event) (e : Event) (still : is_reset r n e ≡ false) where

@@ -12,29 +12,29 @@ use Rattle.cluster_types.specs.declared.journal.Outcome.TheVariants.{Code, Timed
 use Rattle.cluster_types.specs.declared.leaf.Op.TheVariants.{Start, Stop, Promote, Demote, Monitor}
 use Rattle.cluster_types.specs.declared.leaf.Role.TheVariants as role
 use Rattle.cluster_types.specs.May.{is_left_promoted, opens_promoted, closes_promoted}
-use Rattle.cluster_types.specs.Outcomes.{is_among}
+use Rattle.cluster_types.specs.Outcomes.{is_code_among}
 use Rattle.cluster_types.specs.Steps.{is_success}
 use Rattle.cluster_types.proofs.MayLaws.{promoted-last}
 use Rattle.run_safety.proofs.Effects.{rest_of, second_fails, shows, taken_out, watched}
 use Rattle.run_safety.proofs.Touching.{gives_promoted, takes_promoted, is_sure}
 use Rattle.run_safety.proofs.Truths.{shut, still_open, still_shut}
 
-started_only : (o : Outcome) → is_among (0 ∷ 190 ∷ []) o ≡ true → is_among (8 ∷ 9 ∷ 191 ∷ []) o ≡ false
+started_only : (o : Outcome) → is_code_among (0 ∷ 190 ∷ []) o ≡ true → is_code_among (8 ∷ 9 ∷ 191 ∷ []) o ≡ false
 started_only (Code code) h = grind arith
 started_only TimedOut h = cc
 started_only Gone h = cc
 
-promoted_only : (o : Outcome) → is_among (8 ∷ 191 ∷ []) o ≡ true → is_among (0 ∷ 190 ∷ 7 ∷ []) o ≡ false
+promoted_only : (o : Outcome) → is_code_among (8 ∷ 191 ∷ []) o ≡ true → is_code_among (0 ∷ 190 ∷ 7 ∷ []) o ≡ false
 promoted_only (Code code) h = grind arith
 promoted_only TimedOut h = cc
 promoted_only Gone h = cc
 
-probed_unpromoted : (o : Outcome) → is_among (7 ∷ []) o ≡ true → is_among (0 ∷ 190 ∷ 7 ∷ 5 ∷ []) o ≡ true
+probed_unpromoted : (o : Outcome) → is_code_among (7 ∷ []) o ≡ true → is_code_among (0 ∷ 190 ∷ 7 ∷ 5 ∷ []) o ≡ true
 probed_unpromoted (Code code) h = grind arith
 probed_unpromoted TimedOut h = cc
 probed_unpromoted Gone h = cc
 
-not_promoted : (o : Outcome) → is_among (7 ∷ []) o ≡ true → is_among (8 ∷ 9 ∷ 191 ∷ []) o ≡ false
+not_promoted : (o : Outcome) → is_code_among (7 ∷ []) o ≡ true → is_code_among (8 ∷ 9 ∷ 191 ∷ []) o ≡ false
 not_promoted (Code code) h = grind arith
 not_promoted TimedOut h = cc
 not_promoted Gone h = cc
@@ -53,7 +53,7 @@ module _ (c : Cluster) (r n : ℕ) where
 
   ends_promote : (k m : ℕ) (y : Action) (o : Outcome) → is_success c y o ≡ true → gives_promoted r n y ≡ false → opens_promoted c r n (Ended k y o m) ≡ false
   ends_promote k m (Fence node) o ok h = refl
-  ends_promote k m (Probe leaf node) o ok h = second_fails _ (is_among (8 ∷ 9 ∷ 191 ∷ []) o) true (not_promoted o (first_passes _ false ok refl))
+  ends_promote k m (Probe leaf node) o ok h = second_fails _ (is_code_among (8 ∷ 9 ∷ 191 ∷ []) o) true (not_promoted o (first_passes _ false ok refl))
   ends_promote k m (Cell Start leaf node interval held) o ok h = refl
   ends_promote k m (Cell Stop leaf node interval held) o ok h = refl
   ends_promote k m (Cell Promote leaf node interval held) o ok h = and_left _ true h
@@ -65,11 +65,11 @@ module _ (c : Cluster) (r n : ℕ) where
 
   ends_demote : (k m : ℕ) (y : Action) (o : Outcome) → is_success c y o ≡ true → takes_promoted r n y ≡ false → closes_promoted c r n (Ended k y o m) ≡ false
   ends_demote k m (Fence node) o ok h = rest_of (node == n) _ false h
-  ends_demote k m (Probe leaf node) o ok h = and_left _ true (and_left _ (is_among (0 ∷ 190 ∷ 7 ∷ 5 ∷ []) o) h)
-  ends_demote k m (Cell Start leaf node interval held) o ok h = and_left _ true (and_left _ (is_among (0 ∷ []) o) h)
-  ends_demote k m (Cell Stop leaf node interval held) o ok h = and_left _ true (and_left _ (is_among (0 ∷ []) o) h)
+  ends_demote k m (Probe leaf node) o ok h = and_left _ true (and_left _ (is_code_among (0 ∷ 190 ∷ 7 ∷ 5 ∷ []) o) h)
+  ends_demote k m (Cell Start leaf node interval held) o ok h = and_left _ true (and_left _ (is_code_among (0 ∷ []) o) h)
+  ends_demote k m (Cell Stop leaf node interval held) o ok h = and_left _ true (and_left _ (is_code_among (0 ∷ []) o) h)
   ends_demote k m (Cell Promote leaf node interval held) o ok h = refl
-  ends_demote k m (Cell Demote leaf node interval held) o ok h = and_left _ true (and_left _ (is_among (0 ∷ []) o) h)
+  ends_demote k m (Cell Demote leaf node interval held) o ok h = and_left _ true (and_left _ (is_code_among (0 ∷ []) o) h)
   ends_demote k m (Cell Monitor leaf node interval role.Started) o ok h = and_left _ _ (and_left _ _ h)
   ends_demote k m (Cell Monitor leaf node interval role.Promoted) o ok h = watched _ _ _ _ ok (promoted_only o)
   ends_demote k m (MigrateTo leaf source target) o ok h = refl

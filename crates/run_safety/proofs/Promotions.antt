@@ -15,7 +15,7 @@ use Rattle.cluster_types.specs.declared.placement.Decision.TheVariants.{Promote}
 use Rattle.cluster_types.specs.Choice.{cap_of, is_stopped_role, is_unpromoted_role}
 use Rattle.cluster_types.specs.Fields.{copies, is_promotable, promoted_copies, target_role_of}
 use Rattle.cluster_types.specs.Journals.{Orderly}
-use Rattle.cluster_types.specs.Lawful.{count_of}
+use Rattle.cluster_types.specs.Lawful.{holder_count}
 use Rattle.cluster_types.specs.May.{may_promoted, is_left_promoted}
 use Rattle.cluster_types.specs.Precedence.{op_cell}
 use Rattle.cluster_types.specs.Safety.{AddsNoPromoted, NoSecondPromotion}
@@ -70,7 +70,7 @@ module _ (t : Transition) (targets : Targets) (carries : Carries t targets) (sou
     adds_no_promoted =
         let counted = others_fewer (λ m. may_promoted t.cluster r m (journal t since)) (λ m. is_promoted_target (targets r m)) n (length t.cluster.nodes) given_here.node
         promoted_here (λ m low other up. targeted m low up) in
-        let capped : count_of t.cluster t.planned_at targets r role.Promoted ≤ cap_of t.cluster t.planned_at (Promote r) = sound.lawful.promoted_copies r given_here.leaf given_here.free in
+        let capped : holder_count t.cluster t.planned_at targets r role.Promoted ≤ cap_of t.cluster t.planned_at (Promote r) = sound.lawful.promoted_copies r given_here.leaf given_here.free in
         let within = cap_promoted t.cluster t.planned_at r in
         omega (arith, counted, capped, within)
 

@@ -10,9 +10,9 @@ use Rattle.cluster_types.specs.declared.journal.Promotion.{Promotion}
 use Rattle.cluster_types.specs.declared.placement.Placed.{Placed}
 use Rattle.cluster_types.specs.declared.run.RunLine.{RunLine}
 use Rattle.cluster_types.specs.Plans.{IsPlan, transition_of}
-use Rattle.cluster_types.specs.Runs.{Standing, due, amid, idle, RunsOn, plans, goes, completes, aborts, answers, Runs, here, one_more}
+use Rattle.cluster_types.specs.Runs.{RunStanding, due, amid, idle, RunsOn, plans, goes, completes, aborts, answers, Runs, here, one_more}
 use Rattle.cluster_types.specs.Safety.{IsAtRest, IsSafeAt, IsSafeRun}
-use Rattle.cluster_types.specs.Steps.{Transition, Begins, Goes, StepsOn, here as none_yet, action_at, events_of, flight, journal, resting, Applies}
+use Rattle.cluster_types.specs.Steps.{Transition, Begins, Goes, StepsOn, here as none_yet, action_at, answer_events, flight, journal, resting, Applies}
 use Rattle.cluster_types.specs.Valid.{IsValid}
 use Rattle.cluster_types.proofs.SourceLaws.{goes-more, none-in_flight, step-untold}
 use Rattle.cluster_types.proofs.StepLaws.{begins_nothing}
@@ -40,7 +40,7 @@ module _ (c : Cluster) (promotions : List Promotion) (whole : Bool) (valid : IsV
     planned : (es : List Event) (placed : Placed) (actions : List Action) → IsAtRest es → IsPlan c es promotions placed actions → (since : List Event)
         → Goes (transition_of c es actions) whole [] None since None → IsUnderWay (transition_of c es actions) since
 
-  abbrev pub StandsAt : Standing → Type 0
+  abbrev pub StandsAt : RunStanding → Type 0
   StandsAt (due k es) = IsAtRest es
   StandsAt (amid k t since) = IsUnderWay t since
   StandsAt (idle k es) = IsAtRest es
@@ -54,18 +54,18 @@ module _ (c : Cluster) (promotions : List Promotion) (whole : Bool) (valid : IsV
       )
 
   -- while nothing is to be done
-  idly : (es : List Event) (given : Answer) → IsAtRest es → Applies (resting c es) [] given → IsAtRest (es ++ events_of (resting c es) [] given)
+  idly : (es : List Event) (given : Answer) → IsAtRest es → Applies (resting c es) [] given → IsAtRest (es ++ answer_events (resting c es) [] given)
   idly es given at applies =
       let t = resting c es in (
-        (add_stands t (record { online = λ k n a is w. never k a is; fences = λ k n is. never k _ is }) [] (events_of t [] given) (at_first t
+        (add_stands t (record { online = λ k n a is w. never k a is; fences = λ k n is. never k _ is }) [] (answer_events t [] given) (at_first t
             (record { online = λ k n a is w. never k a is; fences = λ k n is. never k _ is }) at.0) (answer_adds t [] given applies)).orderly,
-        none-in_flight es (events_of t [] given) at.1 ∙ nothing_begun (events_of t [] given) (silent t [] (events_of t [] given) (λ k a begins. never k a begins.action) (answer_adds t [] given applies)),
+        none-in_flight es (answer_events t [] given) at.1 ∙ nothing_begun (answer_events t [] given) (silent t [] (answer_events t [] given) (λ k a begins. never k a begins.action) (answer_adds t [] given applies)),
       )
     where
       never : {R : Type 0} (k : ℕ) (a : Action) → action_at (resting c es) k ≡ Some a → R
       never k a is = let within = number_within [] k a is in absurd (let f : ⊥ = omega (arith, within.0, within.1) in f)
 
-  one_step : (at next : Standing) (rest left : Option (List Answer)) (lines : List RunLine) → RunsOn c promotions whole at rest lines next left → StandsAt at → StandsAt next
+  one_step : (at next : RunStanding) (rest left : Option (List Answer)) (lines : List RunLine) → RunsOn c promotions whole at rest lines next left → StandsAt at → StandsAt next
   one_step _ _ rest _ _ (plans k es _ placed actions plan) at = planned es placed actions at plan [] (none_yet [] None)
   one_step _ _ rest left _ (goes k t since events _ _ step) under = on t since events under step
     where
@@ -77,12 +77,12 @@ module _ (c : Cluster) (promotions : List Promotion) (whole : Bool) (valid : IsV
   one_step _ _ rest _ _ (aborts k t since _ ended aborted) under = rests t since under ended.idle
   one_step _ _ rest left _ (answers k es _ _ given said applies) at = idly es given at applies
 
-  stands_at : (at later : Standing) (rest left : Option (List Answer)) (lines : List RunLine) → Runs c promotions whole at rest lines later left → StandsAt at → StandsAt later
+  stands_at : (at later : RunStanding) (rest left : Option (List Answer)) (lines : List RunLine) → Runs c promotions whole at rest lines later left → StandsAt at → StandsAt later
   stands_at at _ rest _ _ (here _ _) stands = stands
   stands_at at after rest left _ (one_more _ next _ _ middle _ lines others step more) stands =
       stands_at next after middle left others more (one_step at next rest middle lines step stands)
 
-  safe_at : (at : Standing) → StandsAt at → IsSafeAt c promotions at
+  safe_at : (at : RunStanding) → StandsAt at → IsSafeAt c promotions at
   safe_at (due k es) at = at
   safe_at (idle k es) at = at
   safe_at (amid k t since) under = by t since under

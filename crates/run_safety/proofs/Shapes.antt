@@ -10,9 +10,9 @@ use Rattle.cluster_types.specs.declared.journal.Event.{Event}
 use Rattle.cluster_types.specs.declared.journal.Event.TheVariants.{Up, Lost, Quorum, Wait, Begin, Ended}
 use Rattle.cluster_types.specs.declared.journal.Outcome.{Outcome}
 use Rattle.cluster_types.specs.declared.journal.Outcome.TheVariants.{Code, TimedOut, Gone}
-use Rattle.cluster_types.specs.Answering.{end_of, is_number_of, is_joined, monitor_action, tells_news}
+use Rattle.cluster_types.specs.Answering.{end_event, is_number_of, is_joined_sign, monitor_action, tells_news}
 use Rattle.cluster_types.specs.Journals.{is_on, last_sign, moment_of}
-use Rattle.cluster_types.specs.Steps.{Transition, Begins, StepsOn, begins, takes, is_silent, Applies, action_at, ended, events_of, flight, flying, is_in_flight_number, journal, numbers, silent_code}
+use Rattle.cluster_types.specs.Steps.{Transition, Begins, StepsOn, begins, takes, is_silent, Applies, action_at, ended, answer_events, flight, flying, is_in_flight_number, journal, numbers, silent_code}
 use Rattle.run_safety.proofs.Each.{Each, none, more, each_filter, each_flat, found}
 
 abbrev pub isnt_gone : Outcome → Bool
@@ -22,7 +22,7 @@ isnt_gone _ = true
 module _ (t : Transition) (since : List Event) where
   -- the actions in flight that are on a node, as they end with it
   abbrev pub gone_with : ℕ → List Event
-  gone_with n = map (end_of t.cluster (journal t since) (flying t since) Gone) (filter (λ (p : ℕ × Action). is_on n p.1) (flying t since))
+  gone_with n = map (end_event t.cluster (journal t since) (flying t since) Gone) (filter (λ (p : ℕ × Action). is_on n p.1) (flying t since))
 
   -- the number and its action are in flight
   pub record Flies (p : ℕ × Action) : Type 0 where
@@ -36,7 +36,7 @@ module _ (t : Transition) (since : List Event) where
     over : (k : ℕ) (a : Action) (o : Outcome) (m : ℕ) → Flies (k, a) → isnt_gone o ≡ true → Adds (Ended k a o m ∷ [])
     reported : (r n interval code m : ℕ) → tells_news t.cluster (journal t since) (flying t since) n r interval code ≡ true
         → Adds (Ended 0 (monitor_action t.cluster r n interval) (Code code) m ∷ [])
-    lost : (n : ℕ) → is_joined (last_sign n (journal t since)) ≡ true → Adds (gone_with n ++ Lost n ∷ [])
+    lost : (n : ℕ) → is_joined_sign (last_sign n (journal t since)) ≡ true → Adds (gone_with n ++ Lost n ∷ [])
     up : (n : ℕ) → Adds (Up n ∷ [])
     quorum : (now : Bool) → Adds (Quorum now ∷ [])
     wait : (seconds : ℕ) → Adds (Wait seconds ∷ [])
@@ -55,14 +55,14 @@ module _ (t : Transition) (since : List Event) where
   end_adds k o h = by (find (is_number_of k) (flying t since)) refl
     where
       by : (p : Option (ℕ × Action)) → find (is_number_of k) (flying t since) ≡ p
-          → Adds t since (option_map_or (λ p. end_of t.cluster (journal t since) (flying t since) o p ∷ []) p [])
+          → Adds t since (option_map_or (λ p. end_event t.cluster (journal t since) (flying t since) o p ∷ []) p [])
       by None e = nothing
       by (Some p) e = found (Flies t since) (is_number_of k) _ (flying t since) p all_fly e (λ f same. over p.0 p.1 o (moment_of (journal t since)) f h)
 
-  pub answer_adds : (given : Answer) → Applies t since given → Adds t since (events_of t since given)
+  pub answer_adds : (given : Answer) → Applies t since given → Adds t since (answer_events t since given)
   answer_adds (answer.End k code) h = end_adds k (Code code) refl
   answer_adds (answer.Timeout k) h = end_adds k TimedOut refl
-  answer_adds (answer.Lost n) h = lost n (later _ (is_joined (last_sign n (journal t since))) h)
+  answer_adds (answer.Lost n) h = lost n (later _ (is_joined_sign (last_sign n (journal t since))) h)
   answer_adds (answer.Up n) h = up n
   answer_adds (answer.Quorum now) h = quorum now
   answer_adds (answer.Wait seconds) h = wait seconds

@@ -8,33 +8,33 @@ ghost use Rattle.cluster_types.specs.declared.journal.Event.{Event as EventOf};
 ghost use Rattle.cluster_types.specs.declared.journal.Promotion.{Promotion as PromotionOf};
 ghost use Rattle.cluster_types.specs.declared.run.RunLine.{RunLine as LineOf};
 ghost use Rattle.cluster_types.specs.Steps.{Transition, StepsOn, Goes, HasEnded};
-ghost use Rattle.cluster_types.specs.Runs.{Standing, RunsOn, Runs};
-ghost use Rattle.run_safety.specs.Followed.{IsTold, AreOnOneWay, IsPartOfRun};
+ghost use Rattle.cluster_types.specs.Runs.{RunStanding, RunsOn, Runs};
+ghost use Rattle.run_safety.specs.Followed.{AreAnswersTold, AreOnOneWay, IsPartOfRun};
 
 /// Where the answers to come are told, a transition goes on in one way.
 pub fn steps_are_determined()
     ensures { (t : Transition) (whole : Bool) (since events others : List EventOf) (rest left other : Option (List AnswerOf))
-        → IsTold rest → StepsOn t whole since rest events left → StepsOn t whole since rest others other → (events ≡ others) × (left ≡ other) }
+        → AreAnswersTold rest → StepsOn t whole since rest events left → StepsOn t whole since rest others other → (events ≡ others) × (left ≡ other) }
 {}
 
 /// Where moreover a journal has one plan, a run goes on in one way.
 pub fn runs_are_determined()
-    ensures { (c : ClusterOf) (promotions : List PromotionOf) (whole : Bool) (at next after : Standing) (lines others : List LineOf) (rest left other : Option (List AnswerOf))
-        → IsTold rest → RunsOn c promotions whole at rest lines next left → RunsOn c promotions whole at rest others after other
+    ensures { (c : ClusterOf) (promotions : List PromotionOf) (whole : Bool) (at next after : RunStanding) (lines others : List LineOf) (rest left other : Option (List AnswerOf))
+        → AreAnswersTold rest → RunsOn c promotions whole at rest lines next left → RunsOn c promotions whole at rest others after other
         → (lines ≡ others) × (next ≡ after) × (left ≡ other) }
 {}
 
 /// Of two runs from one place the one goes on from where the other stands.
 pub fn one_of_two_runs_goes_on()
-    ensures { (c : ClusterOf) (promotions : List PromotionOf) (whole : Bool) (at p q : Standing) (lines others : List LineOf) (rest left right : Option (List AnswerOf))
-        → IsTold rest → Runs c promotions whole at rest lines p left → Runs c promotions whole at rest others q right
+    ensures { (c : ClusterOf) (promotions : List PromotionOf) (whole : Bool) (at p q : RunStanding) (lines others : List LineOf) (rest left right : Option (List AnswerOf))
+        → AreAnswersTold rest → Runs c promotions whole at rest lines p left → Runs c promotions whole at rest others q right
         → AreOnOneWay c promotions whole lines p left others q right }
 {}
 
 /// A transition ends in one way.
 pub fn transitions_end_in_one_way()
     ensures { (t : Transition) (whole : Bool) (since events others : List EventOf) (rest left right : Option (List AnswerOf))
-        → IsTold rest → Goes t whole since rest events left → Goes t whole since rest others right → HasEnded t events → HasEnded t others → (events ≡ others) × (left ≡ right) }
+        → AreAnswersTold rest → Goes t whole since rest events left → Goes t whole since rest others right → HasEnded t events → HasEnded t others → (events ≡ others) × (left ≡ right) }
 {}
 
 /// The steps of a transition are those of a run.

@@ -35,9 +35,9 @@ pub use laws::{
     one_of_two_runs_goes_on, runs_are_determined, steps_are_determined,
     transitions_are_parts_of_runs, transitions_end_in_one_way,
 };
-pub use one_plan::plans_are_one;
+pub use one_plan::plans_are_unique;
 pub use parts::{
-    runs_go_on, runs_so_far_are_not_cut, runs_so_far_are_one, stopped_runs_begin_the_whole_run,
+    runs_go_on, runs_so_far_are_not_cut, runs_so_far_are_unique, stopped_runs_begin_the_whole_run,
 };
 pub use passed::{
     events_between_transitions_add_their_lines, one_more_transition_adds_its_lines,
@@ -50,8 +50,8 @@ pub use promises::{
 };
 pub use rest::{nothing_stays_in_flight, transitions_stay_in_order};
 pub use run_ends::{
-    cut_runs_are_one, journals_grow, runs_begin_the_cut_run, runs_begin_the_whole_run,
-    whole_runs_are_not_cut, whole_runs_are_one,
+    cut_runs_are_unique, journals_grow, runs_begin_the_cut_run, runs_begin_the_whole_run,
+    whole_runs_are_not_cut, whole_runs_are_unique,
 };
 pub use runs::runs_are_safe;
 pub use taken::answers_print_their_lines;

@@ -6,6 +6,6 @@ ghost use Rattle.cluster_types.specs.declared.journal.Promotion.{Promotion as Pr
 ghost use Rattle.run_safety.specs.OnePlan.{PlansAreOne};
 
 /// Of two plans for one journal the pins, the targets, the reasons and the actions are equal.
-pub fn plans_are_one()
+pub fn plans_are_unique()
     ensures { (c : ClusterOf) (promotions : List PromotionOf) → PlansAreOne c promotions }
 {}

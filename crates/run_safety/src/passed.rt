@@ -11,8 +11,8 @@ ghost use Rattle.cluster_types.specs.Texts.{all_passed_lines, end_lines, event_l
 ghost use Rattle.cluster_types.specs.declared.journal.Answer.{Answer as AnswerOf};
 ghost use Rattle.cluster_types.specs.declared.journal.Promotion.{Promotion as PromotionOf};
 ghost use Rattle.cluster_types.specs.declared.run.RunLine.{RunLine as LineOf};
-ghost use Rattle.cluster_types.specs.Runs.{Standing, due, Runs, journal_at};
-ghost use Rattle.run_safety.specs.Kept.{AreWithin, IsKept};
+ghost use Rattle.cluster_types.specs.Runs.{RunStanding, due, Runs, journal_at};
+ghost use Rattle.run_safety.specs.Kept.{AreWithin, AreLinesKept};
 
 /// One more transition adds its lines.
 pub fn one_more_transition_adds_its_lines()
@@ -31,6 +31,6 @@ pub fn events_between_transitions_add_their_lines()
 
 /// Wherever a run stands, its lines are those of transitions that can be kept.
 pub fn runs_can_be_kept()
-    ensures { (c : ClusterOf) (promotions : List PromotionOf) (whole : Bool) (es : List EventOf) (at : Standing) (rest left : Option (List AnswerOf)) (lines : List LineOf)
-        → Runs c promotions whole (due 1 es) rest lines at left → IsKept c (journal_at at) lines }
+    ensures { (c : ClusterOf) (promotions : List PromotionOf) (whole : Bool) (es : List EventOf) (at : RunStanding) (rest left : Option (List AnswerOf)) (lines : List LineOf)
+        → Runs c promotions whole (due 1 es) rest lines at left → AreLinesKept c (journal_at at) lines }
 {}

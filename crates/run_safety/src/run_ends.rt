@@ -6,21 +6,21 @@ ghost use Rattle.cluster_types.specs.declared.journal.Answer.{Answer as AnswerOf
 ghost use Rattle.cluster_types.specs.declared.journal.Event.{Event as EventOf};
 ghost use Rattle.cluster_types.specs.declared.journal.Promotion.{Promotion as PromotionOf};
 ghost use Rattle.cluster_types.specs.declared.run.RunLine.{RunLine as LineOf};
-ghost use Rattle.cluster_types.specs.Runs.{Standing, due, Runs, IsCutRun, IsWholeRun, journal_at};
-ghost use Rattle.run_safety.specs.Followed.{IsTold, IsFront};
+ghost use Rattle.cluster_types.specs.Runs.{RunStanding, due, Runs, IsCutRun, IsWholeRun, journal_at};
+ghost use Rattle.run_safety.specs.Followed.{AreAnswersTold, IsFront};
 
 /// An input has one whole run, where its answers are told and a journal has one plan.
-pub fn whole_runs_are_one()
+pub fn whole_runs_are_unique()
     ensures { (c : ClusterOf) (promotions : List PromotionOf) (whole : Bool) (es : List EventOf) (rest : Option (List AnswerOf)) (left right : List EventOf) (lines others : List LineOf)
-        → IsTold rest → IsWholeRun c promotions whole es rest lines left → IsWholeRun c promotions whole es rest others right
+        → AreAnswersTold rest → IsWholeRun c promotions whole es rest lines left → IsWholeRun c promotions whole es rest others right
         → (lines ≡ others) × (left ≡ right) }
 {}
 
 /// So it is cut in one way.
-pub fn cut_runs_are_one()
+pub fn cut_runs_are_unique()
     ensures { (c : ClusterOf) (promotions : List PromotionOf) (whole : Bool) (es : List EventOf) (rest : Option (List AnswerOf)) (left right : List EventOf) (lines others : List LineOf)
         (given other : AnswerOf) (behind unread : Option (List AnswerOf))
-        → IsTold rest → IsCutRun c promotions whole es rest lines left given behind → IsCutRun c promotions whole es rest others right other unread
+        → AreAnswersTold rest → IsCutRun c promotions whole es rest lines left given behind → IsCutRun c promotions whole es rest others right other unread
         → (lines ≡ others) × (left ≡ right) × (given ≡ other) × (behind ≡ unread) }
 {}
 
@@ -28,27 +28,27 @@ pub fn cut_runs_are_one()
 pub fn whole_runs_are_not_cut()
     ensures { (c : ClusterOf) (promotions : List PromotionOf) (whole : Bool) (es : List EventOf) (rest : Option (List AnswerOf)) (left right : List EventOf) (lines others : List LineOf)
         (given : AnswerOf) (behind : Option (List AnswerOf))
-        → IsTold rest → IsWholeRun c promotions whole es rest lines left → ¬ IsCutRun c promotions whole es rest others right given behind }
+        → AreAnswersTold rest → IsWholeRun c promotions whole es rest lines left → ¬ IsCutRun c promotions whole es rest others right given behind }
 {}
 
 /// Wherever a run stands, its lines and its journal are how those of the whole run begin.
 pub fn runs_begin_the_whole_run()
-    ensures { (c : ClusterOf) (promotions : List PromotionOf) (whole : Bool) (es : List EventOf) (rest : Option (List AnswerOf)) (at : Standing) (behind : Option (List AnswerOf))
+    ensures { (c : ClusterOf) (promotions : List PromotionOf) (whole : Bool) (es : List EventOf) (rest : Option (List AnswerOf)) (at : RunStanding) (behind : Option (List AnswerOf))
         (left : List EventOf) (lines others : List LineOf)
-        → IsTold rest → Runs c promotions whole (due 1 es) rest lines at behind → IsWholeRun c promotions whole es rest others left
+        → AreAnswersTold rest → Runs c promotions whole (due 1 es) rest lines at behind → IsWholeRun c promotions whole es rest others left
         → IsFront lines others × IsFront (journal_at at) left }
 {}
 
 /// And so it is with the run that is cut.
 pub fn runs_begin_the_cut_run()
-    ensures { (c : ClusterOf) (promotions : List PromotionOf) (whole : Bool) (es : List EventOf) (rest : Option (List AnswerOf)) (at : Standing) (behind unread : Option (List AnswerOf))
+    ensures { (c : ClusterOf) (promotions : List PromotionOf) (whole : Bool) (es : List EventOf) (rest : Option (List AnswerOf)) (at : RunStanding) (behind unread : Option (List AnswerOf))
         (given : AnswerOf) (left : List EventOf) (lines others : List LineOf)
-        → IsTold rest → Runs c promotions whole (due 1 es) rest lines at behind → IsCutRun c promotions whole es rest others left given unread
+        → AreAnswersTold rest → Runs c promotions whole (due 1 es) rest lines at behind → IsCutRun c promotions whole es rest others left given unread
         → IsFront lines others × IsFront (journal_at at) left }
 {}
 
 /// The journal of a run only grows.
 pub fn journals_grow()
-    ensures { (c : ClusterOf) (promotions : List PromotionOf) (whole : Bool) (at later : Standing) (rest left : Option (List AnswerOf)) (lines : List LineOf)
+    ensures { (c : ClusterOf) (promotions : List PromotionOf) (whole : Bool) (at later : RunStanding) (rest left : Option (List AnswerOf)) (lines : List LineOf)
         → Runs c promotions whole at rest lines later left → IsFront (journal_at at) (journal_at later) }
 {}

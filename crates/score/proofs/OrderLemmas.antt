@@ -7,7 +7,7 @@ use Rattle.std.specs.Ordering.{int_eq}
 use Rattle.std.proofs.lemmas.Int.{ints}
 use Rattle.std.proofs.lemmas.List.Sorted.{list_any-IsPermutation, sum_by-IsPermutation}
 use Rattle.std.proofs.lemmas.List.Sums.{sum_by-cons}
-use Rattle.score.specs.Total.{infinity, has, sum_of, total_of}
+use Rattle.score.specs.Total.{infinity, has_points, sum_of, total_of}
 
 -- an exact sum is the sum of the points above zero, less the sum of those below
 sum_from : (start : ℤ) (terms : List ℤ)
@@ -30,7 +30,7 @@ module _ (terms others : List ℤ) (same : IsPermutation terms others) where
       )
 
   -- the same infinities
-  same_has : (points : ℤ) → has points terms ≡ has points others
+  same_has : (points : ℤ) → has_points points terms ≡ has_points points others
   same_has points = list_any-IsPermutation (λ term. int_eq term points) terms others same
 
   -- and so the same total

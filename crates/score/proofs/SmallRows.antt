@@ -4,7 +4,7 @@ use Rattle.std.proofs.lemmas.Bool.{cases_eq, cases_lt}
 use Rattle.std.proofs.lemmas.Int.{ints}
 use Rattle.std.proofs.lemmas.List.{get_or_past}
 use Rattle.score.specs.Total.{IsScore}
-use Rattle.score.specs.Row.{Tally, tally_of, finite_at, finite_part}
+use Rattle.score.specs.Row.{Tally, score_tally_of, finite_at, finite_part}
 use Rattle.score.specs.Small.{IsSmallRow}
 use Rattle.score.proofs.Tallies.{finite_part_least, finite_part_most}
 
@@ -42,8 +42,8 @@ small_add old other new terms more small small' long sums = record {
   where
     least : (n : ℕ) → (n < length old) ⊎ (length old ≤ n) → neg_ℤ (pos (1000000 * (terms + more))) ≤ℤ finite_at new n
     least n (inl h) = let e = sums n h in let a = small.least n in let b = small'.least n in omega (arith, ints)
-    least n (inr h) = let e = ap (λ (t : Tally). t.finite) (get_or_past new n (tally_of []) (omega arith)) in omega (arith, ints)
+    least n (inr h) = let e = ap (λ (t : Tally). t.finite) (get_or_past new n (score_tally_of []) (omega arith)) in omega (arith, ints)
 
     most : (n : ℕ) → (n < length old) ⊎ (length old ≤ n) → finite_at new n ≤ℤ pos (1000000 * (terms + more))
     most n (inl h) = let e = sums n h in let a = small.most n in let b = small'.most n in omega (arith, ints)
-    most n (inr h) = let e = ap (λ (t : Tally). t.finite) (get_or_past new n (tally_of []) (omega arith)) in omega (arith, ints)
+    most n (inr h) = let e = ap (λ (t : Tally). t.finite) (get_or_past new n (score_tally_of []) (omega arith)) in omega (arith, ints)

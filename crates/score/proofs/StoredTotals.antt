@@ -2,8 +2,8 @@
 use Rattle.std.proofs.Common.{◌≡◌, ℕ, ◌≤◌, pos, neg_ℤ, ◌-ℤ◌, Bool, true, false, not, ◌||◌, if◌then◌else◌, List, [], ◌∷◌, min, max, nat_lt, filter, refl, ap, ◌∙◌, arith, ℤ}
 use Rattle.std.proofs.lemmas.Int.{ints, clamps}
 use Rattle.std.specs.Ordering.{int_eq}
-use Rattle.score.specs.Total.{has, sum_of, cut, infinity, total_of}
-use Rattle.score.specs.Row.{tally_of, tally_total, is_finite}
+use Rattle.score.specs.Total.{has_points, sum_of, cut, infinity, total_of}
+use Rattle.score.specs.Row.{score_tally_of, tally_total, is_finite}
 use Rattle.score.specs.Stored.{bias, stored_least, stored_most, stored_total, stored_tally}
 
 -- the choices of the lanes, one after the other
@@ -46,20 +46,20 @@ stored_total_is minus plus sum = go (nat_lt 0 minus) (nat_lt 0 plus)
     go false false = omega (arith, ints, clamps)
 
 -- where neither infinity is among some terms, all are finite
-pub all_finite : (terms : List ℤ) → has (neg_ℤ infinity) terms ≡ false → has infinity terms ≡ false → filter is_finite terms ≡ terms
+pub all_finite : (terms : List ℤ) → has_points (neg_ℤ infinity) terms ≡ false → has_points infinity terms ≡ false → filter is_finite terms ≡ terms
 all_finite [] m p = refl
 all_finite (term ∷ terms) m p = go (int_eq term (neg_ℤ infinity)) (int_eq term infinity) (all_finite terms) m p
   where
-    go : (b d : Bool) → (has (neg_ℤ infinity) terms ≡ false → has infinity terms ≡ false → filter is_finite terms ≡ terms)
-        → (b || has (neg_ℤ infinity) terms) ≡ false → (d || has infinity terms) ≡ false
+    go : (b d : Bool) → (has_points (neg_ℤ infinity) terms ≡ false → has_points infinity terms ≡ false → filter is_finite terms ≡ terms)
+        → (b || has_points (neg_ℤ infinity) terms) ≡ false → (d || has_points infinity terms) ≡ false
         → (if not (b || d) then term ∷ filter is_finite terms else filter is_finite terms) ≡ term ∷ terms
     go true d rest m p = grind arith
     go false true rest m p = grind arith
     go false false rest m p = ap (λ ts. term ∷ ts) (rest m p)
 
 -- the total of terms by their tally
-pub tally_total_is : (terms : List ℤ) → tally_total (tally_of terms) ≡ total_of terms
-tally_total_is terms = go (has (neg_ℤ infinity) terms) (has infinity terms) (λ m p. all_finite terms m p)
+pub tally_total_is : (terms : List ℤ) → tally_total (score_tally_of terms) ≡ total_of terms
+tally_total_is terms = go (has_points (neg_ℤ infinity) terms) (has_points infinity terms) (λ m p. all_finite terms m p)
   where
     go : (m p : Bool) → (m ≡ false → p ≡ false → filter is_finite terms ≡ terms)
         → (if m then neg_ℤ infinity else (if p then infinity else cut (sum_of (filter is_finite terms)))) ≡ (if m then neg_ℤ infinity else (if p then infinity else cut (sum_of terms)))

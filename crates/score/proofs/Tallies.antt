@@ -8,7 +8,7 @@ use Rattle.std.proofs.lemmas.List.Sums.{fold-append}
 use Rattle.std.proofs.lemmas.List.Folds.{list_any-append}
 use Rattle.std.proofs.lemmas.List.Elements.{filter-append}
 use Rattle.score.specs.Total.{IsScore, sum_of}
-use Rattle.score.specs.Row.{Tally, tally_of, is_finite, finite_part, together}
+use Rattle.score.specs.Row.{Tally, score_tally_of, is_finite, finite_part, together}
 use Rattle.score.specs.Stored.{tallies, stored_tally}
 
 -- the tally of two lists of terms, one after the other
@@ -35,7 +35,7 @@ pub sum_of-append : (xs ys : List ℤ) → sum_of (xs ++ ys) ≡ sum_of xs +ℤ 
 sum_of-append xs ys = fold-append (λ sum (term : ℤ). sum +ℤ term) (pos 0) xs ys ∙ sum_from (sum_of xs) ys
 
 -- their tally
-pub tally_of-append : (xs ys : List ℤ) → tally_of (xs ++ ys) ≡ join (tally_of xs) (tally_of ys)
+pub tally_of-append : (xs ys : List ℤ) → score_tally_of (xs ++ ys) ≡ join (score_tally_of xs) (score_tally_of ys)
 tally_of-append xs ys =
     tally_is _ _ (list_any-append _ xs ys) (list_any-append _ xs ys)
     (ap sum_of (filter-append is_finite xs ys) ∙ sum_of-append (filter is_finite xs) (filter is_finite ys))

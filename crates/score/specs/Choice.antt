@@ -9,12 +9,12 @@ abbrev pub points_at : List ℤ → ℕ → ℤ
 points_at totals node = slice_index_or totals node (pos 0)
 
 -- the node's total is 0 or more
-abbrev pub is_candidate : List ℤ → ℕ → Bool
-is_candidate totals node = not (is_negative (points_at totals node))
+abbrev pub is_candidate_node : List ℤ → ℕ → Bool
+is_candidate_node totals node = not (is_negative (points_at totals node))
 
 -- a word of bits, for 64 nodes from the first on: those that are set are of nodes below the end, with a total of 0 or more
 abbrev pub SaysEnough : List ℤ → ℕ → ℕ → ℕ → Type 0
-SaysEnough totals first end word = (k : ℕ) → k < 64 → is_set word k ≡ (nat_lt (first + k) end && is_candidate totals (first + k))
+SaysEnough totals first end word = (k : ℕ) → k < 64 → is_set word k ≡ (nat_lt (first + k) end && is_candidate_node totals (first + k))
 
 -- the first node has the greater total, or as great a total and the smaller load, or both alike and the smaller number
 abbrev pub GoesBefore : List ℤ → List ℕ → ℕ → ℕ → Type 0

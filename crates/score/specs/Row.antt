@@ -1,7 +1,7 @@
 -- Rows: of each node, what its total needs of its terms.
 use Rattle.std.specs.Prelude.{◌≡◌, ℕ, ℤ, pos, neg_ℤ, ◌≤ℤ◌, Bool, not, ◌||◌, if◌then◌else◌, List, [], ◌∷◌, ◌++◌, map, filter, slice_index_or, slice_set}
 use Rattle.std.specs.Ordering.{int_eq}
-use Rattle.score.specs.Total.{has, sum_of, cut, infinity}
+use Rattle.score.specs.Total.{has_points, sum_of, cut, infinity}
 
 -- neither of the infinities
 abbrev pub is_finite : ℤ → Bool
@@ -14,13 +14,13 @@ pub record Tally : Type 0 where
   pub finite : ℤ
 
 -- the tally of these terms
-abbrev pub tally_of : List ℤ → Tally
-tally_of terms =
-    record { minus = has (neg_ℤ infinity) terms; plus = has infinity terms; finite = sum_of (filter is_finite terms) }
+abbrev pub score_tally_of : List ℤ → Tally
+score_tally_of terms =
+    record { minus = has_points (neg_ℤ infinity) terms; plus = has_points infinity terms; finite = sum_of (filter is_finite terms) }
 
 -- the row stands for these terms: a list for each node, from node 0 on
 abbrev pub Stands : List Tally → List (List ℤ) → Type 0
-Stands row terms = row ≡ map tally_of terms
+Stands row terms = row ≡ map score_tally_of terms
 
 -- these terms, with one more at the end of a node's list
 abbrev pub with_term : List (List ℤ) → ℕ → ℤ → List (List ℤ)
@@ -34,7 +34,7 @@ together (terms ∷ rest) (more ∷ others) = (terms ++ more) ∷ together rest 
 
 -- the finite sum of a node
 abbrev pub finite_at : List Tally → ℕ → ℤ
-finite_at row node = (slice_index_or row node (tally_of [])).finite
+finite_at row node = (slice_index_or row node (score_tally_of [])).finite
 
 -- what a term adds to a finite sum
 abbrev pub finite_part : ℤ → ℤ

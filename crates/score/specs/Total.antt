@@ -16,8 +16,8 @@ abbrev pub IsScore : ℤ → Type 0
 IsScore points = (minus_infinity ≤ℤ points) × (points ≤ℤ infinity)
 
 -- some term has these points
-abbrev pub has : ℤ → List ℤ → Bool
-has points terms = list_any (λ term. int_eq term points) terms
+abbrev pub has_points : ℤ → List ℤ → Bool
+has_points points terms = list_any (λ term. int_eq term points) terms
 
 -- the exact sum of the terms
 abbrev pub sum_of : List ℤ → ℤ
@@ -31,4 +31,4 @@ cut sum = int_max minus_infinity (int_min infinity sum)
 -- (Pacemaker Explained, "Infinity Math"; cutting at the end alone is a rule of this project)
 abbrev pub total_of : List ℤ → ℤ
 total_of terms =
-    if has minus_infinity terms then minus_infinity else (if has infinity terms then infinity else cut (sum_of terms))
+    if has_points minus_infinity terms then minus_infinity else (if has_points infinity terms then infinity else cut (sum_of terms))

@@ -1,11 +1,11 @@
 ghost use Rattle.std.specs.Prelude.{◌≡◌, ◌≤◌, length};
-ghost use Rattle.score.specs.Total.{cut, has, sum_of, total_of};
+ghost use Rattle.score.specs.Total.{cut, has_points, sum_of, total_of};
 
 use crate::points::Score;
 
 /// Whether one of the terms is this score.
 fn has(terms: &[Score], score: Score) -> bool
-    ensures { result ≡ has score terms.now }
+    ensures { result ≡ has_points score terms.now }
 {
     terms.contains(&score)
 }

@@ -7,16 +7,16 @@ use Rattle.crm_lex.specs.RawLines.{raw_lines}
 use Rattle.faults.specs.declared.fault.Fault.{Fault}
 use Rattle.faults.specs.declared.fault.Fault.TheVariants.{At}
 use Rattle.faults.specs.Reading.{UnlessMemory}
-use Rattle.sim_core.specs.Followed.{bytes_of, count_lines}
-use Rattle.sim_core.specs.Heads as heads
-use Rattle.sim_core.specs.Heads.{CanGoOn, IsStopOf, KeepsBytes, head_behind, progress, taken}
-use Rattle.sim_core.specs.declared.head.HeadStop.{HeadStop}
-use Rattle.sim_core.specs.declared.head.HeadStop.TheVariants as why
+use Rattle.live_run.specs.Followed.{bytes_of, count_lines}
+use Rattle.live_run.specs.Heads as heads
+use Rattle.live_run.specs.Heads.{CanGoOn, IsStopOf, KeepsBytes, head_behind, progress, taken}
+use Rattle.live_run.specs.declared.head.HeadStop.{HeadStop}
+use Rattle.live_run.specs.declared.head.HeadStop.TheVariants as why
 use Rattle.sim_core.specs.declared.beginning.HeadEnd.TheVariants as stop
-use Rattle.input_reading.specs.declared.cause.InputCause.{InputCause}
-use Rattle.input_reading.specs.declared.reading.Head.{Head}
+use Rattle.input_reading.specs.declared.input.cause.InputCause.{InputCause}
+use Rattle.input_reading.specs.declared.input.reading.Head.{Head}
 use Rattle.sim_core.specs.Live.{IsAmidHead}
-use Rattle.sim_core.specs.LiveSteps.{IsBehind, StopsBy, end_of, fresh}
+use Rattle.sim_core.specs.LiveSteps.{IsBehind, StopsBy, head_end_of, fresh}
 use Rattle.input_reading.specs.Reading.{longest_line, most_bytes, start_of}
 use Rattle.sim_core.specs.Replay.{head_in, lacks_words, says_nothing}
 
@@ -69,12 +69,12 @@ amid old new input (Some unread) e a = record {
       = subst (λ (r : Reading). Some (raw_lines (r.held ++ input)) ≡ Some (a.gone_on.taken.lines ++ raw_lines (new.held ++ unread))) e a.gone_on.taken.cut in
       cc;
   goes_on = λ more.
-      ap (λ (r : Reading). heads.head_of r.longest [] r.room r.next (a.gone_on.taken.lines ++ more)) (sym e)
+      ap (λ (r : Reading). heads.head_verdict r.longest [] r.room r.next (a.gone_on.taken.lines ++ more)) (sym e)
       ∙ (a.gone_on.goes_on more
-      ∙ (ap (λ (n : ℕ). heads.head_of n a.text new.room new.next more) size
-      ∙ (ap (λ (n : ℕ). heads.head_of longest_line a.text n new.next more) room
-      ∙ (ap (λ (n : ℕ). heads.head_of longest_line a.text (most_bytes - length (bytes_of a.gone_on.taken.lines)) n more) number
-      ∙ ap (λ (t : List ℕ). heads.head_of longest_line t (most_bytes - length (bytes_of a.gone_on.taken.lines)) (1 + count_lines a.gone_on.taken.lines) more)
+      ∙ (ap (λ (n : ℕ). heads.head_verdict n a.text new.room new.next more) size
+      ∙ (ap (λ (n : ℕ). heads.head_verdict longest_line a.text n new.next more) room
+      ∙ (ap (λ (n : ℕ). heads.head_verdict longest_line a.text (most_bytes - length (bytes_of a.gone_on.taken.lines)) n more) number
+      ∙ ap (λ (t : List ℕ). heads.head_verdict longest_line t (most_bytes - length (bytes_of a.gone_on.taken.lines)) (1 + count_lines a.gone_on.taken.lines) more)
       a.gone_on.taken.text_is))));
   unfinished = a.none_whole;
   undecided = subst (λ (n : ℕ). IsUndecided n longest_line new.held) room (subst (λ (n : ℕ). IsUndecided new.room n new.held) size a.undecided);
@@ -94,7 +94,7 @@ amid old new input (Some unread) e a = record {
     number = a.gone_on.taken.number ∙ ap (λ (r : Reading). r.next + count_lines a.gone_on.taken.lines) e
 
 pub stops : (old new : Reading) (before after : Option (List ℕ)) (found : HeadStop) → old ≡ fresh → IfSome before (λ left. IsStopOf (head_behind [] old left) found)
-    → (found ≡ why.ReadFault → heads.IsAmid old new before after) → IfSome before (λ input. StopsBy input after (end_of found))
+    → (found ≡ why.ReadFault → heads.IsAmid old new before after) → IfSome before (λ input. StopsBy input after (head_end_of found))
 stops old new None after found e told broken = tt
 stops old new (Some input) after (why.Refused line cause) e told broken = lacks_words line cause (same_head old input e ∙ told)
 stops old new (Some input) after why.TooLarge e told broken = same_head old input e ∙ told

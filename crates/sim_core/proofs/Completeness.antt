@@ -5,8 +5,8 @@ use Rattle.sim_core.specs.declared.status.Status.{Status}
 use Rattle.sim_core.specs.declared.status.Status.TheVariants.{Done, NoMemory, Usage, ReadFault, WriteFault, Refused, Unexpected, TooLarge, NotLawful}
 use Rattle.sim_core.specs.declared.words.Command.{Command}
 use Rattle.sim_core.specs.declared.words.Command.TheVariants.{Check, Scores, Graph, Survive, Audit, Replay, Gen, World, Help, Version}
-use Rattle.sim_core.specs.Answers.{Answers, HasRoom, IsComplete, IsDue, IsWritten, SaysBy, SaysOf, Taken, Written, told_input}
-use Rattle.sim_core.specs.Live.{SaysLive, HasWritten}
+use Rattle.sim_core.specs.Answers.{WordAnswers, InputHasRoom, IsCompleteAnswer, IsStatusDue, IsWritten, SaysBy, SaysOf, InputTaken, Written, told_input}
+use Rattle.sim_core.specs.Live.{SaysLive, HasWrittenReplay}
 use Rattle.input_reading.specs.Reading.{most_bytes}
 use Rattle.sim_core.specs.Replay.{IsReplayOutput}
 use Rattle.sim_core.specs.Table.{Intake, nothing, whole, intake, Gets}
@@ -16,15 +16,15 @@ use Rattle.sim_core.proofs.OneReplay.{OneEnd}
 
 -- the answer is one that the input gets
 module _ (Due : Status → List ℕ → Type 0) (input : List ℕ) (left before after : Option (List ℕ)) where
-  written_due : (status : Status) → IsWritten Due status before after → IsDue Due status
+  written_due : (status : Status) → IsWritten Due status before after → IsStatusDue Due status
   written_due status written = record { text = written.text; due = written.due }
 
   -- it isn't too large
   abbrev NotLarge : Intake → Type 0
-  NotLarge kind = Taken kind input left TooLarge → ⊥
+  NotLarge kind = InputTaken kind input left TooLarge → ⊥
 
-  is_due : (kind : Intake) → NotLarge kind → (status : Status) → Taken kind input left status → Written Due before after status
-      → status ≢ NoMemory → status ≢ ReadFault → status ≢ WriteFault → IsDue Due status
+  is_due : (kind : Intake) → NotLarge kind → (status : Status) → InputTaken kind input left status → Written Due before after status
+      → status ≢ NoMemory → status ≢ ReadFault → status ≢ WriteFault → IsStatusDue Due status
   is_due kind not_large Done taken written memory read write = written_due Done written
   is_due kind not_large Refused taken written memory read write = written_due Refused written
   is_due kind not_large Unexpected taken written memory read write = written_due Unexpected written
@@ -37,11 +37,11 @@ module _ (Due : Status → List ℕ → Type 0) (input : List ℕ) (left before 
 
 -- and so is that of a live word
 module _ (input : List ℕ) (left before after : Option (List ℕ)) where
-  live_written : (status : Status) → HasWritten input left before after status → IsDue (IsReplayOutput input) status
+  live_written : (status : Status) → HasWrittenReplay input left before after status → IsStatusDue (IsReplayOutput input) status
   live_written status written = record { text = written.text; due = written.due }
 
   live_due : (status : Status) → SaysLive input left before after status → status ≢ NoMemory → status ≢ ReadFault → status ≢ WriteFault
-      → IsDue (IsReplayOutput input) status
+      → IsStatusDue (IsReplayOutput input) status
   live_due Done says memory read write = live_written Done says.written
   live_due Refused says memory read write = live_written Refused says
   live_due Unexpected says memory read write = live_written Unexpected says
@@ -55,15 +55,15 @@ module _ (input : List ℕ) (left before after : Option (List ℕ)) where
 -- with each word
 module _ (input : List ℕ) (left before after : Option (List ℕ)) (status : Status) (memory : status ≢ NoMemory) (read : status ≢ ReadFault) (write : status ≢ WriteFault) where
   -- one that reads its input to its end
-  whole_due : (word : Command) → length input ≤ most_bytes → SaysOf whole (Gets word) input left before after status → IsDue (Gets word input) status
+  whole_due : (word : Command) → length input ≤ most_bytes → SaysOf whole (Gets word) input left before after status → IsStatusDue (Gets word input) status
   whole_due word room says =
       is_due (Gets word input) input left before after whole (λ taken. omega (arith, taken, room)) status says.taken says.written memory read write
 
   -- one that reads nothing
-  free_due : (word : Command) → SaysOf nothing (Gets word) input left before after status → IsDue (Gets word input) status
+  free_due : (word : Command) → SaysOf nothing (Gets word) input left before after status → IsStatusDue (Gets word input) status
   free_due word says = is_due (Gets word input) input left before after nothing (λ taken. taken) status says.taken says.written memory read write
 
-  word_due : (word : Command) → HasRoom (intake word) input → SaysBy (intake word) word input left before after status → IsDue (Gets word input) status
+  word_due : (word : Command) → InputHasRoom (intake word) input → SaysBy (intake word) word input left before after status → IsStatusDue (Gets word input) status
   word_due Check room says = whole_due Check room says
   word_due Scores room says = whole_due Scores room says
   word_due Graph room says = whole_due Graph room says
@@ -77,20 +77,20 @@ module _ (input : List ℕ) (left before after : Option (List ℕ)) (status : St
 
 module _ (one_end : OneEnd) (excluded : AreExcluded) where
   -- and the only one
-  only_due : (word : Command) (input : List ℕ) (status : Status) → IsDue (Gets word input) status → (due : Status) → (status ≡ due) ↔ IsDue (Gets word input) due
+  only_due : (word : Command) (input : List ℕ) (status : Status) → IsStatusDue (Gets word input) status → (due : Status) → (status ≡ due) ↔ IsStatusDue (Gets word input) due
   only_due word input status is due =
-      (λ same. subst (λ s. IsDue (Gets word input) s) same is, λ other. one_status one_end excluded word input is.text other.text status due is.due other.due)
+      (λ same. subst (λ s. IsStatusDue (Gets word input) s) same is, λ other. one_status one_end excluded word input is.text other.text status due is.due other.due)
 
   with_told : (word : Command) (found left before after : Option (List ℕ)) (status : Status)
       → IfSome found (λ input. SaysBy (intake word) word input left before after status) → status ≢ ReadFault → status ≢ WriteFault
-      → IfSome found (λ input. HasRoom (intake word) input → status ≢ NoMemory → (due : Status) → (status ≡ due) ↔ IsDue (Gets word input) due)
+      → IfSome found (λ input. InputHasRoom (intake word) input → status ≢ NoMemory → (due : Status) → (status ≡ due) ↔ IsStatusDue (Gets word input) due)
   with_told word None left before after status says read write = tt
   with_told word (Some input) left before after status says read write = λ room memory.
       only_due word input status (word_due input left before after status memory read write word room says)
 
   pub complete : (word : Command) (told left before after : Option (List ℕ)) (status : Status) (reads_before reads_after writes_before writes_after : ℕ)
-      → Answers word told left before after status
+      → WordAnswers word told left before after status
       → (status ≡ ReadFault → Rose reads_before reads_after) → (status ≡ WriteFault → Rose writes_before writes_after)
-      → ¬ Rose reads_before reads_after → ¬ Rose writes_before writes_after → IsComplete word told status
+      → ¬ Rose reads_before reads_after → ¬ Rose writes_before writes_after → IsCompleteAnswer word told status
   complete word told left before after status _ _ _ _ says read_cause write_cause reads_quiet writes_quiet =
       with_told word (told_input (intake word) told) left before after status says (λ e. reads_quiet (read_cause e)) (λ e. writes_quiet (write_cause e))

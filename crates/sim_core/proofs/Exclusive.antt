@@ -13,9 +13,9 @@ use Rattle.cluster_types.specs.Valid.{IsValid}
 use Rattle.run_safety.proofs.Beginnings.{begins_whole}
 use Rattle.run_safety.proofs.OneEnd.{whole_one, whole_or_cut}
 use Rattle.run_safety.proofs.PlansAreOne.{plans_one}
-use Rattle.input_reading.specs.Written.{IsNamed}
+use Rattle.input_reading.specs.Written.{IsLineNamed}
 use Rattle.sim_core.specs.declared.verdict.Clause.{Clause}
-use Rattle.sim_core.specs.Lawful.{IsCut, IsFaulty, IsLawful, IsOther, IsUndue, IsWhole, answers_in, other, undue}
+use Rattle.sim_core.specs.Lawful.{IsCutRunOfLines, IsFaultyClause, IsLawfulRun, IsOther, IsUndue, IsWholeRunOfLines, answers_of_lines, other, undue}
 use Rattle.sim_core.proofs.LineTexts.{one_line_each}
 use Rattle.sim_core.proofs.Lines.{IsTextLine, same_lines}
 use Rattle.sim_core.proofs.NamedRuns.{named_run}
@@ -33,7 +33,7 @@ made f [] i y e = absurd (none-some y e)
 made f (x ∷ xs) zero y e = (x, refl, cc)
 made f (x ∷ xs) (suc i) y e = made f xs i y e
 
-module _ (c : Cluster) (valid : IsValid c) (journal : Journal) (lines : List RunLine) (named : AllByRecursion IsNamed lines) (lawful : IsLawful c journal lines) where
+module _ (c : Cluster) (valid : IsValid c) (journal : Journal) (lines : List RunLine) (named : AllByRecursion IsLineNamed lines) (lawful : IsLawfulRun c journal lines) where
   -- the lines have the texts of those of the whole run
   same_texts : map (run_line c) lawful.printed ≡ map (run_line c) lines
   same_texts =
@@ -44,7 +44,7 @@ module _ (c : Cluster) (valid : IsValid c) (journal : Journal) (lines : List Run
 
   not_other : (place : ℕ) (kind : Clause) → IsOther c journal lines place kind → ⊥
   not_other place kind o =
-      let front = (begins_whole c journal.promotions true (plans_one c journal.promotions) journal.events (Some (answers_in lines)) tt o.so_far.at o.so_far.behind o.printed o.so_far.runs
+      let front = (begins_whole c journal.promotions true (plans_one c journal.promotions) journal.events (Some (answers_of_lines lines)) tt o.so_far.at o.so_far.behind o.printed o.so_far.runs
       lawful.left lawful.printed lawful.whole).0 in
       let there : slice_get lawful.printed place ≡ Some o.due
       = subst (λ xs. slice_get xs place ≡ Some o.due) (sym front.joined) (in_front o.printed front.more place o.due o.due_there) in
@@ -55,17 +55,17 @@ module _ (c : Cluster) (valid : IsValid c) (journal : Journal) (lines : List Run
 
   not_undue : (place : ℕ) → IsUndue c journal lines place → ⊥
   not_undue place u = by u.ends where
-    by : (IsWhole c journal lines u.printed u.left × (place < length lines)) ⊎ ((given : Answer) × (behind : Option (List Answer)) × IsCut c journal lines u.printed u.left given behind) → ⊥
+    by : (IsWholeRunOfLines c journal lines u.printed u.left × (place < length lines)) ⊎ ((given : Answer) × (behind : Option (List Answer)) × IsCutRunOfLines c journal lines u.printed u.left given behind) → ⊥
     by (inl whole) =
-        let one = whole_one c journal.promotions true (plans_one c journal.promotions) journal.events (Some (answers_in lines)) tt u.left lawful.left u.printed lawful.printed whole.0 lawful.whole in
+        let one = whole_one c journal.promotions true (plans_one c journal.promotions) journal.events (Some (answers_of_lines lines)) tt u.left lawful.left u.printed lawful.printed whole.0 lawful.whole in
         let n : length (map (run_line c) u.printed) ≡ length (map (run_line c) lines) = ap (λ xs. length (map (run_line c) xs)) one.0 ∙ ap length same_texts in
         let m : length (map (run_line c) u.printed) ≡ length (take place lines) = ap length u.same ∙ length-map (take place lines) (run_line c) in
         let k = length-take-le place lines u.within in
         let all = length-map lines (run_line c) in
         absurd (let low = whole.1 in omega arith)
     by (inr cut) =
-        whole_or_cut c journal.promotions true (plans_one c journal.promotions) journal.events (Some (answers_in lines)) tt lawful.left u.left lawful.printed u.printed cut.0 cut.1 lawful.whole cut.2
+        whole_or_cut c journal.promotions true (plans_one c journal.promotions) journal.events (Some (answers_of_lines lines)) tt lawful.left u.left lawful.printed u.printed cut.0 cut.1 lawful.whole cut.2
 
-  pub not_faulty : (place : ℕ) (kind : Clause) → IsFaulty c journal lines place kind → ⊥
+  pub not_faulty : (place : ℕ) (kind : Clause) → IsFaultyClause c journal lines place kind → ⊥
   not_faulty place kind (other _ o) = not_other place kind o
   not_faulty place _ (undue u) = not_undue place u

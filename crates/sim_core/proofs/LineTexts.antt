@@ -22,10 +22,10 @@ use Rattle.cluster_types.specs.Fields.{leaf_name}
 use Rattle.cluster_types.specs.Texts.{node_name, run_line}
 use Rattle.cluster_types.specs.Valid.{IsValid}
 use Rattle.crm_lex.specs.Names.{is_name, is_name_byte}
-use Rattle.input_reading.specs.Places.{Words}
+use Rattle.input_reading.specs.Places.{WordsOfLine}
 use Rattle.input_reading.proofs.WordsOfLines.{action_words, answer_words, joined, line-joined, line_words}
 use Rattle.input_reading.proofs.TextAgain.{no_byte}
-use Rattle.input_reading.specs.Written.{IsNamed}
+use Rattle.input_reading.specs.Written.{IsLineNamed}
 use Rattle.sim_core.specs.TextLines.{ended_in}
 use Rattle.sim_core.proofs.Lines.{IsTextLine, ended-append}
 
@@ -101,7 +101,7 @@ module _ (c : Cluster) (valid : IsValid c) where
   plain_answer (answer.Wait seconds) = (refl, (plain_number seconds, tt))
   plain_answer (answer.Report n r interval code) = (refl, (plain_node n, (plain_leaf r, (plain_number interval, (plain_number code, tt)))))
 
-  plain_line : (l : RunLine) → IsNamed l → AllByRecursion Plain (line_words c l)
+  plain_line : (l : RunLine) → IsLineNamed l → AllByRecursion Plain (line_words c l)
   plain_line (line.Transition k) h = (refl, (plain_number k, tt))
   plain_line (line.Pinned r Unmanaged) h = (refl, (plain_leaf r, (refl, tt)))
   plain_line (line.Pinned r Blocked) h = (refl, (plain_leaf r, (refl, tt)))
@@ -121,18 +121,18 @@ module _ (c : Cluster) (valid : IsValid c) where
   plain_line (line.Aborted k) h = (refl, (plain_number k, tt))
   plain_line (line.Unexpected l) h = (refl, (plain_number l, tt))
 
-  plain_rest : (ws : Words) → AllByRecursion Plain ws → Plain (flat_map (λ (w : List ℕ). 32 ∷ w) ws)
+  plain_rest : (ws : WordsOfLine) → AllByRecursion Plain ws → Plain (flat_map (λ (w : List ℕ). 32 ∷ w) ws)
   plain_rest [] h = refl
   plain_rest (w ∷ ws) h = plain-append w (flat_map (λ (v : List ℕ). 32 ∷ v) ws) h.0 (plain_rest ws h.1)
 
-  plain_joined : (ws : Words) → AllByRecursion Plain ws → Plain (joined ws)
+  plain_joined : (ws : WordsOfLine) → AllByRecursion Plain ws → Plain (joined ws)
   plain_joined [] h = refl
   plain_joined (w ∷ ws) h = plain-append w (flat_map (λ (v : List ℕ). 32 ∷ v) ws) h.0 (plain_rest ws h.1)
 
   -- a line of a run is one line of its text
-  pub one_line : (l : RunLine) → IsNamed l → IsTextLine (run_line c l)
+  pub one_line : (l : RunLine) → IsLineNamed l → IsTextLine (run_line c l)
   one_line l h = record { body = joined (line_words c l); is = line-joined c l; one = plain_joined (line_words c l) (plain_line l h) }
 
-  pub one_line_each : (lines : List RunLine) → AllByRecursion IsNamed lines → AllByRecursion IsTextLine (map (run_line c) lines)
+  pub one_line_each : (lines : List RunLine) → AllByRecursion IsLineNamed lines → AllByRecursion IsTextLine (map (run_line c) lines)
   one_line_each [] h = tt
   one_line_each (l ∷ lines) h = (one_line l h.0, one_line_each lines h.1)

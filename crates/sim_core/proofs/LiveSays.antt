@@ -9,19 +9,19 @@ use Rattle.cluster_types.specs.declared.cluster.Cluster.{Cluster}
 use Rattle.cluster_types.specs.declared.journal.Journal.{Journal}
 use Rattle.cluster_types.specs.Journals.{moment_of}
 use Rattle.crm_lex.specs.RawLines.{raw_lines}
-use Rattle.sim_core.specs.Coming.{Coming, coming}
-use Rattle.sim_core.specs.Heads as heads
-use Rattle.sim_core.specs.declared.place.Place.{Place}
-use Rattle.sim_core.specs.declared.live_end.LiveEnd.{LiveEnd}
-use Rattle.sim_core.specs.declared.live_end.LiveEnd.TheVariants as end
-use Rattle.sim_core.specs.Ends.{Gets}
-use Rattle.sim_core.specs.Reached as run
-use Rattle.sim_core.specs.Reached.{Reaches, results_behind}
-use Rattle.sim_core.proofs.Written.{adds_none}
+use Rattle.live_run.specs.Coming.{Coming, coming}
+use Rattle.live_run.specs.Heads as heads
+use Rattle.live_run.specs.declared.place.Place.{Place}
+use Rattle.live_run.specs.declared.live_end.LiveEnd.{LiveEnd}
+use Rattle.live_run.specs.declared.live_end.LiveEnd.TheVariants as end
+use Rattle.live_run.specs.Ends.{EndGets}
+use Rattle.live_run.specs.Reached as run
+use Rattle.live_run.specs.Reached.{Reaches, results_behind}
+use Rattle.live_run.proofs.Written.{adds_none}
 use Rattle.sim_core.specs.declared.beginning.HeadEnd.{HeadEnd}
 use Rattle.sim_core.specs.declared.beginning.HeadEnd.TheVariants as stop
-use Rattle.input_reading.specs.declared.cause.InputCause.{InputCause}
-use Rattle.input_reading.specs.declared.reading.Head.{Head}
+use Rattle.input_reading.specs.declared.input.cause.InputCause.{InputCause}
+use Rattle.input_reading.specs.declared.input.reading.Head.{Head}
 use Rattle.sim_core.specs.declared.status.Status.{Status}
 use Rattle.sim_core.specs.declared.status.Status.TheVariants.{Done, NoMemory, Usage, ReadFault, WriteFault, Refused, Unexpected, TooLarge, NotLawful}
 use Rattle.sim_core.specs.Answers.{MayAnswer}
@@ -78,15 +78,15 @@ module _ (input : List ℕ) (head : Head) (reading : Reading) (from left before 
       ap (λ (n : ℕ). coming head.cluster n at reading.room (raw_lines (reading.held ++ k.unread))) k.longest
       ∙ ap (λ (t : List ℕ). coming head.cluster 1048576 at reading.room (raw_lines t)) bytes
 
-  text_of_run : (how : LiveEnd) (text : List ℕ) → Gets head.cluster head.journal (results_behind head.cluster head.journal reading k.unread) how text
-      → IsTextOfRun (λ c journal all. Gets c journal all how) input text
+  text_of_run : (how : LiveEnd) (text : List ℕ) → EndGets head.cluster head.journal (results_behind head.cluster head.journal reading k.unread) how text
+      → IsTextOfRun (λ c journal all. EndGets c journal all how) input text
   text_of_run how text gets = record {
     bytes = k.bytes;
     head = head;
     next = reading.next;
     room = reading.room;
     begun = k.begun;
-    says = subst (λ (all : Coming). Gets head.cluster head.journal all how text) same_coming gets;
+    says = subst (λ (all : Coming). EndGets head.cluster head.journal all how text) same_coming gets;
   }
 
   behind_the_head : (Became : Cluster → Journal → Reading → List ℕ → Option (List ℕ) → Option (List ℕ) → Option (List ℕ) → Type 0)

@@ -21,17 +21,17 @@ use Rattle.cluster_types.specs.declared.placement.Target.{Target}
 use Rattle.cluster_types.specs.declared.placement.Target.TheVariants.{Nowhere, Started, Promoted}
 use Rattle.cluster_types.specs.declared.run.RunLine.{RunLine}
 use Rattle.cluster_types.specs.declared.run.RunLine.TheVariants as line
-use Rattle.cluster_types.specs.Runs.{Standing, due, amid, idle, Runs, RunsOn, here, one_more, plans, goes, completes, aborts, answers}
+use Rattle.cluster_types.specs.Runs.{RunStanding, due, amid, idle, Runs, RunsOn, here, one_more, plans, goes, completes, aborts, answers}
 use Rattle.cluster_types.specs.Tables.{targets_of}
 use Rattle.cluster_types.specs.Texts.{event_lines, goal_line, lacking_lines, leaf_lines, pin_lines, target_lines}
 use Rattle.cluster_types.specs.Valid.{IsValid}
 use Rattle.crm_lex.specs.Names.{is_name}
 use Rattle.graph_exec.specs.Telling.{ReasonsHaveNames}
 use Rattle.graph_exec.proofs.Named.{reasons_named}
-use Rattle.input_reading.specs.Written.{IsNamed}
+use Rattle.input_reading.specs.Written.{IsLineNamed}
 
 abbrev Named : List RunLine → Type 0
-Named = AllByRecursion IsNamed
+Named = AllByRecursion IsLineNamed
 
 both_named : (xs ys : List RunLine) → Named xs → Named ys → Named (xs ++ ys)
 both_named [] ys h k = k
@@ -129,7 +129,7 @@ module _ (c : Cluster) where
   named_targets placed h = each_named (leaf_lines c placed.pins (targets_of placed.table) placed.none) (named_leaf placed h) (range_with_len 0 (length c.leaves))
 
 module _ (c : Cluster) (valid : IsValid c) (promotions : List Promotion) (whole : Bool) where
-  named_step : (at next : Standing) (rest left : Option (List Answer)) (lines : List RunLine) → RunsOn c promotions whole at rest lines next left → Named lines
+  named_step : (at next : RunStanding) (rest left : Option (List Answer)) (lines : List RunLine) → RunsOn c promotions whole at rest lines next left → Named lines
   named_step _ _ _ _ _ (plans k es rest placed actions plan) = (tt, named_targets c placed (reasons_named c valid es promotions placed plan.goals))
   named_step _ _ _ _ _ (goes k t since events rest left steps) = named_events events
   named_step _ _ _ _ _ (completes k t since rest ended clean) = (tt, tt)
@@ -137,7 +137,7 @@ module _ (c : Cluster) (valid : IsValid c) (promotions : List Promotion) (whole 
   named_step _ _ _ _ _ (answers k es rest left given says applies) = (tt, tt)
 
   -- the lines that a run prints
-  pub named_run : (at later : Standing) (rest left : Option (List Answer)) (lines : List RunLine) → Runs c promotions whole at rest lines later left → Named lines
+  pub named_run : (at later : RunStanding) (rest left : Option (List Answer)) (lines : List RunLine) → Runs c promotions whole at rest lines later left → Named lines
   named_run _ _ _ _ _ (here at rest) = tt
   named_run _ _ _ _ _ (one_more at next later rest middle left lines more step runs) =
       both_named lines more (named_step at next rest middle lines step) (named_run next later middle left more runs)

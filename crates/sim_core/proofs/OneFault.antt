@@ -16,7 +16,7 @@ use Rattle.run_safety.proofs.OneEnd.{cut_one, whole_one, whole_or_cut}
 use Rattle.run_safety.proofs.OneRun.{one_way}
 use Rattle.run_safety.proofs.PlansAreOne.{plans_one}
 use Rattle.sim_core.specs.declared.verdict.Clause.{Clause}
-use Rattle.sim_core.specs.Lawful.{IsCut, IsFaulty, IsOther, IsSoFar, IsUndue, IsWhole, answers_in, clause_of, other, undue}
+use Rattle.sim_core.specs.Lawful.{IsCutRunOfLines, IsFaultyClause, IsOther, IsSoFar, IsUndue, IsWholeRunOfLines, answers_of_lines, clause_of, other, undue}
 use Rattle.sim_core.proofs.Exclusive.{in_front, made}
 use Rattle.sim_core.proofs.Verdicts.{stands}
 
@@ -46,7 +46,7 @@ module _ (c : Cluster) (journal : Journal) (lines : List RunLine) where
   one_line : (some more : List RunLine) → IsSoFar c journal lines some → IsSoFar c journal lines more → (place : ℕ) (a b : RunLine)
       → slice_get some place ≡ Some a → slice_get more place ≡ Some b → a ≡ b
   one_line some more p q place a b e f =
-      by (one_way c journal.promotions true (plans_one c journal.promotions) (due 1 journal.events) p.at q.at (Some (answers_in lines)) p.behind q.behind some more tt p.runs q.runs)
+      by (one_way c journal.promotions true (plans_one c journal.promotions) (due 1 journal.events) p.at q.at (Some (answers_of_lines lines)) p.behind q.behind some more tt p.runs q.runs)
     where
       by : AreOnOneWay c journal.promotions true some p.at p.behind more q.at q.behind → a ≡ b
       by (this_first g) =
@@ -85,12 +85,12 @@ module _ (c : Cluster) (journal : Journal) (lines : List RunLine) where
   -- where the lines are undue from a place on, the run prints no other line than they have
   front_of : (place : ℕ) (printed : List RunLine) → IsSoFar c journal lines printed → (u : IsUndue c journal lines place) → IsFront printed u.printed
   front_of place printed p u = by u.ends where
-    by : (IsWhole c journal lines u.printed u.left × (place < length lines)) ⊎ ((given : Answer) × (behind : Option (List Answer)) × IsCut c journal lines u.printed u.left given behind)
+    by : (IsWholeRunOfLines c journal lines u.printed u.left × (place < length lines)) ⊎ ((given : Answer) × (behind : Option (List Answer)) × IsCutRunOfLines c journal lines u.printed u.left given behind)
         → IsFront printed u.printed
     by (inl whole) =
-        (begins_whole c journal.promotions true (plans_one c journal.promotions) journal.events (Some (answers_in lines)) tt p.at p.behind printed p.runs u.left u.printed whole.0).0
+        (begins_whole c journal.promotions true (plans_one c journal.promotions) journal.events (Some (answers_of_lines lines)) tt p.at p.behind printed p.runs u.left u.printed whole.0).0
     by (inr cut) =
-        (begins_cut c journal.promotions true (plans_one c journal.promotions) journal.events (Some (answers_in lines)) tt p.at p.behind printed p.runs u.left cut.0 cut.1 u.printed cut.2).0
+        (begins_cut c journal.promotions true (plans_one c journal.promotions) journal.events (Some (answers_of_lines lines)) tt p.at p.behind printed p.runs u.left cut.0 cut.1 u.printed cut.2).0
 
   other_or_undue : (place q : ℕ) (kind : Clause) → IsOther c journal lines place kind → IsUndue c journal lines q → ⊥
   other_or_undue place q kind o u =
@@ -111,17 +111,17 @@ module _ (c : Cluster) (journal : Journal) (lines : List RunLine) where
 
   one_printed : (place q : ℕ) (u : IsUndue c journal lines place) (v : IsUndue c journal lines q) → u.printed ≡ v.printed
   one_printed place q u v = by u.ends v.ends where
-    by : (IsWhole c journal lines u.printed u.left × (place < length lines)) ⊎ ((given : Answer) × (behind : Option (List Answer)) × IsCut c journal lines u.printed u.left given behind)
-        → (IsWhole c journal lines v.printed v.left × (q < length lines)) ⊎ ((given : Answer) × (behind : Option (List Answer)) × IsCut c journal lines v.printed v.left given behind)
+    by : (IsWholeRunOfLines c journal lines u.printed u.left × (place < length lines)) ⊎ ((given : Answer) × (behind : Option (List Answer)) × IsCutRunOfLines c journal lines u.printed u.left given behind)
+        → (IsWholeRunOfLines c journal lines v.printed v.left × (q < length lines)) ⊎ ((given : Answer) × (behind : Option (List Answer)) × IsCutRunOfLines c journal lines v.printed v.left given behind)
         → u.printed ≡ v.printed
     by (inl a) (inl b) =
-        (whole_one c journal.promotions true (plans_one c journal.promotions) journal.events (Some (answers_in lines)) tt u.left v.left u.printed v.printed a.0 b.0).0
+        (whole_one c journal.promotions true (plans_one c journal.promotions) journal.events (Some (answers_of_lines lines)) tt u.left v.left u.printed v.printed a.0 b.0).0
     by (inr a) (inr b) =
-        (cut_one c journal.promotions true (plans_one c journal.promotions) journal.events (Some (answers_in lines)) tt u.left v.left u.printed v.printed a.0 b.0 a.1 b.1 a.2 b.2).0
+        (cut_one c journal.promotions true (plans_one c journal.promotions) journal.events (Some (answers_of_lines lines)) tt u.left v.left u.printed v.printed a.0 b.0 a.1 b.1 a.2 b.2).0
     by (inl a) (inr b) =
-        whole_or_cut c journal.promotions true (plans_one c journal.promotions) journal.events (Some (answers_in lines)) tt u.left v.left u.printed v.printed b.0 b.1 a.0 b.2
+        whole_or_cut c journal.promotions true (plans_one c journal.promotions) journal.events (Some (answers_of_lines lines)) tt u.left v.left u.printed v.printed b.0 b.1 a.0 b.2
     by (inr a) (inl b) =
-        whole_or_cut c journal.promotions true (plans_one c journal.promotions) journal.events (Some (answers_in lines)) tt v.left u.left v.printed u.printed a.0 a.1 b.0 a.2
+        whole_or_cut c journal.promotions true (plans_one c journal.promotions) journal.events (Some (answers_of_lines lines)) tt v.left u.left v.printed u.printed a.0 a.1 b.0 a.2
 
   one_place : (place q : ℕ) → IsUndue c journal lines place → IsUndue c journal lines q → place ≡ q
   one_place place q u v = sym (place_is place u) ∙ ap (λ xs. length xs) (one_printed place q u v) ∙ place_is q v
@@ -135,7 +135,7 @@ module _ (c : Cluster) (journal : Journal) (lines : List RunLine) where
         let same : place ≡ q = grind (arith, nat_tests) in
         (same, same_kind q kind sort (subst (λ n. IsOther c journal lines n kind) same o) p)
 
-  pub one_fault : (place q : ℕ) (kind sort : Clause) → IsFaulty c journal lines place kind → IsFaulty c journal lines q sort → (place ≡ q) × (kind ≡ sort)
+  pub one_fault : (place q : ℕ) (kind sort : Clause) → IsFaultyClause c journal lines place kind → IsFaultyClause c journal lines q sort → (place ≡ q) × (kind ≡ sort)
   one_fault place q kind sort (other _ o) (other _ p) = one_other place q kind sort o p
   one_fault place q kind _ (other _ o) (undue v) = absurd (other_or_undue place q kind o v)
   one_fault place q _ sort (undue u) (other _ p) = absurd (other_or_undue q place sort p u)

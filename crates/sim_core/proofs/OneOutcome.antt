@@ -1,7 +1,7 @@
 -- An input gets one status with a word.
 use Rattle.std.proofs.Common.{◌≡◌, ℕ, List, refl, sym, ◌∙◌}
-use Rattle.agent_world.specs.Case.{case_text}
-use Rattle.input_reading.specs.declared.reading.Input.{Input}
+use Rattle.cases.specs.Case.{case_text}
+use Rattle.input_reading.specs.declared.input.reading.Input.{Input}
 use Rattle.sim_core.specs.declared.status.Status.{Status}
 use Rattle.sim_core.specs.declared.status.Status.TheVariants.{Done, Refused}
 use Rattle.sim_core.specs.declared.words.Command.{Command}

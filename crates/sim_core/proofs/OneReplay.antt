@@ -3,13 +3,13 @@ use Rattle.std.proofs.Common.{◌≡◌, ◌⊎◌, inl, inr, ℕ, List, Ok, Err
 use Rattle.cluster_types.specs.declared.cluster.Cluster.{Cluster}
 use Rattle.cluster_types.specs.declared.journal.Journal.{Journal}
 use Rattle.faults.specs.declared.fault.Fault.TheVariants.{At}
-use Rattle.sim_core.specs.Coming.{Coming}
-use Rattle.sim_core.specs.Heads as heads
-use Rattle.sim_core.specs.declared.live_end.LiveEnd.{LiveEnd}
-use Rattle.sim_core.specs.declared.live_end.LiveEnd.TheVariants as end
-use Rattle.sim_core.specs.Ends as ends
-use Rattle.input_reading.specs.declared.cause.InputCause.{InputCause}
-use Rattle.input_reading.specs.declared.reading.Head.{Head}
+use Rattle.live_run.specs.Coming.{Coming}
+use Rattle.live_run.specs.Heads as heads
+use Rattle.live_run.specs.declared.live_end.LiveEnd.{LiveEnd}
+use Rattle.live_run.specs.declared.live_end.LiveEnd.TheVariants as end
+use Rattle.live_run.specs.Ends as ends
+use Rattle.input_reading.specs.declared.input.cause.InputCause.{InputCause}
+use Rattle.input_reading.specs.declared.input.reading.Head.{Head}
 use Rattle.sim_core.specs.declared.status.Status.{Status}
 use Rattle.sim_core.specs.declared.status.Status.TheVariants.{Done, Refused, TooLarge, Unexpected}
 use Rattle.input_reading.specs.Reading.{start_of}
@@ -17,8 +17,8 @@ use Rattle.sim_core.specs.Replay.{IsBegun, IsHeadFault, IsHeadRefusal, IsHeadToo
 
 -- a run gets one end
 abbrev pub OneEnd : Type 0
-OneEnd = (c : Cluster) (journal : Journal) (coming : Coming) (one other : LiveEnd) (text also : List ℕ) → ends.Gets c journal coming one text
-    → ends.Gets c journal coming other also → (one ≡ other) × (text ≡ also)
+OneEnd = (c : Cluster) (journal : Journal) (coming : Coming) (one other : LiveEnd) (text also : List ℕ) → ends.EndGets c journal coming one text
+    → ends.EndGets c journal coming other also → (one ≡ other) × (text ≡ also)
 
 -- what a head says of which this is known
 module _ (input : List ℕ) where
@@ -68,12 +68,12 @@ module _ (input : List ℕ) where
 
 module _ (one_end : OneEnd) (input : List ℕ) where
   -- two runs that follow from a head
-  one_run : (one other : LiveEnd) (text also : List ℕ) → IsTextOfRun (λ c journal coming. ends.Gets c journal coming one) input text
-      → IsTextOfRun (λ c journal coming. ends.Gets c journal coming other) input also → one ≡ other
+  one_run : (one other : LiveEnd) (text also : List ℕ) → IsTextOfRun (λ c journal coming. ends.EndGets c journal coming one) input text
+      → IsTextOfRun (λ c journal coming. ends.EndGets c journal coming other) input also → one ≡ other
   one_run one other text also a b =
       let same = same_head input a.bytes b.bytes a.head b.head a.next b.next a.room b.room a.begun b.begun in
       (one_end b.head.cluster b.head.journal (coming_behind input b.bytes b.head b.next b.room) one other text also
-      (carried input (λ c journal coming. ends.Gets c journal coming one text) a.bytes b.bytes a.head b.head a.next b.next a.room b.room same a.says) b.says).0
+      (carried input (λ c journal coming. ends.EndGets c journal coming one text) a.bytes b.bytes a.head b.head a.next b.next a.room b.room same a.says) b.says).0
 
   refusal_or_run : {Says : Cluster → Journal → Coming → List ℕ → Type 0} (text also : List ℕ) → IsHeadRefusal input text → ¬ IsTextOfRun Says input also
   refusal_or_run text also a b = no_fault input b.bytes b.head b.next b.room a.line a.why b.begun a.fault

@@ -5,8 +5,8 @@ use Rattle.cluster_types.specs.declared.journal.Event.{Event}
 use Rattle.cluster_types.specs.declared.journal.Promotion.{Promotion}
 use Rattle.cluster_types.specs.Valid.{IsValid}
 use Rattle.input_reading.proofs.ValidHead.{cluster_valid, journal_at_rest}
-use Rattle.sim_core.specs.Courses.{answers_of}
-use Rattle.sim_core.specs.Ends.{IsWholeText}
+use Rattle.live_run.specs.Courses.{answers_to_come}
+use Rattle.live_run.specs.Ends.{IsWholeText}
 use Rattle.plan_laws.proofs.LawfulTable.{lawful}
 use Rattle.plan_laws.proofs.OnePlan.{one_list, one_placed}
 use Rattle.planner.proofs.SomePlan.{actions, goals, is_plan}
@@ -31,7 +31,7 @@ one_safe_run input text out =
     let c = out.head.cluster in
     let first = out.head.journal.events in
     let promotions = out.head.journal.promotions in
-    let given = answers_of (coming_behind input out.bytes out.head out.next out.room) in
+    let given = answers_to_come (coming_behind input out.bytes out.head out.next out.room) in
     let valid = cluster_valid out.bytes out.head out.begun.says in
     record {
       bytes = out.bytes;

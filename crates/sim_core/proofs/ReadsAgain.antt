@@ -9,11 +9,11 @@ use Rattle.crm_lex.specs.Reading.{reads}
 use Rattle.crm_parse.specs.declared.statement.Crm.{Crm}
 use Rattle.crm_parse.specs.Marks.{sections_of}
 use Rattle.crm_parse.specs.Statements.{statements_of}
-use Rattle.crm_parse.proofs.NoSections.{statements-alone, whole_text}
-use Rattle.crm_parse.specs.Again.{ReadsAs, has_short_lines}
-use Rattle.crm_parse.specs.Text.{canonical_text}
-use Rattle.crm_parse.proofs.ReadsAgain.{canonical-again, reads-again-commented}
-use Rattle.cluster_model.specs.declared.leaves.Leaves.{Leaves}
+use Rattle.crm_print.proofs.NoSections.{statements-alone, whole_text}
+use Rattle.crm_print.specs.Again.{ReadsAs, has_short_lines}
+use Rattle.crm_print.specs.Text.{canonical_text}
+use Rattle.crm_print.proofs.ReadsAgain.{canonical-again, reads-again-commented}
+use Rattle.cluster_model.specs.declared.expansion.leaves.Leaves.{Leaves}
 use Rattle.cluster_model.specs.Expansion.{expansion_of}
 use Rattle.cluster_model.specs.Resolution.{resolution_of}
 use Rattle.cluster_types.specs.declared.cluster.Cluster.{Cluster}
@@ -22,13 +22,13 @@ use Rattle.cluster_types.specs.Journals.{moment_of}
 use Rattle.cluster_types.specs.Valid.{IsValid, KeepsLimits}
 use Rattle.faults.specs.declared.fault.Fault.{Fault}
 use Rattle.faults.specs.Reading.{faulting, ◌>>=◌}
-use Rattle.input_reading.specs.FirstJournal.{journal_of, status_of}
-use Rattle.input_reading.specs.declared.cause.InputCause.{InputCause}
-use Rattle.input_reading.specs.declared.cause.InputCause.TheVariants as cause
-use Rattle.input_reading.specs.declared.reading.Head.{Head}
-use Rattle.input_reading.specs.declared.reading.Input.{Input}
+use Rattle.input_reading.specs.FirstJournal.{journal_of, status_journal}
+use Rattle.input_reading.specs.declared.input.cause.InputCause.{InputCause}
+use Rattle.input_reading.specs.declared.input.cause.InputCause.TheVariants as cause
+use Rattle.input_reading.specs.declared.input.reading.Head.{Head}
+use Rattle.input_reading.specs.declared.input.reading.Input.{Input}
 use Rattle.sim_core.specs.Check.{check_text, counts_line, rules_in}
-use Rattle.input_reading.specs.Reading.{Reads, configuration_lines, configuration_of, following_lines, head_of, input_of, status_lines, with_cluster, with_results}
+use Rattle.input_reading.specs.Reading.{ReadsInput, configuration_lines, configuration_of, following_lines, head_of, input_of, status_lines, with_cluster, with_results}
 use Rattle.input_reading.proofs.ValidInput.{IsStepped, cluster_valid, passed, passed_on, results_keep_head, stepped}
 use Rattle.sim_core.specs.Again.{IsReadAgain}
 use Rattle.sim_core.proofs.Comments.{counts, counts-comment}
@@ -53,7 +53,7 @@ record IsOf (crm : Crm) (cluster : Cluster) (head : Head) : Type 0 where
 head-of : (crm : Crm) (cluster : Cluster) (lines : List Line) (head : Head) → head_of crm cluster lines ≡ Ok head → IsOf crm cluster head
 unfolding head_of
 head-of crm cluster lines head e =
-    let journal = passed cause.Status (status_of cluster lines) _ head e in
+    let journal = passed cause.Status (status_journal cluster lines) _ head e in
     let made : head ≡ record { crm = crm; cluster = cluster; journal = journal.gave } = cc in
     rw made (record { same_crm = refl; same_cluster = refl })
 
@@ -91,7 +91,7 @@ same-head text whole s =
     let kept = results_keep_head head.gave (following_lines s.found.marks s.found.lines) whole head.goes_on in
     rw kept (head-of s.found.crm s.cluster lines head.gave head.is)
 
-steps-of : (text : List ℕ) (whole : Input) → Reads text whole → Steps text whole
+steps-of : (text : List ℕ) (whole : Input) → ReadsInput text whole → Steps text whole
 steps-of text whole r =
     let s = stepped text whole r in
     let c = configured text whole s in
@@ -127,12 +127,12 @@ module _ (text : List ℕ) (lines : List Line) (crm : Crm) (leaves : Leaves) (cl
   unfolding head_of with_results
   goes-on = let none = nothing-behind lines in rw none refl
 
-  pub read-alone : Reads text alone
+  pub read-alone : ReadsInput text alone
   unfolding input_of
   read-alone = let c = configuration-is in let g = goes-on in rw (c, resolves) g
 
 -- what `check` writes
-module _ (text : List ℕ) (whole : Input) (r : Reads text whole) (short : has_short_lines whole.head.crm ≡ true) where
+module _ (text : List ℕ) (whole : Input) (r : ReadsInput text whole) (short : has_short_lines whole.head.crm ≡ true) where
   steps : Steps text whole
   steps = steps-of text whole r
 

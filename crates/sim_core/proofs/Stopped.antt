@@ -12,7 +12,7 @@ use Rattle.cluster_types.specs.declared.run.RunLine.{RunLine}
 use Rattle.cluster_types.specs.Texts.{run_line}
 use Rattle.graph_exec.specs.Replays.{IsStopped, setting, sight}
 use Rattle.run_safety.proofs.SoFar.{runs_more}
-use Rattle.sim_core.specs.Compared.{IsFront}
+use Rattle.sim_core.specs.Compared.{RunFrontPrints}
 
 -- a text, and what was added to it
 added : (old : Option (List ℕ)) (before more now : List ℕ) → old ≡ Some before → Some now ≡ option_map (λ held. held ++ more) old → now ≡ before ++ more
@@ -20,7 +20,7 @@ added old before more now is e = let f : Some now ≡ Some (before ++ more) = e 
 
 pub front_written : (c : Cluster) (journal : Journal) (answers : List Answer) (steady over over_now : _) (rest : Option (List Answer)) (held : List ℕ) (left : Journal)
     → IsStopped (setting c journal.promotions true steady (Some c)) journal.events (sight (Some answers) over (Some [])) (sight rest over_now (Some held)) left
-    → IsFront c journal answers held
+    → RunFrontPrints c journal answers held
 front_written c journal answers steady over over_now rest held left stopped =
     let lines = flat_map (run_line c) stopped.lines in
     let call = flat_map (run_line c) stopped.call in

@@ -10,23 +10,23 @@ use Rattle.cluster_types.specs.declared.journal.Journal.{Journal}
 use Rattle.cluster_types.specs.declared.run.RunLine.{RunLine}
 use Rattle.cluster_types.specs.Texts.{run_line}
 use Rattle.cluster_types.specs.Valid.{IsValid}
-use Rattle.input_reading.specs.declared.text.RunTextLine.{RunTextLine}
-use Rattle.input_reading.specs.Written.{AreNamed, IsNamed}
+use Rattle.input_reading.specs.declared.run.text.RunTextLine.{RunTextLine}
+use Rattle.input_reading.specs.Written.{AreNamed, IsLineNamed}
 use Rattle.sim_core.specs.declared.ended.Ended.{Ended}
 use Rattle.sim_core.specs.declared.ended.Ended.TheVariants as ended
 use Rattle.sim_core.specs.declared.verdict.Clause.{Clause}
 use Rattle.sim_core.specs.declared.verdict.Verdict.{Verdict}
 use Rattle.sim_core.specs.declared.verdict.Verdict.TheVariants.{Yes, No}
-use Rattle.sim_core.specs.Compared.{Compares, IsDifference, IsEnd, IsFault, IsFront, WroteRun}
-use Rattle.sim_core.specs.Lawful.{IsFaulty, IsFaultyLine, IsLawful, IsOther, IsSoFar, IsUndue, Judges, answers_in, clause_of, other, undue, said}
-use Rattle.sim_core.specs.TextLines.{ended_in, kind_in, unended_in}
+use Rattle.sim_core.specs.Compared.{Compares, IsDifference, IsEnd, IsFault, RunFrontPrints, WroteRun}
+use Rattle.sim_core.specs.Lawful.{IsFaultyClause, IsFaultyLine, IsLawfulRun, IsOther, IsSoFar, IsUndue, Judges, answers_of_lines, clause_of, other, undue, said}
+use Rattle.sim_core.specs.TextLines.{ended_in, line_kind_in, unended_in}
 use Rattle.sim_core.proofs.LineTexts.{one_line_each}
 use Rattle.sim_core.proofs.FirstBytes.{kind_of_line}
 use Rattle.sim_core.proofs.Lines.{IsParted, IsTextLine, ended-append, ended_line, no_line, parted, same_line}
 use Rattle.sim_core.proofs.NamedRuns.{named_run}
 
 -- what named lines say is named
-pub said_named : (lines : List RunTextLine) → AreNamed lines → AllByRecursion IsNamed (said lines)
+pub said_named : (lines : List RunTextLine) → AreNamed lines → AllByRecursion IsLineNamed (said lines)
 said_named [] h = tt
 said_named (l ∷ lines) h = (h.0, said_named lines h.1)
 
@@ -69,7 +69,7 @@ are_first (x ∷ xs) (y ∷ ys) rest h k e =
     record { within = let w = more.within in omega arith; same = (let s = more.same in let f = parts.0 in cc) }
 
 -- what the first two bytes tell, more bytes don't change
-kind-front : (text more : List ℕ) → 2 ≤ length text → kind_in (text ++ more) ≡ kind_in text
+kind-front : (text more : List ℕ) → 2 ≤ length text → line_kind_in (text ++ more) ≡ line_kind_in text
 kind-front [] more low = absurd (omega arith)
 kind-front (a ∷ []) more low = absurd (omega arith)
 kind-front (a ∷ b ∷ text) more low = refl
@@ -166,10 +166,10 @@ module _ (c : Cluster) (valid : IsValid c) (journal : Journal) (lines : List Run
         let telling : unended_in (take p (concat xs)) ++ b.first ∷ (b.others ++ rest) ≡ (unended_in (take p text) ++ drop p written) ++ rest
         = ap (λ t. unended_in t ++ b.first ∷ (b.others ++ rest)) own ∙ ap (λ t. unended_in (take p text) ++ (t ++ rest)) (sym b.is)
         ∙ sym (append_assoc (unended_in (take p text)) (drop p written) rest) in
-        let kind_there : kind_in (concat (drop (ended_in (take p (concat xs))) ys)) ≡ clause_of l.from
-        = ap (λ t. kind_in (concat t)) y.is ∙ ap (λ t. kind_in (t ++ concat y.others)) (sym l.is) ∙ kind_of_line c l.from (concat y.others) in
-        let kind_here : kind_in (concat (drop (ended_in (take p (concat xs))) ys)) ≡ kind
-        = ap kind_in (is_parted.behind ∙ telling) ∙ kind-front (unended_in (take p text) ++ drop p written) rest d.enough ∙ sym d.kind_is in
+        let kind_there : line_kind_in (concat (drop (ended_in (take p (concat xs))) ys)) ≡ clause_of l.from
+        = ap (λ t. line_kind_in (concat t)) y.is ∙ ap (λ t. line_kind_in (t ++ concat y.others)) (sym l.is) ∙ kind_of_line c l.from (concat y.others) in
+        let kind_here : line_kind_in (concat (drop (ended_in (take p (concat xs))) ys)) ≡ kind
+        = ap line_kind_in (is_parted.behind ∙ telling) ∙ kind-front (unended_in (take p text) ++ drop p written) rest d.enough ∙ sym d.kind_is in
         record {
           printed = printed;
           so_far = so_far;
@@ -182,8 +182,8 @@ module _ (c : Cluster) (valid : IsValid c) (journal : Journal) (lines : List Run
         }
 
   -- what the comparison says, where the run was written so far
-  faulty_difference : (end : Ended) → WroteRun c journal (answers_in (said lines)) written end → (place : ℕ) (kind : Clause) → IsDifference lines after text written end place kind
-      → IsFaulty c journal (said lines) place kind
+  faulty_difference : (end : Ended) → WroteRun c journal (answers_of_lines (said lines)) written end → (place : ℕ) (kind : Clause) → IsDifference lines after text written end place kind
+      → IsFaultyClause c journal (said lines) place kind
   faulty_difference ended.Whole w place kind d =
       other kind (differs w.printed (record { at = w.run.last; behind = w.run.behind; runs = w.run.steps }) place kind [] ended.Whole (append-nil written ∙ w.text) d)
   faulty_difference ended.Cut w place kind d =
@@ -192,12 +192,12 @@ module _ (c : Cluster) (valid : IsValid c) (journal : Journal) (lines : List Run
       other kind (differs w.printed (record { at = w.at; behind = w.behind; runs = w.runs }) place kind (drop w.count (flat_map (run_line c) w.printed)) ended.Stopped
       (ap (λ t. t ++ drop w.count (flat_map (run_line c) w.printed)) w.text ∙ take-append-drop w.count (flat_map (run_line c) w.printed)) d)
 
-  faulty_end : (end : Ended) → WroteRun c journal (answers_in (said lines)) written end → (place : ℕ) (kind : Clause) → IsEnd lines after text written end place kind
-      → IsFaulty c journal (said lines) place kind
+  faulty_end : (end : Ended) → WroteRun c journal (answers_of_lines (said lines)) written end → (place : ℕ) (kind : Clause) → IsEnd lines after text written end place kind
+      → IsFaultyClause c journal (said lines) place kind
   faulty_end ended.Stopped w place kind e = absurd (e.unstopped refl)
   faulty_end ended.Cut w place kind e =
       let f = stands_in w.printed (record { at = w.run.last; behind = w.run.unread; runs = w.run.steps }) place w.text e.same e.place_is in
-      subst (IsFaulty c journal (said lines) place) (sym e.kind_is) (undue (record {
+      subst (IsFaultyClause c journal (said lines) place) (sym e.kind_is) (undue (record {
         printed = w.printed;
         left = w.left;
         within = f.within;
@@ -208,7 +208,7 @@ module _ (c : Cluster) (valid : IsValid c) (journal : Journal) (lines : List Run
       let f = stands_in w.printed (record { at = w.run.last; behind = w.run.behind; runs = w.run.steps }) place w.text e.same e.place_is in
       let more = e.more refl in
       let low : place < length (said lines) = below place (length (said lines)) f.within (λ all. let n = f.all all in let g : ⊥ = omega arith in g) in
-      subst (IsFaulty c journal (said lines) place) (sym e.kind_is) (undue (record {
+      subst (IsFaultyClause c journal (said lines) place) (sym e.kind_is) (undue (record {
         printed = w.printed;
         left = w.left;
         within = f.within;
@@ -217,11 +217,11 @@ module _ (c : Cluster) (valid : IsValid c) (journal : Journal) (lines : List Run
       }))
 
   -- a verdict is right
-  pub judged : (end : Ended) → WroteRun c journal (answers_in (said lines)) written end → (v : Verdict) → Compares lines after text written end v → Judges c journal lines after v
+  pub judged : (end : Ended) → WroteRun c journal (answers_of_lines (said lines)) written end → (v : Verdict) → Compares lines after text written end v → Judges c journal lines after v
   judged ended.Whole w Yes e = record { printed = w.printed; left = w.left; whole = w.run; same = sym w.text ∙ e.1 ∙ text_is }
   judged ended.Cut w Yes e = absurd (let f = e.0 in cc)
   judged ended.Stopped w Yes e = absurd (let f = e.0 in cc)
   judged end w (No number kind) e = record { place = e.place; fault = by e.fault; number_is = e.number_is } where
-    by : IsEnd lines after text written end e.place kind ⊎ IsDifference lines after text written end e.place kind → IsFaulty c journal (said lines) e.place kind
+    by : IsEnd lines after text written end e.place kind ⊎ IsDifference lines after text written end e.place kind → IsFaultyClause c journal (said lines) e.place kind
     by (inl f) = faulty_end end w e.place kind f
     by (inr f) = faulty_difference end w e.place kind f

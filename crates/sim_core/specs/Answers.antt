@@ -5,8 +5,8 @@ use Rattle.sim_core.specs.declared.status.Status.{Status}
 use Rattle.sim_core.specs.declared.status.Status.TheVariants.{Done, NoMemory, Usage, ReadFault, WriteFault, Refused, Unexpected, TooLarge, NotLawful}
 use Rattle.sim_core.specs.declared.words.Command.{Command}
 use Rattle.cluster_types.specs.Safety.{IsSafeRun}
-use Rattle.sim_core.specs.Courses.{answers_of}
-use Rattle.input_reading.specs.declared.reading.Head.{Head}
+use Rattle.live_run.specs.Courses.{answers_to_come}
+use Rattle.input_reading.specs.declared.input.reading.Head.{Head}
 use Rattle.sim_core.specs.Live.{SaysLive}
 use Rattle.input_reading.specs.Reading.{most_bytes}
 use Rattle.sim_core.specs.Replay.{IsBegun, coming_behind}
@@ -26,15 +26,15 @@ pub record IsReadWhole (input : List ℕ) (left : Option (List ℕ)) : Type 0 wh
   pub at_end : left ≡ Some []
 
 -- what a status says of the input, and of what is left of it. Of a live word this is said together with what is written
-abbrev pub Taken : Intake → List ℕ → Option (List ℕ) → Status → Type 0
-Taken nothing input left ReadFault = ⊥
-Taken nothing input left TooLarge = ⊥
-Taken nothing input left _ = Unit {0}
-Taken whole input left NoMemory = Unit {0}
-Taken whole input left ReadFault = Unit {0}
-Taken whole input left TooLarge = most_bytes < length input
-Taken whole input left _ = IsReadWhole input left
-Taken live input left _ = Unit {0}
+abbrev pub InputTaken : Intake → List ℕ → Option (List ℕ) → Status → Type 0
+InputTaken nothing input left ReadFault = ⊥
+InputTaken nothing input left TooLarge = ⊥
+InputTaken nothing input left _ = Unit {0}
+InputTaken whole input left NoMemory = Unit {0}
+InputTaken whole input left ReadFault = Unit {0}
+InputTaken whole input left TooLarge = most_bytes < length input
+InputTaken whole input left _ = IsReadWhole input left
+InputTaken live input left _ = Unit {0}
 
 -- where the input gets these statuses with these texts
 module _ (Due : Status → List ℕ → Type 0) where
@@ -52,7 +52,7 @@ module _ (Due : Status → List ℕ → Type 0) where
     pub part : AddsPrefix text before after
 
   -- the input gets this status
-  pub record IsDue (status : Status) : Type 0 where
+  pub record IsStatusDue (status : Status) : Type 0 where
     pub text : List ℕ
     pub due : Due status text
 
@@ -69,14 +69,14 @@ module _ (Due : Status → List ℕ → Type 0) where
 module _ (kind : Intake) (Output : List ℕ → Status → List ℕ → Type 0) where
   -- what the answer says of an input, of what is left of it, and of what the sink holds before and after
   pub record SaysOf (input : List ℕ) (left before after : Option (List ℕ)) (status : Status) : Type 0 where
-    pub taken : Taken kind input left status
+    pub taken : InputTaken kind input left status
     pub written : Written (Output input) before after status
 
   -- some input that has room gets this status
   pub record SomeInput (status : Status) : Type 0 where
     pub input : List ℕ
     pub room : length input ≤ most_bytes
-    pub due : IsDue (Output input) status
+    pub due : IsStatusDue (Output input) status
 
 -- the input of a word, where it is told: all bytes that the source has left, and none with a word that reads nothing
 abbrev pub told_input : Intake → Option (List ℕ) → Option (List ℕ)
@@ -89,25 +89,25 @@ SaysBy live word input left before after status = SaysLive input left before aft
 SaysBy kind word input left before after status = SaysOf kind (Gets word) input left before after status
 
 -- what the answer to a word says, where its input is told
-abbrev pub Answers : Command → Option (List ℕ) → Option (List ℕ) → Option (List ℕ) → Option (List ℕ) → Status → Type 0
-Answers word told left before after status =
+abbrev pub WordAnswers : Command → Option (List ℕ) → Option (List ℕ) → Option (List ℕ) → Option (List ℕ) → Status → Type 0
+WordAnswers word told left before after status =
     IfSome (told_input (intake word) told) (λ input. SaysBy (intake word) word input left before after status)
 
 -- a word that reads an input to its end before it writes gives a text of one that has room. A live word gives one of each input
-abbrev pub HasRoom : Intake → List ℕ → Type 0
-HasRoom live input = Unit {0}
-HasRoom kind input = length input ≤ most_bytes
+abbrev pub InputHasRoom : Intake → List ℕ → Type 0
+InputHasRoom live input = Unit {0}
+InputHasRoom kind input = length input ≤ most_bytes
 
 -- where no count rose and the input has room, each answer but out of memory is the one that the input gets
-abbrev pub IsComplete : Command → Option (List ℕ) → Status → Type 0
-IsComplete word told status = IfSome (told_input (intake word) told) (λ input. HasRoom (intake word) input → status ≢ NoMemory
-    → (due : Status) → (status ≡ due) ↔ IsDue (Gets word input) due)
+abbrev pub IsCompleteAnswer : Command → Option (List ℕ) → Status → Type 0
+IsCompleteAnswer word told status = IfSome (told_input (intake word) told) (λ input. InputHasRoom (intake word) input → status ≢ NoMemory
+    → (due : Status) → (status ≡ due) ↔ IsStatusDue (Gets word input) due)
 
 -- the run that follows from the head of an input is safe wherever it stands: each promise of safety holds of it
 abbrev pub IsSafeReplay : List ℕ → Type 0
 IsSafeReplay input = (bytes : List ℕ) (head : Head) (next room : ℕ) → IsBegun input bytes head next room
     → IsSafeRun head.cluster head.journal.promotions (is_none (coming_behind input bytes head next room).stop) head.journal.events
-    (Some (answers_of (coming_behind input bytes head next room)))
+    (Some (answers_to_come (coming_behind input bytes head next room)))
 
 abbrev pub reads_some : Intake → Bool
 reads_some nothing = false
@@ -115,10 +115,10 @@ reads_some whole = true
 reads_some live = true
 
 -- a status with a text of its own that a word may have: one that some input gets. Of a live word each but that of an audit
-abbrev pub MayGive : Intake → (List ℕ → Status → List ℕ → Type 0) → Status → Type 0
-MayGive live Output NotLawful = ⊥
-MayGive live Output status = Unit {0}
-MayGive kind Output status = SomeInput kind Output status
+abbrev pub MayGiveStatus : Intake → (List ℕ → Status → List ℕ → Type 0) → Status → Type 0
+MayGiveStatus live Output NotLawful = ⊥
+MayGiveStatus live Output status = Unit {0}
+MayGiveStatus kind Output status = SomeInput kind Output status
 
 -- a status that a call may have whatever its source and its sink tell: those of a fault, of size and of memory, and those with a text
 abbrev pub MayAnswer : Bool → Intake → (List ℕ → Status → List ℕ → Type 0) → Status → Type 0
@@ -127,7 +127,7 @@ MayAnswer memory kind Output ReadFault = reads_some kind ≡ true
 MayAnswer memory kind Output TooLarge = reads_some kind ≡ true
 MayAnswer memory kind Output WriteFault = Unit {0}
 MayAnswer memory kind Output Usage = ⊥
-MayAnswer memory kind Output status = MayGive kind Output status
+MayAnswer memory kind Output status = MayGiveStatus kind Output status
 
 -- a status of a word
 abbrev pub IsStatusOf : Command → Status → Type 0

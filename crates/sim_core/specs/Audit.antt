@@ -1,12 +1,12 @@
 -- What is written by the word `audit` (rule of this project).
 use Rattle.std.specs.Prelude.{◌≡◌, ℕ, List, ◌++◌, codes, decimal}
-use Rattle.input_reading.specs.declared.cause.InputCause.{InputCause}
-use Rattle.input_reading.specs.declared.trace.Trace.{Trace}
+use Rattle.input_reading.specs.declared.input.cause.InputCause.{InputCause}
+use Rattle.input_reading.specs.declared.input.trace.Trace.{Trace}
 use Rattle.input_reading.specs.Causes.{refusal_text}
 use Rattle.input_reading.specs.Traces.{IsTraceRefused, ReadsTrace}
 use Rattle.sim_core.specs.declared.verdict.Clause.{Clause}
 use Rattle.sim_core.specs.declared.verdict.Clause.TheVariants as due
-use Rattle.sim_core.specs.Lawful.{IsFaultyLine, IsLawful, said}
+use Rattle.sim_core.specs.Lawful.{IsFaultyLine, IsLawfulRun, said}
 use Rattle.sim_core.specs.declared.status.Status.{Status}
 use Rattle.sim_core.specs.declared.status.Status.TheVariants.{Done, NotLawful, Refused}
 
@@ -30,7 +30,7 @@ unlawful_text line clause = codes "unlawful " ++ decimal line ++ codes " " ++ cl
 pub record IsLawfulTrace (input text : List ℕ) : Type 0 where
   pub whole : Trace
   pub reads : ReadsTrace input whole
-  pub lawful : IsLawful whole.head.cluster whole.head.journal (said whole.run.lines)
+  pub lawful : IsLawfulRun whole.head.cluster whole.head.journal (said whole.run.lines)
   pub printed : text ≡ lawful_text
 
 -- the text names the first line of the run that isn't the due one, and what is due there. Where lines are missing it is the one behind the input

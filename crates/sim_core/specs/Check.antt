@@ -1,8 +1,8 @@
 -- What is written by the word `check`.
 use Rattle.std.specs.Prelude.{◌≡◌, ℕ, ◌+◌, List, ◌++◌, length, codes, decimal}
-use Rattle.crm_parse.specs.Text.{canonical_text}
+use Rattle.crm_print.specs.Text.{canonical_text}
 use Rattle.cluster_types.specs.declared.cluster.Cluster.{Cluster}
-use Rattle.input_reading.specs.declared.reading.Input.{Input}
+use Rattle.input_reading.specs.declared.input.reading.Input.{Input}
 
 -- the rules of a cluster: its locations, colocations and orders, those of groups among them
 abbrev pub rules_in : Cluster → ℕ

@@ -6,28 +6,28 @@ use Rattle.cluster_types.specs.declared.journal.Answer.{Answer}
 use Rattle.cluster_types.specs.declared.journal.Event.{Event}
 use Rattle.cluster_types.specs.declared.journal.Journal.{Journal}
 use Rattle.cluster_types.specs.declared.run.RunLine.{RunLine}
-use Rattle.cluster_types.specs.Runs.{Standing, due, Runs, IsCutRun, IsWholeRun}
+use Rattle.cluster_types.specs.Runs.{RunStanding, due, Runs, IsCutRun, IsWholeRun}
 use Rattle.cluster_types.specs.Texts.{run_line}
-use Rattle.input_reading.specs.declared.text.RunTextLine.{RunTextLine}
+use Rattle.input_reading.specs.declared.run.text.RunTextLine.{RunTextLine}
 use Rattle.sim_core.specs.declared.ended.Ended.{Ended}
 use Rattle.sim_core.specs.declared.ended.Ended.TheVariants as ended
 use Rattle.sim_core.specs.declared.verdict.Clause.{Clause}
 use Rattle.sim_core.specs.declared.verdict.Clause.TheVariants as clause
 use Rattle.sim_core.specs.declared.verdict.Verdict.{Verdict}
 use Rattle.sim_core.specs.declared.verdict.Verdict.TheVariants.{Yes, No}
-use Rattle.sim_core.specs.Lawful.{number_at}
-use Rattle.sim_core.specs.TextLines.{ended_in, kind_in, unended_in}
+use Rattle.sim_core.specs.Lawful.{line_number_at}
+use Rattle.sim_core.specs.TextLines.{ended_in, line_kind_in, unended_in}
 
 module _ (c : Cluster) (journal : Journal) (answers : List Answer) (written : List ℕ) where
   -- the whole run was written
-  pub record IsWhole : Type 0 where
+  pub record WholeRunPrints : Type 0 where
     pub printed : List RunLine
     pub left : List Event
     pub run : IsWholeRun c journal.promotions true journal.events (Some answers) printed left
     pub text : written ≡ flat_map (run_line c) printed
 
   -- it was written up to an answer that doesn't apply
-  pub record IsCut : Type 0 where
+  pub record CutRunPrints : Type 0 where
     pub printed : List RunLine
     pub left : List Event
     pub given : Answer
@@ -36,9 +36,9 @@ module _ (c : Cluster) (journal : Journal) (answers : List Answer) (written : Li
     pub text : written ≡ flat_map (run_line c) printed
 
   -- a front of it was written
-  pub record IsFront : Type 0 where
+  pub record RunFrontPrints : Type 0 where
     pub printed : List RunLine
-    pub at : Standing
+    pub at : RunStanding
     pub behind : Option (List Answer)
     pub runs : Runs c journal.promotions true (due 1 journal.events) (Some answers) printed at behind
     pub count : ℕ
@@ -46,9 +46,9 @@ module _ (c : Cluster) (journal : Journal) (answers : List Answer) (written : Li
     pub text : written ≡ take count (flat_map (run_line c) printed)
 
   abbrev pub WroteRun : Ended → Type 0
-  WroteRun ended.Whole = IsWhole
-  WroteRun ended.Cut = IsCut
-  WroteRun ended.Stopped = IsFront
+  WroteRun ended.Whole = WholeRunPrints
+  WroteRun ended.Cut = CutRunPrints
+  WroteRun ended.Stopped = RunFrontPrints
 
 -- of the lines of a written run, of their text, and of what was written of the run of their answers, which ended so
 module _ (lines : List RunTextLine) (after : ℕ) (text written : List ℕ) (end : Ended) where
@@ -70,11 +70,11 @@ module _ (lines : List RunTextLine) (after : ℕ) (text written : List ℕ) (end
     pub apart : slice_get text agreed ≢ slice_get written agreed
     pub place_is : place ≡ ended_in (take agreed text)
     pub enough : 2 ≤ length (unended_in (take agreed text) ++ drop agreed written)
-    pub kind_is : kind ≡ kind_in (unended_in (take agreed text) ++ drop agreed written)
+    pub kind_is : kind ≡ line_kind_in (unended_in (take agreed text) ++ drop agreed written)
 
   pub record IsFault (number : ℕ) (kind : Clause) : Type 0 where
     pub place : ℕ
-    pub number_is : number ≡ number_at lines place after
+    pub number_is : number ≡ line_number_at lines place after
     pub fault : IsEnd place kind ⊎ IsDifference place kind
 
   -- what a verdict says of them

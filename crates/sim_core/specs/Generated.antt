@@ -7,8 +7,8 @@ use Rattle.cluster_types.specs.declared.journal.Journal.{Journal}
 use Rattle.cluster_types.specs.declared.run.Run.{Run}
 use Rattle.cluster_types.specs.Runs.{IsCutRun, IsWholeRun}
 use Rattle.cluster_types.specs.Texts.{run_lines}
-use Rattle.input_reading.specs.declared.results.ResultLine.{ResultLine}
-use Rattle.input_reading.specs.declared.reading.Input.{Input}
+use Rattle.input_reading.specs.declared.results.result_lines.ResultLine.{ResultLine}
+use Rattle.input_reading.specs.declared.input.reading.Input.{Input}
 
 -- what some result lines answer
 abbrev pub answers_of : List ResultLine → List Answer

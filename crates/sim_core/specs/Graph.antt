@@ -5,7 +5,7 @@ use Rattle.cluster_types.specs.declared.placement.Placed.{Placed}
 use Rattle.cluster_types.specs.Plans.{IsPlan, precedes_by_number}
 use Rattle.cluster_types.specs.Steps.{numbered}
 use Rattle.cluster_types.specs.Texts.{graph_text}
-use Rattle.input_reading.specs.declared.reading.Input.{Input}
+use Rattle.input_reading.specs.declared.input.reading.Input.{Input}
 
 -- the text has the actions of the one plan for the cluster and the first journal that the input tells, and of each those that must precede it
 pub record IsGraphText (whole : Input) (text : List ℕ) : Type 0 where

@@ -14,9 +14,9 @@ use Rattle.cluster_types.specs.Runs.{IsWholeRun}
 use Rattle.cluster_types.specs.Safety.{IsSafeRun}
 use Rattle.cluster_types.specs.Tables.{targets_of}
 use Rattle.cluster_types.specs.Valid.{IsValid}
-use Rattle.input_reading.specs.declared.reading.Head.{Head}
-use Rattle.sim_core.specs.Courses.{answers_of}
-use Rattle.sim_core.specs.Ends.{run_text}
+use Rattle.input_reading.specs.declared.input.reading.Head.{Head}
+use Rattle.live_run.specs.Courses.{answers_to_come}
+use Rattle.live_run.specs.Ends.{run_lines_text}
 use Rattle.sim_core.specs.Replay.{IsBegun, coming_behind}
 
 -- for a journal there is one plan, and its targets obey the mandatory rules. That each decision of it is the best that those before it left is part of what a
@@ -50,5 +50,5 @@ pub record IsTextOfOneSafeRun (input text : List ℕ) : Type 0 where
   pub begun : IsBegun input bytes head next room
   pub all : (coming_behind input bytes head next room).stop ≡ None
   pub lines : List RunLine
-  pub run : IsOneSafeRun head (answers_of (coming_behind input bytes head next room)) lines
-  pub printed : text ≡ run_text head.cluster lines
+  pub run : IsOneSafeRun head (answers_to_come (coming_behind input bytes head next room)) lines
+  pub printed : text ≡ run_lines_text head.cluster lines

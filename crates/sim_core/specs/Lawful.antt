@@ -10,10 +10,10 @@ use Rattle.cluster_types.specs.declared.placement.NoReason.{NoReason}
 use Rattle.cluster_types.specs.declared.placement.NoReason.TheVariants.{Held}
 use Rattle.cluster_types.specs.declared.run.RunLine.{RunLine}
 use Rattle.cluster_types.specs.declared.run.RunLine.TheVariants as line
-use Rattle.cluster_types.specs.Runs.{Standing, due, Runs, IsCutRun, IsWholeRun}
+use Rattle.cluster_types.specs.Runs.{RunStanding, due, Runs, IsCutRun, IsWholeRun}
 use Rattle.cluster_types.specs.Texts.{run_line}
 use Rattle.crm_lex.specs.Names.{is_name}
-use Rattle.input_reading.specs.declared.text.RunTextLine.{RunTextLine}
+use Rattle.input_reading.specs.declared.run.text.RunTextLine.{RunTextLine}
 use Rattle.sim_core.specs.declared.verdict.Clause.{Clause}
 use Rattle.sim_core.specs.declared.verdict.Clause.TheVariants as clause
 use Rattle.sim_core.specs.declared.verdict.Verdict.{Verdict}
@@ -24,8 +24,8 @@ abbrev pub answer_in : RunLine → List Answer
 answer_in (line.Taken given) = given ∷ []
 answer_in _ = []
 
-abbrev pub answers_in : List RunLine → List Answer
-answers_in lines = flat_map answer_in lines
+abbrev pub answers_of_lines : List RunLine → List Answer
+answers_of_lines lines = flat_map answer_in lines
 
 -- what kind of line is due where a run prints this one
 abbrev pub clause_of : RunLine → Clause
@@ -45,24 +45,24 @@ said lines = map (λ (l : RunTextLine). l.what) lines
 -- of the lines of a written run, from a journal on
 module _ (c : Cluster) (journal : Journal) (lines : List RunLine) where
   -- the whole run of their answers prints these lines
-  abbrev pub IsWhole : List RunLine → List Event → Type 0
-  IsWhole printed left = IsWholeRun c journal.promotions true journal.events (Some (answers_in lines)) printed left
+  abbrev pub IsWholeRunOfLines : List RunLine → List Event → Type 0
+  IsWholeRunOfLines printed left = IsWholeRun c journal.promotions true journal.events (Some (answers_of_lines lines)) printed left
 
   -- the run of their answers prints these lines, and is cut by an answer that doesn't apply
-  abbrev pub IsCut : List RunLine → List Event → Answer → Option (List Answer) → Type 0
-  IsCut printed left given behind = IsCutRun c journal.promotions true journal.events (Some (answers_in lines)) printed left given behind
+  abbrev pub IsCutRunOfLines : List RunLine → List Event → Answer → Option (List Answer) → Type 0
+  IsCutRunOfLines printed left given behind = IsCutRun c journal.promotions true journal.events (Some (answers_of_lines lines)) printed left given behind
 
   -- the run of their answers prints these lines so far
   pub record IsSoFar (printed : List RunLine) : Type 0 where
-    pub at : Standing
+    pub at : RunStanding
     pub behind : Option (List Answer)
-    pub runs : Runs c journal.promotions true (due 1 journal.events) (Some (answers_in lines)) printed at behind
+    pub runs : Runs c journal.promotions true (due 1 journal.events) (Some (answers_of_lines lines)) printed at behind
 
   -- they are lawful: their text is that of the whole run of their answers
-  pub record IsLawful : Type 0 where
+  pub record IsLawfulRun : Type 0 where
     pub printed : List RunLine
     pub left : List Event
-    pub whole : IsWhole printed left
+    pub whole : IsWholeRunOfLines printed left
     pub same : flat_map (run_line c) printed ≡ flat_map (run_line c) lines
 
   -- the run prints another line at this place than they have there, if any, and up to there the same
@@ -82,24 +82,24 @@ module _ (c : Cluster) (journal : Journal) (lines : List RunLine) where
     pub left : List Event
     pub within : place ≤ length lines
     pub same : map (run_line c) printed ≡ map (run_line c) (take place lines)
-    pub ends : (IsWhole printed left × (place < length lines)) ⊎ ((given : Answer) × (behind : Option (List Answer)) × IsCut printed left given behind)
+    pub ends : (IsWholeRunOfLines printed left × (place < length lines)) ⊎ ((given : Answer) × (behind : Option (List Answer)) × IsCutRunOfLines printed left given behind)
 
   -- the first line that isn't the due one stands at this place, and this kind is due there
-  pub data IsFaulty (place : ℕ) : Clause → Type 0 where
-    other : (kind : Clause) → IsOther place kind → IsFaulty place kind
-    undue : IsUndue place → IsFaulty place clause.Answer
+  pub data IsFaultyClause (place : ℕ) : Clause → Type 0 where
+    other : (kind : Clause) → IsOther place kind → IsFaultyClause place kind
+    undue : IsUndue place → IsFaultyClause place clause.Answer
 
 -- the number of the line at a place of a written run; behind its last line, this one
-abbrev pub number_at : List RunTextLine → ℕ → ℕ → ℕ
-number_at lines place after = option_map_or (λ (l : RunTextLine). l.line) (slice_get lines place) after
+abbrev pub line_number_at : List RunTextLine → ℕ → ℕ → ℕ
+line_number_at lines place after = option_map_or (λ (l : RunTextLine). l.line) (slice_get lines place) after
 
 -- the first line at fault, if one is, has this number
 pub record IsFaultyLine (c : Cluster) (journal : Journal) (lines : List RunTextLine) (after number : ℕ) (kind : Clause) : Type 0 where
   pub place : ℕ
-  pub fault : IsFaulty c journal (said lines) place kind
-  pub number_is : number ≡ number_at lines place after
+  pub fault : IsFaultyClause c journal (said lines) place kind
+  pub number_is : number ≡ line_number_at lines place after
 
 -- what a verdict says
 abbrev pub Judges : Cluster → Journal → List RunTextLine → ℕ → Verdict → Type 0
-Judges c journal lines after Yes = IsLawful c journal (said lines)
+Judges c journal lines after Yes = IsLawfulRun c journal (said lines)
 Judges c journal lines after (No number kind) = IsFaultyLine c journal lines after number kind

@@ -7,11 +7,11 @@ use Rattle.cluster_io.specs.Streams.{Adds, AddsPrefix}
 use Rattle.crm_lex.specs.RawLines.{raw_lines}
 use Rattle.cluster_types.specs.declared.cluster.Cluster.{Cluster}
 use Rattle.cluster_types.specs.declared.journal.Journal.{Journal}
-use Rattle.sim_core.specs.Followed.{bytes_of, count_lines}
-use Rattle.sim_core.specs.Heads as heads
-use Rattle.sim_core.specs.Reached.{HasNoMemory, IsBrokenOff, IsCutOff}
-use Rattle.input_reading.specs.declared.cause.InputCause.{InputCause}
-use Rattle.input_reading.specs.declared.reading.Head.{Head}
+use Rattle.live_run.specs.Followed.{bytes_of, count_lines}
+use Rattle.live_run.specs.Heads as heads
+use Rattle.live_run.specs.Reached.{HasNoMemory, IsBrokenOff, IsCutOff}
+use Rattle.input_reading.specs.declared.input.cause.InputCause.{InputCause}
+use Rattle.input_reading.specs.declared.input.reading.Head.{Head}
 use Rattle.sim_core.specs.declared.status.Status.{Status}
 use Rattle.sim_core.specs.declared.status.Status.TheVariants.{Done, NoMemory, Usage, ReadFault, WriteFault, Refused, Unexpected, TooLarge, NotLawful}
 use Rattle.input_reading.specs.Causes.{refusal_text}
@@ -27,23 +27,23 @@ pub record IsAmidHead (input : List ℕ) (left : Option (List ℕ)) : Type 0 whe
   pub left_is : left ≡ Some unread
   pub parts : input ≡ bytes_of lines ++ (held ++ unread)
   pub cut : raw_lines input ≡ lines ++ raw_lines (held ++ unread)
-  pub goes_on : (more : List (List (List ℕ))) → heads.head_of longest_line [] most_bytes 1 (lines ++ more)
-      ≡ heads.head_of longest_line (bytes_of lines) (most_bytes - length (bytes_of lines)) (1 + count_lines lines) more
+  pub goes_on : (more : List (List (List ℕ))) → heads.head_verdict longest_line [] most_bytes 1 (lines ++ more)
+      ≡ heads.head_verdict longest_line (bytes_of lines) (most_bytes - length (bytes_of lines)) (1 + count_lines lines) more
   pub unfinished : holds_line held ≡ false
   pub undecided : IsUndecided (most_bytes - length (bytes_of lines)) longest_line held
 
 -- what the sink holds before and after
 module _ (input : List ℕ) (left before after : Option (List ℕ)) where
   -- the whole text was written that comes with this status
-  pub record HasWritten (status : Status) : Type 0 where
+  pub record HasWrittenReplay (status : Status) : Type 0 where
     pub text : List ℕ
     pub due : IsReplayOutput input status text
     pub added : Adds before text after
 
   -- the input was read to its end, and its whole run was written
-  pub record IsDone : Type 0 where
+  pub record IsReplayDone : Type 0 where
     pub at_end : IfSome left (λ bytes. bytes ≡ [])
-    pub written : HasWritten Done
+    pub written : HasWrittenReplay Done
 
   -- the head was taken whole, and this became of the run that follows from it. The source had these bytes left behind the head, and fewer than 4,096 more
   -- were taken with it
@@ -82,12 +82,12 @@ module _ (input : List ℕ) (left before after : Option (List ℕ)) where
 
   -- what each status says
   abbrev pub SaysLive : Status → Type 0
-  SaysLive Done = IsDone
+  SaysLive Done = IsReplayDone
   SaysLive NoMemory = HasNoMemoryLeft
   SaysLive ReadFault = HasReadFault
   SaysLive WriteFault = HasWriteFault
-  SaysLive Refused = HasWritten Refused
-  SaysLive Unexpected = HasWritten Unexpected
-  SaysLive TooLarge = HasWritten TooLarge
+  SaysLive Refused = HasWrittenReplay Refused
+  SaysLive Unexpected = HasWrittenReplay Unexpected
+  SaysLive TooLarge = HasWrittenReplay TooLarge
   SaysLive Usage = ⊥
   SaysLive NotLawful = ⊥

@@ -2,16 +2,16 @@
 use Rattle.std.specs.Prelude.{◌≡◌, ℕ, ◌<◌, Option, Some, None, List, [], ◌++◌, length, IfSome}
 use Rattle.cluster_io.specs.Readings.{Reading}
 use Rattle.cluster_io.specs.Streams.{Adds, AddsPrefix}
-use Rattle.sim_core.specs.Heads as heads
-use Rattle.sim_core.specs.declared.head.HeadStop.{HeadStop}
-use Rattle.sim_core.specs.declared.head.HeadStop.TheVariants as found
-use Rattle.sim_core.specs.declared.live_end.LiveEnd.{LiveEnd}
-use Rattle.sim_core.specs.declared.live_end.LiveEnd.TheVariants as end
+use Rattle.live_run.specs.Heads as heads
+use Rattle.live_run.specs.declared.head.HeadStop.{HeadStop}
+use Rattle.live_run.specs.declared.head.HeadStop.TheVariants as found
+use Rattle.live_run.specs.declared.live_end.LiveEnd.{LiveEnd}
+use Rattle.live_run.specs.declared.live_end.LiveEnd.TheVariants as end
 use Rattle.sim_core.specs.declared.beginning.HeadEnd.{HeadEnd}
 use Rattle.sim_core.specs.declared.beginning.HeadEnd.TheVariants as stop
-use Rattle.input_reading.specs.declared.cause.InputCause.{InputCause}
-use Rattle.input_reading.specs.declared.cause.InputCause.TheVariants.{Words}
-use Rattle.input_reading.specs.declared.reading.Head.{Head}
+use Rattle.input_reading.specs.declared.input.cause.InputCause.{InputCause}
+use Rattle.input_reading.specs.declared.input.cause.InputCause.TheVariants.{Words}
+use Rattle.input_reading.specs.declared.input.reading.Head.{Head}
 use Rattle.sim_core.specs.declared.status.Status.{Status}
 use Rattle.sim_core.specs.declared.status.Status.TheVariants.{Done, NoMemory, ReadFault, WriteFault, Refused, Unexpected, TooLarge}
 use Rattle.input_reading.specs.Causes.{refusal_text}
@@ -41,11 +41,11 @@ StopsBy input left stop.ReadFault = IsAmidHead input left
 StopsBy input left stop.NoMemory = Unit {0}
 
 -- why the run isn't begun, by why the head isn't read
-abbrev pub end_of : HeadStop → HeadEnd
-end_of (found.Refused line why) = stop.Refused line (Words why)
-end_of found.TooLarge = stop.TooLarge
-end_of found.ReadFault = stop.ReadFault
-end_of found.NoMemory = stop.NoMemory
+abbrev pub head_end_of : HeadStop → HeadEnd
+head_end_of (found.Refused line why) = stop.Refused line (Words why)
+head_end_of found.TooLarge = stop.TooLarge
+head_end_of found.ReadFault = stop.ReadFault
+head_end_of found.NoMemory = stop.NoMemory
 
 -- what was written of a fault of the head
 abbrev pub WritesFault : ℕ → InputCause → Option (List ℕ) → Option (List ℕ) → Status → Type 0

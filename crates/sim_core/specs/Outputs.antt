@@ -1,23 +1,23 @@
 -- What is written by a word that reads an input: what the word says of it, or the fault of the input.
 use Rattle.std.specs.Prelude.{◌≡◌, ℕ, List}
-use Rattle.input_reading.specs.declared.cause.InputCause.{InputCause}
-use Rattle.input_reading.specs.declared.reading.Input.{Input}
+use Rattle.input_reading.specs.declared.input.cause.InputCause.{InputCause}
+use Rattle.input_reading.specs.declared.input.reading.Input.{Input}
 use Rattle.sim_core.specs.declared.status.Status.{Status}
 use Rattle.sim_core.specs.declared.status.Status.TheVariants.{Done, Refused}
 use Rattle.input_reading.specs.Causes.{refusal_text}
-use Rattle.input_reading.specs.Reading.{IsRefused, Reads}
+use Rattle.input_reading.specs.Reading.{IsTextRefused, ReadsInput}
 
 -- the text names the fault of the input
 pub record IsRefusalText (input text : List ℕ) : Type 0 where
   pub line : ℕ
   pub why : InputCause
-  pub fault : IsRefused input line why
+  pub fault : IsTextRefused input line why
   pub printed : text ≡ refusal_text line why
 
 -- the text is one that this says of what the input says
 pub record IsTextOf (Says : Input → List ℕ → Type 0) (input text : List ℕ) : Type 0 where
   pub whole : Input
-  pub reads : Reads input whole
+  pub reads : ReadsInput input whole
   pub says : Says whole text
 
 -- with a word that says this of an input, an input of this content gets this status and this text

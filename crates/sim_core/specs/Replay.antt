@@ -7,20 +7,20 @@ use Rattle.faults.specs.declared.fault.Fault.TheVariants.{At}
 use Rattle.cluster_types.specs.declared.cluster.Cluster.{Cluster}
 use Rattle.cluster_types.specs.declared.journal.Journal.{Journal}
 use Rattle.cluster_types.specs.Journals.{moment_of}
-use Rattle.sim_core.specs.Coming.{Coming, coming}
-use Rattle.sim_core.specs.Heads as heads
-use Rattle.sim_core.specs.Ends.{IsBoundedText, IsCutText, IsRefusedText, IsWholeText}
-use Rattle.input_reading.specs.declared.cause.InputCause.{InputCause}
-use Rattle.input_reading.specs.declared.cause.InputCause.TheVariants as cause
-use Rattle.input_reading.specs.declared.reading.Head.{Head}
+use Rattle.live_run.specs.Coming.{Coming, coming}
+use Rattle.live_run.specs.Heads as heads
+use Rattle.live_run.specs.Ends.{IsBoundedText, IsCutText, IsRefusedText, IsWholeText}
+use Rattle.input_reading.specs.declared.input.cause.InputCause.{InputCause}
+use Rattle.input_reading.specs.declared.input.cause.InputCause.TheVariants as cause
+use Rattle.input_reading.specs.declared.input.reading.Head.{Head}
 use Rattle.sim_core.specs.declared.status.Status.{Status}
 use Rattle.sim_core.specs.declared.status.Status.TheVariants.{Done, Refused, TooLarge, Unexpected}
 use Rattle.input_reading.specs.Causes.{refusal_text}
 use Rattle.input_reading.specs.Reading.{longest_line, most_bytes, start_of}
 
 -- the head of an input: its logical lines up to the one that begins the results, or all where none does
-abbrev pub head_in : List ℕ → heads.Head
-head_in input = heads.head_of longest_line [] most_bytes 1 (raw_lines input)
+abbrev pub head_in : List ℕ → heads.HeadVerdict
+head_in input = heads.head_verdict longest_line [] most_bytes 1 (raw_lines input)
 
 -- the head of an input is read: it has these bytes, and says this. The line behind it has this number, and so many of the bytes behind it lie within the
 -- limit

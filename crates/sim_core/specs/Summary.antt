@@ -1,7 +1,7 @@
 -- The summary of the run of a generated case (rule of this project).
 use Rattle.std.specs.Prelude.{ℕ, ◌-◌, Bool, true, false, List, ◌++◌, codes, decimal, filter, length, slice_get}
 use Rattle.std.specs.Option.{option_map_or}
-use Rattle.agent_world.specs.Case.{lost_node}
+use Rattle.cases.specs.Case.{lost_node}
 use Rattle.cluster_types.specs.declared.cluster.Cluster.{Cluster}
 use Rattle.cluster_types.specs.declared.journal.Event.{Event}
 use Rattle.cluster_types.specs.declared.journal.Event.TheVariants.{Begin, Ended}
@@ -36,10 +36,10 @@ module _ (c : Cluster) where
       ++ count_line (codes "leaves") (length c.leaves)
 
   -- its run: how many transitions, begins and successes it has, and how many targets at last
-  abbrev pub run_lines : Run → List ℕ
-  run_lines run =
+  abbrev pub summary_lines : Run → List ℕ
+  summary_lines run =
       count_line (codes "transitions") (length run.passed) ++ count_line (codes "begun") (length (filter is_begin run.journal.events))
       ++ count_line (codes "succeeded") (length (filter (is_good_end c) run.journal.events)) ++ count_line (codes "targets") (last_targets run.passed)
 
   abbrev pub summary_text : ℕ → Run → List ℕ
-  summary_text number run = case_lines number ++ run_lines run
+  summary_text number run = case_lines number ++ summary_lines run

@@ -1,7 +1,7 @@
 -- What is written by the word `survive`.
 use Rattle.std.specs.Prelude.{◌≡◌, ℕ, List}
-use Rattle.input_reading.specs.declared.reading.Input.{Input}
-use Rattle.planner.specs.declared.report.Report.{Report}
+use Rattle.input_reading.specs.declared.input.reading.Input.{Input}
+use Rattle.cluster_types.specs.declared.report.Report.{Report}
 use Rattle.planner.specs.Losses.{IsReport}
 use Rattle.trace_text.specs.Losses.{survive_text}
 

@@ -1,6 +1,6 @@
 -- The words of the command line: what each reads, and which status and text an input gets with it. Each word has one line in each table.
 use Rattle.std.specs.Prelude.{ℕ, Bool, true, false, List}
-use Rattle.agent_world.specs.Case.{case_text}
+use Rattle.cases.specs.Case.{case_text}
 use Rattle.sim_core.specs.declared.help.TheConstants.{HELP, VERSION}
 use Rattle.sim_core.specs.declared.status.Status.{Status}
 use Rattle.sim_core.specs.declared.words.Command.{Command}

@@ -24,7 +24,7 @@ kind_by first second =
     else clause.Answer
 
 -- what kind of line begins with these bytes
-abbrev pub kind_in : List ℕ → Clause
-kind_in [] = clause.Answer
-kind_in (first ∷ []) = clause.Answer
-kind_in (first ∷ second ∷ more) = kind_by first second
+abbrev pub line_kind_in : List ℕ → Clause
+line_kind_in [] = clause.Answer
+line_kind_in (first ∷ []) = clause.Answer
+line_kind_in (first ∷ second ∷ more) = kind_by first second

@@ -6,18 +6,18 @@ ghost use Rattle.cluster_types.specs.declared.cluster.Cluster.{Cluster as Cluste
 ghost use Rattle.cluster_types.specs.declared.journal.Journal.{Journal as JournalOf};
 ghost use Rattle.cluster_types.specs.declared.run.RunLine.{RunLine as LineOf};
 ghost use Rattle.cluster_types.specs.Valid.{IsValid};
-ghost use Rattle.input_reading.specs.Written.{IsNamed};
+ghost use Rattle.input_reading.specs.Written.{IsLineNamed};
 ghost use Rattle.sim_core.specs.declared.verdict.Clause.{Clause as ClauseOf};
-ghost use Rattle.sim_core.specs.Lawful.{IsFaulty, IsLawful};
+ghost use Rattle.sim_core.specs.Lawful.{IsFaultyClause, IsLawfulRun};
 
 /// A run with a line that isn't the due one isn't lawful.
 pub fn faulty_runs_are_not_lawful()
     ensures { (c : ClusterOf) (journal : JournalOf) (lines : List LineOf) (place : ℕ) (kind : ClauseOf)
-        → IsValid c → AllByRecursion IsNamed lines → IsFaulty c journal lines place kind → ¬ IsLawful c journal lines }
+        → IsValid c → AllByRecursion IsLineNamed lines → IsFaultyClause c journal lines place kind → ¬ IsLawfulRun c journal lines }
 {}
 
 /// A run has at most one first line that isn't the due one.
-pub fn faulty_lines_are_one()
+pub fn faulty_lines_are_unique()
     ensures { (c : ClusterOf) (journal : JournalOf) (lines : List LineOf) (one other : ℕ) (kind sort : ClauseOf)
-        → IsFaulty c journal lines one kind → IsFaulty c journal lines other sort → (one ≡ other) × (kind ≡ sort) }
+        → IsFaultyClause c journal lines one kind → IsFaultyClause c journal lines other sort → (one ≡ other) × (kind ≡ sort) }
 {}

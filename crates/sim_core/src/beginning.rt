@@ -6,13 +6,13 @@ ghost use Rattle.cluster_io.specs.Streams.{Rose};
 ghost use Rattle.cluster_types.specs.Journals.{moment_of};
 ghost use Rattle.cluster_types.specs.Safety.{IsAtRest};
 ghost use Rattle.cluster_types.specs.Valid.{IsValid};
-ghost use Rattle.sim_core.specs.Heads.{CanGoOn};
-ghost use Rattle.sim_core.specs.LiveSteps.{IsBehind, StopsBy, end_of, fresh};
+ghost use Rattle.live_run.specs.Heads.{CanGoOn};
+ghost use Rattle.sim_core.specs.LiveSteps.{IsBehind, StopsBy, head_end_of, fresh};
 
-use crate::{HeadStop, HeadText, read_head};
 use cluster_io::{LineReader, Source};
 use crm_lex::WordBuf;
 use input_reading::{Head, InputCause, InputFault, read_start};
+use live_run::{HeadStop, HeadText, read_head};
 use std::alloc::Global;
 
 /// The head of an input.
@@ -36,7 +36,7 @@ pub(crate) enum HeadEnd {
 }
 
 fn head_end(stop: HeadStop) -> HeadEnd
-    ensures { result ≡ end_of stop }
+    ensures { result ≡ head_end_of stop }
 {
     match stop {
         HeadStop::Refused { line, cause } => HeadEnd::Refused {

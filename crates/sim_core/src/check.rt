@@ -6,7 +6,7 @@ ghost use Rattle.sim_core.specs.Check.{IsCheckText, check_text, counts_line, rul
 
 use crate::text_word::TextWord;
 use cluster_types::Cluster;
-use crm_parse::print;
+use crm_print::print;
 use faults::NoMemory;
 use input_reading::Input;
 use std::alloc::Global;

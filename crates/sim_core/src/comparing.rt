@@ -1,7 +1,7 @@
 //! Two texts of lines, and where they differ.
 
 ghost use Rattle.std.specs.Prelude.{◌≡◌, ◌≢◌, ◌≤◌, ◌<◌, length, take, slice_get};
-ghost use Rattle.sim_core.specs.TextLines.{ended_in, kind_by, kind_in, unended_in};
+ghost use Rattle.sim_core.specs.TextLines.{ended_in, kind_by, line_kind_in, unended_in};
 
 use crate::verdict::Clause;
 use memchr::memrchr;
@@ -56,7 +56,7 @@ fn kind_by(first: u8, second: u8) -> Clause
 /// What kind of line begins with these bytes. They are two at least.
 pub(crate) fn kind_in(begun: &[u8]) -> Clause
     requires { 2 ≤ length begun.now }
-    ensures { result ≡ kind_in begun.now }
+    ensures { result ≡ line_kind_in begun.now }
 {
     kind_by(begun[0], begun[1])
 }

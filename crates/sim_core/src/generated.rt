@@ -1,7 +1,7 @@
 //! The word `gen`: the run of a generated case, in numbers.
 
 ghost use Rattle.std.specs.Prelude.{◌≡◌, ◌≢◌, ◌≤◌, ◌<◌, ◌^◌, ℕ, true, Option, List, IfOk, length};
-ghost use Rattle.agent_world.specs.Case.{case_text};
+ghost use Rattle.cases.specs.Case.{case_text};
 ghost use Rattle.cluster_io.specs.Streams.{Rose};
 ghost use Rattle.cluster_types.specs.Journals.{moment_of};
 ghost use Rattle.cluster_types.specs.Safety.{IsAtRest};
@@ -16,7 +16,7 @@ ghost use Rattle.sim_core.specs.Table.{nothing};
 use crate::status::Status;
 use crate::summary::summary_text;
 use crate::text_word::refusal_text;
-use agent_world::generate;
+use cases::generate;
 use cluster_io::{Sink, write_text};
 use cluster_types::{Answer, Cluster, Journal, Run};
 use faults::NoMemory;

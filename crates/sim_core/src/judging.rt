@@ -2,7 +2,7 @@
 
 ghost use Rattle.std.specs.Prelude.{◌≡◌, IfSome};
 ghost use Rattle.sim_core.specs.Compared.{Compares};
-ghost use Rattle.sim_core.specs.Lawful.{number_at};
+ghost use Rattle.sim_core.specs.Lawful.{line_number_at};
 
 use crate::comparing::{alike, ended_in, kind_in, unended_in};
 use crate::ended::Ended;
@@ -14,7 +14,7 @@ pub(crate) const TELLING: usize = 2;
 
 /// The number of the line at a place; behind the last line, `after`.
 fn number_at(lines: &[RunTextLine], place: usize, after: u32) -> u32
-    ensures { result ≡ number_at lines.now place after }
+    ensures { result ≡ line_number_at lines.now place after }
 {
     match lines.get(place) {
         Some(line) => line.line,

@@ -1,9 +1,9 @@
 //! Laws of the definitions. Each is a function that does nothing, and whose contract is the law.
 
 ghost use Rattle.std.specs.Prelude.{◌≡◌, ℕ, List, true};
-ghost use Rattle.crm_parse.specs.Again.{has_short_lines};
-ghost use Rattle.input_reading.specs.Reading.{Reads};
-ghost use Rattle.input_reading.specs.declared.reading.Input.{Input as InputOf};
+ghost use Rattle.crm_print.specs.Again.{has_short_lines};
+ghost use Rattle.input_reading.specs.Reading.{ReadsInput};
+ghost use Rattle.input_reading.specs.declared.input.reading.Input.{Input as InputOf};
 ghost use Rattle.sim_core.specs.Again.{IsReadAgain};
 ghost use Rattle.sim_core.specs.Check.{check_text};
 ghost use Rattle.sim_core.specs.Headline.{IsTextOfOneSafeRun};
@@ -13,7 +13,7 @@ ghost use Rattle.sim_core.specs.declared.status.Status.TheVariants as status;
 /// What `check` writes of an input is read as the same statements and the same cluster, where none of its lines is longer than a line may be, and
 /// `check` writes the same text of it.
 pub fn what_check_writes_is_read_again()
-    ensures { (text : List ℕ) (whole : InputOf) → Reads text whole → has_short_lines whole.head.crm ≡ true → IsReadAgain (check_text whole) whole }
+    ensures { (text : List ℕ) (whole : InputOf) → ReadsInput text whole → has_short_lines whole.head.crm ≡ true → IsReadAgain (check_text whole) whole }
 {}
 
 /// The headline. What `replay` writes of an accepted input, whose result lines are all taken, is the one run of the given results: each transition has the

@@ -11,11 +11,11 @@ ghost use Rattle.sim_core.specs.Table.{live};
 use crate::beginning::{Beginning, HeadEnd, begin};
 use crate::status::Status;
 use crate::text_word::refusal_text;
-use crate::{LineOutcomes, LiveEnd, run_live};
 use cluster_io::{HeldLines, LineReader, Sink, Source, write_text};
 use cluster_types::moment_of;
 use crm_lex::WordBuf;
 use input_reading::{Head, InputCause, MOST_BYTES};
+use live_run::{LineOutcomes, LiveEnd, run_live};
 use std::alloc::Global;
 
 /// The most bytes that a logical line may have, without its line ends: 1 MiB.

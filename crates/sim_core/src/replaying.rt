@@ -6,12 +6,12 @@ ghost use Rattle.cluster_types.specs.Safety.{IsAtRest};
 ghost use Rattle.cluster_types.specs.Valid.{IsValid};
 ghost use Rattle.sim_core.specs.Compared.{WroteRun};
 
-use crate::LineWriter;
 use crate::ended::Ended;
 use cluster_io::{MemorySink, NoMemory};
 use cluster_types::{Answer, Cluster, Journal};
 use graph_exec::{ReplayStop, Script, replay_watched};
 use listed::Listed;
+use live_run::LineWriter;
 use run_safety::enough_transitions_are_allowed;
 use std::alloc::{AllocError, Global};
 

@@ -2,11 +2,11 @@
 
 ghost use Rattle.std.specs.Prelude.{◌≡◌, ◌++◌, codes, decimal, IfOk, OnOk};
 ghost use Rattle.std.specs.String.{string_bytes};
-ghost use Rattle.agent_world.specs.Case.{lost_node};
+ghost use Rattle.cases.specs.Case.{lost_node};
 ghost use Rattle.sim_core.specs.Summary as summary;
 
 use crate::counts::{count_begun, count_succeeded, last_targets};
-use agent_world::lost_node;
+use cases::lost_node;
 use cluster_types::{Cluster, Run};
 use faults::NoMemory;
 use std::alloc::{AllocError, Global};
@@ -38,7 +38,7 @@ fn push_case(text: &mut String, cluster: &Cluster, number: u32) -> Result<(), Al
 
 /// Its run.
 fn push_run(text: &mut String, cluster: &Cluster, run: &Run) -> Result<(), AllocError>
-    ensures { OnOk result (string_bytes text.new ≡ string_bytes text.old ++ summary.run_lines cluster.now run.now) }
+    ensures { OnOk result (string_bytes text.new ≡ string_bytes text.old ++ summary.summary_lines cluster.now run.now) }
 {
     let events = run.journal.events.as_slice();
     push_count(text, "transitions", run.passed.len())?;

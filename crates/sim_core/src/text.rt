@@ -3,8 +3,8 @@
 ghost use Rattle.std.specs.Prelude.{◌≡◌, ◌++◌, OnOk, IfOk};
 ghost use Rattle.std.specs.List.{flat_map};
 ghost use Rattle.cluster_types.specs.Texts.{run_line};
-ghost use Rattle.input_reading.specs.Written.{AreNamed, IsNamed};
-ghost use Rattle.trace_text.specs.RunLines.{HasShortNames, line_of};
+ghost use Rattle.input_reading.specs.Written.{AreNamed, IsLineNamed};
+ghost use Rattle.trace_text.specs.RunLines.{HasShortNames, lent_line};
 
 use cluster_types::{Cluster, RunLine};
 use input_reading::RunTextLine;
@@ -13,7 +13,7 @@ use trace_text::{RunLineRef, write_line};
 
 /// The line, lent to be written.
 fn lent(line: &RunLine) -> RunLineRef<'_>
-    ensures { line_of result ≡ line.now }
+    ensures { lent_line result ≡ line.now }
 {
     match line {
         RunLine::Transition(number) => RunLineRef::Transition(*number),
@@ -31,7 +31,7 @@ fn lent(line: &RunLine) -> RunLineRef<'_>
 /// Adds the text of a line.
 fn add_line(text: &mut Vec<u8>, cluster: &Cluster, line: &RunTextLine) -> Result<(), AllocError>
     requires names { HasShortNames cluster.now }
-    requires named { IsNamed line.now.what }
+    requires named { IsLineNamed line.now.what }
     ensures { OnOk result (text.new.items ≡ text.old.items ++ run_line cluster.now line.now.what) }
 {
     let mut buf = [0; 1024];

@@ -3,8 +3,8 @@
 ghost use Rattle.std.specs.Prelude.{◌≡◌, ◌<◌, ◌^◌, ℕ, List, IfOk};
 ghost use Rattle.cluster_types.specs.Journals.{moment_of};
 ghost use Rattle.cluster_types.specs.Valid.{IsValid};
-ghost use Rattle.input_reading.specs.declared.cause.InputCause.{InputCause as CauseOf};
-ghost use Rattle.input_reading.specs.declared.reading.Input.{Input as InputOf};
+ghost use Rattle.input_reading.specs.declared.input.cause.InputCause.{InputCause as CauseOf};
+ghost use Rattle.input_reading.specs.declared.input.reading.Input.{Input as InputOf};
 ghost use Rattle.input_reading.specs.Causes.{refusal_text};
 ghost use Rattle.sim_core.specs.Outputs.{IsOutput};
 

@@ -1,13 +1,14 @@
 ghost use Rattle.std.specs.Prelude.{◌≡◌, ◌≢◌, ◌↔◌, ◌+◌, ◌≤◌, ◌<◌, true, Some, None, IfSome, length, map};
 ghost use Rattle.std.specs.String.{string_bytes};
 ghost use Rattle.cluster_io.specs.Streams.{Rose, TakesCount};
-ghost use Rattle.sim_core.specs.Answers.{Answers, IsComplete, IsEarly, IsSafeReplay, IsStatusOf, ReadsLive, ReadsNothing, ReadsWhole};
+ghost use Rattle.sim_core.specs.Answers.{WordAnswers, IsCompleteAnswer, IsEarly, IsSafeReplay, IsStatusOf, ReadsLive, ReadsNothing, ReadsWhole};
 ghost use Rattle.input_reading.specs.Reading.{most_bytes};
 ghost use Rattle.sim_core.specs.Table.{intake, nothing, whole};
 ghost use Rattle.sim_core.specs.Words.{command_of};
 
 use crate::audit_word::AuditWord;
 use crate::check::CheckWord;
+use crate::faulty_runs_are_not_lawful;
 use crate::generated::with_case;
 use crate::graph::GraphWord;
 use crate::help::{HELP, VERSION};
@@ -20,13 +21,13 @@ use crate::status::Status;
 use crate::text_word::Reading;
 use crate::words::{Command, command_of};
 use crate::world::WorldWord;
-use crate::{ends_are_one, faulty_runs_are_not_lawful};
 use cluster_io::{Sink, Source};
+use live_run::ends_are_unique;
 use std::alloc::Global;
 
 /// Carries out a word. The clauses are those of `run` for the words that ask for it.
 fn carry_out<S: Source, W: Sink>(alloc: Global, word: Command, src: &mut S, out: &mut W) -> Status
-    ensures answers { Answers word (S.left src.old) (S.left src.new) (W.written out.old) (W.written out.new) result }
+    ensures answers { WordAnswers word (S.left src.old) (S.left src.new) (W.written out.old) (W.written out.new) result }
     ensures status { IsStatusOf word result }
     ensures reads_nothing { intake word ≡ nothing → src.new ≡ src.old }
     ensures early { intake word ≡ whole → IsEarly result → out.new ≡ out.old }
@@ -62,10 +63,10 @@ fn carry_out<S: Source, W: Sink>(alloc: Global, word: Command, src: &mut S, out:
 pub fn run<S: Source, W: Sink>(alloc: Global, words: &[String], src: &mut S, out: &mut W) -> Status
     // Where the source tells what it reads: what the answer says of the input, of what was read and of what was written; and what it has to be.
     ensures answers { IfSome (command_of (map string_bytes words.now))
-        (λ word. Answers word (S.left src.old) (S.left src.new) (W.written out.old) (W.written out.new) result) }
+        (λ word. WordAnswers word (S.left src.old) (S.left src.new) (W.written out.old) (W.written out.new) result) }
     ensures complete { IfSome (command_of (map string_bytes words.now))
         (λ word. ¬ Rose (S.faults src.old) (S.faults src.new) → ¬ Rose (W.faults out.old) (W.faults out.new)
-        → IsComplete word (S.left src.old) result) }
+        → IsCompleteAnswer word (S.left src.old) result) }
 
     // A run that is carried out while it is read is safe, whatever its answers are.
     ensures safe { ReadsLive (command_of (map string_bytes words.now)) → IfSome (S.left src.old) IsSafeReplay }
@@ -93,7 +94,7 @@ pub fn run<S: Source, W: Sink>(alloc: Global, words: &[String], src: &mut S, out
     ensures no_write_failure { W.counts_only_failures ≡ true → result ≢ Status.WriteFault
         → W.faults out.new ≡ W.faults out.old }
 {
-    ends_are_one();
+    ends_are_unique();
     faulty_runs_are_not_lawful();
     match command_of(words) {
         Some(word) => carry_out(alloc, word, src, out),

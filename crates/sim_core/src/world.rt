@@ -10,9 +10,9 @@ ghost use Rattle.sim_core.specs.World.{IsWorldOf};
 use crate::input_word::InputWord;
 use crate::status::Status;
 use crate::text_word::refusal_text;
-use agent_world::world_text;
 use faults::NoMemory;
 use input_reading::{Head, Input, InputFault, read_input};
+use simulated::world_text;
 use std::alloc::Global;
 
 /// The text of the run in the simulated cluster of this number, of an input that says this. Its results aren't used.

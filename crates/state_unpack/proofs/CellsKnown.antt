@@ -24,8 +24,8 @@ use Rattle.state_unpack.specs.declared.facts.Facts.{Facts}
 use Rattle.state_unpack.specs.declared.signs.Sign.{Sign}
 use Rattle.state_unpack.specs.declared.signs.Sign.TheVariants as sign
 use Rattle.state_unpack.specs.Facts.{facts_of, no_facts}
-use Rattle.state_unpack.specs.Kept.{Keeps, cell_in}
-use Rattle.state_unpack.specs.Signs.{as_sign, Shows, state_by_sign}
+use Rattle.state_unpack.specs.Kept.{KeepsFacts, cell_in}
+use Rattle.state_unpack.specs.Signs.{as_sign, ShowsSigns, state_by_sign}
 use Rattle.state_unpack.specs.CellsKept.{bits_of, counted_of, state_from, cell_from, somewhere, is_fatal, is_stopping, is_blamed, node_from, row_from, has_few_monitors}
 
 -- the failures that count, by those in force
@@ -71,7 +71,7 @@ module _ (c : Cluster) (r n : ℕ) (es : List Event) (few : length (monitors c r
   cell-is fatal online f is =
       rw (state-is online is, counted-is c r n es, f, bits-is (λ m. is_running r n m.interval_ms es) (monitors c r) few) refl
 
-module _ (c : Cluster) (es : List Event) (cells : List Facts) (keeps : Keeps c es cells) where
+module _ (c : Cluster) (es : List Event) (cells : List Facts) (keeps : KeepsFacts c es cells) where
   -- failures of a leaf that count somewhere
   fatal-there : (r n : ℕ) → r < length c.leaves → n < length c.nodes
       → option_map_or (λ facts. is_fatal (counted_of c r (moment_of es) facts)) (cell_in c cells r n) false ≡ list_any (has_code fatal_codes) (counted c r n es)
@@ -91,7 +91,7 @@ module _ (c : Cluster) (es : List Event) (cells : List Facts) (keeps : Keeps c e
   pub blamed-is : (n : ℕ) → n < length c.nodes → is_blamed c n cells ≡ is_to_blame c n es
   blamed-is n k = any-same _ _ (length c.leaves) (λ r h. rw (keeps.told r n h k) refl)
 
-  module _ (signs : List (Option Sign)) (shows : Shows (length c.nodes) es signs) where
+  module _ (signs : List (Option Sign)) (shows : ShowsSigns (length c.nodes) es signs) where
     pub by-sign : (n : ℕ) (blamed : Bool) (found : Option (Option Sign)) (last : Option NodeSign) → blamed ≡ is_to_blame c n es → option_map (option_map as_sign) found ≡ Some last
         → state_by_sign c.properties.fencing blamed (unwrap_or found None) ≡ state_by c n es last
     by-sign n blamed None last b e = cc

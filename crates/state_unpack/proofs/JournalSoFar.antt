@@ -10,9 +10,9 @@ use Rattle.cluster_types.specs.Unpacked.{states_of}
 use Rattle.state_unpack.specs.declared.facts.Facts.{Facts}
 use Rattle.state_unpack.specs.declared.signs.Sign.{Sign}
 use Rattle.state_unpack.specs.CellsKept.{has_few_monitors, is_blamed, node_from, quorum_after, states_from}
-use Rattle.state_unpack.specs.Kept.{Tells}
+use Rattle.state_unpack.specs.Kept.{TellsEvent}
 use Rattle.state_unpack.specs.Known.{Knowledge, Knows, knowledge}
-use Rattle.state_unpack.specs.Signs.{Shows}
+use Rattle.state_unpack.specs.Signs.{ShowsSigns}
 use Rattle.state_unpack.specs.Touching.{touches}
 use Rattle.state_unpack.proofs.CellsKnown.{blamed-is, by-sign, cells-are, few-monitors, nodes-are, stops-are}
 use Rattle.state_unpack.proofs.LastSigns.{quorum-more}
@@ -37,12 +37,12 @@ module _ (c : Cluster) (es : List Event) (known : Knowledge) (knows : Knows c es
       rw (knows.same, knows.word, knows.now, stops-are c es known.cells knows.facts, cells-are c es known.cells knows.facts _ nodes few_each, nodes) refl
 
 pub knows-more : (c : Cluster) (es : List Event) (e : Event) (cluster : Cluster) (cells told : List Facts) (signs shown : List (Option Sign)) (quorum : Bool) (moment : ℕ)
-    → Knows c es (knowledge cluster cells signs quorum moment) → Tells cluster e (λ r n. touches r n e) cells told
-    → ((nodes : ℕ) (before : List Event) → Shows nodes before signs → Shows nodes (before ++ e ∷ []) shown)
+    → Knows c es (knowledge cluster cells signs quorum moment) → TellsEvent cluster e (λ r n. touches r n e) cells told
+    → ((nodes : ℕ) (before : List Event) → ShowsSigns nodes before signs → ShowsSigns nodes (before ++ e ∷ []) shown)
     → Knows c (es ++ e ∷ []) (knowledge cluster told shown (quorum_after quorum e) (moment + seconds_of e))
 knows-more c es e cluster cells told signs shown quorum moment knows tells shows = record {
   same = knows.same;
-  facts = keeps-more c e es cells told knows.facts (subst (λ (of : Cluster). Tells of e (λ r n. touches r n e) cells told) knows.same tells);
+  facts = keeps-more c e es cells told knows.facts (subst (λ (of : Cluster). TellsEvent of e (λ r n. touches r n e) cells told) knows.same tells);
   shown = shows (length c.nodes) es knows.shown;
   word = ap (λ q. quorum_after q e) knows.word ∙ sym (quorum-more es e);
   now = ap (λ m. m + seconds_of e) knows.now ∙ sym (moment-more es e);

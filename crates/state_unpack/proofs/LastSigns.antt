@@ -11,16 +11,16 @@ use Rattle.cluster_types.specs.Journals.{NodeSign, sign_of, last_sign, said_of_q
 use Rattle.lemmas.proofs.Lasts.{last-more}
 use Rattle.state_unpack.specs.declared.signs.Sign.{Sign}
 use Rattle.state_unpack.specs.CellsKept.{quorum_after}
-use Rattle.state_unpack.specs.Signs.{or_else, as_sign, Shows}
+use Rattle.state_unpack.specs.Signs.{or_else, as_sign, ShowsSigns}
 
 -- it is what this event shows, if it shows something, or the last before
 last-after : (n : ℕ) (es : List Event) (e : Event) (sign : Option NodeSign) → sign_of n e ≡ sign → last_sign n (es ++ e ∷ []) ≡ or_else sign (last_sign n es)
 last-after n es e None s = ap (last_or None) (filter_map-append (sign_of n) es (e ∷ [])) ∙ (rw s (ap (last_or None) (append-nil (filter_map (sign_of n) es))))
 last-after n es e (Some sign) s = ap (last_or None) (filter_map-append (sign_of n) es (e ∷ [])) ∙ (rw s (last-more None (filter_map (sign_of n) es) sign))
 
-module _ (nodes : ℕ) (es : List Event) (e : Event) (signs : List (Option Sign)) (shows : Shows nodes es signs) where
+module _ (nodes : ℕ) (es : List Event) (e : Event) (signs : List (Option Sign)) (shows : ShowsSigns nodes es signs) where
   -- nothing is shown of the nodes that there are
-  pub shows-nothing : ((n : ℕ) → n < nodes → sign_of n e ≡ None) → Shows nodes (es ++ e ∷ []) signs
+  pub shows-nothing : ((n : ℕ) → n < nodes → sign_of n e ≡ None) → ShowsSigns nodes (es ++ e ∷ []) signs
   shows-nothing none = record {
     len = shows.len;
     last = λ n h. shows.last n h ∙ ap Some (sym (last-after n es e None (none n h)));
@@ -28,7 +28,7 @@ module _ (nodes : ℕ) (es : List Event) (e : Event) (signs : List (Option Sign)
 
   -- something is shown of this node, and of no other
   pub shows-one : (node : ℕ) (sign : Sign) → ((n : ℕ) → sign_of n e ≡ (if node == n then Some (as_sign sign) else None)) → node < length signs
-      → Shows nodes (es ++ e ∷ []) (set signs node (Some sign))
+      → ShowsSigns nodes (es ++ e ∷ []) (set signs node (Some sign))
   shows-one node sign one low = record {
     len = length-set signs node (Some sign) ∙ shows.len;
     last = λ n h. split n h (node == n) refl;

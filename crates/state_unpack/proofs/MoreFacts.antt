@@ -14,7 +14,7 @@ use Rattle.cluster_types.specs.Fields.{monitors}
 use Rattle.cluster_types.proofs.MayLaws.{may-last, promoted-last}
 use Rattle.lemmas.proofs.Lasts.{after_last-here, after_last-more, last-more}
 use Rattle.state_unpack.proofs.MoreFailures.{outcomes-reset, outcomes-more, in_force-after}
-use Rattle.state_unpack.specs.Facts.{leaves_open, runs, answers, running_after, facts_of, facts_after}
+use Rattle.state_unpack.specs.Facts.{leaves_open, monitor_runs, answers, running_after, facts_of, facts_after}
 
 module _ (c : Cluster) (r n : ℕ) (es : List Event) (e : Event) where
   -- the last outcome in force: none after a reset, this event if it is one, or the one before
@@ -50,7 +50,7 @@ module _ (c : Cluster) (r n : ℕ) (es : List Event) (e : Event) where
   running-after false interval h =
       ap (list_any (is_end_of_monitor r n interval)) (after_last-more (ends_monitors r n) es e h) ∙ any-more (is_end_of_monitor r n interval) (after_last (ends_monitors r n) es) e
 
-  runs-after : (i : ℕ) → runs c r n (es ++ e ∷ []) i ≡ (not (ends_monitors r n e) && (runs c r n es i || answers c r n e i))
+  runs-after : (i : ℕ) → monitor_runs c r n (es ++ e ∷ []) i ≡ (not (ends_monitors r n e) && (monitor_runs c r n es i || answers c r n e i))
   runs-after i = split (slice_get (monitors c r) i) (ends_monitors r n e) refl
     where
       split : (found : Option Monitor) (ends : Bool) → ends_monitors r n e ≡ ends
@@ -60,7 +60,7 @@ module _ (c : Cluster) (r n : ℕ) (es : List Event) (e : Event) where
       split None false h = refl
       split (Some m) ends h = running-after ends m.interval_ms h
 
-  all_running-after : map (runs c r n (es ++ e ∷ [])) (range_with_len 0 8) ≡ running_after c r n (map (runs c r n es) (range_with_len 0 8)) e
+  all_running-after : map (monitor_runs c r n (es ++ e ∷ [])) (range_with_len 0 8) ≡ running_after c r n (map (monitor_runs c r n es) (range_with_len 0 8)) e
   all_running-after =
       rw (runs-after 0, runs-after 1, runs-after 2, runs-after 3, runs-after 4, runs-after 5, runs-after 6, runs-after 7) refl
 

@@ -8,7 +8,7 @@ use Rattle.cluster_types.specs.declared.leaf.Monitor.{Monitor}
 use Rattle.cluster_types.specs.CellStates.{is_end_of_monitor}
 use Rattle.cluster_types.specs.Fields.{monitors}
 use Rattle.cluster_types.specs.May.{may, is_left_promoted, opens, closes, opens_promoted, closes_promoted}
-use Rattle.state_unpack.specs.Facts.{facts_of, facts_after, runs, runs_after, answers}
+use Rattle.state_unpack.specs.Facts.{facts_of, facts_after, monitor_runs, runs_after, answers}
 use Rattle.state_unpack.specs.Touching.{touches}
 use Rattle.state_unpack.proofs.MoreFacts.{facts-after}
 use Rattle.state_unpack.proofs.Untouched.{no_reset, no_outcome, no_sending, no_end, no_answer, no_opening, no_closing, no_promotion, no_demotion, stays_in}
@@ -46,14 +46,14 @@ module _ (c : Cluster) (r n : ℕ) (e : Event) (quiet : touches r n e ≡ false)
         never_closes,
         never_promotes,
         never_demotes,
-        runs_on 0 (runs c r n es 0),
-        runs_on 1 (runs c r n es 1),
-        runs_on 2 (runs c r n es 2),
-        runs_on 3 (runs c r n es 3),
-        runs_on 4 (runs c r n es 4),
-        runs_on 5 (runs c r n es 5),
-        runs_on 6 (runs c r n es 6),
-        runs_on 7 (runs c r n es 7),
+        runs_on 0 (monitor_runs c r n es 0),
+        runs_on 1 (monitor_runs c r n es 1),
+        runs_on 2 (monitor_runs c r n es 2),
+        runs_on 3 (monitor_runs c r n es 3),
+        runs_on 4 (monitor_runs c r n es 4),
+        runs_on 5 (monitor_runs c r n es 5),
+        runs_on 6 (monitor_runs c r n es 6),
+        runs_on 7 (monitor_runs c r n es 7),
       )
       (rw (or-false (facts_of c r n es).seen, or-false (facts_of c r n es).awaited, and-true (may c r n es), and-true (is_left_promoted c r n es)) refl)
 

@@ -13,8 +13,8 @@ use Rattle.cluster_types.specs.CellStates.{is_running}
 use Rattle.cluster_types.specs.Fields.{monitors}
 use Rattle.cluster_types.proofs.TableCells.{ordered, same_place, get-at, same_cell}
 use Rattle.state_unpack.specs.declared.facts.Facts.{Facts}
-use Rattle.state_unpack.specs.Facts.{facts_of, facts_after, no_facts, runs}
-use Rattle.state_unpack.specs.Kept.{IsFull, cell_in, Keeps, Tells}
+use Rattle.state_unpack.specs.Facts.{facts_of, facts_after, no_facts, monitor_runs}
+use Rattle.state_unpack.specs.Kept.{IsFull, cell_in, KeepsFacts, TellsEvent}
 use Rattle.state_unpack.specs.Touching.{touches}
 use Rattle.state_unpack.proofs.MoreFacts.{facts-after}
 use Rattle.state_unpack.proofs.StillFacts.{facts-stay}
@@ -27,7 +27,7 @@ module _ (c : Cluster) (e : Event) where
   -- one cell was told
   module _ (leaf node : ℕ) (cells : List Facts) (x d : Facts) (full : IsFull c cells) (has_leaf : leaf < length c.leaves) (has_node : node < length c.nodes)
       (is : x ≡ facts_after c leaf node (get_or cells (leaf * length c.nodes + node) d) e) where
-    pub tells-one : Tells c e (λ r n. is_same_cell r n leaf node) cells (set cells (leaf * length c.nodes + node) x)
+    pub tells-one : TellsEvent c e (λ r n. is_same_cell r n leaf node) cells (set cells (leaf * length c.nodes + node) x)
     tells-one = let at = leaf * length c.nodes + node in record {
       len = length-set cells at x;
       told = λ r n h k.
@@ -52,17 +52,17 @@ module _ (c : Cluster) (e : Event) where
         split r n low false true t s = cc
 
   -- no cell was
-  pub tells-none : (touched : ℕ → ℕ → Bool) (cells : List Facts) → ((r n : ℕ) → touched r n ≡ false) → Tells c e touched cells cells
+  pub tells-none : (touched : ℕ → ℕ → Bool) (cells : List Facts) → ((r n : ℕ) → touched r n ≡ false) → TellsEvent c e touched cells cells
   tells-none touched cells none = record { len = refl; told = λ r n h k. rw none refl }
 
   -- the same cells, said otherwise
-  pub tells-as : (touched all : ℕ → ℕ → Bool) (old new : List Facts) → Tells c e touched old new
-      → ((r n : ℕ) → r < length c.leaves → n < length c.nodes → all r n ≡ touched r n) → Tells c e all old new
+  pub tells-as : (touched all : ℕ → ℕ → Bool) (old new : List Facts) → TellsEvent c e touched old new
+      → ((r n : ℕ) → r < length c.leaves → n < length c.nodes → all r n ≡ touched r n) → TellsEvent c e all old new
   tells-as touched all old new a is = record { len = a.len; told = λ r n h k. a.told r n h k ∙ rw (is r n h k) refl }
 
   -- some were, and then others
-  pub tells-more : (first then_too all : ℕ → ℕ → Bool) (old mid new : List Facts) → Tells c e first old mid → Tells c e then_too mid new
-      → ((r n : ℕ) → r < length c.leaves → first r n ≡ true → then_too r n ≡ false) → ((r n : ℕ) → r < length c.leaves → all r n ≡ (first r n || then_too r n)) → Tells c e all old new
+  pub tells-more : (first then_too all : ℕ → ℕ → Bool) (old mid new : List Facts) → TellsEvent c e first old mid → TellsEvent c e then_too mid new
+      → ((r n : ℕ) → r < length c.leaves → first r n ≡ true → then_too r n ≡ false) → ((r n : ℕ) → r < length c.leaves → all r n ≡ (first r n || then_too r n)) → TellsEvent c e all old new
   tells-more first then_too all old mid new a b once is = record {
     len = b.len ∙ a.len;
     told = λ r n h k. b.told r n h k ∙ split r n h k (first r n) (then_too r n) refl refl;
@@ -77,7 +77,7 @@ module _ (c : Cluster) (e : Event) where
       split r n h k false false f t = let here : all r n ≡ false = is r n h ∙ rw (f, t) refl in rw (t, here) (a.told r n h k ∙ rw f refl)
 
   -- so what is kept is what the events tell with this one
-  pub keeps-more : (es : List Event) (old new : List Facts) → Keeps c es old → Tells c e (λ r n. touches r n e) old new → Keeps c (es ++ e ∷ []) new
+  pub keeps-more : (es : List Event) (old new : List Facts) → KeepsFacts c es old → TellsEvent c e (λ r n. touches r n e) old new → KeepsFacts c (es ++ e ∷ []) new
   keeps-more es old new k t = record {
     full = t.len ∙ k.full;
     told = λ r n h m. t.told r n h m ∙ (rw (k.told r n h m) (split r n (touches r n e) refl));
@@ -132,7 +132,7 @@ each_node_once r n leaf source target differ h =
 nothing : (c : Cluster) (r n : ℕ) → facts_of c r n [] ≡ no_facts
 nothing c r n = rw (stopped 0, stopped 1, stopped 2, stopped 3, stopped 4, stopped 5, stopped 6, stopped 7) refl
   where
-    stopped : (i : ℕ) → runs c r n [] i ≡ false
+    stopped : (i : ℕ) → monitor_runs c r n [] i ≡ false
     stopped i = split (slice_get (monitors c r) i)
       where
         split : (found : Option Monitor) → option_map_or (λ (m : Monitor). is_running r n m.interval_ms []) found false ≡ false
@@ -142,7 +142,7 @@ nothing c r n = rw (stopped 0, stopped 1, stopped 2, stopped 3, stopped 4, stopp
 some_of_many : {X : Type 0} (k i : ℕ) (x : X) → i < k → slice_get (replicate k x) i ≡ Some x
 some_of_many k i x low = slice_get-get_or (replicate k x) i x (omega (arith, low, length-replicate k x)) ∙ ap Some (get_or-replicate k i x x low)
 
-pub keeps-none : (c : Cluster) (cells : List Facts) → cells ≡ replicate (length c.leaves * length c.nodes) no_facts → Keeps c [] cells
+pub keeps-none : (c : Cluster) (cells : List Facts) → cells ≡ replicate (length c.leaves * length c.nodes) no_facts → KeepsFacts c [] cells
 keeps-none c cells is = record {
   full = ap length is ∙ length-replicate (length c.leaves * length c.nodes) no_facts;
   told = λ r n h k.

@@ -18,8 +18,8 @@ abbrev pub leaves_open : Event → Bool
 leaves_open e = is_failure e || is_sent_away e
 
 -- the monitor of this index is running; none is where the leaf has none
-abbrev pub runs : Cluster → ℕ → ℕ → List Event → ℕ → Bool
-runs c r n es i = option_map_or (λ (m : Monitor). is_running r n m.interval_ms es) (slice_get (monitors c r) i) false
+abbrev pub monitor_runs : Cluster → ℕ → ℕ → List Event → ℕ → Bool
+monitor_runs c r n es i = option_map_or (λ (m : Monitor). is_running r n m.interval_ms es) (slice_get (monitors c r) i) false
 
 -- it answered
 abbrev pub answers : Cluster → ℕ → ℕ → Event → ℕ → Bool
@@ -41,7 +41,7 @@ facts_of c r n es = record {
   awaited = list_any (begins_sending_to r n) (after_last (is_outcome c r n) es);
   may = may c r n es;
   promoted = is_left_promoted c r n es;
-  running = map (runs c r n es) (range_with_len 0 8);
+  running = map (monitor_runs c r n es) (range_with_len 0 8);
 }
 
 -- what no event tells

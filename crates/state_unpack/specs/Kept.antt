@@ -15,12 +15,12 @@ abbrev pub cell_in : {X : Type 0} → Cluster → List X → ℕ → ℕ → Opt
 cell_in c cells r n = slice_get cells (r * length c.nodes + n)
 
 -- the list has what some events tell of each cell
-pub record Keeps (c : Cluster) (es : List Event) (cells : List Facts) : Type 0 where
+pub record KeepsFacts (c : Cluster) (es : List Event) (cells : List Facts) : Type 0 where
   pub full : IsFull c cells
   pub told : (r n : ℕ) → r < length c.leaves → n < length c.nodes → cell_in c cells r n ≡ Some (facts_of c r n es)
 
 -- some cells were told of one more event, and no others
-pub record Tells (c : Cluster) (e : Event) (touched : ℕ → ℕ → Bool) (old new : List Facts) : Type 0 where
+pub record TellsEvent (c : Cluster) (e : Event) (touched : ℕ → ℕ → Bool) (old new : List Facts) : Type 0 where
   pub len : length new ≡ length old
   pub told : (r n : ℕ) → r < length c.leaves → n < length c.nodes
       → cell_in c new r n ≡ (if touched r n then option_map (λ facts. facts_after c r n facts e) (cell_in c old r n) else cell_in c old r n)

@@ -7,8 +7,8 @@ use Rattle.cluster_types.specs.Valid.{KeepsLimits}
 use Rattle.state_unpack.specs.declared.facts.Facts.{Facts}
 use Rattle.state_unpack.specs.declared.signs.Sign.{Sign}
 use Rattle.state_unpack.specs.CellsKept.{has_few_monitors}
-use Rattle.state_unpack.specs.Kept.{IsFull, Keeps}
-use Rattle.state_unpack.specs.Signs.{Shows}
+use Rattle.state_unpack.specs.Kept.{IsFull, KeepsFacts}
+use Rattle.state_unpack.specs.Signs.{ShowsSigns}
 
 -- what is kept: of each cell, of each node, whether there is quorum, and the moment
 pub record Knowledge : Type 0 where
@@ -21,13 +21,13 @@ pub record Knowledge : Type 0 where
 -- it is what these events tell of this cluster: the journal so far
 pub record Knows (c : Cluster) (es : List Event) (known : Knowledge) : Type 0 where
   pub same : known.cluster ≡ c
-  pub facts : Keeps c es known.cells
-  pub shown : Shows (length c.nodes) es known.signs
+  pub facts : KeepsFacts c es known.cells
+  pub shown : ShowsSigns (length c.nodes) es known.signs
   pub word : known.quorum ≡ has_quorum es
   pub now : known.moment ≡ moment_of es
 
 -- the cluster is within the limits, each leaf has at most eight recurring monitors, and there is something kept of each cell
-pub record Fits (known : Knowledge) : Type 0 where
+pub record KnowledgeFits (known : Knowledge) : Type 0 where
   pub limits : KeepsLimits known.cluster
   pub monitors : has_few_monitors known.cluster ≡ true
   pub full : IsFull known.cluster known.cells

@@ -20,7 +20,7 @@ shown_of n None = None
 shown_of n (Some (node, sign)) = if node == n then Some (as_sign sign) else None
 
 -- the list has for each of so many nodes the last that the events show of it
-pub record Shows (nodes : ℕ) (es : List Event) (signs : List (Option Sign)) : Type 0 where
+pub record ShowsSigns (nodes : ℕ) (es : List Event) (signs : List (Option Sign)) : Type 0 where
   pub len : length signs ≡ nodes
   pub last : (n : ℕ) → n < nodes → option_map (option_map as_sign) (slice_get signs n) ≡ Some (last_sign n es)
 

@@ -54,13 +54,13 @@ abbrev pub tally_counted : Cluster → ℕ → ℕ → Tally → Tally
 tally_counted c r now tally = if has_passed (failure_timeout c r) now tally.last then no_tally else tally
 
 -- the fail count by those that count
-abbrev pub count_of : Cluster → Tally → ℕ
-count_of c tally = if c.properties.start_fatal && tally.start then 1000000 else tally.count
+abbrev pub fail_count_of : Cluster → Tally → ℕ
+fail_count_of c tally = if c.properties.start_fatal && tally.start then 1000000 else tally.count
 
 -- a fail count reaches a threshold, which is never so at a threshold of 0 or less
-abbrev pub reaches : ℕ → ℤ → Bool
-reaches count threshold = int_lt (pos 0) threshold && int_le threshold (pos count)
+abbrev pub reaches_threshold : ℕ → ℤ → Bool
+reaches_threshold count threshold = int_lt (pos 0) threshold && int_le threshold (pos count)
 
 -- they ban the leaf from their node
 abbrev pub bans : Cluster → ℕ → Tally → Bool
-bans c r tally = reaches (count_of c tally) (threshold c r) || tally.hard
+bans c r tally = reaches_threshold (fail_count_of c tally) (threshold c r) || tally.hard

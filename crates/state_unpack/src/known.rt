@@ -3,7 +3,7 @@
 ghost use Rattle.std.specs.Prelude.{◌≡◌, ◌<◌, ◌+◌, ◌^◌, ◌++◌, ◌∷◌, [], List, IfOk, length, true};
 ghost use Rattle.cluster_types.specs.declared.cluster.Cluster.{Cluster as ClusterOf};
 ghost use Rattle.cluster_types.specs.declared.journal.Event.{Event as EventOf};
-ghost use Rattle.cluster_types.specs.Answering.{is_joined};
+ghost use Rattle.cluster_types.specs.Answering.{is_joined_sign};
 ghost use Rattle.cluster_types.specs.Journals as journals;
 ghost use Rattle.cluster_types.specs.May as may;
 ghost use Rattle.cluster_types.specs.NodeStates.{node_state};
@@ -36,13 +36,13 @@ pub struct Known<'c> {
 }
 
 impl<'c> Model for Known<'c> {
-    ghost use Rattle.state_unpack.specs.Known.{Knowledge, Fits, knowledge};
+    ghost use Rattle.state_unpack.specs.Known.{Knowledge, KnowledgeFits, knowledge};
 
     ghost Value = { Knowledge };
 
     ghost view = { λ k. knowledge k.cluster.now k.cells.items k.signs.items k.quorum k.moment };
 
-    ghost invariant = { λ k. Fits (knowledge k.cluster.now k.cells.items k.signs.items k.quorum k.moment) };
+    ghost invariant = { λ k. KnowledgeFits (knowledge k.cluster.now k.cells.items k.signs.items k.quorum k.moment) };
 }
 
 impl<'c> Known<'c> {
@@ -113,7 +113,7 @@ impl<'c> Known<'c> {
     /// Whether the last sign of a node of the cluster is that it joined.
     pub fn has_joined(&self, node: NodeId) -> bool
         requires { node < length self.now.cluster.nodes }
-        ensures { (c : ClusterOf) (es : List EventOf) → Knows c es self.now → result ≡ is_joined (journals.last_sign node es) }
+        ensures { (c : ClusterOf) (es : List EventOf) → Knows c es self.now → result ≡ is_joined_sign (journals.last_sign node es) }
     {
         matches!(
             value_at(self.signs.as_slice(), node as usize),

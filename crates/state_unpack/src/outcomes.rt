@@ -18,7 +18,7 @@ fn has_code(codes: &[u8], code: u8) -> bool
 
 /// Whether the outcome is one of these exit codes.
 pub fn is_among(codes: &[u8], outcome: Outcome) -> bool
-    ensures { result ≡ outcomes.is_among codes.now outcome }
+    ensures { result ≡ outcomes.is_code_among codes.now outcome }
 {
     match outcome {
         Outcome::Code(code) => has_code(codes, code),
@@ -97,7 +97,7 @@ fn op_fail(cluster: &Cluster, leaf: LeafId, op: Op, interval_ms: u32) -> OnFail
 }
 
 fn fail_of(cluster: &Cluster, action: Action) -> OnFail
-    ensures { result ≡ outcomes.fail_of cluster.now action }
+    ensures { result ≡ outcomes.action_fail cluster.now action }
 {
     match action {
         Action::Cell {

@@ -4,7 +4,7 @@ ghost use Rattle.std.specs.Prelude.{◌≡◌, ◌++◌, ◌∷◌, [], ℕ, Lis
 ghost use Rattle.cluster_types.specs.declared.journal.Event.{Event as EventOf};
 ghost use Rattle.cluster_types.specs.Journals.{sign_of};
 ghost use Rattle.state_unpack.specs.CellsKept.{quorum_after};
-ghost use Rattle.state_unpack.specs.Signs.{Shows, shown_of, state_by_sign};
+ghost use Rattle.state_unpack.specs.Signs.{ShowsSigns, shown_of, state_by_sign};
 
 use cluster_types::exit_codes::SUCCESS;
 use cluster_types::{Action, Event, NodeId, NodeState, Outcome};
@@ -38,7 +38,7 @@ fn shown(event: Event) -> Option<(NodeId, Sign)>
 
 /// Nothing is shown of so many nodes.
 pub fn nothing_shown(alloc: Global, nodes: usize) -> Result<Vec<Option<Sign>>, AllocError>
-    ensures { IfOk result (λ signs. Shows nodes [] signs.items) }
+    ensures { IfOk result (λ signs. ShowsSigns nodes [] signs.items) }
 {
     let mut signs = Vec::with_capacity(alloc, nodes)?;
     while signs.len() < nodes {
@@ -49,7 +49,7 @@ pub fn nothing_shown(alloc: Global, nodes: usize) -> Result<Vec<Option<Sign>>, A
 
 /// Keeps what the event shows.
 pub fn show(event: Event, signs: &mut Vec<Option<Sign>>)
-    ensures { (nodes : ℕ) (before : List EventOf) → Shows nodes before signs.old.items → Shows nodes (before ++ event ∷ []) signs.new.items }
+    ensures { (nodes : ℕ) (before : List EventOf) → ShowsSigns nodes before signs.old.items → ShowsSigns nodes (before ++ event ∷ []) signs.new.items }
 {
     if let Some((node, sign)) = shown(event) {
         if (node as usize) < signs.len() {

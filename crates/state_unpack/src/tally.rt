@@ -54,7 +54,7 @@ fn has_passed(timeout_ms: u32, now: u128, last: Option<u64>) -> bool
 
 /// Whether the count reaches the threshold, which is never so at a threshold of 0 or less.
 fn reaches(count: u32, threshold: Score) -> bool
-    ensures { result ≡ spec.reaches count threshold }
+    ensures { result ≡ spec.reaches_threshold count threshold }
 {
     threshold.points > 0 && i64::from(threshold.points) <= i64::from(count)
 }
@@ -119,7 +119,7 @@ impl Tally {
 
     /// The fail count by the failures that count.
     pub fn fail_count(self, cluster: &Cluster) -> u32
-        ensures { result ≡ spec.count_of cluster.now self }
+        ensures { result ≡ spec.fail_count_of cluster.now self }
     {
         if cluster.properties.start_fatal && self.start {
             MOST

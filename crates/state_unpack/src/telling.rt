@@ -3,7 +3,7 @@
 ghost use Rattle.std.specs.Prelude.{◌==◌, ◌||◌, [], IfOk};
 ghost use Rattle.cluster_types.specs.Cells.{is_same_cell};
 ghost use Rattle.cluster_types.specs.Valid.{KeepsLimits};
-ghost use Rattle.state_unpack.specs.Kept.{IsFull, Keeps, Tells};
+ghost use Rattle.state_unpack.specs.Kept.{IsFull, KeepsFacts, TellsEvent};
 ghost use Rattle.state_unpack.specs.Touching.{action_touches, touches};
 
 use crate::facts::Facts;
@@ -13,7 +13,7 @@ use std::alloc::{AllocError, Global};
 /// Tells the cell of one more event, if there is such a cell.
 fn tell_cell(cluster: &Cluster, leaf: LeafId, node: NodeId, event: Event, cells: &mut Vec<Facts>)
     requires { IsFull cluster.now cells.old.items }
-    ensures { Tells cluster.now event (λ r n. is_same_cell r n leaf node) cells.old.items cells.new.items }
+    ensures { TellsEvent cluster.now event (λ r n. is_same_cell r n leaf node) cells.old.items cells.new.items }
 {
     let nodes = cluster.nodes.len();
     if (leaf as usize) < cluster.leaves.len() && (node as usize) < nodes {
@@ -26,7 +26,7 @@ fn tell_cell(cluster: &Cluster, leaf: LeafId, node: NodeId, event: Event, cells:
 fn tell_node(cluster: &Cluster, node: NodeId, event: Event, cells: &mut Vec<Facts>)
     requires limits { KeepsLimits cluster.now }
     requires full { IsFull cluster.now cells.old.items }
-    ensures { Tells cluster.now event (λ r n. node == n) cells.old.items cells.new.items }
+    ensures { TellsEvent cluster.now event (λ r n. node == n) cells.old.items cells.new.items }
 {
     for leaf in 0..cluster.leaves.len() {
         tell_cell(cluster, leaf as u32, node, event, cells);
@@ -43,7 +43,7 @@ fn tell_both(
     cells: &mut Vec<Facts>,
 )
     requires { IsFull cluster.now cells.old.items }
-    ensures { Tells cluster.now event (λ r n. is_same_cell r n leaf source || is_same_cell r n leaf target) cells.old.items cells.new.items }
+    ensures { TellsEvent cluster.now event (λ r n. is_same_cell r n leaf source || is_same_cell r n leaf target) cells.old.items cells.new.items }
 {
     tell_cell(cluster, leaf, source, event, cells);
     if target != source {
@@ -55,7 +55,7 @@ fn tell_both(
 fn tell_action(cluster: &Cluster, action: Action, event: Event, cells: &mut Vec<Facts>)
     requires limits { KeepsLimits cluster.now }
     requires full { IsFull cluster.now cells.old.items }
-    ensures { Tells cluster.now event (λ r n. action_touches r n action) cells.old.items cells.new.items }
+    ensures { TellsEvent cluster.now event (λ r n. action_touches r n action) cells.old.items cells.new.items }
 {
     match action {
         Action::Fence { node } => tell_node(cluster, node, event, cells),
@@ -79,7 +79,7 @@ fn tell_action(cluster: &Cluster, action: Action, event: Event, cells: &mut Vec<
 pub fn tell(cluster: &Cluster, event: Event, cells: &mut Vec<Facts>)
     requires limits { KeepsLimits cluster.now }
     requires full { IsFull cluster.now cells.old.items }
-    ensures { Tells cluster.now event (λ r n. touches r n event) cells.old.items cells.new.items }
+    ensures { TellsEvent cluster.now event (λ r n. touches r n event) cells.old.items cells.new.items }
 {
     match event {
         Event::Up { node } | Event::Down { node } | Event::Lost { node } => {
@@ -96,7 +96,7 @@ pub fn tell(cluster: &Cluster, event: Event, cells: &mut Vec<Facts>)
 /// What no event tells of any cell.
 pub fn nothing_told(alloc: Global, cluster: &Cluster) -> Result<Vec<Facts>, AllocError>
     requires { KeepsLimits cluster.now }
-    ensures { IfOk result (λ cells. Keeps cluster.now [] cells.items) }
+    ensures { IfOk result (λ cells. KeepsFacts cluster.now [] cells.items) }
 {
     let count = cluster.leaves.len() * cluster.nodes.len();
     let mut cells = Vec::with_capacity(alloc, count)?;

@@ -5,8 +5,9 @@ use Rattle.std.proofs.Math.Bool.{or-false}
 use Rattle.std.proofs.lemmas.Bool.{cases_eq, ne_eqb}
 use Rattle.std.proofs.lemmas.List.{get_or-append-add, get_or_append_left, get_or-set_same, get_or-set_other, get_or-replicate, length-append, length-replicate, length-set}
 use Rattle.std.proofs.lemmas.List.Folds.{list_any_more}
-use Rattle.cluster_types.specs.declared.edges.Edge.{Edge}
-use Rattle.cluster_types.specs.Walks.{joins, no_edge}
+use Rattle.edges.specs.declared.edge.Edge.{Edge}
+use Rattle.cluster_types.specs.Walks.{joins}
+use Rattle.edges.specs.Rows.{no_edge}
 use Rattle.trace_text.specs.Arriving.{AreLinked, last_to, leads_to}
 
 -- one edge more

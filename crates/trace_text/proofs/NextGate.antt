@@ -5,13 +5,14 @@ use Rattle.std.specs.List.{list_any}
 use Rattle.std.proofs.lemmas.Bool.{both_ways, or_cases, ltb-true, ltb-false}
 use Rattle.std.proofs.lemmas.Option.{get_or_from_slice_get}
 use Rattle.lemmas.proofs.Booleans.{sooner, later}
-use Rattle.cluster_types.specs.declared.edges.Edge.{Edge}
-use Rattle.cluster_types.specs.Graphs.{EndWithin, LeadUpward}
+use Rattle.edges.specs.declared.edge.Edge.{Edge}
+use Rattle.cluster_types.specs.Graphs.{LeadUpward}
+use Rattle.edges.specs.Loops.{EndsWithin}
 use Rattle.cluster_types.specs.Walks.{joins}
 use Rattle.listed.specs.Sets.{is_member, members}
 use Rattle.trace_text.specs.declared.found.Found.{Found}
 use Rattle.trace_text.specs.Backward.{IsOnTheWay}
-use Rattle.trace_text.specs.Found.{HasRoom, SameSizes, is_found}
+use Rattle.trace_text.specs.Found.{PositionsHaveRoom, SameSizes, is_found}
 use Rattle.trace_text.proofs.Backward.{gate_passed, on_the_way_first, source_below}
 use Rattle.trace_text.proofs.FirstMembers.{first_above, first_from_one, first_least, first_member, first_to_most}
 use Rattle.trace_text.proofs.Places.{gate_found, nothing_found, room_kept}
@@ -20,7 +21,7 @@ use Rattle.trace_text.proofs.Places.{gate_found, nothing_found, room_kept}
 abbrev pub gates_left : Found → ℕ
 gates_left f = suc (length f.gates) - get_or (members f.gates) 0 (suc (length f.gates))
 
-module _ (old new : Found) (gate : ℕ) (edges : List Edge) (room : HasRoom old) (sizes : SameSizes old new) (first : slice_get (members old.gates) 0 ≡ Some gate)
+module _ (old new : Found) (gate : ℕ) (edges : List Edge) (room : PositionsHaveRoom old) (sizes : SameSizes old new) (first : slice_get (members old.gates) 0 ≡ Some gate)
     (upward : LeadUpward (length old.actions) edges)
     (made : (x : ℕ) → x < old.positions → is_found new x
     ≡ (is_found old x && not (x == old.positions - gate) || list_any (joins x (old.positions - gate)) edges)) where
@@ -62,7 +63,7 @@ module _ (old new : Found) (gate : ℕ) (edges : List Edge) (room : HasRoom old)
         within : old.positions - j < old.positions
         within = omega (arith, room, from, to, gates)
 
-        new_room : HasRoom new
+        new_room : PositionsHaveRoom new
         new_room = let a = sizes.positions in let b = sizes.actions in omega (arith, room, gates)
 
         place : old.positions - j ≡ new.positions - j
@@ -84,7 +85,7 @@ module _ (old new : Found) (gate : ℕ) (edges : List Edge) (room : HasRoom old)
       omega (arith, high, gates, now, next)
 
 -- a way stays one when its first gate is gone through
-pub way_kept : (begun old new : Found) (gate : ℕ) (edges : List Edge) → HasRoom begun → SameSizes begun old → EndWithin begun.positions edges
+pub way_kept : (begun old new : Found) (gate : ℕ) (edges : List Edge) → PositionsHaveRoom begun → SameSizes begun old → EndsWithin begun.positions edges
     → slice_get (members old.gates) 0 ≡ Some gate
     → ((x : ℕ) → x < old.positions → is_found new x
     ≡ (is_found old x && not (x == old.positions - gate) || list_any (joins x (old.positions - gate)) edges))
@@ -107,7 +108,7 @@ of_sizes actions others positions places edges y has e f way =
     subst (λ n. IsOnTheWay n places edges y has) e (subst (λ n. IsOnTheWay actions n edges y has) f way)
 
 -- where nothing was found before, what edges lead to y from is a way to it
-pub way_begun : (cleared found : Found) (edges : List Edge) (y : ℕ) → HasRoom cleared → EndWithin cleared.positions edges → members cleared.actions ≡ []
+pub way_begun : (cleared found : Found) (edges : List Edge) (y : ℕ) → PositionsHaveRoom cleared → EndsWithin cleared.positions edges → members cleared.actions ≡ []
     → members cleared.gates ≡ [] → ((x : ℕ) → x < cleared.positions → is_found found x ≡ (is_found cleared x || list_any (joins x y) edges))
     → IsOnTheWay (length cleared.actions) cleared.positions edges y (is_found found)
 way_begun cleared found edges y room ends no_action no_gate made =

@@ -6,7 +6,7 @@ use Rattle.std.proofs.lemmas.Bool.{cases_eq, ne_eqb, lt-ltb, le-ltb, ltb-true, l
 use Rattle.std.proofs.lemmas.List.{get_or-set_same, get_or-set_other, length-set}
 use Rattle.listed.specs.Sets.{is_member, members}
 use Rattle.trace_text.specs.declared.found.Found.{Found}
-use Rattle.trace_text.specs.Found.{HasRoom, SameSizes, is_found}
+use Rattle.trace_text.specs.Found.{PositionsHaveRoom, SameSizes, is_found}
 use Rattle.trace_text.proofs.FirstMembers.{no_member}
 
 pub same_sizes : (f : Found) → SameSizes f f
@@ -19,7 +19,7 @@ sizes_kept f g h one other = record {
   gates = other.gates ∙ one.gates;
 }
 
-pub room_kept : (f g : Found) → HasRoom f → SameSizes f g → HasRoom g
+pub room_kept : (f g : Found) → PositionsHaveRoom f → SameSizes f g → PositionsHaveRoom g
 room_kept f g room same =
     let positions = same.positions in
     let actions = same.actions in
@@ -72,7 +72,7 @@ module _ (old new : Found) (y : ℕ) (low : y < length old.actions) (positions :
         found_gate new x (omega arith) ∙ (same_gates x ∙ (sym (found_gate old x ge) ∙ sym (or_other (is_found old x) y x other)))
 
 -- one gate more, or one fewer
-module _ (old new : Found) (y : ℕ) (mark : Bool) (room : HasRoom old) (high : length old.actions ≤ y) (within : y < old.positions)
+module _ (old new : Found) (y : ℕ) (mark : Bool) (room : PositionsHaveRoom old) (high : length old.actions ≤ y) (within : y < old.positions)
     (positions : new.positions ≡ old.positions) (actions : new.actions ≡ old.actions) (gates : new.gates ≡ set old.gates (old.positions - y - 1) mark) where
   pub gate_sizes : SameSizes old new
   gate_sizes = record { positions = positions; actions = ap length actions; gates = ap length gates ∙ length-set old.gates (old.positions - y - 1) mark }
@@ -106,7 +106,7 @@ module _ (old new : Found) (y : ℕ) (mark : Bool) (room : HasRoom old) (high : 
     on true t = kept_action x (ltb-true x (length old.actions) t)
     on false t = kept_gate x (ltb-false x (length old.actions) t) lt other
 
-pub with_gate : (old new : Found) (y : ℕ) → HasRoom old → length old.actions ≤ y → y < old.positions → new.positions ≡ old.positions
+pub with_gate : (old new : Found) (y : ℕ) → PositionsHaveRoom old → length old.actions ≤ y → y < old.positions → new.positions ≡ old.positions
     → new.actions ≡ old.actions → new.gates ≡ set old.gates (old.positions - y - 1) true → (x : ℕ) → x < old.positions
     → is_found new x ≡ (is_found old x || y == x)
 with_gate old new y room high within positions actions gates x lt = on (cases_eq y x) where
@@ -115,7 +115,7 @@ with_gate old new y room high within positions actions gates x lt = on (cases_eq
   on (inr other) = not_at_gate old new y true room high within positions actions gates x lt other ∙ sym (or_other (is_found old x) y x other)
 
 -- a gate is gone through: its number counts from the last
-pub without_gate : (old new : Found) (gate : ℕ) → HasRoom old → 0 < gate → gate ≤ length old.gates → new.positions ≡ old.positions
+pub without_gate : (old new : Found) (gate : ℕ) → PositionsHaveRoom old → 0 < gate → gate ≤ length old.gates → new.positions ≡ old.positions
     → new.actions ≡ old.actions → new.gates ≡ set old.gates (gate - 1) false → (x : ℕ) → x < old.positions
     → is_found new x ≡ (is_found old x && not (x == old.positions - gate))
 without_gate old new gate room low high positions actions gates x lt = on (cases_eq (old.positions - gate) x) where
@@ -134,7 +134,7 @@ without_gate old new gate room low high positions actions gates x lt = on (cases
       rw t (not_at_gate old new (old.positions - gate) false room (omega arith) (omega arith) positions actions here x lt other ∙ sym (and-true (is_found old x)))
 
 -- where no member is left, nothing is found
-pub nothing_found : (f : Found) → HasRoom f → members f.actions ≡ [] → members f.gates ≡ [] → (x : ℕ) → x < f.positions → is_found f x ≡ false
+pub nothing_found : (f : Found) → PositionsHaveRoom f → members f.actions ≡ [] → members f.gates ≡ [] → (x : ℕ) → x < f.positions → is_found f x ≡ false
 nothing_found f room no_action no_gate x lt = on (nat_lt x (length f.actions)) refl where
   on : (b : Bool) → nat_lt x (length f.actions) ≡ b → is_found f x ≡ false
   on true t =
@@ -144,11 +144,11 @@ nothing_found f room no_action no_gate x lt = on (nat_lt x (length f.actions)) r
       let high = ltb-false x (length f.actions) t in
       found_gate f x high ∙ no_member f.gates (f.positions - x) no_gate (omega arith) (omega arith)
 
-pub no_gate_found : (f : Found) → HasRoom f → members f.gates ≡ [] → (x : ℕ) → length f.actions ≤ x → x < f.positions → is_found f x ≡ false
+pub no_gate_found : (f : Found) → PositionsHaveRoom f → members f.gates ≡ [] → (x : ℕ) → length f.actions ≤ x → x < f.positions → is_found f x ≡ false
 no_gate_found f room no_gate x high lt = found_gate f x high ∙ no_member f.gates (f.positions - x) no_gate (omega arith) (omega arith)
 
 -- the position of a gate
-pub gate_found : (f : Found) (gate : ℕ) → HasRoom f → 0 < gate → gate ≤ length f.gates → is_found f (f.positions - gate) ≡ is_member f.gates gate
+pub gate_found : (f : Found) (gate : ℕ) → PositionsHaveRoom f → 0 < gate → gate ≤ length f.gates → is_found f (f.positions - gate) ≡ is_member f.gates gate
 gate_found f gate room low high =
     let back : f.positions - (f.positions - gate) ≡ gate = omega arith in
     let same : is_member f.gates (f.positions - (f.positions - gate)) ≡ is_member f.gates gate = rw back refl in

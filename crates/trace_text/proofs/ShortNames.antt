@@ -13,7 +13,7 @@ use Rattle.cluster_types.specs.declared.placement.NoReason.TheVariants.{NoCopies
 use Rattle.cluster_types.specs.Valid.{IsValid}
 use Rattle.crm_lex.specs.Names.{is_name, is_name_byte}
 use Rattle.lemmas.proofs.Booleans.{sooner, later}
-use Rattle.trace_text.specs.RunLines.{HasShortNames, IsNamed}
+use Rattle.trace_text.specs.RunLines.{HasShortNames, IsReasonNamed}
 
 pub short_name : (word : List ℕ) → is_name word ≡ true → length word ≤ 256
 short_name word h =
@@ -37,7 +37,7 @@ valid_has_short_names c valid = record {
 }
 
 -- a reason of which each rule that it could name has a name
-pub named_reason : (reason : NoReason) → ((id : List ℕ) → reason ≡ Held id → is_name id ≡ true) → IsNamed reason
+pub named_reason : (reason : NoReason) → ((id : List ℕ) → reason ≡ Held id → is_name id ≡ true) → IsReasonNamed reason
 named_reason (Held id) h = h id refl
 named_reason NoCopies h = tt
 named_reason Stopped h = tt

@@ -8,13 +8,13 @@ use Rattle.cluster_types.proofs.Walks.{numbered}
 use Rattle.listed.specs.Sets.{is_member, members}
 use Rattle.trace_text.specs.declared.found.Found.{Found}
 use Rattle.trace_text.specs.Backward.{IsOnTheWay}
-use Rattle.trace_text.specs.Found.{HasRoom, is_found}
+use Rattle.trace_text.specs.Found.{PositionsHaveRoom, is_found}
 use Rattle.trace_text.specs.Walk.{befores}
 use Rattle.trace_text.proofs.Backward.{found_leads}
 use Rattle.trace_text.proofs.Places.{found_action, no_gate_found}
 
 module _ (g : GraphOf) (graph : IsGraph g) (y : ℕ) (from_one : 0 < y) (to_count : y ≤ length g.actions) (f : Found) (positions : f.positions ≡ g.edges.positions)
-    (actions : length f.actions ≡ length g.actions) (room : HasRoom f) (none : members f.gates ≡ [])
+    (actions : length f.actions ≡ length g.actions) (room : PositionsHaveRoom f) (none : members f.gates ≡ [])
     (way : IsOnTheWay (length g.actions) g.edges.positions g.edges.list (y - 1) (is_found f)) where
   found_before : (k : ℕ) → 0 < k → k ≤ length g.actions → is_found f (k - 1) ≡ is_before g k y
   found_before k low high =

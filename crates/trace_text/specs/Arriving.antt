@@ -1,8 +1,8 @@
 -- The edges of a graph by where they lead: the last edge to each position, and from each edge the last before it to the same position (rule of this
 -- project).
 use Rattle.std.specs.Prelude.{◌≡◌, ◌<◌, ℕ, suc, zero, ◌==◌, Bool, if◌then◌else◌, List, length, slice_index_or}
-use Rattle.cluster_types.specs.declared.edges.Edge.{Edge}
-use Rattle.cluster_types.specs.Walks.{no_edge}
+use Rattle.edges.specs.declared.edge.Edge.{Edge}
+use Rattle.edges.specs.Rows.{no_edge}
 
 -- the edge at a place leads to a position
 abbrev pub leads_to : List Edge → ℕ → ℕ → Bool

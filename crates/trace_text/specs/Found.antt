@@ -8,8 +8,8 @@ abbrev pub is_found : Found → ℕ → Bool
 is_found f x = if nat_lt x (length f.actions) then is_member f.actions (x + 1) else is_member f.gates (f.positions - x)
 
 -- each position has its place
-abbrev pub HasRoom : Found → Type 0
-HasRoom f = f.positions ≡ length f.actions + length f.gates
+abbrev pub PositionsHaveRoom : Found → Type 0
+PositionsHaveRoom f = f.positions ≡ length f.actions + length f.gates
 
 -- there are as many actions and gates as before
 pub record SameSizes (old new : Found) : Type 0 where

@@ -4,8 +4,8 @@ use Rattle.std.specs.List.{flat_map}
 use Rattle.cluster_types.specs.declared.cluster.Cluster.{Cluster}
 use Rattle.cluster_types.specs.Tables.{targets_of}
 use Rattle.cluster_types.specs.Texts.{node_name, run_line, target_lines}
-use Rattle.planner.specs.declared.report.Loss.{Loss}
-use Rattle.planner.specs.declared.report.Report.{Report}
+use Rattle.cluster_types.specs.declared.report.Loss.{Loss}
+use Rattle.cluster_types.specs.declared.report.Report.{Report}
 
 -- `loss NODE`, and the target lines once that node is lost
 abbrev pub loss_lines : Cluster → Loss → List ℕ

@@ -12,16 +12,16 @@ use Rattle.trace_text.specs.declared.run_line_ref.RunLineRef.{RunLineRef}
 use Rattle.trace_text.specs.declared.run_line_ref.RunLineRef.TheVariants as lent
 
 -- the line that is lent
-abbrev pub line_of : RunLineRef → RunLine
-line_of (lent.Transition k) = line.Transition k
-line_of (lent.Pinned r pin) = line.Pinned r pin
-line_of (lent.Goal r n target) = line.Goal r n target
-line_of (lent.Lacking r reason) = line.Lacking r reason.now
-line_of (lent.Begin k action) = line.Begin k action
-line_of (lent.Taken given) = line.Taken given
-line_of (lent.Complete k) = line.Complete k
-line_of (lent.Aborted k) = line.Aborted k
-line_of (lent.Unexpected l) = line.Unexpected l
+abbrev pub lent_line : RunLineRef → RunLine
+lent_line (lent.Transition k) = line.Transition k
+lent_line (lent.Pinned r pin) = line.Pinned r pin
+lent_line (lent.Goal r n target) = line.Goal r n target
+lent_line (lent.Lacking r reason) = line.Lacking r reason.now
+lent_line (lent.Begin k action) = line.Begin k action
+lent_line (lent.Taken given) = line.Taken given
+lent_line (lent.Complete k) = line.Complete k
+lent_line (lent.Aborted k) = line.Aborted k
+lent_line (lent.Unexpected l) = line.Unexpected l
 
 -- each name of a node or a leaf has at most 256 bytes, as in each valid cluster
 pub record HasShortNames (c : Cluster) : Type 0 where
@@ -29,11 +29,11 @@ pub record HasShortNames (c : Cluster) : Type 0 where
   pub leaves : (r : ℕ) → length (leaf_name c r) ≤ 256
 
 -- the rule that holds a leaf back, if one does, has a name
-abbrev pub IsNamed : NoReason → Type 0
-IsNamed (Held id) = is_name id ≡ true
-IsNamed _ = Unit {0}
+abbrev pub IsReasonNamed : NoReason → Type 0
+IsReasonNamed (Held id) = is_name id ≡ true
+IsReasonNamed _ = Unit {0}
 
 -- what the line says to hold a leaf back, if it does, has a name
 abbrev pub HasName : RunLineRef → Type 0
-HasName (lent.Lacking r reason) = IsNamed reason.now
+HasName (lent.Lacking r reason) = IsReasonNamed reason.now
 HasName _ = Unit {0}

@@ -1,5 +1,5 @@
 ghost use Rattle.std.specs.Prelude.{IfOk, length};
-ghost use Rattle.cluster_types.specs.Graphs.{EndWithin};
+ghost use Rattle.edges.specs.Loops.{EndsWithin};
 ghost use Rattle.trace_text.specs.Arriving.{AreLinked};
 
 use cluster_types::Edge;
@@ -17,7 +17,7 @@ pub struct Arriving {
 impl Arriving {
     /// Links the edges between so many positions, in one pass.
     pub fn new(alloc: Global, positions: u32, edges: &[Edge]) -> Result<Arriving, AllocError>
-        requires { EndWithin positions edges.now }
+        requires { EndsWithin positions edges.now }
         ensures { IfOk result (λ links. AreLinked positions edges.now (length edges.now) links.last.items links.earlier.items) }
     {
         let mut last: Vec<usize> = vec![in alloc; 0; positions as usize]?;

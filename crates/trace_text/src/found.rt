@@ -1,11 +1,12 @@
 ghost use Rattle.std.specs.Prelude.{◌≡◌, ◌≤◌, ◌<◌, ◌+◌, ◌-◌, ◌==◌, ◌||◌, ◌&&◌, ℕ, [], not, false, length, IfOk, replicate, slice_index_or};
 ghost use Rattle.std.specs.List.{list_any};
-ghost use Rattle.cluster_types.specs.declared.edges.Edge.{Edge as EdgeOf};
-ghost use Rattle.cluster_types.specs.Graphs.{EndWithin, LeadUpward, Leads};
+ghost use Rattle.edges.specs.declared.edge.Edge.{Edge as EdgeOf};
+ghost use Rattle.cluster_types.specs.Graphs.{LeadUpward, LeadsByGates};
+ghost use Rattle.edges.specs.Loops.{EndsWithin};
 ghost use Rattle.cluster_types.specs.Walks.{joins};
 ghost use Rattle.listed.specs.Sets.{members};
 ghost use Rattle.trace_text.specs.Arriving.{AreLinked};
-ghost use Rattle.trace_text.specs.Found.{HasRoom, SameSizes, is_found};
+ghost use Rattle.trace_text.specs.Found.{PositionsHaveRoom, SameSizes, is_found};
 ghost use Rattle.trace_text.specs.Backward.{IsOnTheWay};
 
 use crate::arriving::Arriving;
@@ -53,7 +54,7 @@ impl Found {
 
     /// Finds the position, which may have been found.
     fn add(&mut self, position: u32)
-        requires room { HasRoom self.old }
+        requires room { PositionsHaveRoom self.old }
         requires within { position < self.old.positions }
         ensures sizes { SameSizes self.old self.new }
         ensures found { (x : ℕ) → x < self.old.positions → is_found self.new x ≡ (is_found self.old x || position == x) }
@@ -67,9 +68,9 @@ impl Found {
 
     /// Finds all positions from which an edge leads to this one.
     fn add_sources(&mut self, edges: &[Edge], links: &Arriving, position: u32)
-        requires room { HasRoom self.old }
+        requires room { PositionsHaveRoom self.old }
         requires within { position < self.old.positions }
-        requires ends { EndWithin self.old.positions edges.now }
+        requires ends { EndsWithin self.old.positions edges.now }
         requires linked { AreLinked self.old.positions edges.now (length edges.now) links.now.last.items links.now.earlier.items }
         ensures sizes { SameSizes self.old self.new }
         ensures found { (x : ℕ) → x < self.old.positions → is_found self.new x ≡ (is_found self.old x || list_any (joins x position) edges.now) }
@@ -84,10 +85,10 @@ impl Found {
 
     /// Goes back through a gate that was found: in its place all is found from which an edge leads to it.
     fn pass(&mut self, edges: &[Edge], links: &Arriving, gate: u32)
-        requires room { HasRoom self.old }
+        requires room { PositionsHaveRoom self.old }
         requires from_one { 0 < gate }
         requires to_most { gate ≤ length self.old.gates }
-        requires ends { EndWithin self.old.positions edges.now }
+        requires ends { EndsWithin self.old.positions edges.now }
         requires linked { AreLinked self.old.positions edges.now (length edges.now) links.now.last.items links.now.earlier.items }
         ensures sizes { SameSizes self.old self.new }
         ensures found { (x : ℕ) → x < self.old.positions → is_found self.new x
@@ -99,8 +100,8 @@ impl Found {
 
     /// Goes back through all gates that were found, from the last one on, so that no gate is gone through twice.
     fn pass_all(&mut self, edges: &[Edge], links: &Arriving)
-        requires room { HasRoom self.old }
-        requires ends { EndWithin self.old.positions edges.now }
+        requires room { PositionsHaveRoom self.old }
+        requires ends { EndsWithin self.old.positions edges.now }
         requires upward { LeadUpward (length self.old.actions) edges.now }
         requires linked { AreLinked self.old.positions edges.now (length edges.now) links.now.last.items links.now.earlier.items }
         ensures sizes { SameSizes self.old self.new }
@@ -115,10 +116,10 @@ impl Found {
 
     /// Finds, in place of what was found, the actions from which the edges lead to the position, directly or through gates alone.
     pub fn walk_to(&mut self, edges: &[Edge], links: &Arriving, position: u32)
-        requires room { HasRoom self.old }
+        requires room { PositionsHaveRoom self.old }
         requires within { position < self.old.positions }
         requires none { members self.old.gates ≡ [] }
-        requires ends { EndWithin self.old.positions edges.now }
+        requires ends { EndsWithin self.old.positions edges.now }
         requires upward { LeadUpward (length self.old.actions) edges.now }
         requires linked { AreLinked self.old.positions edges.now (length edges.now) links.now.last.items links.now.earlier.items }
         ensures sizes { SameSizes self.old self.new }

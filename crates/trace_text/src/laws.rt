@@ -6,7 +6,7 @@ ghost use Rattle.cluster_types.specs.declared.placement.NoReason.{NoReason as No
 ghost use Rattle.cluster_types.specs.declared.placement.NoReason.TheVariants.{Held};
 ghost use Rattle.cluster_types.specs.Valid.{IsValid};
 ghost use Rattle.crm_lex.specs.Names.{is_name};
-ghost use Rattle.trace_text.specs.RunLines.{HasShortNames, IsNamed};
+ghost use Rattle.trace_text.specs.RunLines.{HasShortNames, IsReasonNamed};
 
 /// The names of a valid cluster are short enough for `write_line`.
 pub fn valid_clusters_have_short_names()
@@ -15,5 +15,5 @@ pub fn valid_clusters_have_short_names()
 
 /// A reason may be written by `write_line` where each rule that it could be has a name.
 pub fn reasons_with_names_are_named()
-    ensures { (reason : NoReasonOf) → ((id : List ℕ) → reason ≡ Held id → is_name id ≡ true) → IsNamed reason }
+    ensures { (reason : NoReasonOf) → ((id : List ℕ) → reason ≡ Held id → is_name id ≡ true) → IsReasonNamed reason }
 {}

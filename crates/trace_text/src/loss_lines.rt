@@ -6,9 +6,8 @@ ghost use Rattle.trace_text.specs.Losses as losses;
 
 use crate::names::node_name;
 use crate::target_lines::push_targets;
-use cluster_types::Cluster;
+use cluster_types::{Cluster, Loss, Report};
 use faults::NoMemory;
-use planner::{Loss, Report};
 use std::alloc::Global;
 
 /// The node that is lost, and the target lines then.

@@ -4,7 +4,7 @@ ghost use Rattle.std.specs.Prelude.{◌≡◌, ◌<◌, ◌≤◌, ◌+◌, ◌+
 ghost use Rattle.cluster_types.specs.Fields.{leaf_name};
 ghost use Rattle.cluster_types.specs.Texts as texts;
 ghost use Rattle.crm_lex.specs.Names.{is_name};
-ghost use Rattle.trace_text.specs.RunLines.{HasName, HasShortNames, IsNamed, line_of};
+ghost use Rattle.trace_text.specs.RunLines.{HasName, HasShortNames, IsReasonNamed, lent_line};
 
 use crate::action_words::op_word;
 use crate::line_buf::LineBuf;
@@ -253,7 +253,7 @@ fn put_held(text: &mut LineBuf, id: &Name)
 /// Why a leaf has no target.
 fn put_lacking(text: &mut LineBuf, cluster: &Cluster, leaf: LeafId, reason: &NoReason)
     requires names { HasShortNames cluster.now }
-    requires named { IsNamed reason.now }
+    requires named { IsReasonNamed reason.now }
     requires room { length text.old ≤ 100 }
     ensures written { text.new
         ≡ text.old
@@ -290,7 +290,7 @@ fn put_words(text: &mut LineBuf, cluster: &Cluster, what: &RunLineRef<'_>)
     requires names { HasShortNames cluster.now }
     requires named { HasName what.now }
     requires room { length text.old ≤ 30 }
-    ensures written { text.new ++ codes "\n" ≡ text.old ++ texts.run_line cluster.now (line_of what.now) }
+    ensures written { text.new ++ codes "\n" ≡ text.old ++ texts.run_line cluster.now (lent_line what.now) }
     ensures size { length text.new ≤ length text.old + 900 }
 {
     match *what {
@@ -316,7 +316,7 @@ pub fn write_line(cluster: &Cluster, line: &RunLineRef<'_>, buf: &mut [u8; 1024]
     requires names { HasShortNames cluster.now }
     requires reason { HasName line.now }
     ensures length { result < 1024 }
-    ensures text { take result buf.new ≡ texts.run_line cluster.now (line_of line.now) }
+    ensures text { take result buf.new ≡ texts.run_line cluster.now (lent_line line.now) }
 {
     let mut text = LineBuf::new();
     put_words(&mut text, cluster, line);

@@ -6,7 +6,7 @@ ghost use Rattle.cluster_types.specs.declared.cluster.Cluster.{Cluster as Cluste
 ghost use Rattle.cluster_types.specs.declared.run.RunLine.TheVariants as line;
 ghost use Rattle.cluster_types.specs.Texts as texts;
 ghost use Rattle.cluster_types.specs.Valid.{KeepsLimits};
-ghost use Rattle.trace_text.specs.RunLines.{HasName, HasShortNames, line_of};
+ghost use Rattle.trace_text.specs.RunLines.{HasName, HasShortNames, lent_line};
 
 use crate::run_line_ref::RunLineRef;
 use crate::run_lines::write_line;
@@ -22,7 +22,7 @@ fn push_run_line(
 ) -> Result<(), NoMemory>
     requires names { HasShortNames cluster.now }
     requires reason { HasName line.now }
-    ensures { OnOk result (text.new.items ≡ text.old.items ++ texts.run_line cluster.now (line_of line.now)) }
+    ensures { OnOk result (text.new.items ≡ text.old.items ++ texts.run_line cluster.now (lent_line line.now)) }
 {
     let mut buf = [0; 1024];
     let length = write_line(cluster, line, &mut buf);
@@ -59,7 +59,7 @@ fn answer_of_end(number: u32, action: Action, code: u8) -> Answer
 /// The line of an event, if it has one. What is gone with its node has none.
 fn line_of_event(event: Event) -> Option<RunLineRef<'static>>
     ensures lines { MatchOption result (texts.event_lines event ≡ [])
-        (λ lent. texts.event_lines event ≡ line_of lent ∷ []) }
+        (λ lent. texts.event_lines event ≡ lent_line lent ∷ []) }
     ensures named { IfSome result (λ lent. HasName lent) }
 {
     let answer = match event {

@@ -21,13 +21,13 @@ pub struct Predecessors<'g> {
 
 impl<'g> Model for Predecessors<'g> {
     ghost use Rattle.listed.specs.Sets.{members};
-    ghost use Rattle.trace_text.specs.Walk.{Rests, Walk};
+    ghost use Rattle.trace_text.specs.Walk.{WalkRests, Walk};
 
     ghost Value = { Walk };
 
     ghost view = { λ p. record { graph = p.graph.now; left = members p.found.actions } };
 
-    ghost invariant = { λ p. Rests p.graph.now p.links.last.items p.links.earlier.items p.found };
+    ghost invariant = { λ p. WalkRests p.graph.now p.links.last.items p.links.earlier.items p.found };
 }
 
 impl<'g> Predecessors<'g> {

@@ -1,7 +1,7 @@
 use Rattle.std.proofs.Common.{arith, get_or, ◌∙◌, true, refl}
 use Rattle.std.proofs.lemmas.List.{length-set}
 use Rattle.std.proofs.lemmas.List.Elements.{Contains-get_or}
-use Rattle.cluster_types.specs.declared.edges.Edge.{Edge}
+use Rattle.edges.specs.declared.edge.Edge.{Edge}
 use Rattle.cluster_types.proofs.Walks.{marked_more}
 use Rattle.cluster_types.proofs.befores.mark_sources.Goals as goal
 

@@ -1,5 +1,5 @@
 use Rattle.std.proofs.Common.{◌≡◌, ◌*◌, length, ◌∙◌}
-use Rattle.loops.specs.Loops.{ClosesFirst, HasNoLoop}
+use Rattle.edges.specs.Loops.{ClosesFirst, HasNoLoop}
 use Rattle.loops.specs.Edges.{step_edges}
 use Rattle.loops.proofs.FirstOrders.{first_order}
 use Rattle.loops.proofs.LinkLoops.{steps_free, steps_within}

@@ -1,5 +1,5 @@
 use Rattle.std.proofs.Common.{◌≡◌, ◌<◌, ◌*◌, ℕ, length, slice_index_or, ◌∙◌}
-use Rattle.loops.specs.Longest.{longest}
+use Rattle.edges.specs.Longest.{longest}
 use Rattle.loops.specs.Edges.{step_edges}
 use Rattle.loops.proofs.FromValid.{valid_order}
 use Rattle.loops.proofs.LinkLoops.{steps_within}

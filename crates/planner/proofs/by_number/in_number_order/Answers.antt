@@ -1,7 +1,7 @@
 use Rattle.std.proofs.Common.{rules, ◌≡◌, ◌<◌, All, IfSome, length, subst, sym}
 use Rattle.std.specs.List.Sorted.{IsPermutation}
 use Rattle.std.proofs.lemmas.Fn.{always_returns_same}
-use Rattle.cluster_types.specs.Numbers.{place_of}
+use Rattle.cluster_types.specs.Numbers.{action_place}
 use Rattle.planner.specs.Flags.{send_if}
 use Rattle.planner.proofs.ValidRules.{sent_leaves}
 use Rattle.loops.specs.Ranks.{AreMigrating}
@@ -27,4 +27,4 @@ returns-clause-in_order c =
     let flagged : AreMigrating xs c.as_slice-flags.result.now = search rules in
     let flags = still_migrating xs ys c.as_slice-flags.result.now moved flagged in
     in_order c.args.cluster.now c.requires.valid xs ys c.requires.planned moved
-    (c.in_ok-sort_by_cached_key.ensures.sorted (place_of c.args.cluster.now ys) (always_returns_same _ _ _ (λ a r f' k. search rules)))
+    (c.in_ok-sort_by_cached_key.ensures.sorted (action_place c.args.cluster.now ys) (always_returns_same _ _ _ (λ a r f' k. search rules)))

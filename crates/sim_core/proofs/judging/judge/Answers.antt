@@ -1,5 +1,5 @@
 use Rattle.std.proofs.Common.{arith, ◌≡◌, ◌≤◌, ◌-◌, length, inr, sym, subst, ap, ◌∙◌}
-use Rattle.sim_core.specs.TextLines.{kind_in}
+use Rattle.sim_core.specs.TextLines.{line_kind_in}
 use Rattle.sim_core.proofs.AuditDues.{due_is}
 use Rattle.sim_core.proofs.judging.judge.Goals as goal
 
@@ -23,6 +23,6 @@ returns c =
         apart = a.most (grind arith);
         place_is = c.ended_in-place.ensures;
         enough = subst (λ t. 2 ≤ length t) due enough;
-        kind_is = kind ∙ ap kind_in due;
+        kind_is = kind ∙ ap line_kind_in due;
       });
     }

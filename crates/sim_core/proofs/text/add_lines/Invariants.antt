@@ -1,7 +1,7 @@
 use Rattle.std.proofs.Common.{◌≡◌, ◌++◌, take}
 use Rattle.std.specs.List.{flat_map}
 use Rattle.cluster_types.specs.Texts.{run_line}
-use Rattle.input_reading.specs.declared.text.RunTextLine.{RunTextLine}
+use Rattle.input_reading.specs.declared.run.text.RunTextLine.{RunTextLine}
 use Rattle.sim_core.proofs.text.add_lines.Given as goal
 
 abbrev pub invariant-loop-line : goal.invariant-loop-line

@@ -1,9 +1,9 @@
 use Rattle.std.proofs.Common.{ℕ, ◌==◌, ◌&&◌, nat_lt}
-use Rattle.state_unpack.specs.Kept.{IsFull, Tells}
+use Rattle.state_unpack.specs.Kept.{IsFull, TellsEvent}
 use Rattle.state_unpack.proofs.telling.tell_node.Given as goal
 
 abbrev pub invariant-loop-leaf : goal.invariant-loop-leaf
 invariant-loop-leaf l = record {
   full : IsFull l.cluster l.cells.items;
-  told : Tells l.cluster l.event (λ (r n : ℕ). nat_lt r l.leaf && l.node == n) l.fn.cells.items l.cells.items;
+  told : TellsEvent l.cluster l.event (λ (r n : ℕ). nat_lt r l.leaf && l.node == n) l.fn.cells.items l.cells.items;
 }

@@ -1,9 +1,9 @@
 use Rattle.std.proofs.Common.{ℕ, List, ◌++◌, ◌∙◌, ap}
 use Rattle.cluster_types.specs.Texts.{run_line}
-use Rattle.trace_text.specs.RunLines.{line_of}
+use Rattle.trace_text.specs.RunLines.{lent_line}
 use Rattle.trace_text.proofs.run_lines.write_line.Goals as goal
 
 pub returns-clause-text : goal.returns-clause-text
 returns-clause-text c =
     c.copy_to.ensures.text ∙ c.put.ensures.text ∙ c.put_words.ensures.written
-    ∙ ap (λ (t : List ℕ). t ++ run_line c.args.cluster.now (line_of c.args.line.now)) c.new-text.ensures.text
+    ∙ ap (λ (t : List ℕ). t ++ run_line c.args.cluster.now (lent_line c.args.line.now)) c.new-text.ensures.text

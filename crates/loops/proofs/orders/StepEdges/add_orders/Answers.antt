@@ -1,6 +1,6 @@
 use Rattle.std.proofs.Common.{arith, ◌≡◌, ◌+◌, length, ap}
 use Rattle.loops.specs.Edges.{step_edges}
-use Rattle.loops.specs.FirstLoops.{with_orders}
+use Rattle.loops.specs.FirstLoops.{with_first_orders}
 use Rattle.loops.proofs.LinkEdges.{end_then, order_then}
 use Rattle.lemmas.proofs.Members.{read_there}
 use Rattle.loops.proofs.orders.StepEdges.add_orders.Goals as goal
@@ -19,7 +19,7 @@ add_order-requires-clause-later c =
 
 pub loop-order-preserved : goal.loop-order-preserved
 loop-order-preserved c =
-    let now : c.add_order.new.self.edges.items ≡ step_edges (with_orders c.args.cluster.now (c.loop-order.order-index + 1))
+    let now : c.add_order.new.self.edges.items ≡ step_edges (with_first_orders c.args.cluster.now (c.loop-order.order-index + 1))
     = order_then c.args.cluster.now c.loop-order.order-index c.order-item.result _ _
     (rw c.as_slice-order-items.ensures at c.loop-order-test.true)
     (rw c.as_slice-order-items.ensures at c.order-item.is) c.loop-order.invariant.edges c.in_ok-add_order.ensures.edges in

@@ -2,7 +2,8 @@ use Rattle.std.proofs.Common.{arith, ◌≡◌, ◌<◌, ◌-◌, ◌||◌, leng
 use Rattle.std.specs.List.{list_any}
 use Rattle.std.proofs.lemmas.List.{get_or_read, take_all}
 use Rattle.std.proofs.lemmas.List.Elements.{Contains-get_or}
-use Rattle.cluster_types.specs.Walks.{joins, no_edge}
+use Rattle.cluster_types.specs.Walks.{joins}
+use Rattle.edges.specs.Rows.{no_edge}
 use Rattle.trace_text.specs.Arriving.{last_to}
 use Rattle.trace_text.specs.Found.{is_found}
 use Rattle.trace_text.proofs.Linked.{IsLast, joined_on, last_known}

@@ -1,6 +1,7 @@
 use Rattle.std.proofs.Common.{◌≡◌, ◌<◌, ◌≤◌, ◌-◌, ◌||◌, ℕ, length, take, get_or}
 use Rattle.std.specs.List.{list_any}
-use Rattle.cluster_types.specs.Walks.{joins, no_edge}
+use Rattle.cluster_types.specs.Walks.{joins}
+use Rattle.edges.specs.Rows.{no_edge}
 use Rattle.trace_text.specs.Found.{SameSizes, is_found}
 use Rattle.trace_text.proofs.found.Found.add_sources.Given as goal
 

@@ -1,6 +1,6 @@
 use Rattle.std.proofs.Common.{arith, ◌≡◌, length, sym, ◌∙◌}
 use Rattle.trace_text.specs.declared.found.Found.{Found}
-use Rattle.trace_text.specs.Found.{HasRoom, is_found}
+use Rattle.trace_text.specs.Found.{PositionsHaveRoom, is_found}
 use Rattle.trace_text.proofs.NextGate.{of_sizes, way_begun}
 use Rattle.trace_text.proofs.found.Found.walk_to.Goals as goal
 
@@ -11,7 +11,7 @@ returns-clause-way c =
     let found = c.add_sources.new.self in
     let sizes = c.add_sources.ensures.sizes in
     let actions : length cleared.actions ≡ length old.actions = c.clear.ensures.size in
-    let room : HasRoom cleared = omega (arith, c.requires.room, actions) in
+    let room : PositionsHaveRoom cleared = omega (arith, c.requires.room, actions) in
     let begun = way_begun cleared found c.args.edges.now c.args.position room c.requires.ends c.clear.ensures.none c.requires.none c.add_sources.ensures.found in
     let same : length found.actions ≡ length old.actions = sizes.actions ∙ actions in
     of_sizes (length found.actions) (length old.actions) found.positions old.positions c.args.edges.now c.args.position (is_found c.pass_all.new.self) same

@@ -1,6 +1,6 @@
 use Rattle.std.proofs.Common.{arith, ◌≡◌, ◌∙◌, ap, [], length, refl}
 use Rattle.std.proofs.lemmas.List.{length-replicate}
-use Rattle.cluster_types.specs.declared.edges.Edges.{Edges}
+use Rattle.cluster_types.specs.declared.graph_edges.Edges.{Edges}
 use Rattle.listed.specs.Sets.{members}
 use Rattle.trace_text.proofs.FirstMembers.{nothing_in}
 use Rattle.trace_text.proofs.walk.Predecessors.made.Goals as goal

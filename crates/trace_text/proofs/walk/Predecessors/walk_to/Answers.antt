@@ -1,7 +1,7 @@
 use Rattle.std.proofs.Common.{◌≡◌, ◌-◌, ◌∙◌, ap, subst, List, length, refl}
-use Rattle.cluster_types.specs.declared.edges.Edge.{Edge}
-use Rattle.cluster_types.specs.declared.edges.Edges.{Edges}
-use Rattle.cluster_types.specs.Graphs.{EndWithin}
+use Rattle.edges.specs.declared.edge.Edge.{Edge}
+use Rattle.cluster_types.specs.declared.graph_edges.Edges.{Edges}
+use Rattle.edges.specs.Loops.{EndsWithin}
 use Rattle.listed.specs.Sets.{members}
 use Rattle.trace_text.specs.Backward.{IsOnTheWay}
 use Rattle.trace_text.specs.Found.{is_found}
@@ -14,7 +14,7 @@ use Rattle.trace_text.proofs.walk.Predecessors.walk_to.Goals as goal
 pub walk_to-requires-clause-ends : goal.walk_to-requires-clause-ends
 walk_to-requires-clause-ends c =
     let list : c.as_slice-edges.result.now ≡ c.self.inside.graph.now.edges.list = c.as_slice-edges.ensures ∙ ap (λ (e : Edges). e.list) c.edges.ensures.edges in
-    let ends : EndWithin c.self.inside.found.positions c.as_slice-edges.result.now = rw (list, c.self.invariant.positions) c.self.invariant.graph.within in
+    let ends : EndsWithin c.self.inside.found.positions c.as_slice-edges.result.now = rw (list, c.self.invariant.positions) c.self.invariant.graph.within in
     ends
 
 pub returns : goal.returns

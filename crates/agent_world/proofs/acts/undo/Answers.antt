@@ -1,4 +1,0 @@
-use Rattle.agent_world.proofs.acts.undo.Goals as goal
-
-pub returns-in-MigrateTo-clause-held : goal.returns-in-MigrateTo-clause-held
-returns-in-MigrateTo-clause-held c = rw c.in-MigrateTo.is c.set_if_found.ensures.held

@@ -1,6 +1,0 @@
-use Rattle.std.proofs.Common.{take}
-use Rattle.agent_world.specs.Firsts.{Hears}
-use Rattle.agent_world.proofs.heard.heard_of.Given as goal
-
-abbrev pub invariant-loop-event : goal.invariant-loop-event
-invariant-loop-event l = Hears l.cluster (take l.event-index l.events) l.heard.items

@@ -1,5 +1,0 @@
-use Rattle.agent_world.proofs.Agreeing.{shown_within}
-use Rattle.agent_world.proofs.laws.worlds_that_agree_run_what_may_run.Goals as goal
-
-pub returns : goal.returns
-returns c = shown_within

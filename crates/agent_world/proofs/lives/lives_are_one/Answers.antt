@@ -1,5 +1,0 @@
-use Rattle.agent_world.proofs.OneLife.{lives_one}
-use Rattle.agent_world.proofs.lives.lives_are_one.Goals as goal
-
-pub returns : goal.returns
-returns c = λ cl number first es w other one two. lives_one cl number first es w other one two

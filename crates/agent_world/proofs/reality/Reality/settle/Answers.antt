@@ -1,8 +1,0 @@
-use Rattle.agent_world.proofs.Showing.{shows_calm}
-use Rattle.agent_world.proofs.reality.Reality.settle.Goals as goal
-
-pub returns-clause-shows : goal.returns-clause-shows
-returns-clause-shows c = λ w shows.
-    let s = c.self.inside in
-    shows_calm s.cluster.now s.nodes.items s.cells.items s.rising s.number s.state s.given w (rw (← c.self.view_is) at shows) c.raise.new.cells.items
-    c.raise.ensures.held

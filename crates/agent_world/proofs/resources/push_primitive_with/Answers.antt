@@ -1,4 +1,0 @@
-use Rattle.agent_world.proofs.resources.push_primitive_with.Goals as goal
-
-pub returns : goal.returns
-returns c = rw c.monitor_words-monitor.ensures at c.writeln.ensures.bytes

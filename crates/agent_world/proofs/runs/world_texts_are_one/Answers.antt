@@ -1,5 +1,0 @@
-use Rattle.agent_world.proofs.OneEnd.{text_one}
-use Rattle.agent_world.proofs.runs.world_texts_are_one.Goals as goal
-
-pub returns : goal.returns
-returns c = λ cl journal number text other none one two. text_one cl journal number none text other one two

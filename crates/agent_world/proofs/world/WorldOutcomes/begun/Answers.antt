@@ -1,9 +1,0 @@
-use Rattle.std.proofs.Common.{refl}
-use Rattle.agent_world.proofs.Agreeing.{begun_agrees}
-use Rattle.agent_world.proofs.world.WorldOutcomes.begun.Goals as goal
-
-pub returns-clause-agrees : goal.returns-clause-agrees
-returns-clause-agrees c = λ d es taken a.
-    let s = c.self.inside in
-    begun_agrees (record { reality = s.reality; since = s.since }) d es taken (rw (← c.self.view_is) at a) (record { reality = c.begin.new.self; since = s.since })
-    (record { same = c.begin.ensures.same; since_stays = refl }) c.args._number c.args.action c.begin.ensures.shows

@@ -1,7 +1,0 @@
-use Rattle.std.proofs.Common.{◌≡◌, drop, map}
-use Rattle.cluster_model.specs.Tables.{with_rows}
-use Rattle.cluster_model.specs.Directories.{ends_of, resources_of}
-use Rattle.cluster_model.proofs.directory.resources_of.Given as goal
-
-abbrev pub invariant-loop-span : goal.invariant-loop-span
-invariant-loop-span l = resources_of l.spans ≡ with_rows l.resources (map (λ span. (span.name, ends_of span)) (drop l.span-index l.spans))

@@ -1,7 +1,0 @@
-use Rattle.std.proofs.Common.{◌≡◌, drop}
-use Rattle.cluster_model.specs.Faults.{kind_in, kinds_of}
-use Rattle.cluster_model.proofs.Rows.{rows_by}
-use Rattle.cluster_model.proofs.kinds.kinds_of.Given as goal
-
-abbrev pub invariant-loop-statement : goal.invariant-loop-statement
-invariant-loop-statement l = kinds_of l.statements ≡ rows_by (λ s. kind_in s.form) l.kinds (drop l.statement-index l.statements)

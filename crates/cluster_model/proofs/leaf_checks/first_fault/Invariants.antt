@@ -1,7 +1,0 @@
-use Rattle.std.proofs.Common.{◌≡◌, drop}
-use Rattle.cluster_model.specs.Faults.{first_fault}
-use Rattle.cluster_model.proofs.leaf_checks.first_fault.Given as goal
-
-abbrev pub invariant-loop-statement : goal.invariant-loop-statement
-invariant-loop-statement l =
-    first_fault l.kinds l.fn.seen l.statements ≡ first_fault l.kinds l.seen (drop l.statement-index l.statements)

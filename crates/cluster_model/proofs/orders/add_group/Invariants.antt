@@ -1,8 +1,0 @@
-use Rattle.std.proofs.Common.{◌≡◌, drop, map, ◌++◌}
-use Rattle.cluster_model.specs.Chains.{pairs_after, successive}
-use Rattle.cluster_model.specs.Orders.{member_order}
-use Rattle.cluster_model.proofs.orders.add_group.Given as goal
-
-abbrev pub invariant-loop-member : goal.invariant-loop-member
-invariant-loop-member l = l.fn.orders ++ map (member_order l.directory l.id) (successive l.members)
-    ≡ l.orders ++ map (member_order l.directory l.id) (pairs_after l.before (drop l.member-index l.others))

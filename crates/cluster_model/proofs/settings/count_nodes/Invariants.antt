@@ -1,6 +1,0 @@
-use Rattle.std.proofs.Common.{◌≡◌, take}
-use Rattle.cluster_model.specs.Settings.{count_nodes}
-use Rattle.cluster_model.proofs.settings.count_nodes.Given as goal
-
-abbrev pub invariant-loop-statement : goal.invariant-loop-statement
-invariant-loop-statement l = l.count ≡ count_nodes (take l.statement-index l.statements)

@@ -1,6 +1,0 @@
-use Rattle.std.proofs.Common.{◌≡◌, drop}
-use Rattle.cluster_model.specs.Settings.{defaults_from, defaults_of}
-use Rattle.cluster_model.proofs.settings.defaults_of.Given as goal
-
-abbrev pub invariant-loop-statement : goal.invariant-loop-statement
-invariant-loop-statement l = defaults_of l.statements ≡ defaults_from l.found (drop l.statement-index l.statements)

@@ -1,6 +1,0 @@
-use Rattle.std.proofs.Common.{◌≡◌, take}
-use Rattle.cluster_model.specs.Spans.{spans_in}
-use Rattle.cluster_model.proofs.spans.spans_in.Given as goal
-
-abbrev pub invariant-loop-statement : goal.invariant-loop-statement
-invariant-loop-statement l = l.spans ≡ spans_in l.numbers l.groups (take l.statement-index l.statements)

@@ -1,0 +1,37 @@
+ghost use Rattle.std.specs.Prelude.{◌≡◌, IfOk};
+ghost use Rattle.faults.specs.Reading.{Gives};
+ghost use Rattle.cluster_model.specs.Expansion.{expansion_of, leaves_with_spans};
+
+use crate::expansion::leaf::leaves_of;
+use crate::expansion::leaf_checks::fault_of;
+use crate::expansion::spans::spans_of;
+use crate::{ExpandFault, Leaves};
+use cluster_types::NoMemory;
+use crm_parse::{Crm, Statement};
+use std::alloc::Global;
+
+fn leaves_with_spans(alloc: Global, statements: &[Statement]) -> Result<Leaves, NoMemory>
+    ensures { IfOk result (λ leaves. leaves ≡ leaves_with_spans statements.now) }
+{
+    let leaves = leaves_of(alloc, statements)?;
+    let spans = spans_of(alloc, leaves.as_slice(), statements)?;
+    Ok(Leaves { leaves, spans })
+}
+
+/// Makes the leaves of a configuration, as `parse` gives it (Pacemaker Explained, "Groups" and "Clones"). Each primitive is one leaf, with
+/// what its own statement, its group, its clone and the defaults say of it.
+///
+/// A fault is that of the first statement that is at fault, at its line: `DuplicateName` where an earlier node has its name, or an earlier
+/// resource or rule its id; `UnknownName` where a member or a child isn't the id of a resource; `NestedTwice` where a member isn't a
+/// primitive, or a child is neither a primitive nor a group; `EmptyGroup` at a group without members; `MemberTwice` where a member or a
+/// child belongs already to this or an earlier group or clone; and `UnsupportedMeta` where the child of a promotable clone is a group.
+/// Where a statement has several causes, the first in this order counts. `NoMemory` comes when memory runs out.
+pub fn expand(alloc: Global, crm: &Crm) -> Result<Leaves, ExpandFault>
+    ensures { Gives (λ leaves. leaves) result (expansion_of crm.now.statements) }
+{
+    let statements = crm.statements.as_slice();
+    if let Some(fault) = fault_of(alloc, statements)? {
+        return Err(fault);
+    }
+    Ok(leaves_with_spans(alloc, statements)?)
+}

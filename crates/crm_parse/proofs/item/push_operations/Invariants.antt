@@ -1,8 +1,0 @@
-use Rattle.std.proofs.Common.{◌≡◌, ◌++◌, take}
-use Rattle.std.specs.List.{flat_map}
-use Rattle.crm_parse.specs.Quoting.{spaced}
-use Rattle.crm_parse.specs.Items.{operation}
-use Rattle.crm_parse.proofs.item.push_operations.Given as goal
-
-abbrev pub invariant-loop-op : goal.invariant-loop-op
-invariant-loop-op l = l.text.items ≡ l.fn.text.items ++ flat_map spaced (flat_map operation (take l.op-index l.ops))

@@ -1,5 +1,0 @@
-use Rattle.crm_parse.proofs.ReadsAgain.{reads-again}
-use Rattle.crm_parse.proofs.laws.what_is_printed_reads_again.Goals as goal
-
-pub returns : goal.returns
-returns c = λ text lines rest crm e p s. reads-again text lines rest crm e p s

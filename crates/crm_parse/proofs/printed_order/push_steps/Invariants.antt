@@ -1,8 +1,0 @@
-use Rattle.std.proofs.Common.{◌≡◌, ◌++◌, take, map}
-use Rattle.std.specs.List.{flat_map}
-use Rattle.crm_parse.specs.Quoting.{spaced}
-use Rattle.crm_parse.specs.Items.{step}
-use Rattle.crm_parse.proofs.printed_order.push_steps.Given as goal
-
-abbrev pub invariant-loop-step : goal.invariant-loop-step
-invariant-loop-step l = l.text.items ≡ l.fn.text.items ++ flat_map spaced (map step (take l.step-index l.steps))

@@ -1,8 +1,0 @@
-use Rattle.std.proofs.Common.{◌≡◌, ◌++◌, take}
-use Rattle.std.specs.List.{flat_map}
-use Rattle.crm_parse.specs.Quoting.{spaced}
-use Rattle.crm_parse.specs.Items.{rule}
-use Rattle.crm_parse.proofs.printed_rule.push_rules.Given as goal
-
-abbrev pub invariant-loop-rule : goal.invariant-loop-rule
-invariant-loop-rule l = l.text.items ≡ l.fn.text.items ++ flat_map spaced (flat_map rule (take l.rule-index l.rules))

@@ -1,0 +1,5 @@
+pub mod WordTexts
+pub mod Quoting
+pub mod Items
+pub mod Text
+pub mod Again

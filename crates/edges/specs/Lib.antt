@@ -1,0 +1,4 @@
+pub mod Loops
+pub mod Clearing
+pub mod Longest
+pub mod Rows

@@ -1,0 +1,48 @@
+-- Loops of a list of edges between positions (rule of this project).
+use Rattle.std.specs.Prelude.{◌≡◌, ◌<◌, ◌+◌, ℕ, suc, zero, ◌==◌, ◌&&◌, ◌||◌, Bool, true, false, List, Option, Some, None, length, take, Contains}
+use Rattle.std.specs.List.{list_any}
+use Rattle.edges.specs.declared.edge.Edge.{Edge}
+
+-- the edges lead from a position to another, one after the other
+pub data Leads (edges : List Edge) : ℕ → ℕ → Type 0 where
+  direct : (e : Edge) → Contains edges e → Leads edges e.before e.after
+  through : (e : Edge) (y : ℕ) → Contains edges e → Leads edges e.after y → Leads edges e.before y
+
+-- the same, computed, over at most so many edges
+abbrev pub leads_within : ℕ → List Edge → ℕ → ℕ → Bool
+leads_within zero edges x y = false
+leads_within (suc most) edges x y = list_any (λ e. e.before == x && (e.after == y || leads_within most edges e.after y)) edges
+
+-- both ends of each edge are positions
+abbrev pub EndsWithin : ℕ → List Edge → Type 0
+EndsWithin positions edges = (e : Edge) → Contains edges e → (e.before < positions) × (e.after < positions)
+
+-- no edges lead from a position back to it. No loop needs more edges than there are positions
+abbrev pub HasNoLoop : ℕ → List Edge → Type 0
+HasNoLoop positions edges = (x : ℕ) → leads_within positions edges x x ≡ false
+
+-- from some position edges lead back to it
+pub record HasLoop (positions : ℕ) (edges : List Edge) : Type 0 where
+  pub at : ℕ
+  pub leads : leads_within positions edges at at ≡ true
+
+-- the same without a bound
+pub record HasPathBack (edges : List Edge) : Type 0 where
+  pub at : ℕ
+  pub leads : Leads edges at at
+
+-- some height of the positions rises along each edge
+pub record RiseSomehow (edges : List Edge) : Type 0 where
+  pub height : ℕ → ℕ
+  pub rises : (e : Edge) → Contains edges e → height e.before < height e.after
+
+-- the edges before this place have no loop, and with the edge at it they have one
+pub record ClosesFirst (positions : ℕ) (edges : List Edge) (place : ℕ) : Type 0 where
+  pub within : place < length edges
+  pub before : HasNoLoop positions (take place edges)
+  pub closed : HasLoop positions (take (place + 1) edges)
+
+-- where the first loop is closed, and None where there is no loop
+abbrev pub IsFirstLoop : ℕ → List Edge → Option ℕ → Type 0
+IsFirstLoop positions edges None = HasNoLoop positions edges
+IsFirstLoop positions edges (Some place) = ClosesFirst positions edges place

@@ -1,6 +1,0 @@
-use Rattle.std.proofs.Common.{◌∙◌, sym}
-use Rattle.graph_exec.proofs.Pairs.{pairs_many}
-use Rattle.graph_exec.proofs.flight.InFlight.count.Goals as goal
-
-pub returns : goal.returns
-returns c = rw (← c.self.view_is) (c.count.ensures ∙ sym (pairs_many _ c.self.invariant))

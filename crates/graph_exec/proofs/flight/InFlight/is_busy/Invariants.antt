@@ -1,6 +1,0 @@
-use Rattle.std.proofs.Common.{◌≡◌, false, take}
-use Rattle.graph_exec.specs.Flights.{is_busy, pairs}
-use Rattle.graph_exec.proofs.flight.InFlight.is_busy.Given as goal
-
-abbrev pub invariant-loop-place : goal.invariant-loop-place
-invariant-loop-place l = is_busy (take l.place (pairs l.self)) l.leaf l.node ≡ false

@@ -1,0 +1,121 @@
+use Rattle.std.proofs.Common.{ap, refl, ◌∙◌}
+use Rattle.graph_exec.specs.Logs.{JournalOf}
+use Rattle.graph_exec.specs.Running.{Running}
+use Rattle.graph_exec.proofs.Closings.{broken, closes_aborted, closes_complete, cut, stops_aborted, stops_amid, stops_complete}
+use Rattle.graph_exec.proofs.Rests.{accords_first, accords_last, leaves_rest, stays_there}
+use Rattle.graph_exec.proofs.Whole.{events_in}
+use Rattle.graph_exec.proofs.run.carrying_out.carry_out.Goals as goal
+
+-- it is complete
+
+pub returns-in-Go-clause-closes : goal.returns-in-Go-clause-closes
+returns-in-Go-clause-closes g c =
+    closes_complete _ _ _ _ _ _ c.requires.fresh _ _ _ _ _ _ c.in-Complete.ensures.steps c.in-Complete.ensures.told _ c.in-Complete.ensures.end
+    (λ steady open_still. c.in-Complete.ensures.said_to_end steady open_still tt) (rw c.run_watched.ensures.names at c.in-Go.ensures.tells) _ c.into_parts-journal.ensures.journal
+
+pub returns-in-Go-clause-at_rest : goal.returns-in-Go-clause-at_rest
+returns-in-Go-clause-at_rest g c =
+    leaves_rest _ _ _ _ _ c.in-Complete.ensures.steps c.requires.planned (λ placed is. (c.in-Complete.ensures.well placed is).0) _ c.into_parts-journal.ensures.journal
+
+pub returns-in-Go-clause-graph : goal.returns-in-Go-clause-graph
+returns-in-Go-clause-graph g c = c.into_parts-journal.ensures.graph ∙ ap (λ (r : Running). r.graph) c.in-Complete.ensures.steps.same
+
+pub returns-in-Go-clause-agrees : goal.returns-in-Go-clause-agrees
+returns-in-Go-clause-agrees g c h =
+    accords_last (g.S.Outcomes.agrees c.run_watched.new.outcomes) (λ d es k a. g.met.S.Outcomes.anew c.run_watched.new.outcomes d es k a) c.args.executor c.run_watched.new.executor
+    (stays_there _ _ _ _ _ c.in-Complete.ensures.steps) (c.run_watched.ensures.agrees (accords_first _ _ c.requires.planned.planned.at_rest.1 c.requires.fresh h)) _
+    (ap (λ (x : JournalOf). x.events) c.into_parts-journal.ensures.journal)
+
+pub returns-in-Stop-clause-ends : goal.returns-in-Stop-clause-ends
+returns-in-Stop-clause-ends g c =
+    stops_complete _ _ _ _ _ _ c.requires.fresh _ _ _ _ _ _ c.in-Complete.ensures.steps c.in-Complete.ensures.told _ c.in-Complete.ensures.end
+    (rw c.run_watched.ensures.names at c.in-Stop.ensures.tells) _ c.into_journal.ensures
+
+pub returns-in-Stop-clause-agrees_at_end : goal.returns-in-Stop-clause-agrees_at_end
+returns-in-Stop-clause-agrees_at_end g c h =
+    accords_last (g.S.Outcomes.agrees c.run_watched.new.outcomes) (λ d es k a. g.met.S.Outcomes.anew c.run_watched.new.outcomes d es k a) c.args.executor c.run_watched.new.executor
+    (stays_there _ _ _ _ _ c.in-Complete.ensures.steps) (c.run_watched.ensures.agrees (accords_first _ _ c.requires.planned.planned.at_rest.1 c.requires.fresh h)) _
+    (ap events_in c.into_journal.ensures)
+
+-- it was aborted
+
+pub returns-in-Go-closed-clause-closes : goal.returns-in-Go-closed-clause-closes
+returns-in-Go-closed-clause-closes g c =
+    closes_aborted _ _ _ _ _ _ c.requires.fresh _ _ _ _ _ _ c.in-Aborted.ensures.steps c.in-Aborted.ensures.told _ _ c.in-Aborted.ensures.end
+    (λ steady open_still. c.in-Aborted.ensures.said_to_end steady open_still tt) (rw c.run_watched.ensures.names at c.in-Go-closed.ensures.tells) _
+    c.into_parts-journal-in-Go-closed.ensures.journal
+
+pub returns-in-Go-closed-clause-at_rest : goal.returns-in-Go-closed-clause-at_rest
+returns-in-Go-closed-clause-at_rest g c =
+    leaves_rest _ _ _ _ _ c.in-Aborted.ensures.steps c.requires.planned c.in-Aborted.ensures.well _ c.into_parts-journal-in-Go-closed.ensures.journal
+
+pub returns-in-Go-closed-clause-graph : goal.returns-in-Go-closed-clause-graph
+returns-in-Go-closed-clause-graph g c = c.into_parts-journal-in-Go-closed.ensures.graph ∙ ap (λ (r : Running). r.graph) c.in-Aborted.ensures.steps.same
+
+pub returns-in-Go-closed-clause-agrees : goal.returns-in-Go-closed-clause-agrees
+returns-in-Go-closed-clause-agrees g c h =
+    accords_last (g.S.Outcomes.agrees c.run_watched.new.outcomes) (λ d es k a. g.met.S.Outcomes.anew c.run_watched.new.outcomes d es k a) c.args.executor c.run_watched.new.executor
+    (stays_there _ _ _ _ _ c.in-Aborted.ensures.steps) (c.run_watched.ensures.agrees (accords_first _ _ c.requires.planned.planned.at_rest.1 c.requires.fresh h)) _
+    (ap (λ (x : JournalOf). x.events) c.into_parts-journal-in-Go-closed.ensures.journal)
+
+pub returns-in-Stop-closed-clause-ends : goal.returns-in-Stop-closed-clause-ends
+returns-in-Stop-closed-clause-ends g c =
+    stops_aborted _ _ _ _ _ _ c.requires.fresh _ _ _ _ _ _ c.in-Aborted.ensures.steps c.in-Aborted.ensures.told _ _ c.in-Aborted.ensures.end
+    (rw c.run_watched.ensures.names at c.in-Stop-closed.ensures.tells) _ c.into_journal-in-Stop-closed.ensures
+
+pub returns-in-Stop-closed-clause-agrees_at_end : goal.returns-in-Stop-closed-clause-agrees_at_end
+returns-in-Stop-closed-clause-agrees_at_end g c h =
+    accords_last (g.S.Outcomes.agrees c.run_watched.new.outcomes) (λ d es k a. g.met.S.Outcomes.anew c.run_watched.new.outcomes d es k a) c.args.executor c.run_watched.new.executor
+    (stays_there _ _ _ _ _ c.in-Aborted.ensures.steps) (c.run_watched.ensures.agrees (accords_first _ _ c.requires.planned.planned.at_rest.1 c.requires.fresh h)) _
+    (ap events_in c.into_journal-in-Stop-closed.ensures)
+
+-- an answer came that doesn't apply
+
+pub returns-in-Unexpected-clause-ends : goal.returns-in-Unexpected-clause-ends
+returns-in-Unexpected-clause-ends g c =
+    cut _ _ _ _ _ _ c.requires.fresh _ _ _ _ _ _ c.in-Unexpected.answer c.in-Unexpected.ensures.steps c.in-Unexpected.ensures.told c.in-Unexpected.ensures.end _
+    c.into_journal-in-Unexpected.ensures
+
+pub returns-in-Unexpected-clause-agrees_at_end : goal.returns-in-Unexpected-clause-agrees_at_end
+returns-in-Unexpected-clause-agrees_at_end g c h =
+    accords_last (g.S.Outcomes.agrees c.run_watched.new.outcomes) (λ d es k a. g.met.S.Outcomes.anew c.run_watched.new.outcomes d es k a) c.args.executor c.run_watched.new.executor
+    (stays_there _ _ _ _ _ c.in-Unexpected.ensures.steps.went) (c.run_watched.ensures.agrees (accords_first _ _ c.requires.planned.planned.at_rest.1 c.requires.fresh h)) _
+    (ap events_in c.into_journal-in-Unexpected.ensures)
+
+-- the source failed
+
+pub returns-in-SourceFault-clause-ends : goal.returns-in-SourceFault-clause-ends
+returns-in-SourceFault-clause-ends g c =
+    broken _ _ _ _ _ _ c.requires.fresh _ _ _ _ _ _ c.in-SourceFault.ensures.steps c.in-SourceFault.ensures.told c.in-SourceFault.ensures.end
+    (λ steady. c.in-SourceFault.ensures.said steady refl) (λ steady. c.in-SourceFault.ensures.not_over steady refl) _ c.into_journal-in-SourceFault.ensures
+
+pub returns-in-SourceFault-clause-agrees_at_end : goal.returns-in-SourceFault-clause-agrees_at_end
+returns-in-SourceFault-clause-agrees_at_end g c h =
+    accords_last (g.S.Outcomes.agrees c.run_watched.new.outcomes) (λ d es k a. g.met.S.Outcomes.anew c.run_watched.new.outcomes d es k a) c.args.executor c.run_watched.new.executor
+    (stays_there _ _ _ _ _ c.in-SourceFault.ensures.steps) (c.run_watched.ensures.agrees (accords_first _ _ c.requires.planned.planned.at_rest.1 c.requires.fresh h)) _
+    (ap events_in c.into_journal-in-SourceFault.ensures)
+
+-- the watcher stopped
+
+pub returns-in-Stopped-clause-ends : goal.returns-in-Stopped-clause-ends
+returns-in-Stopped-clause-ends g c = stops_amid _ _ _ _ _ _ c.requires.fresh _ _ _ _ _ _ c.in-Stopped.ensures.told _ c.into_journal-in-Stopped.ensures
+
+pub returns-in-Stopped-clause-agrees_at_end : goal.returns-in-Stopped-clause-agrees_at_end
+returns-in-Stopped-clause-agrees_at_end g c h =
+    accords_last (g.S.Outcomes.agrees c.run_watched.new.outcomes) (λ d es k a. g.met.S.Outcomes.anew c.run_watched.new.outcomes d es k a) c.args.executor c.run_watched.new.executor
+    (stays_there _ _ _ _ _ c.in-Stopped.ensures.steps) (c.run_watched.ensures.agrees (accords_first _ _ c.requires.planned.planned.at_rest.1 c.requires.fresh h)) _
+    (ap events_in c.into_journal-in-Stopped.ensures)
+
+-- the watcher has come on through the transition and its end
+
+pub returns-in-Go-clause-watcher_follows : goal.returns-in-Go-clause-watcher_follows
+returns-in-Go-clause-watcher_follows g c = g.met.V.Watcher.from_before _ _ _ c.in-Complete.ensures.watcher_follows (c.in-Go.ensures.follows refl)
+
+pub returns-in-Stop-clause-watcher_came : goal.returns-in-Stop-clause-watcher_came
+returns-in-Stop-clause-watcher_came g c = g.met.V.Watcher.stopped_later _ _ _ c.in-Complete.ensures.watcher_follows (c.in-Stop.ensures.stopped refl)
+
+pub returns-in-Go-closed-clause-watcher_follows : goal.returns-in-Go-closed-clause-watcher_follows
+returns-in-Go-closed-clause-watcher_follows g c = g.met.V.Watcher.from_before _ _ _ c.in-Aborted.ensures.watcher_follows (c.in-Go-closed.ensures.follows refl)
+
+pub returns-in-Stop-closed-clause-watcher_came : goal.returns-in-Stop-closed-clause-watcher_came
+returns-in-Stop-closed-clause-watcher_came g c = g.met.V.Watcher.stopped_later _ _ _ c.in-Aborted.ensures.watcher_follows (c.in-Stop-closed.ensures.stopped refl)

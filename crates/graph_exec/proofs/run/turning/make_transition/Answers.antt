@@ -1,0 +1,131 @@
+use Rattle.std.proofs.Common.{◌∙◌, refl}
+use Rattle.graph_exec.specs.Replays.{setting, sight}
+use Rattle.graph_exec.proofs.ComingNext.{come_later, heard_later}
+use Rattle.graph_exec.proofs.Joined.{lacks_memory}
+use Rattle.graph_exec.proofs.Ready.{came_begun, comes_behind, ends_behind, has_plan, same_cluster, same_promotions, starts_fresh, stops_begun}
+use Rattle.graph_exec.proofs.Served.{serves_again}
+use Rattle.graph_exec.proofs.run.turning.make_transition.Goals as goal
+
+-- no memory is left
+
+pub returns-in_default-clause-ends : goal.returns-in_default-clause-ends
+returns-in_default-clause-ends g c = lacks_memory (setting _ _ _ _ _) _ (sight _ _ _) tt
+
+-- the watcher stops at the plan
+
+pub returns-in-Stop-clause-ends : goal.returns-in-Stop-clause-ends
+returns-in-Stop-clause-ends g c =
+    rw c.stopped.ensures (stops_begun c.args.journal c.in-Ok.planned c.in-Ok.ensures.ready _ _ _ _ _ _ _ _ c.requires.names c.in-Stop.ensures.tells _ refl)
+
+-- the transition is carried out
+
+pub carry_out-carried-requires-clause-fresh : goal.carry_out-carried-requires-clause-fresh
+carry_out-carried-requires-clause-fresh g c = starts_fresh c.args.journal c.in-Ok.planned c.in-Ok.ensures.ready
+
+pub carry_out-carried-requires-clause-planned : goal.carry_out-carried-requires-clause-planned
+carry_out-carried-requires-clause-planned g c = has_plan c.args.journal c.in-Ok.planned c.in-Ok.ensures.ready
+
+pub carry_out-carried-requires-clause-names : goal.carry_out-carried-requires-clause-names
+carry_out-carried-requires-clause-names g c =
+    rw (same_cluster c.args.journal c.in-Ok.planned c.in-Ok.ensures.ready, c.planned.ensures.names) c.requires.names
+
+pub returns-in-Err-clause-ends : goal.returns-in-Err-clause-ends
+returns-in-Err-clause-ends g c =
+    let j = c.args.journal in
+    let p = c.in-Ok.planned in
+    let ready = c.in-Ok.ensures.ready in
+    let begun = came_begun j p ready _ _ _ _ _ _ _ _ c.requires.names c.in_default-planned.ensures.tells in
+    ends_behind _ _ _ _ _ _ _ _ _ begun _ _ (same_cluster j p ready) (same_promotions j p ready) _ _ (λ steady h. h) (rw (c.in-Err.ensures, c.planned.ensures.names) at c.carry_out-carried.ensures.ends)
+
+-- it was aborted
+
+pub returns-then-not-closed-clause-goes_on : goal.returns-then-not-closed-clause-goes_on
+returns-then-not-closed-clause-goes_on g c =
+    let j = c.args.journal in
+    let p = c.in-Ok.planned in
+    let ready = c.in-Ok.ensures.ready in
+    let begun = came_begun j p ready _ _ _ _ _ _ _ _ c.requires.names c.in_default-planned.ensures.tells in
+    comes_behind _ _ _ _ _ _ _ _ _ begun _ _ (same_cluster j p ready) (same_promotions j p ready) _ _ _ c.carry_out-carried.ensures.over
+    (rw (c.in-Ok-with.ensures.1, c.planned.ensures.names, c.if-not-closed.true) at c.carry_out-carried.ensures.closes)
+
+-- it is complete
+
+pub take_idle-taken-requires : goal.take_idle-taken-requires
+take_idle-taken-requires g c = record { resting = (rw c.in-Ok-with.ensures.1 at c.carry_out-carried.ensures.at_rest).1 }
+
+pub returns-clause-goes_on : goal.returns-clause-goes_on
+returns-clause-goes_on g c =
+    let j = c.args.journal in
+    let p = c.in-Ok.planned in
+    let ready = c.in-Ok.ensures.ready in
+    let begun = came_begun j p ready _ _ _ _ _ _ _ _ c.requires.names c.in_default-planned.ensures.tells in
+    let closed = comes_behind _ _ _ _ _ _ _ _ _ begun _ _ (same_cluster j p ready) (same_promotions j p ready) _ _ _ c.carry_out-carried.ensures.over
+    (rw (c.in-Ok-with.ensures.1, c.planned.ensures.names, c.if-not-closed.false) at c.carry_out-carried.ensures.closes) in
+    comes_behind _ _ _ _ _ _ _ _ _ closed.came _ _ closed.cluster_stays closed.promotions_stay _ _ _
+    (λ steady h. c.take_idle-taken.ensures.over (c.carry_out-carried.ensures.steady ∙ steady) h)
+    (rw (c.carry_out-carried.ensures.whole, c.carry_out-carried.ensures.steady, c.carry_out-carried.ensures.names, c.planned.ensures.names) at (rw c.in-Ok-with-2.ensures.1 at c.take_idle-taken.ensures.goes_on))
+
+pub returns-in-Err-with-clause-ends : goal.returns-in-Err-with-clause-ends
+returns-in-Err-with-clause-ends g c =
+    let j = c.args.journal in
+    let p = c.in-Ok.planned in
+    let ready = c.in-Ok.ensures.ready in
+    let begun = came_begun j p ready _ _ _ _ _ _ _ _ c.requires.names c.in_default-planned.ensures.tells in
+    let closed = comes_behind _ _ _ _ _ _ _ _ _ begun _ _ (same_cluster j p ready) (same_promotions j p ready) _ _ _ c.carry_out-carried.ensures.over
+    (rw (c.in-Ok-with.ensures.1, c.planned.ensures.names, c.if-not-closed.false) at c.carry_out-carried.ensures.closes) in
+    ends_behind _ _ _ _ _ _ _ _ _ closed.came _ _ closed.cluster_stays closed.promotions_stay _ _ c.carry_out-carried.ensures.over
+    (rw (c.carry_out-carried.ensures.whole, c.carry_out-carried.ensures.steady, c.carry_out-carried.ensures.names, c.planned.ensures.names) at (rw c.in-Err-with.ensures at c.take_idle-taken.ensures.ends))
+
+-- what the source and the watcher have come to
+
+pub returns-in_default-clause-source_came : goal.returns-in_default-clause-source_came
+returns-in_default-clause-source_came g c = g.met.S.Outcomes.from_itself _
+
+pub returns-in_default-clause-watcher_came : goal.returns-in_default-clause-watcher_came
+returns-in_default-clause-watcher_came g c = g.met.V.Watcher.from_itself _
+
+pub returns-in-Stop-clause-source_came : goal.returns-in-Stop-clause-source_came
+returns-in-Stop-clause-source_came g c = rw c.stopped.ensures (g.met.S.Outcomes.from_itself _)
+
+pub returns-in-Err-clause-watcher_came : goal.returns-in-Err-clause-watcher_came
+returns-in-Err-clause-watcher_came g c =
+    let planned = c.in_default-planned.ensures.follows refl in
+    heard_later _ (λ f. g.met.V.Watcher.from_before _ _ _ planned f) (λ s. g.met.V.Watcher.stopped_later _ _ _ planned s) (rw c.in-Err.ensures at c.carry_out-carried.ensures.watcher_came)
+
+pub returns-then-not-closed-clause-watcher_follows : goal.returns-then-not-closed-clause-watcher_follows
+returns-then-not-closed-clause-watcher_follows g c =
+    g.met.V.Watcher.from_before _ _ _ (c.in_default-planned.ensures.follows refl) (rw c.in-Ok-with.ensures.1 at c.carry_out-carried.ensures.watcher_follows)
+
+pub returns-clause-source_follows : goal.returns-clause-source_follows
+returns-clause-source_follows g c =
+    g.met.S.Outcomes.from_before _ _ _ (rw c.in-Ok-with.ensures.1 at c.carry_out-carried.ensures.source_follows) (rw c.in-Ok-with-2.ensures.1 at c.take_idle-taken.ensures.source_follows)
+
+pub returns-clause-watcher_follows : goal.returns-clause-watcher_follows
+returns-clause-watcher_follows g c =
+    let carried = g.met.V.Watcher.from_before _ _ _ (c.in_default-planned.ensures.follows refl) (rw c.in-Ok-with.ensures.1 at c.carry_out-carried.ensures.watcher_follows) in
+    g.met.V.Watcher.from_before _ _ _ carried (rw c.in-Ok-with-2.ensures.1 at c.take_idle-taken.ensures.watcher_follows)
+
+pub returns-in-Err-with-clause-source_came : goal.returns-in-Err-with-clause-source_came
+returns-in-Err-with-clause-source_came g c =
+    let carried = (rw c.in-Ok-with.ensures.1 at c.carry_out-carried.ensures.source_follows) in
+    come_later (g.S.Outcomes.said c.carry_out-carried.new.outcomes c.take_idle-taken.new.outcomes) (g.S.Outcomes.said c.args.outcomes.now c.take_idle-taken.new.outcomes) _
+    (λ f. g.met.S.Outcomes.from_before _ _ _ carried f) (λ brought s. g.met.S.Outcomes.said_later _ _ _ brought carried s) (rw c.in-Err-with.ensures at c.take_idle-taken.ensures.source_came)
+
+pub returns-in-Err-with-clause-watcher_came : goal.returns-in-Err-with-clause-watcher_came
+returns-in-Err-with-clause-watcher_came g c =
+    let carried = g.met.V.Watcher.from_before _ _ _ (c.in_default-planned.ensures.follows refl) (rw c.in-Ok-with.ensures.1 at c.carry_out-carried.ensures.watcher_follows) in
+    heard_later _ (λ f. g.met.V.Watcher.from_before _ _ _ carried f) (λ s. g.met.V.Watcher.stopped_later _ _ _ carried s) (rw c.in-Err-with.ensures at c.take_idle-taken.ensures.watcher_came)
+
+-- the plan serves again
+
+pub returns-then-not-closed-clause-serves : goal.returns-then-not-closed-clause-serves
+returns-then-not-closed-clause-serves g c =
+    let p = c.in-Ok.planned in
+    rw c.in-Ok-with.ensures.0
+    (serves_again _ (record { states = c.in-Ok.states; placed = p.placed; graph = p.executor.graph }) _ (rw c.in-Ok-with.ensures.1 at c.carry_out-carried.ensures.graph) c.in-Ok.ensures.serves)
+
+pub returns-clause-serves : goal.returns-clause-serves
+returns-clause-serves g c =
+    let p = c.in-Ok.planned in
+    rw (c.in-Ok-with-2.ensures.0, c.in-Ok-with.ensures.0)
+    (serves_again _ (record { states = c.in-Ok.states; placed = p.placed; graph = p.executor.graph }) _ (rw c.in-Ok-with.ensures.1 at c.carry_out-carried.ensures.graph) c.in-Ok.ensures.serves)

@@ -1,0 +1,60 @@
+use Rattle.std.proofs.Common.{refl}
+use Rattle.graph_exec.proofs.Carrying.{answered_by, answered_silently}
+use Rattle.graph_exec.proofs.Agreeing.{accords_failed, accords_refused, accords_silent, accords_taken, never_refused, seen}
+use Rattle.graph_exec.proofs.Said.{said_taken}
+use Rattle.graph_exec.proofs.transition.executor.Executor.ask.Goals as goal
+
+pub returns-in-Ok-clause-answered : goal.returns-in-Ok-clause-answered
+returns-in-Ok-clause-answered g c = answered_by _ _ _ _ _ c.in-Answer.answer c.in-Answer.ensures.gives c.in-Ok.ensures.ok
+
+pub returns-in-Silent-clause-answered : goal.returns-in-Silent-clause-answered
+returns-in-Silent-clause-answered g c = answered_silently _ _ _ _ _ _ c.in-Silent.ensures.gives c.end_silently.ensures.ended
+
+pub returns-in-Ok-clause-agrees : goal.returns-in-Ok-clause-agrees
+returns-in-Ok-clause-agrees g c h =
+    let is = rw c.self.view_is at c.flight.ensures.pairs in
+    let under_way = rw c.self.view_is at c.self.invariant in
+    accords_taken c.args.self.now c.take.new.self (g.S.Outcomes.agrees c.args.outcomes.now) (g.S.Outcomes.agrees c.next.new.self) _ is under_way h c.in-Answer.answer c.in-Ok.ensures.ok
+    (c.in-Answer.ensures.agrees _ _ _ h.agrees_now (seen c.args.self.now c.take.new.self (g.S.Outcomes.agrees c.args.outcomes.now) (g.S.Outcomes.agrees c.next.new.self) _ is under_way h))
+
+pub returns-in-Err-clause-agrees : goal.returns-in-Err-clause-agrees
+returns-in-Err-clause-agrees g c h =
+    let is = rw c.self.view_is at c.flight.ensures.pairs in
+    let under_way = rw c.self.view_is at c.self.invariant in
+    accords_refused c.args.self.now c.take.new.self (g.S.Outcomes.agrees c.args.outcomes.now) (g.S.Outcomes.agrees c.next.new.self) _ is under_way h c.in-Answer.answer c.in-Err.ensures.err
+    (c.in-Answer.ensures.agrees _ _ _ h.agrees_now (seen c.args.self.now c.take.new.self (g.S.Outcomes.agrees c.args.outcomes.now) (g.S.Outcomes.agrees c.next.new.self) _ is under_way h))
+
+pub returns-in-Err-clause-fitting : goal.returns-in-Err-clause-fitting
+returns-in-Err-clause-fitting g c careful h =
+    let is = rw c.self.view_is at c.flight.ensures.pairs in
+    let under_way = rw c.self.view_is at c.self.invariant in
+    never_refused c.args.self.now c.take.new.self (g.S.Outcomes.agrees c.args.outcomes.now) (g.S.Outcomes.agrees c.next.new.self) _ is under_way h c.in-Answer.answer c.in-Err.ensures.err
+    (c.in-Answer.ensures.fitting _ _ _ careful h.agrees_now (seen c.args.self.now c.take.new.self (g.S.Outcomes.agrees c.args.outcomes.now) (g.S.Outcomes.agrees c.next.new.self) _ is under_way h))
+
+pub returns-in-Silent-clause-agrees : goal.returns-in-Silent-clause-agrees
+returns-in-Silent-clause-agrees g c h =
+    let is = rw c.self.view_is at c.flight.ensures.pairs in
+    let under_way = rw c.self.view_is at c.self.invariant in
+    accords_silent c.args.self.now c.end_silently.new.self (g.S.Outcomes.agrees c.args.outcomes.now) (g.S.Outcomes.agrees c.next.new.self) _ is under_way h _ c.end_silently.ensures.ended
+    (c.in-Silent.ensures.agrees _ _ _ h.agrees_now (seen c.args.self.now c.end_silently.new.self (g.S.Outcomes.agrees c.args.outcomes.now) (g.S.Outcomes.agrees c.next.new.self) _ is under_way h))
+
+pub returns-in-Failed-clause-agrees : goal.returns-in-Failed-clause-agrees
+returns-in-Failed-clause-agrees g c h =
+    let is = rw c.self.view_is at c.flight.ensures.pairs in
+    let under_way = rw c.self.view_is at c.self.invariant in
+    accords_failed c.args.self.now c.args.self.now (g.S.Outcomes.agrees c.args.outcomes.now) (g.S.Outcomes.agrees c.next.new.self) _ is under_way h refl
+    (c.in-Failed.ensures.agrees _ _ _ h.agrees_now (seen c.args.self.now c.args.self.now (g.S.Outcomes.agrees c.args.outcomes.now) (g.S.Outcomes.agrees c.next.new.self) _ is under_way h))
+
+pub returns-in-Ok-clause-said : goal.returns-in-Ok-clause-said
+returns-in-Ok-clause-said g c steady open_still = said_taken _ _ _ _ _ c.in-Answer.answer c.in-Answer.ensures.gives c.in-Ok.ensures.ok
+
+pub returns-in-Failed-clause-under_way : goal.returns-in-Failed-clause-under_way
+returns-in-Failed-clause-under_way g c = rw c.self.view_is at c.self.invariant
+
+-- a question that didn't fail
+
+pub returns-in-Ok-clause-source_follows : goal.returns-in-Ok-clause-source_follows
+returns-in-Ok-clause-source_follows g c = g.met.S.Outcomes.from_said _ _ _ (λ e. cc) c.in-Answer.ensures.said
+
+pub returns-in-Silent-clause-source_follows : goal.returns-in-Silent-clause-source_follows
+returns-in-Silent-clause-source_follows g c = g.met.S.Outcomes.from_said _ _ _ (λ e. cc) c.in-Silent.ensures.said

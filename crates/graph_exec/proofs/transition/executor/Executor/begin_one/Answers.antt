@@ -1,0 +1,49 @@
+use Rattle.std.proofs.Common.{◌∙◌}
+use Rattle.graph_exec.proofs.Carrying.{fewer_begins, no_more_asks, went_begun, went_nowhere}
+use Rattle.graph_exec.proofs.Coming.{heard_by}
+use Rattle.graph_exec.proofs.Said.{said_begun, said_nothing}
+use Rattle.graph_exec.proofs.Stepping.{begun_action, begun_high}
+use Rattle.graph_exec.proofs.Told.{hears_begin}
+use Rattle.graph_exec.proofs.transition.executor.Executor.begin_one.Goals as goal
+
+-- none may begin
+
+pub returns-in_default-clause-went : goal.returns-in_default-clause-went
+returns-in_default-clause-went g c = rw c.in_default.ensures.settled.same (went_nowhere _ _ _)
+
+pub returns-in_default-clause-said : goal.returns-in_default-clause-said
+returns-in_default-clause-said g c = rw c.in_default.ensures.settled.same (said_nothing _ _)
+
+pub returns-in_default-clause-source_follows : goal.returns-in_default-clause-source_follows
+returns-in_default-clause-source_follows g c = g.met.S.Outcomes.from_itself _
+
+pub returns-in_default-clause-watcher_follows : goal.returns-in_default-clause-watcher_follows
+returns-in_default-clause-watcher_follows g c = g.met.V.Watcher.from_itself _
+
+-- one begins
+
+pub action-action-requires-clause-to_count : goal.action-action-requires-clause-to_count
+action-action-requires-clause-to_count g c =
+    let graph = rw c.self.view_is at c.flight.ensures.graph in
+    rw (c.graph.ensures ∙ graph) (begun_high _ _ c.in-Some.number c.in-Some.ensures.begins)
+
+pub returns-clause-went : goal.returns-clause-went
+returns-clause-went g c = went_begun _ _ _ _ _ (record { number = c.in-Some.number; now = c.in-Some.ensures.begins }) c.begun.ensures.rest
+
+pub returns-clause-said : goal.returns-clause-said
+returns-clause-said g c = said_begun _ _ _ _ (record { number = c.in-Some.number; now = c.in-Some.ensures.begins }) c.begun.ensures.rest
+
+pub returns-clause-on : goal.returns-clause-on
+returns-clause-on g c = fewer_begins _ _ (record { number = c.in-Some.number; now = c.in-Some.ensures.begins })
+
+pub returns-clause-asks : goal.returns-clause-asks
+returns-clause-asks g c = no_more_asks _ _ (record { number = c.in-Some.number; now = c.in-Some.ensures.begins })
+
+pub returns-clause-told : goal.returns-clause-told
+returns-clause-told g c =
+    let graph = rw c.self.view_is at c.flight.ensures.graph in
+    let action = begun_action _ _ c.in-Some.number c.in-Some.ensures.begins c.action-action.result (rw (c.graph.ensures ∙ graph) at c.action-action.ensures) in
+    hears_begin _ _ _ _ _ _ c.in-Some.number c.in-Some.ensures.begins _ _ _ c.begun.ensures.rest (rw action c.begun-2.ensures.tells)
+
+pub returns-clause-watcher_follows : goal.returns-clause-watcher_follows
+returns-clause-watcher_follows g c = heard_by _ c.begun-2.ensures.follows c.begun-2.ensures.stopped

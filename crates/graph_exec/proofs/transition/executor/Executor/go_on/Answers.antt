@@ -1,0 +1,41 @@
+use Rattle.graph_exec.specs.declared.transition.watcher.Heard.TheVariants as heard
+use Rattle.graph_exec.proofs.Carrying.{advanced, ends_by, gone_by, same_by, still_going, went_answered}
+use Rattle.graph_exec.proofs.Coming.{heard_none}
+use Rattle.graph_exec.proofs.Told.{hears_answer, hears_none}
+use Rattle.graph_exec.proofs.transition.executor.Executor.go_on.Goals as goal
+
+-- the watcher goes on
+
+pub returns-in-Go-clause-on : goal.returns-in-Go-clause-on
+returns-in-Go-clause-on g c = advanced _ _ _ _ _ c.in-Ok.answer c.in-Ok.ensures.answered
+
+pub returns-in-Go-clause-told : goal.returns-in-Go-clause-told
+returns-in-Go-clause-told g c = hears_answer _ _ _ _ _ _ c.in-Ok.answer c.in-Ok.ensures.answered _ _ heard.Go c.in-Go.ensures.tells
+
+-- it stops
+
+pub returns-in-Stop-clause-steps : goal.returns-in-Stop-clause-steps
+returns-in-Stop-clause-steps g c = went_answered _ _ _ _ _ c.in-Ok.answer c.in-Ok.ensures.answered
+
+pub returns-in-Stop-clause-told : goal.returns-in-Stop-clause-told
+returns-in-Stop-clause-told g c = hears_answer _ _ _ _ _ _ c.in-Ok.answer c.in-Ok.ensures.answered _ _ heard.Stop c.in-Stop.ensures.tells
+
+-- no answer was taken
+
+pub returns-in-Err-clause-steps : goal.returns-in-Err-clause-steps
+returns-in-Err-clause-steps g c = gone_by _ _ _ _ _ c.in-Err.end c.in-Err.ensures.stops
+
+pub returns-in-Err-clause-end : goal.returns-in-Err-clause-end
+returns-in-Err-clause-end g c = ends_by _ _ _ _ _ c.in-Err.end c.in-Err.ensures.stops
+
+pub returns-in-Err-clause-going : goal.returns-in-Err-clause-going
+returns-in-Err-clause-going g c = still_going _ _ _ _ _ c.in-Err.end c.in-Err.ensures.stops
+
+pub returns-in-Err-clause-failed : goal.returns-in-Err-clause-failed
+returns-in-Err-clause-failed g c steady fault = same_by _ _ _ _ _ c.in-Err.end c.in-Err.ensures.stops
+
+pub returns-in-Err-clause-told : goal.returns-in-Err-clause-told
+returns-in-Err-clause-told g c = hears_none _ _ _ _ _ _ _ c.in-Err.end c.in-Err.ensures.stops
+
+pub returns-in-Err-clause-watcher_follows : goal.returns-in-Err-clause-watcher_follows
+returns-in-Err-clause-watcher_follows g c = heard_none _ _ _ _ _ _ c.in-Err.end c.in-Err.ensures.stops (g.met.V.Watcher.from_itself c.args.watcher.now)

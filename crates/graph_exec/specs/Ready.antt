@@ -1,0 +1,23 @@
+-- Which actions wait no longer: those before which none is left (rule of this project).
+use Rattle.std.specs.Prelude.{ℕ, ◌-◌, ◌||◌, ◌&&◌, Bool, false, not, List, length, filter, replicate}
+use Rattle.std.specs.List.{list_all, range_with_len}
+use Rattle.cluster_types.specs.Graphs.{GraphOf, is_before}
+use Rattle.listed.specs.Sets.{is_member}
+
+-- the actions of a graph, of which some have begun and some have succeeded. The flag at place k - 1 is that of the action of number k
+pub record Progress : Type 0 where
+  pub graph : GraphOf
+  pub begun : List Bool
+  pub succeeded : List Bool
+
+-- no action has begun
+abbrev pub none_begun : GraphOf → Progress
+none_begun g = record { graph = g; begun = replicate (length g.actions) false; succeeded = replicate (length g.actions) false }
+
+-- each action that comes before this one has succeeded
+abbrev pub inputs_have_succeeded : GraphOf → List Bool → ℕ → Bool
+inputs_have_succeeded g succeeded k = list_all (λ j. not (is_before g j k) || is_member succeeded j) (range_with_len 1 (length g.actions))
+
+-- the numbers of the actions that haven't begun and before which none is left, ascending
+abbrev pub startable : Progress → List ℕ
+startable p = filter (λ k. inputs_have_succeeded p.graph p.succeeded k && not (is_member p.begun k)) (range_with_len 1 (length p.graph.actions))

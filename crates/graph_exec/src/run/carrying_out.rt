@@ -1,0 +1,95 @@
+//! A transition of a run, carried out and closed.
+
+ghost use Rattle.std.specs.Prelude.{◌≡◌, ◌≤◌, [], true, IfOk, IfErr, OnOk};
+ghost use Rattle.cluster_types.specs.Runs.{amid};
+ghost use Rattle.cluster_types.specs.Safety.{IsAtRest};
+ghost use Rattle.graph_exec.specs.Running.{going};
+ghost use Rattle.graph_exec.specs.Replays.{AgreesWith, HasCause, ReplayHasCome, ReplayHasHeard, IsReplayExpected, OfJournal, WritesNamesOf, setting, sight};
+ghost use Rattle.graph_exec.specs.Turns.{CameTo, RunEndsAs, HasPlannedGraph, closed_at};
+
+use crate::run::stop::{Ended, ReplayStop};
+use crate::{Executor, Heard, KnownJournal, Outcomes, Parts, WatchedEnd, Watcher, run_watched};
+use cluster_types::Graph;
+
+/// The journal that a transition left, its graph, and whether it is complete. Else it was aborted.
+#[derive(Drop)]
+pub(crate) struct Closed<'c> {
+    pub complete: bool,
+    pub journal: KnownJournal<'c>,
+    pub graph: Graph,
+}
+
+/// Carries the transition of this number in the run out to its end, and tells the watcher how it ended; or says how the run
+/// ends on the way. It takes no memory.
+pub(crate) fn carry_out<'c, S: Outcomes, V: Watcher>(
+    mut executor: Executor<'c>,
+    outcomes: &mut S,
+    watcher: &mut V,
+    number: u32,
+) -> Result<Closed<'c>, Ended>
+    requires fresh { executor.since ≡ [] }
+    requires planned { HasPlannedGraph executor }
+    requires names { WritesNamesOf executor.cluster (V.names watcher.old) }
+    ensures closes { IfOk result (λ closed. CameTo
+        (setting executor.entry.cluster executor.entry.promotions (S.whole outcomes.old) (S.steady outcomes.old) (V.names watcher.old))
+        (amid number (going executor.entry) [])
+        (sight (S.rest outcomes.old) (S.over outcomes.old) (V.told watcher.old))
+        (sight (S.rest outcomes.new) (S.over outcomes.new) (V.told watcher.new))
+        (closed_at number closed.complete) closed.journal) }
+    ensures at_rest { IfOk result (λ closed. IsAtRest closed.journal.events) }
+    ensures graph { IfOk result (λ closed. closed.graph ≡ executor.entry.graph) }
+    ensures ends { IfErr result (RunEndsAs
+        (setting executor.entry.cluster executor.entry.promotions (S.whole outcomes.old) (S.steady outcomes.old) (V.names watcher.old))
+        (amid number (going executor.entry) [])
+        (sight (S.rest outcomes.old) (S.over outcomes.old) (V.told watcher.old))
+        (sight (S.rest outcomes.new) (S.over outcomes.new) (V.told watcher.new))) }
+    ensures cause { IfErr result (HasCause (S.faults outcomes.old) (S.faults outcomes.new) (V.stops watcher.old) (V.stops watcher.new)) }
+
+    ensures agrees { S.agrees outcomes.old executor.entry.cluster executor.entry.planned_at 0
+        → IfOk result (λ closed. S.agrees outcomes.new executor.entry.cluster closed.journal.events 0) }
+    ensures agrees_at_end { S.agrees outcomes.old executor.entry.cluster executor.entry.planned_at 0
+        → IfErr result (OfJournal (AgreesWith (S.agrees outcomes.new) executor.entry.cluster)) }
+    ensures fitting { S.careful outcomes.old ≡ true → S.agrees outcomes.old executor.entry.cluster executor.entry.planned_at 0 → IfErr result IsReplayExpected }
+
+    ensures whole { S.whole outcomes.new ≡ S.whole outcomes.old }
+    ensures count { S.faults outcomes.old ≤ S.faults outcomes.new }
+    ensures careful { S.careful outcomes.new ≡ S.careful outcomes.old }
+    ensures steady { S.steady outcomes.new ≡ S.steady outcomes.old }
+    ensures over { S.steady outcomes.old ≡ true → S.over outcomes.old ≡ true → S.over outcomes.new ≡ true }
+    ensures source_follows { OnOk result (S.follows outcomes.old outcomes.new) }
+    ensures source_came { IfErr result (ReplayHasCome (S.follows outcomes.old outcomes.new) (S.said outcomes.old outcomes.new)) }
+    ensures names { V.names watcher.new ≡ V.names watcher.old }
+    ensures stops { V.stops watcher.old ≤ V.stops watcher.new }
+    ensures watcher_follows { OnOk result (V.follows watcher.old watcher.new) }
+    ensures watcher_came { IfErr result (ReplayHasHeard (V.follows watcher.old watcher.new) (V.stopped watcher.old watcher.new)) }
+{
+    match run_watched(&mut executor, outcomes, watcher) {
+        WatchedEnd::Complete => match watcher.closed(number, true) {
+            Heard::Go => {
+                let Parts { journal, graph } = executor.into_parts();
+                Ok(Closed {
+                    complete: true,
+                    journal,
+                    graph,
+                })
+            }
+            Heard::Stop => Err(Err(ReplayStop::Stopped(executor.into_journal()))),
+        },
+        WatchedEnd::Aborted(_) => match watcher.closed(number, false) {
+            Heard::Go => {
+                let Parts { journal, graph } = executor.into_parts();
+                Ok(Closed {
+                    complete: false,
+                    journal,
+                    graph,
+                })
+            }
+            Heard::Stop => Err(Err(ReplayStop::Stopped(executor.into_journal()))),
+        },
+        WatchedEnd::Unexpected(answer) => {
+            Err(Err(ReplayStop::Unexpected(executor.into_journal(), answer)))
+        }
+        WatchedEnd::SourceFault => Err(Err(ReplayStop::SourceFault(executor.into_journal()))),
+        WatchedEnd::Stopped => Err(Err(ReplayStop::Stopped(executor.into_journal()))),
+    }
+}

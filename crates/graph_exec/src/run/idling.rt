@@ -1,0 +1,118 @@
+//! An answer that comes while nothing is to be done.
+
+ghost use Rattle.std.specs.Prelude.{◌≡◌, ◌≤◌, ◌+◌, [], true, IfOk, IfErr, OnOk};
+ghost use Rattle.cluster_types.specs.Journals.{in_flight};
+ghost use Rattle.cluster_types.specs.Runs.{due, idle};
+ghost use Rattle.graph_exec.specs.Keeping.{EndsWithCause, IsAnswered, IsUnanswered, watched_end};
+ghost use Rattle.graph_exec.specs.Replays.{AgreesWith, HasCause, ReplayHasCome, ReplayHasHeard, IsReplayExpected, OfJournal, setting, sight};
+ghost use Rattle.graph_exec.specs.Turns.{CameTo, RunEndsAs};
+
+use crate::run::run_ending::RunEnd;
+use crate::run::stop::{Ended, ReplayStop};
+use crate::{Heard, KnownJournal, Next, Outcomes, Resting, Watcher};
+use cluster_types::Answer;
+use std::alloc::Global;
+
+/// An answer that came while nothing was to be done, and the journal with what it adds.
+#[derive(Drop)]
+pub(crate) struct Taken<'c> {
+    pub answer: Answer,
+    pub journal: KnownJournal<'c>,
+}
+
+/// Asks the source while nothing is to be done, and enters its answer; or says how the run ends here. All memory is taken
+/// before the source is asked.
+pub(crate) fn ask_idle<'c, S: Outcomes>(
+    alloc: Global,
+    journal: KnownJournal<'c>,
+    outcomes: &mut S,
+) -> Result<Taken<'c>, RunEnd>
+    requires resting { in_flight journal.events ≡ [] }
+    ensures answered { IfOk result (IsAnswered (S.whole outcomes.old) journal.entry (S.rest outcomes.old) (S.rest outcomes.new)) }
+    ensures unanswered { IfErr result
+        (IsUnanswered (S.whole outcomes.old) journal.entry (S.rest outcomes.old) (S.rest outcomes.new) (S.over outcomes.old)) }
+    ensures cause { IfErr result (EndsWithCause (S.faults outcomes.old) (S.faults outcomes.new)) }
+
+    ensures agrees { S.agrees outcomes.old journal.entry.cluster journal.entry.events 0
+        → IfOk result (λ taken. S.agrees outcomes.new journal.entry.cluster taken.journal.events 0) }
+    ensures agrees_at_end { S.agrees outcomes.old journal.entry.cluster journal.entry.events 0
+        → IfErr result (λ end. OfJournal (AgreesWith (S.agrees outcomes.new) journal.entry.cluster) (watched_end end)) }
+    ensures fitting { S.careful outcomes.old ≡ true → S.agrees outcomes.old journal.entry.cluster journal.entry.events 0
+        → IfErr result (λ end. IsReplayExpected (watched_end end)) }
+
+    ensures whole { S.whole outcomes.new ≡ S.whole outcomes.old }
+    ensures count { S.faults outcomes.old ≤ S.faults outcomes.new }
+    ensures careful { S.careful outcomes.new ≡ S.careful outcomes.old }
+    ensures steady { S.steady outcomes.new ≡ S.steady outcomes.old }
+    ensures over { S.steady outcomes.old ≡ true → S.over outcomes.old ≡ true → S.over outcomes.new ≡ true }
+    ensures source_follows { OnOk result (S.follows outcomes.old outcomes.new) }
+    ensures source_came { IfErr result (λ end. ReplayHasCome (S.follows outcomes.old outcomes.new) (S.said outcomes.old outcomes.new) (watched_end end)) }
+{
+    let Ok(resting) = Resting::new(alloc, journal) else {
+        return Err(RunEnd::NoMemory);
+    };
+    match outcomes.next(resting.flight()) {
+        Next::Answer(answer) => match resting.take(answer) {
+            Ok(journal) => Ok(Taken { answer, journal }),
+            Err(back) => {
+                let journal = back.journal.into_journal();
+                Err(RunEnd::Unexpected(journal, back.answer))
+            }
+        },
+        Next::Silent => Err(RunEnd::Whole(resting.into_known().into_journal())),
+        Next::Failed => {
+            let journal = resting.into_known().into_journal();
+            Err(RunEnd::SourceFault(journal))
+        }
+    }
+}
+
+/// Asks the source while nothing is to be done, after the transition of this number in the run. Its answer is entered, and
+/// the watcher is told of it; where nothing more is said, the run is over. All memory is taken before the source is asked.
+pub(crate) fn take_idle<'c, S: Outcomes, V: Watcher>(
+    alloc: Global,
+    journal: KnownJournal<'c>,
+    outcomes: &mut S,
+    watcher: &mut V,
+    number: u32,
+) -> Result<KnownJournal<'c>, Ended>
+    requires resting { in_flight journal.events ≡ [] }
+    ensures goes_on { IfOk result (CameTo
+        (setting journal.entry.cluster journal.entry.promotions (S.whole outcomes.old) (S.steady outcomes.old) (V.names watcher.old))
+        (idle number journal.entry.events)
+        (sight (S.rest outcomes.old) (S.over outcomes.old) (V.told watcher.old))
+        (sight (S.rest outcomes.new) (S.over outcomes.new) (V.told watcher.new))
+        (due (number + 1))) }
+    ensures ends { IfErr result (RunEndsAs
+        (setting journal.entry.cluster journal.entry.promotions (S.whole outcomes.old) (S.steady outcomes.old) (V.names watcher.old))
+        (idle number journal.entry.events)
+        (sight (S.rest outcomes.old) (S.over outcomes.old) (V.told watcher.old))
+        (sight (S.rest outcomes.new) (S.over outcomes.new) (V.told watcher.new))) }
+    ensures cause { IfErr result (HasCause (S.faults outcomes.old) (S.faults outcomes.new) (V.stops watcher.old) (V.stops watcher.new)) }
+
+    ensures agrees { S.agrees outcomes.old journal.entry.cluster journal.entry.events 0
+        → IfOk result (λ later. S.agrees outcomes.new journal.entry.cluster later.events 0) }
+    ensures agrees_at_end { S.agrees outcomes.old journal.entry.cluster journal.entry.events 0
+        → IfErr result (OfJournal (AgreesWith (S.agrees outcomes.new) journal.entry.cluster)) }
+    ensures fitting { S.careful outcomes.old ≡ true → S.agrees outcomes.old journal.entry.cluster journal.entry.events 0 → IfErr result IsReplayExpected }
+
+    ensures whole { S.whole outcomes.new ≡ S.whole outcomes.old }
+    ensures count { S.faults outcomes.old ≤ S.faults outcomes.new }
+    ensures careful { S.careful outcomes.new ≡ S.careful outcomes.old }
+    ensures steady { S.steady outcomes.new ≡ S.steady outcomes.old }
+    ensures over { S.steady outcomes.old ≡ true → S.over outcomes.old ≡ true → S.over outcomes.new ≡ true }
+    ensures source_follows { OnOk result (S.follows outcomes.old outcomes.new) }
+    ensures source_came { IfErr result (ReplayHasCome (S.follows outcomes.old outcomes.new) (S.said outcomes.old outcomes.new)) }
+    ensures names { V.names watcher.new ≡ V.names watcher.old }
+    ensures stops { V.stops watcher.old ≤ V.stops watcher.new }
+    ensures watcher_follows { OnOk result (V.follows watcher.old watcher.new) }
+    ensures watcher_came { IfErr result (ReplayHasHeard (V.follows watcher.old watcher.new) (V.stopped watcher.old watcher.new)) }
+{
+    match ask_idle(alloc, journal, outcomes) {
+        Ok(taken) => match watcher.taken(taken.answer) {
+            Heard::Go => Ok(taken.journal),
+            Heard::Stop => Err(Err(ReplayStop::Stopped(taken.journal.into_journal()))),
+        },
+        Err(end) => Err(end.watched()),
+    }
+}

@@ -1,0 +1,141 @@
+//! A transition of a run that is kept, and what comes right after it.
+
+ghost use Rattle.std.specs.Prelude.{◌≡◌, ◌≤◌, ◌+◌, ℕ, true, None, Option, List, [], ◌∷◌, ◌++◌, length, IfOk, IfErr, IfSome, OnOk, OnErr};
+ghost use Rattle.cluster_types.specs.declared.journal.Answer.{Answer as AnswerOf};
+ghost use Rattle.cluster_types.specs.declared.journal.Event.{Event as EventOf};
+ghost use Rattle.cluster_types.specs.Safety.{IsAtRest};
+ghost use Rattle.cluster_types.specs.Valid.{IsValid};
+ghost use Rattle.graph_exec.specs.Keeping.{EndsCome, EndsWithCause, KeepsEnd, KeepsTo, StaysOf, passed_end, watched_end};
+ghost use Rattle.graph_exec.specs.Replays.{AgreesWith, IsReplayExpected, OfJournal, setting};
+
+use crate::run::idling::ask_idle;
+use crate::run::planning::plan_anew;
+use crate::run::run_ending::RunEnd;
+use crate::{End, KnownJournal, Outcomes, run_transition};
+use cluster_types::{NoMemory, Passed, PassedEnd, Placed};
+use listed::Listed;
+use std::alloc::Global;
+
+/// How a transition ended, as it is kept.
+fn passed_end(end: End) -> PassedEnd
+    ensures { result ≡ passed_end end }
+{
+    match end {
+        End::Complete => PassedEnd::Complete,
+        End::Aborted(_) => PassedEnd::Aborted,
+        End::Unexpected(_) | End::SourceFault => PassedEnd::Cut,
+    }
+}
+
+/// What is kept of a transition, with its events from a position of the journal up to another. None where the positions
+/// don't fit 32 bits.
+fn passed_of(placed: Placed, begins_at: usize, ends_at: usize, end: PassedEnd) -> Option<Passed>
+    requires { begins_at ≤ ends_at }
+    ensures { IfSome result (λ passed. passed ≡ record {
+      pins = placed.pins;
+      table = placed.table;
+      none = placed.none;
+      begins_at = begins_at;
+      ends_at = ends_at;
+      end = end;
+    }) }
+{
+    if ends_at >= 4_294_967_296 {
+        return None;
+    }
+    Some(Passed {
+        pins: placed.pins,
+        table: placed.table,
+        none: placed.none,
+        begins_at: begins_at as u32,
+        ends_at: ends_at as u32,
+        end,
+    })
+}
+
+/// Keeps a transition behind those before it. It fails where memory runs out, or where the positions don't fit 32 bits.
+fn keep_behind(
+    passed: &mut Listed<Passed>,
+    placed: Placed,
+    begins_at: usize,
+    ends_at: usize,
+    end: PassedEnd,
+) -> Result<(), NoMemory>
+    requires { begins_at ≤ ends_at }
+    ensures ok { OnOk result (passed.new ≡ passed.old ++ record {
+      pins = placed.pins;
+      table = placed.table;
+      none = placed.none;
+      begins_at = begins_at;
+      ends_at = ends_at;
+      end = end;
+    } ∷ []) }
+    ensures err { OnErr result (passed.new ≡ passed.old) }
+{
+    let Some(kept) = passed_of(placed, begins_at, ends_at, end) else {
+        return Err(NoMemory);
+    };
+    Ok(passed.push(kept)?)
+}
+
+/// Makes the next transition of a run, and keeps it behind those before it: plans it, carries it out, and, where it is
+/// complete, takes the answer that comes then. Gives the journal for which the next is due, or says how the run ends.
+pub(crate) fn keep_transition<'c, S: Outcomes>(
+    alloc: Global,
+    journal: KnownJournal<'c>,
+    outcomes: &mut S,
+    passed: &mut Listed<Passed>,
+) -> Result<KnownJournal<'c>, RunEnd>
+    requires valid { IsValid journal.cluster }
+    requires at_rest { IsAtRest journal.events }
+    ensures goes_on { (es : List EventOf) (first : Option (List AnswerOf))
+        → KeepsTo (setting journal.entry.cluster journal.entry.promotions (S.whole outcomes.old) (S.steady outcomes.old) None) es first
+        (S.rest outcomes.old) (S.over outcomes.old) passed.old journal.entry
+        → IfOk result (KeepsTo (setting journal.entry.cluster journal.entry.promotions (S.whole outcomes.old) (S.steady outcomes.old) None) es first
+        (S.rest outcomes.new) (S.over outcomes.new) passed.new) }
+    ensures ends { (es : List EventOf) (first : Option (List AnswerOf))
+        → KeepsTo (setting journal.entry.cluster journal.entry.promotions (S.whole outcomes.old) (S.steady outcomes.old) None) es first
+        (S.rest outcomes.old) (S.over outcomes.old) passed.old journal.entry
+        → IfErr result (KeepsEnd (setting journal.entry.cluster journal.entry.promotions (S.whole outcomes.old) (S.steady outcomes.old) None) es first
+        (S.rest outcomes.new) passed.new) }
+    ensures stays { IfOk result (StaysOf journal.entry) }
+    ensures one_more { IfOk result (λ _. length passed.new ≡ length passed.old + 1) }
+    ensures few { length passed.new ≤ length passed.old + 1 }
+    ensures cause { IfErr result (EndsWithCause (S.faults outcomes.old) (S.faults outcomes.new)) }
+
+    ensures agrees { S.agrees outcomes.old journal.entry.cluster journal.entry.events 0
+        → IfOk result (λ later. S.agrees outcomes.new journal.entry.cluster later.events 0) }
+    ensures agrees_at_end { S.agrees outcomes.old journal.entry.cluster journal.entry.events 0
+        → IfErr result (λ end. OfJournal (AgreesWith (S.agrees outcomes.new) journal.entry.cluster) (watched_end end)) }
+    ensures fitting { S.careful outcomes.old ≡ true → S.agrees outcomes.old journal.entry.cluster journal.entry.events 0
+        → IfErr result (λ end. IsReplayExpected (watched_end end)) }
+
+    ensures whole { S.whole outcomes.new ≡ S.whole outcomes.old }
+    ensures count { S.faults outcomes.old ≤ S.faults outcomes.new }
+    ensures careful { S.careful outcomes.new ≡ S.careful outcomes.old }
+    ensures steady { S.steady outcomes.new ≡ S.steady outcomes.old }
+    ensures over { S.steady outcomes.old ≡ true → S.over outcomes.old ≡ true → S.over outcomes.new ≡ true }
+    ensures source_follows { OnOk result (S.follows outcomes.old outcomes.new) }
+    ensures source_came { IfErr result (EndsCome (S.said outcomes.old outcomes.new)) }
+{
+    let begins_at = journal.count();
+    let Ok(planned) = plan_anew(alloc, journal) else {
+        return Err(RunEnd::NoMemory);
+    };
+    let mut executor = planned.executor;
+    let end = run_transition(&mut executor, outcomes);
+    let later = executor.into_known();
+    let ends_at = later.count();
+    let Ok(()) = keep_behind(passed, planned.placed, begins_at, ends_at, passed_end(end)) else {
+        return Err(RunEnd::NoMemory);
+    };
+    match end {
+        End::Complete => match ask_idle(alloc, later, outcomes) {
+            Ok(taken) => Ok(taken.journal),
+            Err(ended) => Err(ended),
+        },
+        End::Aborted(_) => Ok(later),
+        End::Unexpected(answer) => Err(RunEnd::Unexpected(later.into_journal(), answer)),
+        End::SourceFault => Err(RunEnd::SourceFault(later.into_journal())),
+    }
+}

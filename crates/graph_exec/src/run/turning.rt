@@ -1,0 +1,107 @@
+//! One transition of a run, from its plan to where the next is due.
+
+ghost use Rattle.std.specs.Prelude.{◌≡◌, ◌≤◌, ◌+◌, true, Err, IfOk, IfErr, IfSome, OnOk};
+ghost use Rattle.cluster_types.specs.Runs.{due};
+ghost use Rattle.cluster_types.specs.Safety.{IsAtRest};
+ghost use Rattle.cluster_types.specs.Valid.{IsValid};
+ghost use Rattle.graph_exec.specs.declared.run.stop.ReplayStop.TheVariants.{Stopped};
+ghost use Rattle.graph_exec.specs.Replays.{AgreesWith, HasCause, ReplayHasCome, ReplayHasHeard, IsReplayExpected, OfJournal, WritesNamesOf, setting, sight};
+ghost use Rattle.graph_exec.specs.Turns.{CameTo, RunEndsAs, Serves, left_of};
+
+use crate::run::carrying_out::carry_out;
+use crate::run::idling::take_idle;
+use crate::run::planning::{KeptPlan, plan_next};
+use crate::run::stop::{Ended, ReplayStop};
+use crate::{Executor, Heard, KnownJournal, Outcomes, Watcher};
+use faults::with;
+use std::alloc::Global;
+
+/// The journal for which the next transition is due, and the last plan.
+#[derive(Drop)]
+pub(crate) struct Turn<'c> {
+    pub journal: KnownJournal<'c>,
+    pub plan: KeptPlan,
+}
+
+/// The end of a run that the watcher stops at a plan. What would be kept of the plan is let go.
+fn stopped<P: Drop>(executor: Executor<'_>, _plan: P) -> Ended
+    ensures { result ≡ Err (Stopped (left_of executor.entry)) }
+{
+    Err(ReplayStop::Stopped(executor.into_journal()))
+}
+
+/// Makes the transition of this number in the run: plans it, carries it out, and, where it is complete, takes the answer
+/// that comes then. Gives the journal for which the next is due, with the plan, or says how the run ends.
+pub(crate) fn make_transition<'c, S: Outcomes, V: Watcher>(
+    alloc: Global,
+    journal: KnownJournal<'c>,
+    last: Option<KeptPlan>,
+    outcomes: &mut S,
+    watcher: &mut V,
+    number: u32,
+) -> Result<Turn<'c>, Ended>
+    requires valid { IsValid journal.cluster }
+    requires at_rest { IsAtRest journal.events }
+    requires last { IfSome last (Serves journal.cluster) }
+    requires names { WritesNamesOf journal.cluster (V.names watcher.old) }
+    ensures goes_on { IfOk result (λ turn. CameTo
+        (setting journal.entry.cluster journal.entry.promotions (S.whole outcomes.old) (S.steady outcomes.old) (V.names watcher.old))
+        (due number journal.entry.events)
+        (sight (S.rest outcomes.old) (S.over outcomes.old) (V.told watcher.old))
+        (sight (S.rest outcomes.new) (S.over outcomes.new) (V.told watcher.new))
+        (due (number + 1)) turn.journal) }
+    ensures serves { IfOk result (λ turn. Serves journal.entry.cluster turn.plan) }
+    ensures ends { IfErr result (RunEndsAs
+        (setting journal.entry.cluster journal.entry.promotions (S.whole outcomes.old) (S.steady outcomes.old) (V.names watcher.old))
+        (due number journal.entry.events)
+        (sight (S.rest outcomes.old) (S.over outcomes.old) (V.told watcher.old))
+        (sight (S.rest outcomes.new) (S.over outcomes.new) (V.told watcher.new))) }
+    ensures cause { IfErr result (HasCause (S.faults outcomes.old) (S.faults outcomes.new) (V.stops watcher.old) (V.stops watcher.new)) }
+
+    ensures agrees { S.agrees outcomes.old journal.entry.cluster journal.entry.events 0
+        → IfOk result (λ turn. S.agrees outcomes.new journal.entry.cluster turn.journal.events 0) }
+    ensures agrees_at_end { S.agrees outcomes.old journal.entry.cluster journal.entry.events 0
+        → IfErr result (OfJournal (AgreesWith (S.agrees outcomes.new) journal.entry.cluster)) }
+    ensures fitting { S.careful outcomes.old ≡ true → S.agrees outcomes.old journal.entry.cluster journal.entry.events 0 → IfErr result IsReplayExpected }
+
+    ensures whole { S.whole outcomes.new ≡ S.whole outcomes.old }
+    ensures count { S.faults outcomes.old ≤ S.faults outcomes.new }
+    ensures careful { S.careful outcomes.new ≡ S.careful outcomes.old }
+    ensures steady { S.steady outcomes.new ≡ S.steady outcomes.old }
+    ensures over { S.steady outcomes.old ≡ true → S.over outcomes.old ≡ true → S.over outcomes.new ≡ true }
+    ensures source_follows { OnOk result (S.follows outcomes.old outcomes.new) }
+    ensures source_came { IfErr result (ReplayHasCome (S.follows outcomes.old outcomes.new) (S.said outcomes.old outcomes.new)) }
+    ensures names { V.names watcher.new ≡ V.names watcher.old }
+    ensures stops { V.stops watcher.old ≤ V.stops watcher.new }
+    ensures watcher_follows { OnOk result (V.follows watcher.old watcher.new) }
+    ensures watcher_came { IfErr result (ReplayHasHeard (V.follows watcher.old watcher.new) (V.stopped watcher.old watcher.new)) }
+{
+    let Ok((states, planned)) = plan_next(alloc, journal, last) else {
+        return Err(Err(ReplayStop::NoMemory));
+    };
+    if let Heard::Stop = watcher.planned(number, &planned.placed) {
+        return Err(stopped(planned.executor, (states, planned.placed)));
+    }
+    let carried = carry_out(planned.executor, outcomes, watcher, number);
+    let ((states, placed), closed) = match with((states, planned.placed), carried) {
+        Ok(both) => both,
+        Err(ended) => return Err(ended),
+    };
+    let plan = KeptPlan {
+        states,
+        placed,
+        graph: closed.graph,
+    };
+    if !closed.complete {
+        return Ok(Turn {
+            journal: closed.journal,
+            plan,
+        });
+    }
+    let taken = take_idle(alloc, closed.journal, outcomes, watcher, number);
+    let (plan, journal) = match with(plan, taken) {
+        Ok(both) => both,
+        Err(ended) => return Err(ended),
+    };
+    Ok(Turn { journal, plan })
+}

@@ -1,0 +1,77 @@
+//! A run over a source of outcomes, told to a watcher.
+
+ghost use Rattle.std.specs.Prelude.{◌≡◌, ◌<◌, ◌≤◌, ◌^◌, true};
+ghost use Rattle.cluster_types.specs.Journals.{moment_of};
+ghost use Rattle.cluster_types.specs.Safety.{IsAtRest, IsSafeRun};
+ghost use Rattle.cluster_types.specs.Valid.{IsValid};
+ghost use Rattle.graph_exec.specs.Replays.{AgreesWith, HasCause, ReplayHasCome, ReplayHasHeard, IsReplayExpected, IsJournalKept, OfJournal, ReplaysAs, WritesNamesOf, setting, sight};
+
+use crate::run::stop::ReplayStop;
+use crate::run::turning::make_transition;
+use crate::{KnownJournal, Outcomes, Watcher};
+use cluster_types::{Cluster, Journal};
+use state_unpack::valid_clusters_have_few_monitors;
+use std::alloc::Global;
+
+/// Makes the run of a journal: transition after transition, each with the plan for the journal so far, at most so many. After
+/// an aborted transition the next is due; after a complete one the source is asked while nothing is to be done, and an answer
+/// that applies then makes the next due. Where nothing more is said, the run is over.
+///
+/// The watcher is told each line as it happens. Out of memory comes between two transitions alone, so that a transition that
+/// was told is carried out. The last plan is kept, and serves again while the journal tells the same states; the journal is
+/// read once.
+///
+/// It asks for a valid cluster, for a journal in order with nothing in flight, as a status gives it, for a moment in seconds
+/// that fits 64 bits, and for a watcher that writes by the names of this cluster, if by any.
+pub fn replay_watched<S: Outcomes, V: Watcher>(
+    alloc: Global,
+    cluster: &Cluster,
+    journal: Journal,
+    outcomes: &mut S,
+    watcher: &mut V,
+    most: u32,
+) -> Result<Journal, ReplayStop>
+    requires valid { IsValid cluster.now }
+    requires at_rest { IsAtRest journal.events }
+    requires moment { moment_of journal.events < 2 ^ 64 }
+    requires names { WritesNamesOf cluster.now (V.names watcher.old) }
+
+    // Which run was made, and how far; and what the watcher was told of it.
+    ensures run { ReplaysAs
+        (setting cluster.now journal.promotions (S.whole outcomes.old) (S.steady outcomes.old) (V.names watcher.old)) journal.events
+        (sight (S.rest outcomes.old) (S.over outcomes.old) (V.told watcher.old))
+        (sight (S.rest outcomes.new) (S.over outcomes.new) (V.told watcher.new)) most result }
+    ensures safe { IsSafeRun cluster.now journal.promotions (S.whole outcomes.old) journal.events (S.rest outcomes.old) }
+    ensures kept { OfJournal (IsJournalKept journal.promotions) result }
+    ensures cause { HasCause (S.faults outcomes.old) (S.faults outcomes.new) (V.stops watcher.old) (V.stops watcher.new) result }
+
+    // What became of the source.
+    ensures whole { S.whole outcomes.new ≡ S.whole outcomes.old }
+    ensures count { S.faults outcomes.old ≤ S.faults outcomes.new }
+    ensures careful { S.careful outcomes.new ≡ S.careful outcomes.old }
+    ensures steady { S.steady outcomes.new ≡ S.steady outcomes.old }
+    ensures over { S.steady outcomes.old ≡ true → S.over outcomes.old ≡ true → S.over outcomes.new ≡ true }
+    ensures source_follows { ReplayHasCome (S.follows outcomes.old outcomes.new) (S.said outcomes.old outcomes.new) result }
+    ensures agrees { S.agrees outcomes.old cluster.now journal.events 0 → OfJournal (AgreesWith (S.agrees outcomes.new) cluster.now) result }
+    ensures fitting { S.careful outcomes.old ≡ true → S.agrees outcomes.old cluster.now journal.events 0 → IsReplayExpected result }
+
+    // What became of the watcher.
+    ensures names { V.names watcher.new ≡ V.names watcher.old }
+    ensures stops { V.stops watcher.old ≤ V.stops watcher.new }
+    ensures watcher_follows { ReplayHasHeard (V.follows watcher.old watcher.new) (V.stopped watcher.old watcher.new) result }
+{
+    valid_clusters_have_few_monitors();
+    let Ok(mut known) = KnownJournal::new(alloc, cluster, journal) else {
+        return Err(ReplayStop::NoMemory);
+    };
+    let mut last = None;
+    for made in 0..most {
+        let turn = match make_transition(alloc, known, last, outcomes, watcher, made + 1) {
+            Ok(turn) => turn,
+            Err(ended) => return ended,
+        };
+        known = turn.journal;
+        last = Some(turn.plan);
+    }
+    Err(ReplayStop::Most(known.into_journal()))
+}

@@ -1,0 +1,142 @@
+//! What is kept of a transition that is carried out.
+
+ghost use Rattle.std.specs.Prelude.{◌≡◌, ◌<◌, ◌≤◌, ◌+◌, ◌++◌, [], true, false, IfOk, IfErr, IfSome, IfNone, find};
+ghost use Rattle.cluster_types.specs.Steps.{aborts, flying, has_begun, has_room};
+ghost use Rattle.graph_exec.specs.Flights.{pairs};
+ghost use Rattle.graph_exec.specs.Running.{BeginsNow, IsRunSettled, going};
+
+use crate::transition::flight::InFlight;
+use crate::transition::known_journal::KnownJournal;
+use crate::transition::log::Log;
+use cluster_types::{Event, Graph};
+use std::alloc::Global;
+use std::marker::Model;
+
+/// A transition that goes on: its graph, the journal when it was planned, and the events since.
+///
+/// All memory is taken when it is made: two events of each action, and 256 answers from outside.
+#[derive(Drop)]
+pub(crate) struct Course<'c> {
+    pub(crate) log: Log<'c>,
+    pub(crate) flight: InFlight,
+}
+
+impl<'c> Model for Course<'c> {
+    ghost use Rattle.graph_exec.specs.Running.{Running, FlightFollows, running};
+
+    ghost Value = { Running };
+
+    ghost view = { λ e. running e.log e.flight };
+
+    ghost invariant = { λ e. FlightFollows e.log e.flight };
+}
+
+/// Out of memory. What was handed in is handed back as it was.
+#[derive(Drop)]
+pub struct NotBegun<'c> {
+    pub journal: KnownJournal<'c>,
+    pub graph: Graph,
+}
+
+/// What a transition leaves: the whole journal, with what it tells, and the graph that was carried out.
+#[derive(Drop)]
+pub struct Parts<'c> {
+    pub journal: KnownJournal<'c>,
+    pub graph: Graph,
+}
+
+impl<'c> Course<'c> {
+    /// Nothing has begun.
+    pub fn new(
+        alloc: Global,
+        journal: KnownJournal<'c>,
+        graph: Graph,
+    ) -> Result<Course<'c>, NotBegun<'c>>
+        ensures ok { IfOk result (λ e. e ≡ record {
+          cluster = journal.entry.cluster;
+          graph = graph;
+          planned_at = journal.entry.events;
+          since = [];
+          promotions = journal.entry.promotions;
+        }) }
+        ensures journal { IfErr result (λ back. back.journal ≡ journal.entry) }
+        ensures graph { IfErr result (λ back. back.graph ≡ graph) }
+    {
+        let more = 2 * graph.count() as usize + 256;
+        let log = match Log::new(journal, more) {
+            Ok(log) => log,
+            Err(journal) => return Err(NotBegun { journal, graph }),
+        };
+        match InFlight::new(alloc, graph) {
+            Ok(flight) => Ok(Course { log, flight }),
+            Err(graph) => {
+                let journal = log.into_known();
+                Err(NotBegun { journal, graph })
+            }
+        }
+    }
+
+    /// Lends the actions in flight.
+    pub fn flight(&self) -> &InFlight
+        ensures pairs { pairs result.now ≡ flying (going self.now) self.now.since }
+        ensures graph { result.now.progress.graph ≡ self.now.graph }
+        ensures from_one { has_begun (going self.now) self.now.since 0 ≡ false }
+    {
+        &self.flight
+    }
+
+    /// The first event that aborts the transition.
+    pub fn abort(&self) -> Option<Event>
+        ensures { result ≡ find (aborts self.now.cluster) self.now.since }
+    {
+        self.log.abort()
+    }
+
+    /// Whether fewer actions are in flight than the batch limit.
+    fn has_room(&self) -> bool
+        ensures { result ≡ has_room (going self.now) self.now.since }
+    {
+        let limit = self.log.cluster().properties.batch_limit;
+        limit == 0 || self.flight.count() < limit
+    }
+
+    /// Of the actions that may begin, the one of lowest number begins, and its number is given. Where none may, nothing
+    /// changes.
+    pub fn begin_next(&mut self) -> Option<u32>
+        ensures begins { IfSome result (λ k. BeginsNow self.old self.new k) }
+        ensures settled { IfNone result (IsRunSettled self.old self.new) }
+    {
+        if self.log.abort().is_some() {
+            return None;
+        }
+        if !self.has_room() {
+            return None;
+        }
+        let number = match self.flight.next() {
+            Some(number) => number,
+            None => return None,
+        };
+        let action = self.flight.graph().action(number);
+        self.flight.begin(number);
+        self.log.add(Event::Begin { number, action });
+        Some(number)
+    }
+
+    /// The whole journal: that of the plan, and the events since; and what it tells.
+    pub fn into_known(self) -> KnownJournal<'c>
+        ensures { result ≡ record { cluster = self.entry.cluster; events = self.entry.planned_at ++ self.entry.since; promotions = self.entry.promotions } }
+    {
+        self.log.into_known()
+    }
+
+    /// The same, with the graph.
+    pub fn into_parts(self) -> Parts<'c>
+        ensures journal { result.journal ≡ record { cluster = self.entry.cluster; events = self.entry.planned_at ++ self.entry.since; promotions = self.entry.promotions } }
+        ensures graph { result.graph ≡ self.entry.graph }
+    {
+        Parts {
+            journal: self.log.into_known(),
+            graph: self.flight.into_graph(),
+        }
+    }
+}

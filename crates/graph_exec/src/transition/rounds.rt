@@ -1,0 +1,172 @@
+//! One round of a transition over a source: all that may begin, begins, and then an answer is taken.
+
+ghost use Rattle.std.specs.Prelude.{◌≡◌, ◌<◌, ◌≤◌, ◌+◌, true, false, IfSome, IfNone, IfOk, IfErr, OnOk, unwrap_or};
+ghost use Rattle.cluster_io.specs.Streams.{Rose};
+ghost use Rattle.cluster_types.specs.Steps.{IsWaiting, is_settled};
+ghost use Rattle.graph_exec.specs.Rounds.{Advanced, Answered, StopsAs, asks_left, begins_left};
+ghost use Rattle.graph_exec.specs.Running.{IsUnderWay, Went, going};
+ghost use Rattle.graph_exec.specs.Transitions.{Accords, EndsAs, GoneTo, HasCome, HasGoneToEnd, IsExpected, WentAsSaid};
+ghost use Rattle.graph_exec.specs.Watching.{HasHeard, Hears, heard_in};
+
+use crate::transition::ends::WatchedEnd;
+use crate::transition::executor::Executor;
+use crate::transition::outcomes::{Next, Outcomes};
+use crate::transition::watcher::{Heard, Watcher};
+use cluster_types::Answer;
+
+impl<'c> Executor<'c> {
+    /// Of the actions that may begin, the one of lowest number begins, and the source and then the watcher are told. Where
+    /// none may, nothing changes.
+    fn begin_one<S: Outcomes, V: Watcher>(
+        &mut self,
+        outcomes: &mut S,
+        watcher: &mut V,
+    ) -> Option<Heard>
+        ensures went { Went (S.whole outcomes.old) self.old self.new (S.rest outcomes.old) (S.rest outcomes.new) }
+        ensures said { WentAsSaid self.old self.new (S.rest outcomes.old) (S.rest outcomes.new) }
+        ensures on { IfSome result (λ heard. begins_left self.new < begins_left self.old) }
+        ensures settled { IfNone result (is_settled (going self.new) self.new.since ≡ true) }
+        ensures asks { asks_left self.new ≤ asks_left self.old }
+        ensures under_way { IsUnderWay self.new }
+
+        ensures whole { S.whole outcomes.new ≡ S.whole outcomes.old }
+        ensures count { S.faults outcomes.old ≤ S.faults outcomes.new }
+        ensures asked { S.asked outcomes.new ≡ S.asked outcomes.old }
+        ensures careful { S.careful outcomes.new ≡ S.careful outcomes.old }
+        ensures steady { S.steady outcomes.new ≡ S.steady outcomes.old }
+        ensures over { S.over outcomes.new ≡ S.over outcomes.old }
+        ensures agrees { Accords (S.agrees outcomes.old) self.old → Accords (S.agrees outcomes.new) self.new }
+        ensures source_follows { S.follows outcomes.old outcomes.new }
+
+        ensures told { Hears (S.whole outcomes.old) (V.names watcher.old) self.old self.new (S.rest outcomes.old) (S.rest outcomes.new)
+            (V.told watcher.old) (V.told watcher.new) (unwrap_or result Heard.Go) }
+        ensures names { V.names watcher.new ≡ V.names watcher.old }
+        ensures stops { V.stops watcher.old ≤ V.stops watcher.new }
+        ensures stopped { result ≡ Some Heard.Stop → Rose (V.stops watcher.old) (V.stops watcher.new) }
+        ensures watcher_follows { HasHeard (V.follows watcher.old watcher.new) (V.stopped watcher.old watcher.new) (unwrap_or result Heard.Go) }
+    {
+        let Some(number) = self.begin_next() else {
+            return None;
+        };
+        let action = self.course.flight().graph().action(number);
+        outcomes.begun(number, action);
+        Some(watcher.begun(number, action))
+    }
+
+    /// All that may begin, begins, in the order of their numbers, as long as the watcher goes on.
+    pub(crate) fn begin_all<S: Outcomes, V: Watcher>(
+        &mut self,
+        outcomes: &mut S,
+        watcher: &mut V,
+    ) -> Heard
+        ensures went { Went (S.whole outcomes.old) self.old self.new (S.rest outcomes.old) (S.rest outcomes.new) }
+        ensures said { WentAsSaid self.old self.new (S.rest outcomes.old) (S.rest outcomes.new) }
+        ensures settled { result ≡ Heard.Go → is_settled (going self.new) self.new.since ≡ true }
+        ensures asks { asks_left self.new ≤ asks_left self.old }
+        ensures under_way { IsUnderWay self.new }
+
+        ensures whole { S.whole outcomes.new ≡ S.whole outcomes.old }
+        ensures count { S.faults outcomes.old ≤ S.faults outcomes.new }
+        ensures asked { S.asked outcomes.new ≡ S.asked outcomes.old }
+        ensures careful { S.careful outcomes.new ≡ S.careful outcomes.old }
+        ensures steady { S.steady outcomes.new ≡ S.steady outcomes.old }
+        ensures over { S.over outcomes.new ≡ S.over outcomes.old }
+        ensures agrees { Accords (S.agrees outcomes.old) self.old → Accords (S.agrees outcomes.new) self.new }
+        ensures source_follows { S.follows outcomes.old outcomes.new }
+
+        ensures told { Hears (S.whole outcomes.old) (V.names watcher.old) self.old self.new (S.rest outcomes.old) (S.rest outcomes.new)
+            (V.told watcher.old) (V.told watcher.new) result }
+        ensures names { V.names watcher.new ≡ V.names watcher.old }
+        ensures stops { V.stops watcher.old ≤ V.stops watcher.new }
+        ensures stopped { result ≡ Heard.Stop → Rose (V.stops watcher.old) (V.stops watcher.new) }
+        ensures watcher_follows { HasHeard (V.follows watcher.old watcher.new) (V.stopped watcher.old watcher.new) result }
+    {
+        loop {
+            match self.begin_one(outcomes, watcher) {
+                None => return Heard::Go,
+                Some(Heard::Stop) => return Heard::Stop,
+                Some(Heard::Go) => {}
+            }
+        }
+    }
+
+    /// The source is asked, where none may begin and something is in flight. Its answer is taken, or the first action in
+    /// flight ends silently, and the answer is given; else it says how the transition ends here.
+    fn ask<S: Outcomes>(&mut self, outcomes: &mut S) -> Result<Answer, WatchedEnd>
+        requires { IsWaiting (going self.old) self.old.since }
+        ensures answered { IfOk result (Answered (S.whole outcomes.old) self.old self.new (S.rest outcomes.old) (S.rest outcomes.new)) }
+        ensures stops { IfErr result (StopsAs (S.whole outcomes.old) self.old self.new (S.rest outcomes.old) (S.rest outcomes.new)) }
+        ensures under_way { IsUnderWay self.new }
+        ensures cause { IfErr result (λ end. end ≡ WatchedEnd.SourceFault → Rose (S.faults outcomes.old) (S.faults outcomes.new)) }
+        ensures whole { S.whole outcomes.new ≡ S.whole outcomes.old }
+        ensures count { S.faults outcomes.old ≤ S.faults outcomes.new }
+        ensures asked { S.asked outcomes.new ≤ S.asked outcomes.old + 1 }
+        ensures careful { S.careful outcomes.new ≡ S.careful outcomes.old }
+        ensures steady { S.steady outcomes.new ≡ S.steady outcomes.old }
+        ensures over { S.steady outcomes.old ≡ true → S.over outcomes.old ≡ true → S.over outcomes.new ≡ true }
+        ensures agrees { Accords (S.agrees outcomes.old) self.old → Accords (S.agrees outcomes.new) self.new }
+        ensures source_follows { OnOk result (S.follows outcomes.old outcomes.new) }
+        ensures source_came { IfErr result (HasCome (S.follows outcomes.old outcomes.new) (S.said outcomes.old outcomes.new)) }
+        ensures said { S.steady outcomes.old ≡ true → S.over outcomes.new ≡ false
+            → OnOk result (WentAsSaid self.old self.new (S.rest outcomes.old) (S.rest outcomes.new)) }
+        ensures not_over { IfErr result (λ end. end ≡ WatchedEnd.SourceFault → S.over outcomes.old ≡ false) }
+        ensures unread { IfErr result (λ end. end ≡ WatchedEnd.SourceFault → S.rest outcomes.new ≡ S.rest outcomes.old) }
+        ensures fitting { S.careful outcomes.old ≡ true → Accords (S.agrees outcomes.old) self.old → IfErr result IsExpected }
+    {
+        match outcomes.next(self.course.flight()) {
+            Next::Answer(answer) => match self.take(answer) {
+                Ok(()) => Ok(answer),
+                Err(refused) => Err(WatchedEnd::Unexpected(refused.answer)),
+            },
+            Next::Silent => Ok(self.end_silently()),
+            Next::Failed => Err(WatchedEnd::SourceFault),
+        }
+    }
+
+    /// The source is asked, where none may begin and something is in flight, and the watcher is told of the answer that was
+    /// taken; else it says how the transition ends here.
+    pub(crate) fn go_on<S: Outcomes, V: Watcher>(
+        &mut self,
+        outcomes: &mut S,
+        watcher: &mut V,
+    ) -> Option<WatchedEnd>
+        requires { IsWaiting (going self.old) self.old.since }
+        ensures on { IfNone result (Advanced (S.whole outcomes.old) self.old self.new (S.rest outcomes.old) (S.rest outcomes.new)) }
+        ensures steps { IfSome result (GoneTo (S.whole outcomes.old) self.old self.new (S.rest outcomes.old) (S.rest outcomes.new)) }
+        ensures end { IfSome result (EndsAs self.new) }
+        ensures going { IfSome result (λ end. ¬ HasGoneToEnd end) }
+        ensures under_way { IsUnderWay self.new }
+
+        ensures cause { result ≡ Some WatchedEnd.SourceFault → Rose (S.faults outcomes.old) (S.faults outcomes.new) }
+        ensures whole { S.whole outcomes.new ≡ S.whole outcomes.old }
+        ensures count { S.faults outcomes.old ≤ S.faults outcomes.new }
+        ensures asked { S.asked outcomes.new ≤ S.asked outcomes.old + 1 }
+        ensures careful { S.careful outcomes.new ≡ S.careful outcomes.old }
+        ensures steady { S.steady outcomes.new ≡ S.steady outcomes.old }
+        ensures over { S.steady outcomes.old ≡ true → S.over outcomes.old ≡ true → S.over outcomes.new ≡ true }
+        ensures agrees { Accords (S.agrees outcomes.old) self.old → Accords (S.agrees outcomes.new) self.new }
+        ensures source_follows { IfNone result (S.follows outcomes.old outcomes.new) }
+        ensures source_came { IfSome result (HasCome (S.follows outcomes.old outcomes.new) (S.said outcomes.old outcomes.new)) }
+        ensures said { S.steady outcomes.old ≡ true → S.over outcomes.new ≡ false
+            → IfNone result (WentAsSaid self.old self.new (S.rest outcomes.old) (S.rest outcomes.new)) }
+        ensures failed { S.steady outcomes.old ≡ true → result ≡ Some WatchedEnd.SourceFault → self.new ≡ self.old }
+        ensures not_over { result ≡ Some WatchedEnd.SourceFault → S.over outcomes.old ≡ false }
+        ensures unread { result ≡ Some WatchedEnd.SourceFault → S.rest outcomes.new ≡ S.rest outcomes.old }
+        ensures fitting { S.careful outcomes.old ≡ true → Accords (S.agrees outcomes.old) self.old → IfSome result IsExpected }
+
+        ensures told { Hears (S.whole outcomes.old) (V.names watcher.old) self.old self.new (S.rest outcomes.old) (S.rest outcomes.new)
+            (V.told watcher.old) (V.told watcher.new) (heard_in result) }
+        ensures names { V.names watcher.new ≡ V.names watcher.old }
+        ensures stops { V.stops watcher.old ≤ V.stops watcher.new }
+        ensures stopped { result ≡ Some WatchedEnd.Stopped → Rose (V.stops watcher.old) (V.stops watcher.new) }
+        ensures watcher_follows { HasHeard (V.follows watcher.old watcher.new) (V.stopped watcher.old watcher.new) (heard_in result) }
+    {
+        match self.ask(outcomes) {
+            Ok(answer) => match watcher.taken(answer) {
+                Heard::Go => None,
+                Heard::Stop => Some(WatchedEnd::Stopped),
+            },
+            Err(end) => Some(end),
+        }
+    }
+}

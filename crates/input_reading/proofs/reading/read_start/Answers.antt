@@ -1,8 +1,0 @@
-use Rattle.input_reading.proofs.ValidHead.{at_rest_given, valid_given}
-use Rattle.input_reading.proofs.reading.read_start.Goals as goal
-
-pub returns-clause-valid : goal.returns-clause-valid
-returns-clause-valid c = valid_given c.args.text.items c.start_of.result c.start_of.ensures.head
-
-pub returns-clause-at_rest : goal.returns-clause-at_rest
-returns-clause-at_rest c = at_rest_given c.args.text.items c.start_of.result c.start_of.ensures.head

@@ -1,7 +1,0 @@
-use Rattle.std.proofs.Common.{◌∙◌}
-use Rattle.input_reading.proofs.FirstWords.{kept_suffice}
-use Rattle.input_reading.proofs.results.read_result.Goals as goal
-
-pub returns-clause-whole : goal.returns-clause-whole
-returns-clause-whole c all e =
-    c.result_of.ensures.value ∙ kept_suffice c.args.cluster.now c.args.moment c.args.before c.args.line c.args.words.now all e

@@ -1,6 +1,0 @@
-use Rattle.std.proofs.Common.{◌≡◌, drop}
-use Rattle.input_reading.specs.RunReading.{lines_of, with_lines}
-use Rattle.input_reading.proofs.run_reading.read_run.Given as goal
-
-abbrev pub invariant-loop-line : goal.invariant-loop-line
-invariant-loop-line l = lines_of l.cluster l.lines ≡ with_lines l.cluster l.read.items (drop l.line-index l.lines)

@@ -1,6 +1,0 @@
-use Rattle.std.proofs.Common.{drop}
-use Rattle.input_reading.proofs.LinesSoFar.{AreTold}
-use Rattle.input_reading.proofs.status.with_lines.Given as goal
-
-abbrev pub invariant-loop-line : goal.invariant-loop-line
-invariant-loop-line l = AreTold l.cluster l.told l.lines (drop l.line-index l.lines)

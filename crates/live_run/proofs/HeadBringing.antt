@@ -1,0 +1,214 @@
+-- What one answer of a reader of lines brings of the head of an input.
+use Rattle.std.proofs.Common.{◌≡◌, ℕ, ◌+◌, ◌-◌, ◌^◌, ◌≤◌, ◌<◌, Bool, true, false, if◌then◌else◌, Option, Some, None, Result, Ok, Err, List, [], ◌∷◌, ◌++◌, length, length-append, option_map, append_assoc, refl, ap, sym, ◌∙◌, arith}
+use Rattle.std.specs.List.{concat}
+use Rattle.cluster_io.specs.NextLine.{reader_answer, first_line_of, line_answer}
+use Rattle.cluster_io.specs.Readings.{Reading, ReaderAnswered}
+use Rattle.cluster_io.specs.declared.line_step.LineStep.{LineStep}
+use Rattle.cluster_io.specs.declared.line_step.LineStep.TheVariants.{Line, End, TooLong, TooLarge, Failed}
+use Rattle.cluster_io.proofs.LineAnswers.{answer_some}
+use Rattle.crm_lex.specs.RawLines.{physical_lines, raw_lines}
+use Rattle.crm_lex.specs.Reading.{Kept, kept, kept_of, reads_line, without_words}
+use Rattle.crm_lex.specs.declared.fault.LexCause.{LexCause}
+use Rattle.crm_lex.specs.declared.fault.LexCause.TheVariants.{LineTooLong}
+use Rattle.crm_lex.proofs.PhysicalLines.{concat-lines, few_lines}
+use Rattle.faults.specs.declared.fault.Fault.{Fault}
+use Rattle.faults.specs.declared.fault.Fault.TheVariants.{At, NoMemory}
+use Rattle.live_run.specs.Heads.{BringsHead, CanGoOn, HeadVerdict, KeepsBytes, begins_results, came_to, head_behind, head_verdict, lacks_memory, progress, head_by_words, refused, head_by_size, WhileWell, stop_for, taken, too_large}
+use Rattle.live_run.specs.declared.head.HeadStop.{HeadStop}
+use Rattle.live_run.specs.declared.head.HeadStop.TheVariants as stop
+use Rattle.live_run.proofs.Bringing.{handed_answer, handed_cut, long_room, longest_is, next_is, numbers_fit, room_is, some_if, stop_is}
+use Rattle.live_run.proofs.Cuts.{cut_of}
+
+-- what the words say that were read of a line
+pub words_said : (read : Result (List (List ℕ)) (Fault LexCause)) (words : Kept) (ends : Bool) (came : Option (Result (Unit {0}) HeadStop))
+    → (done : Unit {0}) → without_words read ≡ Ok done → words ≡ kept_of read → ((all : List (List ℕ)) → words ≡ kept all → ends ≡ begins_results all)
+    → came ≡ (if ends then Some (Ok tt) else None) → (text : List ℕ) (reading : Reading) (others : HeadVerdict)
+    → came_to came text reading others ≡ head_by_words read (taken text reading.next reading.room) others
+words_said (Ok all) words ends came done ok is begins by text reading others =
+    ap (λ (k : Option (Result (Unit {0}) HeadStop)). came_to k text reading others) by ∙ split ends (begins all is)
+  where
+    split : (e : Bool) → e ≡ begins_results all → came_to (if e then Some (Ok tt) else None) text reading others
+        ≡ (if begins_results all then taken text reading.next reading.room else others)
+    split true h = ap (λ (t : Bool). if t then taken text reading.next reading.room else others) h
+    split false h = ap (λ (t : Bool). if t then taken text reading.next reading.room else others) h
+words_said (Err fault) words ends came done ok is begins by text reading others = cc
+
+pub words_stop : (read : Result (List (List ℕ)) (Fault LexCause)) (fault : Fault LexCause) → without_words read ≡ Err fault → (text : List ℕ) (reading : Reading) (others : HeadVerdict)
+    → came_to (Some (Err (stop_for fault))) text reading others ≡ head_by_words read (taken text reading.next reading.room) others
+words_stop (Ok all) fault e text reading others = cc
+words_stop (Err (At line why)) fault e text reading others = cc
+words_stop (Err NoMemory) fault e text reading others = cc
+
+-- a line that is handed out, and then others
+pub line_head : (longest : ℕ) (before : List ℕ) (room n : ℕ) (raw : List ℕ) (more : List (List (List ℕ))) → line_answer room longest (physical_lines raw) ≡ Line
+    → head_verdict longest before room n (physical_lines raw ∷ more)
+    ≡ head_by_words (reads_line n raw) (taken (before ++ raw) (n + length (physical_lines raw)) (room - length raw))
+    (head_verdict longest (before ++ raw) (room - length raw) (n + length (physical_lines raw)) more)
+line_head longest before room n raw more line =
+    let bytes = concat (physical_lines raw) in
+    let lines = length (physical_lines raw) in
+    ap (λ s. head_by_size s n bytes (taken (before ++ bytes) (n + lines) (room - length bytes))
+    (head_verdict longest (before ++ bytes) (room - length bytes) (n + lines) more)) line
+    ∙ ap (λ (t : List ℕ). head_by_words (reads_line n t) (taken (before ++ t) (n + lines) (room - length t))
+    (head_verdict longest (before ++ t) (room - length t) (n + lines) more)) (concat-lines raw)
+
+module _ (text : List ℕ) (old new : Reading) (before : Option (List ℕ)) (left : List ℕ) (a : ReaderAnswered Line old new before (Some left)) where
+  -- the line, and then others
+  pub line_then : (more : List (List (List ℕ))) → head_verdict old.longest text old.room old.next (physical_lines new.raw ∷ more)
+      ≡ head_by_words (reads_line old.next new.raw) (taken (text ++ new.raw) new.next new.room) (head_verdict new.longest (text ++ new.raw) new.room new.next more)
+  line_then more =
+      line_head old.longest text old.room old.next new.raw more (handed_answer old new before (Some left) a left a.at_end)
+      ∙ rw (longest_is old new before (Some left) a, room_is old new before (Some left) a, next_is old new before (Some left) a) refl
+
+  line_whole : head_behind text old (a.bytes ++ left)
+      ≡ head_by_words (reads_line old.next new.raw) (taken (text ++ new.raw) new.next new.room) (head_behind (text ++ new.raw) new left)
+  line_whole =
+      ap (λ (t : List ℕ). head_verdict old.longest text old.room old.next (raw_lines t)) (sym (append_assoc old.held a.bytes left))
+      ∙ ap (head_verdict old.longest text old.room old.next) (handed_cut old new before (Some left) a left a.at_end).lines
+      ∙ line_then (raw_lines (new.held ++ left))
+
+pub line_brings : (came : Option (Result (Unit {0}) HeadStop)) (text : List ℕ) (old new : Reading) (before after : Option (List ℕ)) → ReaderAnswered Line old new before after
+    → ((others : HeadVerdict) → came_to came (text ++ new.raw) new others
+    ≡ head_by_words (reads_line old.next new.raw) (taken (text ++ new.raw) new.next new.room) others)
+    → BringsHead came (progress text old) (progress (text ++ new.raw) new) before after
+line_brings came text old new before None a says memory = ap (option_map (head_behind text old)) a.taken
+line_brings came text old new before (Some left) a says memory =
+    ap (option_map (head_behind text old)) a.taken
+    ∙ ap Some (line_whole text old new before left a ∙ sym (says (head_behind (text ++ new.raw) new left)))
+
+pub line_keeps : (text : List ℕ) (old new : Reading) (before after : Option (List ℕ)) → ReaderAnswered Line old new before after
+    → KeepsBytes (progress text old) (progress (text ++ new.raw) new) before after
+line_keeps text old new before None a = ap (option_map (λ (left : List ℕ). text ++ (old.held ++ left))) a.taken
+line_keeps text old new before (Some left) a =
+    ap (option_map (λ (left : List ℕ). text ++ (old.held ++ left))) a.taken
+    ∙ ap (λ (t : List ℕ). Some (text ++ t))
+    (sym (append_assoc old.held a.bytes left) ∙ (ap (λ (t : List ℕ). t ++ left) a.leaves.parts ∙ append_assoc new.raw new.held left))
+    ∙ ap Some (sym (append_assoc text new.raw (new.held ++ left)))
+
+pub line_can : (old new : Reading) (before after : Option (List ℕ)) → ReaderAnswered Line old new before after → CanGoOn old → CanGoOn new
+line_can old new before after a can = record {
+  longest = longest_is old new before after a ∙ can.longest;
+  going = stop_is old new before after a ∙ can.going;
+  numbered =
+      let next = next_is old new before after a in
+      let room = room_is old new before after a in
+      let fit = numbers_fit old new before after a can.numbered in
+      let in_room = a.leaves.in_room in
+      let numbered = can.numbered in
+      let few = few_lines new.raw in
+      omega (arith, next, room, fit, in_room, numbered, few);
+}
+
+-- nothing is left
+pub end_brings : (text : List ℕ) (old new : Reading) (before after : Option (List ℕ)) → ReaderAnswered End old new before after
+    → BringsHead (Some (Ok tt)) (progress text old) (progress text new) before after
+end_brings text old new before None a memory = ap (option_map (head_behind text old)) a.taken
+end_brings text old new before (Some left) a memory =
+    let bytes : old.held ++ (a.bytes ++ left) ≡ []
+    = sym (append_assoc old.held a.bytes left) ∙ (ap (λ (t : List ℕ). (old.held ++ a.bytes) ++ t) (a.at_end a.leaves.2) ∙ ap (λ (t : List ℕ). t ++ []) a.leaves.1) in
+    ap (option_map (head_behind text old)) a.taken
+    ∙ ap (λ (t : List ℕ). Some (head_verdict old.longest text old.room old.next (raw_lines t))) bytes
+    ∙ ap (λ (r : Reading). Some (taken text r.next r.room)) (sym a.leaves.0)
+
+-- the source failed, and what it gave before is held
+pub fault_brings : (text : List ℕ) (old new : Reading) (before after : Option (List ℕ)) → ReaderAnswered Failed old new before after
+    → BringsHead (Some (Err stop.ReadFault)) (progress text old) (progress text new) before after
+fault_brings text old new before None a memory = ap (option_map (head_behind text old)) a.taken
+fault_brings text old new before (Some left) a memory =
+    ap (option_map (head_behind text old)) a.taken
+    ∙ ap (λ (t : List ℕ). Some (head_verdict old.longest text old.room old.next (raw_lines t))) (sym (append_assoc old.held a.bytes left))
+    ∙ ap (λ (r : Reading). Some (head_verdict r.longest text r.room r.next (raw_lines (r.held ++ left)))) (sym a.leaves.0)
+
+-- a line isn't given, by its size
+stops_text : (text : List ℕ) (longest room n : ℕ) (bytes : List ℕ) (step : LineStep) (h : HeadVerdict)
+    → ((raw : List ℕ) (ends goes_on : HeadVerdict) → head_by_size step n raw ends goes_on ≡ h) → (step ≡ End → ⊥) → step ≡ reader_answer room longest bytes
+    → head_verdict longest text room n (raw_lines bytes) ≡ h
+stops_text text longest room n bytes step h sized other exact =
+    let some = some_if step room longest bytes other exact in
+    let k = cut_of bytes some in
+    let answer : line_answer room longest (physical_lines k.raw) ≡ step
+    = sym (exact ∙ (answer_some room longest bytes some ∙ ap (λ ls. line_answer room longest (first_line_of ls)) k.lines)) in
+    let raw = concat (physical_lines k.raw) in
+    let lines = length (physical_lines k.raw) in
+    let ends = taken (text ++ raw) (n + lines) (room - length raw) in
+    let others = head_verdict longest (text ++ raw) (room - length raw) (n + lines) (raw_lines k.rest) in
+    ap (head_verdict longest text room n) k.lines ∙ (ap (λ s. head_by_size s n raw ends others) answer ∙ sized raw ends others)
+
+stop_brings : (text : List ℕ) (old new : Reading) (before after : Option (List ℕ)) (step : LineStep) (why : HeadStop) (h : HeadVerdict) → ReaderAnswered step old new before after
+    → ((raw : List ℕ) (ends goes_on : HeadVerdict) → head_by_size step old.next raw ends goes_on ≡ h) → ((others : HeadVerdict) → came_to (Some (Err why)) text new others ≡ h)
+    → (step ≡ End → ⊥) → (step ≡ Failed → ⊥) → BringsHead (Some (Err why)) (progress text old) (progress text new) before after
+stop_brings text old new before None step why h a sized came other given memory = ap (option_map (head_behind text old)) a.taken
+stop_brings text old new before (Some left) step why h a sized came other given memory =
+    ap (option_map (head_behind text old)) a.taken
+    ∙ ap (λ (t : List ℕ). Some (head_verdict old.longest text old.room old.next (raw_lines t))) (sym (append_assoc old.held a.bytes left))
+    ∙ ap Some (stops_text text old.longest old.room old.next ((old.held ++ a.bytes) ++ left) step h sized other (a.exact given left a.at_end)
+    ∙ sym (came (head_behind text new left)))
+
+pub too_long_brings : (text : List ℕ) (old new : Reading) (before after : Option (List ℕ)) → ReaderAnswered TooLong old new before after
+    → BringsHead (Some (Err (stop.Refused old.next LineTooLong))) (progress text old) (progress text new) before after
+too_long_brings text old new before after a =
+    stop_brings text old new before after TooLong (stop.Refused old.next LineTooLong) (refused old.next LineTooLong) a (λ raw ends goes_on. refl) (λ others. refl)
+    (λ e. cc) (λ e. cc)
+
+pub too_large_brings : (text : List ℕ) (old new : Reading) (before after : Option (List ℕ)) → ReaderAnswered TooLarge old new before after
+    → BringsHead (Some (Err stop.TooLarge)) (progress text old) (progress text new) before after
+too_large_brings text old new before after a =
+    stop_brings text old new before after TooLarge stop.TooLarge too_large a (λ raw ends goes_on. refl) (λ others. refl) (λ e. cc) (λ e. cc)
+
+-- a line that is too long begins within the limit, so that its number is below 2^32
+pub long_number : (old new : Reading) (before after : Option (List ℕ)) → ReaderAnswered TooLong old new before after → CanGoOn old → old.next < 2 ^ 32
+long_number old new before after a can =
+    let some = long_room old.room old.longest ((old.held ++ a.bytes) ++ []) (a.exact (λ e. cc) [] (λ _. refl)) in
+    omega (arith, can.numbered, some)
+
+-- where no line is handed out, the bytes and the number stay
+held_stays : (step : LineStep) (old new : Reading) (before after : Option (List ℕ)) (a : ReaderAnswered step old new before after) → (step ≡ Line → ⊥)
+    → new.held ≡ old.held ++ a.bytes
+held_stays Line old new before after a other = absurd (other refl)
+held_stays End old new before after a other = ap (λ (r : Reading). r.held) a.leaves.0
+held_stays TooLong old new before after a other = ap (λ (r : Reading). r.held) a.leaves
+held_stays TooLarge old new before after a other = ap (λ (r : Reading). r.held) a.leaves
+held_stays Failed old new before after a other = ap (λ (r : Reading). r.held) a.leaves.0
+
+pub next_stays : (step : LineStep) (old new : Reading) (before after : Option (List ℕ)) → ReaderAnswered step old new before after → (step ≡ Line → ⊥)
+    → new.next ≡ old.next
+next_stays Line old new before after a other = absurd (other refl)
+next_stays End old new before after a other = ap (λ (r : Reading). r.next) a.leaves.0
+next_stays TooLong old new before after a other = ap (λ (r : Reading). r.next) a.leaves
+next_stays TooLarge old new before after a other = ap (λ (r : Reading). r.next) a.leaves
+next_stays Failed old new before after a other = ap (λ (r : Reading). r.next) a.leaves.0
+
+pub keeps : (step : LineStep) (text : List ℕ) (old new : Reading) (before after : Option (List ℕ)) → ReaderAnswered step old new before after → (step ≡ Line → ⊥)
+    → KeepsBytes (progress text old) (progress text new) before after
+keeps step text old new before None a other = ap (option_map (λ (left : List ℕ). text ++ (old.held ++ left))) a.taken
+keeps step text old new before (Some left) a other =
+    ap (option_map (λ (left : List ℕ). text ++ (old.held ++ left))) a.taken
+    ∙ ap (λ (t : List ℕ). Some (text ++ t))
+    (sym (append_assoc old.held a.bytes left) ∙ ap (λ (t : List ℕ). t ++ left) (sym (held_stays step old new before (Some left) a other)))
+
+pub end_can : (old new : Reading) (before after : Option (List ℕ)) → ReaderAnswered End old new before after → CanGoOn old → CanGoOn new
+end_can old new before after a can = record {
+  longest = ap (λ (r : Reading). r.longest) a.leaves.0 ∙ can.longest;
+  going = ap (λ (r : Reading). r.stop) a.leaves.0 ∙ can.going;
+  numbered =
+      let next = ap (λ (r : Reading). r.next) a.leaves.0 in
+      let room = ap (λ (r : Reading). r.room) a.leaves.0 in
+      let numbered = can.numbered in
+      omega (arith, next, room, numbered);
+}
+
+pub while_well : (came : Option (Result (Unit {0}) HeadStop)) (P : Type 0) → P → WhileWell came P
+while_well None P p = p
+while_well (Some (Ok end)) P p = p
+while_well (Some (Err why)) P p = tt
+
+-- what is taken into the text lies within the limit
+pub line_within : (came : Option (Result (Unit {0}) HeadStop)) (text more raw : List ℕ) (room left : ℕ) → (lacks_memory came ≡ false → more ≡ text ++ raw)
+    → left ≡ room - length raw → length raw ≤ room → WhileWell came (length more + left ≡ length text + room)
+line_within None text more raw room left joined is fits =
+    let both : length more ≡ length text + length raw = ap (λ (t : List ℕ). length t) (joined refl) ∙ length-append text raw in
+    omega (arith, both, is, fits)
+line_within (Some (Ok end)) text more raw room left joined is fits =
+    let both : length more ≡ length text + length raw = ap (λ (t : List ℕ). length t) (joined refl) ∙ length-append text raw in
+    omega (arith, both, is, fits)
+line_within (Some (Err why)) text more raw room left joined is fits = tt

@@ -1,0 +1,113 @@
+-- Which logical lines of an input its head has taken, line by line.
+use Rattle.std.proofs.Common.{◌≡◌, ℕ, ◌+◌, Option, Some, None, Result, Ok, Err, List, [], ◌∷◌, ◌++◌, length, option_map, append_assoc, length-append, refl, ap, subst, sym, ◌∙◌, arith}
+use Rattle.std.proofs.lemmas.List.Sums.{sum_by-append}
+use Rattle.cluster_io.specs.Readings.{ReaderAnswered, Reading}
+use Rattle.cluster_io.specs.declared.line_step.LineStep.{LineStep}
+use Rattle.cluster_io.specs.declared.line_step.LineStep.TheVariants.{Line, Failed}
+use Rattle.crm_lex.specs.RawLines.{physical_lines, raw_lines}
+use Rattle.crm_lex.specs.Reading.{reads_line}
+use Rattle.live_run.specs.Followed.{bytes_of}
+use Rattle.live_run.specs.Heads.{HasHeadGoneOn, HasTaken, HeadVerdict, StillAmid, came_to, head_verdict, head_by_words, taken}
+use Rattle.live_run.specs.declared.head.HeadStop.{HeadStop}
+use Rattle.live_run.specs.declared.head.HeadStop.TheVariants as stop
+use Rattle.live_run.specs.ReadLaws.{bytes_joined, lines_joined}
+use Rattle.live_run.proofs.Bringing.{next_is, room_is}
+use Rattle.live_run.proofs.HeadBringing.{line_then, next_stays}
+use Rattle.live_run.proofs.Stepping.{bytes_one, line_cut, unmoved, unmoved_cut}
+
+-- none yet
+pub none_taken : (reading : Reading) (left : Option (List ℕ)) → HasTaken reading reading [] left left
+none_taken reading None = record { lines = []; text_is = refl; cut = refl; number = omega arith; room = omega arith }
+none_taken reading (Some left) = record { lines = []; text_is = refl; cut = refl; number = omega arith; room = omega arith }
+
+pub none_gone : (reading : Reading) (left : Option (List ℕ)) → HasHeadGoneOn reading reading [] left left
+unfolding none_taken
+none_gone reading None = record { taken = none_taken reading None; goes_on = tt }
+none_gone reading (Some left) = record { taken = none_taken reading (Some left); goes_on = λ more. refl }
+
+module _ (first old new : Reading) (text : List ℕ) (given before after : Option (List ℕ)) (t : HasTaken first old text given before) where
+  -- one more is handed out
+  pub line_taken : ReaderAnswered Line old new before after → HasTaken first new (text ++ new.raw) given after
+  line_taken a = record {
+    lines = t.lines ++ line;
+    text_is = ap (λ (x : List ℕ). x ++ new.raw) t.text_is
+        ∙ (ap (λ (x : List ℕ). bytes_of t.lines ++ x) (sym (bytes_one new.raw)) ∙ sym (bytes_joined t.lines line));
+    cut = t.cut
+        ∙ lines_joined t.lines line (λ left. raw_lines (old.held ++ left)) (λ left. raw_lines (new.held ++ left)) before after (line_cut old new before after a);
+    number =
+        let number = t.number in
+        let next = next_is old new before after a in
+        let sum = sum_by-append (λ (one : List (List ℕ)). length one) t.lines line in
+        omega (arith, number, next, sum);
+    room =
+        let room = t.room in
+        let left = room_is old new before after a in
+        let in_room = a.leaves.in_room in
+        let sum = length-append text new.raw in
+        omega (arith, room, left, in_room, sum);
+  }
+    where
+      line : List (List (List ℕ))
+      line = physical_lines new.raw ∷ []
+
+  -- none is handed out
+  pub still_taken : (step : LineStep) → ReaderAnswered step old new before after → (step ≡ Line → ⊥) → HasTaken first new text given after
+  still_taken step a other =
+      let u = unmoved step old new before after a other in
+      record {
+        lines = t.lines;
+        text_is = t.text_is;
+        cut = t.cut ∙ behind before after (unmoved_cut old new before after a.bytes a.taken u.0);
+        number = next_stays step old new before after a other ∙ t.number;
+        room = ap (λ (n : ℕ). length text + n) u.1.0 ∙ t.room;
+      }
+    where
+      behind : (x y : Option (List ℕ)) → option_map (λ left. raw_lines (old.held ++ left)) x ≡ option_map (λ left. raw_lines (new.held ++ left)) y
+          → option_map (λ left. t.lines ++ raw_lines (old.held ++ left)) x ≡ option_map (λ left. t.lines ++ raw_lines (new.held ++ left)) y
+      behind None None e = refl
+      behind None (Some y) e = cc
+      behind (Some x) None e = cc
+      behind (Some x) (Some y) e = ap (option_map (λ (rest : List (List (List ℕ))). t.lines ++ rest)) e
+
+module _ (first old new : Reading) (text : List ℕ) (given : Option (List ℕ)) where
+  -- behind one more the head goes on
+  pub line_gone : (before after : Option (List ℕ)) → HasHeadGoneOn first old text given before → (a : ReaderAnswered Line old new before after)
+      → (came : Option (Result (Unit {0}) HeadStop)) → came ≡ None
+      → ((others : HeadVerdict) → came_to came (text ++ new.raw) new others ≡ head_by_words (reads_line old.next new.raw) (taken (text ++ new.raw) new.next new.room) others)
+      → HasHeadGoneOn first new (text ++ new.raw) given after
+  unfolding line_taken
+  line_gone before None h a came none says = record { taken = line_taken first old new text given before None h.taken a; goes_on = tt }
+  line_gone None (Some left) h a came none says = let taken = a.taken in absurd (let f : ⊥ = cc in f)
+  line_gone (Some bytes) (Some left) h a came none says = record {
+    taken = line_taken first old new text given (Some bytes) (Some left) h.taken a;
+    goes_on = λ more.
+        ap (head_verdict first.longest [] first.room first.next) (append_assoc h.taken.lines (physical_lines new.raw ∷ []) more)
+        ∙ (h.goes_on (physical_lines new.raw ∷ more)
+        ∙ (line_then text old new (Some bytes) left a more
+        ∙ (sym (says (head_verdict new.longest (text ++ new.raw) new.room new.next more))
+        ∙ ap (λ (k : Option (Result (Unit {0}) HeadStop)). came_to k (text ++ new.raw) new (head_verdict new.longest (text ++ new.raw) new.room new.next more)) none)));
+  }
+
+  -- where the source fails, no more was taken
+  pub still_gone : (before after : Option (List ℕ)) → HasHeadGoneOn first old text given before → (a : ReaderAnswered Failed old new before after)
+      → HasHeadGoneOn first new text given after
+  unfolding still_taken
+  still_gone before None h a = record { taken = still_taken first old new text given before None h.taken Failed a (λ e. cc); goes_on = tt }
+  still_gone None (Some left) h a = let none = a.taken in absurd (let f : ⊥ = cc in f)
+  still_gone (Some bytes) (Some left) h a = record {
+    taken = still_taken first old new text given (Some bytes) (Some left) h.taken Failed a (λ e. cc);
+    goes_on = λ more. h.goes_on more ∙ ap (λ (r : Reading). head_verdict r.longest text r.room r.next more) (sym a.leaves.0);
+  }
+
+-- reading goes on, and then it goes on so
+pub amid_line : (came : Option (Result (Unit {0}) HeadStop)) (P : Type 0) → (came ≡ Some (Err stop.ReadFault) → ⊥) → (came ≡ None → P) → StillAmid came P
+amid_line None P other goes = goes refl
+amid_line (Some (Ok end)) P other goes = tt
+amid_line (Some (Err stop.ReadFault)) P other goes = absurd (other refl)
+amid_line (Some (Err (stop.Refused line why))) P other goes = tt
+amid_line (Some (Err stop.TooLarge)) P other goes = tt
+amid_line (Some (Err stop.NoMemory)) P other goes = tt
+
+-- what holds where the source failed
+pub where_failed : (came : Option (Result (Unit {0}) HeadStop)) (P : Type 0) → came ≡ Some (Err stop.ReadFault) → StillAmid came P → P
+where_failed came P fault h = subst (λ (k : Option (Result (Unit {0}) HeadStop)). StillAmid k P) fault h

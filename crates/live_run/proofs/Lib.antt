@@ -1,0 +1,15 @@
+pub mod Dues
+pub mod Behind
+pub mod Reaching
+pub mod Cuts
+pub mod Fitting
+pub mod WordsSaid
+pub mod Bringing
+pub mod Unfinished
+pub mod Stepping
+pub mod Asked
+pub mod Few
+pub mod Readers
+pub mod Written
+pub mod HeadBringing
+pub mod HeadLines

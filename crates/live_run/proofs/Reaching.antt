@@ -1,0 +1,513 @@
+-- What a run over result lines has read and written at each of its ends.
+use Rattle.std.proofs.Common.{◌≡◌, ◌≢◌, ◌⊎◌, ◌↔◌, inl, inr, ℕ, ◌+◌, ◌-◌, Bool, true, false, Option, Some, None, List, [], ◌∷◌, ◌++◌, is_none, map, option_map, IfSome, length, append_assoc, append-nil, refl, ap, sym, subst, ◌∙◌, arith}
+use Rattle.std.proofs.Math.Seq.{take-length}
+use Rattle.std.proofs.lemmas.Grind.{flat_map-append}
+use Rattle.std.proofs.lemmas.List.{append_cancel_right, map-append}
+use Rattle.std.proofs.lemmas.Option.{same_Some}
+use Rattle.cluster_io.proofs.Pieces.{Adds-then as adds_then}
+use Rattle.cluster_io.specs.NextLine.{IsUndecided}
+use Rattle.cluster_io.specs.Readings.{Reading}
+use Rattle.cluster_io.specs.Streams.{Adds, AddsPrefix}
+use Rattle.cluster_types.specs.declared.cluster.Cluster.{Cluster}
+use Rattle.cluster_types.specs.declared.journal.Answer.{Answer}
+use Rattle.cluster_types.specs.declared.journal.Event.{Event}
+use Rattle.cluster_types.specs.declared.journal.Journal.{Journal}
+use Rattle.cluster_types.specs.declared.run.RunLine.{RunLine}
+use Rattle.cluster_types.specs.declared.run.RunLine.TheVariants as line
+use Rattle.cluster_types.specs.Journals.{moment_of}
+use Rattle.cluster_types.specs.Runs.{due, IsCutRun, IsRunSoFar, IsStoppedRun, IsWholeRun}
+use Rattle.cluster_types.specs.Sources.{told}
+use Rattle.cluster_types.specs.Steps.{begins}
+use Rattle.cluster_types.specs.Texts.{run_line}
+use Rattle.crm_lex.specs.RawLines.{raw_lines}
+use Rattle.live_run.specs.Coming.{Coming, coming, no_more}
+use Rattle.live_run.specs.Courses.{SourceState, answers_to_come, in_course, rest_of, starting, stop_of, coming_to, told_by, whole_of, why_stopped}
+use Rattle.live_run.specs.Followed.{AreNear, EndsInOne, SourceFollows, HasAnswered, HasBroken, HasQuestionFailed, HasStopped, RestsBehind, StandFirst, View, answers, by_line, by_source, bytes_of, last_line, results_first, said_by, stays}
+use Rattle.live_run.specs.Saying.{is_last}
+use Rattle.live_run.specs.Writing.{line_refusal_text}
+use Rattle.cluster_io.specs.declared.sink.WriteFault.{WriteFault}
+use Rattle.live_run.proofs.Written.{prefix_first, prefix_then}
+use Rattle.live_run.specs.declared.course.Course.{Course}
+use Rattle.live_run.specs.declared.course.Course.TheVariants as course
+use Rattle.live_run.specs.declared.line_stop.LineStop.{LineStop}
+use Rattle.live_run.specs.declared.line_stop.LineStop.TheVariants as why
+use Rattle.live_run.specs.Ends.{AsksForMore, EndGets, CutRunGives, IsDueText, WholeRunGives, run_lines_text}
+use Rattle.live_run.specs.Reached.{AskedFor, AskedForAll, EndsCut, EndsLines, IsBrokenOff, Reaches, of_cut, of_refusal, of_run, results_behind}
+use Rattle.live_run.specs.declared.live_end.LiveEnd.{LiveEnd}
+use Rattle.live_run.specs.declared.live_end.LiveEnd.TheVariants as end
+use Rattle.live_run.proofs.Behind.{answer_in, runs_back, says_next, last_one, line_of_last, answers_size}
+use Rattle.live_run.proofs.Dues.{begins_due, one_end}
+use Rattle.input_reading.specs.declared.results.result_lines.ResultLine.{ResultLine}
+use Rattle.graph_exec.specs.Replays.{IsBetweenTwo, IsStopped, setting, sight}
+use Rattle.graph_exec.specs.Replays as replays
+use Rattle.run_safety.specs.Followed.{IsFront}
+use Rattle.run_safety.proofs.Between.{ends_between}
+use Rattle.run_safety.proofs.Counted.{never_most}
+use Rattle.live_run.proofs.Few.{few_results}
+use Rattle.run_safety.proofs.Silent.{not_over}
+use Rattle.run_safety.proofs.SoFar.{runs_more}
+
+-- all of a text is a front of it
+whole_prefix : (text : List ℕ) (old new : Option (List ℕ)) → Adds old text new → AddsPrefix text old new
+whole_prefix text old new a = record { count = length text; within = omega arith; added = subst (λ (t : List ℕ). Adds old t new) (sym (take-length text)) a }
+
+front_prefix : (xs text : List ℕ) (old new : Option (List ℕ)) → IsFront xs text → AddsPrefix xs old new → AddsPrefix text old new
+front_prefix xs text old new f p = subst (λ (t : List ℕ). AddsPrefix t old new) (sym f.joined) (prefix_first xs f.more old new p)
+
+module _ (c : Cluster) (journal : Journal) (reading : Reading) where
+  abbrev start : SourceState
+  start = starting c (moment_of journal.events) reading
+
+  module _ (left : List ℕ) (after : Option (List ℕ)) (t : SourceState) where
+    abbrev results : Coming
+    results = results_behind c journal reading left
+
+    -- what some questions that were answered have asked for
+    asked_by : (p : HasAnswered start t (Some left) after)
+        → AskedFor c journal reading left after (record { results = p.given; stop = None }) ⊎ AskedForAll c journal reading left after (record { results = p.given; stop = None })
+    asked_by p = by t.course refl p.rests
+      where
+        said : said_by c start.lines p.lines ≡ record { results = p.given; stop = None }
+        said =
+            ap (said_by c start.lines) (sym (append-nil p.lines)) ∙ (p.read.answered []
+            ∙ ap (λ (rs : List ResultLine). record { results = rs; stop = None }) (append-nil p.given))
+
+        first : (o : Option (List ℕ)) → Some (raw_lines (reading.held ++ left)) ≡ option_map (λ rest. p.lines ++ raw_lines (t.lines.reading.held ++ rest)) o
+            → StandFirst p.lines (raw_lines (reading.held ++ left))
+        first None e = cc
+        first (Some rest) e = record { others = raw_lines (t.lines.reading.held ++ rest); joined = cc }
+
+        all : (o : Option (List ℕ)) → t.course ≡ course.Ended → IfSome o (λ (rest : List ℕ). rest ≡ []) → Some results ≡ option_map (λ rest. results_first p.given (coming_to t rest)) o
+            → o ≡ after → AskedForAll c journal reading left after (record { results = p.given; stop = None })
+        all None k h e o = cc
+        all (Some rest) k h e o =
+            let ended : coming_to t rest ≡ no_more None = ap (λ (x : Course). in_course x (to_come_reading rest)) k in
+            record {
+              all = same_Some results (results_first p.given (coming_to t rest)) e
+                  ∙ (ap (results_first p.given) ended ∙ ap (λ (rs : List ResultLine). record { results = rs; stop = None }) (append-nil p.given));
+              unstopped = refl;
+              none_left = sym o ∙ ap Some h;
+            }
+          where
+            to_come_reading : List ℕ → Coming
+            to_come_reading rest = coming t.cluster t.lines.reading.longest t.lines.at t.lines.reading.room (raw_lines (t.lines.reading.held ++ rest))
+
+        by : (k : Course) → t.course ≡ k → RestsBehind start t after p.lines p.bytes k
+            → AskedFor c journal reading left after (record { results = p.given; stop = None }) ⊎ AskedForAll c journal reading left after (record { results = p.given; stop = None })
+        by course.Reading e r = inl (record { lines = p.lines; first = first after p.read.cut; said = said; ends = r.0; bytes = p.bytes; taken = p.read.taken; near = r.1 })
+        by course.Ended e r = inr (all after e r.none_left p.told refl)
+        by (course.Stopped w times) e r = absurd r
+
+    nothing_asked : after ≡ Some left → AskedFor c journal reading left after (record { results = []; stop = None })
+    nothing_asked e = record {
+      lines = [];
+      first = record { others = raw_lines (reading.held ++ left); joined = refl };
+      said = refl;
+      ends = inl refl;
+      bytes = [];
+      taken = sym (ap (option_map (λ (x : List ℕ). [] ++ x)) e);
+      near = inl refl;
+    }
+
+    -- which answers were given, and what is to come behind them
+    record Given : Type 0 where
+      pub given : List ResultLine
+      pub behind : List ResultLine
+      pub split : results.results ≡ given ++ behind
+      pub rest : rest_of (told_by t after) ≡ Some (map answer_in behind)
+      pub line : t.line ≡ last_line 0 given
+      pub read : AskedFor c journal reading left after (record { results = given; stop = None }) ⊎ AskedForAll c journal reading left after (record { results = given; stop = None })
+
+    given_by : SourceFollows start t (Some left) after → Given
+    given_by (stays e f) = record {
+      given = [];
+      behind = results.results;
+      split = refl;
+      rest = ap (λ (s : SourceState). rest_of (told_by s after)) e ∙ ap (λ (o : Option (List ℕ)). rest_of (told_by start o)) f;
+      line = ap (λ (s : SourceState). s.line) e;
+      read = inl (nothing_asked f);
+    }
+    given_by (answers r p) = on after refl p.told
+      where
+        on : (o : Option (List ℕ)) → o ≡ after → Some results ≡ option_map (λ rest. results_first p.given (coming_to t rest)) o → Given
+        on None o e = cc
+        on (Some rest) o e =
+            let whole = same_Some results (results_first p.given (coming_to t rest)) e in
+            record {
+              given = p.given;
+              behind = (coming_to t rest).results;
+              split = ap (λ (x : Coming). x.results) whole;
+              rest = ap (λ (x : Option (List ℕ)). rest_of (told_by t x)) (sym o);
+              line = p.line;
+              read = asked_by p;
+            }
+
+    -- the run is cut by the last of them
+    record CutBy (lines : List RunLine) : Type 0 where
+      pub given : List ResultLine
+      pub result : ResultLine
+      pub run : CutRunGives c journal results lines given result
+      pub line : t.line ≡ result.line
+      pub read : AskedFor c journal reading left after (record { results = given ++ result ∷ []; stop = None })
+          ⊎ AskedForAll c journal reading left after (record { results = given ++ result ∷ []; stop = None })
+
+    cut_by : (lines : List RunLine) (journal_now : List Event) (a : Answer) → IsCutRun c journal.promotions (is_none results.stop) journal.events (Some (answers_to_come results)) lines journal_now a
+        (rest_of (told_by t after)) → SourceFollows start t (Some left) after → CutBy lines
+    cut_by lines journal_now a run follows =
+        let g = given_by follows in
+        let unread = runs_back c journal.promotions (is_none results.stop) (due 1 journal.events) run.last (Some (answers_to_come results)) run.unread lines (answers_to_come results) run.steps refl in
+        let next = says_next (is_none results.stop) run.unread (rest_of (told_by t after)) a unread.back run.cut.said unread.is in
+        let back : next.back ≡ map answer_in g.behind = same_Some next.back (map answer_in g.behind) (sym next.is ∙ g.rest) in
+        let front : unread.back ≡ a ∷ next.back = same_Some unread.back (a ∷ next.back) (sym unread.is ∙ next.front) in
+        let one : answers_to_come results ≡ (unread.taken ++ a ∷ []) ++ map answer_in g.behind
+        = unread.joined ∙ (ap (λ (x : List Answer). unread.taken ++ x) (front ∙ ap (λ (x : List Answer). a ∷ x) back)
+        ∙ sym (append_assoc unread.taken (a ∷ []) (map answer_in g.behind))) in
+        let other : answers_to_come results ≡ map answer_in g.given ++ map answer_in g.behind
+        = ap (map answer_in) g.split ∙ map-append answer_in g.given g.behind in
+        let same = append_cancel_right (map answer_in g.given) (unread.taken ++ a ∷ []) (map answer_in g.behind) (sym other ∙ one) in
+        let l = last_one g.given unread.taken a same in
+        record {
+          given = l.before;
+          result = l.last;
+          run = record {
+            left = journal_now;
+            behind = g.behind;
+            parts = g.split ∙ (ap (λ (x : List ResultLine). x ++ g.behind) l.joined ∙ append_assoc l.before (l.last ∷ []) g.behind);
+            run = subst (λ (x : Answer). IsCutRun c journal.promotions (is_none results.stop) journal.events (Some (answers_to_come results)) lines journal_now x (Some (map answer_in g.behind))) (sym l.is)
+                (subst (λ (o : Option (List Answer)). IsCutRun c journal.promotions (is_none results.stop) journal.events (Some (answers_to_come results)) lines journal_now a o) g.rest run);
+          };
+          line = g.line ∙ (ap (last_line 0) l.joined ∙ line_of_last 0 l.before l.last);
+          read = subst (λ (rs : List ResultLine). AskedFor c journal reading left after (record { results = rs; stop = None })
+              ⊎ AskedForAll c journal reading left after (record { results = rs; stop = None })) l.joined g.read;
+        }
+
+  -- the whole run
+  whole_by : (coming : Coming) (lines : List RunLine) (left : List Event) → IsWholeRun c journal.promotions (is_none coming.stop) journal.events (Some (answers_to_come coming)) lines left
+      → WholeRunGives c journal coming lines
+  whole_by coming lines left run = by coming.stop refl
+    where
+      by : (w : Option LineStop) → coming.stop ≡ w → WholeRunGives c journal coming lines
+      by None e = record {
+        left = left;
+        all = e;
+        run = subst (λ z. IsWholeRun c journal.promotions (is_none z) journal.events (Some (answers_to_come coming)) lines left) e run;
+      }
+      by (Some w) e =
+          not_over c journal.promotions journal.events left (Some (answers_to_come coming)) lines tt
+          (subst (λ z. IsWholeRun c journal.promotions (is_none z) journal.events (Some (answers_to_come coming)) lines left) e run)
+
+  module _ (before after old new : Option (List ℕ)) (t : SourceState) (was is : Bool) where
+    abbrev along : replays.Setting
+    along = setting c journal.promotions (whole_of (told_by start before)) true (Some c)
+
+    abbrev reaches : LiveEnd → Type 0
+    reaches how = IfSome before (λ left. Reaches c journal reading left after old new how)
+
+  done_reached : (before after old new : Option (List ℕ)) (t : SourceState) (was is : Bool) (j : Journal)
+      → replays.IsWholeReplay (along before after old new t was is) journal.events (sight (rest_of (told_by start before)) was old) (sight (rest_of (told_by t after)) is new) j
+      → reaches before after old new t was is end.Done
+  done_reached None after old new t was is j w = tt
+  done_reached (Some left) after old new t was is j w = record {
+    text = run_lines_text c w.lines;
+    gets = record { lines = w.lines; run = whole_by (results_behind c journal reading left) w.lines j.events w.run; printed = refl };
+    added = w.told;
+  }
+
+  -- behind a run that is cut
+  unexpected_reached : (before after old middle new : Option (List ℕ)) (t : SourceState) (was is : Bool) (j : Journal) (a : Answer)
+      → replays.IsCutOffBy (along before after old middle t was is) journal.events (sight (rest_of (told_by start before)) was old) (sight (rest_of (told_by t after)) is middle) j a
+      → SourceFollows start t before after → (how : LiveEnd) → EndsCut (run_line c (line.Unexpected t.line)) how middle new → reaches before after old new t was is how
+  unexpected_reached None after old middle new t was is j a w f how e = tt
+  unexpected_reached (Some left) after old middle new t was is j a w f how e =
+      let cut = cut_by left after t w.lines j.events a w.run f in
+      by cut how (subst (λ (n : ℕ). EndsCut (run_line c (line.Unexpected n)) how middle new) cut.line e)
+    where
+      text_is : (cut : CutBy left after t w.lines) → EndGets c journal (results_behind c journal reading left) end.Unexpected (run_lines_text c w.lines ++ run_line c (line.Unexpected cut.result.line))
+      text_is cut = record { lines = w.lines; given = cut.given; result = cut.result; run = cut.run; printed = refl }
+
+      by : (cut : CutBy left after t w.lines) (how : LiveEnd) → EndsCut (run_line c (line.Unexpected cut.result.line)) how middle new → Reaches c journal reading left after old new how
+      by cut end.Unexpected put = record {
+        text = run_lines_text c w.lines ++ run_line c (line.Unexpected cut.result.line);
+        gets = text_is cut;
+        added = adds_then old middle new (run_lines_text c w.lines) (run_line c (line.Unexpected cut.result.line)) w.told put;
+      }
+      by cut end.WriteFault put = record {
+        printed = w.lines;
+        asked = record { results = cut.given ++ cut.result ∷ []; stop = None };
+        text = run_line c (line.Unexpected cut.result.line);
+        call = of_cut cut.given cut.result cut.run refl refl;
+        read = cut.read;
+        middle = middle;
+        before = w.told;
+        front = put;
+        begins = λ other whole gets.
+            subst (λ (x : List ℕ). AddsPrefix x old new)
+            (one_end c journal (results_behind c journal reading left) end.Unexpected other (run_lines_text c w.lines ++ run_line c (line.Unexpected cut.result.line)) whole (text_is cut) gets).1
+            (prefix_then (run_lines_text c w.lines) (run_line c (line.Unexpected cut.result.line)) old middle new w.told put);
+      }
+      by cut end.Done put = absurd put
+      by cut end.Refused put = absurd put
+      by cut end.TooLarge put = absurd put
+      by cut end.ReadFault put = absurd put
+      by cut end.NoMemory put = absurd put
+
+  -- the source failed
+  broken_reached : (left : List ℕ) (after old middle new : Option (List ℕ)) (t : SourceState) (was is : Bool) (j : Journal)
+      → replays.IsReplayBrokenOff (along (Some left) after old middle t was is) journal.events (sight (rest_of (told_by start (Some left))) was old) (sight (rest_of (told_by t after)) is middle) j
+      → HasBroken start t (Some left) after → new ≡ middle → Reaches c journal reading left after old new end.ReadFault
+  broken_reached left after old middle new t was is j w h same = on after refl h.told h.read.cut
+    where
+      on : (o : Option (List ℕ)) → o ≡ after → Some (results_behind c journal reading left) ≡ option_map (λ rest. results_first h.given (coming_to t rest)) o
+          → Some (raw_lines (reading.held ++ left)) ≡ option_map (λ rest. h.lines ++ raw_lines (t.lines.reading.held ++ rest)) o → IsBrokenOff c journal reading left after old new
+      on None o e cut = cc
+      on (Some unread) o e cut =
+          let all = same_Some (results_behind c journal reading left) (results_first h.given (coming_to t unread)) e in
+          record {
+            lines = h.lines;
+            held = t.lines.reading.held;
+            unread = unread;
+            left_is = sym o;
+            cut = same_Some (raw_lines (reading.held ++ left)) (h.lines ++ raw_lines (t.lines.reading.held ++ unread)) cut;
+            bytes = h.bytes;
+            taken = h.read.taken;
+            parts = h.read.parts;
+            unfinished = h.unfinished;
+            undecided =
+                let room = h.read.room in
+                let left_room : t.lines.reading.room ≡ reading.room - length (bytes_of h.lines) = omega (arith, room) in
+                subst (λ (n : ℕ). IsUndecided n reading.longest t.lines.reading.held) left_room
+                (subst (λ (n : ℕ). IsUndecided t.lines.reading.room n t.lines.reading.held) h.read.same_size h.undecided);
+            given = h.given;
+            said = ap (said_by c start.lines) (sym (append-nil h.lines)) ∙ (h.read.answered []
+                ∙ ap (λ (rs : List ResultLine). record { results = rs; stop = None }) (append-nil h.given));
+            behind = (coming_to t unread).results;
+            split = ap (λ (x : Coming). x.results) all;
+            printed = w.lines;
+            journal_now = j.events;
+            run = subst (λ (x : Option (List ℕ)). IsRunSoFar c journal.promotions (is_none (results_behind c journal reading left).stop) journal.events
+                (Some (answers_to_come (results_behind c journal reading left))) w.lines j.events (rest_of (told_by t x))) (sym o) w.run;
+            none_silent =
+                let said = w.said refl in
+                let behind = answers_to_come (coming_to t unread) in
+                let taken : answers_to_come (results_behind c journal reading left) ≡ said.answers ++ behind
+                = same_Some (answers_to_come (results_behind c journal reading left)) (said.answers ++ behind)
+                (subst (λ (x : Option (List ℕ)). Some (answers_to_come (results_behind c journal reading left)) ≡ option_map (λ xs. said.answers ++ xs) (rest_of (told_by t x))) (sym o)
+                said.taken) in
+                let split : answers_to_come (results_behind c journal reading left) ≡ map answer_in h.given ++ behind
+                = ap (λ (x : Coming). answers_to_come x) all ∙ map-append answer_in h.given (coming_to t unread).results in
+                subst (λ (xs : List Answer). IsRunSoFar c journal.promotions false journal.events (Some xs) w.lines j.events (Some []))
+                (append_cancel_right said.answers (map answer_in h.given) behind (sym taken ∙ split)) said.run;
+            added = subst (λ (x : Option (List ℕ)). Adds old (run_lines_text c w.lines) x) (sym same) w.told;
+          }
+
+  -- a line stops the reading, so that nothing comes behind it
+  stops_here : (t : SourceState) (w : LineStop) (rest : List ℕ) → is_last w ≡ true → stop_of t ≡ Some w → coming_to t rest ≡ no_more (Some w)
+  stops_here t w rest last stop = by t.course t.failed stop
+    where
+      by : (k : Course) (failed : Bool) → why_stopped k failed ≡ Some w
+          → in_course k (coming t.cluster t.lines.reading.longest t.lines.at t.lines.reading.room (raw_lines (t.lines.reading.held ++ rest))) ≡ no_more (Some w)
+      by (course.Stopped v times) failed e = ap no_more e
+      by course.Reading true e = no_last e
+        where
+          no_last : Some why.ReadFault ≡ Some w → in_course course.Reading (coming t.cluster t.lines.reading.longest t.lines.at t.lines.reading.room (raw_lines (t.lines.reading.held ++ rest))) ≡ no_more (Some w)
+          no_last e = let same : w ≡ why.ReadFault = cc in let wrong : false ≡ true = ap is_last (sym same) ∙ last in absurd (let f : ⊥ = cc in f)
+      by course.Reading false e = cc
+      by course.Ended true e = no_last e
+        where
+          no_last : Some why.ReadFault ≡ Some w → no_more None ≡ no_more (Some w)
+          no_last e = let same : w ≡ why.ReadFault = cc in let wrong : false ≡ true = ap is_last (sym same) ∙ last in absurd (let f : ⊥ = cc in f)
+      by course.Ended false e = cc
+
+  -- what is written where a line stops the reading
+  stopped_by : (left : List ℕ) (after old middle new : Option (List ℕ)) (printed : List RunLine) → Adds old (run_lines_text c printed) middle → (given : List ResultLine) (w : LineStop)
+      → results_behind c journal reading left ≡ record { results = given; stop = Some w } → (results_behind c journal reading left).stop ≡ Some w
+      → AsksForMore c journal (results_behind c journal reading left) printed → (lines : List (List (List ℕ))) → StandFirst lines (raw_lines (reading.held ++ left))
+      → said_by c start.lines lines ≡ record { results = given; stop = Some w } → EndsInOne c start.lines lines → (bytes : List ℕ) → Some left ≡ option_map (λ (x : List ℕ). bytes ++ x) after
+      → AreNear start.lines lines bytes → (how : LiveEnd) → EndsLines (Some w) how middle new → is_last w ≡ true → Reaches c journal reading left after old new how
+  stopped_by left after old middle new printed added given (why.Refused n cause) all stop more lines first said ends bytes taken near end.Refused put last = record {
+    text = run_lines_text c printed ++ line_refusal_text n cause;
+    gets = record { lines = printed; line = n; cause = cause; stop = stop; run = more; printed = refl };
+    added = adds_then old middle new (run_lines_text c printed) (line_refusal_text n cause) added put;
+  }
+  stopped_by left after old middle new printed added given (why.Refused n cause) all stop more lines first said ends bytes taken near end.WriteFault put last = record {
+    printed = printed;
+    asked = results_behind c journal reading left;
+    text = line_refusal_text n cause;
+    call = of_refusal n cause stop more refl refl;
+    read = inl (record { lines = lines; first = first; said = said ∙ sym all; ends = ends; bytes = bytes; taken = taken; near = near });
+    middle = middle;
+    before = added;
+    front = put;
+    begins = λ other whole gets.
+        subst (λ (x : List ℕ). AddsPrefix x old new)
+        (one_end c journal (results_behind c journal reading left) end.Refused other (run_lines_text c printed ++ line_refusal_text n cause) whole
+        (record { lines = printed; line = n; cause = cause; stop = stop; run = more; printed = refl }) gets).1
+        (prefix_then (run_lines_text c printed) (line_refusal_text n cause) old middle new added put);
+  }
+  stopped_by left after old middle new printed added given why.TooLarge all stop more lines first said ends bytes taken near end.TooLarge put last = record {
+    text = run_lines_text c printed;
+    gets = record { lines = printed; stop = stop; run = more; printed = refl };
+    added = subst (λ (x : Option (List ℕ)). Adds old (run_lines_text c printed) x) (sym put) added;
+  }
+  stopped_by left after old middle new printed added given why.ReadFault all stop more lines first said ends bytes taken near how put last = let wrong : ⊥ = cc in absurd wrong
+  stopped_by left after old middle new printed added given (why.Refused n cause) all stop more lines first said ends bytes taken near how put last = absurd put
+  stopped_by left after old middle new printed added given why.TooLarge all stop more lines first said ends bytes taken near how put last = absurd put
+
+  stopped_reached : (left : List ℕ) (after old middle new : Option (List ℕ)) (t : SourceState) (was is : Bool) (j : Journal)
+      → replays.IsReplayBrokenOff (along (Some left) after old middle t was is) journal.events (sight (rest_of (told_by start (Some left))) was old) (sight (rest_of (told_by t after)) is middle) j
+      → HasStopped start t (Some left) after → (how : LiveEnd) → EndsLines (stop_of t) how middle new → Reaches c journal reading left after old new how
+  stopped_reached left after old middle new t was is j w h how e = on after refl h.told
+    where
+      abbrev_none : Unit {0}
+      abbrev_none = tt
+
+      on : (o : Option (List ℕ)) → o ≡ after → Some (results_behind c journal reading left) ≡ option_map (λ (rest : List ℕ). record { results = h.given; stop = Some h.why }) o
+          → Reaches c journal reading left after old new how
+      on None o f = cc
+      on (Some rest) o f =
+          let all : results_behind c journal reading left ≡ record { results = h.given; stop = Some h.why }
+          = same_Some (results_behind c journal reading left) (record { results = h.given; stop = Some h.why }) f in
+          let stop : (results_behind c journal reading left).stop ≡ Some h.why = ap (λ (x : Coming). x.stop) all in
+          let behind : rest_of (told_by t after) ≡ Some []
+          = ap (λ (x : Option (List ℕ)). rest_of (told_by t x)) (sym o) ∙ ap (λ (x : Coming). Some (answers_to_come x)) (stops_here t h.why rest h.last h.stop) in
+          let more : AsksForMore c journal (results_behind c journal reading left) w.lines
+          = record {
+            left = j.events;
+            run = subst (λ (x : Option (List Answer)). IsRunSoFar c journal.promotions false journal.events (Some (answers_to_come (results_behind c journal reading left))) w.lines j.events x) behind
+                (subst (λ (z : Option LineStop). IsRunSoFar c journal.promotions (is_none z) journal.events (Some (answers_to_come (results_behind c journal reading left))) w.lines j.events
+                (rest_of (told_by t after))) stop w.run);
+          } in
+          stopped_by left after old middle new w.lines w.told h.given h.why all stop more h.by.lines h.by.first h.by.said (inr h.by.ends) h.by.bytes h.by.taken h.by.near how
+          (subst (λ (z : Option LineStop). EndsLines z how middle new) h.stop e) h.last
+
+  failed_reached : (before after old middle new : Option (List ℕ)) (t : SourceState) (was is : Bool) (j : Journal)
+      → replays.IsReplayBrokenOff (along before after old middle t was is) journal.events (sight (rest_of (told_by start before)) was old) (sight (rest_of (told_by t after)) is middle) j
+      → HasBroken start t before after ⊎ HasStopped start t before after → (how : LiveEnd) → EndsLines (stop_of t) how middle new → reaches before after old new t was is how
+  failed_reached None after old middle new t was is j w f how e = tt
+  failed_reached (Some left) after old middle new t was is j w (inl h) how e =
+      by how (subst (λ (z : Option LineStop). EndsLines z how middle new) h.why e)
+    where
+      by : (k : LiveEnd) → EndsLines (Some why.ReadFault) k middle new → Reaches c journal reading left after old new k
+      by end.ReadFault same = broken_reached left after old middle new t was is j w h same
+      by end.Done put = absurd put
+      by end.Unexpected put = absurd put
+      by end.Refused put = absurd put
+      by end.TooLarge put = absurd put
+      by end.WriteFault put = absurd put
+      by end.NoMemory put = absurd put
+  failed_reached (Some left) after old middle new t was is j w (inr h) how e = stopped_reached left after old middle new t was is j w h how e
+
+  -- the writer stopped the run
+  cut_off_reached : (before after old new : Option (List ℕ)) (t : SourceState) (was is : Bool) (j : Journal)
+      → replays.IsStopped (along before after old new t was is) journal.events (sight (rest_of (told_by start before)) was old) (sight (rest_of (told_by t after)) is new) j
+      → SourceFollows start t before after → reaches before after old new t was is end.WriteFault
+  cut_off_reached None after old new t was is j w f = tt
+  cut_off_reached (Some left) after old new t was is j w f =
+      let g = given_by left after t f in
+      let coming = results_behind c journal reading left in
+      let run = subst (λ (x : Option (List Answer)). IsStoppedRun c journal.promotions (is_none coming.stop) journal.events (Some (answers_to_come coming)) w.lines w.call w.closing j.events x) g.rest w.run in
+      let on = runs_more c journal.promotions (is_none coming.stop) (due 1 journal.events) run.before run.next (Some (answers_to_come coming)) run.middle (Some (map answer_in g.behind)) w.lines w.call
+      run.steps run.stopped in
+      record {
+        printed = w.lines;
+        asked = record { results = g.given; stop = None };
+        text = run_lines_text c w.call;
+        call = of_run w.call w.closing j.events g.given g.behind g.split run refl refl;
+        read = g.read;
+        middle = w.text;
+        before = w.told;
+        front = w.front;
+        begins = λ other whole gets.
+            front_prefix (run_lines_text c (w.lines ++ w.call)) whole old new
+            (begins_due c journal coming run.next (Some (map answer_in g.behind)) (w.lines ++ w.call) other whole on gets)
+            (subst (λ (x : List ℕ). AddsPrefix x old new) (sym (flat_map-append (run_line c) w.lines w.call))
+            (prefix_then (run_lines_text c w.lines) (run_lines_text c w.call) old w.text new w.told w.front));
+      }
+
+  -- memory ran out
+  between_reached : (before after old new : Option (List ℕ)) (t : SourceState) (was is : Bool)
+      → replays.IsBetweenTwo (along before after old new t was is) journal.events (sight (rest_of (told_by start before)) was old) (sight (rest_of (told_by t after)) is new)
+      → reaches before after old new t was is end.NoMemory
+  between_reached None after old new t was is w = tt
+  between_reached (Some left) after old new t was is w = record {
+    printed = w.lines;
+    at = w.at;
+    behind = rest_of (told_by t after);
+    run = w.run;
+    between = w.between;
+    ends = ends_between c journal.promotions (is_none (results_behind c journal reading left).stop) journal.events w.at (Some (answers_to_come (results_behind c journal reading left)))
+        (rest_of (told_by t after)) w.lines w.run w.between;
+    added = w.told;
+    begins = λ other whole gets.
+        front_prefix (run_lines_text c w.lines) whole old new
+        (begins_due c journal (results_behind c journal reading left) w.at (rest_of (told_by t after)) w.lines other whole w.run gets)
+        (whole_prefix (run_lines_text c w.lines) old new w.told);
+  }
+
+  -- memory is said to be out where so many transitions were made as are never made
+  most_never : (before after old new : Option (List ℕ)) (t : SourceState) (was is : Bool) (j : Journal)
+      → replays.IsUpTo (along before after old new t was is) journal.events (sight (rest_of (told_by start before)) was old) (sight (rest_of (told_by t after)) is new) 10001 j
+      → reaches before after old new t was is end.NoMemory
+  most_never None after old new t was is j w = tt
+  most_never (Some left) after old new t was is j w =
+      let coming = results_behind c journal reading left in
+      let count = few_results c start.lines (raw_lines (reading.held ++ left)) (omega arith) in
+      let size : length (answers_to_come coming) ≡ length coming.results = answers_size coming.results in
+      never_most c journal.promotions (is_none coming.stop) journal.events (Some (answers_to_come coming)) (rest_of (told_by t after)) w.lines tt 10001 j.events (omega (arith, count, size)) w.run
+
+-- which end a run gets, where no count rose and memory sufficed
+module _ (c : Cluster) (journal : Journal) (reading : Reading) (after old new : Option (List ℕ)) (Read Wrote : Type 0) where
+  pub complete_by : (before : Option (List ℕ)) (how : LiveEnd) → IfSome before (λ left. Reaches c journal reading left after old new how) → (how ≡ end.ReadFault → Read) → (how ≡ end.WriteFault → Wrote)
+      → IfSome before (λ left. ¬ Read → ¬ Wrote → how ≢ end.NoMemory → (this : LiveEnd) → (how ≡ this) ↔ IsDueText c journal (results_behind c journal reading left) this)
+  complete_by None how r a b = tt
+  complete_by (Some left) how r a b = λ no_read no_write memory this. by how r a b no_read no_write memory this
+    where
+      written : (k this : LiveEnd) (text : List ℕ) → EndGets c journal (results_behind c journal reading left) k text → (k ≡ this) ↔ IsDueText c journal (results_behind c journal reading left) this
+      written k this text gets = (
+        λ e. subst (IsDueText c journal (results_behind c journal reading left)) e (record { text = text; gets = gets }),
+        λ d. (one_end c journal (results_behind c journal reading left) k this text d.text gets d.gets).0,
+      )
+
+      by : (k : LiveEnd) → Reaches c journal reading left after old new k → (k ≡ end.ReadFault → Read) → (k ≡ end.WriteFault → Wrote) → ¬ Read → ¬ Wrote → k ≢ end.NoMemory
+          → (this : LiveEnd) → (k ≡ this) ↔ IsDueText c journal (results_behind c journal reading left) this
+      by end.Done r a b no_read no_write memory this = written end.Done this r.text r.gets
+      by end.Unexpected r a b no_read no_write memory this = written end.Unexpected this r.text r.gets
+      by end.Refused r a b no_read no_write memory this = written end.Refused this r.text r.gets
+      by end.TooLarge r a b no_read no_write memory this = written end.TooLarge this r.text r.gets
+      by end.ReadFault r a b no_read no_write memory this = absurd (no_read (a refl))
+      by end.WriteFault r a b no_read no_write memory this = absurd (no_write (b refl))
+      by end.NoMemory r a b no_read no_write memory this = absurd (memory refl)
+
+-- the same, of a source that stands at the beginning
+module _ (c : Cluster) (journal : Journal) (reading : Reading) (s t : SourceState) (d : Cluster) (fresh : s ≡ starting c (moment_of journal.events) reading) (names : d ≡ c)
+    (before after old middle new : Option (List ℕ)) (was is : Bool) (j : Journal) where
+  abbrev pub from : replays.Setting
+  from = setting c journal.promotions (whole_of (told_by s before)) true (Some d)
+
+  pub done_from : replays.IsWholeReplay from journal.events (sight (rest_of (told_by s before)) was old) (sight (rest_of (told_by t after)) is new) j
+      → IfSome before (λ left. Reaches c journal reading left after old new end.Done)
+  done_from w = done_reached c journal reading before after old new t was is j (rw (fresh, names) at w)
+
+  pub unexpected_from : (a : Answer) → replays.IsCutOffBy from journal.events (sight (rest_of (told_by s before)) was old) (sight (rest_of (told_by t after)) is middle) j a → SourceFollows s t before after
+      → (how : LiveEnd) → EndsCut (run_line d (line.Unexpected t.line)) how middle new → IfSome before (λ left. Reaches c journal reading left after old new how)
+  unexpected_from a w f how e = unexpected_reached c journal reading before after old middle new t was is j a (rw (fresh, names) at w) (rw fresh at f) how (subst (λ (x : Cluster). EndsCut (run_line x (line.Unexpected t.line)) how middle new) names e)
+
+  pub failed_from : replays.IsReplayBrokenOff from journal.events (sight (rest_of (told_by s before)) was old) (sight (rest_of (told_by t after)) is middle) j
+      → HasBroken s t before after ⊎ HasStopped s t before after → (how : LiveEnd) → EndsLines (stop_of t) how middle new → IfSome before (λ left. Reaches c journal reading left after old new how)
+  failed_from w f how e = failed_reached c journal reading before after old middle new t was is j (rw (fresh, names) at w) (rw fresh at f) how e
+
+  pub cut_off_from : replays.IsStopped from journal.events (sight (rest_of (told_by s before)) was old) (sight (rest_of (told_by t after)) is new) j → SourceFollows s t before after
+      → IfSome before (λ left. Reaches c journal reading left after old new end.WriteFault)
+  cut_off_from w f = cut_off_reached c journal reading before after old new t was is j (rw (fresh, names) at w) (rw fresh at f)
+
+  pub between_from : replays.IsBetweenTwo from journal.events (sight (rest_of (told_by s before)) was old) (sight (rest_of (told_by t after)) is new)
+      → IfSome before (λ left. Reaches c journal reading left after old new end.NoMemory)
+  between_from w = between_reached c journal reading before after old new t was is (rw (fresh, names) at w)
+
+  pub most_from : replays.IsUpTo from journal.events (sight (rest_of (told_by s before)) was old) (sight (rest_of (told_by t after)) is new) 10001 j
+      → IfSome before (λ left. Reaches c journal reading left after old new end.NoMemory)
+  most_from w = most_never c journal reading before after old new t was is j (rw (fresh, names) at w)
+
+pub failed_kind : (exact : Bool) (v u : View) → HasQuestionFailed exact v u → HasBroken v.standing u.standing v.left u.left ⊎ HasStopped v.standing u.standing v.left u.left
+failed_kind exact v u (by_source h rose loan) = inl h
+failed_kind exact v u (by_line h counts) = inr h

@@ -1,0 +1,45 @@
+use Rattle.std.proofs.Common.{arith, Some, None, refl, ◌∙◌}
+use Rattle.live_run.specs.ResultReaders.{reader_lines, source_in}
+use Rattle.live_run.specs.ReadLaws.{passed_nothing, until_then}
+use Rattle.live_run.proofs.Bringing.{none_brings}
+use Rattle.live_run.proofs.result_reader.ResultReader.read_on.Goals as goal
+
+pub loop-came-init : goal.loop-came-init
+loop-came-init g c = record {
+  told = refl;
+  passed = passed_nothing _ _ _;
+  ready = c.requires.ready;
+  going = c.requires.going;
+  counted = refl;
+  count = omega arith;
+  no_failure = λ exact. refl;
+  same_source = refl;
+}
+
+pub returns-in-Some-clause-until : goal.returns-in-Some-clause-until
+returns-in-Some-clause-until g c =
+    until_then c.args.cluster.now (reader_lines c.args.self.now) (reader_lines c.loop-came.self) (reader_lines c.step.new.self) (g.S.Source.left (source_in c.args.self.now))
+    (g.S.Source.left (source_in c.loop-came.self)) (g.S.Source.left (source_in c.step.new.self)) (Some c.in-Some.came) c.loop-came.invariant.passed
+    c.in-Some.ensures.until
+
+pub loop-came-preserved : goal.loop-came-preserved
+loop-came-preserved g c =
+    let so_far = c.loop-came.invariant in
+    let now = c.in_default.ensures in
+    let counted_before = so_far.counted in
+    let counted_now = now.counted in
+    let count_before = so_far.count in
+    let count_now = now.count in
+    record {
+      told = so_far.told
+          ∙ none_brings c.args.cluster.now (reader_lines c.loop-came.self) (reader_lines c.step.new.self) (g.S.Source.left (source_in c.loop-came.self))
+          (g.S.Source.left (source_in c.step.new.self)) now.brings;
+      passed = until_then c.args.cluster.now (reader_lines c.args.self.now) (reader_lines c.loop-came.self) (reader_lines c.step.new.self) (g.S.Source.left (source_in c.args.self.now))
+          (g.S.Source.left (source_in c.loop-came.self)) (g.S.Source.left (source_in c.step.new.self)) None so_far.passed now.until;
+      ready = now.ready;
+      going = now.going refl;
+      counted = omega arith;
+      count = omega arith;
+      no_failure = λ exact. now.no_failure exact (λ e. cc) ∙ so_far.no_failure exact;
+      same_source = now.same_source ∙ so_far.same_source;
+    }

@@ -1,0 +1,141 @@
+-- The head of an input: its logical lines up to the one that begins the results, or all where none does (rule of this project).
+use Rattle.std.specs.Prelude.{◌≡◌, ℕ, ◌+◌, ◌-◌, ◌^◌, ◌≤◌, Bool, true, false, if◌then◌else◌, Option, Some, None, Result, Ok, Err, List, [], ◌∷◌, ◌++◌, length, codes, option_map, IfSome}
+use Rattle.std.specs.List.{concat}
+use Rattle.crm_lex.specs.Names.{is}
+use Rattle.cluster_io.specs.NextLine.{holds_line, line_answer, IsUndecided}
+use Rattle.cluster_io.specs.Readings.{Reading}
+use Rattle.cluster_io.specs.declared.line_step.LineStep.{LineStep}
+use Rattle.cluster_io.specs.declared.line_step.LineStep.TheVariants as step
+use Rattle.crm_lex.specs.RawLines.{raw_lines}
+use Rattle.crm_lex.specs.Reading.{reads_line}
+use Rattle.crm_lex.specs.declared.fault.LexCause.{LexCause}
+use Rattle.crm_lex.specs.declared.fault.LexCause.TheVariants.{LineTooLong}
+use Rattle.faults.specs.declared.fault.Fault.{Fault}
+use Rattle.faults.specs.declared.fault.Fault.TheVariants.{At, NoMemory}
+use Rattle.live_run.specs.Followed.{bytes_of, count_lines}
+use Rattle.live_run.specs.declared.head.HeadStop.{HeadStop}
+use Rattle.live_run.specs.declared.head.HeadStop.TheVariants as stop
+
+-- what a source gives as the head: its bytes, with the number of the line behind it and how many bytes lie within the limit there; the first line that
+-- can't be cut into words, and why; or a line that goes past the limit
+pub data HeadVerdict : Type 0 where
+  taken : (text : List ℕ) (next room : ℕ) → HeadVerdict
+  refused : (line : ℕ) (why : LexCause) → HeadVerdict
+  too_large : HeadVerdict
+
+-- the line of these words begins the results
+abbrev pub begins_results : List (List ℕ) → Bool
+begins_results [] = false
+begins_results (word ∷ words) = is word (codes "%results")
+
+-- by what was read of a line, the head ends with it or goes on behind it
+abbrev pub head_by_words : Result (List (List ℕ)) (Fault LexCause) → HeadVerdict → HeadVerdict → HeadVerdict
+head_by_words (Ok words) ends goes_on = if begins_results words then ends else goes_on
+head_by_words (Err (At line why)) ends goes_on = refused line why
+head_by_words (Err NoMemory) ends goes_on = too_large
+
+-- the same, by the size of the line, the number of its first physical line and its bytes
+abbrev pub head_by_size : LineStep → ℕ → List ℕ → HeadVerdict → HeadVerdict → HeadVerdict
+head_by_size step.Line n raw ends goes_on = head_by_words (reads_line n raw) ends goes_on
+head_by_size step.TooLong n raw ends goes_on = refused n LineTooLong
+head_by_size _ n raw ends goes_on = too_large
+
+-- the head of a text and some logical lines behind it, each given by its physical lines, of which the first has this number. So many bytes of them lie
+-- within the limit, and a line may have so many without line ends
+abbrev pub head_verdict : ℕ → List ℕ → ℕ → ℕ → List (List (List ℕ)) → HeadVerdict
+head_verdict longest before room n [] = taken before n room
+head_verdict longest before room n (lines ∷ more) =
+    head_by_size (line_answer room longest lines) n (concat lines) (taken (before ++ concat lines) (n + length lines) (room - length (concat lines)))
+    (head_verdict longest (before ++ concat lines) (room - length (concat lines)) (n + length lines) more)
+
+-- the head of a text and of all bytes to come: those that a reader holds, and those that its source has left
+abbrev pub head_behind : List ℕ → Reading → List ℕ → HeadVerdict
+head_behind before reading left = head_verdict reading.longest before reading.room reading.next (raw_lines (reading.held ++ left))
+
+-- the head where reading came to its end or stopped, with this text behind it and the reader there. Before that, and where the source or memory
+-- failed, it is what is still to come
+abbrev pub came_to : Option (Result (Unit {0}) HeadStop) → List ℕ → Reading → HeadVerdict → HeadVerdict
+came_to (Some (Ok end)) text reading others = taken text reading.next reading.room
+came_to (Some (Err (stop.Refused line why))) text reading others = refused line why
+came_to (Some (Err stop.TooLarge)) text reading others = too_large
+came_to _ text reading others = others
+
+-- whether it was memory that failed
+abbrev pub lacks_memory : Option (Result (Unit {0}) HeadStop) → Bool
+lacks_memory (Some (Err stop.NoMemory)) = true
+lacks_memory _ = false
+
+-- a text and the lines of a reader behind it
+pub record ReaderProgress : Type 0 where
+  pub text : List ℕ
+  pub reading : Reading
+
+abbrev pub progress : List ℕ → Reading → ReaderProgress
+progress text reading = record { text = text; reading = reading }
+
+-- reading on brought this of the head that was to come, where the source tells its bytes
+abbrev pub BringsHead : Option (Result (Unit {0}) HeadStop) → ReaderProgress → ReaderProgress → Option (List ℕ) → Option (List ℕ) → Type 0
+BringsHead came old new before after = lacks_memory came ≡ false
+    → option_map (head_behind old.text old.reading) before
+    ≡ option_map (λ left. came_to came new.text new.reading (head_behind new.text new.reading left)) after
+
+-- all bytes, those of the text and those to come, are as before
+abbrev pub KeepsBytes : ReaderProgress → ReaderProgress → Option (List ℕ) → Option (List ℕ) → Type 0
+KeepsBytes old new before after =
+    option_map (λ (left : List ℕ). old.text ++ (old.reading.held ++ left)) before ≡ option_map (λ (left : List ℕ). new.text ++ (new.reading.held ++ left)) after
+
+-- where reading came to the end of the head, or goes on
+abbrev pub WhileWell : Option (Result (Unit {0}) HeadStop) → Type 0 → Type 0
+WhileWell (Some (Err why)) P = Unit {0}
+WhileWell _ P = P
+
+-- why a line stops the reading that can't be cut into words. A line is cut without memory, so that the second case never comes
+abbrev pub stop_for : Fault LexCause → HeadStop
+stop_for (At line why) = stop.Refused line why
+stop_for NoMemory = stop.TooLarge
+
+-- the head of which no text is given: a line is refused, or goes past the limit. Nothing is said where the source or memory failed
+abbrev pub IsStopOf : HeadVerdict → HeadStop → Type 0
+IsStopOf head (stop.Refused line why) = head ≡ refused line why
+IsStopOf head stop.TooLarge = head ≡ too_large
+IsStopOf head _ = Unit {0}
+
+-- the first of the logical lines to come were taken, and this is their text: behind them a reader has the number and the room that they leave
+pub record HasTaken (old new : Reading) (text : List ℕ) (before after : Option (List ℕ)) : Type 0 where
+  pub lines : List (List (List ℕ))
+  pub text_is : text ≡ bytes_of lines
+  pub cut : option_map (λ left. raw_lines (old.held ++ left)) before ≡ option_map (λ left. lines ++ raw_lines (new.held ++ left)) after
+  pub number : new.next ≡ old.next + count_lines lines
+  pub room : length text + new.room ≡ old.room
+
+-- behind some lines, whatever lines follow, the head is still to come: each of them is a line behind which it goes on. A reader has this text of them
+abbrev pub GoesOnBehind : List (List (List ℕ)) → Reading → Reading → List ℕ → Type 0
+GoesOnBehind lines old new text =
+    (more : List (List (List ℕ))) → head_verdict old.longest [] old.room old.next (lines ++ more) ≡ head_verdict new.longest text new.room new.next more
+
+-- the same of the lines that were taken, where the source tells its bytes
+pub record HasHeadGoneOn (old new : Reading) (text : List ℕ) (before after : Option (List ℕ)) : Type 0 where
+  pub taken : HasTaken old new text before after
+  pub goes_on : IfSome after (λ left. GoesOnBehind taken.lines old new text)
+
+-- reading goes on, or the source failed
+abbrev pub StillAmid : Option (Result (Unit {0}) HeadStop) → Type 0 → Type 0
+StillAmid None P = P
+StillAmid (Some (Err stop.ReadFault)) P = P
+StillAmid _ P = Unit {0}
+
+-- reading stopped amid the head: behind the lines that were taken whole, of which this is the text, the head is still to come, and no further line was
+-- taken whole. What is held gives no answer yet
+pub record IsAmid (old new : Reading) (before after : Option (List ℕ)) : Type 0 where
+  pub text : List ℕ
+  pub keeps : KeepsBytes (progress [] old) (progress text new) before after
+  pub gone_on : HasHeadGoneOn old new text before after
+  pub none_whole : holds_line new.held ≡ false
+  pub undecided : IsUndecided new.room new.longest new.held
+  pub same_size : new.longest ≡ old.longest
+
+-- more lines can be read: of at most 1,048,576 bytes, with numbers below 2^32
+pub record CanGoOn (reading : Reading) : Type 0 where
+  pub longest : reading.longest ≡ 1048576
+  pub going : reading.stop ≡ None
+  pub numbered : reading.next + reading.room ≤ 2 ^ 32

@@ -1,0 +1,14 @@
+pub mod Ends
+pub mod Reached
+pub mod Saying
+pub mod Coming
+pub mod ResultReaders
+pub mod Courses
+pub mod Followed
+pub mod ReadLaws
+pub mod FollowedLaws
+pub mod LineSources
+pub mod LineCauses
+pub mod Writing
+pub mod LineWriters
+pub mod Heads

@@ -1,0 +1,146 @@
+-- What a run over result lines has read and written at its end, by what its source of bytes had left at the beginning (rule of this project).
+use Rattle.std.specs.Prelude.{◌≡◌, ◌⊎◌, ℕ, ◌-◌, length, false, Option, Some, None, List, [], ◌∷◌, ◌++◌, is_none, map}
+use Rattle.cluster_io.specs.NextLine.{holds_line, IsUndecided}
+use Rattle.cluster_io.specs.Readings.{Reading}
+use Rattle.cluster_io.specs.Streams.{Adds, AddsPrefix, TakesBytes}
+use Rattle.cluster_types.specs.declared.cluster.Cluster.{Cluster}
+use Rattle.cluster_types.specs.declared.journal.Answer.{Answer}
+use Rattle.cluster_types.specs.declared.journal.Event.{Event}
+use Rattle.cluster_types.specs.declared.journal.Journal.{Journal}
+use Rattle.cluster_types.specs.declared.run.RunLine.{RunLine}
+use Rattle.cluster_types.specs.declared.run.RunLine.TheVariants as line
+use Rattle.cluster_types.specs.Journals.{moment_of}
+use Rattle.cluster_types.specs.Runs.{RunStanding, due, Runs, IsBetween, IsRunSoFar, IsStoppedRun}
+use Rattle.cluster_types.specs.Texts.{run_line}
+use Rattle.crm_lex.specs.RawLines.{raw_lines}
+use Rattle.live_run.specs.Coming.{Coming, Lines, coming_of}
+use Rattle.live_run.specs.Courses.{answers_to_come, starting}
+use Rattle.live_run.specs.Followed.{AreNear, EndsInOne, StandFirst, bytes_of, said_by}
+use Rattle.live_run.specs.declared.line_stop.LineCause.{LineCause}
+use Rattle.live_run.specs.declared.line_stop.LineStop.{LineStop}
+use Rattle.live_run.specs.declared.line_stop.LineStop.TheVariants as why
+use Rattle.input_reading.specs.declared.results.result_lines.ResultLine.{ResultLine}
+use Rattle.run_safety.specs.Followed.{EndsBetween}
+use Rattle.live_run.specs.Writing.{line_refusal_text}
+use Rattle.live_run.specs.Ends.{AsksForMore, EndGets, CutRunGives, run_lines_text}
+use Rattle.live_run.specs.declared.live_end.LiveEnd.{LiveEnd}
+use Rattle.live_run.specs.declared.live_end.LiveEnd.TheVariants as end
+
+-- the place of the first result line: the moment is that of the journal
+abbrev pub first_result_place : Cluster → Journal → Reading → Lines
+first_result_place c journal reading = (starting c (moment_of journal.events) reading).lines
+
+-- what is to come of the result lines behind a head, where so many bytes are left
+abbrev pub results_behind : Cluster → Journal → Reading → List ℕ → Coming
+results_behind c journal reading left = coming_of c (first_result_place c journal reading) left
+
+-- of a run over these bytes, of which the source has some left now
+module _ (c : Cluster) (journal : Journal) (reading : Reading) (left : List ℕ) (after : Option (List ℕ)) where
+  abbrev pub results : Coming
+  results = results_behind c journal reading left
+
+  -- the lines that say this were asked for, and no more: of what lies behind the last of them only what came with its end was taken, fewer than 4,096 bytes
+  pub record AskedFor (asked : Coming) : Type 0 where
+    pub lines : List (List (List ℕ))
+    pub first : StandFirst lines (raw_lines (reading.held ++ left))
+    pub said : said_by c (first_result_place c journal reading) lines ≡ asked
+    pub ends : EndsInOne c (first_result_place c journal reading) lines
+    pub bytes : List ℕ
+    pub taken : TakesBytes (Some left) bytes after
+    pub near : AreNear (first_result_place c journal reading) lines bytes
+
+  -- all was asked for, and read: no line of it ended the reading
+  pub record AskedForAll (asked : Coming) : Type 0 where
+    pub all : results ≡ asked
+    pub unstopped : asked.stop ≡ None
+    pub none_left : after ≡ Some []
+
+  -- and of what a sink held before and holds now
+  module _ (old new : Option (List ℕ)) where
+    -- the text that is due with this end was written
+    pub record HasWritten (how : LiveEnd) : Type 0 where
+      pub text : List ℕ
+      pub gets : EndGets c journal results how text
+      pub added : Adds old text new
+
+    -- the source failed, behind all lines that were taken whole: the lines of the run were written that took the answers of these, each of them and no other,
+    -- and asks for one more. What is held behind them gives no answer yet
+    pub record IsBrokenOff : Type 0 where
+      pub lines : List (List (List ℕ))
+      pub held : List ℕ
+      pub unread : List ℕ
+      pub left_is : after ≡ Some unread
+      pub cut : raw_lines (reading.held ++ left) ≡ lines ++ raw_lines (held ++ unread)
+      pub bytes : List ℕ
+      pub taken : TakesBytes (Some left) bytes after
+      pub parts : reading.held ++ bytes ≡ bytes_of lines ++ held
+      pub unfinished : holds_line held ≡ false
+      pub undecided : IsUndecided (reading.room - length (bytes_of lines)) reading.longest held
+      pub given : List ResultLine
+      pub said : said_by c (first_result_place c journal reading) lines ≡ record { results = given; stop = None }
+      pub behind : List ResultLine
+      pub split : results.results ≡ given ++ behind
+      pub printed : List RunLine
+      pub journal_now : List Event
+      pub run : IsRunSoFar c journal.promotions (is_none results.stop) journal.events (Some (answers_to_come results)) printed journal_now
+          (Some (map (λ (r : ResultLine). r.answer) behind))
+      pub none_silent : IsRunSoFar c journal.promotions false journal.events (Some (map (λ (r : ResultLine). r.answer) given)) printed journal_now (Some [])
+      pub added : Adds old (run_lines_text c printed) new
+
+    -- what is written with one call, behind these lines: some lines of the run, which has taken these answers by then; or the last line of all
+    pub data IsCall (printed : List RunLine) (asked : Coming) (text : List ℕ) : Type 0 where
+      of_run : (call closing : List RunLine) (journal_now : List Event) (given behind : List ResultLine) → results.results ≡ given ++ behind
+          → IsStoppedRun c journal.promotions (is_none results.stop) journal.events (Some (answers_to_come results)) printed call closing journal_now
+          (Some (map (λ (r : ResultLine). r.answer) behind))
+          → asked ≡ record { results = given; stop = None } → text ≡ run_lines_text c call → IsCall printed asked text
+      of_cut : (given : List ResultLine) (result : ResultLine) → CutRunGives c journal results printed given result
+          → asked ≡ record { results = given ++ result ∷ []; stop = None } → text ≡ run_line c (line.Unexpected result.line) → IsCall printed asked text
+      of_refusal : (n : ℕ) (cause : LineCause) → results.stop ≡ Some (why.Refused n cause) → AsksForMore c journal results printed
+          → asked ≡ results → text ≡ line_refusal_text n cause → IsCall printed asked text
+
+    -- the sink failed in one call: all lines before it were written, and a front of what it writes. No line was asked for since. It is a front of the text that
+    -- is due
+    pub record IsCutOff : Type 0 where
+      pub printed : List RunLine
+      pub asked : Coming
+      pub text : List ℕ
+      pub call : IsCall printed asked text
+      pub read : AskedFor asked ⊎ AskedForAll asked
+      pub middle : Option (List ℕ)
+      pub before : Adds old (run_lines_text c printed) middle
+      pub front : AddsPrefix text middle new
+      pub begins : (how : LiveEnd) (whole : List ℕ) → EndGets c journal results how whole → AddsPrefix whole old new
+
+    -- memory ran out between two transitions: the lines up to there were written, none or ones that end with `complete K`, `aborted K` or an answer that came
+    -- while nothing was to be done. They are a front of the text that is due
+    pub record HasNoMemory : Type 0 where
+      pub printed : List RunLine
+      pub at : RunStanding
+      pub behind : Option (List Answer)
+      pub run : Runs c journal.promotions (is_none results.stop) (due 1 journal.events) (Some (answers_to_come results)) printed at behind
+      pub between : IsBetween c journal.promotions (is_none results.stop) at
+      pub ends : EndsBetween journal.events at printed
+      pub added : Adds old (run_lines_text c printed) new
+      pub begins : (how : LiveEnd) (whole : List ℕ) → EndGets c journal results how whole → AddsPrefix whole old new
+
+    -- what each end says
+    abbrev pub Reaches : LiveEnd → Type 0
+    Reaches end.ReadFault = IsBrokenOff
+    Reaches end.WriteFault = IsCutOff
+    Reaches end.NoMemory = HasNoMemory
+    Reaches how = HasWritten how
+
+-- what a run ends with that asks for a line which isn't read, by why it isn't: `refused LINE CAUSE` is written, or a front of it where the sink failed
+abbrev pub EndsLines : Option LineStop → LiveEnd → Option (List ℕ) → Option (List ℕ) → Type 0
+EndsLines (Some (why.Refused n cause)) end.Refused before after = Adds before (line_refusal_text n cause) after
+EndsLines (Some (why.Refused n cause)) end.WriteFault before after = AddsPrefix (line_refusal_text n cause) before after
+EndsLines (Some why.TooLarge) end.TooLarge before after = after ≡ before
+EndsLines (Some why.ReadFault) end.ReadFault before after = after ≡ before
+EndsLines None end.ReadFault before after = after ≡ before
+EndsLines stop how before after = ⊥
+
+-- what a run ends with that is cut: this last line is written, or a front of it where the sink failed
+abbrev pub EndsCut : List ℕ → LiveEnd → Option (List ℕ) → Option (List ℕ) → Type 0
+EndsCut text end.Unexpected before after = Adds before text after
+EndsCut text end.WriteFault before after = AddsPrefix text before after
+EndsCut text how before after = ⊥

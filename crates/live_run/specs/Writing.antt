@@ -1,0 +1,31 @@
+-- What is written of some lines of a run (rule of this project).
+use Rattle.std.specs.Prelude.{◌≡◌, ℕ, Bool, true, Option, Result, Ok, Err, List, ◌++◌, codes, decimal}
+use Rattle.cluster_io.specs.Streams.{Adds, AddsPrefix}
+use Rattle.cluster_io.specs.declared.sink.WriteFault.{WriteFault}
+use Rattle.graph_exec.specs.declared.transition.watcher.Heard.{Heard}
+use Rattle.graph_exec.specs.declared.transition.watcher.Heard.TheVariants as heard
+use Rattle.live_run.specs.LineCauses.{line_cause_name}
+use Rattle.live_run.specs.declared.line_stop.LineCause.{LineCause}
+
+-- all of a text was written, or a front of it where the sink failed
+abbrev pub Puts : Result (Unit {0}) WriteFault → List ℕ → Option (List ℕ) → Option (List ℕ) → Type 0
+Puts (Ok done) text before after = Adds before text after
+Puts (Err fault) text before after = AddsPrefix text before after
+
+-- whoever writes goes on until a write fails
+abbrev pub heard_of : Result (Unit {0}) WriteFault → Heard
+heard_of (Ok done) = heard.Go
+heard_of (Err fault) = heard.Stop
+
+-- `refused LINE CAUSE`
+abbrev pub line_refusal_text : ℕ → LineCause → List ℕ
+line_refusal_text line cause = codes "refused " ++ decimal line ++ codes " " ++ line_cause_name cause ++ codes "\n"
+
+-- a writer has the loan of its sink that it had
+abbrev pub IsSameSink : ℕ → ℕ → Type 0
+IsSameSink loan loan_now = loan_now ≡ loan
+
+-- each line was written whole: a sink that counts its failures alone has counted none
+pub record HasWritingGoneOn (exact : Bool) (faults faults_now loan loan_now : ℕ) : Type 0 where
+  pub no_failure : exact ≡ true → faults_now ≡ faults
+  pub same_sink : IsSameSink loan loan_now

@@ -1,0 +1,52 @@
+//! Lines as a source of outcomes.
+
+use crate::line_outcomes::LineOutcomes;
+use cluster_io::Source;
+use cluster_types::Action;
+use graph_exec::{InFlight, Next, Outcomes};
+
+impl<'c, 's, S: Source> Outcomes for LineOutcomes<'c, 's, S> {
+    ghost use Rattle.std.specs.Prelude.{true, false};
+    ghost use Rattle.live_run.specs.Courses.{faults_of, has_course_ended, rest_of, told_by, whole_of};
+    ghost use Rattle.live_run.specs.Followed.{HasFollowed, HasSaid};
+    ghost use Rattle.live_run.specs.LineSources.{outcomes_source, standing_of, view_of};
+    ghost use Rattle.live_run.specs.FollowedLaws.{followed_itself, followed_said, followed_then, said_behind};
+
+    ghost rest = { λ o. rest_of (told_by (standing_of o) (S.left (outcomes_source o))) };
+
+    ghost whole = { λ o. whole_of (told_by (standing_of o) (S.left (outcomes_source o))) };
+
+    ghost faults = { λ o. faults_of (standing_of o) (S.faults (outcomes_source o)) };
+
+    ghost asked = { λ o. (standing_of o).lines.at.before };
+
+    ghost careful = { λ _. false };
+
+    ghost steady = { λ _. true };
+
+    ghost over = { λ o. has_course_ended (standing_of o).course };
+
+    ghost agrees = { λ _ _ _ _. Unit {0} };
+
+    ghost follows = { λ old new. HasFollowed S.counts_only_failures (view_of S.left S.faults old) (view_of S.left S.faults new) };
+
+    ghost said = { λ old new brought. HasSaid S.counts_only_failures (view_of S.left S.faults old) (view_of S.left S.faults new) brought };
+
+    ghost anew = { λ _ _ _ _ agreed. agreed };
+
+    ghost from_itself = { λ source. followed_itself S.counts_only_failures (view_of S.left S.faults source) };
+
+    ghost from_before = { λ first middle last. followed_then S.counts_only_failures (view_of S.left S.faults first)
+        (view_of S.left S.faults middle) (view_of S.left S.faults last) };
+
+    ghost from_said = { λ first last. followed_said S.counts_only_failures (view_of S.left S.faults first) (view_of S.left S.faults last) };
+
+    ghost said_later = { λ first middle last. said_behind S.counts_only_failures (view_of S.left S.faults first)
+        (view_of S.left S.faults middle) (view_of S.left S.faults last) };
+
+    fn begun(&mut self, _number: u32, _action: Action) {}
+
+    fn next(&mut self, _flight: &InFlight) -> Next {
+        self.ask()
+    }
+}

@@ -1,0 +1,164 @@
+//! A run over result lines as they come.
+
+ghost use Rattle.std.specs.Prelude.{◌≡◌, ◌≢◌, ◌↔◌, ◌≤◌, ◌<◌, ◌^◌, true, [], IfSome};
+ghost use Rattle.cluster_io.specs.Streams.{Rose};
+ghost use Rattle.cluster_types.specs.declared.run.RunLine.TheVariants as told;
+ghost use Rattle.cluster_types.specs.Journals.{moment_of};
+ghost use Rattle.cluster_types.specs.Safety.{IsAtRest};
+ghost use Rattle.cluster_types.specs.Texts.{run_line};
+ghost use Rattle.cluster_types.specs.Valid.{IsValid};
+ghost use Rattle.live_run.specs.Courses.{starting, stop_of};
+ghost use Rattle.live_run.specs.LineSources.{outcomes_loan, outcomes_source, standing_of};
+ghost use Rattle.live_run.specs.declared.live_end.LiveEnd.{LiveEnd as LiveEndOf};
+ghost use Rattle.live_run.specs.Ends.{IsDueText};
+ghost use Rattle.live_run.specs.LineWriters.{writer_cluster, writer_loan, sink_of};
+ghost use Rattle.live_run.specs.Writing.{IsSameSink};
+ghost use Rattle.live_run.specs.Reached.{EndsCut, EndsLines, Reaches, results_behind};
+
+use crate::live_end::LiveEnd;
+use crate::{LineOutcomes, LineStop, LineWriter};
+use cluster_io::{Sink, Source};
+use cluster_types::{Cluster, Journal};
+use graph_exec::{ReplayStop, replay_watched};
+use std::alloc::Global;
+
+/// The most transitions of a run: each but the last takes a result line, and at most 10,000 are read.
+const MOST_TRANSITIONS: u32 = 10_001;
+
+/// What a run ends with that is cut by the last answer.
+fn end_of_cut<S: Source, W: Sink>(
+    outcomes: &LineOutcomes<'_, '_, S>,
+    writer: &mut LineWriter<'_, '_, W>,
+) -> LiveEnd
+    ensures text { EndsCut (run_line (writer_cluster writer.old) (told.Unexpected (standing_of outcomes.now).line)) result
+        (W.written (sink_of writer.old)) (W.written (sink_of writer.new)) }
+    ensures count { W.faults (sink_of writer.old) ≤ W.faults (sink_of writer.new) }
+    ensures fault { result ≡ LiveEnd.WriteFault → Rose (W.faults (sink_of writer.old)) (W.faults (sink_of writer.new)) }
+    ensures no_failure { W.counts_only_failures ≡ true → result ≢ LiveEnd.WriteFault → W.faults (sink_of writer.new) ≡ W.faults (sink_of writer.old) }
+    ensures same_sink { IsSameSink (writer_loan writer.old) (writer_loan writer.new) }
+{
+    match writer.unexpected(outcomes.line()) {
+        Ok(()) => LiveEnd::Unexpected,
+        Err(_) => LiveEnd::WriteFault,
+    }
+}
+
+/// What a run ends with that asks for a line which isn't read: the line is refused, goes past the limit of bytes, or the
+/// source failed.
+fn end_of_lines<S: Source, W: Sink>(
+    outcomes: &LineOutcomes<'_, '_, S>,
+    writer: &mut LineWriter<'_, '_, W>,
+) -> LiveEnd
+    ensures text { EndsLines (stop_of (standing_of outcomes.now)) result (W.written (sink_of writer.old)) (W.written (sink_of writer.new)) }
+    ensures count { W.faults (sink_of writer.old) ≤ W.faults (sink_of writer.new) }
+    ensures fault { result ≡ LiveEnd.WriteFault → Rose (W.faults (sink_of writer.old)) (W.faults (sink_of writer.new)) }
+    ensures no_failure { W.counts_only_failures ≡ true → result ≢ LiveEnd.WriteFault → W.faults (sink_of writer.new) ≡ W.faults (sink_of writer.old) }
+    ensures same_sink { IsSameSink (writer_loan writer.old) (writer_loan writer.new) }
+{
+    match outcomes.stop() {
+        Some(LineStop::Refused { line, cause }) => match writer.refused(line, cause) {
+            Ok(()) => LiveEnd::Refused,
+            Err(_) => LiveEnd::WriteFault,
+        },
+        Some(LineStop::TooLarge) => LiveEnd::TooLarge,
+        Some(LineStop::ReadFault) | None => LiveEnd::ReadFault,
+    }
+}
+
+/// Carries the run out with a writer, and says how it ended.
+fn run_to_end<S: Source, W: Sink>(
+    alloc: Global,
+    cluster: &Cluster,
+    journal: Journal,
+    outcomes: &mut LineOutcomes<'_, '_, S>,
+    writer: &mut LineWriter<'_, '_, W>,
+) -> LiveEnd
+    requires valid { IsValid cluster.now }
+    requires at_rest { IsAtRest journal.events }
+    requires moment { moment_of journal.events < 2 ^ 40 }
+    requires fresh { standing_of outcomes.old
+        ≡ starting cluster.now (moment_of journal.events) (standing_of outcomes.old).lines.reading }
+    requires names { writer_cluster writer.old ≡ cluster.now }
+    ensures reaches { IfSome (S.left (outcomes_source outcomes.old)) (λ left. Reaches cluster.now journal (standing_of outcomes.old).lines.reading left
+        (S.left (outcomes_source outcomes.new)) (W.written (sink_of writer.old)) (W.written (sink_of writer.new)) result) }
+    ensures at_end { result ≡ LiveEnd.Done → IfSome (S.left (outcomes_source outcomes.new)) (λ left. left ≡ []) }
+    ensures read_fault { result ≡ LiveEnd.ReadFault → Rose (S.faults (outcomes_source outcomes.old)) (S.faults (outcomes_source outcomes.new)) }
+    ensures write_fault { result ≡ LiveEnd.WriteFault → Rose (W.faults (sink_of writer.old)) (W.faults (sink_of writer.new)) }
+    ensures read_count { S.faults (outcomes_source outcomes.old) ≤ S.faults (outcomes_source outcomes.new) }
+    ensures write_count { W.faults (sink_of writer.old) ≤ W.faults (sink_of writer.new) }
+    ensures no_read_failure { S.counts_only_failures ≡ true → result ≢ LiveEnd.ReadFault
+        → S.faults (outcomes_source outcomes.new) ≡ S.faults (outcomes_source outcomes.old) }
+    ensures no_write_failure { W.counts_only_failures ≡ true → result ≢ LiveEnd.WriteFault
+        → W.faults (sink_of writer.new) ≡ W.faults (sink_of writer.old) }
+    ensures same_source { outcomes_loan outcomes.new ≡ outcomes_loan outcomes.old }
+    ensures same_sink { IsSameSink (writer_loan writer.old) (writer_loan writer.new) }
+{
+    // Each arm drops its journal by name: left to the arm's end, that takes the checker twice as long.
+    match replay_watched(alloc, cluster, journal, outcomes, writer, MOST_TRANSITIONS) {
+        Ok(journal) => {
+            drop(journal);
+            LiveEnd::Done
+        }
+        Err(ReplayStop::Unexpected(journal, _)) => {
+            drop(journal);
+            end_of_cut(outcomes, writer)
+        }
+        Err(ReplayStop::SourceFault(journal)) => {
+            drop(journal);
+            end_of_lines(outcomes, writer)
+        }
+        Err(ReplayStop::Stopped(journal)) => {
+            drop(journal);
+            LiveEnd::WriteFault
+        }
+        // Each transition but the last takes a result line: so many are never made.
+        Err(ReplayStop::Most(journal)) => {
+            drop(journal);
+            LiveEnd::NoMemory
+        }
+        Err(ReplayStop::NoMemory) => LiveEnd::NoMemory,
+    }
+}
+
+/// Carries out the run of a journal of a cluster over the answers that a source reads from lines, and writes each of its lines
+/// as it happens. Where an answer doesn't apply, the last line is `unexpected LINE` with the line of the answer; where the line
+/// that is asked for isn't read, it is `refused LINE CAUSE`. After a failed write nothing more is read.
+///
+/// It asks for a valid cluster, for a journal in order with nothing in flight, as a status gives it, for a moment below 2^40
+/// seconds, and for a source of this cluster and this moment that wasn't asked yet. Rule of this project.
+pub fn run_live<S: Source, W: Sink>(
+    alloc: Global,
+    cluster: &Cluster,
+    journal: Journal,
+    outcomes: &mut LineOutcomes<'_, '_, S>,
+    out: &mut W,
+) -> LiveEnd
+    requires valid { IsValid cluster.now }
+    requires at_rest { IsAtRest journal.events }
+    requires moment { moment_of journal.events < 2 ^ 40 }
+    requires fresh { standing_of outcomes.old
+        ≡ starting cluster.now (moment_of journal.events) (standing_of outcomes.old).lines.reading }
+
+    // Where the source of bytes tells what it has left: what each end says of the text, of what was written and of what was read; and which end it is,
+    // unless memory, a read or a write failed.
+    ensures reaches { IfSome (S.left (outcomes_source outcomes.old)) (λ left. Reaches cluster.now journal (standing_of outcomes.old).lines.reading left
+        (S.left (outcomes_source outcomes.new)) (W.written out.old) (W.written out.new) result) }
+    ensures complete { IfSome (S.left (outcomes_source outcomes.old)) (λ left. ¬ Rose (S.faults (outcomes_source outcomes.old)) (S.faults (outcomes_source outcomes.new))
+        → ¬ Rose (W.faults out.old) (W.faults out.new) → result ≢ LiveEnd.NoMemory
+        → (due : LiveEndOf) → (result ≡ due) ↔ IsDueText cluster.now journal (results_behind cluster.now journal (standing_of outcomes.old).lines.reading left) due) }
+    ensures at_end { result ≡ LiveEnd.Done → IfSome (S.left (outcomes_source outcomes.new)) (λ left. left ≡ []) }
+
+    // A fault comes only where its count rose, and the first failure ends the call: no other end lets a count rise that rises with failures alone.
+    ensures read_fault { result ≡ LiveEnd.ReadFault → Rose (S.faults (outcomes_source outcomes.old)) (S.faults (outcomes_source outcomes.new)) }
+    ensures write_fault { result ≡ LiveEnd.WriteFault → Rose (W.faults out.old) (W.faults out.new) }
+    ensures read_count { S.faults (outcomes_source outcomes.old) ≤ S.faults (outcomes_source outcomes.new) }
+    ensures write_count { W.faults out.old ≤ W.faults out.new }
+    ensures no_read_failure { S.counts_only_failures ≡ true → result ≢ LiveEnd.ReadFault
+        → S.faults (outcomes_source outcomes.new) ≡ S.faults (outcomes_source outcomes.old) }
+    ensures no_write_failure { W.counts_only_failures ≡ true → result ≢ LiveEnd.WriteFault
+        → W.faults out.new ≡ W.faults out.old }
+    ensures same_source { outcomes_loan outcomes.new ≡ outcomes_loan outcomes.old }
+{
+    let mut writer = LineWriter::new(cluster, out);
+    run_to_end(alloc, cluster, journal, outcomes, &mut writer)
+}

@@ -1,5 +1,0 @@
-use Rattle.loops.proofs.Fronts.{first_is_one}
-use Rattle.loops.proofs.laws.first_loop_is_one.Goals as goal
-
-pub returns : goal.returns
-returns c = first_is_one

@@ -1,5 +1,0 @@
-use Rattle.loops.proofs.Fronts.{loop_with_more}
-use Rattle.loops.proofs.laws.loops_stay.Goals as goal
-
-pub returns : goal.returns
-returns c = λ positions edges more has_all. loop_with_more edges more has_all positions

@@ -1,5 +1,0 @@
-use Rattle.loops.proofs.Filled.{Begins}
-use Rattle.loops.proofs.rows.beginnings.Given as goal
-
-abbrev pub invariant-loop-position : goal.invariant-loop-position
-invariant-loop-position l = Begins l.positions l.edges l.position l.below l.begins.items

@@ -1,5 +1,0 @@
-use Rattle.loops.proofs.OneFirst.{one_colocation}
-use Rattle.loops.proofs.rule_laws.first_colocation_is_one.Goals as goal
-
-pub returns : goal.returns
-returns c = one_colocation

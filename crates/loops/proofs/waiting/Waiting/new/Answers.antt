@@ -1,4 +1,0 @@
-use Rattle.loops.proofs.waiting.Waiting.new.Goals as goal
-
-pub new-requires : goal.new-requires
-new-requires c = rw (c.as_slice.ensures, c.edges-edges.ensures.edges) c.edges-edges.ensures.graph.within

@@ -1,6 +1,0 @@
-use Rattle.std.proofs.Common.{◌≡◌, map, take}
-use Rattle.placement.specs.DecisionLists.{key_by}
-use Rattle.placement.proofs.keys.all_keys.Given as goal
-
-abbrev pub invariant-loop-position : goal.invariant-loop-position
-invariant-loop-position l = l.keys.items ≡ map (key_by l.set.cluster.now l.states l.scores) (take l.position l.set.list.items)

@@ -1,5 +1,0 @@
-use Rattle.placement.proofs.TableOfStates.{total-is}
-use Rattle.placement.proofs.laws.scores_are_totals.Goals as goal
-
-pub returns : goal.returns
-returns c = total-is

@@ -1,8 +1,0 @@
-use Rattle.std.proofs.Common.{length, take}
-use Rattle.placement.specs.Locations.{given, is_role}
-use Rattle.placement.specs.Rows.{IsRow}
-use Rattle.placement.proofs.locations.given_row.Given as goal
-
-abbrev pub invariant-loop-rule : goal.invariant-loop-rule
-invariant-loop-rule l =
-    IsRow (length l.cluster.nodes) (given l.cluster l.moment (is_role l.role) l.leaf l.cluster.locations (take l.rule-index l.rule-items)) l.row

@@ -1,8 +1,0 @@
-use Rattle.std.proofs.Common.{take}
-use Rattle.cluster_types.specs.Tables.{targets_of}
-use Rattle.placement.specs.Rows.{IsRow}
-use Rattle.placement.specs.Counted.{counted}
-use Rattle.placement.proofs.preferring.preference_row.Given as goal
-
-abbrev pub invariant-loop-rule : goal.invariant-loop-rule
-invariant-loop-rule l = IsRow l.nodes (counted (targets_of l.table) l.decision (take l.rule-index l.rule-items)) l.row

@@ -1,0 +1,61 @@
+use Rattle.std.proofs.Common.{◌≡◌, ◌≤◌, ◌++◌, ◌∷◌, [], true, false, length, sym, ◌∙◌, arith}
+use Rattle.score.specs.NodeSet.{has}
+use Rattle.placement.specs.LendingRows as spec
+use Rattle.placement.specs.OwnRows.{own_by}
+use Rattle.placement.proofs.Lenders.{few-joined}
+use Rattle.placement.proofs.OwnTerms.{few-own, small-own}
+use Rattle.placement.proofs.RowSums.{rows-fit}
+use Rattle.placement.proofs.TermRows.{row-room, row-length}
+use Rattle.placement.proofs.TriedLenders.{tried-row, tried-test}
+use Rattle.placement.proofs.totals.lending_rows.lend.Goals as goal
+
+pub both-requires-clause-one : goal.both-requires-clause-one
+both-requires-clause-one c = row-length (length c.args.own.now.cluster.now.nodes) _ c.args.joined c.requires.joined ∙ sym c.len-nodes.ensures
+
+pub both-requires-clause-other : goal.both-requires-clause-other
+both-requires-clause-other c =
+    let own = c.args.own.now in
+    row-length (length own.cluster.now.nodes) (own_by own.cluster.now own.states.now c.args.lender) c.row.result.now c.row.ensures ∙ sym c.len-nodes.ensures
+
+pub both-requires-clause-roomy : goal.both-requires-clause-roomy
+both-requires-clause-roomy c =
+    let own = c.args.own.now in
+    let cluster = own.cluster.now in
+    let within : c.args.lender ≤ length cluster.leaves = omega (arith, c.requires.lender) in
+    row-room (length cluster.nodes) _ c.args.joined c.requires.joined
+    (λ n low. let a = few-joined cluster own.states.now c.args.leaf own.limits c.args.lender within n in omega (arith, a))
+
+pub both-requires-clause-room : goal.both-requires-clause-room
+both-requires-clause-room c = λ n low.
+    let own = c.args.own.now in
+    let cluster = own.cluster.now in
+    let states = own.states.now in
+    let within : c.args.lender ≤ length cluster.leaves = omega (arith, c.requires.lender) in
+    rows-fit (length cluster.nodes) _ (own_by cluster states c.args.lender) c.args.joined c.row.result.now c.requires.joined c.row.ensures
+    (λ m below. few-joined cluster states c.args.leaf own.limits c.args.lender within m)
+    (λ m below. let a = few-own cluster states c.args.lender m in let b = small-own cluster c.args.lender own.limits in omega (arith, a, b))
+    n (omega (arith, low, c.len-nodes.ensures))
+
+pub returns-then-fits : goal.returns-then-fits
+returns-then-fits c =
+    let own = c.args.own.now in
+    let cluster = own.cluster.now in
+    let states = own.states.now in
+    let joined = spec.joined_below cluster states c.args.leaf c.args.lender in
+    let row = tried-row cluster states joined c.args.lender c.len-nodes.result c.args.joined c.row.result.now c.in_ok-row.row c.len-nodes.ensures c.in_ok-row.ensures.terms c.requires.joined c.row.ensures in
+    let fits : c.in_ok-fits.fits ≡ spec.leaves_a_node_by cluster states (joined ++ c.args.lender ∷ []) =
+    tried-test cluster states joined c.args.lender c.len-nodes.result (has own.usable) c.in_ok-row.row c.in_ok-fits.fits c.len-nodes.ensures own.nodes row (λ terms is. c.in_ok-fits.ensures terms is) in
+    let joins : spec.leaves_a_node_by cluster states (joined ++ c.args.lender ∷ []) ≡ true = sym fits ∙ c.if-fits.true in
+    rw joins row
+
+pub returns-else-fits : goal.returns-else-fits
+returns-else-fits c =
+    let own = c.args.own.now in
+    let cluster = own.cluster.now in
+    let states = own.states.now in
+    let joined = spec.joined_below cluster states c.args.leaf c.args.lender in
+    let row = tried-row cluster states joined c.args.lender c.len-nodes.result c.args.joined c.row.result.now c.in_ok-row.row c.len-nodes.ensures c.in_ok-row.ensures.terms c.requires.joined c.row.ensures in
+    let fits : c.in_ok-fits.fits ≡ spec.leaves_a_node_by cluster states (joined ++ c.args.lender ∷ []) =
+    tried-test cluster states joined c.args.lender c.len-nodes.result (has own.usable) c.in_ok-row.row c.in_ok-fits.fits c.len-nodes.ensures own.nodes row (λ terms is. c.in_ok-fits.ensures terms is) in
+    let stays_out : spec.leaves_a_node_by cluster states (joined ++ c.args.lender ∷ []) ≡ false = sym fits ∙ c.if-fits.false in
+    rw stays_out c.requires.joined

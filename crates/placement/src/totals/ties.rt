@@ -1,0 +1,139 @@
+//! The leaves that must be with a leaf.
+
+ghost use Rattle.std.specs.Prelude.{◌≡◌, ◌≤◌, ◌+◌, List, false, cond, length, Contains, IfOk, map};
+ghost use Rattle.cluster_types.specs.declared.cluster.Cluster.{Cluster as ClusterOf};
+ghost use Rattle.cluster_types.specs.Terms as terms;
+ghost use Rattle.cluster_types.specs.Valid.{IsValid};
+ghost use Rattle.placement.specs.declared.totals.ties.Tie.{Tie as TieOf};
+ghost use Rattle.listed.specs.Flags.{is_marked};
+ghost use Rattle.edges.specs.Loops.{HasNoLoop};
+ghost use Rattle.placement.specs.TieOrder.{AreTiesInOrder, edge_of};
+ghost use Rattle.placement.specs.Ties as spec;
+
+use crate::totals::tie_order::put_in_order;
+use cluster_types::{Cluster, Colocation, LeafId, Role};
+use faults::done;
+use listed::flag_at;
+use std::alloc::{AllocError, Global};
+
+/// A colocation that ties its dependent to its primary for good.
+#[derive(Clone, Copy)]
+pub(crate) struct Tie {
+    pub(crate) dependent: LeafId,
+    pub(crate) primary: LeafId,
+}
+
+/// Whether the colocation ties two uncloned leaves for good, both in the role Started.
+fn is_tie(cluster: &Cluster, rule: &Colocation) -> bool
+    ensures { result ≡ terms.is_tie cluster.now rule.now }
+{
+    rule.is_mandatory()
+        && rule.dependent_role == Role::Started
+        && rule.primary_role == Role::Started
+        && !cluster.is_cloned(rule.dependent)
+        && !cluster.is_cloned(rule.primary)
+}
+
+/// The ties of the cluster, in the order of its colocations.
+fn listed_ties(alloc: Global, cluster: &Cluster) -> Result<Vec<Tie>, AllocError>
+    ensures { IfOk result (λ ties. ties.items ≡ spec.ties_of cluster.now) }
+{
+    let mut ties = Vec::new(alloc);
+    for rule in cluster.colocations.as_slice() {
+        if !is_tie(cluster, rule) {
+            continue;
+        }
+        ties.push(Tie {
+            dependent: rule.dependent,
+            primary: rule.primary,
+        })?;
+    }
+    Ok(ties)
+}
+
+/// The ties of the cluster, each behind those of its primary, where no chain of ties leads from a leaf back to it.
+pub(crate) fn ties_of(alloc: Global, cluster: &Cluster) -> Result<Vec<Tie>, AllocError>
+    requires { IsValid cluster.now }
+    ensures ties { IfOk result (λ ties. spec.AreTies cluster.now ties.items) }
+    ensures ordered { IfOk result (λ ties. HasNoLoop (length cluster.now.leaves) (map edge_of (spec.ties_of cluster.now)) → AreTiesInOrder ties.items) }
+{
+    let mut ties = listed_ties(alloc, cluster)?;
+    let ordering = put_in_order(alloc, cluster.leaves.len() as u32, &mut ties);
+    done(ties, ordering)
+}
+
+pub(crate) fn is_marked(marks: &[bool], leaf: LeafId) -> bool
+    ensures { result ≡ is_marked marks.now leaf }
+{
+    flag_at(marks, leaf)
+}
+
+/// Whether the leaf is there and has no mark.
+fn lacks_mark(marks: &[bool], leaf: LeafId) -> bool
+    ensures { result ≡ spec.lacks_mark marks.now leaf }
+{
+    match marks.get(leaf as usize) {
+        Some(mark) => !*mark,
+        None => false,
+    }
+}
+
+/// Gives the leaf a mark, if it is wanted and the leaf is there.
+fn mark_if(marks: &mut Vec<bool>, leaf: LeafId, wanted: bool)
+    ensures { marks.new.items ≡ spec.with_mark_if marks.old.items leaf wanted }
+{
+    let at = leaf as usize;
+    if wanted && at < marks.len() {
+        marks[at] = true;
+    }
+}
+
+/// Whether the dependent lacks a mark, and is tied to the leaf or to one that has a mark.
+fn is_missed(tie: Tie, leaf: LeafId, marks: &[bool]) -> bool
+    ensures { result ≡ spec.is_missed leaf marks.now tie }
+{
+    lacks_mark(marks, tie.dependent) && (tie.primary == leaf || is_marked(marks, tie.primary))
+}
+
+/// Marks the dependent if it was missed, and says whether it was.
+fn follow(tie: Tie, leaf: LeafId, marks: &mut Vec<bool>) -> bool
+    ensures missed { result ≡ spec.is_missed leaf marks.old.items tie }
+    ensures marks { marks.new.items ≡ spec.with_mark_if marks.old.items tie.dependent (spec.is_missed leaf marks.old.items tie) }
+{
+    let missed = is_missed(tie, leaf, marks);
+    mark_if(marks, tie.dependent, missed);
+    missed
+}
+
+/// One pass over the ties: whether it marked a leaf.
+fn pass(ties: &[Tie], leaf: LeafId, marks: &mut Vec<bool>) -> bool
+    ensures tied { (c : ClusterOf) → spec.AreTies c ties.now → spec.AreTied c leaf marks.old.items → spec.AreTied c leaf marks.new.items }
+    ensures fewer { spec.unmarked marks.new.items + cond result 1 0 ≤ spec.unmarked marks.old.items }
+    ensures none { result ≡ false → (tie : TieOf) → Contains ties.now tie → spec.is_missed leaf marks.new.items tie ≡ false }
+{
+    let mut changed = false;
+    for tie in ties {
+        changed |= follow(*tie, leaf, marks);
+    }
+    changed
+}
+
+/// The leaves that must be with the leaf through a chain of ties. Passes are made until one finds none: where each tie stands behind those of
+/// its primary, the second finds none.
+pub(crate) fn tied(
+    alloc: Global,
+    cluster: &Cluster,
+    ties: &[Tie],
+    leaf: LeafId,
+) -> Result<Vec<bool>, AllocError>
+    requires valid { IsValid cluster.now }
+    requires ties { spec.AreTies cluster.now ties.now }
+    ensures { IfOk result (λ marks. marks.items ≡ spec.tied_within cluster.now (length cluster.now.leaves) leaf) }
+{
+    let mut marks = vec![in alloc; false; cluster.leaves.len()]?;
+    let mut changed = true;
+    while changed {
+        changed = pass(ties, leaf, &mut marks);
+    }
+    Ok(marks)
+}

@@ -1,9 +1,0 @@
-use Rattle.std.proofs.Common.{◌≡◌, ◌++◌, drop, map}
-use Rattle.planner.specs.Actions.{monitor_action, wanted}
-use Rattle.planner.proofs.listing.push_monitors.Given as goal
-
--- what is left to add gives what was to be added
-abbrev pub invariant-loop-monitor : goal.invariant-loop-monitor
-invariant-loop-monitor l =
-    l.fn.list.items ++ map (monitor_action l.leaf l.node) (wanted l.target l.has_steps l.running l.monitors)
-    ≡ l.list.items ++ map (monitor_action l.leaf l.node) (wanted l.target l.has_steps l.left (drop l.monitor-index l.monitors))

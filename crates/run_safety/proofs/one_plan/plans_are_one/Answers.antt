@@ -1,5 +1,0 @@
-use Rattle.run_safety.proofs.PlansAreOne.{plans_one}
-use Rattle.run_safety.proofs.one_plan.plans_are_one.Goals as goal
-
-pub returns : goal.returns
-returns c = λ cl ps. plans_one cl ps

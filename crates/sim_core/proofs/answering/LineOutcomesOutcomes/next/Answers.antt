@@ -1,5 +1,0 @@
-use Rattle.sim_core.proofs.Asked.{gives}
-use Rattle.sim_core.proofs.answering.LineOutcomesOutcomes.next.Goals as goal
-
-pub returns-clause-gives : goal.returns-clause-gives
-returns-clause-gives g c = gives _ _ _ _ c.ask.result c.ask.ensures.answers

@@ -1,5 +1,0 @@
-use Rattle.sim_core.proofs.OneFault.{one_fault}
-use Rattle.sim_core.proofs.audit_laws.faulty_lines_are_one.Goals as goal
-
-pub returns : goal.returns
-returns c = one_fault

@@ -1,8 +1,0 @@
-use Rattle.std.proofs.Common.{sym, subst}
-use Rattle.sim_core.specs.Saying.{Fits}
-use Rattle.sim_core.proofs.Fitting.{read_fits}
-use Rattle.sim_core.proofs.line_saying.words_say.Goals as goal
-
-pub returns-clause-fits : goal.returns-clause-fits
-returns-clause-fits c =
-    subst (Fits c.args.place) (sym c.answer_says.ensures) (read_fits c.args.place c.read_result.result c.read_result.ensures.few c.read_result.ensures.within)

@@ -1,5 +1,0 @@
-use Rattle.sim_core.proofs.Dues.{one_end}
-use Rattle.sim_core.proofs.run_laws.ends_are_one.Goals as goal
-
-pub returns : goal.returns
-returns c = λ cl journal coming one other text also g h. one_end cl journal coming one other text also g h

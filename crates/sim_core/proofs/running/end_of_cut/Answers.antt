@@ -1,4 +1,0 @@
-use Rattle.sim_core.proofs.running.end_of_cut.Goals as goal
-
-pub returns-in-Ok-clause-text : goal.returns-in-Ok-clause-text
-returns-in-Ok-clause-text g c = rw c.line.ensures at c.in-Ok.ensures.text

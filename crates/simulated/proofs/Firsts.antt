@@ -1,0 +1,132 @@
+-- What a simulated cluster is made of at first is what the journal says.
+use Rattle.std.proofs.Common.{◌≡◌, ℕ, ◌+◌, ◌*◌, ◌<◌, ◌==◌, Bool, true, false, if◌then◌else◌, is_some, is_none, Option, Some, None, List, [], ◌∷◌, ◌++◌, length, length-append, slice_get, refl, sym, ap, ◌∙◌, eqb-true, arith}
+use Rattle.std.proofs.lemmas.Bool.{and_parts}
+use Rattle.std.proofs.lemmas.List.{get_or_push}
+use Rattle.std.proofs.lemmas.Option.{slice_get-get_or}
+use Rattle.lemmas.proofs.Members.{slice_get_left}
+use Rattle.cluster_types.specs.declared.cluster.Cluster.{Cluster}
+use Rattle.cluster_types.specs.declared.journal.Event.{Event}
+use Rattle.cluster_types.specs.declared.states.NodeState.TheVariants.{Online, Offline, Unclean}
+use Rattle.cluster_types.specs.Answering.{is_joined_sign}
+use Rattle.cluster_types.specs.CellStates.{last_outcome}
+use Rattle.cluster_types.specs.Journals.{NodeSign, joined, went_down, was_lost, was_fenced, last_sign}
+use Rattle.cluster_types.specs.May.{may, may_promoted}
+use Rattle.cluster_types.specs.NodeStates.{state_by}
+use Rattle.cluster_types.proofs.TableCells.{same_place}
+use Rattle.simulated.specs.declared.real.Real.{Real}
+use Rattle.simulated.specs.declared.real.Real.TheVariants as real
+use Rattle.simulated.specs.declared.real.Standing.{Standing}
+use Rattle.simulated.specs.declared.real.Standing.TheVariants as standing
+use Rattle.cases.specs.Draws.{state_after}
+use Rattle.simulated.specs.Kept.{Holds, HoldsNodes, ShowsWorld, reality}
+use Rattle.simulated.specs.RealWorlds.{Cells, first_real, first_world, is_rising, standing_by}
+use Rattle.simulated.specs.Firsts.{IsFilled}
+use Rattle.simulated.proofs.Hearing.{place_within}
+
+-- one element more is found where the list ended
+module _ {X : Type 0} (xs : List X) (x : X) where
+  new_found : (i : ℕ) → length xs ≡ i → slice_get (xs ++ x ∷ []) i ≡ Some x
+  new_found i is = slice_get-get_or (xs ++ x ∷ []) i x (omega (arith, is, length-append xs (x ∷ []))) ∙ ap Some (get_or_push xs x x i is)
+
+module _ (c : Cluster) where
+  pub filled-none : (cells : Cells) → IsFilled c [] cells
+  filled-none cells = record { each = λ r n l m low. absurd (omega arith) }
+
+  pub filled-push : (kept : List Real) (cells : Cells) (leaf node : ℕ) (x : Real) → length kept ≡ leaf * length c.nodes + node → node < length c.nodes
+      → x ≡ cells leaf node → IsFilled c kept cells → IsFilled c (kept ++ x ∷ []) cells
+  filled-push kept cells leaf node x len has_node is f =
+      record { each = λ r n l m low. on r n l m low (r * length c.nodes + n == leaf * length c.nodes + node) refl }
+    where
+      on : (r n : ℕ) → r < length c.leaves → n < length c.nodes → r * length c.nodes + n < length (kept ++ x ∷ []) → (last : Bool)
+          → (r * length c.nodes + n == leaf * length c.nodes + node) ≡ last → slice_get (kept ++ x ∷ []) (r * length c.nodes + n) ≡ Some (cells r n)
+      on r n l m low true e =
+          let parts = and_parts (r == leaf) (n == node) (sym (same_place (length c.nodes) r n leaf node m has_node (r == leaf) refl) ∙ e) in
+          let leaves : r ≡ leaf = eqb-true r leaf parts.0 in
+          let nodes : n ≡ node = eqb-true n node parts.1 in
+          rw (leaves, nodes) (new_found kept x (leaf * length c.nodes + node) len ∙ ap Some is)
+      on r n l m low false e =
+          let earlier : r * length c.nodes + n < length kept = grind (arith, length-append kept (x ∷ [])) in
+          slice_get_left kept (x ∷ []) (r * length c.nodes + n) earlier ∙ f.each r n l m earlier
+
+  pub holds-filled : (kept : List Real) (cells : Cells) → length kept ≡ length c.leaves * length c.nodes → IsFilled c kept cells → Holds c kept cells
+  holds-filled kept cells full f = record { full = full; each = λ r n l m. f.each r n l m (place_within c (length kept) r n full l m) }
+
+  -- how a node stands, by the last that is shown of it
+  pub not_joined_lost : (n : ℕ) (es : List Event) (s : Option NodeSign) → is_joined_sign s ≡ false → state_by c n es s ≡ Unclean → standing.Lost ≡ standing_by c s
+  not_joined_lost n es None h e = cc
+  not_joined_lost n es (Some joined) h e = cc
+  not_joined_lost n es (Some went_down) h e = cc
+  not_joined_lost n es (Some was_fenced) h e = cc
+  not_joined_lost n es (Some was_lost) h e = on c.properties.fencing e
+    where
+      on : (t : Bool) → (if t then Unclean else Offline) ≡ Unclean → standing.Lost ≡ (if t then standing.Lost else standing.Off)
+      on true i = refl
+      on false i = cc
+
+  pub not_joined_offline : (n : ℕ) (es : List Event) (s : Option NodeSign) → is_joined_sign s ≡ false → state_by c n es s ≡ Offline → standing.Off ≡ standing_by c s
+  not_joined_offline n es None h e = refl
+  not_joined_offline n es (Some joined) h e = cc
+  not_joined_offline n es (Some went_down) h e = refl
+  not_joined_offline n es (Some was_fenced) h e = refl
+  not_joined_offline n es (Some was_lost) h e = on c.properties.fencing e
+    where
+      on : (t : Bool) → (if t then Unclean else Offline) ≡ Offline → standing.Off ≡ (if t then standing.Lost else standing.Off)
+      on true i = cc
+      on false i = refl
+
+  pub not_joined_online : (n : ℕ) (es : List Event) (s : Option NodeSign) → is_joined_sign s ≡ false → state_by c n es s ≡ Online → standing.Off ≡ standing_by c s
+  not_joined_online n es None h e = cc
+  not_joined_online n es (Some joined) h e = cc
+  not_joined_online n es (Some went_down) h e = cc
+  not_joined_online n es (Some was_fenced) h e = cc
+  not_joined_online n es (Some was_lost) h e = on c.properties.fencing e
+    where
+      on : (t : Bool) → (if t then Unclean else Offline) ≡ Online → standing.Off ≡ (if t then standing.Lost else standing.Off)
+      on true i = cc
+      on false i = cc
+
+  pub has_joined : (s : Option NodeSign) → is_joined_sign s ≡ true → standing.Up ≡ standing_by c s
+  has_joined None h = cc
+  has_joined (Some joined) h = refl
+  has_joined (Some went_down) h = cc
+  has_joined (Some was_lost) h = cc
+  has_joined (Some was_fenced) h = cc
+
+-- how the nodes stand, with one more
+pub nodes-push : (kept : List Standing) (held : ℕ → Standing) (count : ℕ) (x : Standing) → length kept ≡ count → x ≡ held count → HoldsNodes count kept held
+    → HoldsNodes (count + 1) (kept ++ x ∷ []) held
+nodes-push kept held count x len is h n low = on (n == count) refl
+  where
+    on : (last : Bool) → (n == count) ≡ last → slice_get (kept ++ x ∷ []) n ≡ Some (held n)
+    on true e = let same : n ≡ count = eqb-true n count e in rw same (new_found kept x count len ∙ ap Some is)
+    on false e = let earlier : n < length kept = grind arith in slice_get_left kept (x ∷ []) n earlier ∙ h n (omega (arith, earlier, len))
+
+pub nothing_heard : {X : Type 0} (o : Option X) → is_some o ≡ false → is_none o ≡ true
+nothing_heard None h = refl
+nothing_heard (Some x) h = cc
+
+pub something_heard : {X : Type 0} (o : Option X) → is_some o ≡ true → is_none o ≡ false
+something_heard None h = cc
+something_heard (Some x) h = refl
+
+-- nothing comes up at first
+never_rising : (c : Cluster) (es : List Event) (r n : ℕ) → first_real c es r n ≡ real.Rising → ⊥
+never_rising c es r n = on (is_none (last_outcome c r n es)) (may_promoted c r n es) (may c r n es)
+  where
+    on : (unheard promoted runs : Bool)
+        → (if unheard then real.Off else (if promoted then real.Promoted else (if runs then real.Started else real.Off))) ≡ real.Rising → ⊥
+    on true promoted runs e = let no = ap is_rising e in cc
+    on false true runs e = let no = ap is_rising e in cc
+    on false false true e = let no = ap is_rising e in cc
+    on false false false e = let no = ap is_rising e in cc
+
+pub first_shows : (c : Cluster) (es : List Event) (nodes : List Standing) (cells : List Real) (number : ℕ)
+    → HoldsNodes (length c.nodes) nodes (λ n. standing_by c (last_sign n es)) → Holds c cells (first_real c es)
+    → ShowsWorld (reality c nodes cells None number (state_after number 0) 0) (first_world c es)
+first_shows c es nodes cells number n h = record {
+  nodes = n;
+  cells = h;
+  alone = λ r m l k e. absurd (never_rising c es r m e);
+  state = refl;
+  given = refl;
+}

@@ -1,0 +1,63 @@
+-- What is kept of a simulated cluster, and what it stands for (rule of this project).
+use Rattle.std.specs.Prelude.{◌≡◌, ℕ, ◌+◌, ◌*◌, ◌<◌, Option, Some, List, length, slice_get}
+use Rattle.cluster_types.specs.declared.cluster.Cluster.{Cluster}
+use Rattle.cluster_types.specs.Valid.{KeepsLimits}
+use Rattle.simulated.specs.declared.real.Real.{Real}
+use Rattle.simulated.specs.declared.real.Real.TheVariants as real
+use Rattle.simulated.specs.declared.real.Standing.{Standing}
+use Rattle.cases.specs.Draws.{state_after}
+use Rattle.simulated.specs.RealWorlds.{Cells, World}
+
+-- what is kept: of each node, of each cell, leaf by leaf and node by node, which cell comes up, the number, the state of its draws, and how many faults were
+-- given
+pub record RealityOf : Type 0 where
+  pub cluster : Cluster
+  pub nodes : List Standing
+  pub cells : List Real
+  pub rising : Option (ℕ × ℕ)
+  pub number : ℕ
+  pub state : ℕ
+  pub given : ℕ
+
+-- the list has these cells
+pub record Holds (c : Cluster) (kept : List Real) (cells : Cells) : Type 0 where
+  pub full : length kept ≡ length c.leaves * length c.nodes
+  pub each : (r n : ℕ) → r < length c.leaves → n < length c.nodes → slice_get kept (r * length c.nodes + n) ≡ Some (cells r n)
+
+-- only this cell comes up
+abbrev pub IsAlone : Cluster → Option (ℕ × ℕ) → Cells → Type 0
+IsAlone c rising cells = (r n : ℕ) → r < length c.leaves → n < length c.nodes → cells r n ≡ real.Rising → rising ≡ Some (r, n)
+
+abbrev pub reality : Cluster → List Standing → List Real → Option (ℕ × ℕ) → ℕ → ℕ → ℕ → RealityOf
+reality c nodes cells rising number state given = record {
+  cluster = c;
+  nodes = nodes;
+  cells = cells;
+  rising = rising;
+  number = number;
+  state = state;
+  given = given;
+}
+
+-- the list says how these nodes stand
+abbrev pub HoldsNodes : ℕ → List Standing → (ℕ → Standing) → Type 0
+HoldsNodes count kept nodes = (n : ℕ) → n < count → slice_get kept n ≡ Some (nodes n)
+
+-- it stands for this simulated cluster
+pub record ShowsWorld (k : RealityOf) (w : World) : Type 0 where
+  pub nodes : HoldsNodes (length k.cluster.nodes) k.nodes w.nodes
+  pub cells : Holds k.cluster k.cells w.cells
+  pub alone : IsAlone k.cluster k.rising w.cells
+  pub state : k.state ≡ state_after k.number w.drawn
+  pub given : k.given ≡ w.given
+
+-- the cluster is within the limits, and there is something kept of each node and cell
+pub record RealityFits (k : RealityOf) : Type 0 where
+  pub limits : KeepsLimits k.cluster
+  pub nodes : length k.nodes ≡ length k.cluster.nodes
+  pub cells : length k.cells ≡ length k.cluster.leaves * length k.cluster.nodes
+
+-- the cluster and the number stay
+pub record IsOfSame (old new : RealityOf) : Type 0 where
+  pub cluster : new.cluster ≡ old.cluster
+  pub number : new.number ≡ old.number

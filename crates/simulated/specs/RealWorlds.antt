@@ -1,0 +1,181 @@
+-- A simulated cluster: what really runs, and what each action does to it (rule of this project).
+use Rattle.std.specs.Prelude.{ℕ, ◌==◌, ◌&&◌, nat_lt, Bool, true, false, is_none, if◌then◌else◌, Option, Some, None, List, length}
+use Rattle.cluster_types.specs.declared.cluster.Cluster.{Cluster}
+use Rattle.cluster_types.specs.declared.journal.Action.{Action}
+use Rattle.cluster_types.specs.declared.journal.Action.TheVariants.{Fence, Probe, Cell, MigrateTo, MigrateFrom}
+use Rattle.cluster_types.specs.declared.journal.Event.{Event}
+use Rattle.cluster_types.specs.declared.leaf.Op.{Op}
+use Rattle.cluster_types.specs.declared.leaf.Op.TheVariants.{Start, Stop, Promote, Demote, Monitor}
+use Rattle.cluster_types.specs.Cells.{is_same_cell}
+use Rattle.cluster_types.specs.CellStates.{last_outcome}
+use Rattle.cluster_types.specs.ExitCodes.{success, not_running, running_promoted}
+use Rattle.cluster_types.specs.Fields.{is_promotable}
+use Rattle.cluster_types.specs.Journals.{NodeSign, joined, went_down, was_lost, was_fenced, last_sign}
+use Rattle.cluster_types.specs.May.{may, may_promoted}
+use Rattle.simulated.specs.declared.real.Real.{Real}
+use Rattle.simulated.specs.declared.real.Real.TheVariants as real
+use Rattle.simulated.specs.declared.real.Standing.{Standing}
+use Rattle.simulated.specs.declared.real.Standing.TheVariants as standing
+
+-- what each leaf really does on each node
+abbrev pub Cells : Type 0
+Cells = ℕ → ℕ → Real
+
+-- a simulated cluster: how its nodes stand, what runs, how many numbers were drawn, and how many faults it was given
+pub record World : Type 0 where
+  pub nodes : ℕ → Standing
+  pub cells : Cells
+  pub drawn : ℕ
+  pub given : ℕ
+
+-- something is there: it runs, or comes up
+abbrev pub is_there : Real → Bool
+is_there real.Off = false
+is_there _ = true
+
+abbrev pub is_really_promoted : Real → Bool
+is_really_promoted real.Promoted = true
+is_really_promoted _ = false
+
+-- it comes up
+abbrev pub is_rising : Real → Bool
+is_rising real.Rising = true
+is_rising _ = false
+
+abbrev pub is_node_up : Standing → Bool
+is_node_up standing.Up = true
+is_node_up _ = false
+
+abbrev pub is_node_off : Standing → Bool
+is_node_off standing.Off = true
+is_node_off _ = false
+
+-- the cluster has the cell
+abbrev pub is_cell : Cluster → ℕ → ℕ → Bool
+is_cell c r n = nat_lt r (length c.leaves) && nat_lt n (length c.nodes)
+
+-- what is found in a cell; in one that the cluster doesn't have, nothing
+abbrev pub found_at : Cluster → Cells → ℕ → ℕ → Real
+found_at c cells r n = if is_cell c r n then cells r n else real.Off
+
+-- how a node stands by the last that a journal shows of it. Without fencing a lost node has stopped, as the configuration takes it
+abbrev pub standing_by : Cluster → Option NodeSign → Standing
+standing_by c (Some joined) = standing.Up
+standing_by c (Some was_lost) = if c.properties.fencing then standing.Lost else standing.Off
+standing_by c (Some went_down) = standing.Off
+standing_by c (Some was_fenced) = standing.Off
+standing_by c None = standing.Off
+
+-- what runs after a journal: what it says that may run, as far as it says anything of the cell
+abbrev pub first_real : Cluster → List Event → Cells
+first_real c es r n =
+    if is_none (last_outcome c r n es) then real.Off
+    else (if may_promoted c r n es then real.Promoted
+    else (if may c r n es then real.Started
+    else real.Off))
+
+-- a simulated cluster after a journal, of which nothing was drawn yet
+abbrev pub first_world : Cluster → List Event → World
+first_world c es = record {
+  nodes = λ n. standing_by c (last_sign n es);
+  cells = first_real c es;
+  drawn = 0;
+  given = 0;
+}
+
+-- what comes up has come up
+abbrev pub risen : Real → Real
+risen real.Off = real.Off
+risen real.Rising = real.Started
+risen real.Started = real.Started
+risen real.Promoted = real.Promoted
+
+-- one cell changes, or all of a node
+abbrev pub with_changed_cell : ℕ → ℕ → (Real → Real) → Cells → Cells
+with_changed_cell leaf node change cells r n = if is_same_cell r n leaf node then change (cells r n) else cells r n
+
+abbrev pub without_node : ℕ → Cells → Cells
+without_node node cells r n = if node == n then real.Off else cells r n
+
+-- a start that finds nothing lets it come up
+abbrev pub rising_from : Real → Real
+rising_from real.Off = real.Rising
+rising_from real.Rising = real.Rising
+rising_from real.Started = real.Started
+rising_from real.Promoted = real.Promoted
+
+abbrev pub demoted : Real → Real
+demoted real.Off = real.Off
+demoted real.Rising = real.Rising
+demoted real.Started = real.Started
+demoted real.Promoted = real.Started
+
+-- the exit code of an agent that looks
+abbrev pub looked : Real → ℕ
+looked real.Off = not_running
+looked real.Rising = success
+looked real.Started = success
+looked real.Promoted = running_promoted
+
+module _ (c : Cluster) where
+  -- what an operation that is done makes of its cell
+  abbrev pub after_op : Op → ℕ → Real → Real
+  after_op Start leaf before = real.Started
+  after_op Stop leaf before = real.Off
+  after_op Promote leaf before = if is_promotable c leaf then real.Promoted else real.Started
+  after_op Demote leaf before = demoted before
+  after_op Monitor leaf before = before
+
+  -- an action begins: the target of a migration comes to run where its source does
+  abbrev pub begun : Action → Cells → Cells
+  begun (MigrateTo leaf source target) cells =
+      if is_there (found_at c cells leaf source) then with_changed_cell leaf target (λ x. real.Started) cells else cells
+  begun (Fence node) cells = cells
+  begun (Probe leaf node) cells = cells
+  begun (Cell op leaf node interval role) cells = cells
+  begun (MigrateFrom leaf source target) cells = cells
+
+  -- it is done: what has migrated runs no more at the source
+  abbrev pub done : Action → Cells → Cells
+  done (Fence node) cells = without_node node cells
+  done (Probe leaf node) cells = cells
+  done (Cell op leaf node interval role) cells = with_changed_cell leaf node (after_op op leaf) cells
+  done (MigrateTo leaf source target) cells =
+      if is_there (found_at c cells leaf target) then with_changed_cell leaf source (λ x. real.Off) cells else cells
+  done (MigrateFrom leaf source target) cells = cells
+
+  -- nothing is done: a migration leaves what runs at its source, and its target stops
+  abbrev pub undone : Action → Cells → Cells
+  undone (MigrateTo leaf source target) cells =
+      if is_there (found_at c cells leaf source) then with_changed_cell leaf target (λ x. real.Off) cells else cells
+  undone (Fence node) cells = cells
+  undone (Probe leaf node) cells = cells
+  undone (Cell op leaf node interval role) cells = cells
+  undone (MigrateFrom leaf source target) cells = cells
+
+  -- it isn't done in time: a start comes true later
+  abbrev pub given_up_op : Op → ℕ → ℕ → Cells → Cells
+  given_up_op Start leaf node cells = with_changed_cell leaf node rising_from cells
+  given_up_op Stop leaf node cells = cells
+  given_up_op Promote leaf node cells = cells
+  given_up_op Demote leaf node cells = cells
+  given_up_op Monitor leaf node cells = cells
+
+  abbrev pub given_up : Action → Cells → Cells
+  given_up (Cell op leaf node interval role) cells = given_up_op op leaf node cells
+  given_up (MigrateTo leaf source target) cells = undone (MigrateTo leaf source target) cells
+  given_up (Fence node) cells = cells
+  given_up (Probe leaf node) cells = cells
+  given_up (MigrateFrom leaf source target) cells = cells
+
+  -- the exit code with which an action ends that does what it is for
+  abbrev pub true_code : Action → Cells → ℕ
+  true_code (Probe leaf node) cells = looked (found_at c cells leaf node)
+  true_code (Cell Monitor leaf node interval role) cells = looked (found_at c cells leaf node)
+  true_code (Cell Start leaf node interval role) cells = success
+  true_code (Cell Stop leaf node interval role) cells = success
+  true_code (Cell Promote leaf node interval role) cells = success
+  true_code (Cell Demote leaf node interval role) cells = success
+  true_code (Fence node) cells = success
+  true_code (MigrateTo leaf source target) cells = success
+  true_code (MigrateFrom leaf source target) cells = success

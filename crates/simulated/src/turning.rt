@@ -1,0 +1,93 @@
+//! What comes next is drawn.
+
+ghost use Rattle.std.specs.Prelude.{◌≡◌, ◌+◌, ◌<◌, nat_lt, if◌then◌else◌, None, IfSome, length};
+ghost use Rattle.cases.specs.Draws as drawing;
+ghost use Rattle.simulated.specs.Kept.{IsOfSame, ShowsWorld};
+ghost use Rattle.simulated.specs.Turns as turns;
+ghost use Rattle.simulated.specs.Turns.{IsOfNode, MayCome, die, node_turn_from, turn_of, turned, with_draws};
+ghost use Rattle.simulated.specs.RealWorlds.{World};
+
+use crate::nodes::node_turn;
+use crate::reality::Reality;
+use crate::turn::{Fate, Turn};
+use cluster_types::NodeId;
+
+/// How many faults are given at most.
+pub(crate) const MOST_FAULTS: u32 = 16;
+
+/// What becomes of an action by a number from 0 to 19.
+fn fate_by(die: u32) -> Fate
+    ensures { result ≡ turns.fate_by die }
+{
+    match die {
+        2 => Fate::DoneBadly,
+        3 => Fate::Undone,
+        4 => Fate::TimedOut,
+        _ => Fate::True,
+    }
+}
+
+impl Reality<'_> {
+    /// The first number, which decides what comes. Once all faults were given, no fault comes.
+    fn roll(&mut self) -> u32
+        ensures die { (w : World) → ShowsWorld self.old w → result ≡ die self.old.cluster self.old.number w }
+        ensures shows { (w : World) → ShowsWorld self.old w → ShowsWorld self.new (with_draws w 1) }
+        ensures early { result < 19 → self.new.given < 16 }
+        ensures rising { self.new.rising ≡ self.old.rising }
+        ensures same { IsOfSame self.old self.new }
+    {
+        let drawn = self.draw(20);
+        if self.given < MOST_FAULTS { drawn } else { 19 }
+    }
+
+    /// A node is drawn. Where the cluster has none, it isn't one of it.
+    fn draw_node(&mut self) -> NodeId
+        ensures drawn { (w : World) → ShowsWorld self.old w → 0 < length self.old.cluster.nodes
+            → result ≡ drawing.draw self.old.number (w.drawn + 1) (length self.old.cluster.nodes) }
+        ensures shows { (w : World) → ShowsWorld self.old w → ShowsWorld self.new (with_draws w 1) }
+        ensures rising { self.new.rising ≡ self.old.rising }
+        ensures given { self.new.given ≡ self.old.given }
+        ensures same { IsOfSame self.old self.new }
+    {
+        let count = self.cluster.nodes.len() as u32;
+        self.draw(count.max(1))
+    }
+
+    /// What comes of a node, by the first number, if anything does.
+    fn node_turn(&mut self, die: u32) -> Option<Turn>
+        ensures turn { (w : World) → ShowsWorld self.old w → result ≡ turns.node_turn self.old.cluster self.old.number w die }
+        ensures shows { (w : World) → ShowsWorld self.old w → ShowsWorld self.new (with_draws w (if nat_lt die 2 then 1 else 0)) }
+        ensures node { IfSome result IsOfNode }
+        ensures low { IfSome result (λ turn. die < 2) }
+        ensures rising { self.new.rising ≡ self.old.rising }
+        ensures given { self.new.given ≡ self.old.given }
+        ensures same { IsOfSame self.old self.new }
+    {
+        if die > 1 {
+            return None;
+        }
+        let node = self.draw_node();
+        node_turn(self.nodes.as_slice(), die, node)
+    }
+
+    /// What comes next, with so many actions in flight. What comes up has come up then. It asks for one at least.
+    pub fn turn(&mut self, count: u32) -> Turn
+        requires { 0 < count }
+        ensures turn { (w : World) → ShowsWorld self.old w → result ≡ turn_of self.old.cluster self.old.number w count }
+        ensures shows { (w : World) → ShowsWorld self.old w → ShowsWorld self.new (turned self.old.cluster self.old.number w) }
+        ensures may { MayCome count self.new.given result }
+        ensures calm { self.new.rising ≡ None }
+        ensures same { IsOfSame self.old self.new }
+    {
+        self.settle();
+        let die = self.roll();
+        match self.node_turn(die) {
+            Some(turn) => turn,
+            None => {
+                let place = self.draw(count);
+                let fate = fate_by(die);
+                Turn::Ends { place, fate }
+            }
+        }
+    }
+}
