@@ -56,10 +56,10 @@ def parts_of(path):
 
 
 def try_page():
-    """What examples/README.md and docs/USAGE.md show is what the program and tools/summary write."""
-    pages = [read(page).decode() for page in ("examples/README.md", "docs/USAGE.md")]
+    """What these pages show is what the program and tools/summary write."""
+    pages = [read(page).decode() for page in ("examples/README.md", "docs/USAGE.md", "docs/TOOLS.md")]
     shown, runs = [[found.findall(page) for page in pages] for found in (SHOWN, RUN)]
-    expect("what the pages show", len(shown[0]) >= 5 and len(shown[1]) >= 1 and len(runs[0]) >= 6)
+    expect("what the pages show", len(shown[0]) >= 5 and len(shown[2]) >= 1 and len(runs[0]) >= 6)
     for path, lines in sum(shown, []):
         output = tool("summary", data=own(parts_of(path), "scores")[1])[1]
         expect(f"what is shown of {path}", textwrap.dedent(lines) == output, output)

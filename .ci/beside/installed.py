@@ -6,8 +6,8 @@ import subprocess
 from .expecting import ENVIRONMENT, PROGRAM, TOP, expect, tool
 
 PLACES = ["bin/cekpayo", "bin/cekpayo-collect", "bin/cekpayo-dot", "bin/cekpayo-json", "bin/cekpayo-summary",
-          "bin/cekpayo-what-if", "lib/cekpayo/sim_cli", "lib/cekpayo/docs/USAGE.md", "share/man/man1/cekpayo.1",
-          "share/bash-completion/completions/cekpayo"]
+          "bin/cekpayo-what-if", "lib/cekpayo/sim_cli", "lib/cekpayo/docs/USAGE.md", "lib/cekpayo/docs/TOOLS.md", "lib/cekpayo/docs/CAUSES.md",
+          "share/man/man1/cekpayo.1", "share/bash-completion/completions/cekpayo"]
 ACCEPTED = "node n1\nprimitive vip ocf:heartbeat:IPaddr2\n# nodes 1 leaves 1 rules 0\n"
 
 

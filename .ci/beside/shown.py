@@ -193,8 +193,8 @@ def try_what_if(folder):
     expected = (PLACED if own(b"", "graph")[0] == 2 else PLANNED) + ("" if own(b"", "survive")[0] == 2 else LOST)
     found = tool("what-if", path, data=old.encode())
     expect("what-if", found == (0, expected.format(path), ""), found[1] + found[2])
-    page = textwrap.dedent(kept("..", "docs", "USAGE.md").partition("tools/what-if new.crm <")[2].partition("\n\n")[0].partition("\n")[2])
-    expect("what-if in docs/USAGE.md", page + "\n" in (PLACED.format("new.crm"), (PLANNED + LOST).format("new.crm")), page)
+    page = textwrap.dedent(kept("..", "docs", "TOOLS.md").partition("tools/what-if new.crm <")[2].partition("\n\n")[0].partition("\n")[2])
+    expect("what-if in docs/TOOLS.md", page + "\n" in (PLACED.format("new.crm"), (PLANNED + LOST).format("new.crm")), page)
     with open(path, "w", encoding="utf-8") as file:
         file.write(new.replace("node 2: web2\n", ""))
     status, _, said = tool("what-if", path, data=old.encode())
