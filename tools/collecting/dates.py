@@ -1,4 +1,5 @@
 """Whether dates of rules hold at a moment, in seconds since 1970. A date without a time zone is UTC."""
+import calendar
 import re
 from datetime import datetime, timedelta, timezone
 
@@ -7,7 +8,6 @@ from .unsaid import Unknown
 DATE = re.compile(r"(\d{4})-(\d\d)-(\d\d)(?:[T ]+(\d\d):(\d\d)(?::(\d\d))?)? *(?:Z|([-+])(\d\d):?(\d\d))?$")
 RANGE = re.compile(r"(\d+)?(-)?(\d+)?$")
 FIELDS = ("years", "months", "monthdays", "hours", "minutes", "seconds", "yeardays", "weekyears", "weeks", "weekdays")
-LENGTHS = ("weeks", "days", "hours", "minutes", "seconds")
 
 
 def holds(element, moment):
@@ -47,9 +47,10 @@ def later(start, duration):
         lengths = {key: int(value) for key, value in duration.attrib.items() if key != "id"}
         moment = datetime.fromtimestamp(start, timezone.utc)
         months = moment.year * 12 + moment.month - 1 + lengths.pop("years", 0) * 12 + lengths.pop("months", 0)
-        begun = moment.replace(year=months // 12, month=months % 12 + 1)
-        return int((begun + timedelta(**{key: lengths.pop(key, 0) for key in LENGTHS})).timestamp()) if not lengths.keys() - LENGTHS else None
-    except (ValueError, OverflowError) as error:
+        year, month = months // 12, months % 12 + 1
+        begun = moment.replace(year=year, month=month, day=min(moment.day, calendar.monthrange(year, month)[1]))
+        return int((begun + timedelta(**lengths)).timestamp())
+    except (TypeError, ValueError, OverflowError) as error:
         raise Unknown("a duration") from error
 
 

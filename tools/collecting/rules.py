@@ -64,16 +64,16 @@ def end_of(element, inner):
         end = later(seconds(element.get("start")), element.find("duration"))
     except Unknown:
         return inner
-    return datetime.fromtimestamp(end, timezone.utc).strftime("%Y-%m-%dT%H:%M:%SZ") if end is not None else inner
+    return datetime.fromtimestamp(end, timezone.utc).strftime("%Y-%m-%dT%H:%M:%SZ")
 
 
 def date(text):
     """A date with its time zone in the form that the program reads."""
     match = DATE.match(text or "")
-    if not match or match[4] is None:
+    zone = (f"{match[7]}{match[8]}:{match[9]}" if match[7] else "Z" if text.endswith("Z") else "") if match else ""
+    if not match or match[4] is None and not zone:
         return text
-    zone = f"{match[7]}{match[8]}:{match[9]}" if match[7] else "Z" if text.endswith("Z") else ""
-    return f"{match[1]}-{match[2]}-{match[3]}T{match[4]}:{match[5]}:{match[6] or '00'}{zone}"
+    return f"{match[1]}-{match[2]}-{match[3]}T{match[4] or '00'}:{match[5] or '00'}:{match[6] or '00'}{zone}"
 
 
 class Teller:
