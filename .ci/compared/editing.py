@@ -10,7 +10,7 @@ def put(parent, tag, name, value):
     """A pair in the first set of an element."""
     own = parent.find(tag)
     if own is None:
-        own = added(parent, tag, id=f"{parent.get('id', 'x')}-{tag}")
+        own = added(parent, tag, id=f"of-{parent.get('id', 'all')}-{tag}")
     pair = own.find(f"nvpair[@name='{name}']")
     if pair is None:
         pair = added(own, "nvpair", id=f"{own.get('id')}-{name}", name=name)
