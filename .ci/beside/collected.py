@@ -51,12 +51,12 @@ REFUSED = {
     "<rsc_order id='o' first='a' then='a' require-all='false'/>": "order o Mandatory: a:start a:start require-all=false",
     "<rsc_ticket id='t' rsc='a' ticket='x'/>": "rsc_ticket t",
     "<rsc_location id='l' rsc='a' node='n' score='1' resource-discovery='never'/>": "location l a resource-discovery=never 1: n",
-    "<rsc_location id='l' rsc='a'><rule id='r' score='1'><date_expression id='d' operation='date_spec'><date_spec id='s' hours='8-18'/>"
-    "</date_expression></rule></rsc_location>": "\trule 1: date spec hours=8-18",
+    "<rsc_location id='l' rsc='a'><rule id='r' score='1'><date_expression id='d' operation='date_spec'><date_spec id='s' moon='0'/>"
+    "</date_expression></rule></rsc_location>": "\trule 1: date spec moon=0",
 }
 
-# Sets with a rule, each within a node and within a primitive, and the word in front of the rule; all are refused.
-RULE = "<rule id='r' score='5'><expression id='e' attribute='x' operation='eq' value='y'/></rule><nvpair id='p' name='priority' value='4'/>"
+# Sets with a rule that isn't known to hold, each within a node and within a primitive, and the word in front of it; all are refused.
+RULE = "<rule id='r' score='5'><rsc_expression id='e' class='ocf'/></rule><nvpair id='p' name='priority' value='4'/>"
 RULED = [
     (f"<instance_attributes id='i'>{RULE}</instance_attributes>", "", "attributes"),
     (f"<utilization id='i'>{RULE}</utilization>", "", "utilization"),
@@ -155,6 +155,9 @@ HISTORIES = [
     ("operation='migrate_from' call-id='1' rc-code='0' interval='0' last-rc-change='5'",
      "operation='migrate_to' call-id='2' rc-code='0' interval='0'",
      "operation='migrate_from' call-id='3' rc-code='1' interval='0' last-rc-change='7'", ["start 0 0 5", "monitor 0 1 7"]),
+    # A monitor of what is stopped finds nothing, as it should.
+    ("operation='monitor' call-id='1' rc-code='7' interval='0' last-rc-change='5'",
+     "operation='monitor' call-id='2' rc-code='7' interval='9' last-rc-change='6' transition-key='1:2:7:x'", ["monitor 0 7 5"]),
     # In flight.
     ("operation='monitor' call-id='4' rc-code='7' interval='0' last-rc-change='5'",
      "operation='start' call-id='-1' rc-code='193' op-status='-1' interval='0' last-rc-change='6'",
@@ -233,7 +236,7 @@ def try_refused():
 def try_rules():
     for node, primitive, word in RULED:
         output = tool("collect", "-q", data=WITH_SETS.format(node, primitive).encode())[1]
-        expect(f"a rule of {word}", f"\t{word} \\\n\trule 5: x eq y priority=4\n" in output, output)
+        expect(f"a rule of {word}", f"\t{word} \\\n\trule 5: rsc_expression priority=4\n" in output, output)
         expect(f"a rule of {word} is refused", own(output.encode())[1].endswith(b" Unsupported\n"), output)
     for cluster, site, lines in SITES:
         output = tool("collect", "-q", data=SITE.format(cluster, site).encode())[1]

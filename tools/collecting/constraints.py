@@ -1,14 +1,15 @@
 """The statements of the constraints of a CIB: sets, patterns and tags become statements for each resource or pair."""
-import re
-
 from .cib import points
-from .rules import rule_words
+from .locations import locations
+from .references import members, tagged
 
 
 def constraints(cib):
     """All constraints, each a list of words."""
     for element in cib.all("constraints/*"):
         make = {"rsc_location": locations, "rsc_colocation": colocations, "rsc_order": orders}.get(element.tag)
+        if not is_alive(cib, element):
+            continue
         made = list(make(cib, element)) if make else [[element.tag, element.get("id", "")]]
         if not made:
             cib.notes.add(f"left out: {element.get('id')}; it says nothing")
@@ -18,51 +19,13 @@ def constraints(cib):
             yield words if len(made) == 1 else [words[0], f"{words[1]}-{number}"] + words[2:]
 
 
-def locations(cib, element):
-    for resource, role, score in located(cib, element):
-        words = ["location", element.get("id"), resource] + ([f"role={role}"] if role else [])
-        if element.get("resource-discovery", "always") != "always":
-            words.append(f"resource-discovery={element.get('resource-discovery')}")
-        rules = [word for rule in map(cib.meant, element.findall("rule")) for word in rule_words(rule)]
-        lifetime = ["lifetime"] if element.find("lifetime") is not None else []
-        yield words + lifetime + (rules or [f"{score}:", element.get("node", "")])
-
-
-def located(cib, element):
-    """The resources that a location is of, each with its role and score; those of a set override the location's."""
-    role, score = element.get("role"), element.get("score", "INFINITY")
-    sets = [cib.meant(one) for one in element.findall("resource_set")]
-    if sets:
-        return [(name, one.get("role", role), one.get("score", score)) for one in sets for name in members(cib, one)]
-    pattern = element.get("rsc-pattern")
-    names = tagged(cib, element.get("rsc", "")) if pattern is None else matching(cib, pattern)
-    return [(name, role, score) for name in names]
-
-
-def matching(cib, pattern):
-    """The resources of which a pattern holds, or doesn't hold if it begins with `!`; those that stand in others aren't asked."""
-    inverted = pattern.startswith("!")
-    try:
-        tried = re.compile(pattern[1:] if inverted else pattern)
-    except re.error as error:
-        cib.notes.add(f"left out: the pattern {pattern}; {error}")
-        return []
-    ids = [one.get("id", "") for one in cib.root.findall("configuration/resources/*") if one.tag != "template"]
-    return [name for name in ids if bool(tried.search(name)) != inverted]
-
-
-def tagged(cib, name):
-    """The resources that a tag names or that are of a template, or the resource of that name."""
-    element = cib.by_id.get(name)
-    if element is not None and element.tag == "tag":
-        return [one.get("id") for one in element.findall("obj_ref")]
-    if element is not None and element.tag == "template":
-        return [one.get("id") for one in cib.root.findall("configuration/resources//primitive") if one.get("template") == name]
-    return [name]
-
-
-def members(cib, one):
-    return [name for reference in one.findall("resource_ref") for name in tagged(cib, reference.get("id"))]
+def is_alive(cib, element):
+    """Whether the lifetime of a constraint isn't over; one of which that isn't known stays, to be refused."""
+    lifetime = element.find("lifetime")
+    counts = True if lifetime is None else cib.counts(lifetime)
+    if counts is None:
+        element.tag = "lifetime"
+    return counts is not False
 
 
 def with_role(name, role):

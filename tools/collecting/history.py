@@ -58,7 +58,7 @@ def told(cib, facts, node, leaf, element):
     call, moment = number(element.get("call-id"), -1), number(element.get("last-rc-change") or element.get("last-run"))
     if status == PENDING:
         return in_flight(cib, leaf, task, what, moment)
-    if status == CANCELLED:
+    if status == CANCELLED or watches_stopped(element, code):
         return None
     if status == TIMED_OUT:
         code = "timeout"
@@ -70,6 +70,11 @@ def told(cib, facts, node, leaf, element):
         cib.notes.add(f"left out: {what}; the program has no such operation of it")
         return None
     return Operation(leaf, task, number(element.get("interval")), code, moment, call)
+
+
+def watches_stopped(element, code):
+    """Whether a recurring monitor finds that nothing runs, and was to find it."""
+    return code == 7 and element.get("interval", "0") != "0" and element.get("transition-key", "").split(":")[2:3] == ["7"]
 
 
 def in_flight(cib, leaf, task, what, moment):

@@ -2,6 +2,7 @@
 import re
 
 from .cib import is_true
+from .maintenance import Maintenance
 from .words import name_of_node, sections, value
 
 CLONES = ("clone", "ms", "master")
@@ -11,7 +12,8 @@ SYMMETRICAL = re.compile(r"(?i)symmetrical=(true|on|yes|y|1)$")
 class Configuration:
     """What decides whether a setting has an effect."""
 
-    def __init__(self, statements):
+    def __init__(self, statements, maintenance=None):
+        self.maintenance = maintenance or Maintenance()
         self.primitives = {words[1] for words in statements if words[0] == "primitive" and len(words) > 1}
         self.nodes = {name_of_node(words) for words in statements if words[0] == "node"}
         self.with_utilization = any("utilization" in words for words in statements)
@@ -27,7 +29,7 @@ def rewrite(words, configuration, notes):
     if words[0] in ("primitive", "group") + CLONES:
         return resource(words, configuration, notes)
     if words[0] == "node":
-        return node(words, notes)
+        return node(words, configuration, notes)
     if words[0] == "property":
         return properties(words, configuration, notes)
     if words[0] == "order":
@@ -51,9 +53,12 @@ def properties(words, configuration, notes):
     return kept if any("=" in word for word in kept) else None
 
 
-def node(words, notes):
+def node(words, configuration, notes):
     """The number, the name and the sections of a node, without its type and description."""
     kept, name = [], name_of_node(words)
+    if name in configuration.maintenance.nodes:
+        words = [word for word in words if not word.startswith("standby=")]
+        words = ["standby=on" if word.startswith("maintenance=") else word for word in words]
     for word in words:
         typed = word.startswith(name + ":") and not word.endswith(":")
         if word.startswith("$id="):
@@ -83,9 +88,16 @@ def location(words, configuration, notes):
 
 
 def resource(words, configuration, notes):
-    head, rest = sections(words)
+    head, rest = sections(unmanaged(words) if words[1] in configuration.maintenance.unmanaged else words)
     rest = meta_of_operations([part for part in rest if not is_parameters(part, words[1], notes)], words[1], notes)
     return head + [word for part in rest for word in section(part, words, configuration, notes)]
+
+
+def unmanaged(words):
+    """A primitive that nobody manages."""
+    kept = [word for word in words if not word.startswith("is-managed=")]
+    at = kept.index("meta") + 1 if "meta" in kept else len(kept)
+    return kept[:at] + ([] if "meta" in kept else ["meta"]) + ["is-managed=false"] + kept[at:]
 
 
 def is_parameters(part, name, notes):

@@ -1,12 +1,10 @@
 """The statements of nodes, resources and settings of a CIB. Constraints are in `constraints`."""
 import re
 
-from .rules import rule_words
+from .nodes import is_member, node
 from .words import section
 
 SECRET = re.compile(r"(?i)pass|secret|^token$")
-# Attributes that Pacemaker keeps for itself; the status tells what matters of them.
-OWN_ATTRIBUTE = re.compile(r"fail-count-|last-failure-|master-|promotion-|#(?!health)|(probe_complete|shutdown|terminate)$")
 KEPT = {"fencing-topology": "fencing levels", "alerts": "alerts", "acls": "access rights"}
 SETTINGS = (("crm_config", "cluster_property_set", "property"), ("rsc_defaults", "meta_attributes", "rsc_defaults"),
             ("op_defaults", "meta_attributes", "op_defaults"))
@@ -14,7 +12,11 @@ SETTINGS = (("crm_config", "cluster_property_set", "property"), ("rsc_defaults",
 
 def statements(cib):
     """All statements but those of constraints, each a list of words."""
-    yield from (node(cib, element) for element in cib.all("nodes/node") if is_member(cib, element))
+    for element in cib.all("nodes/node"):
+        if is_member(element):
+            yield node(cib, element)
+        else:
+            cib.notes.add(f"left out: node {element.get('uname')}; it is a {element.get('type')} node, which this program doesn't have")
     for element in cib.all("resources/*"):
         yield from resource(cib, element)
     for tag, what in KEPT.items():
@@ -29,52 +31,8 @@ def settings(cib):
             pairs = cib.pairs(element, sets)
             if pairs:
                 yield [word] + [f"{name}={value}" for name, value in pairs.items()]
-            for one in cib.rules(element, sets):
-                yield under_rule(cib, one, word)
-
-
-def under_rule(cib, one, word):
-    """A set that holds only where a rule does; what has an effect is written so, to be refused where the program has no such rule."""
-    return [word] + rule_words(cib.meant(one.find("rule"))) + [f"{name}={value}" for name, value in cib.own_pairs(one).items()]
-
-
-def all_under_rules(cib, element, tag, word):
-    return [part for one in cib.rules(element, tag) for part in under_rule(cib, one, word)]
-
-
-def is_member(cib, element):
-    if element.get("type", "member") in ("member", "normal"):
-        return True
-    cib.notes.add(f"left out: node {element.get('uname')}; it is a {element.get('type')} node, which this program doesn't have")
-    return False
-
-
-def node(cib, element):
-    """A node with its attributes, of which those that last until it reboots go first."""
-    name = element.get("uname")
-    state = next((one for one in cib.root.findall("status/node_state") if one.get("uname") == name), None)
-    attributes = cib.transient(state)
-    if attributes.get("shutdown", "0") != "0":
-        attributes["standby"] = "on"
-        cib.notes.add(f"node {name} is shutting down: written as in standby")
-    for key, value in cib.pairs(element, "instance_attributes").items():
-        attributes.setdefault(key, value)
-    shown = {key: value for key, value in attributes.items() if not OWN_ATTRIBUTE.match(key)}
-    shown.update(tested_of(cib, element))
-    number = [element.get("id") + ":"] if (element.get("id") or "").isdigit() else []
-    words = section("attributes", shown) + all_under_rules(cib, element, "instance_attributes", "attributes")
-    words += section("utilization", cib.pairs(element, "utilization")) + all_under_rules(cib, element, "utilization", "utilization")
-    return ["node"] + number + [name] + words
-
-
-def tested_of(cib, element):
-    """What rules may test of a node beside its attributes, where one does; the program knows its name alone."""
-    tested = {one.get("attribute") for one in cib.root.iter("expression")}
-    properties = cib.root.find("configuration/crm_config")
-    cluster = cib.pairs(properties, "cluster_property_set").get("cluster-name") if properties is not None else None
-    known = {"#id": element.get("id"), "#kind": "cluster", "#is_dc": str(element.get("id") == cib.root.get("dc-uuid")).lower(),
-             "#cluster-name": cluster, "#site-name": cib.pairs(element, "instance_attributes").get("site-name", cluster)}
-    return {key: value for key, value in known.items() if key in tested and value}
+            for one in cib.unknown_sets(element, sets):
+                yield cib.under_rule(one, word)
 
 
 def resource(cib, element):
@@ -147,8 +105,8 @@ def masked(cib, word, key, value):
 def rules_of(cib, source, tag, word):
     """Sets with a rule: meta attributes are written, to be refused, since they have an effect; parameters have none."""
     if word == "meta":
-        return all_under_rules(cib, source, tag, word)
-    if cib.rules(source, tag):
+        return cib.all_under_rules(source, tag, word)
+    if cib.unknown_sets(source, tag):
         cib.notes.add(f"{source.get('id')}: left out: {word} with a rule; they have no effect here")
     return []
 
@@ -158,7 +116,7 @@ def operation(cib, element):
     pairs = {key: value for key, value in element.attrib.items() if key not in ("id", "name", "description")}
     for key, value in cib.pairs(element, "meta_attributes").items():
         pairs.setdefault(key, value)
-    if cib.pairs(element, "instance_attributes") or cib.rules(element, "instance_attributes"):
+    if element.find("instance_attributes") is not None:
         cib.notes.add(f"left out: parameters of operations, as of {element.get('id')}; they have no effect here")
     words = ["op", element.get("name", "")] + [f"{key}={value}" for key, value in pairs.items()]
-    return words + all_under_rules(cib, element, "meta_attributes", "op_meta")
+    return words + cib.all_under_rules(element, "meta_attributes", "op_meta")

@@ -1,6 +1,5 @@
 """The `%status` of a CIB: states of nodes, quorum, the moment, operations, failures that count more than once, promotion scores."""
 import re
-import time
 
 from .cib import is_true
 from .history import operations
@@ -28,10 +27,10 @@ def is_promotable(words):
     return words[0] != "clone" or is_true(value(words, "promotable"))
 
 
-def status(cib, facts, moment):
+def status(cib, facts):
     """The lines of the status."""
     yield "%status"
-    yield f"now {now(cib, moment)}"
+    yield f"now {now(cib)}"
     yield f"quorum {'yes' if is_true(cib.root.get('have-quorum')) else 'no'}"
     states = {one.get("uname"): one for one in cib.root.findall("status/node_state")}
     for name in facts.nodes:
@@ -49,13 +48,10 @@ def status(cib, facts, moment):
             cib.notes.add(f"left out: the state of {name}, which is none of the nodes")
 
 
-def now(cib, moment):
-    if moment is not None:
-        return moment
-    if (cib.root.get("execution-date") or "").isdigit():
-        return int(cib.root.get("execution-date"))
-    cib.notes.add("the moment is that of this conversion; --now SECONDS gives another")
-    return int(time.time())
+def now(cib):
+    if not cib.moment_is_told:
+        cib.notes.add("the moment is that of this conversion; --now SECONDS gives another")
+    return cib.moment
 
 
 def is_up(text):

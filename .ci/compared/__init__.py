@@ -1,0 +1,1 @@
+"""Asks this program and `crm_simulate` of everyday events in nine clusters."""
