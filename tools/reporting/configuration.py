@@ -99,7 +99,9 @@ class Configuration:
         self.group_of = {name: top for name, top in within.items() if self.tops[top].kind == "group"}
         self.above = {leaf: top.name for top in self.tops.values() for leaf in top.leaves}
         self.groups = {name: top.inside for name, top in self.tops.items() if top.kind == "group"}
-        self.tops = {name: self.in_order(top) for name, top in self.tops.items() if name not in within}
+        place = {name: number for number, name in enumerate(self.agents)}
+        tops = [self.in_order(top) for top in self.tops.values() if top.name not in within]
+        self.tops = {top.name: top for top in sorted(tops, key=lambda top: min((place[leaf] for leaf in top.leaves), default=0))}
 
     def in_order(self, top):
         """The members of a group run in its own order, not in that of their statements."""

@@ -42,11 +42,21 @@ def places(case, doings):
     return joined([tag("ul", *lines), tag("p", tag("a", "Where everything goes, and why", href="#placement"), class_="small")])
 
 
+def each_lost(loss):
+    """What one loss brings down, and what it moves."""
+    gone, moving = loss.of("down"), loss.of("moves")
+    said = [names(gone, 5), tag("strong", " goes down" if len(gone) == 1 else " go down", class_="bad")] if gone else [tag("span", "nothing goes down", class_="good")]
+    moves = ["; ", names(moving, 4), " moves" if len(moving) == 1 else " move"] if moving else []
+    return tag("li", tag("strong", "Loss of ", code(loss.node), ": "), *said, *moves)
+
+
 def lost(losses):
     """The losses that bring something down, and how many don't."""
     if not losses:
         return tag("p", "No node is online, so none can be lost.")
     harmful = [loss for loss in losses if loss.of("down")]
+    if len(losses) <= 6:
+        return joined([tag("ul", *[each_lost(loss) for loss in losses]), tag("p", tag("a", "What each loss does", href="#losses"), class_="small")])
     lines = [tag("li", tag("strong", code(loss.node), ": "), names(loss.of("down"), 5), tag("strong", " goes down" if len(loss.of("down")) == 1 else " go down", class_="bad"))
              for loss in harmful[:8]]
     if len(harmful) > 8:

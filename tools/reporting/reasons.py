@@ -58,7 +58,7 @@ def for_chosen(case, resource, totals):
     head = joined([names(chosen, 4), " with a total of " if len(chosen) == 1 else " with totals of ",
                    ", ".join(dict.fromkeys(shown(totals[node]) for node in chosen))])
     if not open_to:
-        return joined([head, "; ", shut_out(case, others, totals)])
+        return joined([head, "; ", shut_out(case, resource, others, totals)])
     greatest = max(value(totals[node]) for node in open_to)
     best = [node for node in open_to if value(totals[node]) == greatest]
     if greatest < least:
@@ -69,14 +69,27 @@ def for_chosen(case, resource, totals):
     return joined([head, "; ", names(best, 3), " had more (", shown(totals[best[0]]), "), but a rule isn't met there"])
 
 
-def shut_out(case, others, totals):
+def shut_out(case, resource, others, totals):
     never = [node for node in others if value(totals[node]) < 0]
+    clue = known_against(case, resource, never[0]) if len(never) == 1 else ""
     barred = [node for node in others if node not in never]
-    parts = [joined([names(never, 3), " with ", ", ".join(dict.fromkeys(shown(totals[node]) for node in never)), " may not have it"])] if never else []
+    parts = [joined([names(never, 3), " with ", ", ".join(dict.fromkeys(shown(totals[node]) for node in never)), " may not have it", clue])] if never else []
     if barred:
         states = dict.fromkeys(case.usable(node) for node in barred)
         parts.append(joined([names(barred, 3), " is " if len(barred) == 1 else " are ", ", ".join(states)]))
     return joined(parts, "; ")
+
+
+def known_against(case, resource, node):
+    """The plainest thing that is known to stand against a node: a rule of its own, or a failure."""
+    for rule in case.configuration.rules_of(resource):
+        if rule.kind == "location" and rule.rest[-2:] == ["-INFINITY:", node]:
+            return joined([" (", linked(case, rule), ")"])
+    for leaf in [resource, *bound(case, resource)]:
+        for failure in case.failures.get(leaf, []):
+            if failure.node == node:
+                return joined([" (the ", failed(failure), " of ", code(leaf), " ", "took too long" if failure.code is None else "failed", " there)"])
+    return ""
 
 
 def of_totals(case, totals):

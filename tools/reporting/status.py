@@ -3,6 +3,7 @@ import datetime
 import re
 
 WORD = re.compile(r"""(?:"(?:[^"\\]|\\.)*"|'[^']*'|[^ \t"'])+""")
+EARLIEST = 10**9  # a smaller moment counts from a beginning of its own
 RUNS, PROMOTED, MAYBE, STOPPED = "runs", "promoted", "may run", "stopped"
 OF_PROBE = {0: RUNS, 190: RUNS, 8: PROMOTED, 191: PROMOTED, 7: STOPPED, 5: STOPPED}
 
@@ -80,7 +81,7 @@ class Status:
 
     @property
     def moment(self):
-        if self.now is None:
+        if self.now is None or self.now < EARLIEST:
             return None
         try:
             return datetime.datetime.fromtimestamp(self.now, datetime.timezone.utc).strftime("%Y-%m-%d %H:%M:%S UTC")

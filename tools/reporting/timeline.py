@@ -118,11 +118,16 @@ def row(timeline, bar):
                data_after=" ".join(map(str, before)) or None, data_find=" ".join(bar.resources[:1] if len(bar.resources) > 400 else bar.resources))
 
 
+def mark(place, said):
+    """A mark of the scale; the words of the last ones stand before it."""
+    return Markup(f'<span style="left:{place:.2f}%"{" class=end" if place > 93 else ""}>{said}</span>')
+
+
 def axis(timeline):
     """The scale: at most six marks at even times."""
     total = timeline.total
-    step = next((one for one in (1, 5, 10, 20, 30, 60, 120, 300, 600, 1800, 3600, 7200, 21600, 86400, 604800) if total / one <= 6), total or 1)
-    marks = [Markup(f'<span style="left:{at * step / (total or 1) * 100:.2f}%">{duration(at * step)}</span>') for at in range(int(total // step) + 1)]
+    step = next((one for one in (1, 5, 10, 20, 30, 60, 120, 300, 600, 1800, 3600, 7200, 21600, 86400, 604800) if total / one <= 5), total or 1)
+    marks = [mark(at * step / (total or 1) * 100, duration(at * step)) for at in range(int(total // step) + 1)]
     return tag("div", tag("span", class_="label"), tag("span", *marks, class_="track"), class_="axis", aria_hidden="true")
 
 
