@@ -8,12 +8,20 @@ _cekpayo() {
     [[ ${COMP_WORDS[at]} == -* ]] || { word=${COMP_WORDS[at]}; break; }
   done
   case $word in
-    "") mapfile -t COMPREPLY < <(compgen -W "check scores graph survive replay audit world gen explain --all -q --build --help --version" -- "$current") ;;
+    "") mapfile -t COMPREPLY < <(compgen -W "check scores graph survive replay audit world gen explain report --all -q --build --help --version" -- "$current") ;;
     explain) mapfile -t COMPREPLY < <(compgen -W "$causes" -- "$current") ;;
     check | scores | graph | survive | replay)
       compopt -o filenames 2>/dev/null
       if [[ $current == -* ]]; then
         mapfile -t COMPREPLY < <(compgen -W "--all -q" -- "$current")
+      else
+        mapfile -t COMPREPLY < <(compgen -f -- "$current")
+      fi
+      ;;
+    report)
+      compopt -o filenames 2>/dev/null
+      if [[ $current == -* ]]; then
+        mapfile -t COMPREPLY < <(compgen -W "--change --secrets --help" -- "$current")
       else
         mapfile -t COMPREPLY < <(compgen -f -- "$current")
       fi

@@ -5,6 +5,8 @@ import sys
 
 from .lines import NotALine
 
+OPTIONS = ("--all", "--brief", "--timeline")
+
 
 def opened(stream, name):
     """A standard stream, unless it was closed before the script began."""
@@ -28,7 +30,7 @@ def filtered(name, work):
     try:
         output = opened(sys.stdout, "output")
         sys.stdout = io.TextIOWrapper(output.buffer, encoding="utf-8", line_buffering=output.line_buffering)
-        work(line.rstrip("\n") for line in lines_of([word for word in sys.argv[1:] if word != "--all"]) if line.strip())
+        work(line.rstrip("\n") for line in lines_of([word for word in sys.argv[1:] if word not in OPTIONS]) if line.strip())
         return 0
     except NotALine as error:
         print(f"{name}: no line that it reads: {error}", file=sys.stderr)

@@ -1,0 +1,142 @@
+"""The configuration as `check` writes it: nodes, resources, what they are in, the rules that name them, the timeouts."""
+import re
+
+from showing.lines import read
+
+SECTIONS = ("params", "meta", "utilization", "operations", "op", "attributes")
+UNITS = {"": 1.0, "s": 1.0, "sec": 1.0, "ms": 0.001, "msec": 0.001, "m": 60.0, "min": 60.0, "h": 3600.0, "hr": 3600.0}
+TIMEOUT, FENCE_TIMEOUT = 20.0, 60.0
+TRUE = ("true", "on", "yes", "y", "1")
+
+
+def seconds(value):
+    """A time in seconds, or nothing where it is none."""
+    found = re.fullmatch(r"(\d+)([a-z]*)", value)
+    return float(found[1]) * UNITS[found[2]] if found and found[2] in UNITS else None
+
+
+def pairs(words):
+    return dict(word.partition("=")[::2] for word in words if "=" in word)
+
+
+class Rule:
+    """A location, colocation or order: its kind, its id, the number of its line and what follows its id."""
+
+    def __init__(self, kind, words, line):
+        self.kind, self.id, self.line, self.rest = kind, words[0], line, words[1:]
+
+    @property
+    def names(self):
+        of_location = self.rest[:1] if self.kind == "location" else self.rest
+        return [word.split(":")[0] for word in of_location]
+
+    @property
+    def is_together(self):
+        """Whether two resources must be on one node."""
+        return self.kind == "colocation" and self.rest[0] == "INFINITY:"
+
+
+class Top:
+    """A resource that stands alone, or a group or clone with what is in it."""
+
+    def __init__(self, kind, name, inside, line):
+        self.kind, self.name, self.inside, self.line, self.leaves = kind, name, inside, line, []
+
+
+class Configuration:
+    def __init__(self, lines):
+        self.lines = lines
+        self.nodes, self.standby, self.agents, self.tops, self.rules = [], set(), {}, {}, []
+        self.properties, self.defaults, self.timeouts = {}, {}, {}
+        for number, line in enumerate(lines):
+            found = read(line)
+            if found["kind"] == "statement":
+                self.take(found["statement"], found["words"], number)
+        self.nest()
+
+    def take(self, kind, words, line):
+        if kind == "node":
+            self.take_node(words)
+        elif kind == "primitive":
+            self.take_primitive(words, line)
+        elif kind in ("group", "clone", "ms"):
+            ends = [at for at, word in enumerate(words) if word in SECTIONS or word.startswith("description=")]
+            self.tops[words[0]] = Top(kind, words[0], words[1:ends[0] if ends else len(words)], line)
+        elif kind in ("location", "colocation", "order"):
+            self.rules.append(Rule(kind, words, line))
+        elif kind == "property":
+            self.properties.update(pairs(words))
+        elif kind == "op_defaults":
+            self.defaults.update(pairs(words))
+
+    def take_node(self, words):
+        name = words[1] if words[0].endswith(":") and len(words) > 1 else words[0]
+        self.nodes.append(name)
+        if pairs(words).get("standby", "").lower() in TRUE:
+            self.standby.add(name)
+
+    def take_primitive(self, words, line):
+        self.agents[words[0]] = words[1]
+        self.tops[words[0]] = Top("primitive", words[0], [], line)
+        operation = None
+        for before, word in zip(words, words[1:]):
+            if before == "op":
+                operation = word
+            elif word in SECTIONS:
+                operation = None
+            elif operation and word.startswith("timeout="):
+                self.timeouts[words[0], operation] = max(seconds(word[8:]) or 0.0, self.timeouts.get((words[0], operation), 0.0))
+
+    def nest(self):
+        """Finds the leaves of each top, and the top of each leaf; what is in another is no top."""
+        self.lines_of = {name: top.line for name, top in self.tops.items()}
+        within = {name: top.name for top in self.tops.values() for name in top.inside}
+        for name in self.agents:
+            above = name
+            while above in within:
+                above = within[above]
+            self.tops[above].leaves.append(name)
+        self.group_of = {name: top for name, top in within.items() if self.tops[top].kind == "group"}
+        self.above = {leaf: top.name for top in self.tops.values() for leaf in top.leaves}
+        self.groups = {name: top.inside for name, top in self.tops.items() if top.kind == "group"}
+        place = {name: number for number, name in enumerate(self.agents)}
+        tops = [self.in_order(top) for top in self.tops.values() if top.name not in within]
+        self.tops = {top.name: top for top in sorted(tops, key=lambda top: min((place[leaf] for leaf in top.leaves), default=0))}
+
+    def in_order(self, top):
+        """The members of a group run in its own order, not in that of their statements."""
+        inside = self.groups.get(top.name) or self.groups.get((top.inside or [""])[0])
+        top.leaves = list(inside or top.leaves)
+        return top
+
+    def timeout(self, action):
+        """How many seconds an action may take."""
+        if action["action"] == "fence":
+            return seconds(self.properties.get("stonith-timeout", "")) or FENCE_TIMEOUT
+        if action["action"] == "monitor":
+            return 0.0
+        operation = "monitor" if action["action"] == "probe" else action["action"]
+        default = seconds(self.defaults.get("timeout", "")) or TIMEOUT
+        return self.timeouts.get((action["resource"], operation), default)
+
+    def aliases(self, leaf):
+        """The names under which rules may mean a resource."""
+        return {leaf, self.group_of.get(leaf, leaf), self.above.get(leaf, leaf)}
+
+    def rules_of(self, leaf):
+        """The rules that name a resource, or what it is in."""
+        if not hasattr(self, "by_name"):
+            self.by_name = {}
+            for rule in self.rules:
+                for name in dict.fromkeys(rule.names):
+                    self.by_name.setdefault(name, []).append(rule)
+        found = {rule.line: rule for name in self.aliases(leaf) for rule in self.by_name.get(name, [])}
+        return [found[line] for line in sorted(found)]
+
+    def leaves_of(self, name):
+        """The leaves that a rule means by a name."""
+        if name in self.agents:
+            return [name]
+        if name in self.groups:
+            return self.groups[name]
+        return self.tops[name].leaves if name in self.tops else []

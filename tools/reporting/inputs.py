@@ -1,0 +1,44 @@
+"""The input of a report: files behind each other, or standard input; what is a CIB is turned into an input by `tools/collect`."""
+import os
+import subprocess
+import sys
+
+COLLECT = os.path.join(os.path.dirname(os.path.dirname(os.path.abspath(__file__))), "collect")
+OF_CIB = (b"<", b"BZh", b"\xef\xbb\xbf<", b"\x1f\x8b")
+
+
+class Input:
+    """A text with its name, and what `tools/collect` says of it where it was a CIB."""
+
+    def __init__(self, name, data, said=()):
+        self.name, self.data, self.said = name, data, list(said)
+
+
+def is_cib(data):
+    return data.lstrip(b" \t\r\n").startswith(OF_CIB)
+
+
+def collected(name, data):
+    done = subprocess.run([sys.executable, "-B", COLLECT], input=data, stdout=subprocess.PIPE, stderr=subprocess.PIPE)
+    said = [line.partition(": ")[2] for line in done.stderr.decode("utf-8", "replace").splitlines()]
+    if done.returncode != 0:
+        raise OSError(f"{name}: {said[-1] if said else 'tools/collect fails'}")
+    return Input(name, done.stdout, said)
+
+
+def read(files):
+    """The input that the files make, each behind the one before."""
+    if not files:
+        if sys.stdin is None:
+            raise OSError("standard input is closed")
+        return of_data("standard input", sys.stdin.buffer.read())
+    parts = []
+    for name in files:
+        with open(name, "rb") as file:
+            parts.append(file.read())
+    ended = [part if part.endswith(b"\n") or not part else part + b"\n" for part in parts[:-1]] + parts[-1:]
+    return of_data(" ".join(os.path.basename(name) for name in files), b"".join(ended))
+
+
+def of_data(name, data):
+    return collected(name, data) if is_cib(data) else Input(name, data)
