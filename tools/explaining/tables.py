@@ -14,9 +14,25 @@ def rows(name):
                 yield line.rstrip("\n").split("\t")
 
 
+def is_installed():
+    return os.path.exists(os.path.join(os.path.dirname(FOLDER), "sim_cli"))
+
+
+def page(name):
+    """Where a page is: its place in the repository, or the whole path of an installed one."""
+    return os.path.join(os.path.dirname(FOLDER), "docs", name) if is_installed() else "docs/" + name
+
+
+def command(tool=""):
+    """How the script, or a tool beside it, is called."""
+    if not tool:
+        return "cekpayo" if is_installed() else "./cekpayo"
+    return f"cekpayo-{tool}" if is_installed() else f"tools/{tool}"
+
+
 def plain(text):
     """The text without what only a page needs: a link becomes its words."""
-    return re.sub(r"\[([^]]*)\]\([^)]*\)", r'"\1" in docs/USAGE.md', text)
+    return re.sub(r"\[([^]]*)\]\([^)]*\)", lambda link: f'"{link[1]}" in {page("USAGE.md")}', text)
 
 
 class Cause:
