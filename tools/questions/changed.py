@@ -69,9 +69,7 @@ class Comparison:
     def show(self, every):
         same = [one.name for one in self.entries[0] if one in self.entries[1] and one.what == "Stay"] if not every else []
         lines = list(differences(*self.entries, every=every))
-        print(f"What is done now (-), and with {self.name} (+):", *lines, sep="\n")
-        if not lines and not every:
-            print("    nothing else")
+        print(f"What is done now (-), and with {self.name} (+):", *lines or ["    * nothing is done otherwise"], sep="\n")
         if same:
             print("  " + lines_of([together("Stay", list(dict.fromkeys(same)))])[0])
         if self.down:
