@@ -1,6 +1,6 @@
 # Completion of cekpayo for bash: source this file, or install it as completions/cekpayo.
 _cekpayo() {
-  local current=${COMP_WORDS[COMP_CWORD]} word='' at
+  local current=${COMP_WORDS[COMP_CWORD]} word='' at options='--all -q --json --online --try --help'
   local causes="NotUtf8 ControlByte OpenQuote LineTooLong UnknownStatement Unsupported BadScore BadTime BadValue MissingWord ExtraWord
     RepeatedKey DuplicateName UnknownName NestedTwice EmptyGroup MemberTwice UnsupportedMeta NotPromotable UnsupportedOrder
     TooManyNodes TooManyLeaves TooManyRules ColocationLoop OrderLoop Repeated TooManyResults"
@@ -8,12 +8,19 @@ _cekpayo() {
     [[ ${COMP_WORDS[at]} == -* ]] || { word=${COMP_WORDS[at]}; break; }
   done
   case $word in
-    "") mapfile -t COMPREPLY < <(compgen -W "check scores graph survive replay audit world gen explain report --all -q --build --help --version" -- "$current") ;;
+    "") mapfile -t COMPREPLY < <(compgen -W "plan what-if losses why check scores graph survive replay audit world gen explain report help
+      --all -q --json --online --try --build --help --version" -- "$current") ;;
+    help) mapfile -t COMPREPLY < <(compgen -W "plan what-if losses why check scores graph survive replay audit world gen explain report" -- "$current") ;;
     explain) mapfile -t COMPREPLY < <(compgen -W "$causes" -- "$current") ;;
-    check | scores | graph | survive | replay)
+    check | scores | graph | survive | replay | plan | what-if | losses | why)
       compopt -o filenames 2>/dev/null
       if [[ $current == -* ]]; then
-        mapfile -t COMPREPLY < <(compgen -W "--all -q" -- "$current")
+        case $word in
+          plan) options+=" --time" ;;
+          losses) options+=" --fail-on-loss" ;;
+          what-if) options+=" --standby --lost --fail --move --ban --stop --start --maintenance --config --fail-on-loss --fail-on-change" ;;
+        esac
+        mapfile -t COMPREPLY < <(compgen -W "$options" -- "$current")
       else
         mapfile -t COMPREPLY < <(compgen -f -- "$current")
       fi

@@ -21,9 +21,9 @@ def tool(name, *words, data=b"", environment=None):
     return done.returncode, done.stdout.decode("utf-8"), done.stderr.decode("utf-8")
 
 
-def own(data, word="check"):
-    """The status and the output of the program alone."""
-    done = subprocess.run([PROGRAM, word], input=data, stdout=subprocess.PIPE)
+def own(data, *words):
+    """The status and the output of the program alone, by default of `check`."""
+    done = subprocess.run([PROGRAM, *(words or ["check"])], input=data, stdout=subprocess.PIPE)
     return done.returncode, done.stdout
 
 

@@ -24,3 +24,20 @@ class Program:
         if done.returncode != 5 or len(answer) != 3:
             return None
         return int(answer[1]) - 1, answer[2]
+
+
+class Told:
+    """The one refusal that a trial has told. What else would be asked of the program would cost a trial each."""
+
+    def __init__(self, output):
+        answer = output.decode("utf-8", "replace").split()[-3:]
+        self.told = (int(answer[1]) - 1, answer[2]) if len(answer) == 3 and answer[0] == "refused" and answer[1].isdigit() else None
+
+    def restart_clock(self):
+        pass
+
+    def refusal(self, _data):
+        if self.told is None:
+            raise OutOfTime
+        told, self.told = self.told, None
+        return told

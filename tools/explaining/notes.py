@@ -1,4 +1,5 @@
 """Notes on an accepted text: settings that Pacemaker acts on and this program keeps without effect, and near misses of known words."""
+import functools
 import re
 
 from .hints import SECTIONS, WITH_SECTIONS, near
@@ -10,12 +11,12 @@ SETTINGS = {"property": "property", "rsc_defaults": "meta", "op_defaults": "op"}
 
 def notes(text):
     """Pairs of a word and what there is to say of it, in the order of the text."""
-    kept, own_agents = list(rows("kept.tsv")), agents()
+    kept = list(rows("kept.tsv"))
     for statement in text.statements:
         if statement.section != CONFIGURATION:
             return
         if statement.kind == "primitive":
-            yield from near_agent(statement, own_agents)
+            yield from near_agent(statement)
         for word, place in settings(statement):
             said = kept_note(statement, word, place, kept) or near_note(word, place)
             if said:
@@ -55,13 +56,17 @@ def near_note(word, place):
     return f"`{name}` is kept without effect; is `{meant}` meant?" if meant else None
 
 
-def near_agent(statement, own_agents):
+@functools.lru_cache(maxsize=None)
+def usual_agents(family):
+    """The names of the usual agents of a class and provider."""
+    return tuple(agent.rpartition(":")[2] for agent in agents() if agent.rpartition(":")[0] == family)
+
+
+def near_agent(statement):
     """A note on an agent whose name is near a usual one of its class."""
     word = statement.words[2]
     written, _, name = word.text.rpartition(":")
-    family = written or "ocf:heartbeat"
-    usual = [agent.rpartition(":")[2] for agent in own_agents if agent.rpartition(":")[0] == family]
-    meant = near(name, usual)
+    meant = near(name, usual_agents(written or "ocf:heartbeat"))
     if meant:
         full = f"{written}:{meant}" if written else meant
         yield word, f"`{word.text}` is none of the usual agents; is `{full}` meant?"

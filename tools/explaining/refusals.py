@@ -3,7 +3,7 @@ from .asking import OutOfTime
 from .faulty import earlier, faulty_word
 from .hints import hints
 from .loops import RULES, rules_of_loop
-from .report import numbered, paragraph, place, say, show
+from .report import AS_JSON, forms, numbered, paragraph, place, say, say_json, show, tell
 from .tables import causes
 from .texts import Text
 
@@ -36,6 +36,9 @@ class Finding:
         """Says the refusal, with the lines as they are written in the text that was given."""
         cause = causes()[self.cause]
         line = self.word.first if self.word else self.line
+        if forms[AS_JSON]:
+            self.say_json(name, line, cause)
+            return
         say(*paragraph(f"{place(name, line, self.word)}: {self.cause}: {cause.meaning}"))
         if self.cause != "LineTooLong":
             say(*show(written, self.statement, self.word, self.line))
@@ -43,15 +46,25 @@ class Finding:
             say("  These make the loop:", *(numbered(written.lines, rule.first) for rule in self.loop))
         if self.earlier:
             say("  The earlier one:", numbered(written.lines, self.earlier.first))
+        say(*paragraph(" ".join(self.remedies(cause)), "  "))
+
+    def remedies(self, cause):
         found = hints(self.text, self.statement, self.word, self.cause) if self.statement else []
-        remedies = found if found and found[0].startswith("Not carried out") else [cause.remedy] + found
-        say(*paragraph(" ".join(remedies), "  "))
+        return found if found and found[0].startswith("Not carried out") else [cause.remedy] + found
+
+    def say_json(self, name, line, cause):
+        say_json(kind="refusal", file=name, line=line + 1, column=self.word.start + 1 if self.word else None, cause=self.cause,
+                 word=self.word.text if self.word else None, meaning=cause.meaning, remedies=self.remedies(cause),
+                 loop=[rule.first + 1 for rule in self.loop], earlier=self.earlier.first + 1 if self.earlier else None)
 
 
 def explain(program, data, name, refusal, every):
     """Says one refusal, or with `every` all that can be told apart. Of a very long text only the cause is said."""
     if len(data) > LONGEST_EXPLAINED:
         cause = causes()[refusal[1]]
+        if forms[AS_JSON]:
+            say_json(kind="refusal", file=name, line=refusal[0] + 1, cause=refusal[1], meaning=cause.meaning, remedies=[cause.remedy])
+            return
         say(*paragraph(f"{place(name, refusal[0])}: {refusal[1]}: {cause.meaning}"), *paragraph(cause.remedy, "  "))
         return
     text = Text(data)
@@ -59,7 +72,7 @@ def explain(program, data, name, refusal, every):
     for finding in sorted(found[:MOST_LISTED], key=lambda finding: finding.line):
         finding.say(name, text)
     if len(found) > MOST_LISTED:
-        say(f"{name}: there may be more than these {MOST_LISTED}")
+        tell(f"{name}: there may be more than these {MOST_LISTED} refusals")
 
 
 def every_finding(program, text, refusal):

@@ -1,8 +1,11 @@
 """How a finding is shown: the place, the cause, the lines with a mark under the faulty word, and what to do."""
+import json
 import sys
 import textwrap
 
 WIDTH = 100
+AS_JSON = "--json"
+forms = {AS_JSON: False}
 
 
 def say(*lines):
@@ -13,6 +16,26 @@ def say(*lines):
         print(*lines, sep="\n", file=sys.stderr, flush=True)
     except OSError:
         sys.stderr = None
+
+
+def tell(message):
+    """A message that belongs to no place of an input."""
+    if forms[AS_JSON]:
+        say_json(kind="message", message=message)
+    else:
+        say(f"cekpayo: {message}")
+
+
+def say_json(**fields):
+    """Says an object of what is known, in one line."""
+    say(json.dumps({name: value for name, value in fields.items() if value not in (None, [])}, ensure_ascii=False))
+
+
+def say_note(name, word, note):
+    if forms[AS_JSON]:
+        say_json(kind="note", file=name, line=word.first + 1, column=word.start + 1, note=note)
+    else:
+        say(f"{place(name, word.first, word)}: note: {note}")
 
 
 def paragraph(text, indent=""):

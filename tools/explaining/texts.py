@@ -1,6 +1,10 @@
 """The statements of an input and the words of each, with the places where they stand."""
+import re
 
 CONFIGURATION, STATUS, RESULTS = "configuration", "%status", "%results"
+PLAIN_WORD, PLAIN_FIELD = re.compile(rb"[^ \t]+"), re.compile(r"[^ \t]+")
+MAY_BEGIN_SECTION = (b"%", b"\\", b'"', b"'")
+FIRST_BYTE = re.compile(rb"[ \t]*\r?$|[ \t]*(.)", re.DOTALL)
 
 
 class Word:
@@ -25,14 +29,38 @@ class Word:
 
 
 class Statement:
-    """One logical line: `first` and `last` are the numbers of its lines from 0."""
+    """One logical line: `first` and `last` are the numbers of its lines from 0. Its words are read when they are asked for."""
 
-    def __init__(self, first, last, words, open_quote, section):
-        self.first, self.last, self.words = first, last, words
-        self.open_quote, self.section = open_quote, section
+    __slots__ = ("first", "last", "section", "_lines", "_read")
+
+    def __init__(self, lines, first, last, section):
+        self.first, self.last, self.section = first, last, section
+        self._lines, self._read = lines, None
+
+    def _all(self):
+        if self._read is None:
+            self._read = read_words(self._lines, self.first, self.last)
+        return self._read
+
+    @property
+    def words(self):
+        return self._all()[0]
+
+    @property
+    def open_quote(self):
+        """The place of a quote that is never closed, if there is one."""
+        return self._all()[1]
+
+    def fields(self):
+        """The texts of the words; they aren't kept, since a status has very many."""
+        if self._read is None and is_plain(self._lines, self.first, self.last):
+            return PLAIN_FIELD.findall(content(self._lines[self.first]).decode("utf-8", "replace"))
+        return [word.text for word in self.words]
 
     @property
     def kind(self):
+        if self._read is None and is_plain(self._lines, self.first, self.last):
+            return PLAIN_WORD.search(content(self._lines[self.first]))[0].decode("utf-8", "replace")
         return self.words[0].text if self.words else ""
 
     @property
@@ -51,10 +79,15 @@ class Text:
 
     def statement_at(self, line):
         """The statement that the line is part of."""
-        for statement in self.statements:
-            if statement.first <= line <= statement.last:
-                return statement
-        return None
+        low, high = 0, len(self.statements)
+        while low < high:
+            middle = (low + high) // 2
+            if self.statements[middle].last < line:
+                low = middle + 1
+            else:
+                high = middle
+        found = self.statements[low:low + 1]
+        return found[0] if found and found[0].first <= line else None
 
     def without(self, dropped):
         """The text with the lines of some statements left empty, so that the others keep their numbers."""
@@ -93,18 +126,29 @@ def content(line):
 
 
 def statements(lines):
-    number, section = 0, CONFIGURATION
-    while number < len(lines):
+    number, section, count = 0, CONFIGURATION, len(lines)
+    while number < count:
         first = number
-        if not content(lines[first]).lstrip(b" \t").startswith(b"#"):
-            while content(lines[number]).endswith(b"\\") and number + 1 < len(lines):
+        begin = FIRST_BYTE.match(lines[first])
+        if begin[1] and begin[1] != b"#":
+            while ends_in_backslash(lines[number]) and number + 1 < count:
                 number += 1
-            words, open_quote = read_words(lines, first, number)
-            if words or open_quote:
-                if words and words[0].text in (STATUS, RESULTS):
-                    section = words[0].text
-                yield Statement(first, number, words, open_quote, section)
+            one = Statement(lines, first, number, section)
+            if begin[1] != b"\\" or one.words or one.open_quote:
+                if begin[1] in MAY_BEGIN_SECTION and one.kind in (STATUS, RESULTS):
+                    one.section = section = one.kind
+                yield one
         number += 1
+
+
+def ends_in_backslash(line):
+    return line.endswith((b"\\", b"\\\r"))
+
+
+def is_plain(lines, first, last):
+    """Whether the words are what stands between blanks, and all on one line."""
+    line = lines[first]
+    return first == last and b'"' not in line and b"'" not in line and not ends_in_backslash(line)
 
 
 def joined(lines, first, last):
@@ -118,8 +162,19 @@ def joined(lines, first, last):
             yield line, len(bytes_of_line) - 1, 0x20
 
 
+def plain_words(lines, first, last):
+    """The words of a logical line without quotes."""
+    for number in range(first, last + 1):
+        line = content(lines[number])
+        line = line[:-1] if line.endswith(b"\\") else line
+        for found in PLAIN_WORD.finditer(line):
+            yield Word(found[0].decode("utf-8", "replace"), number, found.start(), number, found.end())
+
+
 def read_words(lines, first, last):
     """The words of a logical line, and the place of a quote that is never closed, if there is one."""
+    if not any(b'"' in line or b"'" in line for line in lines[first:last + 1]):
+        return list(plain_words(lines, first, last)), None
     places = list(joined(lines, first, last))
     words, at = [], 0
     while at < len(places):

@@ -1,4 +1,8 @@
 """What a plan does with each resource, in the words of a transition summary."""
+from collections import namedtuple
+
+NARROW = 16  # the columns of a name, if none is longer
+WIDE = 80
 
 REASONS = {
     "NoCopies": "it may have no copy",
@@ -16,15 +20,42 @@ CUTS = {
 }
 
 
+Fields = namedtuple("Fields", "what name where why")
+Fields.__new__.__defaults__ = ("", "")
+
+
+class Entry(Fields):
+    """What is done with a resource or a node: where, and why."""
+
+    def text(self, width=NARROW):
+        rest = " ".join([f"( {self.where} )"] * bool(self.where) + [self.why] * bool(self.why))
+        return f"  * {self.what:<10} " + (f"{self.name:<{width}} {rest}" if rest else self.name)
+
+    def fields(self):
+        """The same by names, with the nodes apart."""
+        nodes = [word for word in self.where.replace(",", " ").split() if word not in ("->", "Started", "Promoted")]
+        found = {"what": self.what, "name": self.name, "nodes": nodes, "promoted": "Promoted" in self.where.split("->")[-1], "why": self.why}
+        return {name: value for name, value in found.items() if value}
+
+
+def width_of(entries):
+    return max([NARROW, *(len(entry.name) for entry in entries if entry.where or entry.why)])
+
+
+def lines_of(entries):
+    """The entries as lines, whose columns stand below each other."""
+    width = width_of(entries)
+    return [entry.text(width) for entry in entries]
+
+
 def summary(plan):
-    """The lines of a plan: fences, then each resource in the order of the configuration, then probes."""
-    yield from (entry("Fence", action["node"]) for action in plan.actions if action["action"] == "fence")
+    """The entries of a plan: fences, then each resource in the order of the configuration, then probes."""
+    yield from (Entry("Fence", action["node"]) for action in plan.actions if action["action"] == "fence")
     acts = by_resource(plan)
-    for name in plan.order + [name for name in acts if name not in plan.targets and set(acts[name]) - {"probe", "monitor"}]:
+    for name in plan.order + [name for name in acts if name not in plan.targets]:
         yield from of_resource(plan, name, acts.get(name, {}))
-    probes = sum(1 for action in plan.actions if action["action"] == "probe")
-    if probes:
-        yield entry("Probe", f"{probes} times", "does a resource run there?")
+    if plan.probes:
+        yield Entry("Probe", f"{plan.probes} times", why="does a resource run there?")
 
 
 def by_resource(plan):
@@ -35,19 +66,6 @@ def by_resource(plan):
             where = action.get("node") or (action["source"], action["target"])
             found.setdefault(action["resource"], {}).setdefault(action["action"], []).append(where)
     return found
-
-
-def entry(what, name, why=""):
-    return f"  * {what:<10} " + (f"{name:<16} {why}" if why else name)
-
-
-def named(line):
-    """The name in an entry."""
-    return line[len(entry("", "")):].split()[0]
-
-
-def at(name, where):
-    return f"{name:<16} ( {where} )"
 
 
 def reason(plan, name):
@@ -63,22 +81,23 @@ def because(without):
 
 
 def of_resource(plan, name, own):
-    """The lines of one resource: what it leaves and where it comes to be, then what stays."""
+    """The entries of one resource: what it leaves and where it comes to be, then what stays."""
     targets, why = dict(plan.targets.get(name, [])), reason(plan, name)
     starts, stops = own.get("start", []), own.get("stop", [])
     moved = own.get("migrate_to", [])
+    left = stops or plan.left_behind(name)
     if moved:
-        yield entry("Migrate", at(name, f"{moved[0][0]} -> {moved[0][1]}"))
-    elif len(starts) == len(stops) == len(targets) == 1 and starts != stops:
-        yield entry("Move", at(name, f"{stops[0]} -> {starts[0]}{promoted(own, starts[0])}"))
+        yield Entry("Migrate", name, f"{moved[0][0]} -> {moved[0][1]}")
+    elif len(starts) == len(left) == len(targets) == 1 and starts != left:
+        yield Entry("Move", name, f"{left[0]} -> {starts[0]}{promoted(own, starts[0])}")
     else:
         yield from each_node(name, own, starts, stops, why)
     touched = {*starts, *stops, *own.get("promote", []), *own.get("demote", []), *(target for _, target in moved)}
     for node, role in targets.items():
         if node not in touched:
-            yield entry(stays(plan, name), at(name, f"{role_on(role)}{node}"), why)
+            yield Entry(stays(plan, name), name, f"{role_on(role)}{node}", why)
     if name in plan.targets and not targets and not stops and not moved:
-        yield entry("No place" if name not in plan.pinned else "Leave", name, why)
+        yield Entry("No place" if name not in plan.pinned else "Leave", name, why=why)
 
 
 def stays(plan, name):
@@ -93,15 +112,15 @@ def each_node(name, own, starts, stops, why):
     promotes, demotes = own.get("promote", []), own.get("demote", [])
     for node in dict.fromkeys(stops + demotes + starts + promotes):
         if node in stops and node in starts:
-            yield entry("Restart", at(name, node + promoted(own, node)))
+            yield Entry("Restart", name, node + promoted(own, node))
         elif node in stops:
-            yield entry("Stop", at(name, node), why)
+            yield Entry("Stop", name, node, why)
         elif node in starts:
-            yield entry("Start", at(name, node + promoted(own, node)))
+            yield Entry("Start", name, node + promoted(own, node))
         elif node in promotes:
-            yield entry("Promote", at(name, f"Started -> Promoted {node}"), "it is demoted first" if node in demotes else "")
+            yield Entry("Promote", name, f"Started -> Promoted {node}", "it is demoted first" if node in demotes else "")
         else:
-            yield entry("Demote", at(name, f"Promoted -> Started {node}"))
+            yield Entry("Demote", name, f"Promoted -> Started {node}")
 
 
 def promoted(own, node):
@@ -112,10 +131,44 @@ def role_on(role):
     return "Promoted " if role == "promoted" else ""
 
 
-def shown(plan):
+def changes(loss):
+    """The entries of what a loss changes of the plan before it; what stays is told in one."""
+    stay = []
+    for name in loss.order:
+        now, then = dict(loss.now.targets.get(name, [])), dict(loss.targets[name])
+        gone, come = [node for node in now if node not in then], [node for node in then if node not in now]
+        roles = [node for node in then if node in now and then[node] != now[node]]
+        if now and not then:
+            yield Entry("No place", name, " ".join(now), reason(loss, name))
+        elif len(gone) == len(come) == 1:
+            yield Entry("Move", name, f"{gone[0]} -> {role_on(then[come[0]])}{come[0]}")
+        else:
+            yield from (Entry("Lose", name, node, "a copy") for node in gone)
+            yield from (Entry("Start", name, role_on(then[node]) + node) for node in come)
+        for node in roles:
+            yield Entry("Promote", name, f"Started -> Promoted {node}") if then[node] == "promoted" else \
+                Entry("Demote", name, f"Promoted -> Started {node}")
+        if now and not (gone or come or roles):
+            stay.append(name)
+    if stay:
+        yield together("Stay", stay)
+
+
+def together(what, names, most=WIDE):
+    """One entry for several names, as many as fit on a line."""
+    said = names[0]
+    for at, name in enumerate(names[1:], 1):
+        if len(said) + len(name) > most:
+            return Entry(what, f"{said} and {len(names) - at} more")
+        said += ", " + name
+    return Entry(what, said)
+
+
+def shown(plan, every=False):
     """The title of a plan, its summary, and why the run ends before its time, where it does."""
     head = plan.title or "Summary"
     if plan.acts and not plan.done:
         head += f" ({plan.end or 'not complete'})"
-    lines = list(summary(plan)) or ["  * nothing to do"]
+    entries = list(changes(plan) if plan.now and not every else summary(plan))
+    lines = lines_of(entries) or ["  * nothing to do"]
     return [head + ":", *lines] + ([CUTS[plan.cut["kind"]].format(**plan.cut)] if plan.cut else [])

@@ -1,0 +1,219 @@
+"""Changes of an input that are asked about: each takes the text and gives the changed one."""
+from explaining.differences import FALSE, members
+from explaining.faulty import RESOURCES
+from explaining.hints import SECTIONS
+from explaining.texts import CONFIGURATION, RESULTS, STATUS, Text
+
+NOTHING_RUNS = ("op", "cleanup", "promotion")
+
+
+class NoChange(Exception):
+    """What is asked about can't be done to this input."""
+
+
+def inserted(text, line, column, addition):
+    lines = list(text.lines)
+    lines[line] = lines[line][:column] + addition.encode() + lines[line][column:]
+    return Text(b"\n".join(lines))
+
+
+def with_lines(text, lines, section):
+    """The text with further lines at the end of its configuration or its status."""
+    ends = [one.first for one in text.statements if one.kind in (STATUS, RESULTS)[section == STATUS:]]
+    at = ends[0] if ends else len(text.lines)
+    added = [line.encode() for line in lines]
+    return Text(b"\n".join([*text.lines[:at], *added, *text.lines[at:]]))
+
+
+def pair_in(statement, section, key):
+    """The pair of a key in a section of a statement, or nothing."""
+    place = ""
+    for word in statement.words[1:]:
+        if word.text in SECTIONS:
+            place = word.text
+        elif word.key == key and place == section:
+            return word
+    return None
+
+
+def with_pair(text, statement, section, key, value):
+    """The text in which a statement has this pair in a section."""
+    pair = pair_in(statement, section, key)
+    if pair:
+        return Text(text.with_word(pair, f"{key}={value}"))
+    heads = [word for word in statement.words[2:] if word.text == section]
+    if heads:
+        return inserted(text, heads[0].last, heads[0].end, f" {key}={value}")
+    last = statement.id if statement.kind == "node" else statement.words[-1]
+    return inserted(text, last.last, last.end, f" {section} {key}={value}")
+
+
+def the_node(text, name):
+    found = text.defined(("node",)).get(name)
+    if found is None:
+        raise NoChange(f"there is no node `{name}`")
+    return found
+
+
+def the_resource(text, name):
+    found = text.defined(RESOURCES).get(name)
+    if found is None:
+        raise NoChange(f"there is no resource `{name}`")
+    return found
+
+
+def with_status(text):
+    """The text, whose status is needed."""
+    if not any(one.kind == STATUS for one in text.statements):
+        raise NoChange("it has no `%status`; `--online` before the word takes each node as online")
+    return text
+
+
+def status_of(text, name):
+    """The line of the status on a node, or nothing."""
+    for one in text.statements:
+        if one.section == STATUS and one.kind == "node" and one.fields()[1:2] == [name]:
+            return one
+    return None
+
+
+def with_state(text, name, state):
+    found = status_of(with_status(text), name)
+    if found:
+        return Text(text.with_word(found.words[2], state))
+    return with_lines(text, [f"node {name} {state}"], STATUS)
+
+
+def standby(text, name):
+    return with_pair(text, the_node(text, name), "attributes", "standby", "on")
+
+
+def online(text, name):
+    """The node is there, and not in standby. One that joins comes with nothing on it, and of which nothing is known."""
+    node = the_node(text, name)
+    if pair_in(node, "attributes", "standby"):
+        text = with_pair(text, node, "attributes", "standby", "off")
+    found = status_of(with_status(text), name)
+    if found is None or found.fields()[2] != "online":
+        known = [one for one in text.statements if one.section == STATUS and one.kind in NOTHING_RUNS and one.fields()[1:2] == [name]]
+        text = Text(text.without(known))
+    return with_state(text, name, "online")
+
+
+def lost(text, name):
+    """The node left without a word: it is unclean where there is fencing, and taken as down where there is none."""
+    the_node(text, name)
+    return with_state(text, name, "unclean" if is_fencing(text) else "offline")
+
+
+def is_fencing(text):
+    pairs = [word for one in text.statements if one.section == CONFIGURATION and one.kind == "property" for word in one.words]
+    return not any(word.key == "stonith-enabled" and word.value.lower() in FALSE for word in pairs)
+
+
+def fail(text, told):
+    """RESOURCE@NODE=CODE: its recurring monitor ends there with this exit code."""
+    name, _, rest = told.partition("@")
+    node, _, code = rest.partition("=")
+    the_node(text, node)
+    resource = the_resource(text, name)
+    if resource.kind != "primitive":
+        inside = [word.text for word in members(resource)]
+        raise NoChange(f"`{name}` is a {resource.kind}; name a primitive in it: {', '.join(inside)}")
+    interval = monitor_of(resource)
+    if not interval:
+        raise NoChange(f"`{name}` has no recurring monitor that could fail")
+    now = [one.fields()[1] for one in with_status(text).statements if one.section == STATUS and one.kind == "now"]
+    return with_lines(text, [f"op {node} {name} monitor {interval} {code or 1} {now[0] if now else 0}"], STATUS)
+
+
+def monitor_of(resource):
+    """The interval in milliseconds of the first recurring monitor, or 0."""
+    words, at = [word.text for word in resource.words], 0
+    while "op" in words[at:]:
+        at = words.index("op", at) + 1
+        pairs = dict(word.partition("=")[::2] for word in until_section(words[at + 1:]))
+        interval = milliseconds(pairs.get("interval", "0"))
+        if words[at] == "monitor" and interval and pairs.get("enabled", "true").lower() not in FALSE:
+            return interval
+    return 0
+
+
+def until_section(words):
+    for word in words:
+        if word in SECTIONS:
+            return
+        yield word
+
+
+UNITS = {"": 1000, "s": 1000, "sec": 1000, "ms": 1, "msec": 1, "m": 60000, "min": 60000, "h": 3600000, "hr": 3600000}
+
+
+def milliseconds(time):
+    """A time in milliseconds; 0 where it is none."""
+    digits = time.rstrip("abcdefghijklmnopqrstuvwxyz")
+    return int(digits) * UNITS.get(time[len(digits):], 0) if digits.isdigit() else 0
+
+
+def without_id(text, name):
+    """The text without the location of this id, which a new one replaces."""
+    return Text(text.without([one for one in text.defined(("location",)).values() if one.id.text == name]))
+
+
+def move(text, name, node):
+    """As `crm resource move` with a node does: what an earlier move or ban of it to this node said is taken back."""
+    the_node(text, node)
+    the_resource(text, name)
+    text = without_id(without_id(text, f"cli-prefer-{name}"), f"cli-ban-{name}-on-{node}")
+    return with_lines(text, [f"location cli-prefer-{name} {name} inf: {node}"], CONFIGURATION)
+
+
+def ban(text, name, node):
+    the_node(text, node)
+    the_resource(text, name)
+    text = without_id(text, f"cli-ban-{name}-on-{node}")
+    return with_lines(text, [f"location cli-ban-{name}-on-{node} {name} -inf: {node}"], CONFIGURATION)
+
+
+def with_role(text, name, role):
+    """The target-role of a resource; what is in it gets the same where it has one of its own."""
+    text = with_pair(text, the_resource(text, name), "meta", "target-role", role)
+    for own in [word.text for word in members(the_resource(text, name))] if the_resource(text, name).kind != "primitive" else []:
+        if pair_in(the_resource(text, own), "meta", "target-role") or the_resource(text, own).kind == "group":
+            text = with_role(text, own, role)
+    return text
+
+
+def stop(text, name):
+    return with_role(text, name, "Stopped")
+
+
+def start(text, name):
+    return with_role(text, name, "Started")
+
+
+def maintenance(text):
+    for one in text.statements:
+        for word in one.words if one.section == CONFIGURATION and one.kind == "property" else []:
+            if word.key == "maintenance-mode":
+                return Text(text.with_word(word, "maintenance-mode=true"))
+    return with_lines(text, ["property maintenance-mode=true"], CONFIGURATION)
+
+
+EDITS = {"standby": standby, "online": online, "lost": lost, "fail": fail, "move": move, "ban": ban, "stop": stop, "start": start,
+         "maintenance": maintenance}
+ARGUMENTS = {"standby": ["NODE"], "online": ["NODE"], "lost": ["NODE"], "fail": ["RESOURCE@NODE=CODE"], "move": ["RESOURCE", "NODE"],
+             "ban": ["RESOURCE", "NODE"], "stop": ["RESOURCE"], "start": ["RESOURCE"], "maintenance": []}
+MEANINGS = {
+    "standby": "the node is put in standby", "online": "the node is there, and not in standby", "lost": "the node leaves without a word",
+    "fail": "a recurring monitor ends with this exit code", "move": "as `crm resource move`", "ban": "as `crm resource ban`",
+    "stop": "target-role=Stopped", "start": "target-role=Started", "maintenance": "maintenance-mode=true",
+}
+
+
+def edited(data, changes):
+    """The text after changes, each the name of one and its arguments."""
+    text = Text(data)
+    for name, *arguments in changes:
+        text = EDITS[name](text, *arguments)
+    return b"\n".join(text.lines)

@@ -1,0 +1,131 @@
+"""`why RESOURCE`: what keeps a resource where it is: each statement, state or failure that changes its place when it is left out alone."""
+import json
+
+from explaining.differences import TRUE
+from explaining.faulty import RESOURCES
+from explaining.report import tell
+from explaining.texts import CONFIGURATION, STATUS, Text
+from showing.lines import read
+from showing.plans import Plan
+from showing.program import Refused, answer, prepare
+from showing.summaries import reason, role_on
+
+from .edits import pair_in, the_node, with_pair
+from .sources import Source
+
+REFUSED, WRONG = 5, 2
+RULES = ("location", "colocation", "collocation", "order")
+GOOD = ("0", "8", "190", "191")
+
+
+def options(parser):
+    parser.add_argument("resource", metavar="RESOURCE")
+    parser.add_argument("file", nargs="?", metavar="FILE")
+
+
+def tries(text):
+    """What may be left out, in words, with the text without it."""
+    yield from rules(text)
+    yield from settings(text)
+    yield from states(text)
+    yield from failures(text)
+
+
+def rules(text):
+    for one in text.statements:
+        if one.section == CONFIGURATION and one.kind in RULES:
+            yield f"without `{' '.join(one.fields())}`", text.without([one])
+
+
+def settings(text):
+    """Nodes in standby, and settings that stop a resource or leave it alone."""
+    for one in text.statements:
+        if one.section != CONFIGURATION:
+            return
+        if one.kind == "node":
+            pair = pair_in(one, "attributes", "standby")
+            if pair and pair.value.lower() in TRUE:
+                yield f"if {one.id.text} weren't in standby", text.with_word(pair, "standby=off")
+        for word in one.words[1:]:
+            if word.key in ("target-role", "is-managed", "maintenance-mode", "stop-all-resources"):
+                name = f" of {one.words[1].text}" if one.kind in RESOURCES else ""
+                usual = {"target-role": "Started", "is-managed": "true"}.get(word.key, "false")
+                yield f"without `{word.text}`{name}", text.with_word(word, f"{word.key}={usual}")
+
+
+def states(text):
+    for one in text.statements:
+        if one.section == STATUS and one.kind == "node" and one.fields()[2] != "online":
+            yield f"if {one.fields()[1]} were online", text.with_word(one.words[2], "online")
+        if one.section == STATUS and one.kind == "quorum" and one.fields()[1] == "no":
+            yield "with quorum", text.with_word(one.words[1], "yes")
+
+
+def failures(text):
+    """The failures of each resource on each node; what is left of its history there stays."""
+    found = {}
+    for one in text.statements:
+        fields = one.fields() if one.section == STATUS and one.kind == "op" else []
+        if len(fields) == 7 and fields[5] not in GOOD and not (fields[3:6] == ["monitor", "0", "7"]):
+            found.setdefault((fields[1], fields[2]), []).append(one)
+    for (node, name), statements in found.items():
+        count = f"the {len(statements)} failures" if len(statements) > 1 else "the failure"
+        yield f"without {count} of {name} on {node}", text.without(statements)
+
+
+def places(data, inside):
+    """The targets of the resources, in words."""
+    plan = Plan()
+    for line in answer("scores", data):
+        if line.startswith(("target ", "none ", "pinned ")):
+            plan.take(read(line))
+    return "; ".join(where(plan, name, len(inside) > 1) for name in inside)
+
+
+def where(plan, name, named):
+    targets = ", ".join(role_on(role) + node for node, role in plan.targets[name])
+    why = reason(plan, name)
+    said = f"on {targets}" + (f" ({why})" if why else "") if targets else f"no place: {why}"
+    return f"{name} {said}" if named else said
+
+
+def primitives_in(text, name):
+    from explaining.hints import primitives_of
+    return primitives_of(text, text.defined(RESOURCES)[name])
+
+
+def ask(words):
+    source = Source(words.file, words)
+    text = Text(source.data)
+    if words.resource not in text.defined(RESOURCES):
+        if source.is_accepted():
+            tell(f"why: {source.name}: there is no resource `{words.resource}`")
+            return WRONG
+        return REFUSED
+    inside = primitives_in(text, words.resource)
+    found = list(tries(text))
+    prepare([("check", source.data), ("scores", source.data), *(("scores", data) for _, data in found)])
+    if not source.is_accepted():
+        return REFUSED
+    now, other = places(source.data, inside), []
+    for what, data in found:
+        try:
+            then = places(data, inside)
+        except Refused:
+            continue
+        if then != now:
+            other.append((what, then))
+    show(words, now, other)
+    return 0
+
+
+def show(words, now, other):
+    if words.json:
+        found = [{"with": what, "then": then} for what, then in other]
+        print(json.dumps({"kind": "why", "resource": words.resource, "now": now, "changed": found}, ensure_ascii=False))
+        return
+    print(f"{words.resource}: {now}")
+    for what, then in other:
+        print(f"  {what}: {then}")
+    if not other:
+        print("  no rule, state or failure changes that when it alone is left out")
