@@ -1,42 +1,7 @@
-//! Tests of what is decided, of how it is carried out, and of whole runs: the words of the command line with an input, and the status
-//! and the text that come of them.
+//! Tests of how a plan is carried out: transitions, runs, simulated clusters, and the lines of runs.
 //!
 //! They stand in a crate of their own, since the tests of a crate are proved together with all of its code once more.
 #![tactic(auto)]
-
-// What small texts say, and tests that are tables.
-#[cfg(test)]
-mod case_rows;
-#[cfg(test)]
-mod plain;
-#[cfg(test)]
-mod todos;
-
-// What a journal tells.
-#[cfg(test)]
-mod fences;
-#[cfg(test)]
-mod one_by_one;
-#[cfg(test)]
-mod states;
-
-// Where everything goes.
-#[cfg(test)]
-mod choices;
-#[cfg(test)]
-mod held;
-#[cfg(test)]
-mod orders;
-#[cfg(test)]
-mod tables;
-
-// What has to be done, and in which order.
-#[cfg(test)]
-mod actions;
-#[cfg(test)]
-mod graphs;
-#[cfg(test)]
-mod ranks;
 
 // Small graphs, what happens, in short, and a watcher that is told.
 #[cfg(test)]
@@ -79,43 +44,3 @@ mod live_writing;
 mod run_lines;
 #[cfg(test)]
 mod writing;
-
-// Words of the command line.
-#[cfg(test)]
-mod audits;
-#[cfg(test)]
-mod case_texts;
-#[cfg(test)]
-mod check;
-#[cfg(test)]
-mod generated;
-#[cfg(test)]
-mod graph;
-#[cfg(test)]
-mod losses;
-#[cfg(test)]
-mod replay_ends;
-#[cfg(test)]
-mod replay_live;
-#[cfg(test)]
-mod replay_losses;
-#[cfg(test)]
-mod replay_roles;
-#[cfg(test)]
-mod replay_starts;
-#[cfg(test)]
-mod scores;
-#[cfg(test)]
-mod words;
-#[cfg(test)]
-mod worlds;
-
-// What the tests of words share.
-#[cfg(test)]
-mod inputs;
-#[cfg(test)]
-mod long_inputs;
-#[cfg(test)]
-mod outcome;
-#[cfg(test)]
-mod table;

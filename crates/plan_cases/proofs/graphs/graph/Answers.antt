@@ -1,5 +1,5 @@
 use Rattle.std.proofs.lemmas.Result.{IfOk-at_ok}
-use Rattle.run_cases.proofs.graphs.graph.Goals as goal
+use Rattle.plan_cases.proofs.graphs.graph.Goals as goal
 
 pub number-requires-clause-planned : goal.number-requires-clause-planned
 number-requires-clause-planned g c =
