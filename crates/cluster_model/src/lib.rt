@@ -17,12 +17,12 @@ mod laws;
 pub use expansion::expand_fault::{ExpandCause, ExpandFault};
 pub use expansion::leaf_laws::{each_primitive_is_a_leaf, leaf_names_differ};
 pub use expansion::leaves::{Leaves, Span};
-pub use expansion::settings::properties_in;
+pub(crate) use expansion::settings::properties_in;
 pub use expansion::whole::expand;
 pub use laws::{
     resolved_clusters_are_valid, resolved_rules_have_no_loop, resolved_rules_name_able_leaves,
 };
-pub use name_table::NameTable;
+pub(crate) use name_table::NameTable;
 pub use resolution::fault::{ModelCause, ModelFault};
 pub use resolution::whole::resolve;
-pub use values::{bool_at, count_at};
+pub(crate) use values::bool_at;

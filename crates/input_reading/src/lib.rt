@@ -37,15 +37,14 @@ pub use input::trace::{Trace, read_trace};
 pub use laws::{one_reading, one_reading_of_a_trace, what_is_read_is_valid};
 pub use line_laws::what_is_written_reads_again;
 pub use recovery::{Recovery, class_of};
-pub use results::answers::answer_of;
+pub(crate) use results::answers::answer_of;
 pub use results::result_lines::{ResultLine, read_result, read_results};
 pub use run::run_reading::read_run;
 pub use run::text::{RunText, RunTextLine, TraceFault};
 pub use status::whole::read_status;
 pub use words::by_place::Words;
-pub use words::named::{leaf_of, node_of};
-pub use words::number_words::{code_of, interval_of, number_of, seconds_of};
-pub use words::places::{
-    code_at, end_at, leaf_at, node_at, number_at, seconds_at, word_at, yes_at,
-};
+pub use words::number_words::code_of;
+pub(crate) use words::number_words::interval_of;
+pub use words::places::number_at;
+pub(crate) use words::places::{code_at, end_at, leaf_at, node_at, seconds_at, word_at, yes_at};
 pub use words::word_cause::WordCause;

@@ -17,7 +17,8 @@ mod rank_laws;
 mod rule_laws;
 
 pub use colocations::{colocation_loop, joins_leaves};
-pub use orders::{link_edges, order_loop, orders_steps};
+pub(crate) use orders::link_edges;
+pub use orders::{order_loop, orders_steps};
 pub use place::Place;
 pub use rank_laws::{ranks_are_longest_chains, ranks_are_unique, ranks_rise};
 pub use ranking::{StepRanks, ranks};

@@ -38,6 +38,5 @@ pub use needed::building::actions;
 pub use number_laws::{needed_actions_have_places_of_their_own, plans_have_few_edges};
 pub use numbering::number;
 pub use planning::{plan, plan_of};
-pub use precedence::migrating::migrating_flags;
-pub use precedence::sides::{Join, Side};
+pub(crate) use precedence::migrating::migrating_flags;
 pub use precedence::whole::edges;

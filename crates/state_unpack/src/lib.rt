@@ -40,10 +40,10 @@ mod laws;
 
 pub use acting::rights;
 pub use counts::{banned, failures};
-pub use failing::{is_failure, is_outcome};
+pub(crate) use failing::{is_failure, is_outcome};
 pub use fencing::to_fence;
 pub use known::Known;
 pub use laws::valid_clusters_have_few_monitors;
-pub use outcomes::{effective_fail, is_among, is_bad, is_ignored};
-pub use tally::Tally;
+pub use outcomes::{is_among, is_bad, is_ignored};
+pub(crate) use tally::Tally;
 pub use unpacking::unpack;
