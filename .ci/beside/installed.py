@@ -55,11 +55,22 @@ def try_release(folder):
     first, second = os.path.join(folder, "first"), os.path.join(folder, "second")
     status, sum_of_first, said = tool("release", first)
     expect("release", status == 0 and sum_of_first.endswith(".tar.gz\n"), said)
+    expect("what a release needs", "needs bash, python3" in said, said)
     expect("the same release", tool("release", second)[1] == sum_of_first)
+    try_packages(first, sum_of_first)
     answer = run("tar -xzf *.tar.gz && rm *.tar.gz && echo node n1 | */bin/cekpayo check", first)
     expect("an unpacked release", answer == (0, "node n1\n# nodes 1 leaves 0 rules 0\n", ""), str(answer))
     answer = run("*/lib/cekpayo/tools/install elsewhere >&2 && echo node n1 | elsewhere/bin/cekpayo check", first)
     expect("a release that installs itself", answer[:2] == (0, "node n1\n# nodes 1 leaves 0 rules 0\n"), str(answer))
+
+
+def try_packages(folder, sums):
+    """The packages that this machine can make hold the command, and are in the sums."""
+    for ending, maker, show in (("deb", "dpkg-deb", "dpkg-deb -c *.deb"), ("rpm", "rpmbuild", "rpm -qpl *.rpm")):
+        made = shutil.which(maker) is not None
+        expect(f"a .{ending}", (f".{ending}\n" in sums) == made, sums)
+        status, output, said = run(show, folder) if made else (0, "/usr/bin/cekpayo", "")
+        expect(f"what is in the .{ending}", status == 0 and "/usr/bin/cekpayo" in output and "lib/cekpayo/installed" not in output, output + said)
 
 
 def try_hook(folder):
