@@ -91,7 +91,7 @@ def try_examples():
         ("group-moves.crm", "group-moves.results"): ["What happens first stop db on db1", "Loss of db1 : nothing goes down", "Loss of db2 : db goes down",
                                                      "Moves from db1 to db2", "took too long"],
         ("web-server.crm", "web-server.status"): ["group site", "Moves from web1 to web2", "the start of site-server failed there", "The input has no results"],
-        ("sap-hana.crm",): ["promotable clone", "Is promoted on hana2", "Totals for the promotion"],
+        ("sap-hana.crm",): ["promotable clone", "is promoted on hana2", "Totals for the promotion"],
     }
     for names, words in said.items():
         status, text, error = report(*example(*names))
