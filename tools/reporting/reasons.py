@@ -78,9 +78,9 @@ def unmet(case, resource, node):
         sides = rule.rest[1:3] if rule.names[1] in case.configuration.aliases(resource) else rule.rest[2:0:-1]
         there = holds(case, sides[1], node)
         if rule.is_together and sides == rule.rest[1:3] and not there:
-            return joined([linked(case, rule), " isn't met there"])
+            return joined([code(rule.id), " isn't met there"])
         if not rule.is_together and there:
-            return joined([linked(case, rule), " isn't met there"])
+            return joined([code(rule.id), " isn't met there"])
     group = case.configuration.group_of.get(resource)
     if group and any(node not in case.places.get(leaf, {}) for leaf in case.configuration.groups[group] if leaf != resource):
         return joined(["its group ", code(group), " isn't there"])
@@ -120,7 +120,7 @@ def known_against(case, resource, node):
     """The plainest thing that is known to stand against a node: a rule of its own, or a failure."""
     for rule in case.configuration.rules_of(resource):
         if rule.kind == "location" and rule.rest[-2:] == ["-INFINITY:", node]:
-            return joined([" (", linked(case, rule), ")"])
+            return joined([" (", code(rule.id), ")"])
     for leaf in [resource, *bound(case, resource)]:
         for failure in case.failures.get(leaf, []):
             if failure.node == node:
