@@ -5,7 +5,7 @@ import re
 import shutil
 import subprocess
 
-from .expecting import ENVIRONMENT, TOP, expect, tool
+from .expecting import ENVIRONMENT, TOP, WRAPPER, expect, problems, tool
 
 EXAMPLES = os.path.join(TOP, "examples")
 VOID = ("meta", "input", "br")
@@ -91,7 +91,7 @@ def try_examples():
         ("group-moves.crm", "group-moves.results"): ["What happens first stop db on db1", "Loss of db1 : nothing goes down", "Loss of db2 : db goes down",
                                                      "Moves from db1 to db2", "took too long"],
         ("web-server.crm", "web-server.status"): ["group site", "Moves from web1 to web2", "the start of site-server failed there", "The input has no results"],
-        ("sap-hana.crm",): ["promotable clone", "Is promoted on hana2", "Totals for the promotion"],
+        ("sap-hana.crm",): ["promotable clone", "is promoted on hana2", "Totals for the promotion"],
     }
     for names, words in said.items():
         status, text, error = report(*example(*names))
@@ -135,6 +135,30 @@ def try_change(folder):
     expect("report of a change without a file", report("--change", "/nonexistent", cib)[0] == 3)
     expect("report of no file", report("/nonexistent")[0] == 3)
     expect("report of wrong words", report("--nonsense")[0] == 2)
+
+
+REPORTS = {
+    "failed-start": ["failed-start.crm", "failed-start.results"], "group-moves": ["group-moves.crm", "group-moves.results"],
+    "lost-node": ["lost-node.crm", "lost-node.results"], "drbd-postgresql": ["drbd-postgresql.crm", "drbd-postgresql.status"],
+    "web-server": ["web-server.crm", "web-server.status", "web-server.results"],
+}
+
+
+def make_reports(folder):
+    """Reports of five examples and of a change, in a folder: how many there are, and what isn't as it should be."""
+    os.makedirs(folder, exist_ok=True)
+    new = os.path.join(folder, "drained.crm")
+    with open(os.path.join(EXAMPLES, "web-server.crm"), encoding="utf-8") as file, open(new, "w", encoding="utf-8") as changed:
+        changed.write(file.read().replace("standby=off", "standby=on", 1))
+    words = {name: example(*files) for name, files in REPORTS.items()}
+    words["change"] = ["--change", new, *example("web-server.crm", "web-server.status")]
+    for name, own in words.items():
+        with open(os.path.join(folder, name + ".html"), "w+", encoding="utf-8") as page:
+            status = subprocess.run([WRAPPER, "report", *own], stdout=page, env=ENVIRONMENT).returncode
+            expect(f"report {name}: status", status == 0, str(status))
+            page.seek(0)
+            check_structure(f"report {name}", page.read(), ["change"] * (name == "change") + SECTIONS)
+    return len(words), problems
 
 
 def browser():

@@ -33,7 +33,6 @@ class Case:
     def take_scores(self, lines):
         """The totals of each decision by resource and node, and where everything goes."""
         self.totals, self.promotions = {}, {}
-        self.places, self.none, self.pinned = placed([])
         now = self.totals
         for line in lines:
             words = line.split(" ")
@@ -41,6 +40,7 @@ class Case:
                 now[words[1], words[2]] = words[3]
             elif words[0] in ("place", "promote"):
                 now = self.totals if words[0] == "place" else self.promotions
+        self.promotable = {leaf for leaf, _ in self.promotions}
         self.places, self.none, self.pinned = placed(lines)
 
     @property

@@ -37,7 +37,14 @@ def read(files):
         with open(name, "rb") as file:
             parts.append(file.read())
     ended = [part if part.endswith(b"\n") or not part else part + b"\n" for part in parts[:-1]] + parts[-1:]
-    return of_data(" ".join(os.path.basename(name) for name in files), b"".join(ended))
+    return of_data(title(files), b"".join(ended))
+
+
+def title(files):
+    """The names of the files; of those that differ in their endings alone, the endings."""
+    names = [os.path.basename(name) for name in files]
+    fronts = {os.path.splitext(name)[0] for name in names}
+    return names[0] + "".join(f", {os.path.splitext(name)[1]}" for name in names[1:]) if len(fronts) == 1 else ", ".join(names)
 
 
 def of_data(name, data):

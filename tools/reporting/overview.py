@@ -8,7 +8,7 @@ HEADS = (("moves", "move"), ("starts", "start"), ("restarts", "restart"), ("prom
 
 
 def at(bar):
-    return label(bar) if bar.what == "fence" else joined([label(bar), " on ", code(bar.node)])
+    return label(bar) if bar.what == "fence" else joined([label(bar, watched=False), " on ", code(bar.node)])
 
 
 def first(timeline):

@@ -30,7 +30,8 @@ def reason(case, resource):
         if case.none[resource][0] == "NoNode":
             short = joined([short, ": ", against_all(case, totals)])
         return Reason(short, [of_totals(case, totals), *facts(case, resource, totals)])
-    return Reason(for_chosen(case, resource, totals), [of_totals(case, totals), *of_promotion(case, resource), *facts(case, resource, totals)])
+    short = joined([for_chosen(case, resource, totals), *for_promoted(case, resource)])
+    return Reason(short, [of_totals(case, totals), *of_promotion(case, resource), *facts(case, resource, totals)])
 
 
 def against_all(case, totals):
@@ -66,7 +67,42 @@ def for_chosen(case, resource, totals):
     if greatest == least:
         return joined([head, ", as ", names(best, 3), " has" if len(best) == 1 else " have",
                        "; of equal ones that with fewer resources goes first, then the earlier one"])
-    return joined([head, "; ", names(best, 3), " had more (", shown(totals[best[0]]), "), but a rule isn't met there"])
+    return joined([head, "; ", names(best, 3), " had more (", shown(totals[best[0]]), "), but ", unmet(case, resource, best[0])])
+
+
+def unmet(case, resource, node):
+    """The rule that keeps a resource from a node, as far as it can be told from where everything is at the end."""
+    for rule in case.configuration.rules_of(resource):
+        if rule.kind != "colocation" or rule.rest[0] not in ("INFINITY:", "-INFINITY:"):
+            continue
+        sides = rule.rest[1:3] if rule.names[1] in case.configuration.aliases(resource) else rule.rest[2:0:-1]
+        there = holds(case, sides[1], node)
+        if rule.is_together and sides == rule.rest[1:3] and not there:
+            return joined([code(rule.id), " isn't met there"])
+        if not rule.is_together and there:
+            return joined([code(rule.id), " isn't met there"])
+    group = case.configuration.group_of.get(resource)
+    if group and any(node not in case.places.get(leaf, {}) for leaf in case.configuration.groups[group] if leaf != resource):
+        return joined(["its group ", code(group), " isn't there"])
+    return text("a rule isn't met there")
+
+
+def holds(case, side, node):
+    """Whether one side of a colocation is on a node in its role."""
+    name, _, role = side.partition(":")
+    roles = [case.places.get(leaf, {}).get(node) for leaf in case.configuration.leaves_of(name)]
+    return "promoted" in roles if role else any(roles)
+
+
+def for_promoted(case, resource):
+    """Why a copy is promoted where it is."""
+    totals = {node: total for (leaf, node), total in case.promotions.items() if leaf == resource} if resource in case.promotable else {}
+    promoted = [node for node, role in case.places.get(resource, {}).items() if role == "promoted"]
+    if not promoted:
+        return []
+    others = sorted((node for node in totals if node not in promoted), key=lambda node: -value(totals[node]))
+    rest = joined(["; the next is ", code(others[0]), " with ", shown(totals[others[0]])]) if others else None
+    return [joined(["; promoted on ", names(promoted, 3), " with ", ", ".join(dict.fromkeys(shown(totals[node]) for node in promoted if node in totals)), rest])]
 
 
 def shut_out(case, resource, others, totals):
@@ -84,7 +120,7 @@ def known_against(case, resource, node):
     """The plainest thing that is known to stand against a node: a rule of its own, or a failure."""
     for rule in case.configuration.rules_of(resource):
         if rule.kind == "location" and rule.rest[-2:] == ["-INFINITY:", node]:
-            return joined([" (", linked(case, rule), ")"])
+            return joined([" (", code(rule.id), ")"])
     for leaf in [resource, *bound(case, resource)]:
         for failure in case.failures.get(leaf, []):
             if failure.node == node:

@@ -82,8 +82,8 @@ def duration(seconds):
     return " ".join(parts)
 
 
-def label(bar):
-    """What a bar does, in words."""
+def label(bar, watched=True):
+    """What a bar does, in words; and how it is watched from there on."""
     if bar.what == "fence":
         return joined(["cut off ", code(bar.node), " (fence)"])
     if bar.what == "probe":
@@ -92,7 +92,7 @@ def label(bar):
     tail = {"migrate_to": " to ", "migrate_from": " from "}.get(bar.what)
     where = joined([tail, code(bar.action["target" if bar.what == "migrate_to" else "source"])]) if tail else None
     every = f", every {duration(int(bar.action['interval']) / 1000)}" if bar.what == "monitor" else None
-    then = f", then monitor every {' and '.join(duration(int(ms) / 1000) for ms in bar.monitored)}" if bar.monitored else None
+    then = f", then monitor every {' and '.join(duration(int(ms) / 1000) for ms in bar.monitored)}" if bar.monitored and watched else None
     return joined([word, " ", code(bar.action["resource"]), where, every, tag("small", then) if then else None])
 
 
