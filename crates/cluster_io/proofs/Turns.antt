@@ -1,6 +1,6 @@
 -- What a reader of lines gives of what it has found, and one turn after another.
-use Rattle.std.proofs.Common.{◌≡◌, ℕ, ◌+◌, ◌-◌, ◌≤◌, ◌<◌, Bool, true, false, Option, Some, None, List, [], ◌++◌, length, take, drop, IfSome, option_map, arith, refl, ap, sym, subst, ◌∙◌, append_assoc}
-use Rattle.std.proofs.lemmas.Bool.{false≢true, both_ways}
+use Rattle.std.proofs.Common.{◌≡◌, ℕ, ◌+◌, ◌-◌, ◌≤◌, ◌<◌, Bool, true, Option, Some, None, List, [], ◌++◌, length, take, drop, IfSome, option_map, arith, refl, ap, sym, subst, ◌∙◌, append_assoc}
+use Rattle.std.proofs.lemmas.Bool.{both_ways}
 use Rattle.std.proofs.lemmas.List.{append-nil, length-drop, length-take-le, take-append-drop, take_all}
 use Rattle.crm_lex.specs.RawLines.{physical_lines}
 use Rattle.cluster_io.specs.Streams.{TakesBytes}
@@ -33,19 +33,20 @@ too_large_is_no_failure : TooLarge ≡ Failed → ⊥
 too_large_is_no_failure e = cc
 
 -- the first bytes of what is held are handed out
-abbrev handed_out : Reading → ℕ → ℕ → Reading
-handed_out old count lines = record old {
+abbrev handed_out : Reading → ℕ → ℕ → Bool → Reading
+handed_out old count lines ended = record old {
   held = drop count old.held;
   raw = take count old.held;
   number = old.next;
   next = old.next + lines;
   room = old.room - count;
+  ended = ended;
 }
 
 hands_out : (old : Reading) (count lines : ℕ) (ended : Bool) → count ≤ length old.held → length old.held < count + 4096 → count ≤ old.room
     → lines ≡ length (physical_lines (take count old.held))
     → ((rest : List ℕ) → (ended ≡ true → rest ≡ []) → first_line (old.held ++ rest) ≡ physical_lines (take count old.held))
-    → HandsOut old (handed_out old count lines) ended
+    → HandsOut old (handed_out old count lines ended) ended
 hands_out old count lines ended within small in_room counted first =
     let len : length (take count old.held) ≡ count = length-take-le count old.held within in
     record {
@@ -59,36 +60,39 @@ hands_out old count lines ended within small in_room counted first =
 -- what is found in what is held, whatever follows
 pub settles_found : (f : Found) (bounds : Bounds) (scanned : ℕ) (scan : Scan) (step : LineStep) (old new : Reading) (before : Option (List ℕ))
     → bounds.room ≡ old.room → bounds.longest ≡ old.longest → Finds f bounds old.held scanned scan → length old.held ≤ scanned + 4096
-    → GivesFound f step old new → Settles step old new before before
-settles_found (found.Line count lines) bounds scanned scan step old new before room longest l fresh g =
+    → (old.ended ≡ true → IfSome before (λ left. left ≡ [])) → GivesFound f step old new → Settles step old new before before
+settles_found (found.Line count lines) bounds scanned scan step old new before room longest l fresh known g =
     subst (λ s. Settles s old new before before) (sym g.0)
     (subst (λ n. Settles Line old n before before) (sym g.1) (record {
       unread = refl;
-      ended = false;
-      at_end = λ e. absurd (false≢true e);
+      ended = old.ended;
+      at_end = known;
+      remembers = λ e. e;
       exact = λ _ rest _. sym (rw (room, longest) at (l.answer rest));
       undecided = λ e. absurd (line_is_no_failure e);
-      leaves = hands_out old count lines false l.within (omega (arith, l.beyond)) (omega (arith, l.in_room, room)) l.lines_counted (λ rest _. l.first rest);
+      leaves = hands_out old count lines old.ended l.within (omega (arith, l.beyond)) (omega (arith, l.in_room, room)) l.lines_counted (λ rest _. l.first rest);
     }))
-settles_found found.TooLong bounds scanned scan step old new before room longest f fresh g =
+settles_found found.TooLong bounds scanned scan step old new before room longest f fresh known g =
     subst (λ s. Settles s old new before before) (sym g.0) (record {
       unread = refl;
-      ended = false;
-      at_end = λ e. absurd (false≢true e);
+      ended = old.ended;
+      at_end = known;
+      remembers = λ e. e;
       exact = λ _ rest _. sym (rw (room, longest) at (f rest));
       undecided = λ e. absurd (too_long_is_no_failure e);
       leaves = g.1;
     })
-settles_found found.TooLarge bounds scanned scan step old new before room longest f fresh g =
+settles_found found.TooLarge bounds scanned scan step old new before room longest f fresh known g =
     subst (λ s. Settles s old new before before) (sym g.0) (record {
       unread = refl;
-      ended = false;
-      at_end = λ e. absurd (false≢true e);
+      ended = old.ended;
+      at_end = known;
+      remembers = λ e. e;
       exact = λ _ rest _. sym (rw (room, longest) at (f rest));
       undecided = λ e. absurd (too_large_is_no_failure e);
       leaves = g.1;
     })
-settles_found found.More bounds scanned scan step old new before room longest f fresh g = absurd g
+settles_found found.More bounds scanned scan step old new before room longest f fresh known g = absurd g
 
 at_no_rest : {A : Type 0} (f : List ℕ → A) (text rest : List ℕ) → rest ≡ [] → f (text ++ rest) ≡ f text
 at_no_rest f text rest none = ap (λ (t : List ℕ). f (text ++ t)) none ∙ ap f (append-nil text)
@@ -96,7 +100,7 @@ at_no_rest f text rest none = ap (λ (t : List ℕ). f (text ++ t)) none ∙ ap 
 -- what is found at the end of the source
 pub settles_last : (f : Found) (bounds : Bounds) (step : LineStep) (old new : Reading) (before after : Option (List ℕ))
     → bounds.room ≡ old.room → bounds.longest ≡ old.longest → length old.held ≤ old.room → FindsLast f bounds old.held
-    → GivesFound f step old new → after ≡ before → IfSome before (λ left. left ≡ []) → Settles step old new before after
+    → GivesFound f step (record old { ended = true }) new → after ≡ before → IfSome before (λ left. left ≡ []) → Settles step old new before after
 settles_last (found.Line count lines) bounds step old new before after room longest fits l g same none =
     let all : take count old.held ≡ old.held = take_all count old.held (omega (arith, l.whole)) in
     subst (λ s. Settles s old new before after) (sym g.0)
@@ -104,6 +108,7 @@ settles_last (found.Line count lines) bounds step old new before after room long
       unread = same;
       ended = true;
       at_end = λ _. rw same none;
+      remembers = λ _. refl;
       exact = λ _ rest end. sym (at_no_rest (reader_answer old.room old.longest) old.held rest (end refl) ∙ (rw (room, longest) at l.answer));
       undecided = λ e. absurd (line_is_no_failure e);
       leaves = hands_out old count lines true (omega (arith, l.whole)) (omega (arith, l.whole)) (omega (arith, l.whole))
@@ -115,6 +120,7 @@ settles_last found.TooLong bounds step old new before after room longest fits f 
       unread = same;
       ended = true;
       at_end = λ _. rw same none;
+      remembers = λ _. refl;
       exact = λ _ rest end. sym (at_no_rest (reader_answer old.room old.longest) old.held rest (end refl) ∙ (rw (room, longest) at f));
       undecided = λ e. absurd (too_long_is_no_failure e);
       leaves = g.1;
@@ -146,6 +152,7 @@ Sofar-none old before = record {
   leaves = ap (λ (t : List ℕ). record old { held = t; raw = [] }) (sym (append-nil old.held));
   needed = nothing_came;
   unread = λ _. refl;
+  quiet = λ _. refl;
 }
 
 -- one more turn that reads
@@ -161,6 +168,7 @@ Sofar-more old now new before between after s r =
       unread = λ h.
           let same : old.held ++ s.bytes ≡ old.held = ap (λ (t : List ℕ). old.held ++ t) (s.unread h) ∙ append-nil old.held in
           absurd (both_ways (holds_line (old.held ++ s.bytes)) q.unfinished (ap holds_line same ∙ h));
+      quiet = λ h. absurd (both_ways old.ended q.going h);
     }
 
 -- turns that read, and then one that answers
@@ -174,6 +182,7 @@ Sofar-settled step old now new before between after s r =
       needed = s.needed;
       ended = q.ended;
       at_end = q.at_end;
+      remembers = λ h. (q.remembers h, s.quiet h);
       exact = q.exact;
       undecided = q.undecided;
       leaves = leaves_of step (record old { held = old.held ++ s.bytes; raw = [] }) new q.ended old.raw q.leaves;

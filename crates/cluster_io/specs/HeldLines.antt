@@ -59,6 +59,7 @@ pub record ReadsOn (old new : Reading) (before after : Option (List ℕ)) : Type
   pub small : length bytes ≤ 4096
   pub taken : TakesBytes before bytes after
   pub unfinished : holds_line old.held ≡ false
+  pub going : old.ended ≡ false
   pub leaves : new ≡ record old { held = old.held ++ bytes; raw = [] }
   pub in_room : length new.held ≤ old.room + 1
 
@@ -67,6 +68,7 @@ pub record Settles (step : LineStep) (old new : Reading) (before after : Option 
   pub unread : after ≡ before
   pub ended : Bool
   pub at_end : ended ≡ true → IfSome after (λ left. left ≡ [])
+  pub remembers : old.ended ≡ true → ended ≡ true
   pub exact : step ≢ Failed → (rest : List ℕ) → (ended ≡ true → rest ≡ []) → step ≡ reader_answer old.room old.longest (old.held ++ rest)
   pub undecided : step ≡ Failed → IsUndecided old.room old.longest old.held
   pub leaves : Leaves step old new ended
@@ -83,3 +85,4 @@ pub record Sofar (old now : Reading) (before between : Option (List ℕ)) : Type
   pub leaves : now ≡ record old { held = old.held ++ bytes; raw = [] }
   pub needed : CameBy old.held bytes
   pub unread : holds_line old.held ≡ true → bytes ≡ []
+  pub quiet : old.ended ≡ true → bytes ≡ []

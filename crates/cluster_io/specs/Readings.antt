@@ -8,7 +8,8 @@ use Rattle.cluster_io.specs.declared.line_step.LineStep.TheVariants.{Line, End, 
 
 -- a reader of lines: the bytes that it took and didn't hand out, the line that its last call handed out, the number of the
 -- line that it handed out last, the number of the first line that it holds, how many of the bytes not handed out lie within its
--- limit, how many bytes a line may have without line ends, and the answer that it gives from now on, where it gives one
+-- limit, how many bytes a line may have without line ends, the answer that it gives from now on, where it gives one, and whether
+-- the source has ended
 pub record Reading : Type 0 where
   pub held : List ℕ
   pub raw : List ℕ
@@ -17,6 +18,7 @@ pub record Reading : Type 0 where
   pub room : ℕ
   pub longest : ℕ
   pub stop : Option LineStep
+  pub ended : Bool
 
 -- a line is handed out: it is the first logical line of what was held, whatever follows, or the last one at the end of the source
 pub record HandsOut (old new : Reading) (ended : Bool) : Type 0 where
@@ -30,14 +32,15 @@ pub record HandsOut (old new : Reading) (ended : Bool) : Type 0 where
     number = old.next;
     next = old.next + length (physical_lines new.raw);
     room = old.room - length new.raw;
+    ended = ended;
   }
 
 -- what an answer leaves of what was held. Only a line is handed out, and only of a line that is too long or too large no more is said
 abbrev pub Leaves : LineStep → Reading → Reading → Bool → Type 0
 Leaves Line old new ended = HandsOut old new ended
-Leaves End old new ended = (new ≡ record old { raw = [] }) × (old.held ≡ []) × (ended ≡ true)
-Leaves Failed old new ended = (new ≡ record old { raw = [] }) × (holds_line old.held ≡ false)
-Leaves step old new ended = new ≡ record old { raw = []; stop = Some step }
+Leaves End old new ended = (new ≡ record old { raw = []; ended = true }) × (old.held ≡ []) × (ended ≡ true)
+Leaves Failed old new ended = (new ≡ record old { raw = [] }) × (holds_line old.held ≡ false) × (ended ≡ false)
+Leaves step old new ended = new ≡ record old { raw = []; stop = Some step; ended = ended }
 
 -- these bytes came by reads, each of which was made where no whole line was held, and gave at least one byte and at most 4,096
 pub data CameBy (held : List ℕ) : List ℕ → Type 0 where
@@ -46,13 +49,14 @@ pub data CameBy (held : List ℕ) : List ℕ → Type 0 where
       → bytes ≡ earlier ++ last → CameBy held bytes
 
 -- an answer: the bytes that were taken from the source, whether it has ended, and the answer to what is held then, whatever follows. Where the source
--- failed, what is held then gives no answer yet
+-- failed, what is held then gives no answer yet. Once the source has ended, nothing more is taken from it
 pub record ReaderAnswered (step : LineStep) (old new : Reading) (before after : Option (List ℕ)) : Type 0 where
   pub bytes : List ℕ
   pub taken : TakesBytes before bytes after
   pub needed : CameBy old.held bytes
   pub ended : Bool
   pub at_end : ended ≡ true → IfSome after (λ left. left ≡ [])
+  pub remembers : old.ended ≡ true → (ended ≡ true) × (bytes ≡ [])
   pub exact : step ≢ Failed → (rest : List ℕ) → (ended ≡ true → rest ≡ [])
       → step ≡ reader_answer old.room old.longest ((old.held ++ bytes) ++ rest)
   pub undecided : step ≡ Failed → IsUndecided old.room old.longest (old.held ++ bytes)

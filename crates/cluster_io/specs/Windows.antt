@@ -1,16 +1,17 @@
 -- What contracts see of a window of bytes, and what a read into it left.
-use Rattle.std.specs.Prelude.{◌≡◌, ℕ, ◌+◌, ◌≤◌, ◌<◌, Option, List, [], ◌++◌, length, take, IfSome}
+use Rattle.std.specs.Prelude.{◌≡◌, ℕ, ◌+◌, ◌≤◌, ◌<◌, Bool, true, false, Option, List, [], ◌++◌, length, take, IfSome}
 use Rattle.cluster_io.specs.Streams.{TakesBytes}
 use Rattle.cluster_io.specs.declared.source.ReadStep.{ReadStep}
 use Rattle.cluster_io.specs.declared.source.ReadStep.TheVariants as read
 
--- the piece that was handed out last, the bytes that are held behind it, how many bytes lie before these, and
--- for how many there is room
+-- the piece that was handed out last, the bytes that are held behind it, how many bytes lie before these, for how
+-- many there is room, and whether the source has ended
 pub record Pane : Type 0 where
   pub handed : List ℕ
   pub held : List ℕ
   pub before : ℕ
   pub room : ℕ
+  pub ended : Bool
 
 -- some bytes, at least one, came behind what was held
 pub record BytesCame (most : ℕ) (old new : List ℕ) (before after : Option (List ℕ)) : Type 0 where
@@ -25,6 +26,11 @@ abbrev pub Received : ReadStep → ℕ → List ℕ → List ℕ → Option (Lis
 Received (read.Got _) most old new before after = BytesCame most old new before after
 Received read.End most old new before after = (new ≡ old) × (after ≡ before) × IfSome before (λ left. left ≡ [])
 Received read.Failed most old new before after = (new ≡ old) × (after ≡ before)
+
+-- the source has ended
+abbrev pub is_end : ReadStep → Bool
+is_end read.End = true
+is_end _ = false
 
 -- the bytes up to a place, and behind it those that a read gave
 abbrev pub reached : ReadStep → ℕ → List ℕ → List ℕ

@@ -1,4 +1,4 @@
-ghost use Rattle.std.specs.Prelude.{◌≡◌, ◌≢◌, ℕ, ◌+◌, ◌*◌, ◌^◌, ◌≤◌, ◌<◌, None, Some, true, [], length, IfOk};
+ghost use Rattle.std.specs.Prelude.{◌≡◌, ◌≢◌, ℕ, ◌+◌, ◌*◌, ◌^◌, ◌≤◌, ◌<◌, None, Some, true, false, [], length, IfOk, IfSome};
 ghost use Rattle.cluster_io.specs.Streams.{Rose};
 ghost use Rattle.cluster_io.specs.NextLine.{holds_line};
 ghost use Rattle.cluster_io.specs.HeldLines.{MayGiveFound, GivesFound, Stops, Turned};
@@ -46,6 +46,7 @@ impl Model for HeldLines {
       room = h.bounds.room;
       longest = h.bounds.longest;
       stop = h.stop;
+      ended = h.window.ended;
     } };
 
     ghost invariant = { λ h. OrderlyScan h.window h.scan h.bounds h.next h.stop };
@@ -67,6 +68,7 @@ impl HeldLines {
           room = limit;
           longest = longest;
           stop = None;
+          ended = false;
         }) }
     {
         let line = longest.saturating_mul(3).saturating_add(1).min(limit);
@@ -139,11 +141,13 @@ impl HeldLines {
     }
 
     /// Looks for the next line in what is held. Where it isn't whole there, makes one read, and
-    /// answers None where that gave bytes.
+    /// answers None where that gave bytes. Once the source has ended, it makes none.
     pub(crate) fn turn<S: Source>(&mut self, src: &mut S) -> Option<LineStep>
         requires empty { self.old.raw ≡ [] }
+        requires at_end { self.old.ended ≡ true → IfSome (S.left src.old) (λ left. left ≡ []) }
         ensures turned { Turned result self.old self.new (S.left src.old) (S.left src.new) }
         ensures untouched { holds_line self.old.held ≡ true → src.new ≡ src.old }
+        ensures quiet { self.old.ended ≡ true → src.new ≡ src.old }
         ensures count { S.faults src.old ≤ S.faults src.new }
         ensures cause { result ≡ Some LineStep.Failed → Rose (S.faults src.old) (S.faults src.new) }
         ensures no_failure { S.counts_only_failures ≡ true → result ≢ Some LineStep.Failed →

@@ -1,4 +1,5 @@
-ghost use Rattle.std.specs.Prelude.{◌≡◌, ◌≢◌, ℕ, ◌^◌, ◌≤◌, ◌<◌, None, Some, true, [], IfOk};
+ghost use Rattle.std.specs.Prelude.{◌≡◌, ◌≢◌, ℕ, ◌^◌, ◌≤◌, ◌<◌, None, Some, true, false, [], IfOk};
+ghost use Rattle.std.specs.Option.{ForSome};
 ghost use Rattle.cluster_io.specs.Streams.{Rose};
 ghost use Rattle.cluster_io.specs.NextLine.{holds_line};
 ghost use Rattle.cluster_io.specs.Readings.{ReaderAnswered, TellsAnswer};
@@ -12,11 +13,12 @@ use std::alloc::Global;
 /// A comment and a line of blanks are logical lines here.
 ///
 /// It reads only where it holds no whole logical line, at most 4,096 bytes at a time, and looks at
-/// each byte that it holds a few times at most.
+/// each byte that it holds a few times at most. Once the source has ended, it never reads again.
 #[derive(Drop)]
 pub struct LineReader<'s, S: Source> {
     src: &'s mut S,
     lines: HeldLines,
+    ghost at_end: { lines.ended ≡ true → ForSome (S.left src.now) (λ left. left ≡ []) },
 }
 
 impl<'s, S: Source> LineReader<'s, S> {
@@ -40,6 +42,7 @@ impl<'s, S: Source> LineReader<'s, S> {
           room = limit;
           longest = longest;
           stop = None;
+          ended = false;
         }) }
         ensures source { IfOk result (λ reader. source_of reader ≡ src.old) }
         ensures same_source { IfOk result (λ reader. loan_of reader ≡ src.entry.ghost_name) }
@@ -49,8 +52,10 @@ impl<'s, S: Source> LineReader<'s, S> {
     }
 
     /// A reader of the source with memory that was taken before. `new` does both; apart, a caller
-    /// knows that the source is as it was when memory runs out.
+    /// knows that the source is as it was when memory runs out. It asks for memory that no reader has
+    /// used.
     pub fn over(src: &'s mut S, lines: HeldLines) -> LineReader<'s, S>
+        requires { lines.ended ≡ false }
         ensures reading { reading_of result ≡ lines }
         ensures source { source_of result ≡ src.old }
         ensures same_source { loan_of result ≡ src.entry.ghost_name }
@@ -71,7 +76,7 @@ impl<'s, S: Source> LineReader<'s, S> {
     ///
     /// - `Line`: `raw` gives it, and `number` says where it begins. The last line may lack its line
     ///   end.
-    /// - `End`: no byte is held, and the source has ended.
+    /// - `End`: no byte is held, and the source has ended. Each further call answers the same.
     /// - `TooLong`: within the limit the line has more than `longest` bytes without line ends. A
     ///   carriage return at the limit belongs to the line end if its line feed comes just past it.
     ///   Each further call answers the same.
@@ -90,6 +95,9 @@ impl<'s, S: Source> LineReader<'s, S> {
             × (source_of self.new ≡ source_of self.old) }
         ensures unread { holds_line (reading_of self.old).held ≡ true →
             source_of self.new ≡ source_of self.old }
+
+        // Once the source has ended, nothing more is asked of it.
+        ensures quiet { (reading_of self.old).ended ≡ true → source_of self.new ≡ source_of self.old }
         ensures count { S.faults (source_of self.old) ≤ S.faults (source_of self.new) }
         ensures cause { result ≡ LineStep.Failed →
             Rose (S.faults (source_of self.old)) (S.faults (source_of self.new)) }

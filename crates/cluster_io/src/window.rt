@@ -1,19 +1,20 @@
-ghost use Rattle.std.specs.Prelude.{◌≡◌, ◌≢◌, ℕ, ◌+◌, ◌≤◌, ◌<◌, true, [], length, take, drop, IfOk};
+ghost use Rattle.std.specs.Prelude.{◌≡◌, ◌≢◌, ℕ, ◌+◌, ◌≤◌, ◌<◌, true, false, [], length, take, drop, IfOk, IfSome};
 ghost use Rattle.cluster_io.specs.Streams.{Rose};
-ghost use Rattle.cluster_io.specs.Windows.{Received, reached};
+ghost use Rattle.cluster_io.specs.Windows.{Received, is_end, reached};
 
 use crate::{NoMemory, ReadStep, Source};
 use std::alloc::Global;
 use std::marker::Model;
 
 /// The bytes that were taken from a source and not handed out, and before them the piece that was
-/// handed out last. All of its memory is taken at once.
+/// handed out last. It remembers the end of the source. All of its memory is taken at once.
 #[derive(Drop)]
 pub(crate) struct Window {
     bytes: Vec<u8>,
     handed: usize,
     start: usize,
     end: usize,
+    ended: bool,
 }
 
 impl Model for Window {
@@ -27,6 +28,7 @@ impl Model for Window {
       held = slice_range w.bytes.items w.start w.end;
       before = w.start;
       room = vec_len w.bytes;
+      ended = w.ended;
     } };
 
     ghost invariant = { λ w. (w.handed ≤ w.start) × (w.start ≤ w.end) × (w.end ≤ vec_len w.bytes) };
@@ -38,12 +40,14 @@ impl Window {
         ensures held { IfOk result (λ w. w.held ≡ []) }
         ensures handed { IfOk result (λ w. w.handed ≡ []) }
         ensures room { IfOk result (λ w. w.room ≡ room) }
+        ensures ended { IfOk result (λ w. w.ended ≡ false) }
     {
         Ok(Window {
             bytes: vec![in alloc; 0; room]?,
             handed: 0,
             start: 0,
             end: 0,
+            ended: false,
         })
     }
 
@@ -74,6 +78,7 @@ impl Window {
         ensures handed { self.new.handed ≡ take count self.old.held }
         ensures held { self.new.held ≡ drop count self.old.held }
         ensures room { self.new.room ≡ self.old.room }
+        ensures ended { self.new.ended ≡ self.old.ended }
     {
         self.handed = self.start;
         self.start += count;
@@ -86,6 +91,7 @@ impl Window {
         ensures held { self.new.held ≡ self.old.held }
         ensures before { self.new.before ≡ 0 }
         ensures room { self.new.room ≡ self.old.room }
+        ensures ended { self.new.ended ≡ self.old.ended }
     {
         if self.start == 0 {
             return;
@@ -97,23 +103,34 @@ impl Window {
         self.end = end - start;
     }
 
-    /// Makes one read, for at most so many bytes, behind what is held.
+    /// Makes one read, for at most so many bytes, behind what is held. Once the source has ended, it
+    /// answers so without a read.
     pub(crate) fn read_from<S: Source>(&mut self, src: &mut S, most: usize) -> ReadStep
         requires some { 0 < most }
         requires fits { length self.old.held + most ≤ self.old.room }
+        requires at_end { self.old.ended ≡ true → IfSome (S.left src.old) (λ left. left ≡ []) }
         ensures received { Received result most self.old.held self.new.held (S.left src.old) (S.left src.new) }
         ensures handed { self.new.handed ≡ [] }
         ensures room { self.new.room ≡ self.old.room }
+        ensures ended { self.new.ended ≡ is_end result }
+        ensures quiet { self.old.ended ≡ true → src.new ≡ src.old }
+        ensures going { result ≢ ReadStep.End → self.old.ended ≡ false }
         ensures count { S.faults src.old ≤ S.faults src.new }
         ensures cause { result ≡ ReadStep.Failed → Rose (S.faults src.old) (S.faults src.new) }
         ensures no_failure { S.counts_only_failures ≡ true → result ≢ ReadStep.Failed →
             S.faults src.new ≡ S.faults src.old }
     {
+        if self.ended {
+            self.forget();
+            return ReadStep::End;
+        }
         self.move_to_front();
         let end = self.end;
         let step = read_behind(src, self.bytes.as_mut_slice(), end, most);
-        if let ReadStep::Got(count) = step {
-            self.end = end + count;
+        match step {
+            ReadStep::Got(count) => self.end = end + count,
+            ReadStep::End => self.ended = true,
+            ReadStep::Failed => {}
         }
         step
     }

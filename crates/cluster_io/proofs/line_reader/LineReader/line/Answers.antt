@@ -1,5 +1,7 @@
-use Rattle.std.proofs.Common.{◌∙◌, arith}
+use Rattle.std.proofs.Common.{◌∙◌, ap, arith}
+use Rattle.std.proofs.lemmas.Bool.{both_ways}
 use Rattle.std.proofs.lemmas.Grind.{common_steps}
+use Rattle.cluster_io.specs.Readings.{Reading}
 use Rattle.cluster_io.proofs.Turns.{Sofar-more, held_so_far}
 use Rattle.cluster_io.proofs.line_reader.LineReader.line.Goals as goal
 
@@ -12,6 +14,9 @@ loop-step-preserved g c =
       going = c.loop-step.invariant.going;
       empty = grind (arith, common_steps);
       unread = λ h. c.in_default-turn.ensures.untouched (held_so_far _ _ _ _ so h) ∙ c.loop-step.invariant.unread h;
+      quiet = λ h.
+          c.in_default-turn.ensures.quiet (ap (λ (r : Reading). r.ended) so.leaves ∙ h) ∙ c.loop-step.invariant.quiet h;
+      at_end = λ h. absurd (both_ways _ (ap (λ (r : Reading). r.ended) went.leaves ∙ went.going) h);
       count = omega arith;
       no_failure = λ alone. c.in_default-turn.ensures.no_failure alone (λ failed. cc) ∙ c.loop-step.invariant.no_failure alone;
       same_source = grind (arith, common_steps);
