@@ -7,7 +7,7 @@ use std::process::Abort;
 
 const MOMENT: u64 = 1000;
 
-fn name(rt: &impl Abort, alloc: Global, bytes: &[u8]) -> Name {
+fn name_of(rt: &impl Abort, alloc: Global, bytes: &[u8]) -> Name {
     Name::from_bytes(alloc, bytes).expect(rt, "memory")
 }
 
@@ -31,8 +31,8 @@ fn attributes(rt: &impl Abort, alloc: Global) -> Vec<Pair> {
     for (name, value) in ATTRIBUTES {
         pairs
             .push(Pair {
-                name: name(rt, alloc, name),
-                value: name(rt, alloc, value),
+                name: name_of(rt, alloc, name),
+                value: name_of(rt, alloc, value),
             })
             .expect(rt, "memory");
     }
@@ -105,10 +105,10 @@ const COMPARISONS: &[Comparison] = &[
 /// Whether the test of such a row passes.
 fn compares(rt: &impl Abort, alloc: Global, (name, compare, kind, value, _): &Comparison) -> bool {
     let test = Test::Attribute {
-        name: name(rt, alloc, name),
+        name: name_of(rt, alloc, name),
         compare: *compare,
         kind: *kind,
-        value: name(rt, alloc, value),
+        value: name_of(rt, alloc, value),
     };
     test_passes(rt, alloc, test)
 }
@@ -124,12 +124,12 @@ fn comparisons(rt: HostRuntime) {
 const NAMES: &[(&[u8], bool)] = &[(b"rack", true), (b"missing", false), (b"#uname", true)];
 
 fn is_defined(rt: &impl Abort, alloc: Global, name: &[u8]) -> bool {
-    let name = name(rt, alloc, name);
+    let name = name_of(rt, alloc, name);
     test_passes(rt, alloc, Test::Defined { name })
 }
 
 fn is_not_defined(rt: &impl Abort, alloc: Global, name: &[u8]) -> bool {
-    let name = name(rt, alloc, name);
+    let name = name_of(rt, alloc, name);
     test_passes(rt, alloc, Test::NotDefined { name })
 }
 

@@ -91,7 +91,7 @@ module _ (c : Cluster) (es : List Event) (targets : Targets) where
           allowed = g.allowed;
           uncloned = g.uncloned;
           plain = g.plain;
-          is_undisturbed =
+          is_free =
               free_is r b.0
               ∙ is_free_where c es targets touched known r ordered joined record { orders = g.orders; colocations = g.colocations };
           within = b.1;

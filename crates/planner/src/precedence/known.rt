@@ -31,7 +31,7 @@ pub(crate) struct Known<'c> {
     pub(crate) ghost thens: { All (λ (o : OrderOf). o.then_leaf < length cluster.now.leaves) cluster.now.orders },
     pub(crate) ghost short: { length actions.now ≤ 2000000000 },
     pub(crate) ghost few: { most_edges cluster.now actions.now ≤ 2000000000 },
-    pub(crate) ghost inside: { (a : ActionOf) → Contains actions.now a → IsWithin cluster.now a } by { all_within_prop cluster.now actions.now },
+    pub(crate) ghost inside: { (a : ActionOf) → Contains actions.now a → IsActionWithin cluster.now a } by { all_within_prop cluster.now actions.now },
     pub(crate) ghost in_order: { AllPairs (λ x y. is_earlier cluster.now actions.now x y ≡ true) actions.now },
     pub(crate) ghost flagged: { AreMigrating actions.now migrating.now },
     pub(crate) ghost indexed: { IsIndex actions.now (length cluster.now.leaves) index.now },
