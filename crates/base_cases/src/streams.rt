@@ -1,6 +1,6 @@
 //! What `cluster_io` reads and writes, over readers and writers that are interrupted or fail.
 
-ghost use Rattle.std.specs.Prelude.{◌<◌};
+ghost use Rattle.std.specs.Prelude.{◌≡◌, ◌<◌, false};
 
 use cluster_io::{
     HeldLines, LineReader, LineStep, MemorySink, MemorySource, NoMemory, ReadEnd, ReadStep, Sink,
@@ -246,7 +246,9 @@ fn failures_at(
 }
 
 /// Empty lines to read into, of this limit and this longest line.
-fn held_lines(rt: &impl Abort, alloc: Global, (limit, longest): (usize, usize)) -> HeldLines {
+fn held_lines(rt: &impl Abort, alloc: Global, (limit, longest): (usize, usize)) -> HeldLines
+    ensures { result.ended ≡ false }
+{
     assert!(rt; limit < 1 << 32);
     HeldLines::new(alloc, limit, longest).expect(rt, "memory")
 }
@@ -273,12 +275,15 @@ fn needed_reads(text: &[u8], end: LineStep, step: usize) -> usize
     }
 }
 
-/// Whether so many failures are told where this read fails: one if it is among those that must be made.
-fn are_told(failures: Option<u32>, failing: u32, needed: usize) -> bool {
+/// Whether so many failures are told where this read fails: one if it is among those that must be made. Behind the end of
+/// the source none is made.
+fn are_told(failures: Option<u32>, failing: u32, needed: usize, end: LineStep) -> bool {
     if failing == 0 {
         failures == Some(0)
     } else if failing as usize <= needed {
         failures == Some(1)
+    } else if end == LineStep::End {
+        failures == Some(0)
     } else {
         matches!(failures, Some(0 | 1))
     }
@@ -293,7 +298,7 @@ fn reads_lines(rt: &impl Abort, alloc: Global, case: &Case) {
         let needed = needed_reads(case.0, case.3, *step);
         for failing in 0..12 {
             let found = failures(rt, alloc, case, *step, failing);
-            assert!(rt; are_told(found, failing, needed), "{step} {failing}");
+            assert!(rt; are_told(found, failing, needed, case.3), "{step} {failing}");
         }
     }
 }

@@ -136,7 +136,19 @@ const ROWS: &[Row] = &[
             (Next::Silent, 2, Some(LineStop::ReadFault)),
         ],
     ),
+    // The second read finds the end, and a third would fail.
+    (
+        "end 1 7",
+        1000,
+        &[3],
+        &[
+            (END_1, 1, None),
+            (Next::Silent, 1, None),
+            (Next::Silent, 1, None),
+        ],
+    ),
     ("", 0, &[], &[(Next::Silent, 0, None)]),
+    ("", 0, &[2], &[(Next::Silent, 0, None), (Next::Silent, 0, None)]),
 ];
 
 /// The next question brings this.

@@ -1,5 +1,5 @@
 -- The steps of the word `replay`: the head of its input, and the run behind it. No public clause cites this module (rule of this project).
-use Rattle.std.specs.Prelude.{◌≡◌, ℕ, ◌<◌, Option, Some, None, List, [], ◌++◌, length, IfSome}
+use Rattle.std.specs.Prelude.{◌≡◌, ℕ, ◌<◌, false, Option, Some, None, List, [], ◌++◌, length, IfSome}
 use Rattle.cluster_io.specs.Readings.{Reading}
 use Rattle.cluster_io.specs.Streams.{Adds, AddsPrefix}
 use Rattle.live_run.specs.Heads as heads
@@ -21,7 +21,7 @@ use Rattle.sim_core.specs.Replay.{IsBegun, IsHeadFault, head_in}
 
 -- a reader from which nothing was read yet
 abbrev pub fresh : Reading
-fresh = record { held = []; raw = []; number = 0; next = 1; room = most_bytes; longest = longest_line; stop = None }
+fresh = record { held = []; raw = []; number = 0; next = 1; room = most_bytes; longest = longest_line; stop = None; ended = false }
 
 -- the head was read to its end, and says this. Behind it the reader holds some bytes, and the source has the others
 pub record IsBehind (input : List ℕ) (head : Head) (reading : Reading) (left : Option (List ℕ)) : Type 0 where

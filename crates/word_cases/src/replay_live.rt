@@ -118,6 +118,16 @@ fn a_source_that_fails_behind_the_head(rt: HostRuntime) {
     assert_replayed(&rt, alloc, paces, &input, Status::ReadFault, &text);
 }
 
+/// The second read finds the end, and a third would fail: in the head, and behind a last line without a line feed.
+#[test]
+fn a_source_that_would_fail_behind_its_end(rt: HostRuntime) {
+    let alloc = rt.alloc();
+    let paces = (failing(4096, &[3]), EASY);
+    assert_replayed(&rt, alloc, paces, HEAD, Status::Done, RUN);
+    let input = format!(in alloc; "{HEAD}%results\nend 1 7").expect(&rt, "memory");
+    assert_replayed(&rt, alloc, paces, &input, Status::Done, RUN);
+}
+
 /// The first write that fails ends the call, and each line is one write.
 #[test]
 fn a_sink_that_fails_at_the_fourth_line(rt: HostRuntime) {
