@@ -170,6 +170,8 @@ def try_lifetimes():
                     f"<rsc_colocation id='l' rsc='vm1' with-rsc='db' score='1'>{lifetime}</rsc_colocation>"):
             _, lines, said = collected(cib(xml))
             expect(f"a lifetime until {text}", len(lines) == stays and not any("lifetime" in line for line in lines), said)
+    unknown = f"<rsc_location id='l' rsc='vm1' node='n1' score='1'><lifetime>{rule(spec(moon='0'))}</lifetime></rsc_location>"
+    expect("a lifetime that isn't known", collected(cib(unknown))[1] == ["location l vm1 1: n1 lifetime"], collected(cib(unknown))[2])
 
 
 STATE = ("<node_state uname='{0}' in_ccm='true' crmd='online' join='member' expected='member'><lrm><lrm_resources>{1}</lrm_resources></lrm>"

@@ -34,6 +34,11 @@ def in_standby(node):
     return lambda cib, cluster, _: set_attribute(cib, getattr(cluster, node), "standby", "on")
 
 
+def passive_in_maintenance_and_active_lost(cib, cluster, _):
+    set_attribute(cib, cluster.passive, "maintenance", "on")
+    leave(cib, cluster.active, "member")
+
+
 def returned(node):
     """The node left cleanly, what it ran was taken over by the others, and it is back."""
     def change(cib, cluster, settle):
@@ -103,6 +108,7 @@ def has_fences(cluster):
 
 SAME = "at rest; a node lost or cleanly down, with fencing and without; no quorum; maintenance-mode; target-role=Stopped"
 OTHERS = "a monitor ends with 1; a failed stop; demote by target-role; ping lost; terminate; unmanaged; a clone in maintenance"
+MAINTENANCE = "a node in maintenance; the same while another is lost"
 
 # Each event: the row that it counts in, its name, whether a cluster has it, and its change.
 EVENTS = [
@@ -122,6 +128,8 @@ EVENTS = [
     (OTHERS, "terminate", has_fences, lambda cib, cluster, _: set_transient(cib, cluster.active, "terminate", "true")),
     (OTHERS, "unmanaged", always, lambda cib, cluster, _: set_meta(cib, cluster.moved, "is-managed", "false")),
     (OTHERS, "clone in maintenance", of("clone"), lambda cib, cluster, _: set_meta(cib, cluster.clone, "maintenance", "true")),
+    (MAINTENANCE, "active node in maintenance", always, lambda cib, cluster, _: set_attribute(cib, cluster.active, "maintenance", "on")),
+    (MAINTENANCE, "passive node in maintenance, active node lost", always, passive_in_maintenance_and_active_lost),
     ("standby of the active node", "standby of the active node", always, in_standby("active")),
     ("standby of the passive node", "standby of the passive node", always, in_standby("passive")),
     ("shutdown of a node", "shutdown of the active node", always, shutting_down("active")),

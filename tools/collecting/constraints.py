@@ -8,9 +8,12 @@ def constraints(cib):
     """All constraints, each a list of words."""
     for element in cib.all("constraints/*"):
         make = {"rsc_location": locations, "rsc_colocation": colocations, "rsc_order": orders}.get(element.tag)
-        if not is_alive(cib, element):
+        is_alive = lives(cib, element)
+        if is_alive is False:
             continue
         made = list(make(cib, element)) if make else [[element.tag, element.get("id", "")]]
+        if is_alive is None:
+            made = [words + ["lifetime"] for words in made]
         if not made:
             cib.notes.add(f"left out: {element.get('id')}; it says nothing")
         if len(made) > 1:
@@ -19,13 +22,10 @@ def constraints(cib):
             yield words if len(made) == 1 else [words[0], f"{words[1]}-{number}"] + words[2:]
 
 
-def is_alive(cib, element):
-    """Whether the lifetime of a constraint isn't over; one of which that isn't known stays, to be refused."""
+def lives(cib, element):
+    """Whether the lifetime of a constraint isn't over; nothing where that isn't known."""
     lifetime = element.find("lifetime")
-    counts = True if lifetime is None else cib.counts(lifetime)
-    if counts is None:
-        element.tag = "lifetime"
-    return counts is not False
+    return True if lifetime is None else cib.counts(lifetime)
 
 
 def with_role(name, role):

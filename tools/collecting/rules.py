@@ -151,7 +151,7 @@ def flat(rule):
     """The tests of a rule, and of rules in it that are joined as it is or have one test; other rules stay as one."""
     for element in rule:
         inner = list(flat(element)) if element.tag == "rule" else []
-        if element.tag == "rule" and (len(inner) == 1 or is_any(element) == is_any(rule) or len(list(rule)) == 1 and not inner):
+        if len(inner) == 1 or inner and is_any(element) == is_any(rule):
             yield from inner
         else:
             yield element
