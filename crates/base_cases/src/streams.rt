@@ -246,9 +246,10 @@ fn failures_at(
 }
 
 /// Empty lines to read into, of this limit and this longest line.
-fn held_lines(rt: &impl Abort, alloc: Global, (limit, longest): (usize, usize)) -> HeldLines
+fn held_lines(rt: &impl Abort, alloc: Global, bounds: (usize, usize)) -> HeldLines
     ensures { result.ended ≡ false }
 {
+    let (limit, longest) = bounds;
     assert!(rt; limit < 1 << 32);
     HeldLines::new(alloc, limit, longest).expect(rt, "memory")
 }
@@ -298,7 +299,10 @@ fn reads_lines(rt: &impl Abort, alloc: Global, case: &Case) {
         let needed = needed_reads(case.0, case.3, *step);
         for failing in 0..12 {
             let found = failures(rt, alloc, case, *step, failing);
-            assert!(rt; are_told(found, failing, needed, case.3), "{step} {failing}");
+            assert!(rt;
+                are_told(found, failing, needed, case.3),
+                "{step} {failing}"
+            );
         }
     }
 }
