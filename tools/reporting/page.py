@@ -23,9 +23,10 @@ def page(title, lead, sections):
     script = part("page.js")
     digest = base64.b64encode(hashlib.sha256(script.encode()).digest()).decode()
     links = joined([tag("li", tag("a", head, href=f"#{key}")) for key, head, _ in sections])
-    body = joined([tag("section", tag("h2", head, id=f"{key}-title"), inside, id=key, aria_labelledby=f"{key}-title") for key, head, inside in sections], "\n")
-    return Template(part("page.html")).substitute(title=text(title), lead=lead, links=links, body=body, style=part("page.css"), script=script,
-                                                  digest=digest)
+    body = joined([tag("section", tag("h2", head, id=f"{key}-title"), inside, id=key, aria_labelledby=f"{key}-title")
+                   for key, head, inside in sections], "\n")
+    return Template(part("page.html")).substitute(title=text(title), lead=lead, links=links, body=body, digest=digest,
+                                                  style=part("page.css"), script=script)
 
 
 class Sections:
@@ -34,7 +35,7 @@ class Sections:
     def __init__(self, case):
         self.case = case
         own = Doings(case.actions)
-        self.doings = {leaf: doing(case, own, leaf, case.places, case.none, case.pinned) for leaf in case.leaves}
+        self.doings = {leaf: doing(case, own, leaf) for leaf in case.leaves}
         self.timeline = Timeline(case)
         self.losses = [losses.Loss(case, node) for node in case.losses]
 

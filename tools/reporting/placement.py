@@ -28,7 +28,7 @@ def cell(case, resource, node, doing):
     told = f' data-total="{said}"' if said else ""
     if node not in doing.cells:
         return f"<td{told}></td>"
-    word = doing.cells[node][0]
+    word = doing.cells[node]
     if word == "stays" and doing.kind == "left":
         word = "stays as it is"
     return f'<td{told} class="{CLASSES.get(word, "stay")}">{text(word)}</td>'
