@@ -1,5 +1,6 @@
 """What to do about one refusal, beyond the sentence that its cause has: a near name, the values of a key, what to write instead."""
 import difflib
+import functools
 import re
 
 from .faulty import RESOURCES, named
@@ -14,6 +15,12 @@ WITH_SCORE = ("location", "colocation", "collocation", "order")
 
 def near(word, names):
     """The name that the word was probably meant to be, or nothing."""
+    return nearest(word, tuple(names))
+
+
+@functools.lru_cache(maxsize=4096)
+def nearest(word, names):
+    """The same; what is asked again and again is worked out once."""
     lower = {name.lower(): name for name in names}
     found = difflib.get_close_matches(word.lower(), lower, 1, 0.75)
     return lower[found[0]] if found and word not in names else None

@@ -1,4 +1,5 @@
 """The tables beside this folder: causes, what is refused, what is kept without effect, known words."""
+import functools
 import os
 import re
 
@@ -27,6 +28,7 @@ def causes():
     return {row[0]: Cause(*row) for row in rows("causes.tsv")}
 
 
+@functools.lru_cache(maxsize=None)
 def known(place):
     """The known words of a place, as `meta` or `statement`."""
     return [word for row in rows("known.tsv") if row[0] == place for word in row[1].split()]
