@@ -49,7 +49,7 @@ class Sections:
             ("plan", "Plan", plan(self.timeline)),
             ("losses", "Losses", losses.section(case, self.losses)),
             ("run", "Run", runs.section(case)),
-            ("notes", "Notes", told.section(noted, case.source.said)),
+            ("notes", "Notes", told.section(noted, map(hide, case.source.said))),
             ("text", "Configuration", told.canonical(case.configuration.lines, hide)),
         ]
 
@@ -73,5 +73,5 @@ def report_of_refusal(source, hide):
     lead = tag("strong", "The input is refused, so nothing can be said of the cluster.", class_="bad")
     shown = joined([tag("ul", *found, class_="notes")])
     lines = [line.decode("utf-8", "replace") for line in source.data[:1 << 20].split(b"\n")]
-    return page(f"Refused: {source.name}", lead, [("refusals", "Refusals", shown), ("notes", "Notes", told.section([], source.said)),
+    return page(f"Refused: {source.name}", lead, [("refusals", "Refusals", shown), ("notes", "Notes", told.section([], map(hide, source.said))),
                                                   ("text", "Input", told.canonical(lines, hide))])
