@@ -1,6 +1,7 @@
 """What the loss of each node does: a row for each node, and a matrix of all."""
 from .doings import because
 from .markup import Markup, code, count, joined, names, tag, text
+from .placement import wide
 
 
 class Loss:
@@ -77,7 +78,7 @@ def matrix(case, losses):
     rows = [tag("tr", tag("th", code(leaf), scope="row"), Markup("".join(matrix_cell(loss.becomes[leaf]) for loss in losses)),
                 data_find=" ".join(case.configuration.aliases(leaf))) for leaf in case.leaves]
     table = tag("table", tag("caption", "Each resource, and what becomes of it when a node is lost"), head, tag("tbody", *rows), class_="losses")
-    return tag("div", table, class_="wide", tabindex="0", role="region", aria_label="Losses of each resource, a wide table")
+    return tag("div", table, class_=wide(case), tabindex="0", role="region", aria_label="Losses of each resource, a wide table")
 
 
 def section(case, losses):

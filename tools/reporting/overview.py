@@ -1,6 +1,6 @@
 """What a reader wants first: what happens first, what goes where, and what a loss brings down."""
 from .doings import because
-from .markup import Markup, code, count, joined, names, tag, text
+from .markup import code, count, joined, names, tag, text
 from .timeline import duration, label
 
 HEADS = (("moves", "move"), ("starts", "start"), ("restarts", "restart"), ("promotes", "change role"), ("stops", "lose a copy"), ("stays", "stay"),

@@ -6,7 +6,7 @@ from string import Template
 
 from . import change, losses, overview, placement, runs, told
 from .doings import Doings, doing
-from .markup import Markup, joined, tag, text
+from .markup import joined, tag, text
 from .reasons import reason
 from .timeline import Timeline, section as plan
 

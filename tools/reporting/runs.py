@@ -1,6 +1,6 @@
 """The run over the given results: transition after transition, what begins and how it ends."""
 from .case import action, placed
-from .doings import Doings, because, doing
+from .doings import because
 from .markup import Markup, code, count, joined, tag, text
 from .timeline import Bar, label
 

@@ -9,7 +9,7 @@ from explaining.tables import causes
 from explaining.texts import Text
 from showing.program import path
 
-from .markup import Markup, code, count, joined, tag, text
+from .markup import code, count, joined, tag, text
 
 SECRET = re.compile(r"""(?i)((?:^|[\s"'])[\w-]*(?:passw|secret|token|community|private_key)[\w-]*=)("(?:[^"\\]|\\.)*"|'[^']*'|[^\s]*)""")
 HIDDEN = "\u2022\u2022\u2022\u2022\u2022\u2022"
