@@ -18,8 +18,9 @@ def near(word, names):
     return None if word in names else nearest(word, tuple(names))
 
 
-@functools.lru_cache(maxsize=1024)
+@functools.lru_cache(maxsize=4096)
 def nearest(word, names):
+    """The same; what is asked again and again is worked out once."""
     lower = {name.lower(): name for name in names}
     found = difflib.get_close_matches(word.lower(), lower, 1, 0.75)
     return lower[found[0]] if found else None

@@ -2,11 +2,6 @@
 from .markup import code, joined, names, tag, text
 
 
-def where(places, leaf):
-    own = places.get(leaf, {})
-    return joined([joined([code(node), " promoted" if role == "promoted" else ""]) for node, role in own.items()], ", ") or text("no place")
-
-
 def rows(old, new, old_doings, new_doings):
     for leaf in dict.fromkeys([*old.leaves, *new.leaves]):
         before = old_doings[leaf].sentence if leaf in old_doings else text("isn't there")

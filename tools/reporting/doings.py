@@ -14,7 +14,7 @@ def because(reason):
 
 
 class Doing:
-    """What is done with one resource: its kind for a glance, a sentence, and a word for each node that it concerns."""
+    """What is done with one resource: its kind for a glance, a sentence, and a word for each node that has to do with it."""
 
     def __init__(self, kind, sentence, cells):
         self.kind, self.sentence, self.cells = kind, sentence, cells
@@ -37,19 +37,20 @@ class Doings:
 
 
 def cells(own, places, state):
-    """For each node what happens to a resource there: a word, and whether the resource is there when all is done."""
+    """For each node what happens to a resource there, in a word."""
     found = {}
     moved = own.get("migrate_to", [])
     for source, target in moved:
-        found[source], found[target] = ("leaves", False), ("arrives", True)
+        found[source], found[target] = "leaves", "arrives"
     for node in dict.fromkeys(own.get("stop", []) + own.get("start", []) + own.get("demote", []) + own.get("promote", [])):
         if node not in found:
-            found[node] = (verb(node, own), node in places)
+            found[node] = verb(node, own)
     for node, role in places.items():
         if node not in found:
-            found[node] = (("stays promoted" if role == "promoted" else "stays") if state(node) in (RUNS, PROMOTED, MAYBE) else "goes here", True)
+            stays = "stays promoted" if role == "promoted" else "stays"
+            found[node] = stays if state(node) in (RUNS, PROMOTED, MAYBE) else "goes here"
     for node in own.get("probe", []):
-        found.setdefault(node, ("is probed", False))
+        found.setdefault(node, "is probed")
     return found
 
 
@@ -63,8 +64,8 @@ def verb(node, own):
     return "promotes" if promotes else "demotes"
 
 
-def doing(case, doings, resource, places, none, pinned, lost=()):
-    own, targets = doings.of(resource), places.get(resource, {})
+def doing(case, doings, resource):
+    own, targets = doings.of(resource), case.places.get(resource, {})
 
     def state(node):
         return case.status.state(resource, node)
@@ -72,18 +73,18 @@ def doing(case, doings, resource, places, none, pinned, lost=()):
     found = cells(own, targets, state)
     for node in case.configuration.nodes:
         if node not in found and node in doings.fenced and state(node) in (RUNS, PROMOTED, MAYBE):
-            found[node] = ("cut off", False)
-    if resource in pinned:
-        reason = LEFT.get(pinned[resource], pinned[resource])
+            found[node] = "cut off"
+    if resource in case.pinned:
+        reason = LEFT.get(case.pinned[resource], case.pinned[resource])
         return Doing("left", joined(["Is left as it is: ", reason]), found)
     sentence = sentence_of(found, targets)
-    if resource in none:
-        sentence = joined([sentence, "no place: " if sentence else "No place: ", because(none[resource])])
+    if resource in case.none:
+        sentence = joined([sentence, "no place: " if sentence else "No place: ", because(case.none[resource])])
     return Doing(kind_of(found, targets), sentence, found)
 
 
 def kind_of(found, targets):
-    said = {word.split(",")[0] for word, _ in found.values()}
+    said = {word.split(",")[0] for word in found.values()}
     if not targets:
         return "down"
     if said & {"starts", "arrives"} and said & {"stops", "leaves", "cut off"}:
@@ -100,7 +101,7 @@ def kind_of(found, targets):
 def sentence_of(found, targets):
     """One sentence for what happens on all nodes. A single copy that leaves one node for another moves."""
     by_word = {}
-    for node, (word, _) in found.items():
+    for node, word in found.items():
         by_word.setdefault(word, []).append(node)
     by_word.pop("is probed", None)
     come, go = (dict((word, by_word[word]) for word in words if word in by_word)
@@ -110,7 +111,8 @@ def sentence_of(found, targets):
         (to_word, (to,)), (from_word, (source,)) = *come.items(), *go.items()
         verb = "Migrates live" if to_word == "arrives" else "Moves"
         tail = " and is promoted there" if "promotes" in to_word else ""
-        parts.append(joined([verb, " from ", code(source), " to ", code(to), tail, " (its old node is cut off first)" if from_word == "cut off" else ""]))
+        fenced = " (its old node is cut off first)" if from_word == "cut off" else ""
+        parts.append(joined([verb, " from ", code(source), " to ", code(to), tail, fenced]))
         by_word = {word: own for word, own in by_word.items() if word not in come and word not in go}
     for word, own in by_word.items():
         parts.append(joined([said(word), " ", names(own, 4) if len(own) < 5 else count(len(own), "node")]))

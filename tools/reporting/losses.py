@@ -1,6 +1,7 @@
 """What the loss of each node does: a row for each node, and a matrix of all."""
 from .doings import because
 from .markup import Markup, code, count, joined, names, tag, text
+from .placement import wide
 
 
 class Loss:
@@ -56,8 +57,8 @@ def moving(loss):
 def summary_row(loss):
     stays, fewer = len(loss.of("stays")), len(loss.of("fewer"))
     rest = joined([count(stays, "stays", "stay"), f"; {count(fewer, 'clone loses', 'clones lose')} a copy" if fewer else ""])
-    return tag("tr", tag("th", code(loss.node), scope="row"), tag("td", down(loss), class_="down" if loss.of("down") else None), tag("td", moving(loss)), tag("td", rest),
-               data_find=loss.node)
+    gone = tag("td", down(loss), class_="down" if loss.of("down") else None)
+    return tag("tr", tag("th", code(loss.node), scope="row"), gone, tag("td", moving(loss)), tag("td", rest), data_find=loss.node)
 
 
 SHORT = {"stays": "stays", "down": "down", "none": "", "fewer": "fewer copies"}
@@ -77,15 +78,17 @@ def matrix(case, losses):
     rows = [tag("tr", tag("th", code(leaf), scope="row"), Markup("".join(matrix_cell(loss.becomes[leaf]) for loss in losses)),
                 data_find=" ".join(case.configuration.aliases(leaf))) for leaf in case.leaves]
     table = tag("table", tag("caption", "Each resource, and what becomes of it when a node is lost"), head, tag("tbody", *rows), class_="losses")
-    return tag("div", table, class_="wide", tabindex="0", role="region", aria_label="Losses of each resource, a wide table")
+    return tag("div", table, class_=wide(case), tabindex="0", role="region", aria_label="Losses of each resource, a wide table")
 
 
 def section(case, losses):
     if not losses:
         return tag("p", "No node is online, so none can be lost.")
     head = tag("thead", tag("tr", *[tag("th", word, scope="col") for word in ("When this node is lost", "goes down", "moves", "the rest")]))
-    table = tag("table", tag("caption", "What the loss of each node does, beside the plan"), head, tag("tbody", *map(summary_row, losses)), class_="summary")
+    caption = tag("caption", "What the loss of each node does, beside the plan")
+    table = tag("table", caption, head, tag("tbody", *map(summary_row, losses)), class_="summary")
     whole = tag("details", tag("summary", "Each resource at each loss"), matrix(case, losses), open=len(losses) <= 6 and len(case.leaves) <= 30)
     hint = tag("p", "The node leaves without a word, and is cut off where fencing is on. Quorum stays as the status says it. "
                "Each row is compared with where everything is to be by the plan.", class_="hint")
-    return joined([hint, tag("div", table, class_="wide", tabindex="0", role="region", aria_label="Losses"), whole])
+    region = tag("div", table, class_="wide", tabindex="0", role="region", aria_label="Losses")
+    return joined([hint, region, whole])

@@ -1,10 +1,11 @@
 """What a reader wants first: what happens first, what goes where, and what a loss brings down."""
 from .doings import because
-from .markup import Markup, code, count, joined, names, tag, text
+from .markup import code, count, joined, names, tag, text
 from .timeline import duration, label
 
 HEADS = (("moves", "move"), ("starts", "start"), ("restarts", "restart"), ("promotes", "change role"), ("stops", "lose a copy"), ("stays", "stay"),
          ("left", "are left alone"))
+ONE = {"are left alone": "is left alone", "change role": "changes role", "lose a copy": "loses a copy"}
 
 
 def at(bar):
@@ -19,7 +20,8 @@ def first(timeline):
     rest = [bar for bar in timeline.bars if bar not in own and bar.what != "monitor"]
     shown = tag("ol", *[tag("li", at(bar)) for bar in own[:4]], tag("li", f"and {len(own) - 4} more at once") if len(own) > 4 else None,
                 class_="first", title="These begin at once" if len(own) > 1 else None)
-    then = tag("p", "Then: ", joined([at(bar) for bar in rest[:3]], "; "), f"; and {len(rest) - 3} more" if len(rest) > 3 else "", ".") if rest else None
+    others = f"; and {len(rest) - 3} more" if len(rest) > 3 else ""
+    then = tag("p", "Then: ", joined([at(bar) for bar in rest[:3]], "; "), others, ".") if rest else None
     total = tag("p", count(len(timeline.actions), "action"), ", at most ", tag("strong", duration(timeline.total)), " by the timeouts. ",
                 tag("a", "The whole plan", href="#plan"), class_="small")
     return joined([tag("p", "At once:") if len(own) > 1 else None, shown, then, total])
@@ -33,21 +35,25 @@ def places(case, doings):
     for kind, said in HEADS:
         own = found.get(kind, [])
         if own:
-            verb = said if len(own) > 1 else {"are left alone": "is left alone", "change role": "changes role", "lose a copy": "loses a copy"}.get(said, said + "s")
+            verb = said if len(own) > 1 else ONE.get(said, said + "s")
             lines.append(tag("li", tag("strong", f"{len(own)} {verb}: "), names(own, 6)))
     for leaf in found.get("down", [])[:6]:
         lines.append(tag("li", tag("strong", "no place: ", class_="bad"), code(leaf), tag("small", " ", because(case.none.get(leaf, ["it has none"])))))
     if len(found.get("down", [])) > 6:
         lines.append(tag("li", tag("strong", f"{len(found['down']) - 6} more have no place", class_="bad")))
-    return joined([tag("ul", *lines), tag("p", tag("a", "Where everything goes, and why", href="#placement"), class_="small")])
+    return joined([tag("ul", *lines), more("Where everything goes, and why", "placement")])
 
 
 def each_lost(loss):
     """What one loss brings down, and what it moves."""
     gone, moving = loss.of("down"), loss.of("moves")
-    said = [names(gone, 5), tag("strong", " goes down" if len(gone) == 1 else " go down", class_="bad")] if gone else [tag("span", "nothing goes down", class_="good")]
+    said = gone_down(gone, 5) if gone else tag("span", "nothing goes down", class_="good")
     moves = ["; ", names(moving, 4), " moves" if len(moving) == 1 else " move"] if moving else []
-    return tag("li", tag("strong", "Loss of ", code(loss.node), ": "), *said, *moves)
+    return tag("li", tag("strong", "Loss of ", code(loss.node), ": "), said, *moves)
+
+
+def gone_down(gone, most):
+    return joined([names(gone, most), tag("strong", " goes down" if len(gone) == 1 else " go down", class_="bad")])
 
 
 def lost(losses):
@@ -56,15 +62,18 @@ def lost(losses):
         return tag("p", "No node is online, so none can be lost.")
     harmful = [loss for loss in losses if loss.of("down")]
     if len(losses) <= 6:
-        return joined([tag("ul", *[each_lost(loss) for loss in losses]), tag("p", tag("a", "What each loss does", href="#losses"), class_="small")])
-    lines = [tag("li", tag("strong", code(loss.node), ": "), names(loss.of("down"), 5), tag("strong", " goes down" if len(loss.of("down")) == 1 else " go down", class_="bad"))
-             for loss in harmful[:8]]
+        return joined([tag("ul", *map(each_lost, losses)), more("What each loss does", "losses")])
+    lines = [tag("li", tag("strong", code(loss.node), ": "), gone_down(loss.of("down"), 5)) for loss in harmful[:8]]
     if len(harmful) > 8:
         lines.append(tag("li", f"{len(harmful) - 8} more bring something down"))
     fine = [loss.node for loss in losses if not loss.of("down")]
     if fine:
         lines.append(tag("li", tag("strong", names(fine, 4), ": "), tag("span", "nothing goes down", class_="good")))
-    return joined([tag("ul", *lines), tag("p", tag("a", "What each loss does", href="#losses"), class_="small")])
+    return joined([tag("ul", *lines), more("What each loss does", "losses")])
+
+
+def more(said, section_id):
+    return tag("p", tag("a", said, href=f"#{section_id}"), class_="small")
 
 
 def card(title, body):
@@ -86,4 +95,5 @@ def state(case):
         nodes.setdefault(case.usable(node) or "online", []).append(node)
     parts = [joined([names(own, 5) if len(own) < 6 else count(len(own), "node"), " ", "are" if len(own) > 1 else "is", " ", said]) for said, own in nodes.items()]
     moment = status.moment
-    return joined([f"As of {moment}: " if moment else "", joined(parts, "; "), ". ", "There is quorum." if status.quorum else "There is no quorum."])
+    quorum = "There is quorum." if status.quorum else "There is no quorum."
+    return joined([f"As of {moment}: " if moment else "", joined(parts, "; "), ". ", quorum])

@@ -6,7 +6,7 @@ from string import Template
 
 from . import change, losses, overview, placement, runs, told
 from .doings import Doings, doing
-from .markup import Markup, joined, tag, text
+from .markup import joined, tag, text
 from .reasons import reason
 from .timeline import Timeline, section as plan
 
@@ -23,9 +23,10 @@ def page(title, lead, sections):
     script = part("page.js")
     digest = base64.b64encode(hashlib.sha256(script.encode()).digest()).decode()
     links = joined([tag("li", tag("a", head, href=f"#{key}")) for key, head, _ in sections])
-    body = joined([tag("section", tag("h2", head, id=f"{key}-title"), inside, id=key, aria_labelledby=f"{key}-title") for key, head, inside in sections], "\n")
-    return Template(part("page.html")).substitute(title=text(title), lead=lead, links=links, body=body, style=part("page.css"), script=script,
-                                                  digest=digest)
+    body = joined([tag("section", tag("h2", head, id=f"{key}-title"), inside, id=key, aria_labelledby=f"{key}-title")
+                   for key, head, inside in sections], "\n")
+    return Template(part("page.html")).substitute(title=text(title), lead=lead, links=links, body=body, digest=digest,
+                                                  style=part("page.css"), script=script)
 
 
 class Sections:
@@ -34,7 +35,7 @@ class Sections:
     def __init__(self, case):
         self.case = case
         own = Doings(case.actions)
-        self.doings = {leaf: doing(case, own, leaf, case.places, case.none, case.pinned) for leaf in case.leaves}
+        self.doings = {leaf: doing(case, own, leaf) for leaf in case.leaves}
         self.timeline = Timeline(case)
         self.losses = [losses.Loss(case, node) for node in case.losses]
 
@@ -48,7 +49,7 @@ class Sections:
             ("plan", "Plan", plan(self.timeline)),
             ("losses", "Losses", losses.section(case, self.losses)),
             ("run", "Run", runs.section(case)),
-            ("notes", "Notes", told.section(noted, case.source.said)),
+            ("notes", "Notes", told.section(noted, map(hide, case.source.said))),
             ("text", "Configuration", told.canonical(case.configuration.lines, hide)),
         ]
 
@@ -72,5 +73,5 @@ def report_of_refusal(source, hide):
     lead = tag("strong", "The input is refused, so nothing can be said of the cluster.", class_="bad")
     shown = joined([tag("ul", *found, class_="notes")])
     lines = [line.decode("utf-8", "replace") for line in source.data[:1 << 20].split(b"\n")]
-    return page(f"Refused: {source.name}", lead, [("refusals", "Refusals", shown), ("notes", "Notes", told.section([], source.said)),
+    return page(f"Refused: {source.name}", lead, [("refusals", "Refusals", shown), ("notes", "Notes", told.section([], map(hide, source.said))),
                                                   ("text", "Input", told.canonical(lines, hide))])

@@ -1,15 +1,14 @@
 """Where everything is and goes: a row for each resource, a column for each node."""
-from .doings import PROMOTED, RUNS, MAYBE
-from .markup import Markup, code, count, joined, tag, text
+from .markup import Markup, code, joined, tag, text
 from .reasons import shown
 
+MOST_UNROLLED = 30
 KINDS = {"moves": "moves", "starts": "starts", "stops": "stops", "stays": "stays", "down": "no place", "left": "left alone",
          "restarts": "restarts", "promotes": "changes role"}
 CLASSES = {"stays": "stay", "stays promoted": "stay", "starts": "come", "starts, promotes": "come", "arrives": "come", "goes here": "come",
            "stops": "go", "leaves": "go", "cut off": "go", "restarts": "turn", "restarts, promotes": "turn", "promotes": "turn", "demotes": "turn",
            "is probed": "ask"}
 TOPS = {"group": "group", "clone": "clone", "ms": "promotable clone"}
-NOW = {RUNS: "runs now", PROMOTED: "promoted now", MAYBE: "may run now"}
 
 
 def head(case):
@@ -28,7 +27,7 @@ def cell(case, resource, node, doing):
     told = f' data-total="{said}"' if said else ""
     if node not in doing.cells:
         return f"<td{told}></td>"
-    word = doing.cells[node][0]
+    word = doing.cells[node]
     if word == "stays" and doing.kind == "left":
         word = "stays as it is"
     return f'<td{told} class="{CLASSES.get(word, "stay")}">{text(word)}</td>'
@@ -65,4 +64,10 @@ def section(case, doings, reasons):
     switch = Markup('<input type="checkbox" id="totals"><label for="totals">Show the total of each cell</label>')
     hint = tag("p", "A total says how much speaks for a node: below 0 it can't be chosen, and \u2212\u221e stands for a ban. "
                "Pointing at a cell shows its total too.", class_="hint")
-    return joined([switch, hint, tag("div", table, class_="wide", tabindex="0", role="region", aria_label="Placement, a wide table")])
+    region = tag("div", table, class_=wide(case), tabindex="0", role="region", aria_label="Placement, a wide table")
+    return joined([switch, hint, region])
+
+
+def wide(case):
+    """The classes of what holds a table with a row for each resource: of many rows the head stays in sight."""
+    return "wide tall" if len(case.leaves) > MOST_UNROLLED else "wide"

@@ -72,16 +72,18 @@ def for_chosen(case, resource, totals):
 
 def unmet(case, resource, node):
     """The rule that keeps a resource from a node, as far as it can be told from where everything is at the end."""
+    group = case.configuration.group_of.get(resource)
     for rule in case.configuration.rules_of(resource):
         if rule.kind != "colocation" or rule.rest[0] not in ("INFINITY:", "-INFINITY:"):
             continue
+        if rule.names[1] == group and case.configuration.groups[group][0] != resource:
+            continue  # of a group it means the first member, which the others go after
         sides = rule.rest[1:3] if rule.names[1] in case.configuration.aliases(resource) else rule.rest[2:0:-1]
         there = holds(case, sides[1], node)
         if rule.is_together and sides == rule.rest[1:3] and not there:
             return joined([code(rule.id), " isn't met there"])
         if not rule.is_together and there:
             return joined([code(rule.id), " isn't met there"])
-    group = case.configuration.group_of.get(resource)
     if group and any(node not in case.places.get(leaf, {}) for leaf in case.configuration.groups[group] if leaf != resource):
         return joined(["its group ", code(group), " isn't there"])
     return text("a rule isn't met there")
@@ -102,14 +104,18 @@ def for_promoted(case, resource):
         return []
     others = sorted((node for node in totals if node not in promoted), key=lambda node: -value(totals[node]))
     rest = joined(["; the next is ", code(others[0]), " with ", shown(totals[others[0]])]) if others else None
-    return [joined(["; promoted on ", names(promoted, 3), " with ", ", ".join(dict.fromkeys(shown(totals[node]) for node in promoted if node in totals)), rest])]
+    own = ", ".join(dict.fromkeys(shown(totals[node]) for node in promoted if node in totals))
+    return [joined(["; promoted on ", names(promoted, 3), " with ", own, rest])]
 
 
 def shut_out(case, resource, others, totals):
     never = [node for node in others if value(totals[node]) < 0]
     clue = known_against(case, resource, never[0]) if len(never) == 1 else ""
     barred = [node for node in others if node not in never]
-    parts = [joined([names(never, 3), " with ", ", ".join(dict.fromkeys(shown(totals[node]) for node in never)), " may not have it", clue])] if never else []
+    parts = []
+    if never:
+        least = ", ".join(dict.fromkeys(shown(totals[node]) for node in never))
+        parts.append(joined([names(never, 3), " with ", least, " may not have it", clue]))
     if barred:
         states = dict.fromkeys(case.usable(node) for node in barred)
         parts.append(joined([names(barred, 3), " is " if len(barred) == 1 else " are ", ", ".join(states)]))

@@ -1,12 +1,11 @@
 """The run over the given results: transition after transition, what begins and how it ends."""
 from .case import action, placed
-from .doings import Doings, because, doing
+from .doings import because
 from .markup import Markup, code, count, joined, tag, text
 from .timeline import Bar, label
 
 EVENTS = ("lost", "up", "quorum", "wait", "report")
 MOST = 250
-EXPECTED = {"probe": ("7",)}
 
 
 class Transition:
@@ -80,7 +79,7 @@ def outcome(one, code_):
     if code_ is None:
         return Markup('<span class="chip">no end</span>')
     if is_fine(one, code_):
-        return Markup('<span class="chip fine">runs not</span>' if one["action"] == "probe" else '<span class="chip fine">done</span>')
+        return Markup('<span class="chip fine">not running</span>' if one["action"] == "probe" else '<span class="chip fine">done</span>')
     return tag("span", "took too long" if code_ == "timeout" else f"exit code {code_}", class_="chip down")
 
 
@@ -99,7 +98,8 @@ def step_rows(transition):
             continue
         told += 1
         if told <= MOST or not fine:
-            yield tag("li", tag("b", str(one["number"]), class_="number"), " ", plainly(one), " ", outcome(one, said), data_find=one.get("resource", one.get("node")))
+            number = tag("b", str(one["number"]), class_="number")
+            yield tag("li", number, " ", plainly(one), " ", outcome(one, said), data_find=one.get("resource", one.get("node")))
     if told > MOST:
         yield tag("li", f"and {told - MOST:,} more, each of which ends as it should, unless it stands above")
 
@@ -110,7 +110,8 @@ def shown(case, transition):
     if len(none) > 20:
         down.append(text(f"{len(none) - 20} more"))
     words = {"complete": "is completed", "aborted": "is broken off", "not complete": "isn't completed"}[transition.end]
-    head = tag("summary", tag("h3", f"Transition {transition.number}", tag("small", joined([" after: ", transition.cause]) if transition.cause else "", ", ", words)))
+    cause = joined([" after: ", transition.cause]) if transition.cause else ""
+    head = tag("summary", tag("h3", f"Transition {transition.number}", tag("small", cause, ", ", words)))
     moves = tag("p", count(len(transition.actions), "action begins", "actions begin"), ". ",
                 joined(["Without a place: ", joined(down, ", "), "."]) if down else "Everything has a place.")
     return tag("details", head, moves, tag("ol", *step_rows(transition), class_="steps") if transition.steps else None, open=True, class_="transition")
@@ -125,6 +126,7 @@ def section(case):
     if len(found) > 60:
         parts.append(tag("p", f"and {len(found) - 60:,} more transitions"))
     if last:
-        words = f"the result in line {last[1]} doesn't apply" if last[0] == "unexpected" else f"the result in line {last[1]} is refused ({last[-1]})"
+        why = "doesn't apply" if last[0] == "unexpected" else f"is refused ({last[-1]})"
+        words = f"the result in line {last[1]} {why}"
         parts.append(tag("p", tag("strong", f"The run ends here: {words}."), class_="warning"))
     return joined(parts)

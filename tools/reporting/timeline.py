@@ -1,7 +1,7 @@
 """The plan as a timeline: a lane for each node, in it what is done there, as long as it may take by the timeouts."""
 from showing.rounds import longest, times
 
-from .markup import Markup, code, count, joined, tag, text
+from .markup import Markup, code, count, joined, names, tag, text
 
 WORDS = {"migrate_to": "send off live", "migrate_from": "take in live", "fence": "cut off"}
 
@@ -112,9 +112,10 @@ def row(timeline, bar):
     length = "" if bar.what == "monitor" else f"up to {duration(bar.end - bar.begin)}"
     told = joined([joined(["after ", joined(waits, " and ")]) if waits else None, ", " if waits and length else None, length])
     scale = 100 / (timeline.total or 1)
-    track = Markup(f'<span class="track"><span class="bar" style="left:{bar.begin * scale:.2f}%;width:{(bar.end - bar.begin) * scale:.2f}%"></span></span>')
-    return tag("li", tag("span", tag("b", str(number), class_="number"), " ", label(bar), " ", tag("small", told, class_="told"), class_="label"), track,
-               id=f"action-{number}", class_=f"{bar.what}{' long' if number in timeline.critical else ''}",
+    place = f"left:{bar.begin * scale:.2f}%;width:{(bar.end - bar.begin) * scale:.2f}%"
+    words = tag("span", tag("b", str(number), class_="number"), " ", label(bar), " ", tag("small", told, class_="told"), class_="label")
+    track = tag("span", tag("span", class_="bar", style=place), class_="track")
+    return tag("li", words, track, id=f"action-{number}", class_=f"{bar.what}{' long' if number in timeline.critical else ''}",
                data_after=" ".join(map(str, before)) or None, data_find=" ".join(bar.resources[:1] if len(bar.resources) > 400 else bar.resources))
 
 
@@ -137,10 +138,17 @@ def section(timeline):
         return tag("p", "Nothing has to be done: everything is as it should be.")
     lanes = [(node, own) for node, own in timeline.lanes() if own]
     idle = [node for node, own in timeline.lanes() if not own]
-    path = joined([tag("a", str(number), href=f"#action-{number}") for number in longest(timeline.times) if number in timeline.actions
-                   and timeline.actions[number]["action"] != "monitor"][:30], ", ")
     head = tag("p", count(len(timeline.actions), "action"), ", numbered in an order in which they may run. A bar is as long as its action may take: "
-               f"by the timeouts all is done after at most ", tag("strong", duration(timeline.total)), ". What makes it last so long is marked: ", path, ".")
-    parts = [tag("section", tag("h3", "On ", code(node)), tag("ol", *[row(timeline, bar) for bar in own]), class_="lane", data_find=node) for node, own in lanes]
-    none = tag("p", "Nothing is done on ", joined([code(node) for node in idle[:20]], ", "), f" and {len(idle) - 20} more" if len(idle) > 20 else "", ".") if idle else None
+               "by the timeouts all is done after at most ", tag("strong", duration(timeline.total)), ". What makes it last so long is marked: ",
+               path(timeline), ".")
+    parts = [tag("section", tag("h3", "On ", code(node)), tag("ol", *[row(timeline, bar) for bar in own]), class_="lane", data_find=node)
+             for node, own in lanes]
+    none = tag("p", "Nothing is done on ", names(idle, 20), ".") if idle else None
     return joined([head, tag("div", axis(timeline), *parts, class_="timeline"), none])
+
+
+def path(timeline):
+    """Links to the actions of the longest path that have a bar of their own."""
+    shown = {bar.action["number"] for bar in timeline.bars}
+    own = [number for number in longest(timeline.times) if number in shown and timeline.actions[number]["action"] != "monitor"]
+    return joined([tag("a", str(number), href=f"#action-{number}") for number in own[:30]], ", ")

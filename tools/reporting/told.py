@@ -9,7 +9,7 @@ from explaining.tables import causes
 from explaining.texts import Text
 from showing.program import path
 
-from .markup import Markup, code, count, joined, tag, text
+from .markup import code, count, joined, tag, text
 
 SECRET = re.compile(r"""(?i)((?:^|[\s"'])[\w-]*(?:passw|secret|token|community|private_key)[\w-]*=)("(?:[^"\\]|\\.)*"|'[^']*'|[^\s]*)""")
 HIDDEN = "\u2022\u2022\u2022\u2022\u2022\u2022"
@@ -84,7 +84,8 @@ def of_refusals(data, hide):
 
 def section(found, said):
     """The section of notes; `said` are those of `tools/collect`."""
-    parts = [tag("ul", *[tag("li", tag("p", one)) for one in said])] if said else []
+    told = [tag("li", tag("p", one)) for one in said]
+    parts = [tag("ul", *told)] if told else []
     if found:
         parts.append(tag("ul", *found, class_="notes"))
     return joined(parts) or tag("p", "There is nothing to note.")
@@ -92,6 +93,8 @@ def section(found, said):
 
 def canonical(lines, hide):
     """The configuration as `check` writes it, with a number and an anchor for each line."""
+    before = hide.hidden
     rows = [tag("li", hide(line), id=f"line-{number}") for number, line in enumerate(lines, 1)]
-    shown = tag("ol", *rows, class_="text")
-    return joined([tag("p", f"Hidden here: {count(hide.hidden, 'value')} of passwords and the like.", class_="hint") if hide.hidden else None, shown])
+    hidden = hide.hidden - before
+    said = tag("p", f"Hidden here: {count(hidden, 'value')} of passwords and the like.", class_="hint") if hidden else None
+    return joined([said, tag("ol", *rows, class_="text")])
