@@ -94,6 +94,17 @@ SUMMARIES = {
     "begin 3 stop vm n1\nend 3 0\ncomplete 1\n": "Transition 1:\n  * Migrate    vm               ( n1 -> n2 )\n",
 }
 
+# What happened since the last transition is in the title; what leaves a lost node moves, and a wide name pushes no column.
+SUMMARIES["transition 1\ntarget vip db1 started\nbegin 1 start vip db1\nend 1 0\ncomplete 1\nlost db1\nquorum no\ntransition 2\n"
+          "target vip db2 started\nbegin 1 fence db1\nend 1 0\nbegin 2 start vip db2\nend 2 0\ncomplete 2\n"] = \
+    "Transition 1:\n  * Start      vip              ( db1 )\n" \
+    "Transition 2, after lost db1, quorum no:\n  * Fence      db1\n  * Move       vip              ( db1 -> db2 )\n"
+SUMMARIES["target a-name-of-twenty-two- n1 started\nnone b Stopped\ntarget c n2 started\nloss n1\nnone a-name-of-twenty-two- NoNode\n"
+          "none b Stopped\ntarget c n2 started\n"] = \
+    "Summary:\n  * Place      a-name-of-twenty-two- ( n1 )\n  * No place   b                     its target-role\n" \
+    "  * Place      c                     ( n2 )\n" \
+    "After the loss of n1:\n  * No place   a-name-of-twenty-two- ( n1 ) no node could be chosen\n  * Stay       c\n"
+
 # Commands with standard streams that are closed: the status, the output, and what is said.
 CLOSED = {
     "tools/json <&-": (1, "", "json: standard input is closed\n"),
@@ -176,6 +187,13 @@ def try_json():
 def try_summary():
     for lines, said in SUMMARIES.items():
         expect(f"summary of {lines[:30]}", tool("summary", data=lines.encode()) == (0, said, ""), tool("summary", data=lines.encode())[1])
+
+
+    lines = b"target a n1 started\nloss n2\ntarget a n1 started\n"
+    expect("summary --all", tool("summary", "--all", data=lines)[1].endswith("After the loss of n2:\n  * Place      a                ( n1 )\n"))
+    for name in ("summary", "json", "dot"):
+        status, output, said = tool(name, "--help")
+        expect(f"{name} --help", status == 0 and output.startswith(f"Usage: tools/{name} [FILE..]\n") and said == "", output + said)
 
 
 def try_closed():

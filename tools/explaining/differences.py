@@ -1,6 +1,6 @@
 """Notes on what makes an answer another one than Pacemaker's: by what an accepted text has, each with its section of docs/PACEMAKER.md."""
 from .tables import page
-from .texts import CONFIGURATION, STATUS
+from .texts import STATUS
 
 CLONES, ORDERED = ("clone", "ms", "master"), ("start", "stop", "promote", "demote")
 FALSE, TRUE = ("false", "off", "no", "n", "0"), ("true", "on", "yes", "y", "1")
@@ -12,8 +12,7 @@ class Configuration:
     """What the notes ask of the statements of a text."""
 
     def __init__(self, text):
-        self.statements = [one for one in text.statements if one.section == CONFIGURATION]
-        self.has_status = any(one.section == STATUS for one in text.statements)
+        self.statements, self.has_status = text.configuration, STATUS in text.heads
         self.above, self.nodes = {}, 0
         for one in self.statements:
             self.nodes += one.kind == "node"

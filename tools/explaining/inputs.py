@@ -38,9 +38,8 @@ def from_cib(data, name, quiet):
 def all_online(data):
     """The text with a status in which each node is online and there is quorum, unless it has a status."""
     text = Text(data)
-    heads = {one.kind: one.first for one in text.statements if one.kind in (STATUS, RESULTS)}
-    if STATUS in heads:
+    if STATUS in text.heads:
         return data
-    at = heads.get(RESULTS, len(text.lines))
+    at = text.heads.get(RESULTS, len(text.lines))
     status = [b"%status", b"quorum yes", *(b"node " + name.encode() + b" online" for name in text.defined(("node",)))]
     return b"\n".join([*text.lines[:at], *status, *text.lines[at:]])

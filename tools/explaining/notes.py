@@ -4,7 +4,6 @@ import re
 
 from .hints import SECTIONS, WITH_SECTIONS, near
 from .tables import agents, known, rows
-from .texts import CONFIGURATION
 
 SETTINGS = {"property": "property", "rsc_defaults": "meta", "op_defaults": "op"}
 
@@ -12,9 +11,7 @@ SETTINGS = {"property": "property", "rsc_defaults": "meta", "op_defaults": "op"}
 def notes(text):
     """Pairs of a word and what there is to say of it, in the order of the text."""
     kept = list(rows("kept.tsv"))
-    for statement in text.statements:
-        if statement.section != CONFIGURATION:
-            return
+    for statement in text.configuration:
         if statement.kind == "primitive":
             yield from near_agent(statement)
         for word, place in settings(statement):

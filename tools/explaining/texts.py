@@ -1,4 +1,5 @@
 """The statements of an input and the words of each, with the places where they stand."""
+import itertools
 import re
 
 CONFIGURATION, STATUS, RESULTS = "configuration", "%status", "%results"
@@ -73,9 +74,40 @@ class Statement:
 
 
 class Text:
+    """A text. Its statements are read when they are asked for, since a status has very many, and most questions are about others."""
+
     def __init__(self, data):
         self.lines = data.split(b"\n")
-        self.statements = list(statements(self.lines))
+        self._statements = self._configuration = self._heads = None
+
+    def each(self):
+        """All statements, one after another; they aren't kept."""
+        return statements(self.lines)
+
+    @property
+    def statements(self):
+        if self._statements is None:
+            self._statements = list(self.each())
+        return self._statements
+
+    @property
+    def configuration(self):
+        """The statements of the configuration."""
+        if self._configuration is None:
+            found = self.each() if self._statements is None else self._statements
+            self._configuration = list(itertools.takewhile(lambda one: one.section == CONFIGURATION, found))
+        return self._configuration
+
+    @property
+    def heads(self):
+        """The lines of `%status` and `%results`, where they are."""
+        if self._heads is None:
+            self._heads, section = {}, CONFIGURATION
+            for one in self.each():
+                if one.section != section:
+                    section = one.section
+                    self._heads[section] = one.first
+        return self._heads
 
     def statement_at(self, line):
         """The statement that the line is part of."""
@@ -115,8 +147,8 @@ class Text:
     def defined(self, kinds):
         """The ids that statements of these kinds define, with their statements; of equal ones the first."""
         found = {}
-        for statement in self.statements:
-            if statement.section == CONFIGURATION and statement.kind in kinds and statement.id:
+        for statement in self.configuration:
+            if statement.kind in kinds and statement.id:
                 found.setdefault(statement.id.text, statement)
         return found
 

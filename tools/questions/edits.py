@@ -19,7 +19,7 @@ def inserted(text, line, column, addition):
 
 def with_lines(text, lines, section):
     """The text with further lines at the end of its configuration or its status."""
-    ends = [one.first for one in text.statements if one.kind in (STATUS, RESULTS)[section == STATUS:]]
+    ends = [text.heads[end] for end in (STATUS, RESULTS)[section == STATUS:] if end in text.heads]
     at = ends[0] if ends else len(text.lines)
     added = [line.encode() for line in lines]
     return Text(b"\n".join([*text.lines[:at], *added, *text.lines[at:]]))
@@ -64,14 +64,14 @@ def the_resource(text, name):
 
 def with_status(text):
     """The text, whose status is needed."""
-    if not any(one.kind == STATUS for one in text.statements):
+    if STATUS not in text.heads:
         raise NoChange("it has no `%status`; `--online` before the word takes each node as online")
     return text
 
 
 def status_of(text, name):
     """The line of the status on a node, or nothing."""
-    for one in text.statements:
+    for one in text.each():
         if one.section == STATUS and one.kind == "node" and one.fields()[1:2] == [name]:
             return one
     return None
@@ -95,7 +95,7 @@ def online(text, name):
         text = with_pair(text, node, "attributes", "standby", "off")
     found = status_of(with_status(text), name)
     if found is None or found.fields()[2] != "online":
-        known = [one for one in text.statements if one.section == STATUS and one.kind in NOTHING_RUNS and one.fields()[1:2] == [name]]
+        known = [one for one in text.each() if one.section == STATUS and one.kind in NOTHING_RUNS and one.fields()[1:2] == [name]]
         text = Text(text.without(known))
     return with_state(text, name, "online")
 
@@ -107,7 +107,7 @@ def lost(text, name):
 
 
 def is_fencing(text):
-    pairs = [word for one in text.statements if one.section == CONFIGURATION and one.kind == "property" for word in one.words]
+    pairs = [word for one in text.configuration if one.kind == "property" for word in one.words]
     return not any(word.key == "stonith-enabled" and word.value.lower() in FALSE for word in pairs)
 
 
@@ -123,7 +123,7 @@ def fail(text, told):
     interval = monitor_of(resource)
     if not interval:
         raise NoChange(f"`{name}` has no recurring monitor that could fail")
-    now = [one.fields()[1] for one in with_status(text).statements if one.section == STATUS and one.kind == "now"]
+    now = [one.fields()[1] for one in with_status(text).each() if one.section == STATUS and one.kind == "now"]
     return with_lines(text, [f"op {node} {name} monitor {interval} {code or 1} {now[0] if now else 0}"], STATUS)
 
 
@@ -193,8 +193,8 @@ def start(text, name):
 
 
 def maintenance(text):
-    for one in text.statements:
-        for word in one.words if one.section == CONFIGURATION and one.kind == "property" else []:
+    for one in text.configuration:
+        for word in one.words if one.kind == "property" else []:
             if word.key == "maintenance-mode":
                 return Text(text.with_word(word, "maintenance-mode=true"))
     return with_lines(text, ["property maintenance-mode=true"], CONFIGURATION)

@@ -1,6 +1,4 @@
 """How long a plan takes at most: the longest way through its actions, by the timeouts of their operations."""
-from explaining.texts import CONFIGURATION
-
 from .edits import UNITS, milliseconds, until_section
 
 DEFAULT, FENCING = 20000, 60000  # Pacemaker's own, in milliseconds
@@ -9,9 +7,7 @@ DEFAULT, FENCING = 20000, 60000  # Pacemaker's own, in milliseconds
 class Timeouts:
     def __init__(self, text):
         self.of, self.default, self.fencing = {}, DEFAULT, FENCING
-        for one in text.statements:
-            if one.section != CONFIGURATION:
-                break
+        for one in text.configuration:
             words = [word.text for word in one.words]
             pairs = dict(word.partition("=")[::2] for word in words if "=" in word)
             if one.kind == "op_defaults":

@@ -3,8 +3,9 @@ import json
 
 from explaining.differences import TRUE
 from explaining.faulty import RESOURCES
+from explaining.hints import primitives_of
 from explaining.report import tell
-from explaining.texts import CONFIGURATION, STATUS, Text
+from explaining.texts import STATUS, Text
 from showing.lines import read
 from showing.plans import Plan
 from showing.program import Refused, answer, prepare
@@ -32,16 +33,14 @@ def tries(text):
 
 
 def rules(text):
-    for one in text.statements:
-        if one.section == CONFIGURATION and one.kind in RULES:
+    for one in text.configuration:
+        if one.kind in RULES:
             yield f"without `{' '.join(one.fields())}`", text.without([one])
 
 
 def settings(text):
     """Nodes in standby, and settings that stop a resource or leave it alone."""
-    for one in text.statements:
-        if one.section != CONFIGURATION:
-            return
+    for one in text.configuration:
         if one.kind == "node":
             pair = pair_in(one, "attributes", "standby")
             if pair and pair.value.lower() in TRUE:
@@ -54,7 +53,7 @@ def settings(text):
 
 
 def states(text):
-    for one in text.statements:
+    for one in text.each():
         if one.section == STATUS and one.kind == "node" and one.fields()[2] != "online":
             yield f"if {one.fields()[1]} were online", text.with_word(one.words[2], "online")
         if one.section == STATUS and one.kind == "quorum" and one.fields()[1] == "no":
@@ -64,7 +63,7 @@ def states(text):
 def failures(text):
     """The failures of each resource on each node; what is left of its history there stays."""
     found = {}
-    for one in text.statements:
+    for one in text.each():
         fields = one.fields() if one.section == STATUS and one.kind == "op" else []
         if len(fields) == 7 and fields[5] not in GOOD and not (fields[3:6] == ["monitor", "0", "7"]):
             found.setdefault((fields[1], fields[2]), []).append(one)
@@ -89,11 +88,6 @@ def where(plan, name, named):
     return f"{name} {said}" if named else said
 
 
-def primitives_in(text, name):
-    from explaining.hints import primitives_of
-    return primitives_of(text, text.defined(RESOURCES)[name])
-
-
 def ask(words):
     source = Source(words.file, words)
     text = Text(source.data)
@@ -102,7 +96,7 @@ def ask(words):
             tell(f"why: {source.name}: there is no resource `{words.resource}`")
             return WRONG
         return REFUSED
-    inside = primitives_in(text, words.resource)
+    inside = primitives_of(text, text.defined(RESOURCES)[words.resource])
     found = list(tries(text))
     prepare([("check", source.data), ("scores", source.data), *(("scores", data) for _, data in found)])
     if not source.is_accepted():

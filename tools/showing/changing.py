@@ -16,11 +16,12 @@ class Parts:
 
     def __init__(self, data):
         self.text = Text(data)
-        heads = {one.kind: one.first for one in self.text.statements if one.kind in (STATUS, RESULTS)}
-        self.end = heads.get(RESULTS, len(self.text.lines))
-        self.begin = heads.get(STATUS, self.end)
+        self.end = self.text.heads.get(RESULTS, len(self.text.lines))
+        self.begin = self.text.heads.get(STATUS, self.end)
         self.configuration = self.text.lines[:self.begin]
-        self.status = [one for one in self.text.statements if one.section == STATUS]
+
+    def status(self):
+        return (one for one in self.text.each() if one.section == STATUS)
 
     def input(self):
         return b"\n".join(self.text.lines[:self.end])
@@ -38,7 +39,7 @@ def changed(new, old):
     """The input of the new configuration in the state of the old input, and the names that are only in that state."""
     nodes, resources = new.text.defined(("node",)), new.text.defined(("primitive",))
     dropped, gone = [], []
-    for one in old.status:
+    for one in old.status():
         words = one.fields()
         names = [(words[1:2], nodes)] * (one.kind in OF_NODE) + [(words[2:3], resources)] * (one.kind in OF_RESOURCE)
         missing = [name for found, known in names for name in found if name not in known]

@@ -3,6 +3,8 @@ import io
 import signal
 import sys
 
+from explaining.tables import command
+
 from .lines import NotALine
 
 OPTIONS = ("--all", "--brief", "--timeline")
@@ -27,6 +29,9 @@ def lines_of(files):
 def filtered(name, work):
     """Gives the lines to the work; the status is 1 where one isn't a line of the program, or a file can't be read."""
     signal.signal(signal.SIGPIPE, signal.SIG_DFL)
+    if sys.argv[1:] in (["--help"], ["-h"]):
+        print(f"Usage: {command(name)} [FILE..]", "", sys.modules["__main__"].__doc__.strip(), sep="\n")
+        return 0
     try:
         output = opened(sys.stdout, "output")
         sys.stdout = io.TextIOWrapper(output.buffer, encoding="utf-8", line_buffering=output.line_buffering)
