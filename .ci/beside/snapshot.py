@@ -14,7 +14,7 @@ NOW = "1796000000"  # Monday 2026-11-30, 00:53:20 UTC
 AGENT = "class='ocf' provider='p' type='D'"
 NAMES = ("vm1", "vm2", "vmx", "db")
 CIB = ("<cib have-quorum='1'><configuration><nodes>"
-       "<node id='1' uname='n1'><instance_attributes id='i1'><nvpair id='r1' name='rack' value='r1'/><nvpair id='p1' name='ping' value='100'/>"
+       "<node id='1' uname='n1'><instance_attributes id='i1'><nvpair id='r1' name='rack' value='north'/><nvpair id='p1' name='ping' value='100'/>"
        "</instance_attributes></node>"
        "<node id='2' uname='n2'><instance_attributes id='i2'><nvpair id='r2' name='rack' value='01'/><nvpair id='p2' name='ping' value='5.5'/>"
        "</instance_attributes></node><node id='3' uname='n3'/></nodes><resources>"
@@ -53,21 +53,21 @@ def rule(*tests, joined="and", score="score='-INFINITY'"):
 EVERY, NO_RACK = spec(hours="0-23"), expression("rack", "not_defined")
 # Rules of a location, and what stands behind `location l vm1`; nothing where it is left out.
 RULES = [
-    (rule(expression("rack", "ne", "r1")), ["rule -INFINITY: not_defined rack or rack ne r1"]),
-    (rule(expression("rack", "ne", "r1"), expression("ping", "defined"), joined="or"),
-     ["rule -INFINITY: not_defined rack or rack ne r1 or defined ping"]),
-    (rule(expression("rack", "ne", "r1"), expression("ping", "not_defined")), ['rule -INFINITY: "#uname" ne n1 and not_defined ping']),
-    (rule(expression("rack", "ne", "r1"), expression("ping", "defined")), ['rule -INFINITY: "#uname" ne n1 and defined ping']),
+    (rule(expression("rack", "ne", "north")), ["rule -INFINITY: not_defined rack or rack ne north"]),
+    (rule(expression("rack", "ne", "north"), expression("ping", "defined"), joined="or"),
+     ["rule -INFINITY: not_defined rack or rack ne north or defined ping"]),
+    (rule(expression("rack", "ne", "north"), expression("ping", "not_defined")), ['rule -INFINITY: "#uname" ne n1 and not_defined ping']),
+    (rule(expression("rack", "ne", "north"), expression("ping", "defined")), ['rule -INFINITY: "#uname" ne n1 and defined ping']),
     (rule(expression("#uname", "ne", "n1")), ['rule -INFINITY: "#uname" ne n1']),
-    (rule(expression("rack", "eq", "R1")), ['rule -INFINITY: "#uname" eq n1']),
+    (rule(expression("rack", "eq", "North")), ['rule -INFINITY: "#uname" eq n1']),
     (rule(expression("#uname", "eq", "N2")), ['rule -INFINITY: "#uname" eq n2']),
     (rule(expression("rack", "eq", "1")), []),
-    (rule(expression("rack", "eq", "r1")), ["rule -INFINITY: rack eq r1"]),
+    (rule(expression("rack", "eq", "north")), ["rule -INFINITY: rack eq north"]),
     (rule(expression("ping", "gt", "5", "number")), ['rule -INFINITY: "#uname" eq n1 or "#uname" eq n2']),
     (rule(expression("ping", "gt", "5.2")), ['rule -INFINITY: "#uname" eq n1 or "#uname" eq n2']),
     (rule(expression("ping", "lt", "100")), ['rule -INFINITY: "#uname" eq n2']),
     (rule(expression("ping", "lt", "50")), ["rule -INFINITY: ping lt 50"]),
-    (rule(rule(expression("rack", "eq", "r1"), NO_RACK, joined="or"), expression("ping", "defined")),
+    (rule(rule(expression("rack", "eq", "north"), NO_RACK, joined="or"), expression("ping", "defined")),
      ['rule -INFINITY: "#uname" ne n2 and defined ping']),
     (rule(EVERY, NO_RACK), ["rule -INFINITY: not_defined rack"]),
     (rule(EVERY, NO_RACK, joined="or"), ['rule -INFINITY: defined "#uname"']),
@@ -98,7 +98,7 @@ SETS = [
     (rule(EVERY, score="score='0'"), "9", ["meta priority=4 is-managed=true"]),
     (rule(EVERY, score="score='0'"), "-9", ["meta priority=1 is-managed=true"]),
     (rule(spec(hours="5-9"), score="score='0'"), "9", ["meta priority=1"]),
-    (rule(expression("rack", "eq", "r1")), "9", ["meta priority=1"]),
+    (rule(expression("rack", "eq", "north")), "9", ["meta priority=1"]),
     (rule(expression("rack", "not_defined")), "9", ["meta priority=4 is-managed=true"]),
 ]
 
@@ -186,7 +186,7 @@ def state(node, *running):
 def try_maintenance():
     """What runs on a node in maintenance is left alone; where copies run elsewhere too, --near says so of all."""
     found = cib(vm2="<meta_attributes id='m'><nvpair id='w' name='is-managed' value='true'/></meta_attributes>").decode()
-    found = found.replace("name='rack' value='r1'", "name='maintenance' value='on'")
+    found = found.replace("name='rack' value='north'", "name='maintenance' value='on'")
     found = found.replace("</cib>", f"<status>{state('n1', 'vm1', 'vm2')}{state('n2', 'db')}</status></cib>")
     output = tool("collect", "--now", NOW, data=found.encode())[1]
     for line in ("primitive vm1 ocf:p:D \\\n\tmeta is-managed=false\n", "primitive vm2 ocf:p:D \\\n\tmeta is-managed=false\n", "primitive db ocf:p:D\n",
