@@ -151,6 +151,10 @@ def try_end(folder):
     with open(path, encoding="utf-8") as file:
         number = file.read().strip()
     expect("SIGTERM ends the script", process.returncode == 143, str(process.returncode))
+    for _ in range(100):  # a signal that was sent takes its time where others work too
+        if not runs(number):
+            break
+        time.sleep(0.1)
     expect("SIGTERM ends the build", not runs(number), said.decode())
     expect("what is said of it", "the build was ended" in said.decode(), said.decode())
 
