@@ -148,7 +148,12 @@ const ROWS: &[Row] = &[
         ],
     ),
     ("", 0, &[], &[(Next::Silent, 0, None)]),
-    ("", 0, &[2], &[(Next::Silent, 0, None), (Next::Silent, 0, None)]),
+    (
+        "",
+        0,
+        &[2],
+        &[(Next::Silent, 0, None), (Next::Silent, 0, None)],
+    ),
 ];
 
 /// The next question brings this.
