@@ -138,10 +138,10 @@ def try_timeline():
     output = tool("summary", "--timeline", data=RUN.encode())
     expect("summary --timeline of a run", output == (0, ROUNDS_OF_RUN, ""), output[1] + output[2])
     expect("summary --timeline of nothing", tool("summary", "--timeline")[0] == 0)
-    shown = kept("..", "docs", "USAGE.md").partition("tools/summary --timeline\n")[2].partition("\n- ")[0] + "\n"
+    shown = kept("..", "docs", "TOOLS.md").partition("tools/summary --timeline\n")[2].partition("\n- ")[0] + "\n"
     graph = kept("answers", "group-moves").partition("== graph\n")[2].partition("== ")[0]
     output = tool("summary", "--timeline", data=graph.encode())[1]
-    expect("summary --timeline in docs/USAGE.md", textwrap.dedent(shown) == output, output)
+    expect("summary --timeline in docs/TOOLS.md", textwrap.dedent(shown) == output, output)
 
 
 def try_drawn():
