@@ -3,6 +3,7 @@ pub mod OrderLemmas
 pub mod Blocks
 pub mod ChoiceLaws
 pub mod RowPoints
+pub mod RowFrames
 pub mod RowLaws
 pub mod SmallRows
 pub mod StoredTotals

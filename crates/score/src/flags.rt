@@ -1,56 +1,28 @@
-ghost use Rattle.std.specs.Prelude.{◌≡◌, ◌+◌, ◌<◌, ◌≤◌, ℕ, length, slice_index, slice_set, if◌then◌else◌};
-ghost use Rattle.std.specs.Int.Bits.{bit_or};
+//! Flags of nodes: 0 where a flag is lowered.
 
-use crate::form::Form;
+ghost use Rattle.std.specs.Prelude.{◌≡◌, ◌<◌, length, slice_index, slice_set, if◌then◌else◌};
+
+use crate::addition::Addition;
 use std::simd::prelude::*;
 
-/// Adds the flags of eight nodes, from one on.
-#[inline(always)]
-fn add_block(into: &mut [u64], other: &[u64], at: usize)
-    requires into { at + 8 ≤ length into.old }
-    requires other { at + 8 ≤ length other.now }
-    ensures block { (k : ℕ) → at ≤ k → k < at + 8 → slice_index into.new k ≡ bit_or (slice_index into.old k) (slice_index other.now k) }
-    ensures below { (k : ℕ) → k < at → slice_index into.new k ≡ slice_index into.old k }
-    ensures above { (k : ℕ) → at + 8 ≤ k → slice_index into.new k ≡ slice_index into.old k }
-{
-    let ours = u64x8::from_slice(&into[at..]);
-    let theirs = u64x8::from_slice(&other[at..]);
-    (ours | theirs).copy_to_slice(&mut into[at..]);
-}
+/// Flags are raised where either is.
+pub(crate) struct Flags;
 
-/// Adds the flags of every node from one on, node by node.
-fn add_from(into: &mut [u64], other: &[u64], first: usize)
-    requires nodes { length into.old ≡ length other.now }
-    ensures added { (k : ℕ) → first ≤ k → k < length into.new → slice_index into.new k ≡ bit_or (slice_index into.old k) (slice_index other.now k) }
-    ensures below { (k : ℕ) → k < first → slice_index into.new k ≡ slice_index into.old k }
-{
-    for node in first..into.len() {
-        into[node] |= other[node];
+impl Addition for Flags {
+    ghost use Rattle.std.specs.Int.Bits.{bit_or};
+
+    ghost fits = { λ ours theirs. Unit {0} };
+
+    ghost joined = { bit_or };
+
+    #[inline(always)]
+    fn join(ours: u64, theirs: u64) -> u64 {
+        ours | theirs
     }
-}
 
-/// Adds the flags of every node, by lanes.
-fn add_by_lanes(into: &mut [u64], other: &[u64])
-    requires nodes { length into.old ≡ length other.now }
-    ensures { (k : ℕ) → k < length into.new → slice_index into.new k ≡ bit_or (slice_index into.old k) (slice_index other.now k) }
-{
-    let count = into.len();
-    let mut at = 0;
-    while count - at >= 8 {
-        add_block(into, other, at);
-        at += 8;
-    }
-    add_from(into, other, at);
-}
-
-/// Adds the flags of every node.
-pub(crate) fn add(into: &mut [u64], other: &[u64], form: Form)
-    requires nodes { length into.old ≡ length other.now }
-    ensures { (k : ℕ) → k < length into.new → slice_index into.new k ≡ bit_or (slice_index into.old k) (slice_index other.now k) }
-{
-    match form {
-        Form::Lanes => add_by_lanes(into, other),
-        Form::Plain => add_from(into, other, 0),
+    #[inline(always)]
+    fn join_lanes(ours: u64x8, theirs: u64x8) -> u64x8 {
+        ours | theirs
     }
 }
 

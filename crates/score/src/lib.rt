@@ -8,6 +8,7 @@ mod text;
 mod totalling;
 
 // Sets of nodes, and rows of scores.
+mod addition;
 mod candidate_set;
 mod flags;
 mod form;

@@ -3,8 +3,10 @@ ghost use Rattle.std.specs.Ordering.{int_eq};
 ghost use Rattle.score.specs.Row.{Stands, IsSumInRange, finite_at, finite_part, with_term, together};
 ghost use Rattle.score.specs.Total.{infinity};
 
+use crate::addition::add;
+use crate::flags::Flags;
 use crate::form::Form;
-use crate::sums::BIAS;
+use crate::sums::{BIAS, Sums};
 use crate::{NoMemory, Score, flags, sums};
 use std::alloc::Global;
 use std::marker::Model;
@@ -93,9 +95,9 @@ fn add_terms(into: &mut Row, other: &Row, form: Form)
     ensures nodes { length into.new ≡ length into.old }
     ensures finite { (n : ℕ) → n < length into.old → finite_at into.new n ≡ (finite_at into.old n +ℤ finite_at other.now n) }
 {
-    flags::add(&mut into.minus, &other.minus, form);
-    flags::add(&mut into.plus, &other.plus, form);
-    sums::add(&mut into.sums, &other.sums, form);
+    add::<Flags>(&mut into.minus, &other.minus, form);
+    add::<Flags>(&mut into.plus, &other.plus, form);
+    add::<Sums>(&mut into.sums, &other.sums, form);
 }
 
 /// Adds the terms of `other` to those of `into`, node by node, by lanes. It asks for rows of as many nodes, and that each finite sum stays from

@@ -1,5 +1,5 @@
-use Rattle.std.proofs.Common.{rules, ◌≡◌, ◌*◌, ◌/◌, ◌%◌, ◌≤◌, ◌<◌, ℕ, false, ◌&&◌, inl, inr, length, ap, sym, ◌∙◌, arith}
-use Rattle.std.proofs.lemmas.Bool.{cases_eq, cases_lt, false_from_ne_true}
+use Rattle.std.proofs.Common.{rules, ◌≡◌, ◌/◌, ◌&&◌, inl, inr, length, ap, sym, ◌∙◌, arith}
+use Rattle.std.proofs.lemmas.Bool.{cases_eq, cases_lt}
 use Rattle.score.specs.Choice.{is_candidate_node}
 use Rattle.score.specs.NodeSet.{has}
 use Rattle.score.proofs.Words.{this_word, other_word, word_and_place, within_set}

@@ -1,4 +1,4 @@
-use Rattle.std.proofs.Common.{◌≡◌, ◌+◌, ℕ, ◌<◌, pos, not, ap, subst, sym, ◌∙◌, arith}
+use Rattle.std.proofs.Common.{◌≡◌, ◌+◌, pos, not, ap, sym, ◌∙◌, arith}
 use Rattle.std.specs.Int.{is_negative}
 use Rattle.std.proofs.lemmas.List.{get_or_default}
 use Rattle.score.specs.Choice.{points_at, is_candidate_node}

@@ -1,4 +1,4 @@
-use Rattle.std.proofs.Common.{rules, ℕ, nat_eq, ap, get_or, ◌/◌, ◌%◌}
+use Rattle.std.proofs.Common.{nat_eq, ap, get_or, ◌/◌, ◌%◌}
 use Rattle.std.proofs.lemmas.Nat.Bits.{shr_and_one}
 use Rattle.score.specs.NodeSet.{has}
 use Rattle.score.proofs.node_set.NodeSet.has.Goals as goal

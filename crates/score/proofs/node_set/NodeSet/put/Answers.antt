@@ -1,4 +1,4 @@
-use Rattle.std.proofs.Common.{rules, ℕ, nat_eq, ap, get_or, ◌/◌, ◌%◌}
+use Rattle.std.proofs.Common.{rules}
 use Rattle.score.specs.NodeSet.{has}
 use Rattle.score.proofs.Words.{with_node}
 use Rattle.score.proofs.node_set.NodeSet.put.Goals as goal

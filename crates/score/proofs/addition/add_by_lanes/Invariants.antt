@@ -1,13 +1,12 @@
 use Rattle.std.proofs.Common.{◌≡◌, ℕ, ◌-◌, ◌<◌, ◌≤◌, length, slice_index}
-use Rattle.std.specs.Int.Bits.{bit_or}
-use Rattle.score.proofs.flags.add_by_lanes.Given as goal
+use Rattle.score.proofs.addition.add_by_lanes.Given as goal
 
 abbrev pub invariant-loop-at : goal.invariant-loop-at
-invariant-loop-at l = record {
+invariant-loop-at g l = record {
   within : l.at ≤ length l.into;
-  below : (k : ℕ) → k < l.at → slice_index l.into k ≡ bit_or (slice_index l.fn.into k) (slice_index l.other k);
+  below : (k : ℕ) → k < l.at → slice_index l.into k ≡ g.A.Addition.joined (slice_index l.fn.into k) (slice_index l.other k);
   above : (k : ℕ) → l.at ≤ k → slice_index l.into k ≡ slice_index l.fn.into k;
 }
 
 abbrev pub decreases-loop-at : goal.decreases-loop-at
-decreases-loop-at l = l.count - l.at
+decreases-loop-at g l = l.count - l.at
