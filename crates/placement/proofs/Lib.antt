@@ -66,6 +66,6 @@ pub mod RowSums
 pub mod TermRows
 pub mod Sizes
 pub mod TieMarks
-pub mod TieOrders
+pub mod ChainOrders
 pub mod TieSides
 pub mod Sums

@@ -16,7 +16,7 @@ use Rattle.cluster_types.specs.declared.rules.Colocation.{Colocation}
 use Rattle.cluster_types.specs.Terms.{is_tie, is_tied}
 use Rattle.cluster_types.specs.Valid.{IsValid}
 use Rattle.cluster_types.proofs.RuleLeaves.{role_leaf}
-use Rattle.placement.specs.declared.totals.ties.Tie.{Tie}
+use Rattle.edges.specs.declared.edge.Edge.{Edge}
 use Rattle.placement.specs.Ties.{AreTied, AreTies, lacks_mark, unmarked, with_mark_if, leads, is_missed, tie_of, tied_within}
 
 -- an element that passes
@@ -88,53 +88,53 @@ none-tied c r marks is = record {
     go s (inr high) h = let e : get_or marks s false ≡ false = get_or-eq_default marks false (omega (arith, high, size)) in cc
 
 -- one tie is followed
-module _ (r : ℕ) (marks : List Bool) (tie : Tie) where
-  unset : is_missed r marks tie ≡ true → get_or marks tie.dependent true ≡ false
-  unset h = not-true (get_or marks tie.dependent true) (sooner (lacks_mark marks tie.dependent) (leads r marks tie) h)
+module _ (r : ℕ) (marks : List Bool) (tie : Edge) where
+  unset : is_missed r marks tie ≡ true → get_or marks tie.after true ≡ false
+  unset h = not-true (get_or marks tie.after true) (sooner (lacks_mark marks tie.after) (leads r marks tie) h)
 
-  pub fewer-if : (missed : Bool) → is_missed r marks tie ≡ missed → unmarked (with_mark_if marks tie.dependent missed) + cond missed 1 0 ≡ unmarked marks
-  fewer-if true h = fewer-unmarked marks tie.dependent (unset h)
+  pub fewer-if : (missed : Bool) → is_missed r marks tie ≡ missed → unmarked (with_mark_if marks tie.after missed) + cond missed 1 0 ≡ unmarked marks
+  fewer-if true h = fewer-unmarked marks tie.after (unset h)
   fewer-if false h = omega arith
 
-  module _ (c : Cluster) (ties : List Tie) (exact : AreTies c ties) (among : Contains ties tie) (known : AreTied c r marks) where
+  module _ (c : Cluster) (ties : List Edge) (exact : AreTies c ties) (among : Contains ties tie) (known : AreTied c r marks) where
     -- the chain to its dependent is one longer than that to its primary
-    joined : leads r marks tie ≡ true → is_tied c (suc known.most) tie.dependent r ≡ true
+    joined : leads r marks tie ≡ true → is_tied c (suc known.most) tie.after r ≡ true
     joined h =
         let of_colocation = of_map tie_of (filter (is_tie c) c.colocations) tie ((exact.exact tie).0 among) in
         let col = of_colocation.source in
         let kept = of_filter (is_tie c) c.colocations col of_colocation.among in
-        let dependent : col.dependent ≡ tie.dependent = ap (λ (t : Tie). t.dependent) of_colocation.gives in
-        let primary : col.primary ≡ tie.primary = ap (λ (t : Tie). t.primary) of_colocation.gives in
+        let dependent : col.dependent ≡ tie.after = ap (λ (t : Edge). t.after) of_colocation.gives in
+        let primary : col.primary ≡ tie.before = ap (λ (t : Edge). t.before) of_colocation.gives in
         let end : (col.primary == r || is_tied c known.most col.primary r) ≡ true =
         subst (λ (p : ℕ). (p == r || is_tied c known.most p r) ≡ true) (sym primary)
-        (one_of (tie.primary == r) (tie.primary == r) _ _ (λ e. e) (known.tied tie.primary) h) in
-        let same : (col.dependent == tie.dependent) ≡ true = grind (arith, dependent) in
-        passes_by (λ col. is_tie c col && col.dependent == tie.dependent && (col.primary == r || is_tied c known.most col.primary r)) c.colocations col
-        kept.among (and_from (is_tie c col && col.dependent == tie.dependent) _ (and_from (is_tie c col) (col.dependent == tie.dependent) kept.passes same) end)
+        (one_of (tie.before == r) (tie.before == r) _ _ (λ e. e) (known.tied tie.before) h) in
+        let same : (col.dependent == tie.after) ≡ true = grind (arith, dependent) in
+        passes_by (λ col. is_tie c col && col.dependent == tie.after && (col.primary == r || is_tied c known.most col.primary r)) c.colocations col
+        kept.among (and_from (is_tie c col && col.dependent == tie.after) _ (and_from (is_tie c col) (col.dependent == tie.after) kept.passes same) end)
 
-    marked : is_missed r marks tie ≡ true → AreTied c r (set marks tie.dependent true)
+    marked : is_missed r marks tie ≡ true → AreTied c r (set marks tie.after true)
     marked h = record {
-      size = length-set marks tie.dependent true ∙ known.size;
+      size = length-set marks tie.after true ∙ known.size;
       most = suc known.most;
-      enough = let e = fewer-unmarked marks tie.dependent (unset h) in let f = known.enough in omega (arith, e, f);
+      enough = let e = fewer-unmarked marks tie.after (unset h) in let f = known.enough in omega (arith, e, f);
       tied = λ s. by s (cases s);
     }
       where
-        cases : (s : ℕ) → (s ≡ tie.dependent) ⊎ (s ≢ tie.dependent)
+        cases : (s : ℕ) → (s ≡ tie.after) ⊎ (s ≢ tie.after)
         cases s = grind arith
 
-        by : (s : ℕ) → (s ≡ tie.dependent) ⊎ (s ≢ tie.dependent) → get_or (set marks tie.dependent true) s false ≡ true → is_tied c (suc known.most) s r ≡ true
-        by s (inl e) g = rw e (joined (later (lacks_mark marks tie.dependent) (leads r marks tie) h))
+        by : (s : ℕ) → (s ≡ tie.after) ⊎ (s ≢ tie.after) → get_or (set marks tie.after true) s false ≡ true → is_tied c (suc known.most) s r ≡ true
+        by s (inl e) g = rw e (joined (later (lacks_mark marks tie.after) (leads r marks tie) h))
         by s (inr e) g =
-            tied-longer c r known.most s (known.tied s (sym (get_or-set_other marks tie.dependent s true false e) ∙ g))
+            tied-longer c r known.most s (known.tied s (sym (get_or-set_other marks tie.after s true false e) ∙ g))
 
-    pub tied-if : (missed : Bool) → is_missed r marks tie ≡ missed → AreTied c r (with_mark_if marks tie.dependent missed)
+    pub tied-if : (missed : Bool) → is_missed r marks tie ≡ missed → AreTied c r (with_mark_if marks tie.after missed)
     tied-if true h = marked h
     tied-if false h = known
 
 -- where no tie is missed, all are marked
-module _ (c : Cluster) (valid : IsValid c) (ties : List Tie) (exact : AreTies c ties) (r : ℕ) (marks : List Bool) (known : AreTied c r marks)
-    (none : (tie : Tie) → Contains ties tie → is_missed r marks tie ≡ false) where
+module _ (c : Cluster) (valid : IsValid c) (ties : List Edge) (exact : AreTies c ties) (r : ℕ) (marks : List Bool) (known : AreTied c r marks)
+    (none : (tie : Edge) → Contains ties tie → is_missed r marks tie ≡ false) where
   set-already : (b d : Bool) → not b && d ≡ false → d ≡ true → b ≡ true
   set-already true d h e = refl
   set-already false d h e = cc

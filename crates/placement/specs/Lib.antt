@@ -9,7 +9,6 @@ pub mod Pins
 pub mod DecisionLists
 pub mod Flags
 pub mod Links
-pub mod LinkOrder
 pub mod Queueing
 pub mod Effective
 pub mod Turns
@@ -23,7 +22,7 @@ pub mod OwnRows
 pub mod Promotions
 pub mod Rows
 pub mod Scores
-pub mod TieOrder
+pub mod ChainOrder
 pub mod Ties
 pub mod Usable
 pub mod Tests

@@ -6,19 +6,19 @@ use Rattle.listed.specs.Flags.{is_marked}
 use Rattle.cluster_types.specs.declared.cluster.Cluster.{Cluster}
 use Rattle.cluster_types.specs.declared.rules.Colocation.{Colocation}
 use Rattle.cluster_types.specs.Terms.{is_tie, is_tied}
-use Rattle.placement.specs.declared.totals.ties.Tie.{Tie}
+use Rattle.edges.specs.declared.edge.Edge.{Edge}
 
--- the tie that a colocation is
-abbrev pub tie_of : Colocation → Tie
-tie_of col = record { dependent = col.dependent; primary = col.primary }
+-- the tie that a colocation is: an edge from its primary to its dependent
+abbrev pub tie_of : Colocation → Edge
+tie_of col = record { before = col.primary; after = col.dependent }
 
 -- those of the cluster
-abbrev pub ties_of : Cluster → List Tie
+abbrev pub ties_of : Cluster → List Edge
 ties_of c = map tie_of (filter (is_tie c) c.colocations)
 
 -- the list has exactly the ties of the cluster
-pub record AreTies (c : Cluster) (ties : List Tie) : Type 0 where
-  pub exact : (tie : Tie) → Contains ties tie ↔ Contains (ties_of c) tie
+pub record AreTies (c : Cluster) (ties : List Edge) : Type 0 where
+  pub exact : (tie : Edge) → Contains ties tie ↔ Contains (ties_of c) tie
 
 -- the leaf is there and has none
 abbrev pub lacks_mark : List Bool → ℕ → Bool
@@ -33,12 +33,12 @@ abbrev pub with_mark_if : List Bool → ℕ → Bool → List Bool
 with_mark_if marks s more = if more then slice_set marks s true else marks
 
 -- the tie ties its dependent to r, or to a leaf that has a mark
-abbrev pub leads : ℕ → List Bool → Tie → Bool
-leads r marks tie = tie.primary == r || is_marked marks tie.primary
+abbrev pub leads : ℕ → List Bool → Edge → Bool
+leads r marks tie = tie.before == r || is_marked marks tie.before
 
 -- its dependent lacks the mark that it should have then
-abbrev pub is_missed : ℕ → List Bool → Tie → Bool
-is_missed r marks tie = lacks_mark marks tie.dependent && leads r marks tie
+abbrev pub is_missed : ℕ → List Bool → Edge → Bool
+is_missed r marks tie = lacks_mark marks tie.after && leads r marks tie
 
 module _ (c : Cluster) where
   -- the leaves that are tied to r by chains of this length at most

@@ -2,6 +2,9 @@
 //! which order, which nodes each decision chooses, and which chosen cells are held back.
 #![tactic(auto)]
 
+// In which order chains of edges are followed.
+mod chain_order;
+
 // The total of each decision on each node, before colocations.
 mod totals;
 

@@ -13,7 +13,6 @@ pub mod own_rows;
 
 // What others lend to it.
 pub mod lending_rows;
-pub mod tie_order;
 pub mod ties;
 
 // How much it wants to be promoted.

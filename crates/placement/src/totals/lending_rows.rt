@@ -10,8 +10,9 @@ ghost use Rattle.placement.specs.Ties.{AreTies, tied_within};
 use crate::totals::adding::{both, copy_of};
 use crate::totals::fitting::leaves_a_node;
 use crate::totals::own_rows::OwnRows;
-use crate::totals::ties::{Tie, is_marked, tied};
+use crate::totals::ties::{is_marked, tied};
 use cluster_types::LeafId;
+use edges::Edge;
 use score::{NoMemory, Row};
 use std::alloc::Global;
 
@@ -58,7 +59,7 @@ fn joined_row(alloc: Global, own: &OwnRows, marks: &[bool], leaf: LeafId) -> Res
 pub(crate) fn lent_row(
     alloc: Global,
     own: &OwnRows,
-    ties: &[Tie],
+    ties: &[Edge],
     leaf: LeafId,
 ) -> Result<Row, NoMemory>
     requires valid { IsValid own.now.cluster.now }

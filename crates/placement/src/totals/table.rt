@@ -14,8 +14,9 @@ use crate::totals::lending_rows::lent_row;
 use crate::totals::own_rows::OwnRows;
 use crate::totals::promotions::{first_said, promote_row};
 use crate::totals::row_totals::totals_of;
-use crate::totals::ties::{Tie, ties_of};
+use crate::totals::ties::ties_of;
 use cluster_types::{Cluster, Decision, LeafId, NoMemory, NodeId, States, cell_place};
+use edges::Edge;
 use faults::with;
 use listed::Listed;
 use score::Score;
@@ -60,7 +61,7 @@ impl ScoreTable {
 fn push_places(
     alloc: Global,
     own: &OwnRows,
-    ties: &[Tie],
+    ties: &[Edge],
     leaf: LeafId,
     all: &mut Vec<Score>,
 ) -> Result<(), NoMemory>

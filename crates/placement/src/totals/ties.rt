@@ -1,27 +1,22 @@
-//! The leaves that must be with a leaf.
+//! The leaves that must be with a leaf. A tie is an edge from the primary of a colocation to its dependent, where the colocation ties the one to
+//! the other for good.
 
-ghost use Rattle.std.specs.Prelude.{◌≡◌, ◌≤◌, ◌+◌, List, false, cond, length, Contains, IfOk, map};
+ghost use Rattle.std.specs.Prelude.{◌≡◌, ◌≤◌, ◌+◌, List, false, cond, length, Contains, IfOk};
 ghost use Rattle.cluster_types.specs.declared.cluster.Cluster.{Cluster as ClusterOf};
 ghost use Rattle.cluster_types.specs.Terms as terms;
 ghost use Rattle.cluster_types.specs.Valid.{IsValid};
-ghost use Rattle.placement.specs.declared.totals.ties.Tie.{Tie as TieOf};
 ghost use Rattle.listed.specs.Flags.{is_marked};
+ghost use Rattle.edges.specs.declared.edge.Edge.{Edge as EdgeOf};
 ghost use Rattle.edges.specs.Loops.{HasNoLoop};
-ghost use Rattle.placement.specs.TieOrder.{AreTiesInOrder, edge_of};
+ghost use Rattle.placement.specs.ChainOrder.{AreEdgesInOrder};
 ghost use Rattle.placement.specs.Ties as spec;
 
-use crate::totals::tie_order::put_in_order;
+use crate::chain_order::put_in_order;
 use cluster_types::{Cluster, Colocation, LeafId, Role};
+use edges::Edge;
 use faults::done;
 use listed::flag_at;
 use std::alloc::{AllocError, Global};
-
-/// A colocation that ties its dependent to its primary for good.
-#[derive(Clone, Copy)]
-pub(crate) struct Tie {
-    pub(crate) dependent: LeafId,
-    pub(crate) primary: LeafId,
-}
 
 /// Whether the colocation ties two uncloned leaves for good, both in the role Started.
 fn is_tie(cluster: &Cluster, rule: &Colocation) -> bool
@@ -35,7 +30,7 @@ fn is_tie(cluster: &Cluster, rule: &Colocation) -> bool
 }
 
 /// The ties of the cluster, in the order of its colocations.
-fn listed_ties(alloc: Global, cluster: &Cluster) -> Result<Vec<Tie>, AllocError>
+fn listed_ties(alloc: Global, cluster: &Cluster) -> Result<Vec<Edge>, AllocError>
     ensures { IfOk result (λ ties. ties.items ≡ spec.ties_of cluster.now) }
 {
     let mut ties = Vec::new(alloc);
@@ -43,19 +38,19 @@ fn listed_ties(alloc: Global, cluster: &Cluster) -> Result<Vec<Tie>, AllocError>
         if !is_tie(cluster, rule) {
             continue;
         }
-        ties.push(Tie {
-            dependent: rule.dependent,
-            primary: rule.primary,
+        ties.push(Edge {
+            before: rule.primary,
+            after: rule.dependent,
         })?;
     }
     Ok(ties)
 }
 
 /// The ties of the cluster, each behind those of its primary, where no chain of ties leads from a leaf back to it.
-pub(crate) fn ties_of(alloc: Global, cluster: &Cluster) -> Result<Vec<Tie>, AllocError>
+pub(crate) fn ties_of(alloc: Global, cluster: &Cluster) -> Result<Vec<Edge>, AllocError>
     requires { IsValid cluster.now }
     ensures ties { IfOk result (λ ties. spec.AreTies cluster.now ties.items) }
-    ensures ordered { IfOk result (λ ties. HasNoLoop (length cluster.now.leaves) (map edge_of (spec.ties_of cluster.now)) → AreTiesInOrder ties.items) }
+    ensures ordered { IfOk result (λ ties. HasNoLoop (length cluster.now.leaves) (spec.ties_of cluster.now) → AreEdgesInOrder ties.items) }
 {
     let mut ties = listed_ties(alloc, cluster)?;
     let ordering = put_in_order(alloc, cluster.leaves.len() as u32, &mut ties);
@@ -89,27 +84,27 @@ fn mark_if(marks: &mut Vec<bool>, leaf: LeafId, wanted: bool)
 }
 
 /// Whether the dependent lacks a mark, and is tied to the leaf or to one that has a mark.
-fn is_missed(tie: Tie, leaf: LeafId, marks: &[bool]) -> bool
+fn is_missed(tie: Edge, leaf: LeafId, marks: &[bool]) -> bool
     ensures { result ≡ spec.is_missed leaf marks.now tie }
 {
-    lacks_mark(marks, tie.dependent) && (tie.primary == leaf || is_marked(marks, tie.primary))
+    lacks_mark(marks, tie.after) && (tie.before == leaf || is_marked(marks, tie.before))
 }
 
 /// Marks the dependent if it was missed, and says whether it was.
-fn follow(tie: Tie, leaf: LeafId, marks: &mut Vec<bool>) -> bool
+fn follow(tie: Edge, leaf: LeafId, marks: &mut Vec<bool>) -> bool
     ensures missed { result ≡ spec.is_missed leaf marks.old.items tie }
-    ensures marks { marks.new.items ≡ spec.with_mark_if marks.old.items tie.dependent (spec.is_missed leaf marks.old.items tie) }
+    ensures marks { marks.new.items ≡ spec.with_mark_if marks.old.items tie.after (spec.is_missed leaf marks.old.items tie) }
 {
     let missed = is_missed(tie, leaf, marks);
-    mark_if(marks, tie.dependent, missed);
+    mark_if(marks, tie.after, missed);
     missed
 }
 
 /// One pass over the ties: whether it marked a leaf.
-fn pass(ties: &[Tie], leaf: LeafId, marks: &mut Vec<bool>) -> bool
+fn pass(ties: &[Edge], leaf: LeafId, marks: &mut Vec<bool>) -> bool
     ensures tied { (c : ClusterOf) → spec.AreTies c ties.now → spec.AreTied c leaf marks.old.items → spec.AreTied c leaf marks.new.items }
     ensures fewer { spec.unmarked marks.new.items + cond result 1 0 ≤ spec.unmarked marks.old.items }
-    ensures none { result ≡ false → (tie : TieOf) → Contains ties.now tie → spec.is_missed leaf marks.new.items tie ≡ false }
+    ensures none { result ≡ false → (tie : EdgeOf) → Contains ties.now tie → spec.is_missed leaf marks.new.items tie ≡ false }
 {
     let mut changed = false;
     for tie in ties {
@@ -123,7 +118,7 @@ fn pass(ties: &[Tie], leaf: LeafId, marks: &mut Vec<bool>) -> bool
 pub(crate) fn tied(
     alloc: Global,
     cluster: &Cluster,
-    ties: &[Tie],
+    ties: &[Edge],
     leaf: LeafId,
 ) -> Result<Vec<bool>, AllocError>
     requires valid { IsValid cluster.now }

@@ -2,7 +2,7 @@ use Rattle.std.proofs.Common.{refl, ◌≡◌, ◌≤◌, ◌+◌, ◌||◌, Boo
 use Rattle.std.proofs.lemmas.Bool.{or_parts}
 use Rattle.std.proofs.lemmas.List.{get_or_default, take_all}
 use Rattle.lemmas.proofs.Members.{all_more}
-use Rattle.placement.specs.declared.totals.ties.Tie.{Tie}
+use Rattle.edges.specs.declared.edge.Edge.{Edge}
 use Rattle.placement.specs.Ties.{AreTied, is_missed, with_mark_if, unmarked}
 use Rattle.placement.proofs.TieMarks.{tied-if, fewer-if, fewer-or}
 use Rattle.placement.proofs.totals.ties.pass.Goals as goal
@@ -15,10 +15,10 @@ loop-tie-preserved c =
     let i = l.tie-index in
     let lt = c.loop-tie-test.true in
     -- what the loop reads at this place
-    let tie : Tie = slice_index_or ties i (record { dependent = 0; primary = 0 }) in
+    let tie : Edge = slice_index_or ties i (record { before = 0; after = 0 }) in
     let is : tie ≡ slice_index_or ties i tie = get_or_default ties i _ tie lt in
     let missed = is_missed leaf l.marks.items tie in
-    let new : c.follow-changed.new.marks.items ≡ with_mark_if l.marks.items tie.dependent missed = c.follow-changed.ensures.marks in
+    let new : c.follow-changed.new.marks.items ≡ with_mark_if l.marks.items tie.after missed = c.follow-changed.ensures.marks in
     let found : c.follow-changed.result ≡ missed = c.follow-changed.ensures.missed in
     let still : (l.changed || c.follow-changed.result) ≡ false → missed ≡ false = λ e. sym found ∙ (or_parts l.changed c.follow-changed.result e).1 in
     record {
@@ -26,12 +26,12 @@ loop-tie-preserved c =
           (tied-if leaf l.marks.items tie k ties exact (i, lt, sym is) (l.invariant.tied k exact at_first) missed refl);
       fewer = fewer-or (unmarked c.args.marks.now.items) (unmarked l.marks.items) (unmarked c.follow-changed.new.marks.items) l.changed c.follow-changed.result
           (subst (λ (ms : List Bool). unmarked ms + cond c.follow-changed.result 1 0 ≡ unmarked l.marks.items) (sym new)
-          (subst (λ (b : Bool). unmarked (with_mark_if l.marks.items tie.dependent missed) + cond b 1 0 ≡ unmarked l.marks.items) (sym found)
+          (subst (λ (b : Bool). unmarked (with_mark_if l.marks.items tie.after missed) + cond b 1 0 ≡ unmarked l.marks.items) (sym found)
           (fewer-if leaf l.marks.items tie missed refl)))
           l.invariant.fewer;
-      same = λ e. new ∙ (ap (with_mark_if l.marks.items tie.dependent) (still e) ∙ l.invariant.same (or_parts l.changed c.follow-changed.result e).0);
+      same = λ e. new ∙ (ap (with_mark_if l.marks.items tie.after) (still e) ∙ l.invariant.same (or_parts l.changed c.follow-changed.result e).0);
       none = λ e.
-          all_more (λ (t : Tie). is_missed leaf c.args.marks.now.items t ≡ false) ties i tie lt is
+          all_more (λ (t : Edge). is_missed leaf c.args.marks.now.items t ≡ false) ties i tie lt is
           (l.invariant.none (or_parts l.changed c.follow-changed.result e).0)
           (subst (λ (ms : List Bool). is_missed leaf ms tie ≡ false) (l.invariant.same (or_parts l.changed c.follow-changed.result e).0) (still e));
     }

@@ -1,9 +1,0 @@
-use Rattle.std.proofs.Common.{rules, slice_index_or}
-use Rattle.std.proofs.lemmas.List.Sorted.{IsNonDecreasingBy-from_sort_by_key}
-use Rattle.placement.specs.declared.totals.ties.Tie.{Tie}
-use Rattle.placement.proofs.totals.tie_order.sort_by_height.Goals as goal
-
-pub returns-clause-sorted : goal.returns-clause-sorted
-returns-clause-sorted c =
-    IsNonDecreasingBy-from_sort_by_key (λ (tie : Tie). slice_index_or c.args.heights.now tie.dependent 0) _ c.in_ok-sort_by_key.ensures.sorted
-    (λ a r q k. search rules)
