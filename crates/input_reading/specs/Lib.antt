@@ -7,6 +7,7 @@ pub mod RunReading
 pub mod Said
 pub mod Written
 pub mod Numbers
+pub mod OpWords
 pub mod Names
 pub mod Places
 pub mod HistoryCauses

@@ -1,7 +1,8 @@
 -- The words of the lines of a run, and what they stand for (rule of this project).
 use Rattle.std.specs.Prelude.{ℕ, if◌then◌else◌, List, codes, Option, Some, None, Result, Ok, Err}
-use Rattle.std.specs.Option.{ok_or}
-use Rattle.cluster_types.specs.declared.leaf.Op.TheVariants.{Start, Stop, Promote, Demote}
+use Rattle.std.specs.Option.{ok_or, option_map}
+use Rattle.cluster_types.specs.declared.leaf.Op.{Op}
+use Rattle.cluster_types.specs.declared.leaf.Op.TheVariants.{Start, Stop, Promote, Demote, Monitor}
 use Rattle.cluster_types.specs.declared.placement.NoReason.{NoReason}
 use Rattle.cluster_types.specs.declared.placement.NoReason.TheVariants.{NoCopies, Stopped, OnFail, StopAll, NoQuorum, NoNode}
 use Rattle.cluster_types.specs.declared.placement.Pin.{Pin}
@@ -12,6 +13,7 @@ use Rattle.crm_lex.specs.Names.{is, is_name}
 use Rattle.faults.specs.Reading.{◌>>=◌}
 use Rattle.input_reading.specs.declared.words.word_cause.WordCause.{WordCause}
 use Rattle.input_reading.specs.declared.words.word_cause.WordCause.TheVariants.{BadValue}
+use Rattle.input_reading.specs.OpWords.{operation_named}
 use Rattle.input_reading.specs.Places.{WordsOfLine, word_at}
 use Rattle.input_reading.specs.declared.run.words.ActionWord.{ActionWord}
 use Rattle.input_reading.specs.declared.run.words.ActionWord.TheVariants as action
@@ -53,19 +55,22 @@ reason_of text =
     else if is text (codes "NoNode") then Some NoNode
     else None
 
+-- the action that runs an operation
+abbrev pub action_of_op : Op → ActionWord
+action_of_op Start = action.Operation Start
+action_of_op Stop = action.Operation Stop
+action_of_op Promote = action.Operation Promote
+action_of_op Demote = action.Operation Demote
+action_of_op Monitor = action.Monitor
+
 -- what an action does
 unfoldable pub action_word : List ℕ → Option ActionWord
 action_word text =
     if is text (codes "fence") then Some action.Fence
     else if is text (codes "probe") then Some action.Probe
-    else if is text (codes "start") then Some (action.Operation Start)
-    else if is text (codes "stop") then Some (action.Operation Stop)
-    else if is text (codes "promote") then Some (action.Operation Promote)
-    else if is text (codes "demote") then Some (action.Operation Demote)
-    else if is text (codes "monitor") then Some action.Monitor
     else if is text (codes "migrate_to") then Some action.MigrateTo
     else if is text (codes "migrate_from") then Some action.MigrateFrom
-    else None
+    else option_map action_of_op (operation_named text)
 
 -- what stands at a place, counted from 0
 unfoldable pub pin_at : ℕ → WordsOfLine → Result Pin WordCause

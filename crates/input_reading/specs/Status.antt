@@ -10,7 +10,7 @@ use Rattle.cluster_types.specs.declared.journal.Event.TheVariants.{Cleanup, Ende
 use Rattle.cluster_types.specs.declared.journal.Outcome.{Outcome}
 use Rattle.cluster_types.specs.declared.journal.Outcome.TheVariants.{Code, TimedOut}
 use Rattle.cluster_types.specs.declared.leaf.Op.{Op}
-use Rattle.cluster_types.specs.declared.leaf.Op.TheVariants.{Start, Stop, Promote, Demote, Monitor}
+use Rattle.cluster_types.specs.declared.leaf.Op.TheVariants.{Promote, Demote, Monitor}
 use Rattle.cluster_types.specs.declared.leaf.Role.TheVariants as role
 use Rattle.cluster_types.specs.Fields.{is_promotable, monitors}
 use Rattle.cluster_types.specs.Answering.{role_of_interval}
@@ -19,6 +19,7 @@ use Rattle.faults.specs.Reading.{◌>>=◌}
 use Rattle.input_reading.specs.declared.words.word_cause.WordCause.{WordCause}
 use Rattle.input_reading.specs.declared.words.word_cause.WordCause.TheVariants.{BadValue, UnknownStatement}
 use Rattle.input_reading.specs.Numbers.{read_exit_code, read_interval}
+use Rattle.input_reading.specs.OpWords.{operation_named}
 use Rattle.input_reading.specs.Places.{WordsOfLine, line_end_at, leaf_at, node_at, seconds_at, word_at, yes_at}
 use Rattle.input_reading.specs.declared.status.status_lines.StatusWord.{StatusWord}
 use Rattle.input_reading.specs.declared.status.status_lines.StatusWord.TheVariants as first
@@ -71,15 +72,6 @@ node_line c words = do
   state ← state_at 2 words
   end ← line_end_at 3 words
   Ok (Node node state)
-
-abbrev pub operation_named : List ℕ → Option Op
-operation_named word =
-    if is word (codes "start") then Some Start
-    else if is word (codes "stop") then Some Stop
-    else if is word (codes "promote") then Some Promote
-    else if is word (codes "demote") then Some Demote
-    else if is word (codes "monitor") then Some Monitor
-    else None
 
 -- only a promotable leaf is promoted and demoted
 abbrev pub may_have : Cluster → ℕ → Op → Bool

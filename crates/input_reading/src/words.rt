@@ -4,5 +4,6 @@
 pub mod by_place;
 pub mod named;
 pub mod number_words;
+pub mod op_words;
 pub mod places;
 pub mod word_cause;

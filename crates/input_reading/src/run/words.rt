@@ -2,8 +2,9 @@
 
 ghost use Rattle.std.specs.Prelude.{◌≡◌};
 ghost use Rattle.faults.specs.Reading.{Reads};
-ghost use Rattle.input_reading.specs.LineWords.{action_word, action_word_at, id_at, line_word, pin_at, pin_named, reason_of, target_at, target_of};
+ghost use Rattle.input_reading.specs.LineWords.{action_of_op, action_word, action_word_at, id_at, line_word, pin_at, pin_named, reason_of, target_at, target_of};
 
+use crate::words::op_words::op_named;
 use crate::{WordCause, Words, word_at};
 use cluster_types::{NoReason, Op, Pin, Target};
 use crm_lex::is;
@@ -108,6 +109,16 @@ pub(crate) fn reason_of(word: &[u8]) -> Option<NoReason>
     }
 }
 
+/// The action that runs the operation.
+fn action_of_op(op: Op) -> ActionWord
+    ensures { result ≡ action_of_op op }
+{
+    match op {
+        Op::Monitor => ActionWord::Monitor,
+        _ => ActionWord::Operation(op),
+    }
+}
+
 #[tactic(auto, unfolding(crate::specs::LineWords::action_word))]
 fn action_word(word: &[u8]) -> Option<ActionWord>
     ensures { result ≡ action_word word.now }
@@ -116,22 +127,12 @@ fn action_word(word: &[u8]) -> Option<ActionWord>
         Some(ActionWord::Fence)
     } else if is(word, b"probe") {
         Some(ActionWord::Probe)
-    } else if is(word, b"start") {
-        Some(ActionWord::Operation(Op::Start))
-    } else if is(word, b"stop") {
-        Some(ActionWord::Operation(Op::Stop))
-    } else if is(word, b"promote") {
-        Some(ActionWord::Operation(Op::Promote))
-    } else if is(word, b"demote") {
-        Some(ActionWord::Operation(Op::Demote))
-    } else if is(word, b"monitor") {
-        Some(ActionWord::Monitor)
     } else if is(word, b"migrate_to") {
         Some(ActionWord::MigrateTo)
     } else if is(word, b"migrate_from") {
         Some(ActionWord::MigrateFrom)
     } else {
-        None
+        op_named(word).map(action_of_op)
     }
 }
 

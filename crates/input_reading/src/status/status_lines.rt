@@ -6,9 +6,10 @@ ghost use Rattle.cluster_types.specs.declared.journal.Event.TheVariants as event
 ghost use Rattle.cluster_types.specs.Valid.{KeepsLimits};
 ghost use Rattle.faults.specs.Digits.{number_up_to};
 ghost use Rattle.input_reading.specs.FirstJournal.{is_known};
-ghost use Rattle.input_reading.specs.Status.{history_action, cleanup_line, fitting, interval_as, interval_at, may_have, node_line, node_word, now_line, op_at, op_line, operation_named, outcome_at, outcome_of, promotable, promotable_at, promotion_line, quorum_line, score_at, state_at, status_word, told_as, told_of};
+ghost use Rattle.input_reading.specs.Status.{history_action, cleanup_line, fitting, interval_as, interval_at, may_have, node_line, node_word, now_line, op_at, op_line, outcome_at, outcome_of, promotable, promotable_at, promotion_line, quorum_line, score_at, state_at, status_word, told_as, told_of};
 
 use crate::status::told::{NodeWord, Told};
+use crate::words::op_words::op_named;
 use crate::{
     WordCause, Words, code_of, end_at, interval_of, leaf_at, node_at, seconds_at, word_at, yes_at,
 };
@@ -103,24 +104,6 @@ fn node_line<W: Words>(cluster: &Cluster, words: &W) -> Result<Told, WordCause>
     Ok(Told::Node { node, word })
 }
 
-fn op_of(word: &[u8]) -> Option<Op>
-    ensures { result ≡ operation_named word.now }
-{
-    if is(word, b"start") {
-        Some(Op::Start)
-    } else if is(word, b"stop") {
-        Some(Op::Stop)
-    } else if is(word, b"promote") {
-        Some(Op::Promote)
-    } else if is(word, b"demote") {
-        Some(Op::Demote)
-    } else if is(word, b"monitor") {
-        Some(Op::Monitor)
-    } else {
-        None
-    }
-}
-
 /// Whether the leaf may have had the operation: only a promotable leaf is promoted and demoted.
 fn may_have(cluster: &Cluster, leaf: LeafId, op: Op) -> bool
     ensures { result ≡ may_have cluster.now leaf op }
@@ -151,7 +134,7 @@ fn op_at<W: Words>(
     ensures { result ≡ op_at cluster.now leaf place (W.words words.now) }
 {
     let word = word_at(place, words)?;
-    let op = op_of(word).ok_or(WordCause::BadValue)?;
+    let op = op_named(word).ok_or(WordCause::BadValue)?;
     fitting(cluster, leaf, op)
 }
 
