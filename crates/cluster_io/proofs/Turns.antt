@@ -23,6 +23,13 @@ given_is_no_failure found.TooLong step old new g e = cc
 given_is_no_failure found.TooLarge step old new g e = cc
 given_is_no_failure found.More step old new g e = g
 
+-- what is given leaves the end as it was
+pub given_keeps_end : (f : Found) (step : LineStep) (old new : Reading) → GivesFound f step old new → new.ended ≡ old.ended
+given_keeps_end (found.Line count lines) step old new g = ap (λ (r : Reading). r.ended) g.1
+given_keeps_end found.TooLong step old new g = ap (λ (r : Reading). r.ended) g.1
+given_keeps_end found.TooLarge step old new g = ap (λ (r : Reading). r.ended) g.1
+given_keeps_end found.More step old new g = absurd g
+
 line_is_no_failure : Line ≡ Failed → ⊥
 line_is_no_failure e = cc
 

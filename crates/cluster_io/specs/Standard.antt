@@ -1,5 +1,5 @@
 -- What contracts see of a source over a reader of std, and of a sink over a writer.
-use Rattle.std.specs.Prelude.{ℕ}
+use Rattle.std.specs.Prelude.{ℕ, Bool}
 use Rattle.cluster_io.specs.declared.standard.StdSource.{StdSource}
 use Rattle.cluster_io.specs.declared.standard.StdSink.{StdSink}
 
@@ -14,6 +14,10 @@ writer_of sink = sink.writer
 -- how often a source over a reader has failed
 abbrev pub source_faults : {R : Type 0} → StdSource R → ℕ
 source_faults source = source.faults
+
+-- whether a source over a reader has ended
+abbrev pub has_source_ended : {R : Type 0} → StdSource R → Bool
+has_source_ended source = source.ended
 
 -- how often a sink over a writer has failed
 abbrev pub sink_faults : {W : Type 0} → StdSink W → ℕ

@@ -1,5 +1,5 @@
 -- What a source has left, what a sink holds, and when a count of faults has risen.
-use Rattle.std.specs.Prelude.{◌≡◌, ℕ, ◌+◌, ◌-◌, ◌^◌, ◌≤◌, ◌<◌, min, Option, List, [], ◌++◌, length, take, IfSome, option_map}
+use Rattle.std.specs.Prelude.{◌≡◌, ℕ, ◌+◌, ◌-◌, ◌^◌, ◌≤◌, ◌<◌, min, Bool, true, false, Option, List, [], ◌++◌, length, take, IfSome, option_map}
 use Rattle.cluster_io.specs.declared.source.ReadStep.{ReadStep}
 use Rattle.cluster_io.specs.declared.source.ReadStep.TheVariants as read
 use Rattle.cluster_io.specs.declared.sink.WriteStep.{WriteStep}
@@ -38,6 +38,11 @@ pub record AddsPrefix (text : List ℕ) (before after : Option (List ℕ)) : Typ
   pub count : ℕ
   pub within : count ≤ length text
   pub added : Adds before (take count text) after
+
+-- a read has found the end
+abbrev pub is_end : ReadStep → Bool
+is_end read.End = true
+is_end _ = false
 
 -- a read gives at least one byte, and no more than the buffer holds; or nothing, at the end of input or at a fault
 abbrev pub ReadsBytes : Option (List ℕ) → Option (List ℕ) → ReadStep → List ℕ → Type 0

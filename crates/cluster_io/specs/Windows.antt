@@ -1,5 +1,5 @@
 -- What contracts see of a window of bytes, and what a read into it left.
-use Rattle.std.specs.Prelude.{◌≡◌, ℕ, ◌+◌, ◌≤◌, ◌<◌, Bool, true, false, Option, List, [], ◌++◌, length, take, IfSome}
+use Rattle.std.specs.Prelude.{◌≡◌, ℕ, ◌+◌, ◌≤◌, ◌<◌, Bool, Option, List, [], ◌++◌, length, take, IfSome}
 use Rattle.cluster_io.specs.Streams.{TakesBytes}
 use Rattle.cluster_io.specs.declared.source.ReadStep.{ReadStep}
 use Rattle.cluster_io.specs.declared.source.ReadStep.TheVariants as read
@@ -26,11 +26,6 @@ abbrev pub Received : ReadStep → ℕ → List ℕ → List ℕ → Option (Lis
 Received (read.Got _) most old new before after = BytesCame most old new before after
 Received read.End most old new before after = (new ≡ old) × (after ≡ before) × IfSome before (λ left. left ≡ [])
 Received read.Failed most old new before after = (new ≡ old) × (after ≡ before)
-
--- the source has ended
-abbrev pub is_end : ReadStep → Bool
-is_end read.End = true
-is_end _ = false
 
 -- the bytes up to a place, and behind it those that a read gave
 abbrev pub reached : ReadStep → ℕ → List ℕ → List ℕ

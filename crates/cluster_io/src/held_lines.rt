@@ -107,6 +107,13 @@ impl HeldLines {
         self.stop
     }
 
+    /// Whether the source has ended.
+    pub(crate) fn has_ended(&self) -> bool
+        ensures { result ≡ self.now.ended }
+    {
+        self.window.has_ended()
+    }
+
     /// Lets go of the line that was handed out last.
     pub(crate) fn forget(&mut self)
         ensures { self.new ≡ record self.old { raw = [] } }
@@ -145,9 +152,11 @@ impl HeldLines {
     pub(crate) fn turn<S: Source>(&mut self, src: &mut S) -> Option<LineStep>
         requires empty { self.old.raw ≡ [] }
         requires at_end { self.old.ended ≡ true → IfSome (S.left src.old) (λ left. left ≡ []) }
+        requires same_end { self.old.ended ≡ S.ended src.old }
         ensures turned { Turned result self.old self.new (S.left src.old) (S.left src.new) }
         ensures untouched { holds_line self.old.held ≡ true → src.new ≡ src.old }
         ensures quiet { self.old.ended ≡ true → src.new ≡ src.old }
+        ensures same_end { self.new.ended ≡ S.ended src.new }
         ensures count { S.faults src.old ≤ S.faults src.new }
         ensures cause { result ≡ Some LineStep.Failed → Rose (S.faults src.old) (S.faults src.new) }
         ensures no_failure { S.counts_only_failures ≡ true → result ≢ Some LineStep.Failed →

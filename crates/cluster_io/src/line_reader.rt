@@ -18,6 +18,7 @@ use std::alloc::Global;
 pub struct LineReader<'s, S: Source> {
     src: &'s mut S,
     lines: HeldLines,
+    ghost same_end: { lines.ended ≡ S.ended src.now },
     ghost at_end: { lines.ended ≡ true → ForSome (S.left src.now) (λ left. left ≡ []) },
 }
 
@@ -26,14 +27,16 @@ impl<'s, S: Source> LineReader<'s, S> {
 
     /// A reader of the first `limit` bytes of the source, whose logical lines may have `longest`
     /// bytes without line ends. It takes memory for such a line that isn't whole yet, which has at
-    /// most three times as many bytes and one more, and for one read. It asks for a limit below 2^32.
+    /// most three times as many bytes and one more, and for one read. It asks for a limit below 2^32
+    /// and for a source that hasn't ended.
     pub fn new(
         alloc: Global,
         src: &'s mut S,
         limit: usize,
         longest: usize,
     ) -> Result<LineReader<'s, S>, NoMemory>
-        requires { limit < 2 ^ 32 }
+        requires limit { limit < 2 ^ 32 }
+        requires going { S.ended src.old ≡ false }
         ensures reading { IfOk result (λ reader. reading_of reader ≡ record {
           held = [];
           raw = [];
@@ -53,9 +56,10 @@ impl<'s, S: Source> LineReader<'s, S> {
 
     /// A reader of the source with memory that was taken before. `new` does both; apart, a caller
     /// knows that the source is as it was when memory runs out. It asks for memory that no reader has
-    /// used.
+    /// used, and for a source that hasn't ended.
     pub fn over(src: &'s mut S, lines: HeldLines) -> LineReader<'s, S>
-        requires { lines.ended ≡ false }
+        requires fresh { lines.ended ≡ false }
+        requires going { S.ended src.old ≡ false }
         ensures reading { reading_of result ≡ lines }
         ensures source { source_of result ≡ src.old }
         ensures same_source { loan_of result ≡ src.entry.ghost_name }
@@ -66,6 +70,7 @@ impl<'s, S: Source> LineReader<'s, S> {
     /// Gives the source back, as it is now. The bytes that are held are lost.
     pub fn into_source(self) -> &'s mut S
         ensures source { result.now ≡ source_of self.entry }
+        ensures end { S.ended result.now ≡ (reading_of self.entry).ended }
         ensures same_source { result.ghost_name ≡ loan_of self.entry }
     {
         let LineReader { src, lines: _ } = self;
@@ -116,6 +121,13 @@ impl<'s, S: Source> LineReader<'s, S> {
                 return step;
             }
         }
+    }
+
+    /// Whether the source has ended.
+    pub fn has_ended(&self) -> bool
+        ensures { result ≡ (reading_of self.now).ended }
+    {
+        self.lines.has_ended()
     }
 
     /// The physical lines, with their line ends, of the logical line that the last call of `line`

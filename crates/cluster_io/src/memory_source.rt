@@ -1,5 +1,5 @@
-ghost use Rattle.std.specs.Prelude.{◌≡◌, ◌≢◌, ◌↔◌, ℕ, ◌≤◌, ◌<◌, true, Some, [], length, min, Contains};
-ghost use Rattle.cluster_io.specs.Streams.{ReadsBytes, Rose, next_fault};
+ghost use Rattle.std.specs.Prelude.{◌≡◌, ◌≢◌, ◌↔◌, ℕ, ◌≤◌, ◌<◌, true, false, Some, [], length, min, Contains};
+ghost use Rattle.cluster_io.specs.Streams.{ReadsBytes, Rose, is_end, next_fault};
 ghost use Rattle.cluster_io.specs.Memory.{next_call};
 
 use crate::{ReadStep, Source};
@@ -15,6 +15,7 @@ pub struct MemorySource {
     fails: Vec<u32>,
     calls: u32,
     faults: u64,
+    ended: bool,
 }
 
 impl Model for MemorySource {
@@ -29,6 +30,7 @@ impl Model for MemorySource {
       fails = s.fails.items;
       calls = s.calls;
       faults = s.faults;
+      ended = s.ended;
     } };
 
     ghost invariant = { λ s. (s.at ≤ vec_len s.bytes) × (0 < s.step) };
@@ -40,6 +42,7 @@ impl MemorySource {
         requires { 0 < step }
         ensures left { ⟦<MemorySource as Source>⟧.left result ≡ Some bytes.items }
         ensures faults { ⟦<MemorySource as Source>⟧.faults result ≡ 0 }
+        ensures going { ⟦<MemorySource as Source>⟧.ended result ≡ false }
         ensures step { result.step ≡ step }
         ensures fails { result.fails ≡ fails.items }
         ensures calls { result.calls ≡ 0 }
@@ -51,6 +54,7 @@ impl MemorySource {
             fails,
             calls: 0,
             faults: 0,
+            ended: false,
         }
     }
 }
@@ -62,11 +66,15 @@ impl Source for MemorySource {
 
     ghost counts_only_failures = { true };
 
+    ghost ended = { λ s. s.ended };
+
     fn read(&mut self, buf: &mut [u8]) -> ReadStep
-        requires { 0 < length buf.old }
+        requires room { 0 < length buf.old }
+        requires going { self.old.ended ≡ false }
         ensures bytes { ReadsBytes (Some self.old.left) (Some self.new.left) result buf.new }
         ensures count { self.old.faults ≤ self.new.faults }
         ensures cause { result ≡ ReadStep.Failed → Rose self.old.faults self.new.faults }
+        ensures end { self.new.ended ≡ is_end result }
 
         // It gives as much as it may, and fails at the calls named and no other.
         ensures gives { (n : ℕ) → result ≡ ReadStep.Got n →
@@ -87,6 +95,7 @@ impl Source for MemorySource {
         let left = &self.bytes[self.at..];
         let count = left.len().min(self.step).min(buf.len());
         if count == 0 {
+            self.ended = true;
             return ReadStep::End;
         }
         buf[..count].copy_from_slice(&left[..count]);

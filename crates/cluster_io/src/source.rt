@@ -1,5 +1,5 @@
-ghost use Rattle.std.specs.Prelude.{◌≡◌, ◌≢◌, ℕ, ◌+◌, ◌≤◌, ◌<◌, Bool, true, Option, [], List, length, OnErr, IfOk, IfSome, IsErrOf};
-ghost use Rattle.cluster_io.specs.Streams.{ReadsBytes, Rose, TakesBytes, TakesAtMost, TakesCount};
+ghost use Rattle.std.specs.Prelude.{◌≡◌, ◌≢◌, ℕ, ◌+◌, ◌≤◌, ◌<◌, Bool, true, false, Option, [], List, length, OnErr, IfOk, IfSome, IsErrOf};
+ghost use Rattle.cluster_io.specs.Streams.{ReadsBytes, Rose, is_end, TakesBytes, TakesAtMost, TakesCount};
 
 use std::alloc::{AllocError, Global};
 
@@ -27,15 +27,20 @@ pub trait Source {
     /// Whether the count rises only with `Failed`.
     ghost counts_only_failures: { Bool };
 
+    /// Whether it has said that its bytes end.
+    ghost ended: { Self → Bool };
+
     /// Gives the next bytes, as many as it likes up to the buffer's length. Those of the buffer
-    /// past them may change too.
+    /// past them may change too. It asks for a source that hasn't ended.
     fn read(&mut self, buf: &mut [u8]) -> ReadStep
-        requires { 0 < length buf.old }
+        requires room { 0 < length buf.old }
+        requires going { ended self.old ≡ false }
         ensures bytes { ReadsBytes (left self.old) (left self.new) result buf.new }
         ensures count { faults self.old ≤ faults self.new }
         ensures cause { result ≡ ReadStep.Failed → Rose (faults self.old) (faults self.new) }
         ensures no_failure { counts_only_failures ≡ true → result ≢ ReadStep.Failed →
-            faults self.new ≡ faults self.old };
+            faults self.new ≡ faults self.old }
+        ensures end { ended self.new ≡ is_end result };
 }
 
 /// Why `read_all` gave no bytes.
@@ -65,10 +70,13 @@ impl From<AllocError> for ReadEnd {
 /// The most bytes that one call of `read_all` asks its source for.
 const PIECE: usize = 4096;
 
-/// Reads all bytes to the end, at most `limit` of them. What it took before an error is lost.
+/// Reads all bytes to the end, at most `limit` of them. What it took before an error is lost. It asks
+/// for a source that hasn't ended.
 pub fn read_all<S: Source>(alloc: Global, src: &mut S, limit: usize) -> Result<Vec<u8>, ReadEnd>
+    requires { S.ended src.old ≡ false }
     ensures all { IfOk result (λ bytes. TakesBytes (S.left src.old) bytes.items (S.left src.new)) }
     ensures end { IfOk result (λ _. IfSome (S.left src.new) (λ left. left ≡ [])) }
+    ensures ended { IfOk result (λ _. S.ended src.new ≡ true) }
     ensures within { IfOk result (λ bytes. length bytes.items ≤ limit) }
 
     // On an error the bytes taken are lost. One more than the limit shows that there are too many.

@@ -1,7 +1,7 @@
-ghost use Rattle.std.specs.Prelude.{◌≡◌, ◌≢◌, ℕ, true, None, ◌≤◌, ◌<◌, length, take, IfOk, IfErr};
+ghost use Rattle.std.specs.Prelude.{◌≡◌, ◌≢◌, ℕ, true, false, None, ◌≤◌, ◌<◌, length, take, IfOk, IfErr};
 ghost use Rattle.std.specs.IoError.{error_kind};
 ghost use Rattle.std.specs.Io.KnownBytes.{Appends, Consumes, IsAtEnd, Keeps};
-ghost use Rattle.cluster_io.specs.Streams.{ReadsBytes, Writes, Rose, next_fault};
+ghost use Rattle.cluster_io.specs.Streams.{ReadsBytes, Writes, Rose, is_end, next_fault};
 
 use crate::{ReadStep, Sink, Source, WriteStep};
 use std::io;
@@ -37,23 +37,29 @@ fn attempt_of(outcome: io::Result<usize>) -> Attempt
 pub struct StdSource<R: Read> {
     reader: R,
     faults: u64,
+    ended: bool,
 }
 
 impl<R: Read> StdSource<R> {
     ghost use Rattle.cluster_io.specs.Standard.{reader_of};
 
-    /// A source that has not failed yet.
+    /// A source that has not failed yet, and hasn't ended.
     pub fn new(reader: R) -> StdSource<R>
         ensures untold { ⟦<StdSource<R> as Source>⟧.left result ≡ None }
         ensures faults { ⟦<StdSource<R> as Source>⟧.faults result ≡ 0 }
+        ensures going { ⟦<StdSource<R> as Source>⟧.ended result ≡ false }
         ensures reader { reader_of result ≡ reader }
     {
-        StdSource { reader, faults: 0 }
+        StdSource {
+            reader,
+            faults: 0,
+            ended: false,
+        }
     }
 }
 
 impl<R: Read> Source for StdSource<R> {
-    ghost use Rattle.cluster_io.specs.Standard.{reader_of, source_faults};
+    ghost use Rattle.cluster_io.specs.Standard.{has_source_ended, reader_of, source_faults};
 
     ghost left = { λ _. None };
 
@@ -61,12 +67,16 @@ impl<R: Read> Source for StdSource<R> {
 
     ghost counts_only_failures = { true };
 
+    ghost ended = { λ s. s.ended };
+
     fn read(&mut self, buf: &mut [u8]) -> ReadStep
-        requires { 0 < length buf.old }
+        requires room { 0 < length buf.old }
+        requires going { has_source_ended self.old ≡ false }
         ensures bytes { ReadsBytes None None result buf.new }
         ensures count { source_faults self.old ≤ source_faults self.new }
         ensures cause { result ≡ ReadStep.Failed →
             Rose (source_faults self.old) (source_faults self.new) }
+        ensures ended { has_source_ended self.new ≡ is_end result }
 
         // Each failure is counted, and nothing else is.
         ensures failure_counted { result ≡ ReadStep.Failed →
@@ -84,7 +94,10 @@ impl<R: Read> Source for StdSource<R> {
     {
         for _ in 0..TRIES {
             match attempt_of(self.reader.read(buf)) {
-                Attempt::Moved(0) => return ReadStep::End,
+                Attempt::Moved(0) => {
+                    self.ended = true;
+                    return ReadStep::End;
+                }
                 Attempt::Moved(count) => return ReadStep::Got(count),
                 Attempt::Interrupted => {}
                 Attempt::Failed => break,

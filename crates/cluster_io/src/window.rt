@@ -1,6 +1,6 @@
 ghost use Rattle.std.specs.Prelude.{◌≡◌, ◌≢◌, ℕ, ◌+◌, ◌≤◌, ◌<◌, true, false, [], length, take, drop, IfOk, IfSome};
-ghost use Rattle.cluster_io.specs.Streams.{Rose};
-ghost use Rattle.cluster_io.specs.Windows.{Received, is_end, reached};
+ghost use Rattle.cluster_io.specs.Streams.{Rose, is_end};
+ghost use Rattle.cluster_io.specs.Windows.{Received, reached};
 
 use crate::{NoMemory, ReadStep, Source};
 use std::alloc::Global;
@@ -49,6 +49,13 @@ impl Window {
             end: 0,
             ended: false,
         })
+    }
+
+    /// Whether the source has ended.
+    pub(crate) fn has_ended(&self) -> bool
+        ensures { result ≡ self.now.ended }
+    {
+        self.ended
     }
 
     /// The bytes that are held.
@@ -109,10 +116,12 @@ impl Window {
         requires some { 0 < most }
         requires fits { length self.old.held + most ≤ self.old.room }
         requires at_end { self.old.ended ≡ true → IfSome (S.left src.old) (λ left. left ≡ []) }
+        requires same_end { self.old.ended ≡ S.ended src.old }
         ensures received { Received result most self.old.held self.new.held (S.left src.old) (S.left src.new) }
         ensures handed { self.new.handed ≡ [] }
         ensures room { self.new.room ≡ self.old.room }
         ensures ended { self.new.ended ≡ is_end result }
+        ensures same_end { self.new.ended ≡ S.ended src.new }
         ensures quiet { self.old.ended ≡ true → src.new ≡ src.old }
         ensures going { result ≢ ReadStep.End → self.old.ended ≡ false }
         ensures count { S.faults src.old ≤ S.faults src.new }
@@ -140,8 +149,10 @@ impl Window {
 fn read_behind<S: Source>(src: &mut S, bytes: &mut [u8], end: usize, most: usize) -> ReadStep
     requires some { 0 < most }
     requires fits { end + most ≤ length bytes.old }
+    requires going { S.ended src.old ≡ false }
     ensures received { Received result most (take end bytes.old) (reached result end bytes.new) (S.left src.old) (S.left src.new) }
     ensures within { (n : ℕ) → result ≡ ReadStep.Got n → n ≤ most }
+    ensures end { S.ended src.new ≡ is_end result }
     ensures count { S.faults src.old ≤ S.faults src.new }
     ensures cause { result ≡ ReadStep.Failed → Rose (S.faults src.old) (S.faults src.new) }
     ensures no_failure { S.counts_only_failures ≡ true → result ≢ ReadStep.Failed →

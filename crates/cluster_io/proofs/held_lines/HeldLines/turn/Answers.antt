@@ -5,7 +5,7 @@ use Rattle.cluster_io.specs.Readings.{Reading}
 use Rattle.cluster_io.specs.declared.line_step.LineStep.TheVariants.{Failed}
 use Rattle.cluster_io.specs.Scanning.{Finds, FindsLast}
 use Rattle.cluster_io.specs.HeldLines.{GivesFound, Settles}
-use Rattle.cluster_io.proofs.Turns.{settles_found, settles_last, same_reading, given_is_no_failure}
+use Rattle.cluster_io.proofs.Turns.{settles_found, settles_last, same_reading, given_is_no_failure, given_keeps_end}
 use Rattle.cluster_io.proofs.held_lines.HeldLines.turn.Goals as goal
 
 pub returns-in_default : goal.returns-in_default
@@ -24,6 +24,9 @@ returns-in_default g c =
           c.give.result _ c.give.new.self _ refl refl found c.self.invariant.fresh known c.give.ensures);
       untouched = λ _. refl;
       quiet = λ _. refl;
+      same_end =
+          given_keeps_end c.look-found.result.1 c.give.result _ c.give.new.self c.give.ensures
+          ∙ (ap (λ (r : Reading). r.ended) c.self.view_is ∙ c.requires.same_end);
       count = omega arith;
       cause = λ e. absurd (given_is_no_failure c.look-found.result.1 c.give.result _ c.give.new.self c.give.ensures cc);
       no_failure = λ alone none. refl;

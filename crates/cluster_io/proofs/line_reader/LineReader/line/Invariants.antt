@@ -11,6 +11,7 @@ invariant-loop-step g l = record {
   unread : holds_line l.fn.self.lines.held ≡ true → l.self.src.now ≡ l.fn.self.src.now;
   quiet : l.fn.self.lines.ended ≡ true → l.self.src.now ≡ l.fn.self.src.now;
   at_end : l.self.lines.ended ≡ true → IfSome (g.S.Source.left l.self.src.now) (λ left. left ≡ []);
+  same_end : l.self.lines.ended ≡ g.S.Source.ended l.self.src.now;
   count : g.S.Source.faults l.fn.self.src.now ≤ g.S.Source.faults l.self.src.now;
   no_failure : g.S.Source.counts_only_failures ≡ true → g.S.Source.faults l.self.src.now ≡ g.S.Source.faults l.fn.self.src.now;
   same_source : l.self.src.ghost_name ≡ l.fn.self.src.ghost_name;
