@@ -1,5 +1,5 @@
 ghost use Rattle.std.specs.Prelude.{◌≡◌, ◌≢◌, ℕ, ◌+◌, ◌*◌, ◌^◌, ◌≤◌, ◌<◌, None, Some, true, false, [], length, IfOk, IfSome};
-ghost use Rattle.cluster_io.specs.Streams.{Rose};
+ghost use Rattle.cluster_io.specs.Streams.{Rose, next_fault};
 ghost use Rattle.cluster_io.specs.NextLine.{holds_line};
 ghost use Rattle.cluster_io.specs.HeldLines.{MayGiveFound, GivesFound, Stops, Turned};
 
@@ -161,6 +161,8 @@ impl HeldLines {
         ensures cause { result ≡ Some LineStep.Failed → Rose (S.faults src.old) (S.faults src.new) }
         ensures no_failure { S.counts_only_failures ≡ true → result ≢ Some LineStep.Failed →
             S.faults src.new ≡ S.faults src.old }
+        ensures once { S.counts_only_failures ≡ true → result ≡ Some LineStep.Failed →
+            S.faults src.new ≡ next_fault (S.faults src.old) }
     {
         let (scan, found) = look(self.window.held(), self.scan, self.bounds);
         self.scan = scan;

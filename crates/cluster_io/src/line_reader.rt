@@ -1,6 +1,6 @@
 ghost use Rattle.std.specs.Prelude.{◌≡◌, ◌≢◌, ℕ, ◌^◌, ◌≤◌, ◌<◌, None, Some, true, false, [], IfOk};
 ghost use Rattle.std.specs.Option.{ForSome};
-ghost use Rattle.cluster_io.specs.Streams.{Rose};
+ghost use Rattle.cluster_io.specs.Streams.{Rose, next_fault};
 ghost use Rattle.cluster_io.specs.NextLine.{holds_line};
 ghost use Rattle.cluster_io.specs.Readings.{ReaderAnswered, TellsAnswer};
 
@@ -110,6 +110,8 @@ impl<'s, S: Source> LineReader<'s, S> {
         // The first failed read ends the call.
         ensures no_failure { S.counts_only_failures ≡ true → result ≢ LineStep.Failed →
             S.faults (source_of self.new) ≡ S.faults (source_of self.old) }
+        ensures once { S.counts_only_failures ≡ true → result ≡ LineStep.Failed →
+            S.faults (source_of self.new) ≡ next_fault (S.faults (source_of self.old)) }
         ensures same_source { loan_of self.new ≡ loan_of self.old }
     {
         if let Some(step) = self.lines.stop() {

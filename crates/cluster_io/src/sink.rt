@@ -1,5 +1,5 @@
 ghost use Rattle.std.specs.Prelude.{◌≡◌, ◌≢◌, ℕ, ◌≤◌, ◌<◌, Bool, true, Option, List, [], length, OnOk, OnErr};
-ghost use Rattle.cluster_io.specs.Streams.{Writes, Rose, Adds, AddsPrefix};
+ghost use Rattle.cluster_io.specs.Streams.{Writes, Rose, Adds, AddsPrefix, next_fault};
 
 /// What one call of `Sink::write` took.
 #[derive(Clone, Copy, Debug, PartialEq, Eq)]
@@ -19,7 +19,7 @@ pub trait Sink {
     /// How often the sink has failed.
     ghost faults: { Self → ℕ };
 
-    /// Whether the count rises only with `Failed`.
+    /// Whether the count rises only with `Failed`, and then by one.
     ghost counts_only_failures: { Bool };
 
     /// Takes the first bytes of the piece, as many as it likes.
@@ -29,7 +29,9 @@ pub trait Sink {
         ensures count { faults self.old ≤ faults self.new }
         ensures cause { result ≡ WriteStep.Failed → Rose (faults self.old) (faults self.new) }
         ensures no_failure { counts_only_failures ≡ true → result ≢ WriteStep.Failed →
-            faults self.new ≡ faults self.old };
+            faults self.new ≡ faults self.old }
+        ensures once { counts_only_failures ≡ true → result ≡ WriteStep.Failed →
+            faults self.new ≡ next_fault (faults self.old) };
 }
 
 /// The sink failed before it had taken all of a text.
@@ -46,6 +48,8 @@ pub fn write_text<W: Sink>(out: &mut W, text: &[u8]) -> Result<(), WriteFault>
     // The first failed write ends the call.
     ensures no_failure { OnOk result (W.counts_only_failures ≡ true →
         W.faults out.new ≡ W.faults out.old) }
+    ensures once { OnErr result (W.counts_only_failures ≡ true →
+        W.faults out.new ≡ next_fault (W.faults out.old)) }
     ensures no_call { text.now ≡ [] → out.new ≡ out.old }
 {
     let mut done = 0;

@@ -1,5 +1,5 @@
 ghost use Rattle.std.specs.Prelude.{◌≡◌, ◌≢◌, ℕ, ◌+◌, ◌≤◌, ◌<◌, Bool, true, false, Option, [], List, length, OnErr, IfOk, IfSome, IsErrOf};
-ghost use Rattle.cluster_io.specs.Streams.{ReadsBytes, Rose, is_end, TakesBytes, TakesAtMost, TakesCount};
+ghost use Rattle.cluster_io.specs.Streams.{ReadsBytes, Rose, is_end, next_fault, TakesBytes, TakesAtMost, TakesCount};
 
 use std::alloc::{AllocError, Global};
 
@@ -24,7 +24,7 @@ pub trait Source {
     /// How often the source has failed.
     ghost faults: { Self → ℕ };
 
-    /// Whether the count rises only with `Failed`.
+    /// Whether the count rises only with `Failed`, and then by one.
     ghost counts_only_failures: { Bool };
 
     /// Whether it has said that its bytes end.
@@ -40,6 +40,8 @@ pub trait Source {
         ensures cause { result ≡ ReadStep.Failed → Rose (faults self.old) (faults self.new) }
         ensures no_failure { counts_only_failures ≡ true → result ≢ ReadStep.Failed →
             faults self.new ≡ faults self.old }
+        ensures once { counts_only_failures ≡ true → result ≡ ReadStep.Failed →
+            faults self.new ≡ next_fault (faults self.old) }
         ensures end { ended self.new ≡ is_end result };
 }
 
@@ -89,6 +91,8 @@ pub fn read_all<S: Source>(alloc: Global, src: &mut S, limit: usize) -> Result<V
     // The first failed read ends the call.
     ensures no_failure { S.counts_only_failures ≡ true → ¬ IsErrOf result ReadEnd.Fault →
         S.faults src.new ≡ S.faults src.old }
+    ensures once { S.counts_only_failures ≡ true → IsErrOf result ReadEnd.Fault →
+        S.faults src.new ≡ next_fault (S.faults src.old) }
 {
     let mut bytes = Vec::new(alloc);
     let mut piece = [0u8; PIECE];

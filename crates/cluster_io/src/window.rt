@@ -1,5 +1,5 @@
 ghost use Rattle.std.specs.Prelude.{◌≡◌, ◌≢◌, ℕ, ◌+◌, ◌≤◌, ◌<◌, true, false, [], length, take, drop, IfOk, IfSome};
-ghost use Rattle.cluster_io.specs.Streams.{Rose, is_end};
+ghost use Rattle.cluster_io.specs.Streams.{Rose, is_end, next_fault};
 ghost use Rattle.cluster_io.specs.Windows.{Received, reached};
 
 use crate::{NoMemory, ReadStep, Source};
@@ -128,6 +128,8 @@ impl Window {
         ensures cause { result ≡ ReadStep.Failed → Rose (S.faults src.old) (S.faults src.new) }
         ensures no_failure { S.counts_only_failures ≡ true → result ≢ ReadStep.Failed →
             S.faults src.new ≡ S.faults src.old }
+        ensures once { S.counts_only_failures ≡ true → result ≡ ReadStep.Failed →
+            S.faults src.new ≡ next_fault (S.faults src.old) }
     {
         if self.ended {
             self.forget();
@@ -157,6 +159,8 @@ fn read_behind<S: Source>(src: &mut S, bytes: &mut [u8], end: usize, most: usize
     ensures cause { result ≡ ReadStep.Failed → Rose (S.faults src.old) (S.faults src.new) }
     ensures no_failure { S.counts_only_failures ≡ true → result ≢ ReadStep.Failed →
         S.faults src.new ≡ S.faults src.old }
+    ensures once { S.counts_only_failures ≡ true → result ≡ ReadStep.Failed →
+        S.faults src.new ≡ next_fault (S.faults src.old) }
 {
     src.read(&mut bytes[end..end + most])
 }

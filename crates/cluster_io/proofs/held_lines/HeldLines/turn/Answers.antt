@@ -30,6 +30,7 @@ returns-in_default g c =
       count = omega arith;
       cause = λ e. absurd (given_is_no_failure c.look-found.result.1 c.give.result _ c.give.new.self c.give.ensures cc);
       no_failure = λ alone none. refl;
+      once = λ alone e. absurd (given_is_no_failure c.look-found.result.1 c.give.result _ c.give.new.self c.give.ensures cc);
     }
 
 pub returns-in-End-2-clause-turned : goal.returns-in-End-2-clause-turned
