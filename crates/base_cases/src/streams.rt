@@ -53,15 +53,13 @@ impl<W: Write> Write for Interrupted<W> {
     }
 }
 
-const WHOLE_READS: &[ReadStep] = &[ReadStep::Got(4), ReadStep::Got(1), ReadStep::End];
-
 #[test]
 fn reads_from_std(rt: HostRuntime) {
     let mut buf = [0u8; 4];
     let mut source = StdSource::new(b"abcde".as_slice());
-    for want in WHOLE_READS {
-        assert!(rt; source.read(&mut buf) == *want);
-    }
+    assert!(rt; source.read(&mut buf) == ReadStep::Got(4));
+    assert!(rt; source.read(&mut buf) == ReadStep::Got(1));
+    assert!(rt; source.read(&mut buf) == ReadStep::End);
 }
 
 /// Interruptions, bytes, and what a read gives of these behind them.
@@ -119,7 +117,7 @@ fn interrupted_writes_to_std(rt: HostRuntime) {
     assert!(rt; interrupted_write(1, &mut []) == WriteStep::Failed);
 }
 
-/// A source of these bytes, of which a read gives at most `step`, and these reads fail, counted from 1.
+/// A new source of these bytes, of which a read gives at most `step`, and these reads fail, counted from 1.
 fn source_of(
     rt: &impl Abort,
     alloc: Global,
@@ -128,6 +126,7 @@ fn source_of(
     fails: &[u32],
 ) -> MemorySource
     requires { 0 < step }
+    ensures { ⟦<MemorySource as Source>⟧.ended result ≡ false }
 {
     let bytes = bytes.to_vec(alloc).expect(rt, "memory");
     let fails = fails.to_vec(alloc).expect(rt, "memory");
@@ -432,6 +431,7 @@ fn gives_the_source_back(rt: HostRuntime) {
     let mut reader = LineReader::new(rt.alloc(), &mut source, 4, 4).expect(&rt, "memory");
     assert!(rt; reader.line() == LineStep::Line);
     assert!(rt; reader.raw() == b"a\n".as_slice());
+    assert!(rt; !reader.has_ended());
     let mut buf = [0u8; 9];
     assert!(rt; reader.into_source().read(&mut buf) == ReadStep::Got(5));
     assert!(rt; &buf[..5] == b"efghi".as_slice());

@@ -1,6 +1,6 @@
 //! What the words that read a whole input share: it is read to its end, and then the text is written that the word gives it.
 
-ghost use Rattle.std.specs.Prelude.{◌≡◌, ◌≢◌, ℕ, ◌+◌, ◌≤◌, ◌<◌, true, List, length, IfOk, IfSome};
+ghost use Rattle.std.specs.Prelude.{◌≡◌, ◌≢◌, ℕ, ◌+◌, ◌≤◌, ◌<◌, true, false, List, length, IfOk, IfSome};
 ghost use Rattle.cluster_io.specs.Streams.{Rose, TakesCount};
 ghost use Rattle.sim_core.specs.declared.status.Status.{Status as StatusOf};
 ghost use Rattle.sim_core.specs.Answers.{IsEarly, IsOutcome, MayAnswer, SaysOf};
@@ -25,13 +25,14 @@ pub(crate) trait InputWord {
         ensures status { IfOk result (λ answer. IsOutcome answer.0) };
 }
 
-/// Reads the whole input, and writes the text that it gets with this word.
+/// Reads the whole input, and writes the text that it gets with this word. It asks for a source that hasn't ended.
 pub(crate) fn with_input<I: InputWord, S: Source, W: Sink>(
     alloc: Global,
     word: &I,
     src: &mut S,
     out: &mut W,
 ) -> Status
+    requires { S.ended src.old ≡ false }
     ensures says { IfSome (S.left src.old)
         (λ input. SaysOf whole (I.gets word.now) input (S.left src.new) (W.written out.old) (W.written out.new) result) }
     ensures status { MayAnswer true whole (I.gets word.now) result }

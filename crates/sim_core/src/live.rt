@@ -1,6 +1,6 @@
 //! The word `replay`: the head of the input is read, and then the run is written while its result lines are read.
 
-ghost use Rattle.std.specs.Prelude.{◌≡◌, ◌≢◌, ◌≤◌, ℕ, List, Option, true, IfSome};
+ghost use Rattle.std.specs.Prelude.{◌≡◌, ◌≢◌, ◌≤◌, ℕ, List, Option, true, false, IfSome};
 ghost use Rattle.cluster_io.specs.Streams.{Rose};
 ghost use Rattle.sim_core.specs.Answers.{MayAnswer};
 ghost use Rattle.sim_core.specs.Live.{SaysLive};
@@ -71,8 +71,10 @@ fn status_of(end: LiveEnd) -> Status
     }
 }
 
-/// Reads the head of the input, and carries out the run that follows from it, over the result lines behind it.
+/// Reads the head of the input, and carries out the run that follows from it, over the result lines behind it. It asks for a
+/// source that hasn't ended.
 pub(crate) fn replay<S: Source, W: Sink>(alloc: Global, src: &mut S, out: &mut W) -> Status
+    requires { S.ended src.old ≡ false }
     ensures says { IfSome (S.left src.old) (λ input. SaysLive input (S.left src.new) (W.written out.old) (W.written out.new) result) }
     ensures status { MayAnswer true live IsReplayOutput result }
     ensures read_cause { result ≡ Status.ReadFault → Rose (S.faults src.old) (S.faults src.new) }

@@ -1,4 +1,4 @@
-ghost use Rattle.std.specs.Prelude.{◌≡◌, ◌≢◌, ◌↔◌, ◌+◌, ◌≤◌, ◌<◌, true, Some, None, IfSome, length, map};
+ghost use Rattle.std.specs.Prelude.{◌≡◌, ◌≢◌, ◌↔◌, ◌+◌, ◌≤◌, ◌<◌, true, false, Some, None, IfSome, length, map};
 ghost use Rattle.std.specs.String.{string_bytes};
 ghost use Rattle.cluster_io.specs.Streams.{Rose, TakesCount};
 ghost use Rattle.sim_core.specs.Answers.{WordAnswers, IsCompleteAnswer, IsEarly, IsSafeReplay, IsStatusOf, ReadsLive, ReadsNothing, ReadsWhole};
@@ -27,6 +27,7 @@ use std::alloc::Global;
 
 /// Carries out a word. The clauses are those of `run` for the words that ask for it.
 fn carry_out<S: Source, W: Sink>(alloc: Global, word: Command, src: &mut S, out: &mut W) -> Status
+    requires { S.ended src.old ≡ false }
     ensures answers { WordAnswers word (S.left src.old) (S.left src.new) (W.written out.old) (W.written out.new) result }
     ensures status { IsStatusOf word result }
     ensures reads_nothing { intake word ≡ nothing → src.new ≡ src.old }
@@ -59,8 +60,11 @@ fn carry_out<S: Source, W: Sink>(alloc: Global, word: Command, src: &mut S, out:
     }
 }
 
-/// Carries out what the words after the program's name ask for: reads `src`, writes to `out`, and answers how it ended.
+/// Carries out what the words after the program's name ask for: reads `src`, writes to `out`, and answers how it ended. It asks
+/// for a source that hasn't ended, and never reads past its end.
 pub fn run<S: Source, W: Sink>(alloc: Global, words: &[String], src: &mut S, out: &mut W) -> Status
+    requires { S.ended src.old ≡ false }
+
     // Where the source tells what it reads: what the answer says of the input, of what was read and of what was written; and what it has to be.
     ensures answers { IfSome (command_of (map string_bytes words.now))
         (λ word. WordAnswers word (S.left src.old) (S.left src.new) (W.written out.old) (W.written out.new) result) }

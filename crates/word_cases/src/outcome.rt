@@ -1,6 +1,8 @@
 //! One call of `run` over a source and a sink in memory, and what comes of it.
 
-use cluster_io::{MemorySink, MemorySource};
+ghost use Rattle.std.specs.Prelude.{◌≡◌, false};
+
+use cluster_io::{MemorySink, MemorySource, Source};
 use sim_core::{Status, run};
 use std::alloc::Global;
 use std::process::Abort;
@@ -77,7 +79,9 @@ fn owned(rt: &impl Abort, alloc: Global, words: &[&str]) -> Vec<String> {
     list
 }
 
-fn source(rt: &impl Abort, alloc: Global, input: &[u8], reads: Pace<'_>) -> MemorySource {
+fn source(rt: &impl Abort, alloc: Global, input: &[u8], reads: Pace<'_>) -> MemorySource
+    ensures { ⟦<MemorySource as Source>⟧.ended result ≡ false }
+{
     let bytes = input.to_vec(alloc).expect(rt, "memory");
     let fails = reads.fails.to_vec(alloc).expect(rt, "memory");
     MemorySource::new(bytes, reads.step.max(1), fails)
