@@ -10,55 +10,59 @@ use Rattle.cluster_types.specs.declared.leaf.TargetRole.{TargetRole}
 use Rattle.cluster_types.specs.declared.leaf.TargetRole.TheVariants as target_role
 
 module _ (c : Cluster) (r : ℕ) where
+  -- what the leaf of the number says, or else this
+  abbrev pub of_leaf : {A : Type 0} → (Leaf → A) → A → A
+  of_leaf says plainest = option_map_or says (slice_get c.leaves r) plainest
+
   abbrev pub leaf_name : List ℕ
-  leaf_name = option_map_or (λ (leaf : Leaf). leaf.name) (slice_get c.leaves r) []
+  leaf_name = of_leaf (λ leaf. leaf.name) []
 
   abbrev pub copies : ℕ
-  copies = option_map_or (λ (leaf : Leaf). leaf.copies) (slice_get c.leaves r) 0
+  copies = of_leaf (λ leaf. leaf.copies) 0
 
   abbrev pub promoted_copies : ℕ
-  promoted_copies = option_map_or (λ (leaf : Leaf). leaf.promoted_copies) (slice_get c.leaves r) 0
+  promoted_copies = of_leaf (λ leaf. leaf.promoted_copies) 0
 
   abbrev pub is_cloned : Bool
-  is_cloned = option_map_or (λ (leaf : Leaf). leaf.cloned) (slice_get c.leaves r) false
+  is_cloned = of_leaf (λ leaf. leaf.cloned) false
 
   abbrev pub is_promotable : Bool
-  is_promotable = option_map_or (λ (leaf : Leaf). leaf.promotable) (slice_get c.leaves r) false
+  is_promotable = of_leaf (λ leaf. leaf.promotable) false
 
   abbrev pub is_follower : Bool
-  is_follower = option_map_or (λ (leaf : Leaf). leaf.follower) (slice_get c.leaves r) false
+  is_follower = of_leaf (λ leaf. leaf.follower) false
 
   abbrev pub is_managed : Bool
-  is_managed = option_map_or (λ (leaf : Leaf). leaf.managed) (slice_get c.leaves r) false
+  is_managed = of_leaf (λ leaf. leaf.managed) false
 
   abbrev pub may_migrate : Bool
-  may_migrate = option_map_or (λ (leaf : Leaf). leaf.migrates) (slice_get c.leaves r) false
+  may_migrate = of_leaf (λ leaf. leaf.migrates) false
 
   -- the points of its scores
   abbrev pub priority : ℤ
-  priority = option_map_or (λ (leaf : Leaf). leaf.priority) (slice_get c.leaves r) (pos 0)
+  priority = of_leaf (λ leaf. leaf.priority) (pos 0)
 
   abbrev pub threshold : ℤ
-  threshold = option_map_or (λ (leaf : Leaf). leaf.threshold) (slice_get c.leaves r) (pos 0)
+  threshold = of_leaf (λ leaf. leaf.threshold) (pos 0)
 
   -- in milliseconds; 0 is never
   abbrev pub failure_timeout : ℕ
-  failure_timeout = option_map_or (λ (leaf : Leaf). leaf.timeout_ms) (slice_get c.leaves r) 0
+  failure_timeout = of_leaf (λ leaf. leaf.timeout_ms) 0
 
   abbrev pub monitors : List Monitor
-  monitors = option_map_or (λ (leaf : Leaf). leaf.monitors) (slice_get c.leaves r) []
+  monitors = of_leaf (λ leaf. leaf.monitors) []
 
   abbrev pub target_role_of : TargetRole
-  target_role_of = option_map_or (λ (leaf : Leaf). leaf.target_role) (slice_get c.leaves r) target_role.Started
+  target_role_of = of_leaf (λ leaf. leaf.target_role) target_role.Started
 
   abbrev pub start_fail : OnFail
-  start_fail = option_map_or (λ (leaf : Leaf). leaf.start_fail) (slice_get c.leaves r) on_fail.Restart
+  start_fail = of_leaf (λ leaf. leaf.start_fail) on_fail.Restart
 
   abbrev pub stop_fail : OnFail
-  stop_fail = option_map_or (λ (leaf : Leaf). leaf.stop_fail) (slice_get c.leaves r) on_fail.Restart
+  stop_fail = of_leaf (λ leaf. leaf.stop_fail) on_fail.Restart
 
   abbrev pub promote_fail : OnFail
-  promote_fail = option_map_or (λ (leaf : Leaf). leaf.promote_fail) (slice_get c.leaves r) on_fail.Restart
+  promote_fail = of_leaf (λ leaf. leaf.promote_fail) on_fail.Restart
 
   abbrev pub demote_fail : OnFail
-  demote_fail = option_map_or (λ (leaf : Leaf). leaf.demote_fail) (slice_get c.leaves r) on_fail.Restart
+  demote_fail = of_leaf (λ leaf. leaf.demote_fail) on_fail.Restart

@@ -22,7 +22,7 @@ use Rattle.cluster_types.specs.declared.states.CellState.{CellState}
 use Rattle.cluster_types.specs.declared.states.CellState.TheVariants as cell
 use Rattle.cluster_types.specs.CellStates.{cell_state}
 use Rattle.cluster_types.specs.Failures.{is_banned}
-use Rattle.cluster_types.specs.Fields.{is_cloned, is_follower}
+use Rattle.cluster_types.specs.Fields.{is_cloned, is_follower, of_leaf}
 use Rattle.cluster_types.specs.Journals.{moment_of}
 use Rattle.cluster_types.specs.NodeStates.{is_usable}
 
@@ -84,7 +84,7 @@ module _ (c : Cluster) (es : List Event) where
 
   abbrev pub stickiness_scores : ℕ → ℕ → List ℤ
   stickiness_scores r n =
-      if is_active (cell_state c r n es) then option_map_or (λ (leaf : Leaf). leaf.stickiness ∷ []) (slice_get c.leaves r) [] else []
+      if is_active (cell_state c r n es) then of_leaf c r (λ leaf. leaf.stickiness ∷ []) [] else []
 
   abbrev pub ban_scores : ℕ → ℕ → List ℤ
   ban_scores r n = if is_banned c r n es then minus_infinity ∷ [] else []
