@@ -17,6 +17,7 @@ use Rattle.cluster_types.specs.declared.states.CellState.{CellState}
 use Rattle.cluster_types.specs.declared.states.CellState.TheVariants as cell
 use Rattle.cluster_types.specs.CellStates.{cell_state}
 use Rattle.cluster_types.specs.Decisions.{leaf_of, is_same_decision, decision_of}
+use Rattle.cluster_types.specs.Each.{implies}
 use Rattle.cluster_types.specs.Failures.{is_fail_stopped}
 use Rattle.cluster_types.specs.Fields.{copies, promoted_copies, target_role_of}
 use Rattle.cluster_types.specs.NodeStates.{is_usable}
@@ -61,7 +62,16 @@ cap_of c es (Place r) = if is_stopped_role (target_role_of c r) || is_fail_stopp
 cap_of c es (Promote r) =
     if is_stopped_role (target_role_of c r) || is_unpromoted_role (target_role_of c r) then 0 else min (copies c r) (promoted_copies c r)
 
--- what colocations say, with the table so far
+-- what one colocation says, with the table so far
+module _ (table : Targets) where
+  -- the decision gives one side of the colocation its role on the node, where the other side holds its own
+  abbrev pub would_join_primary : Decision → ℕ → Colocation → Bool
+  would_join_primary d n col = is_dependent d col && holds_role table col.primary col.primary_role n
+
+  abbrev pub would_join_dependent : Decision → ℕ → Colocation → Bool
+  would_join_dependent d n col = is_primary d col && holds_role table col.dependent col.dependent_role n
+
+-- what all colocations say
 module _ (c : Cluster) (table : Targets) where
   -- the total of the finite colocations of a decision whose primary holds its role on the node
   abbrev pub preference : Decision → ℕ → ℤ
@@ -71,14 +81,11 @@ module _ (c : Cluster) (table : Targets) where
   -- each mandatory primary of the decision holds its role on the node
   abbrev pub has_primaries : Decision → ℕ → Bool
   has_primaries d n =
-      list_all (λ col. not (is_mandatory col && is_dependent d col) || holds_role table col.primary col.primary_role n) c.colocations
+      list_all (λ col. implies (is_mandatory col && is_dependent d col) (holds_role table col.primary col.primary_role n)) c.colocations
 
-  -- nothing that must be apart from it holds its role on the node
+  -- for each separation, the decision joins neither side to the other
   abbrev pub is_apart : Decision → ℕ → Bool
-  is_apart d n =
-      list_all (λ col. not (is_separation col)
-      || not (is_dependent d col && holds_role table col.primary col.primary_role n)
-      && not (is_primary d col && holds_role table col.dependent col.dependent_role n)) c.colocations
+  is_apart d n = list_all (λ col. implies (is_separation col) (not (would_join_primary table d n col) && not (would_join_dependent table d n col))) c.colocations
 
 -- a leaf is promoted only where it is placed
 abbrev pub is_placed_for : Targets → Decision → ℕ → Bool

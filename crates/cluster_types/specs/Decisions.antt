@@ -15,6 +15,7 @@ use Rattle.cluster_types.specs.declared.rules.Colocation.{Colocation}
 use Rattle.cluster_types.specs.declared.states.CellState.{CellState}
 use Rattle.cluster_types.specs.declared.states.CellState.TheVariants as cell
 use Rattle.cluster_types.specs.CellStates.{cell_state}
+use Rattle.cluster_types.specs.Each.{implies}
 use Rattle.cluster_types.specs.Fields.{is_promotable, priority}
 use Rattle.cluster_types.specs.NodeStates.{is_usable}
 use Rattle.cluster_types.specs.Pins.{is_pinned}
@@ -97,13 +98,11 @@ module _ (c : Cluster) (es : List Event) where
   decisions = flat_map decisions_of (range_with_len 0 (length c.leaves))
 
   abbrev pub is_decision : Decision → Bool
-  is_decision d = list_any (is_same_decision d) decisions
+  is_decision d = is_among decisions d
 
-  -- the decision can be made now: it hasn't been, and what it needs has been
+  -- the decision can be made now: it hasn't been, and each that it needs has been
   abbrev pub is_ready : List Decision → Decision → Bool
-  is_ready made d =
-      is_decision d && not (list_any (is_same_decision d) made)
-      && list_all (λ e. not (needs c d e) || list_any (is_same_decision e) made) decisions
+  is_ready made d = is_decision d && not (is_among made d) && list_all (λ e. implies (needs c d e) (is_among made e)) decisions
 
 module _ (c : Cluster) (es : List Event) (promotions : List Promotion) where
   abbrev pub totals_where : (ℕ → Bool) → Decision → List ℤ

@@ -14,6 +14,7 @@ use Rattle.cluster_types.specs.declared.journal.Outcome.TheVariants.{Code, Gone}
 use Rattle.cluster_types.specs.declared.leaf.Op.TheVariants.{Monitor}
 use Rattle.cluster_types.specs.declared.leaf.Role.TheVariants as role
 use Rattle.cluster_types.specs.Answering.{applies_after, added_by, end_event, end_events}
+use Rattle.cluster_types.specs.Each.{implies}
 use Rattle.cluster_types.specs.ExitCodes.{success, not_running, running_promoted, degraded, degraded_promoted}
 use Rattle.cluster_types.specs.Journals.{ends_number}
 use Rattle.cluster_types.specs.Outcomes.{is_code_among, is_ignored}
@@ -120,7 +121,7 @@ module _ (t : Transition) where
     abbrev pub may_begin : ℕ → Bool
     may_begin k =
         list_any (λ j. j == k) numbers && not has_aborted && not (has_begun k) && has_room
-        && list_all (λ j. not (t.precedes j k) || has_succeeded j) numbers
+        && list_all (λ j. implies (t.precedes j k) (has_succeeded j)) numbers
 
     -- no action may begin
     abbrev pub is_settled : Bool
