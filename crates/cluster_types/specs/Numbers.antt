@@ -76,6 +76,32 @@ reaches c (suc most) s t = list_any (λ l. is_same_step l.before s && (is_same_s
 abbrev pub StepsHaveNoLoop : Cluster → Type 0
 StepsHaveNoLoop c = (s : StepOf) → reaches c (4 * length c.leaves) s s ≡ false
 
+-- what is done at about the same time, in the order in which it is done
+pub data NumberPhase : Type 0 where
+  Fences : NumberPhase
+  Probes : NumberPhase
+  -- stops and demotes
+  Stops : NumberPhase
+  -- migrations, on their sources
+  Sends : NumberPhase
+  -- migrations, on their targets
+  TakingsIn : NumberPhase
+  -- the stops of the leaves that migrate
+  SourceStops : NumberPhase
+  -- starts and promotes
+  Starts : NumberPhase
+  Monitors : NumberPhase
+
+abbrev pub phase_rank : NumberPhase → ℕ
+phase_rank Fences = 0
+phase_rank Probes = 1
+phase_rank Stops = 2
+phase_rank Sends = 3
+phase_rank TakingsIn = 4
+phase_rank SourceStops = 5
+phase_rank Starts = 6
+phase_rank Monitors = 7
+
 -- where an action stands in the numbers: by phase, rank, leaf, node and interval
 pub record Place : Type 0 where
   pub phase : ℕ
@@ -87,24 +113,31 @@ pub record Place : Type 0 where
 abbrev pub place : ℕ → ℕ → ℕ → ℕ → ℕ → Place
 place phase ranked r n interval = record { phase = phase; ranked = ranked; leaf = r; node = n; interval = interval }
 
--- the phases: fences, probes, stops and demotes, sends, takings in, the stops of migrating leaves, starts and promotes, monitors
-abbrev pub action_place : Cluster → List Action → Action → Place
-action_place c actions (Fence n) = place 0 0 0 n 0
-action_place c actions (Probe r n) = place 1 0 r n 0
-action_place c actions (Cell op.Stop r n interval role) = if is_migrating actions r then place 5 0 r n 0 else place 2 (rank c (step_of op.Stop r)) r n 0
-action_place c actions (Cell op.Demote r n interval role) = place 2 (rank c (step_of op.Demote r)) r n 0
-action_place c actions (MigrateTo r source target) = place 3 0 r source 0
-action_place c actions (MigrateFrom r source target) = place 4 0 r target 0
-action_place c actions (Cell op.Start r n interval role) = place 6 (rank c (step_of op.Start r)) r n 0
-action_place c actions (Cell op.Promote r n interval role) = place 6 (rank c (step_of op.Promote r)) r n 0
-action_place c actions (Cell op.Monitor r n interval role) = place 7 0 r n interval
+abbrev pub place_in : NumberPhase → ℕ → ℕ → ℕ → ℕ → Place
+place_in phase ranked r n interval = place (phase_rank phase) ranked r n interval
 
+-- the place of each action. What has no rank, leaf, node or interval has 0 there: only stops, demotes, starts and promotes have a rank
+abbrev pub action_place : Cluster → List Action → Action → Place
+action_place c actions (Fence n) = place_in Fences 0 0 n 0
+action_place c actions (Probe r n) = place_in Probes 0 r n 0
+action_place c actions (Cell op.Stop r n interval role) =
+    if is_migrating actions r then place_in SourceStops 0 r n 0 else place_in Stops (rank c (step_of op.Stop r)) r n 0
+action_place c actions (Cell op.Demote r n interval role) = place_in Stops (rank c (step_of op.Demote r)) r n 0
+action_place c actions (MigrateTo r source target) = place_in Sends 0 r source 0
+action_place c actions (MigrateFrom r source target) = place_in TakingsIn 0 r target 0
+action_place c actions (Cell op.Start r n interval role) = place_in Starts (rank c (step_of op.Start r)) r n 0
+action_place c actions (Cell op.Promote r n interval role) = place_in Starts (rank c (step_of op.Promote r)) r n 0
+action_place c actions (Cell op.Monitor r n interval role) = place_in Monitors 0 r n interval
+
+-- the one number is below the other, or they are equal and the rest says so
+abbrev pub is_below_or_tied : ℕ → ℕ → Bool → Bool
+is_below_or_tied x y among_equals = nat_lt x y || x == y && among_equals
+
+-- the lesser phase comes first, then the lesser rank, leaf, node, and interval
 abbrev pub is_place_before : Place → Place → Bool
 is_place_before a b =
-    nat_lt a.phase b.phase || a.phase == b.phase
-    && (nat_lt a.ranked b.ranked || a.ranked == b.ranked
-    && (nat_lt a.leaf b.leaf || a.leaf == b.leaf
-    && (nat_lt a.node b.node || a.node == b.node && nat_lt a.interval b.interval)))
+    is_below_or_tied a.phase b.phase
+    (is_below_or_tied a.ranked b.ranked (is_below_or_tied a.leaf b.leaf (is_below_or_tied a.node b.node (nat_lt a.interval b.interval))))
 
 -- the one action has a lower number than the other
 abbrev pub is_earlier : Cluster → List Action → Action → Action → Bool
