@@ -3,7 +3,8 @@ use Rattle.std.proofs.Common.{ℕ, List}
 use Rattle.cluster_types.specs.declared.cluster.Cluster.{Cluster}
 use Rattle.cluster_types.specs.declared.journal.Event.{Event}
 use Rattle.cluster_types.specs.declared.placement.Decision.{Decision}
-use Rattle.cluster_types.specs.Held.{Held, by_order, by_colocation, by_place, IsClosedUnderHolding}
+use Rattle.cluster_types.specs.Held.{Held, by_order, by_colocation, by_place}
+use Rattle.cluster_types.specs.LeastSets.{IsClosedUnderCycling, IsClosedUnderHolding}
 use Rattle.cluster_types.specs.Needed as cycling
 use Rattle.cluster_types.specs.Tables.{Targets}
 
@@ -22,14 +23,14 @@ held-least c es table set closed _ _ (by_colocation col n may lacks) =
     closed.by_colocation col n may (λ has. held-least c es table set closed _ _ (lacks has))
 held-least c es table set closed _ _ (by_place r n promoted held) = closed.by_place r n promoted (held-least c es table set closed _ _ held)
 
-pub cycled-closed : (c : Cluster) (es : List Event) (targets : Targets) → cycling.IsClosedUnderCycling c es targets (cycling.Cycled c es targets)
+pub cycled-closed : (c : Cluster) (es : List Event) (targets : Targets) → IsClosedUnderCycling c es targets (cycling.Cycled c es targets)
 cycled-closed c es targets = record {
   by_copies = λ r n leaf node can more. cycling.by_copies r n leaf node can more;
   by_order = λ o n m first later may disturbed. cycling.by_order o n m first later may disturbed;
   by_cycled = λ o n m first later may cycled disturbed. cycling.by_cycled o n m first later may cycled disturbed;
 }
 
-pub cycled-least : (c : Cluster) (es : List Event) (targets : Targets) (set : ℕ → ℕ → Type 0) → cycling.IsClosedUnderCycling c es targets set
+pub cycled-least : (c : Cluster) (es : List Event) (targets : Targets) (set : ℕ → ℕ → Type 0) → IsClosedUnderCycling c es targets set
     → (r n : ℕ) → cycling.Cycled c es targets r n → set r n
 cycled-least c es targets set closed _ _ (cycling.by_copies r n leaf node can more) = closed.by_copies r n leaf node can more
 cycled-least c es targets set closed _ _ (cycling.by_order o n m first later may disturbed) = closed.by_order o n m first later may disturbed

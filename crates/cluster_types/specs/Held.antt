@@ -43,7 +43,7 @@ module _ (c : Cluster) (es : List Event) (table : Targets) where
     pub within : n < length c.nodes
     pub chosen : holds_role table col.dependent col.dependent_role n ≡ true
 
-  -- of the first of an order each target in its role and in scope is in the set; of the primary of a colocation that on the node
+  -- no target of the first of an order, in its role and in scope, is outside the set; and none of the primary of a colocation on the node
   abbrev pub LacksFirst : (Decision → ℕ → Type 0) → Order → ℕ → Role → Type 0
   LacksFirst set o n first =
       (m : ℕ) → m < length c.nodes → is_in_scope o n m ≡ true → holds_role table o.first first m ≡ true → set (decision_of o.first first) m
@@ -51,15 +51,8 @@ module _ (c : Cluster) (es : List Event) (table : Targets) where
   abbrev pub LacksPrimary : (Decision → ℕ → Type 0) → Colocation → ℕ → Type 0
   LacksPrimary set col n = holds_role table col.primary col.primary_role n ≡ true → set (decision_of col.primary col.primary_role) n
 
-  -- the three rules: a then is held where its first has no target that isn't, a dependent where its primary has none, and a promote where the place
-  -- of its leaf is held
-  pub record IsClosedUnderHolding (set : Decision → ℕ → Type 0) : Type 0 where
-    pub by_order : (o : Order) (n : ℕ) (first later : Role) → OrderMayHold o n first later → LacksFirst set o n first → set (decision_of o.then_leaf later) n
-    pub by_colocation : (col : Colocation) (n : ℕ) → ColocationMayHold col n → LacksPrimary set col n
-        → set (decision_of col.dependent col.dependent_role) n
-    pub by_place : (r n : ℕ) → holds_role table r role.Promoted n ≡ true → set (Place r) n → set (Promote r) n
-
-  -- the chosen cells that are held back: the least set that is closed under the three rules
+  -- the chosen cells that are held back, by three rules and nothing else: a then is held where its first has no target in scope that isn't, a dependent
+  -- where its primary has none on the node, and a promote where the place of its leaf is held
   pub data Held : Decision → ℕ → Type 0 where
     by_order : (o : Order) (n : ℕ) (first later : Role) → OrderMayHold o n first later
         → ((m : ℕ) → m < length c.nodes → is_in_scope o n m ≡ true → holds_role table o.first first m ≡ true → Held (decision_of o.first first) m)

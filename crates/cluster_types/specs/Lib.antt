@@ -16,6 +16,7 @@ pub mod Decisions
 pub mod Choice
 pub mod Held
 pub mod Needed
+pub mod LeastSets
 pub mod Precedence
 pub mod Numbers
 pub mod Valid

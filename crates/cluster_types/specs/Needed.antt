@@ -90,16 +90,8 @@ module _ (c : Cluster) (es : List Event) (targets : Targets) where
     pub stays : can_cycle o.then_leaf n ≡ true
     pub in_role : holds_role targets o.then_leaf later n ≡ true
 
-  -- the rules: a cell of a leaf that is active in more cells than it has copies is cycled; and so is the then of an order whose first is disturbed in
-  -- scope, by the steps that it needs itself, or by those that it gets as a cycled cell
-  pub record IsClosedUnderCycling (set : ℕ → ℕ → Type 0) : Type 0 where
-    pub by_copies : (r n : ℕ) → r < length c.leaves → n < length c.nodes → can_cycle r n ≡ true → nat_lt (copies c r) (active_count c es r) ≡ true → set r n
-    pub by_order : (o : Order) (n m : ℕ) (first later : Role) → OrderMayCycle o n m first later
-        → has_disturbing o.first_op (steps_at o.first m false) ≡ true → set o.then_leaf n
-    pub by_cycled : (o : Order) (n m : ℕ) (first later : Role) → OrderMayCycle o n m first later → set o.first m
-        → has_disturbing o.first_op (steps_at o.first m true) ≡ true → set o.then_leaf n
-
-  -- the cells that are stopped and started again: the least set that is closed under the rules
+  -- the cells that are stopped and started again, by three rules and nothing else: a cell of a leaf that is active in more cells than it has copies; and
+  -- the then of an order whose first is disturbed in scope, by the steps that it needs itself, or by those that it gets as a cycled cell
   pub data Cycled : ℕ → ℕ → Type 0 where
     by_copies : (r n : ℕ) → r < length c.leaves → n < length c.nodes → can_cycle r n ≡ true → nat_lt (copies c r) (active_count c es r) ≡ true → Cycled r n
     by_order : (o : Order) (n m : ℕ) (first later : Role) → OrderMayCycle o n m first later

@@ -3,7 +3,8 @@
 ghost use Rattle.std.specs.Prelude.{◌≡◌, ◌≢◌, ◌↔◌, ◌<◌, ◌≤◌, ◌+◌, ◌*◌, ◌^◌, Contains, ℕ, Bool, true, false, length, not, slice_get, Option, Some, ◌&&◌, ◌||◌, List, [], ◌∷◌, ◌++◌};
 ghost use Rattle.std.specs.List.{list_all};
 ghost use Rattle.cluster_types.specs.declared.placement.Decision.{Decision as DecisionOf};
-ghost use Rattle.cluster_types.specs.Held.{Held, IsClosedUnderHolding};
+ghost use Rattle.cluster_types.specs.Held.{Held};
+ghost use Rattle.cluster_types.specs.LeastSets.{IsClosedUnderCycling, IsClosedUnderHolding};
 ghost use Rattle.cluster_types.specs.Needed as cycling;
 ghost use Rattle.cluster_types.specs.Numbers.{AreNumbered};
 ghost use Rattle.cluster_types.specs.Safety.{IsEager, PredecessorsFirst};
@@ -77,9 +78,9 @@ pub fn held_is_the_least_set()
 
 /// The same of the cells that are stopped and started again.
 pub fn cycled_is_the_least_set()
-    ensures closed { (c : Cluster) (events : List Event) (targets : Targets) → cycling.IsClosedUnderCycling c events targets (cycling.Cycled c events targets) }
+    ensures closed { (c : Cluster) (events : List Event) (targets : Targets) → IsClosedUnderCycling c events targets (cycling.Cycled c events targets) }
     ensures least { (c : Cluster) (events : List Event) (targets : Targets) (set : ℕ → ℕ → Bool)
-        → cycling.IsClosedUnderCycling c events targets (λ leaf node. set leaf node ≡ true)
+        → IsClosedUnderCycling c events targets (λ leaf node. set leaf node ≡ true)
         → (leaf node : ℕ) → cycling.Cycled c events targets leaf node → set leaf node ≡ true }
 {}
 

@@ -14,7 +14,8 @@ use Rattle.cluster_types.specs.declared.placement.Target.TheVariants as target
 use Rattle.cluster_types.specs.declared.rules.Colocation.{Colocation}
 use Rattle.cluster_types.specs.declared.rules.Order.{Order}
 use Rattle.cluster_types.specs.Decisions.{decision_of}
-use Rattle.cluster_types.specs.Held.{AreTargets, ColocationMayHold, Held, IsClosedUnderHolding, KeepsTarget, LacksFirst, LacksPrimary, OrderMayHold}
+use Rattle.cluster_types.specs.Held.{AreTargets, ColocationMayHold, Held, KeepsTarget, LacksFirst, LacksPrimary, OrderMayHold}
+use Rattle.cluster_types.specs.LeastSets.{IsClosedUnderHolding}
 use Rattle.cluster_types.specs.Pins.{pin_of}
 use Rattle.cluster_types.specs.Precedence.{is_mandatory_order, is_up, role_by}
 use Rattle.cluster_types.specs.Tables.{Targets, holds_role, is_in_scope, is_promoted_target, is_somewhere}

@@ -16,7 +16,8 @@ use Rattle.cluster_types.specs.declared.leaf.Role.TheVariants as role
 use Rattle.cluster_types.specs.declared.placement.Decision.{Decision}
 use Rattle.cluster_types.specs.declared.placement.Target.TheVariants as target
 use Rattle.cluster_types.specs.Decisions.{all_decisions, decision_of, leaf_of}
-use Rattle.cluster_types.specs.Held.{Held, IsClosedUnderHolding, by_colocation, by_order, by_place}
+use Rattle.cluster_types.specs.Held.{Held, by_colocation, by_order, by_place}
+use Rattle.cluster_types.specs.LeastSets.{IsClosedUnderHolding}
 use Rattle.cluster_types.specs.Tables.{Targets, holds_role}
 use Rattle.plan_laws.specs.HeldMarks.{MarkedDecisions, is_held_by}
 use Rattle.plan_laws.proofs.HeldRounds.{rules_give, stable_is_closed}

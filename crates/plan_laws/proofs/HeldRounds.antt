@@ -14,7 +14,8 @@ use Rattle.cluster_types.specs.declared.placement.Decision.{Decision}
 use Rattle.cluster_types.specs.declared.placement.Decision.TheVariants.{Place, Promote}
 use Rattle.cluster_types.specs.declared.rules.Order.{Order}
 use Rattle.cluster_types.specs.Decisions.{decision_of, is_same_decision}
-use Rattle.cluster_types.specs.Held.{Held, IsClosedUnderHolding, LacksFirst, OrderMayHold, by_colocation, by_order, by_place}
+use Rattle.cluster_types.specs.Held.{Held, LacksFirst, OrderMayHold, by_colocation, by_order, by_place}
+use Rattle.cluster_types.specs.LeastSets.{IsClosedUnderHolding}
 use Rattle.cluster_types.specs.Precedence.{role_by}
 use Rattle.cluster_types.specs.Tables.{Targets, holds_role}
 use Rattle.cluster_types.proofs.OpLaws.{gives_one}

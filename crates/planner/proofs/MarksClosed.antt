@@ -9,7 +9,8 @@ use Rattle.cluster_types.specs.declared.cluster.Cluster.{Cluster}
 use Rattle.cluster_types.specs.declared.journal.Event.{Event}
 use Rattle.cluster_types.specs.declared.leaf.Role.{Role}
 use Rattle.cluster_types.specs.declared.rules.Order.{Order}
-use Rattle.cluster_types.specs.Needed.{IsClosedUnderCycling, OrderMayCycle, can_cycle, has_disturbing, steps_at}
+use Rattle.cluster_types.specs.Needed.{OrderMayCycle, can_cycle, has_disturbing, steps_at}
+use Rattle.cluster_types.specs.LeastSets.{IsClosedUnderCycling}
 use Rattle.cluster_types.specs.Precedence.{role_by}
 use Rattle.cluster_types.specs.Tables.{Targets, is_in_scope}
 use Rattle.cluster_types.proofs.OpLaws.{gives_one, up_of}
