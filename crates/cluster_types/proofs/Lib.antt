@@ -35,6 +35,8 @@ pub mod SilentEnds
 pub mod GateGroups
 pub mod OpLaws
 pub mod RuleLeaves
+pub mod Operations
+pub mod PrecedesLaws
 pub mod LastSigns
 pub mod SourceLaws
 mod GuardExamples

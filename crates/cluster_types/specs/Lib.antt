@@ -18,6 +18,7 @@ pub mod Held
 pub mod Needed
 pub mod LeastSets
 pub mod Precedence
+pub mod Precedes
 pub mod Numbers
 pub mod Valid
 pub mod Lawful

@@ -7,6 +7,8 @@ ghost use Rattle.cluster_types.specs.Held.{Held};
 ghost use Rattle.cluster_types.specs.LeastSets.{IsClosedUnderCycling, IsClosedUnderHolding};
 ghost use Rattle.cluster_types.specs.Needed as cycling;
 ghost use Rattle.cluster_types.specs.Numbers.{AreNumbered};
+ghost use Rattle.cluster_types.specs.Precedence.{must_precede};
+ghost use Rattle.cluster_types.specs.Precedes.{Precedes};
 ghost use Rattle.cluster_types.specs.Safety.{IsEager, PredecessorsFirst};
 ghost use Rattle.cluster_types.specs.Steps.{Applies, EndsSilently, Goes, Transition, ended, answer_events, flying, journal, resting, silent_code, silent_end};
 ghost use Rattle.cluster_types.specs.declared.journal.Outcome.TheVariants as outcome;
@@ -82,6 +84,12 @@ pub fn cycled_is_the_least_set()
     ensures least { (c : Cluster) (events : List Event) (targets : Targets) (set : ℕ → ℕ → Bool)
         → IsClosedUnderCycling c events targets (λ leaf node. set leaf node ≡ true)
         → (leaf node : ℕ) → cycling.Cycled c events targets leaf node → set leaf node ≡ true }
+{}
+
+/// What must precede, case by case, is computed: one action must succeed before another begins just where `must_precede` says so.
+pub fn precedence_is_computed()
+    ensures { (c : Cluster) (actions : List Action) (is_earlier : Action → Action → Bool) (x y : Action)
+        → must_precede c actions is_earlier x y ≡ true ↔ Precedes c actions is_earlier x y }
 {}
 
 /// The actions that are needed have one list in the order of their numbers, and each action stands at one position of it.
