@@ -16,7 +16,6 @@ use Rattle.cluster_types.specs.declared.rules.Order.{Order}
 use Rattle.cluster_types.specs.declared.rules.OrderKind.{OrderKind}
 use Rattle.cluster_types.specs.declared.rules.OrderKind.TheVariants as kind
 use Rattle.cluster_types.specs.Answering.{applies_after}
-use Rattle.cluster_types.specs.Held.{started}
 use Rattle.cluster_types.specs.Needed.{Cycled, IsHarmlessOrder, by_order, by_cycled, has_disturbing, steps_at}
 use Rattle.cluster_types.specs.Numbers.{is_earlier}
 use Rattle.cluster_types.specs.Steps.{silent_code, is_success}
@@ -207,13 +206,13 @@ stay _ _ = target.Nowhere
 
 then_is_cycled : Cycled chain failed stay 1 1
 then_is_cycled =
-    by_order (start_order (codes "o") 0 1 false) 1 0 role.Started role.Started
+    by_order (start_order (codes "o") 0 1 false) 1 0
     (record {
       present = (0, omega arith, refl);
       mandatory = refl;
       both_ways = refl;
-      first_gives = started;
-      then_gives = started;
+      first_gives = refl;
+      then_gives = refl;
       within = omega arith;
       first_within = omega arith;
       in_scope = refl;
@@ -223,13 +222,13 @@ then_is_cycled =
 
 its_then_too : Cycled chain failed stay 2 1
 its_then_too =
-    by_cycled (start_order (codes "p") 1 2 false) 1 1 role.Started role.Started
+    by_cycled (start_order (codes "p") 1 2 false) 1 1
     (record {
       present = (1, omega arith, refl);
       mandatory = refl;
       both_ways = refl;
-      first_gives = started;
-      then_gives = started;
+      first_gives = refl;
+      then_gives = refl;
       within = omega arith;
       first_within = omega arith;
       in_scope = refl;

@@ -8,7 +8,7 @@ use Rattle.cluster_types.specs.declared.placement.Decision.TheVariants.{Place}
 use Rattle.cluster_types.specs.declared.placement.NoReason.TheVariants as none
 use Rattle.cluster_types.specs.declared.placement.Target.TheVariants as target
 use Rattle.cluster_types.specs.declared.rules.Order.{Order}
-use Rattle.cluster_types.specs.Held.{OrderMayHold, Held, by_order, started, KeepsTarget, AreTargets}
+use Rattle.cluster_types.specs.Held.{OrderMayHold, Held, by_order, KeepsTarget, AreTargets}
 use Rattle.cluster_types.specs.Reasons.{HasReason, IsHeldByOrder}
 use Rattle.cluster_types.specs.Tables.{Targets, holds_role, no_targets}
 use Rattle.cluster_types.proofs.Few.{below_two}
@@ -39,19 +39,19 @@ b_is_chosen = refl
 a_is_nowhere : (m : ℕ) → m < 2 → holds_role chosen 0 role.Started m ≡ false
 a_is_nowhere = below_two (λ m. holds_role chosen 0 role.Started m ≡ false) refl refl
 
-b_may_be_held : OrderMayHold tied idle chosen order 0 role.Started role.Started
+b_may_be_held : OrderMayHold tied idle chosen order 0
 b_may_be_held = record {
   present = (0, omega arith, refl);
   mandatory = refl;
-  first_gives = started;
-  then_gives = started;
+  first_gives = refl;
+  then_gives = refl;
   managed = refl;
   within = omega arith;
   chosen = refl;
 }
 
 b_is_held : Held tied idle chosen (Place 1) 0
-b_is_held = by_order order 0 role.Started role.Started b_may_be_held
+b_is_held = by_order order 0 b_may_be_held
     (λ m h s p. let q = a_is_nowhere m h in cc)
 
 nothing_is_left : AreTargets tied idle chosen no_targets
@@ -63,9 +63,8 @@ held_by_the_order : IsHeldByOrder tied idle chosen 1 0 order
 held_by_the_order = record {
   mandatory = refl;
   later = refl;
-  starts = started;
-  first = role.Started;
-  gives = started;
+  starts = refl;
+  first_gives = refl;
   lacking = λ m h s p. let q = a_is_nowhere m h in cc;
 }
 

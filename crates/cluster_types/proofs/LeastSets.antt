@@ -10,15 +10,15 @@ use Rattle.cluster_types.specs.Tables.{Targets}
 
 pub held-closed : (c : Cluster) (es : List Event) (table : Targets) → IsClosedUnderHolding c es table (Held c es table)
 held-closed c es table = record {
-  by_order = λ o n first later may lacks. by_order o n first later may lacks;
+  by_order = λ o n may lacks. by_order o n may lacks;
   by_colocation = λ col n may lacks. by_colocation col n may lacks;
   by_place = λ r n promoted held. by_place r n promoted held;
 }
 
 pub held-least : (c : Cluster) (es : List Event) (table : Targets) (set : Decision → ℕ → Type 0) → IsClosedUnderHolding c es table set
     → (d : Decision) (n : ℕ) → Held c es table d n → set d n
-held-least c es table set closed _ _ (by_order o n first later may lacks) =
-    closed.by_order o n first later may (λ m within scope has. held-least c es table set closed _ _ (lacks m within scope has))
+held-least c es table set closed _ _ (by_order o n may lacks) =
+    closed.by_order o n may (λ m within scope has. held-least c es table set closed _ _ (lacks m within scope has))
 held-least c es table set closed _ _ (by_colocation col n may lacks) =
     closed.by_colocation col n may (λ has. held-least c es table set closed _ _ (lacks has))
 held-least c es table set closed _ _ (by_place r n promoted held) = closed.by_place r n promoted (held-least c es table set closed _ _ held)
@@ -26,13 +26,13 @@ held-least c es table set closed _ _ (by_place r n promoted held) = closed.by_pl
 pub cycled-closed : (c : Cluster) (es : List Event) (targets : Targets) → IsClosedUnderCycling c es targets (cycling.Cycled c es targets)
 cycled-closed c es targets = record {
   by_copies = λ r n leaf node can more. cycling.by_copies r n leaf node can more;
-  by_order = λ o n m first later may disturbed. cycling.by_order o n m first later may disturbed;
-  by_cycled = λ o n m first later may cycled disturbed. cycling.by_cycled o n m first later may cycled disturbed;
+  by_order = λ o n m may disturbed. cycling.by_order o n m may disturbed;
+  by_cycled = λ o n m may cycled disturbed. cycling.by_cycled o n m may cycled disturbed;
 }
 
 pub cycled-least : (c : Cluster) (es : List Event) (targets : Targets) (set : ℕ → ℕ → Type 0) → IsClosedUnderCycling c es targets set
     → (r n : ℕ) → cycling.Cycled c es targets r n → set r n
 cycled-least c es targets set closed _ _ (cycling.by_copies r n leaf node can more) = closed.by_copies r n leaf node can more
-cycled-least c es targets set closed _ _ (cycling.by_order o n m first later may disturbed) = closed.by_order o n m first later may disturbed
-cycled-least c es targets set closed _ _ (cycling.by_cycled o n m first later may cycled disturbed) =
-    closed.by_cycled o n m first later may (cycled-least c es targets set closed _ _ cycled) disturbed
+cycled-least c es targets set closed _ _ (cycling.by_order o n m may disturbed) = closed.by_order o n m may disturbed
+cycled-least c es targets set closed _ _ (cycling.by_cycled o n m may cycled disturbed) =
+    closed.by_cycled o n m may (cycled-least c es targets set closed _ _ cycled) disturbed

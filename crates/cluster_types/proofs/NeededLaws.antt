@@ -28,15 +28,15 @@ module _ (c : Cluster) (es : List Event) (targets : Targets) where
   -- only what can be cycled is cycled
   pub can_be_cycled : (r n : ℕ) → Cycled c es targets r n → can_cycle c es targets r n ≡ true
   can_be_cycled _ _ (by_copies r n h l can over) = can
-  can_be_cycled _ _ (by_order o n m f t may d) = may.stays
-  can_be_cycled _ _ (by_cycled o n m f t may y d) = may.stays
+  can_be_cycled _ _ (by_order o n m may d) = may.stays
+  can_be_cycled _ _ (by_cycled o n m may y d) = may.stays
 
   -- without orders a cell is cycled only where its leaf is active in more cells than it has copies
   pub is_never_cycled : ((o : Order) → Contains c.orders o → ⊥) → ((r : ℕ) → r < length c.leaves → nat_lt (copies c r) (active_count c es r) ≡ false)
       → (r n : ℕ) → Cycled c es targets r n → ⊥
   is_never_cycled unordered few r _ (by_copies _ n h l can over) = let fewer = few r h in cc
-  is_never_cycled unordered few _ _ (by_order o n m f t may d) = unordered o may.present
-  is_never_cycled unordered few _ _ (by_cycled o n m f t may y d) = unordered o may.present
+  is_never_cycled unordered few _ _ (by_order o n m may d) = unordered o may.present
+  is_never_cycled unordered few _ _ (by_cycled o n m may y d) = unordered o may.present
 
   -- a cell that isn't cycled gets the steps of its state and target
   pub step_of_uncycled : (r n : ℕ) (o : Op) → (Cycled c es targets r n → ⊥) → GetsStep c es targets r n o → Contains (steps_at c es targets r n false) o

@@ -3,10 +3,9 @@ use Rattle.std.proofs.Common.{◌≡◌, true, [], ◌∷◌, Contains, refl}
 use Rattle.lemmas.proofs.Members.{at_head, in_rest}
 use Rattle.cluster_types.specs.declared.leaf.Op.{Op}
 use Rattle.cluster_types.specs.declared.leaf.Op.TheVariants.{Start, Stop, Promote, Demote, Monitor}
-use Rattle.cluster_types.specs.declared.leaf.Role.{Role}
+use Rattle.cluster_types.specs.declared.leaf.Role.TheVariants as role
 use Rattle.cluster_types.specs.declared.rules.OrderKind.{OrderKind}
 use Rattle.cluster_types.specs.declared.rules.OrderKind.TheVariants as kind
-use Rattle.cluster_types.specs.Held.{ActionGives, started, promoted}
 use Rattle.cluster_types.specs.Precedence.{is_mandatory_order, is_same_op, is_up, role_by, takers}
 
 pub op_itself : (o : Op) → is_same_op o o ≡ true
@@ -16,22 +15,13 @@ op_itself Promote = refl
 op_itself Demote = refl
 op_itself Monitor = refl
 
--- what gives a role goes up
-pub up_of : (o : Op) (role : Role) → ActionGives o role → is_up o ≡ true
-up_of _ _ started = refl
-up_of _ _ promoted = refl
-
--- and a word that goes up gives its role
-pub gives_by : (o : Op) → is_up o ≡ true → ActionGives o (role_by o)
-gives_by Start h = started
-gives_by Promote h = promoted
-gives_by Stop h = cc
-gives_by Demote h = cc
-gives_by Monitor h = cc
-
-pub gives_one : (o : Op) (given : Role) → ActionGives o given → given ≡ role_by o
-gives_one _ _ started = refl
-gives_one _ _ promoted = refl
+-- what gives the role Started is a start
+pub start_of : (o : Op) → is_up o ≡ true → role_by o ≡ role.Started → o ≡ Start
+start_of Start h e = refl
+start_of Promote h e = cc
+start_of Stop h e = cc
+start_of Demote h e = cc
+start_of Monitor h e = cc
 
 -- a stop takes whatever an up word gives
 pub stop_takes : (o : Op) → is_up o ≡ true → Contains (takers o) Stop

@@ -1,5 +1,5 @@
 -- Which cell an action has by a test, and what the action is by it: its operation, what it stands for, and what it gives or takes.
-use Rattle.std.proofs.Common.{◌≡◌, ◌≢◌, if◌then◌else◌, ℕ, Bool, true, false, Option, Some, None, List, [], ◌∷◌, Contains, refl, subst, ap, sym}
+use Rattle.std.proofs.Common.{◌≡◌, ◌≢◌, if◌then◌else◌, ℕ, Bool, true, false, Option, Some, None, List, [], ◌∷◌, Contains, refl, subst, ap}
 use Rattle.lemmas.proofs.Members.{at_head, in_rest}
 use Rattle.cluster_types.specs.declared.journal.Action.{Action}
 use Rattle.cluster_types.specs.declared.journal.Action.TheVariants.{Fence, Probe, Cell, MigrateTo, MigrateFrom}

@@ -1,6 +1,6 @@
 -- Which leaves are pinned, by the list that says why each is.
-use Rattle.std.proofs.Common.{arith, ◌≡◌, ◌<◌, ◌≤◌, ℕ, true, Option, Some, List, inl, inr, length, map, refl, sym, ◌∙◌, ap}
-use Rattle.std.specs.Prelude.{is_some, slice_get}
+use Rattle.std.proofs.Common.{arith, ◌≡◌, ◌≤◌, ℕ, true, Option, List, inl, inr, length, map, refl, sym, ◌∙◌, ap}
+use Rattle.std.specs.Prelude.{is_some}
 use Rattle.std.specs.List.{range_with_len}
 use Rattle.std.specs.Option.{option_map_or}
 use Rattle.std.proofs.lemmas.Bool.{cases_lt}

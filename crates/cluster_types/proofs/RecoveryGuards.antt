@@ -129,7 +129,7 @@ starts_the_other_way = refl
 abbrev optional : Order
 optional = record (start_order (codes "o") 0 1 false) { kind = kind.Optional }
 
-holds_nothing_back : OrderMayHold stops twice on_n1 optional 0 role.Started role.Started → ⊥
+holds_nothing_back : OrderMayHold stops twice on_n1 optional 0 → ⊥
 holds_nothing_back h = let e = h.mandatory in cc
 
 -- the first reason counts

@@ -3,9 +3,6 @@
 use Rattle.std.specs.Prelude.{◌≡◌, ℕ, ◌<◌, true, false, List, length, Contains}
 use Rattle.cluster_types.specs.declared.cluster.Cluster.{Cluster}
 use Rattle.cluster_types.specs.declared.journal.Event.{Event}
-use Rattle.cluster_types.specs.declared.leaf.Op.{Op}
-use Rattle.cluster_types.specs.declared.leaf.Op.TheVariants as op
-use Rattle.cluster_types.specs.declared.leaf.Role.{Role}
 use Rattle.cluster_types.specs.declared.leaf.Role.TheVariants as role
 use Rattle.cluster_types.specs.declared.placement.Decision.{Decision}
 use Rattle.cluster_types.specs.declared.placement.Decision.TheVariants.{Place, Promote}
@@ -18,22 +15,18 @@ use Rattle.cluster_types.specs.Choice.{is_mandatory}
 use Rattle.cluster_types.specs.Decisions.{decision_of}
 use Rattle.cluster_types.specs.Pins.{is_pinned}
 use Rattle.cluster_types.specs.Tables.{Targets, holds_role, is_in_scope}
-
--- the role that an action gives
-pub data ActionGives : Op → Role → Type 0 where
-  started : ActionGives op.Start role.Started
-  promoted : ActionGives op.Promote role.Promoted
+use Rattle.cluster_types.specs.Precedence.{is_up, role_by}
 
 module _ (c : Cluster) (es : List Event) (table : Targets) where
-  -- a mandatory order of starts or promotes may hold its then back on a node where it was chosen. The table is that after all decisions
-  pub record OrderMayHold (o : Order) (n : ℕ) (first later : Role) : Type 0 where
+  -- a mandatory order of which both words give a role may hold its then back on a node where it was chosen. The table is that after all decisions
+  pub record OrderMayHold (o : Order) (n : ℕ) : Type 0 where
     pub present : Contains c.orders o
     pub mandatory : o.kind ≡ kind.Mandatory
-    pub first_gives : ActionGives o.first_op first
-    pub then_gives : ActionGives o.then_op later
+    pub first_gives : is_up o.first_op ≡ true
+    pub then_gives : is_up o.then_op ≡ true
     pub managed : is_pinned c es o.then_leaf ≡ false
     pub within : n < length c.nodes
-    pub chosen : holds_role table o.then_leaf later n ≡ true
+    pub chosen : holds_role table o.then_leaf (role_by o.then_op) n ≡ true
 
   -- a mandatory colocation may hold its dependent back on a node where it was chosen
   pub record ColocationMayHold (col : Colocation) (n : ℕ) : Type 0 where
@@ -44,9 +37,10 @@ module _ (c : Cluster) (es : List Event) (table : Targets) where
     pub chosen : holds_role table col.dependent col.dependent_role n ≡ true
 
   -- no target of the first of an order, in its role and in scope, is outside the set; and none of the primary of a colocation on the node
-  abbrev pub LacksFirst : (Decision → ℕ → Type 0) → Order → ℕ → Role → Type 0
-  LacksFirst set o n first =
-      (m : ℕ) → m < length c.nodes → is_in_scope o n m ≡ true → holds_role table o.first first m ≡ true → set (decision_of o.first first) m
+  abbrev pub LacksFirst : (Decision → ℕ → Type 0) → Order → ℕ → Type 0
+  LacksFirst set o n =
+      (m : ℕ) → m < length c.nodes → is_in_scope o n m ≡ true → holds_role table o.first (role_by o.first_op) m ≡ true
+      → set (decision_of o.first (role_by o.first_op)) m
 
   abbrev pub LacksPrimary : (Decision → ℕ → Type 0) → Colocation → ℕ → Type 0
   LacksPrimary set col n = holds_role table col.primary col.primary_role n ≡ true → set (decision_of col.primary col.primary_role) n
@@ -54,9 +48,10 @@ module _ (c : Cluster) (es : List Event) (table : Targets) where
   -- the chosen cells that are held back, by three rules and nothing else: a then is held where its first has no target in scope that isn't, a dependent
   -- where its primary has none on the node, and a promote where the place of its leaf is held
   pub data Held : Decision → ℕ → Type 0 where
-    by_order : (o : Order) (n : ℕ) (first later : Role) → OrderMayHold o n first later
-        → ((m : ℕ) → m < length c.nodes → is_in_scope o n m ≡ true → holds_role table o.first first m ≡ true → Held (decision_of o.first first) m)
-        → Held (decision_of o.then_leaf later) n
+    by_order : (o : Order) (n : ℕ) → OrderMayHold o n
+        → ((m : ℕ) → m < length c.nodes → is_in_scope o n m ≡ true → holds_role table o.first (role_by o.first_op) m ≡ true
+        → Held (decision_of o.first (role_by o.first_op)) m)
+        → Held (decision_of o.then_leaf (role_by o.then_op)) n
     by_colocation : (col : Colocation) (n : ℕ) → ColocationMayHold col n
         → (holds_role table col.primary col.primary_role n ≡ true → Held (decision_of col.primary col.primary_role) n)
         → Held (decision_of col.dependent col.dependent_role) n

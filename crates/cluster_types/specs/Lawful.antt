@@ -11,10 +11,10 @@ use Rattle.cluster_types.specs.declared.rules.Order.{Order}
 use Rattle.cluster_types.specs.declared.rules.OrderKind.TheVariants as kind
 use Rattle.cluster_types.specs.Choice.{is_mandatory, is_separation, cap_of}
 use Rattle.cluster_types.specs.Failures.{is_banned}
-use Rattle.cluster_types.specs.Held.{ActionGives}
 use Rattle.cluster_types.specs.NodeStates.{is_usable}
 use Rattle.cluster_types.specs.Pins.{is_pinned}
 use Rattle.cluster_types.specs.Tables.{Targets, holds_role, is_in_scope}
+use Rattle.cluster_types.specs.Precedence.{is_up, role_by}
 
 module _ (c : Cluster) (es : List Event) (targets : Targets) where
   -- what holds of a leaf on a node where it has a target
@@ -27,9 +27,9 @@ module _ (c : Cluster) (es : List Event) (targets : Targets) where
         → holds_role targets r col.dependent_role n ≡ true → holds_role targets col.primary col.primary_role n ≡ false
     pub apart_from_dependents : (col : Colocation) → Contains c.colocations col → is_separation col ≡ true → col.primary ≡ r
         → holds_role targets r col.primary_role n ≡ true → holds_role targets col.dependent col.dependent_role n ≡ false
-    pub after_firsts : (o : Order) (first then_role : Role) → Contains c.orders o → o.kind ≡ kind.Mandatory → o.then_leaf ≡ r → ActionGives o.first_op first
-        → ActionGives o.then_op then_role → holds_role targets r then_role n ≡ true
-        → (m : ℕ) × (m < length c.nodes) × (is_in_scope o n m ≡ true) × (holds_role targets o.first first m ≡ true)
+    pub after_firsts : (o : Order) → Contains c.orders o → o.kind ≡ kind.Mandatory → o.then_leaf ≡ r → is_up o.first_op ≡ true → is_up o.then_op ≡ true
+        → holds_role targets r (role_by o.then_op) n ≡ true
+        → (m : ℕ) × (m < length c.nodes) × (is_in_scope o n m ≡ true) × (holds_role targets o.first (role_by o.first_op) m ≡ true)
 
   -- on how many nodes a leaf holds a role
   abbrev pub holder_count : ℕ → Role → ℕ

@@ -21,12 +21,12 @@ use Rattle.cluster_types.specs.declared.states.CellState.TheVariants as cell
 use Rattle.cluster_types.specs.CellStates.{cell_state, is_running}
 use Rattle.cluster_types.specs.Choice.{is_separation}
 use Rattle.cluster_types.specs.Fields.{copies, monitors, is_cloned, is_promotable, may_migrate}
-use Rattle.cluster_types.specs.Held.{ActionGives}
 use Rattle.cluster_types.specs.May.{may}
 use Rattle.cluster_types.specs.Pins.{is_pinned, is_unprobed_state}
 use Rattle.cluster_types.specs.Rights.{is_to_be_fenced, may_start}
 use Rattle.cluster_types.specs.Terms.{active_count}
 use Rattle.cluster_types.specs.Tables.{Targets, holds_role, is_in_scope, is_somewhere}
+use Rattle.cluster_types.specs.Precedence.{is_up, role_by}
 
 -- the steps that bring a cell from its state to its target. A cycled cell is stopped and started again on the way
 abbrev pub steps_of : CellState → Target → Bool → List Op
@@ -78,25 +78,25 @@ module _ (c : Cluster) (es : List Event) (targets : Targets) where
   steps_at r n cycled = if is_pinned c es r then [] else steps_of (cell_state c r n es) (targets r n) cycled
 
   -- a symmetrical mandatory order of starts or promotes has its then, on node n, wait for what is done to its first on node m
-  pub record OrderMayCycle (o : Order) (n m : ℕ) (first later : Role) : Type 0 where
+  pub record OrderMayCycle (o : Order) (n m : ℕ) : Type 0 where
     pub present : Contains c.orders o
     pub mandatory : o.kind ≡ kind.Mandatory
     pub both_ways : o.symmetrical ≡ true
-    pub first_gives : ActionGives o.first_op first
-    pub then_gives : ActionGives o.then_op later
+    pub first_gives : is_up o.first_op ≡ true
+    pub then_gives : is_up o.then_op ≡ true
     pub within : n < length c.nodes
     pub first_within : m < length c.nodes
     pub in_scope : is_in_scope o n m ≡ true
     pub stays : can_cycle o.then_leaf n ≡ true
-    pub in_role : holds_role targets o.then_leaf later n ≡ true
+    pub in_role : holds_role targets o.then_leaf (role_by o.then_op) n ≡ true
 
   -- the cells that are stopped and started again, by three rules and nothing else: a cell of a leaf that is active in more cells than it has copies; and
   -- the then of an order whose first is disturbed in scope, by the steps that it needs itself, or by those that it gets as a cycled cell
   pub data Cycled : ℕ → ℕ → Type 0 where
     by_copies : (r n : ℕ) → r < length c.leaves → n < length c.nodes → can_cycle r n ≡ true → nat_lt (copies c r) (active_count c es r) ≡ true → Cycled r n
-    by_order : (o : Order) (n m : ℕ) (first later : Role) → OrderMayCycle o n m first later
+    by_order : (o : Order) (n m : ℕ) → OrderMayCycle o n m
         → has_disturbing o.first_op (steps_at o.first m false) ≡ true → Cycled o.then_leaf n
-    by_cycled : (o : Order) (n m : ℕ) (first later : Role) → OrderMayCycle o n m first later → Cycled o.first m
+    by_cycled : (o : Order) (n m : ℕ) → OrderMayCycle o n m → Cycled o.first m
         → has_disturbing o.first_op (steps_at o.first m true) ≡ true → Cycled o.then_leaf n
 
   -- the cell gets the step

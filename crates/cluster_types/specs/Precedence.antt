@@ -39,7 +39,7 @@ is_up op.Start = true
 is_up op.Promote = true
 is_up _ = false
 
--- the role that a start or a promote gives
+-- that role. A word that gives none is asked for none
 abbrev pub role_by : Op → Role
 role_by op.Promote = role.Promoted
 role_by _ = role.Started

@@ -3,8 +3,7 @@ use Rattle.std.specs.Prelude.{◌≡◌, ◌⊎◌, ℕ, ◌<◌, ◌==◌, Bool
 use Rattle.std.specs.List.{list_all, range_with_len, AllByRecursion}
 use Rattle.cluster_types.specs.declared.cluster.Cluster.{Cluster}
 use Rattle.cluster_types.specs.declared.journal.Event.{Event}
-use Rattle.cluster_types.specs.declared.leaf.Role.{Role}
-use Rattle.cluster_types.specs.declared.leaf.Role.TheVariants as role
+use Rattle.cluster_types.specs.declared.leaf.Op.TheVariants as op
 use Rattle.cluster_types.specs.declared.placement.Decision.TheVariants.{Place}
 use Rattle.cluster_types.specs.declared.placement.NoReason.{NoReason}
 use Rattle.cluster_types.specs.declared.placement.NoReason.TheVariants as none
@@ -14,10 +13,11 @@ use Rattle.cluster_types.specs.declared.rules.OrderKind.TheVariants as kind
 use Rattle.cluster_types.specs.Choice.{is_mandatory, is_dependent, is_stopped_role}
 use Rattle.cluster_types.specs.Failures.{is_fail_stopped}
 use Rattle.cluster_types.specs.Fields.{copies, target_role_of}
-use Rattle.cluster_types.specs.Held.{ActionGives, Held, LacksFirst, LacksPrimary}
+use Rattle.cluster_types.specs.Held.{Held, LacksFirst, LacksPrimary}
 use Rattle.cluster_types.specs.Pins.{is_pinned}
 use Rattle.cluster_types.specs.Rights.{may_start}
 use Rattle.cluster_types.specs.Tables.{Targets, is_somewhere}
+use Rattle.cluster_types.specs.Precedence.{is_up}
 
 -- x is the first of the list for which P holds
 pub record IsFirstOf {X : Type 0} (P : X → Type 0) (xs : List X) (x : X) : Type 0 where
@@ -52,10 +52,9 @@ module _ (c : Cluster) (es : List Event) (table : Targets) where
   pub record IsHeldByOrder (r n : ℕ) (o : Order) : Type 0 where
     pub mandatory : o.kind ≡ kind.Mandatory
     pub later : o.then_leaf ≡ r
-    pub starts : ActionGives o.then_op role.Started
-    pub first : Role
-    pub gives : ActionGives o.first_op first
-    pub lacking : LacksFirst c es table (Held c es table) o n first
+    pub starts : o.then_op ≡ op.Start
+    pub first_gives : is_up o.first_op ≡ true
+    pub lacking : LacksFirst c es table (Held c es table) o n
 
   -- on the earliest node where it was chosen the leaf is held by this rule: the first such colocation, or the first such order where there is
   -- no such colocation
