@@ -18,7 +18,7 @@ use Rattle.cluster_types.specs.Tables.{Targets, holds_role, is_in_scope}
 use Rattle.cluster_types.specs.Precedence.{is_up, role_by}
 
 module _ (c : Cluster) (es : List Event) (table : Targets) where
-  -- a mandatory order of which both words give a role may hold its then back on a node where it was chosen. The table is that after all decisions
+  -- a mandatory order whose words both give a role may hold its then back on a node where it was chosen. The table is that after all decisions
   pub record OrderMayHold (o : Order) (n : ℕ) : Type 0 where
     pub present : Contains c.orders o
     pub mandatory : o.kind ≡ kind.Mandatory

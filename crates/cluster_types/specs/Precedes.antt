@@ -53,9 +53,9 @@ pub data AreSides (col : Colocation) : ℕ → Role → ℕ → Role → Type 0 
   dependent_first : AreSides col col.dependent col.dependent_role col.primary col.primary_role
   primary_first : AreSides col col.primary col.primary_role col.dependent col.dependent_role
 
--- which word of which leaf an order puts before which: its first's word before its then's; and where it is symmetrical, "the reverse for the opposite
--- action": of two words that give roles, what takes the then's role before what takes the first's, and else the inverse of the then's word before that
--- of the first's
+-- which word of which leaf an order puts before which. Its first's word comes before its then's; and where it is symmetrical the reverse applies to the
+-- opposite actions: of two words that give roles, what takes the then's role comes before what takes the first's, and else the inverse of the then's
+-- word before the inverse of the first's
 pub data PutsFirst (o : Order) : Op → ℕ → Op → ℕ → Type 0 where
   forth : PutsFirst o o.first_op o.first o.then_op o.then_leaf
   back : (p q : Op) → o.symmetrical ≡ true → is_up o.first_op && is_up o.then_op ≡ true → Contains (takers o.then_op) p → Contains (takers o.first_op) q
@@ -92,7 +92,7 @@ module _ (c : Cluster) (actions : List Action) (is_earlier : Action → Action �
     -- what an order puts first comes first, in its scope ("Specifying the Order in which Resources Should Start/Stop", kinds Mandatory and Optional)
     order : (o : Order) (p q : Op) (r s n m : ℕ) (x y : Action) → Contains c.orders o → is_serialize o.kind ≡ false → PutsFirst o p r q s
         → StandsFirst p x r n → StandsLater actions q y s m → is_in_scope o n m ≡ true → Precedes x y
-    -- of two operations that must not go on at once, that of the lower number comes first (the same section, kind Serialize)
+    -- where two operations must not go on at once, the lower number comes first (the same section, kind Serialize)
     serialize : (o : Order) (p q : Op) (r s n m : ℕ) (x y : Action) → Contains c.orders o → is_serialize o.kind ≡ true → AreEnds o r s
         → p ≢ op.Monitor → q ≢ op.Monitor → IsOperation p x r n → IsOperation q y s m → is_in_scope o n m ≡ true → is_earlier x y ≡ true → Precedes x y
     -- a migration has its turns ("Migrating Resources")
