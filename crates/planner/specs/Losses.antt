@@ -20,11 +20,15 @@ module _ (c : Cluster) (es : List Event) (promotions : List Promotion) where
     pub table : loss.table ≡ placed.table
     pub none : loss.none ≡ placed.none
 
-  -- the losses of the first so many nodes: one of each that is online, in the order of the nodes
-  pub record AreLosses (upto : ℕ) (losses : List Loss) : Type 0 where
-    pub nodes : map (λ (loss : Loss). loss.node) losses ≡ filter (λ n. is_online c n es) (range_with_len 0 upto)
+  -- the losses of some nodes: one of each, in their order
+  pub record AreLosses (nodes : List ℕ) (losses : List Loss) : Type 0 where
+    pub nodes_lost : map (λ (loss : Loss). loss.node) losses ≡ nodes
     pub each : (loss : Loss) → Contains losses loss → IsLoss loss
 
-  -- what the loss of each node does
+  -- the nodes before this one that are online, in their order
+  abbrev pub online_before : ℕ → List ℕ
+  online_before upto = filter (λ n. is_online c n es) (range_with_len 0 upto)
+
+  -- what the loss of each node does that is online
   abbrev pub IsReport : Report → Type 0
-  IsReport report = AreLosses (length c.nodes) report.losses
+  IsReport report = AreLosses (online_before (length c.nodes)) report.losses
