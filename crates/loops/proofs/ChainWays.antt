@@ -6,7 +6,7 @@ use Rattle.edges.specs.Longest.{longest, longest_within}
 use Rattle.edges.proofs.Paths.{loop_or_none}
 use Rattle.cluster_types.specs.declared.cluster.Cluster.{Cluster}
 use Rattle.cluster_types.specs.Numbers.{StepsHaveNoLoop, Link, StepOf, chain_within, is_same_step, links, rank}
-use Rattle.loops.specs.Edges.{link_edge, step_edges, step_position}
+use Rattle.loops.specs.Inner.Edges.{link_edge, step_edges, step_position}
 use Rattle.loops.specs.FirstLoops.{AllOrder}
 use Rattle.loops.proofs.LinkLoops.{BothStand, links_stand, steps_loop, steps_within}
 use Rattle.lemmas.proofs.Members.{at_head, in_rest}

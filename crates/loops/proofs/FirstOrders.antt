@@ -17,7 +17,7 @@ use Rattle.cluster_types.specs.declared.cluster.Cluster.{Cluster}
 use Rattle.cluster_types.specs.declared.leaf.Op.TheVariants.{Start, Stop, Promote, Demote}
 use Rattle.cluster_types.specs.declared.rules.Order.{Order}
 use Rattle.cluster_types.specs.Numbers.{Link, leaf_links, link, links, order_links}
-use Rattle.loops.specs.Edges.{counts_link, edges_of, link_edge, order_ends, step_edges, step_position}
+use Rattle.loops.specs.Inner.Edges.{counts_link, edges_of, link_edge, order_ends, step_edges, step_position}
 use Rattle.loops.specs.FirstLoops.{AllOrder, ClosesSteps, IsFirstOrder, with_first_orders}
 use Rattle.loops.proofs.LinkEdges.{edges_joined}
 use Rattle.loops.proofs.LinkLoops.{steps_free, steps_loop}

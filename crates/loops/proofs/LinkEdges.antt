@@ -10,7 +10,7 @@ use Rattle.edges.specs.declared.edge.Edge.{Edge}
 use Rattle.cluster_types.specs.declared.cluster.Cluster.{Cluster}
 use Rattle.cluster_types.specs.declared.rules.Order.{Order}
 use Rattle.cluster_types.specs.Numbers.{Link, leaf_links, order_links}
-use Rattle.loops.specs.Edges.{counts_link, edges_of, link_edge, step_edges}
+use Rattle.loops.specs.Inner.Edges.{counts_link, edges_of, link_edge, step_edges}
 use Rattle.loops.specs.FirstLoops.{with_first_orders}
 
 pub edges_joined : (c : Cluster) (some more : List Link) → edges_of c (some ++ more) ≡ edges_of c some ++ edges_of c more

@@ -11,7 +11,7 @@ use Rattle.cluster_types.specs.declared.leaf.Op.TheVariants.{Start, Stop, Promot
 use Rattle.cluster_types.specs.declared.rules.Order.{Order}
 use Rattle.cluster_types.specs.Numbers.{StepsHaveNoLoop, Link, StepOf, inverse_links, is_same_step, leaf_links, link, links, order_links, reaches}
 use Rattle.cluster_types.specs.Precedence.{inverse, is_serialize, is_up, takers}
-use Rattle.loops.specs.Edges.{counts_link, link_edge, step_edges, step_position}
+use Rattle.loops.specs.Inner.Edges.{counts_link, link_edge, step_edges, step_position}
 use Rattle.loops.specs.FirstLoops.{AllOrder, OrdersSteps, StepsHaveLoop}
 use Rattle.lemmas.proofs.Members.{head_or_rest, in_map, in_none, of_filter, of_flat, of_map, of_range}
 use Rattle.loops.proofs.StepPlaces.{Stands, inverse_changes, position_is, position_within, same_spot, same_step, spot, step_itself, steps_alike}

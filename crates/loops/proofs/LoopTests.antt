@@ -16,7 +16,7 @@ use Rattle.cluster_types.specs.declared.rules.Colocation.{Colocation}
 use Rattle.cluster_types.specs.declared.rules.Order.{Order}
 use Rattle.cluster_types.specs.Decisions.{NeedsHaveNoLoop, all_decisions, is_same_decision, needs, needs_through}
 use Rattle.cluster_types.specs.Numbers.{StepsHaveNoLoop, Link, StepOf, is_same_step, links, reaches}
-use Rattle.loops.specs.Edges.{colocation_edge, leaf_edges, need_edges, step_edges}
+use Rattle.loops.specs.Inner.Edges.{colocation_edge, leaf_edges, need_edges, step_edges}
 use Rattle.loops.specs.FirstLoops.{AllJoin, AllOrder, IsFirstColocation, IsFirstOrder, NeedsHaveLoop, StepsHaveLoop, has_need_loop, has_step_loop, is_closed_by, with_colocations, with_first_orders}
 use Rattle.lemmas.proofs.Members.{in_none}
 use Rattle.loops.proofs.FirstOrders.{first_ordered, own_free}

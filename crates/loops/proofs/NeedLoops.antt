@@ -16,7 +16,7 @@ use Rattle.cluster_types.specs.declared.leaf.Role.{Role}
 use Rattle.cluster_types.specs.declared.leaf.Role.TheVariants.{Started, Promoted}
 use Rattle.cluster_types.specs.declared.placement.Decision.TheVariants.{Promote}
 use Rattle.cluster_types.specs.Decisions.{NeedsHaveNoLoop, all_decisions, decision_of, is_same_decision, needs, needs_through}
-use Rattle.loops.specs.Edges.{colocation_edge, decision_position, leaf_edge, leaf_edges, need_edges}
+use Rattle.loops.specs.Inner.Edges.{colocation_edge, decision_position, leaf_edge, leaf_edges, need_edges}
 use Rattle.loops.specs.FirstLoops.{AllJoin, ClosesNeeds, NeedsHaveLoop, with_colocations}
 use Rattle.lemmas.proofs.Members.{of_map, of_range, contains_first}
 use Rattle.loops.proofs.Needs.{alike, count_of_decisions, edge_for, way_for}

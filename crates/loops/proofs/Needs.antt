@@ -16,7 +16,7 @@ use Rattle.cluster_types.specs.declared.placement.Decision.{Decision}
 use Rattle.cluster_types.specs.declared.placement.Decision.TheVariants.{Place, Promote}
 use Rattle.cluster_types.specs.declared.rules.Colocation.{Colocation}
 use Rattle.cluster_types.specs.Decisions.{all_decisions, decision_of, is_place, is_same_decision, makes_need, leaf_of, needs}
-use Rattle.loops.specs.Edges.{colocation_edge, decision_position, leaf_edge, leaf_edges, need_edges}
+use Rattle.loops.specs.Inner.Edges.{colocation_edge, decision_position, leaf_edge, leaf_edges, need_edges}
 use Rattle.loops.specs.FirstLoops.{JoinsLeaves}
 use Rattle.lemmas.proofs.Members.{Mapped, at_head, head_or_rest, in_flat, in_map, in_none, in_range, in_rest, of_flat, of_map, of_range}
 

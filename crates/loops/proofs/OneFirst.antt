@@ -12,7 +12,7 @@ use Rattle.cluster_types.specs.declared.rules.Colocation.{Colocation}
 use Rattle.cluster_types.specs.declared.rules.Order.{Order}
 use Rattle.cluster_types.specs.Decisions.{NeedsHaveNoLoop}
 use Rattle.cluster_types.specs.Numbers.{StepsHaveNoLoop, Link, leaf_links, links, order_links}
-use Rattle.loops.specs.Edges.{counts_link, link_edge, need_edges, step_edges}
+use Rattle.loops.specs.Inner.Edges.{counts_link, link_edge, need_edges, step_edges}
 use Rattle.loops.specs.FirstLoops.{AllJoin, AllOrder, ClosesNeeds, ClosesSteps, IsFirstColocation, IsFirstOrder, NeedsHaveLoop, StepsHaveLoop, with_colocations, with_first_orders}
 use Rattle.loops.proofs.FirstOrders.{first_ordered}
 use Rattle.loops.proofs.LinkLoops.{loop_of_steps, steps_loop}

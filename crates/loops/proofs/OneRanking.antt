@@ -4,7 +4,7 @@ use Rattle.edges.proofs.Longest.{fold_each, longest_are_heights, longest_bounded
 use Rattle.cluster_types.specs.declared.cluster.Cluster.{Cluster}
 use Rattle.cluster_types.specs.Numbers.{StepsHaveNoLoop, Link, StepOf, is_same_step, links, rank}
 use Rattle.cluster_types.specs.Valid.{IsValid}
-use Rattle.loops.specs.Edges.{step_edges}
+use Rattle.loops.specs.Inner.Edges.{step_edges}
 use Rattle.loops.specs.FirstLoops.{AllOrder}
 use Rattle.loops.proofs.LinkLoops.{steps_within}
 use Rattle.lemmas.proofs.Members.{at_head, in_filter, of_filter}

@@ -7,7 +7,7 @@ use Rattle.edges.proofs.Longest.{longest_past}
 use Rattle.cluster_types.specs.declared.cluster.Cluster.{Cluster}
 use Rattle.cluster_types.specs.declared.leaf.Op.{Op}
 use Rattle.cluster_types.specs.declared.leaf.Op.TheVariants.{Start, Stop, Promote, Demote, Monitor}
-use Rattle.loops.specs.Edges.{step_edges}
+use Rattle.loops.specs.Inner.Edges.{step_edges}
 use Rattle.loops.specs.FirstLoops.{AllOrder}
 use Rattle.loops.proofs.LinkLoops.{steps_within}
 use Rattle.loops.proofs.StepPlaces.{spot_of}

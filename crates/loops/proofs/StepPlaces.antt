@@ -7,7 +7,7 @@ use Rattle.cluster_types.specs.declared.leaf.Op.TheVariants.{Start, Stop, Promot
 use Rattle.cluster_types.specs.Numbers.{StepOf, is_same_step}
 use Rattle.cluster_types.specs.Precedence.{inverse, is_same_op}
 use Rattle.cluster_types.proofs.OpLaws.{op_itself}
-use Rattle.loops.specs.Edges.{op_number, step_position}
+use Rattle.loops.specs.Inner.Edges.{op_number, step_position}
 
 -- the step is of a leaf that is there, and is no monitor
 pub record Stands (leaves : ℕ) (s : StepOf) : Type 0 where

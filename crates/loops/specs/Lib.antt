@@ -1,3 +1,3 @@
+pub mod Inner
 pub mod FirstLoops
-pub mod Edges
 pub mod Ranks

@@ -1,7 +1,7 @@
 ghost use Rattle.std.specs.Prelude.{◌≡◌, ◌↔◌, ◌≤◌, ◌<◌, IfOk, IsTrue, length};
 ghost use Rattle.cluster_types.specs.declared.cluster.Cluster.{Cluster};
 ghost use Rattle.cluster_types.specs.Decisions.{decision_of};
-ghost use Rattle.loops.specs.Edges.{colocation_edge, decision_position, leaf_edge, leaf_edges, need_edges};
+ghost use Rattle.loops.specs.Inner.Edges.{colocation_edge, decision_position, leaf_edge, leaf_edges, need_edges};
 ghost use Rattle.loops.specs.FirstLoops.{AllJoin, IsFirstColocation, JoinsLeaves};
 
 use cluster_types::{Cluster, Colocation, LeafId, NoMemory, Role};

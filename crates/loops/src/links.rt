@@ -1,6 +1,6 @@
 ghost use Rattle.std.specs.Prelude.{◌≡◌, ◌<◌, ◌++◌, ◌∷◌, [], OnOk};
 ghost use Rattle.cluster_types.specs.Numbers.{is_step, link, step_of};
-ghost use Rattle.loops.specs.Edges.{counts_link, edges_of, op_number, step_position};
+ghost use Rattle.loops.specs.Inner.Edges.{counts_link, edges_of, op_number, step_position};
 
 use cluster_types::{Cluster, LeafId, Op};
 use edges::Edge;

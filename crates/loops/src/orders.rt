@@ -2,7 +2,7 @@ ghost use Rattle.std.specs.Prelude.{◌≡◌, ◌↔◌, ◌≤◌, ◌<◌, �
 ghost use Rattle.std.specs.List.{flat_map, range_with_len};
 ghost use Rattle.cluster_types.specs.declared.cluster.Cluster.{Cluster};
 ghost use Rattle.cluster_types.specs.Numbers.{leaf_links, order_links};
-ghost use Rattle.loops.specs.Edges.{edges_of, order_ends, step_edges};
+ghost use Rattle.loops.specs.Inner.Edges.{edges_of, order_ends, step_edges};
 ghost use Rattle.loops.specs.FirstLoops.{AllOrder, IsFirstOrder, OrdersSteps};
 
 use crate::pushing::{push_leaf, push_order};

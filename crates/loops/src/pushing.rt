@@ -2,7 +2,7 @@ ghost use Rattle.std.specs.Prelude.{◌≡◌, ◌<◌, ◌++◌, OnOk, map};
 ghost use Rattle.std.specs.List.{flat_map};
 ghost use Rattle.cluster_types.specs.Numbers.{inverse_links, leaf_links, link, order_links};
 ghost use Rattle.cluster_types.specs.Precedence.{takers};
-ghost use Rattle.loops.specs.Edges.{edges_of};
+ghost use Rattle.loops.specs.Inner.Edges.{edges_of};
 
 use crate::links::{Step, push_link};
 use cluster_types::{Cluster, LeafId, Op, Order, OrderKind};

@@ -1,6 +1,6 @@
 use Rattle.std.proofs.Common.{◌≡◌, ◌*◌, length, ◌∙◌}
 use Rattle.edges.specs.Loops.{ClosesFirst, HasNoLoop}
-use Rattle.loops.specs.Edges.{need_edges}
+use Rattle.loops.specs.Inner.Edges.{need_edges}
 use Rattle.loops.proofs.NeedLoops.{behind_leaves, closes_needs, needs_free, needs_within}
 use Rattle.loops.proofs.colocations.colocation_loop.Goals as goal
 

@@ -1,5 +1,5 @@
 use Rattle.std.proofs.Common.{◌≡◌, ◌++◌, length, map, take}
-use Rattle.loops.specs.Edges.{colocation_edge, leaf_edges}
+use Rattle.loops.specs.Inner.Edges.{colocation_edge, leaf_edges}
 use Rattle.loops.proofs.colocations.edges_of_needs.Given as goal
 
 abbrev pub invariant-loop-colocation : goal.invariant-loop-colocation

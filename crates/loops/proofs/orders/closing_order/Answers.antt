@@ -1,6 +1,6 @@
 use Rattle.std.proofs.Common.{◌≡◌, ◌*◌, length, ◌∙◌}
 use Rattle.edges.specs.Loops.{ClosesFirst, HasNoLoop}
-use Rattle.loops.specs.Edges.{step_edges}
+use Rattle.loops.specs.Inner.Edges.{step_edges}
 use Rattle.loops.proofs.FirstOrders.{first_order}
 use Rattle.loops.proofs.LinkLoops.{steps_free, steps_within}
 use Rattle.loops.proofs.orders.closing_order.Goals as goal

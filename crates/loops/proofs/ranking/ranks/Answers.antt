@@ -1,6 +1,6 @@
 use Rattle.std.proofs.Common.{◌≡◌, ◌<◌, ◌*◌, ℕ, length, slice_index_or, ◌∙◌}
 use Rattle.edges.specs.Longest.{longest}
-use Rattle.loops.specs.Edges.{step_edges}
+use Rattle.loops.specs.Inner.Edges.{step_edges}
 use Rattle.loops.proofs.FromValid.{valid_order}
 use Rattle.loops.proofs.LinkLoops.{steps_within}
 use Rattle.loops.proofs.ChainWays.{edges_free}

@@ -1,5 +1,5 @@
 use Rattle.std.proofs.Common.{arith, ◌≡◌, ◌+◌, length, ap}
-use Rattle.loops.specs.Edges.{step_edges}
+use Rattle.loops.specs.Inner.Edges.{step_edges}
 use Rattle.loops.specs.FirstLoops.{with_first_orders}
 use Rattle.loops.proofs.LinkEdges.{end_then, order_then}
 use Rattle.lemmas.proofs.Members.{read_there}

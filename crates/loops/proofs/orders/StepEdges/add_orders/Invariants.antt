@@ -1,6 +1,6 @@
 use Rattle.std.proofs.Common.{◌≡◌, ◌+◌, length, map}
 use Rattle.std.specs.List.{range_with_len}
-use Rattle.loops.specs.Edges.{step_edges}
+use Rattle.loops.specs.Inner.Edges.{step_edges}
 use Rattle.loops.specs.FirstLoops.{with_first_orders}
 use Rattle.loops.proofs.orders.StepEdges.add_orders.Given as goal
 
