@@ -12,7 +12,7 @@ use Rattle.cluster_types.specs.declared.placement.Target.TheVariants as target
 use Rattle.cluster_types.specs.Decisions.{decision_of}
 use Rattle.cluster_types.specs.Held.{AreTargets, Held, by_colocation, by_order, by_place}
 use Rattle.cluster_types.specs.Tables.{Targets, holds_role}
-use Rattle.plan_laws.specs.HeldMarks.{MarkedDecisions}
+use Rattle.plan_laws.specs.Inner.HeldMarks.{MarkedDecisions}
 use Rattle.plan_laws.proofs.HeldReason as held_rule
 use Rattle.plan_laws.proofs.KeptTargets as kept_targets
 use Rattle.plan_laws.proofs.MadeOnes.{never_both}
@@ -20,6 +20,7 @@ use Rattle.plan_laws.proofs.StayHeld.{has, holds_is, nowhere_has_none}
 use Rattle.plan_laws.proofs.TablesWithin.{StaysWithin, is_cell}
 use Rattle.placement.proofs.Lacking.{held_not}
 use Rattle.placement.proofs.LeftOfChosen.{IsLeft}
+use Rattle.cluster_types.specs.Precedence.{role_by}
 
 -- a role is held only in a cell of the cluster
 on_cell : (c : Cluster) (table : Targets) → StaysWithin c table → (r : ℕ) (given : Role) (n : ℕ) → holds_role table r given n ≡ true
@@ -73,8 +74,8 @@ module _ (c : Cluster) (es : List Event) (chosen targets : Targets) (inside : St
   marked_role r role.Promoted n was now = held_not (holds_role chosen r role.Promoted n) (holds_role targets r role.Promoted n) was now
 
   pub marked : (d : Decision) (n : ℕ) → Held c es chosen d n → marks d n ≡ true
-  marked _ _ (by_order o n first given may lacks) =
-      marked_role o.then_leaf given n may.chosen (held_gone o.then_leaf given n (by_order o n first given may lacks))
+  marked _ _ (by_order o n may lacks) =
+      marked_role o.then_leaf (role_by o.then_op) n may.chosen (held_gone o.then_leaf (role_by o.then_op) n (by_order o n may lacks))
   marked _ _ (by_colocation col n may lacks) =
       marked_role col.dependent col.dependent_role n may.chosen (held_gone col.dependent col.dependent_role n (by_colocation col n may lacks))
   marked _ _ (by_place r n promoted held) = marked_role r role.Promoted n promoted (held_gone r role.Promoted n (by_place r n promoted held))

@@ -12,11 +12,11 @@ use Rattle.cluster_types.specs.declared.rules.Colocation.{Colocation}
 use Rattle.cluster_types.specs.declared.rules.Order.{Order}
 use Rattle.cluster_types.specs.Choice.{is_mandatory}
 use Rattle.cluster_types.specs.Decisions.{decision_of, is_same_decision}
-use Rattle.cluster_types.specs.Held.{ActionGives, Held, LacksFirst}
+use Rattle.cluster_types.specs.Held.{Held}
 use Rattle.cluster_types.specs.Precedence.{is_mandatory_order, is_up, role_by}
 use Rattle.cluster_types.specs.Reasons.{IsHeldByColocation, IsHeldByOrder}
 use Rattle.cluster_types.specs.Tables.{Targets, holds_role}
-use Rattle.cluster_types.proofs.OpLaws.{gives_by, gives_one, of_kind, up_of}
+use Rattle.cluster_types.proofs.OpLaws.{of_kind, start_of}
 use Rattle.placement.specs.Dependencies.{from_colocation, from_order, may_hold_back, of_colocation, of_order}
 use Rattle.placement.specs.Reasoning.{holds_back}
 use Rattle.placement.specs.Taking.{has_its_primary}
@@ -65,9 +65,8 @@ module _ (c : Cluster) (es : List Event) (chosen targets : Targets) (is : IsLeft
           record {
             mandatory = of_kind o.kind (sooner (is_mandatory_order o.kind) (is_up o.first_op) two);
             later = leaf;
-            starts = subst (ActionGives o.then_op) starts (gives_by o.then_op (later (is_mandatory_order o.kind && is_up o.first_op) (is_up o.then_op) e));
-            first = role_by o.first_op;
-            gives = gives_by o.first_op (later (is_mandatory_order o.kind) (is_up o.first_op) two);
+            starts = start_of o.then_op (later (is_mandatory_order o.kind && is_up o.first_op) (is_up o.then_op) e) starts;
+            first_gives = later (is_mandatory_order o.kind) (is_up o.first_op) two;
             lacking = λ m low scope was. is.held o.first (role_by o.first_op) m was
                 (lacking (length c.nodes) targets (from_order o) n (not-true has (later its (not has) h)) m low (in_scope o n m scope));
           }
@@ -78,14 +77,11 @@ module _ (c : Cluster) (es : List Event) (chosen targets : Targets) (is : IsLeft
       let kind : is_mandatory_order o.kind ≡ true = rw h.mandatory refl in
       let holds : may_hold_back o ≡ true
       = and_from (is_mandatory_order o.kind && is_up o.first_op) (is_up o.then_op)
-      (and_from (is_mandatory_order o.kind) (is_up o.first_op) kind (up_of o.first_op h.first h.gives)) (up_of o.then_op role.Started h.starts) in
-      let starts : role_by o.then_op ≡ role.Started = sym (gives_one o.then_op role.Started h.starts) in
+      (and_from (is_mandatory_order o.kind) (is_up o.first_op) kind h.first_gives) (rw h.starts refl) in
+      let starts : role_by o.then_op ≡ role.Started = rw h.starts refl in
       let same : is_same_decision (Place r) (decision_of o.then_leaf (role_by o.then_op)) ≡ true = rw (starts, h.later) (is_itself (Place r)) in
-      let first : h.first ≡ role_by o.first_op = gives_one o.first_op h.first h.gives in
-      let lacks : LacksFirst c es chosen (Held c es chosen) o n (role_by o.first_op)
-      = subst (LacksFirst c es chosen (Held c es chosen) o n) first h.lacking in
       let none : has_its_primary (length c.nodes) targets (from_order o) n ≡ false
       = lacked (length c.nodes) targets (from_order o) n lt (λ m low scope.
       missing c es chosen targets is o.first (role_by o.first_op) m (λ was.
-      has_gone targets o.first (role_by o.first_op) m (gone o.first (role_by o.first_op) m (lacks m low (scoped o n m scope) was)))) in
+      has_gone targets o.first (role_by o.first_op) m (gone o.first (role_by o.first_op) m (h.lacking m low (scoped o n m scope) was)))) in
       rw holds (held_not (is_same_decision (Place r) (decision_of o.then_leaf (role_by o.then_op))) (has_its_primary (length c.nodes) targets (from_order o) n) same none)

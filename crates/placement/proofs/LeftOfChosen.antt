@@ -17,7 +17,7 @@ use Rattle.cluster_types.specs.Held.{Held, by_colocation, by_order, by_place}
 use Rattle.cluster_types.specs.Pins.{is_pinned, pin_of}
 use Rattle.cluster_types.specs.Precedence.{is_mandatory_order, is_up, role_by}
 use Rattle.cluster_types.specs.Tables.{Targets, holds_role, is_in_scope}
-use Rattle.cluster_types.proofs.OpLaws.{gives_by, of_kind}
+use Rattle.cluster_types.proofs.OpLaws.{of_kind}
 use Rattle.plan_laws.proofs.MadeOnes.{never_both}
 use Rattle.placement.specs.declared.held.dependencies.Dependency.{Dependency}
 use Rattle.placement.specs.Dependencies.{dependencies_by, from_colocation, from_order, may_hold_back}
@@ -58,12 +58,12 @@ module _ (c : Cluster) (es : List Event) (pins : List (Option Pin)) (are : pins 
         let none : has_its_primary (length c.nodes) left rule n ≡ false
         = not-true (has_its_primary (length c.nodes) left rule n) (later (holds_role left rule.dependent rule.dependent_role n) (not (has_its_primary (length c.nodes) left rule n)) taken) in
         let two = sooner (is_mandatory_order o.kind && is_up o.first_op) (is_up o.then_op) holds in
-        by_order o n (role_by o.first_op) (role_by o.then_op)
+        by_order o n
         (record {
           present = among;
           mandatory = of_kind o.kind (sooner (is_mandatory_order o.kind) (is_up o.first_op) two);
-          first_gives = gives_by o.first_op (later (is_mandatory_order o.kind) (is_up o.first_op) two);
-          then_gives = gives_by o.then_op (later (is_mandatory_order o.kind && is_up o.first_op) (is_up o.then_op) holds);
+          first_gives = later (is_mandatory_order o.kind) (is_up o.first_op) two;
+          then_gives = later (is_mandatory_order o.kind && is_up o.first_op) (is_up o.then_op) holds;
           managed = free;
           within = lt;
           chosen = is.within o.then_leaf (role_by o.then_op) n there;

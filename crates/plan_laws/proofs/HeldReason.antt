@@ -12,12 +12,12 @@ use Rattle.cluster_types.specs.declared.rules.Colocation.{Colocation}
 use Rattle.cluster_types.specs.declared.rules.Order.{Order}
 use Rattle.cluster_types.specs.Choice.{is_dependent, is_mandatory}
 use Rattle.cluster_types.specs.Decisions.{decision_of, is_same_decision}
-use Rattle.cluster_types.specs.Held.{ActionGives, Held, by_colocation, by_order, by_place}
+use Rattle.cluster_types.specs.Held.{Held, by_colocation, by_order, by_place}
 use Rattle.cluster_types.specs.Precedence.{is_mandatory_order, is_up, role_by}
 use Rattle.cluster_types.specs.Reasons.{IsFirstOf, IsHeldByColocation, IsHeldByOrder}
 use Rattle.cluster_types.specs.Tables.{Targets}
-use Rattle.cluster_types.proofs.OpLaws.{gives_by, gives_one, of_kind, up_of}
-use Rattle.plan_laws.specs.HeldMarks.{MarkedDecisions, lacks_first, lacks_primary}
+use Rattle.cluster_types.proofs.OpLaws.{of_kind, start_of}
+use Rattle.plan_laws.specs.Inner.HeldMarks.{MarkedDecisions, lacks_first, lacks_primary}
 use Rattle.plan_laws.proofs.HeldTests.{first_lacks, lacks_of_first, lacks_of_primary, primary_lacks}
 use Rattle.plan_laws.proofs.Firsts.{FirstOrNone, a_first, first_or_none, never, none_holds}
 
@@ -56,21 +56,19 @@ module _ (c : Cluster) (es : List Event) (table : Targets) (marks : MarkedDecisi
       record {
         mandatory = of_kind o.kind (sooner (is_mandatory_order o.kind) (is_up o.first_op) two);
         later = leaf;
-        starts = subst (ActionGives o.then_op) starts (gives_by o.then_op (later _ (is_up o.then_op) three));
-        first = role_by o.first_op;
-        gives = gives_by o.first_op (later (is_mandatory_order o.kind) (is_up o.first_op) two);
+        starts = start_of o.then_op (later _ (is_up o.then_op) three) starts;
+        first_gives = later (is_mandatory_order o.kind) (is_up o.first_op) two;
         lacking = first_lacks c es table marks (Held c es table) sound o n (later _ (lacks_first c es table marks o n) h);
       }
 
   order_no : (o : Order) → IsHeldByOrder c es table r n o → by_order_test o ≡ true
   order_no o h =
       let kind_is : is_mandatory_order o.kind ≡ true = rw h.mandatory refl in
-      let one = up_of o.first_op h.first h.gives in
-      let other = up_of o.then_op role.Started h.starts in
-      let role_is : role_by o.then_op ≡ role.Started = sym (gives_one o.then_op role.Started h.starts) in
+      let other : is_up o.then_op ≡ true = rw h.starts refl in
+      let role_is : role_by o.then_op ≡ role.Started = rw h.starts refl in
       let same : is_same_decision (Place r) (decision_of o.then_leaf (role_by o.then_op)) ≡ true = rw (role_is, h.later) (is_itself (Place r)) in
-      let lacks = lacks_of_first c es table marks (Held c es table) marked o n (rw (← gives_one o.first_op h.first h.gives) h.lacking) in
-      rw (kind_is, one, other, same) lacks
+      let lacks = lacks_of_first c es table marks (Held c es table) marked o n h.lacking in
+      rw (kind_is, h.first_gives, other, same) lacks
 
   -- a place that is held is held by a rule
   pub data RuleOf : Type 0 where
@@ -78,14 +76,13 @@ module _ (c : Cluster) (es : List Event) (table : Targets) (marks : MarkedDecisi
     an_order : (o : Order) → Contains c.orders o → IsHeldByOrder c es table r n o → RuleOf
 
   rule_of : (d : Decision) → Place r ≡ d → Held c es table d n → RuleOf
-  rule_of _ e (by_order o _ first given may lacks) =
-      let (leaf, starts) = placed_by r o.then_leaf given e in
+  rule_of _ e (by_order o _ may lacks) =
+      let (leaf, starts) = placed_by r o.then_leaf (role_by o.then_op) e in
       an_order o may.present (record {
         mandatory = may.mandatory;
         later = leaf;
-        starts = subst (ActionGives o.then_op) starts may.then_gives;
-        first = first;
-        gives = may.first_gives;
+        starts = start_of o.then_op may.then_gives starts;
+        first_gives = may.first_gives;
         lacking = λ m within scope held. lacks m within scope held;
       })
   rule_of _ e (by_colocation col _ may lacks) =

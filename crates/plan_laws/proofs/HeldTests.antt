@@ -17,11 +17,11 @@ use Rattle.cluster_types.specs.Held.{ColocationMayHold, LacksFirst, LacksPrimary
 use Rattle.cluster_types.specs.Pins.{is_pinned}
 use Rattle.cluster_types.specs.Precedence.{is_mandatory_order, is_up, role_by}
 use Rattle.cluster_types.specs.Tables.{Targets, holds_role, is_in_scope}
-use Rattle.cluster_types.proofs.OpLaws.{gives_by, gives_one, of_kind, up_of}
-use Rattle.plan_laws.specs.HeldMarks.{MarkedDecisions, lacks_first, lacks_primary, may_colocation, may_order}
+use Rattle.cluster_types.proofs.OpLaws.{of_kind}
+use Rattle.plan_laws.specs.Inner.HeldMarks.{MarkedDecisions, lacks_first, lacks_primary, may_colocation, may_order}
 
 module _ (c : Cluster) (es : List Event) (table : Targets) where
-  pub order_may : (o : Order) (n : ℕ) → Contains c.orders o → may_order c es table o n ≡ true → OrderMayHold c es table o n (role_by o.first_op) (role_by o.then_op)
+  pub order_may : (o : Order) (n : ℕ) → Contains c.orders o → may_order c es table o n ≡ true → OrderMayHold c es table o n
   order_may o n present h =
       let five = sooner _ (holds_role table o.then_leaf (role_by o.then_op) n) h in
       let four = sooner _ (nat_lt n (length c.nodes)) five in
@@ -30,22 +30,19 @@ module _ (c : Cluster) (es : List Event) (table : Targets) where
       record {
         present = present;
         mandatory = of_kind o.kind (sooner (is_mandatory_order o.kind) (is_up o.first_op) two);
-        first_gives = gives_by o.first_op (later (is_mandatory_order o.kind) (is_up o.first_op) two);
-        then_gives = gives_by o.then_op (later _ (is_up o.then_op) three);
+        first_gives = later (is_mandatory_order o.kind) (is_up o.first_op) two;
+        then_gives = later _ (is_up o.then_op) three;
         managed = not-true (is_pinned c es o.then_leaf) (later _ (not (is_pinned c es o.then_leaf)) four);
         within = ltb-true n (length c.nodes) (later _ (nat_lt n (length c.nodes)) five);
         chosen = later _ (holds_role table o.then_leaf (role_by o.then_op) n) h;
       }
 
-  pub may_of_order : (o : Order) (n : ℕ) (first given : Role) → OrderMayHold c es table o n first given → may_order c es table o n ≡ true
-  may_of_order o n first given may =
+  pub may_of_order : (o : Order) (n : ℕ) → OrderMayHold c es table o n → may_order c es table o n ≡ true
+  may_of_order o n may =
       let kind_is : is_mandatory_order o.kind ≡ true = rw may.mandatory refl in
-      let one = up_of o.first_op first may.first_gives in
-      let other = up_of o.then_op given may.then_gives in
       let free = not_from_false (is_pinned c es o.then_leaf) may.managed in
       let low = lt-ltb n (length c.nodes) may.within in
-      let there : holds_role table o.then_leaf (role_by o.then_op) n ≡ true = rw (← gives_one o.then_op given may.then_gives) may.chosen in
-      rw (kind_is, one, other, free, low) there
+      rw (kind_is, may.first_gives, may.then_gives, free, low) may.chosen
 
   pub colocation_may : (col : Colocation) (n : ℕ) → Contains c.colocations col → may_colocation c es table col n ≡ true → ColocationMayHold c es table col n
   colocation_may col n present h =
@@ -68,7 +65,7 @@ module _ (c : Cluster) (es : List Event) (table : Targets) where
   -- what is lacking by the marks, of some set that has the marked cells
 
   module _ (marks : MarkedDecisions) (set : Decision → ℕ → Type 0) (has : (d : Decision) (n : ℕ) → marks d n ≡ true → set d n) where
-    pub first_lacks : (o : Order) (n : ℕ) → lacks_first c es table marks o n ≡ true → LacksFirst c es table set o n (role_by o.first_op)
+    pub first_lacks : (o : Order) (n : ℕ) → lacks_first c es table marks o n ≡ true → LacksFirst c es table set o n
     first_lacks o n h m within scope held =
         has (decision_of o.first (role_by o.first_op)) m
         (implied (is_in_scope o n m && holds_role table o.first (role_by o.first_op) m) (marks (decision_of o.first (role_by o.first_op)) m)
@@ -83,7 +80,7 @@ module _ (c : Cluster) (es : List Event) (table : Targets) where
 
   -- and back, where the marks have the set
   module _ (marks : MarkedDecisions) (set : Decision → ℕ → Type 0) (marked : (d : Decision) (n : ℕ) → set d n → marks d n ≡ true) where
-    pub lacks_of_first : (o : Order) (n : ℕ) → LacksFirst c es table set o n (role_by o.first_op) → lacks_first c es table marks o n ≡ true
+    pub lacks_of_first : (o : Order) (n : ℕ) → LacksFirst c es table set o n → lacks_first c es table marks o n ≡ true
     lacks_of_first o n lacks =
         all_pass (λ m. not (is_in_scope o n m && holds_role table o.first (role_by o.first_op) m) || marks (decision_of o.first (role_by o.first_op)) m)
         (range_with_len 0 (length c.nodes))

@@ -12,7 +12,6 @@ use Rattle.cluster_types.specs.declared.states.CellState.{CellState}
 use Rattle.cluster_types.specs.declared.states.CellState.TheVariants as cell
 use Rattle.cluster_types.specs.Choice.{is_kept_by}
 use Rattle.cluster_types.specs.Decisions.{decision_of}
-use Rattle.cluster_types.specs.Held.{ActionGives, started, promoted}
 use Rattle.cluster_types.specs.Needed.{steps_of}
 use Rattle.plan_laws.proofs.StayHeld.{has}
 
@@ -55,7 +54,12 @@ promotes r cell.Promoted target.Promoted h = cc
 promotes r _ _ h = cc
 
 -- a step that gives a role to a cell that isn't cycled
-pub given_anew : (r : ℕ) (state : CellState) (t : Target) (o : Op) (given : Role) → ActionGives o given → Contains (steps_of state t false) o → MustBeGiven r given state t
+-- the role that a step gives
+pub data StepGives : Op → Role → Type 0 where
+  started : StepGives op.Start role.Started
+  promoted : StepGives op.Promote role.Promoted
+
+pub given_anew : (r : ℕ) (state : CellState) (t : Target) (o : Op) (given : Role) → StepGives o given → Contains (steps_of state t false) o → MustBeGiven r given state t
 given_anew r state t _ _ started h = starts r state t (passes_by is_start (steps_of state t false) op.Start h refl)
 given_anew r state t _ _ promoted h = promotes r state t (passes_by is_promote (steps_of state t false) op.Promote h refl)
 
@@ -88,6 +92,6 @@ promotes_cycled cell.On target.Started h = cc
 promotes_cycled cell.Off target.Started h = cc
 
 -- and to one that is
-pub given_again : (state : CellState) (t : Target) (o : Op) (given : Role) → ActionGives o given → Contains (steps_of state t true) o → has given t ≡ true
+pub given_again : (state : CellState) (t : Target) (o : Op) (given : Role) → StepGives o given → Contains (steps_of state t true) o → has given t ≡ true
 given_again state t _ _ started h = starts_cycled state t (passes_by is_start (steps_of state t true) op.Start h refl)
 given_again state t _ _ promoted h = promotes_cycled state t (passes_by is_promote (steps_of state t true) op.Promote h refl)

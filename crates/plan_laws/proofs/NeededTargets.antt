@@ -17,7 +17,6 @@ use Rattle.cluster_types.specs.CellStates.{cell_state}
 use Rattle.cluster_types.specs.Choice.{is_kept_by, is_permitted}
 use Rattle.cluster_types.specs.Decisions.{decision_of, leaf_of}
 use Rattle.cluster_types.specs.Fields.{copies}
-use Rattle.cluster_types.specs.Held.{ActionGives, started, promoted}
 use Rattle.cluster_types.specs.Needed.{Cycled, FirstSet, GetsStep, Migrates, Needed, kept, runs, sent, step, steps_at, steps_of, taken_in}
 use Rattle.cluster_types.specs.Pins.{is_pinned}
 use Rattle.cluster_types.specs.Plans.{IsPlaced}
@@ -27,7 +26,7 @@ use Rattle.cluster_types.specs.Terms.{active_count}
 use Rattle.cluster_types.proofs.NeededLaws.{can_be_cycled}
 use Rattle.plan_laws.specs.Placing.{MayGiveRole}
 use Rattle.plan_laws.proofs.ChosenTargets.{fitted}
-use Rattle.plan_laws.proofs.NeededSteps.{MustBeGiven, given_again, given_anew}
+use Rattle.plan_laws.proofs.NeededSteps.{MustBeGiven, given_again, given_anew, StepGives, started, promoted}
 use Rattle.plan_laws.proofs.StayHeld.{holds_is}
 
 must_start : (a b k e : Bool) → a || b && k && e ≡ true → k ≡ false → a ≡ true
@@ -72,7 +71,7 @@ module _ (c : Cluster) (es : List Event) where
         let f = fitted c es ps placed is r n given low within free held in
         record { leaf = low; node = within; free = free; target = held; usable = f.usable; may = may f.permitted }
 
-    pub gives : (r n : ℕ) (o : Op) (given : Role) → r < length c.leaves → n < length c.nodes → ActionGives o given → GetsStep c es targets r n o → MayGiveRole c es targets r n given
+    pub gives : (r n : ℕ) (o : Op) (given : Role) → r < length c.leaves → n < length c.nodes → StepGives o given → GetsStep c es targets r n o → MayGiveRole c es targets r n given
     gives r n o given low within word (inl (cycled, there)) =
         let s : Steps targets r n o true = steps targets r n o true there in
         gives_with r n given low within s.free (holds_is targets r given n ∙ given_again (cell_state c r n es) (targets r n) o given word s.among)

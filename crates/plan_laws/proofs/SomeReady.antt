@@ -6,7 +6,7 @@ use Rattle.edges.specs.Loops.{HasNoLoop, RiseSomehow}
 use Rattle.edges.proofs.Heights.{rise_somehow}
 use Rattle.edges.proofs.Paths.{loop_or_none}
 use Rattle.edges.proofs.Relations.{EdgeFor}
-use Rattle.loops.specs.Edges.{decision_position, need_edges}
+use Rattle.loops.specs.Inner.Edges.{decision_position, need_edges}
 use Rattle.loops.specs.FirstLoops.{AllJoin, NeedsHaveLoop}
 use Rattle.loops.proofs.FromValid.{valid_join}
 use Rattle.lemmas.proofs.Members.{at_head, in_rest}

@@ -21,7 +21,7 @@ use Rattle.cluster_types.specs.Pins.{is_pinned}
 use Rattle.cluster_types.specs.Reasons.{HasReason, is_chosen_nowhere, plain_reason}
 use Rattle.cluster_types.specs.Rights.{may_start}
 use Rattle.cluster_types.specs.Tables.{Targets, is_somewhere}
-use Rattle.plan_laws.specs.HeldMarks.{MarkedDecisions}
+use Rattle.plan_laws.specs.Inner.HeldMarks.{MarkedDecisions}
 use Rattle.plan_laws.proofs.Firsts.{LeastOf, least_of}
 use Rattle.plan_laws.proofs.HeldReason.{FirstRule, first_rule}
 use Rattle.plan_laws.proofs.MadeOnes.{never_both}

@@ -8,7 +8,7 @@ use Rattle.cluster_types.specs.declared.leaf.Op.TheVariants.{Stop}
 use Rattle.cluster_types.specs.declared.rules.Order.{Order}
 use Rattle.cluster_types.specs.Numbers.{StepsHaveNoLoop, Link, inverse_links, leaf_links, link, links, order_links, rank, step_of}
 use Rattle.cluster_types.specs.Precedence.{is_serialize, is_up, takers}
-use Rattle.loops.specs.Edges.{counts_link}
+use Rattle.loops.specs.Inner.Edges.{counts_link}
 use Rattle.loops.specs.FirstLoops.{AllOrder}
 use Rattle.cluster_types.proofs.OpLaws.{stop_takes}
 use Rattle.lemmas.proofs.Members.{head_or_rest, in_filter, in_flat, in_map, in_rest}

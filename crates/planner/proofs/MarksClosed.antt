@@ -13,7 +13,6 @@ use Rattle.cluster_types.specs.Needed.{OrderMayCycle, can_cycle, has_disturbing,
 use Rattle.cluster_types.specs.LeastSets.{IsClosedUnderCycling}
 use Rattle.cluster_types.specs.Precedence.{role_by}
 use Rattle.cluster_types.specs.Tables.{Targets, is_in_scope}
-use Rattle.cluster_types.proofs.OpLaws.{gives_one, up_of}
 use Rattle.planner.specs.Cycling.{MarkedCells, NoneComesBack, first_marks, is_cycling, is_disturbed, may_be_marked, with_order, with_orders}
 use Rattle.planner.proofs.OrderWords.{cycling_of}
 
@@ -86,16 +85,15 @@ module _ (c : Cluster) (es : List Event) (targets : Targets) where
     abbrev last_marks : MarkedCells
     last_marks = with_orders c es targets (first_marks c es targets) os
 
-    reached : (o : Order) (n m : ℕ) (first later : Role) → OrderMayCycle c es targets o n m first later
+    reached : (o : Order) (n m : ℕ) → OrderMayCycle c es targets o n m
         → is_disturbed c es targets last_marks o m ≡ true → last_marks o.then_leaf n ≡ true
-    reached o n m first later may h =
-        let role : later ≡ role_by o.then_op = gives_one o.then_op later may.then_gives in
+    reached o n m may h =
         let there = all o may.present
-        (cycling_of o may.mandatory may.both_ways (up_of o.first_op first may.first_gives) (up_of o.then_op later may.then_gives)) in
+        (cycling_of o may.mandatory may.both_ways may.first_gives may.then_gives) in
         all_marked os (first_marks c es targets) apart o n there (record {
           may =
               and_from (nat_lt n (length c.nodes) && can_cycle c es targets o.then_leaf n) _
-              (and_from (nat_lt n (length c.nodes)) _ (lt-ltb _ _ may.within) may.stays) (rw role at may.in_role);
+              (and_from (nat_lt n (length c.nodes)) _ (lt-ltb _ _ may.within) may.stays) may.in_role;
           node = m;
           within = may.first_within;
           scope = may.in_scope;
@@ -109,8 +107,8 @@ module _ (c : Cluster) (es : List Event) (targets : Targets) where
           (and_from (nat_lt r (length c.leaves) && nat_lt n (length c.nodes) && can_cycle c es targets r n) _
           (and_from (nat_lt r (length c.leaves) && nat_lt n (length c.nodes)) _
           (and_from (nat_lt r (length c.leaves)) _ (lt-ltb _ _ lr) (lt-ltb _ _ ln)) can) more);
-      by_order = λ o n m first later may h. reached o n m first later may (or_left _ _ h);
-      by_cycled = λ o n m first later may set h.
-          reached o n m first later may
+      by_order = λ o n m may h. reached o n m may (or_left _ _ h);
+      by_cycled = λ o n m may set h.
+          reached o n m may
           (or_right (has_disturbing o.first_op (steps_at c es targets o.first m false)) _ (and_from (last_marks o.first m) _ set h));
     }

@@ -13,7 +13,6 @@ use Rattle.cluster_types.specs.Needed.{Cycled, by_copies, by_order, by_cycled, O
 use Rattle.cluster_types.specs.Precedence.{role_by}
 use Rattle.cluster_types.specs.Tables.{Targets, holds_role, is_in_scope}
 use Rattle.cluster_types.specs.Terms.{active_count}
-use Rattle.cluster_types.proofs.OpLaws.{gives_by}
 use Rattle.planner.specs.Cycling.{MarkedCells, first_marks, is_cycling, is_disturbed, is_marked_by, may_be_marked, with_order, with_orders}
 use Rattle.planner.proofs.OrderWords.{Cycles, cycles_of}
 
@@ -34,7 +33,7 @@ module _ (c : Cluster) (es : List Event) (targets : Targets) where
 
   module _ (marks : MarkedCells) (so_far : AllCycled marks) (o : Order) (among : Contains c.orders o) (cycling : is_cycling o ≡ true) where
     may_cycle : (n m : ℕ) → may_be_marked c es targets o n ≡ true → m < length c.nodes → is_in_scope o n m ≡ true
-        → OrderMayCycle c es targets o n m (role_by o.first_op) (role_by o.then_op)
+        → OrderMayCycle c es targets o n m
     may_cycle n m h lt scope =
         let k : Cycles o = cycles_of o cycling in
         let ln : Bool = nat_lt n (length c.nodes) in
@@ -44,8 +43,8 @@ module _ (c : Cluster) (es : List Event) (targets : Targets) where
           present = among;
           mandatory = k.mandatory;
           both_ways = k.both_ways;
-          first_gives = gives_by o.first_op k.first_up;
-          then_gives = gives_by o.then_op k.then_up;
+          first_gives = k.first_up;
+          then_gives = k.then_up;
           within = ltb-true _ _ (sooner ln can two);
           first_within = lt;
           in_scope = scope;
@@ -53,14 +52,14 @@ module _ (c : Cluster) (es : List Event) (targets : Targets) where
           in_role = later (ln && can) (holds_role targets o.then_leaf (role_by o.then_op) n) h;
         }
 
-    by_disturbed : (n m : ℕ) → OrderMayCycle c es targets o n m (role_by o.first_op) (role_by o.then_op)
+    by_disturbed : (n m : ℕ) → OrderMayCycle c es targets o n m
         → is_disturbed c es targets marks o m ≡ true → Cycled c es targets o.then_leaf n
     by_disturbed n m may h =
         elim (or_cases (has_disturbing o.first_op (steps_at c es targets o.first m false))
         (marks o.first m && has_disturbing o.first_op (steps_at c es targets o.first m true)) h) [
-          | inl own ↦ by_order o n m (role_by o.first_op) (role_by o.then_op) may own
+          | inl own ↦ by_order o n m may own
           | inr again ↦
-              by_cycled o n m (role_by o.first_op) (role_by o.then_op) may (so_far o.first m (sooner (marks o.first m) _ again))
+              by_cycled o n m may (so_far o.first m (sooner (marks o.first m) _ again))
               (later (marks o.first m) _ again)
         ]
 

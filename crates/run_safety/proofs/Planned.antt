@@ -10,7 +10,7 @@ use Rattle.cluster_types.specs.declared.leaf.Op.TheVariants as op
 use Rattle.cluster_types.specs.declared.leaf.Role.TheVariants as role
 use Rattle.cluster_types.specs.declared.placement.Placed.{Placed}
 use Rattle.cluster_types.specs.Graphs.{GraphOf}
-use Rattle.cluster_types.specs.Held.{started, promoted}
+use Rattle.plan_laws.proofs.NeededSteps.{started, promoted}
 use Rattle.cluster_types.specs.Needed.{FirstSet, fence, probe, step, monitor, Needed, kept, sent, taken_in}
 use Rattle.cluster_types.specs.Plans.{CarriesOut, IsPlaced, IsPlan, precedes_by_number, transition_of, transition_on}
 use Rattle.cluster_types.specs.Precedence.{gives_any, is_some_cell}
