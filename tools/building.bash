@@ -51,22 +51,13 @@ free_disk() {
   df -Pm "$top" 2>/dev/null | awk 'NR == 2 { print $4 }'
 }
 
-# So many crates are proved beside each other: two for each processor, since about half of them wait for one below, as far as there is
-# memory for the dearest and 2 GB for each other.
-at_once() {
-  local memory others
-  memory=$(free_memory)
-  others=$(((${memory:-0} - memory_of_one) / 2000))
-  printf '%s\n%s\n' "$((2 * $(nproc)))" "$((others > 0 ? 1 + others : 1))" | sort -n | head -n 1
-}
-
 # What a build needs, beside what is here.
 say_needs() {
   local memory disk_here
   memory=$(free_memory) disk_here=$(free_disk)
   say "the program isn't built, or is older than its sources; it is proved and built now, which goes on where it was cut off" \
     "from nothing this takes some $minutes processor minutes, an hour or more on four processors; one process takes 5.6 GB of memory, and the work 11 GB of disk" \
-    "here: $(nproc) processors, $((${memory:-0} / 1000)) GB of memory and $((${disk_here:-0} / 1000)) GB of disk are free; $(at_once) crates at once" \
+    "here: $(nproc) processors, $((${memory:-0} / 1000)) GB of memory and $((${disk_here:-0} / 1000)) GB of disk are free" \
     "\`$me --try WORD FILE\` answers within some two minutes instead, from the sources as they stand, unproved"
   [ "${memory:-$memory_of_one}" -ge "$memory_of_one" ] || say "there may be too little memory here"
   [ "${disk_here:-$disk}" -ge "$disk" ] || say "there may be too little disk here"
@@ -74,7 +65,7 @@ say_needs() {
 
 # Proves the crates that the program stands on, several beside each other, and then builds it.
 prove_and_build() {
-  (cd "$top/crates/sim_cli" && rt all check --jobs "$(at_once)" && rt run -- --version)
+  "$top/tools/prove" sim_cli
 }
 
 # Ends the build with all that it started, as the signal of this number ended this script.
