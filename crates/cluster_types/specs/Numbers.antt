@@ -1,6 +1,7 @@
 -- The order in which actions are numbered (rule of this project).
 use Rattle.std.specs.Prelude.{◌≡◌, ◌≢◌, ◌↔◌, ℕ, suc, zero, ◌+◌, ◌*◌, nat_lt, ◌==◌, ◌&&◌, ◌||◌, Bool, true, false, not, if◌then◌else◌, List, [], ◌∷◌, ◌++◌, length, map, filter, fold, max, Contains, AllPairs}
 use Rattle.std.specs.List.{list_any, flat_map, range_with_len}
+use Rattle.edges.specs.Chains.{IsLinked, IsLongestChain}
 use Rattle.cluster_types.specs.declared.cluster.Cluster.{Cluster}
 use Rattle.cluster_types.specs.declared.journal.Action.{Action}
 use Rattle.cluster_types.specs.declared.journal.Action.TheVariants.{Fence, Probe, Cell, MigrateTo, MigrateFrom}
@@ -58,13 +59,21 @@ links c =
     filter (λ l. is_within_phase l && is_step c l.before && is_step c l.after)
     (flat_map leaf_links (range_with_len 0 (length c.leaves)) ++ flat_map order_links c.orders)
 
+-- a link leads from the one step to the other
+abbrev pub IsStepLink : Cluster → StepOf → StepOf → Type 0
+IsStepLink c s t = IsLinked (λ (l : Link). l.before) (λ (l : Link). l.after) (links c) s t
+
+-- the rank of a step: how many links the longest chain has that ends at it
+abbrev pub IsRank : Cluster → StepOf → ℕ → Type 0
+IsRank c s count = IsLongestChain (IsStepLink c) s count
+
 -- the length of the longest chain of links that ends at a step, of those at most this long
 abbrev pub chain_within : Cluster → ℕ → StepOf → ℕ
 chain_within c zero s = 0
 chain_within c (suc most) s =
     fold max 0 (map (λ l. chain_within c most l.before + 1) (filter (λ l. is_same_step l.after s) (links c)))
 
--- the rank of a step. Without a loop no chain is longer than there are steps
+-- the same, computed: where the links have no loop, no chain is longer than there are steps (`rank_is_computed` of crate `loops`)
 abbrev pub rank : Cluster → StepOf → ℕ
 rank c s = chain_within c (4 * length c.leaves) s
 

@@ -11,7 +11,8 @@ use Rattle.std.proofs.lemmas.Map.Steps.{length-le_from_distinct_below}
 use Rattle.lemmas.proofs.Booleans.{sooner, later}
 use Rattle.lemmas.proofs.Counts.{count_some}
 use Rattle.edges.specs.declared.edge.Edge.{Edge}
-use Rattle.edges.specs.Loops.{Leads, direct, through, leads_within, EndsWithin, HasLoop, HasNoLoop}
+use Rattle.edges.specs.Chains.{linked, link_then, one_link}
+use Rattle.edges.specs.Loops.{Leads, leads_within, EndsWithin, HasLoop, HasNoLoop}
 use Rattle.edges.specs.Clearing.{Clears, is_in_list, edges_beyond}
 use Rattle.edges.specs.Longest.{AreCleared, IsBackward}
 use Rattle.edges.proofs.Beginnings.{of_range}
@@ -22,8 +23,8 @@ use Rattle.edges.proofs.Rising.{no_loop}
 use Rattle.edges.proofs.Walks.{GoesOn, loop_of_set}
 
 pub begins_within : (positions : ℕ) (edges : List Edge) → EndsWithin positions edges → (x y : ℕ) → Leads edges x y → x < positions
-begins_within positions edges ends _ _ (direct e c) = let w = ends e c in omega arith
-begins_within positions edges ends _ _ (through e y c rest) = let w = ends e c in omega arith
+begins_within positions edges ends _ _ (one_link _ _ (linked e c)) = let w = ends e c in omega arith
+begins_within positions edges ends _ _ (link_then _ _ y (linked e c) rest) = let w = ends e c in omega arith
 
 distinct_range : (n : ℕ) → IsDistinct ◌==◌ (range_with_len 0 n)
 distinct_range n = IsDistinct-from_apart ◌==◌ (range_with_len 0 n) (λ i j d before within.

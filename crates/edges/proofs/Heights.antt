@@ -7,7 +7,8 @@ use Rattle.std.proofs.lemmas.Map.Keys.{IsDistinct-cons}
 use Rattle.std.proofs.lemmas.Map.Steps.{length-le_from_distinct_below}
 use Rattle.lemmas.proofs.Counts.{count_one_more}
 use Rattle.edges.specs.declared.edge.Edge.{Edge}
-use Rattle.edges.specs.Loops.{EndsWithin, HasNoLoop, Leads, direct, through, leads_within, RiseSomehow}
+use Rattle.edges.specs.Chains.{linked, link_then, one_link}
+use Rattle.edges.specs.Loops.{EndsWithin, HasNoLoop, Leads, leads_within, RiseSomehow}
 use Rattle.edges.specs.Clearing.{is_in_list}
 use Rattle.edges.proofs.Endings.{begins_within}
 use Rattle.edges.proofs.Leading.{leads_directly, leads-from_computed, of_step}
@@ -16,8 +17,8 @@ use Rattle.edges.proofs.Paths.{no_path}
 use Rattle.edges.proofs.Walks.{alone}
 
 pub joined : (edges : List Edge) (x y z : ℕ) → Leads edges x y → Leads edges y z → Leads edges x z
-joined edges _ _ z (direct e c) next = through e z c next
-joined edges _ _ z (through e y c rest) next = through e z c (joined edges e.after y z rest next)
+joined edges _ _ z (one_link _ _ (linked e c)) next = link_then _ _ z (linked e c) next
+joined edges _ _ z (link_then _ _ y (linked e c) rest) next = link_then _ _ z (linked e c) (joined edges e.after y z rest next)
 
 -- Without a loop a way meets no position twice, so it has fewer edges than there are positions.
 
@@ -30,8 +31,8 @@ record Met (positions : ℕ) (edges : List Edge) (seen : List ℕ) (x : ℕ) : T
 module _ (positions : ℕ) (edges : List Edge) (ends : EndsWithin positions edges) (free : HasNoLoop positions edges) where
   module _ (seen : List ℕ) (e : Edge) (c : Contains edges e) (m : Met positions edges seen e.before) where
     led_on : (y : ℕ) (same : Bool) → (y == e.before) ≡ same → same || is_in_list seen y ≡ true → Leads edges y e.after
-    led_on y true at h = let back : y ≡ e.before = eqb-true y e.before at in rw back (direct e c)
-    led_on y false at h = joined edges y e.before e.after (m.led y h) (direct e c)
+    led_on y true at h = let back : y ≡ e.before = eqb-true y e.before at in rw back (one_link _ _ (linked e c))
+    led_on y false at h = joined edges y e.before e.after (m.led y h) (one_link _ _ (linked e c))
 
     new_on : (b : Bool) → is_in_list (e.before ∷ seen) e.after ≡ b → is_in_list (e.before ∷ seen) e.after ≡ false
     new_on true h = absurd (no_path positions edges ends free e.after (led_on e.after (e.after == e.before) refl h))
@@ -56,8 +57,8 @@ module _ (positions : ℕ) (edges : List Edge) (ends : EndsWithin positions edge
   short_way : (n : ℕ) (seen : List ℕ) (x y : ℕ) → Leads edges x y → Met positions edges seen x → positions ≤ n + length seen
       → leads_within n edges x y ≡ true
   short_way zero seen x y l m enough = let s = short_met seen x m in absurd (let f : ⊥ = omega arith in f)
-  short_way (suc n) seen _ _ (direct e c) m enough = leads_directly n edges e c
-  short_way (suc n) seen _ _ (through e y c rest) m enough =
+  short_way (suc n) seen _ _ (one_link _ _ (linked e c)) m enough = leads_directly n edges e c
+  short_way (suc n) seen _ _ (link_then _ _ y (linked e c) rest) m enough =
       let led : leads_within n edges e.after y ≡ true
       = short_way n (e.before ∷ seen) e.after y rest (met_more seen e c m) (omega arith) in
       of_step n edges e.before y (record { edge = e; among = c; from = refl; on = or_right (e.after == y) _ led })
@@ -80,7 +81,7 @@ module _ (positions : ℕ) (edges : List Edge) (ends : EndsWithin positions edge
   reaches_further : (e : Edge) → Contains edges e → (y : ℕ) → leads_within positions edges y e.before ≡ true
       → leads_within positions edges y e.after ≡ true
   reaches_further e c y h =
-      leads_computed y e.after (joined edges y e.before e.after (leads-from_computed positions edges y e.before h) (direct e c))
+      leads_computed y e.after (joined edges y e.before e.after (leads-from_computed positions edges y e.before h) (one_link _ _ (linked e c)))
 
   pub rises : (e : Edge) → Contains edges e → height e.before < height e.after
   rises e c =
@@ -89,7 +90,7 @@ module _ (positions : ℕ) (edges : List Edge) (ends : EndsWithin positions edge
       let at : slice_index_or (range_with_len 0 positions) e.before e.before ≡ e.before
       = get_or-range_with_len 0 positions e.before e.before w.0 ∙ omega arith in
       count_one_more (λ y. leads_within positions edges y e.before) (λ y. leads_within positions edges y e.after) (reaches_further e c)
-      (range_with_len 0 positions) e.before e.before (omega arith) at (free e.before) (leads_computed e.before e.after (direct e c))
+      (range_with_len 0 positions) e.before e.before (omega arith) at (free e.before) (leads_computed e.before e.after (one_link _ _ (linked e c)))
 
   pub rise_somehow : RiseSomehow edges
   rise_somehow = record { height = height; rises = rises }

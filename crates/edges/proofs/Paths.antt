@@ -5,7 +5,8 @@ use Rattle.std.proofs.lemmas.Bool.{both_ways}
 use Rattle.std.proofs.lemmas.List.Folds.{Any-from_list_any, list_any_at}
 use Rattle.std.proofs.lemmas.List.FromFn.{length-range_with_len, get_or-range_with_len}
 use Rattle.edges.specs.declared.edge.Edge.{Edge}
-use Rattle.edges.specs.Loops.{EndsWithin, HasLoop, HasNoLoop, Leads, direct, through, leads_within}
+use Rattle.edges.specs.Chains.{linked, link_then, one_link}
+use Rattle.edges.specs.Loops.{EndsWithin, HasLoop, HasNoLoop, Leads, leads_within}
 use Rattle.edges.proofs.Endings.{begins_within, one_way}
 use Rattle.edges.proofs.Leading.{leads-from_computed}
 use Rattle.edges.proofs.Walks.{GoesOn, loop_of_set}
@@ -21,8 +22,8 @@ module _ (positions : ℕ) (edges : List Edge) (ends : EndsWithin positions edge
   toward_within _ (leads_there y l) = begins_within positions edges ends y x l
 
   on_way : (y z : ℕ) → Leads edges y z → z ≡ x → GoesOn edges (Toward edges x) y
-  on_way _ _ (direct e c) at = record { edge = e; among = c; from = refl; to = leads_there e.after (rw at led) }
-  on_way _ _ (through e z c rest) at = record { edge = e; among = c; from = refl; to = leads_there e.after (rw at at rest) }
+  on_way _ _ (one_link _ _ (linked e c)) at = record { edge = e; among = c; from = refl; to = leads_there e.after (rw at led) }
+  on_way _ _ (link_then _ _ z (linked e c) rest) at = record { edge = e; among = c; from = refl; to = leads_there e.after (rw at at rest) }
 
   goes_toward : (y : ℕ) → Toward edges x y → GoesOn edges (Toward edges x) y
   goes_toward _ (leads_there y l) = on_way y x l refl
@@ -75,8 +76,8 @@ loop_or_none positions edges ends = on (list_any (λ x. leads_within positions e
 -- a height that rises along each edge rises along each way
 module _ (edges : List Edge) (height : ℕ → ℕ) (rises : (e : Edge) → Contains edges e → height e.before < height e.after) where
   paths_rise : (x y : ℕ) → Leads edges x y → height x < height y
-  paths_rise _ _ (direct e c) = rises e c
-  paths_rise _ _ (through e y c rest) =
+  paths_rise _ _ (one_link _ _ (linked e c)) = rises e c
+  paths_rise _ _ (link_then _ _ y (linked e c) rest) =
       let first : height e.before < height e.after = rises e c in
       let others : height e.after < height y = paths_rise e.after y rest in
       omega arith

@@ -1,3 +1,4 @@
+pub mod Chains
 pub mod Loops
 pub mod Clearing
 pub mod Longest

@@ -2,11 +2,11 @@
 use Rattle.std.specs.Prelude.{◌≡◌, ◌<◌, ◌+◌, ℕ, suc, zero, ◌==◌, ◌&&◌, ◌||◌, Bool, true, false, List, Option, Some, None, length, take, Contains}
 use Rattle.std.specs.List.{list_any}
 use Rattle.edges.specs.declared.edge.Edge.{Edge}
+use Rattle.edges.specs.Chains.{Chain, IsLinked}
 
 -- the edges lead from a position to another, one after the other
-pub data Leads (edges : List Edge) : ℕ → ℕ → Type 0 where
-  direct : (e : Edge) → Contains edges e → Leads edges e.before e.after
-  through : (e : Edge) (y : ℕ) → Contains edges e → Leads edges e.after y → Leads edges e.before y
+abbrev pub Leads : List Edge → ℕ → ℕ → Type 0
+Leads edges x y = Chain (IsLinked (λ (e : Edge). e.before) (λ (e : Edge). e.after) edges) x y
 
 -- the same, computed, over at most so many edges
 abbrev pub leads_within : ℕ → List Edge → ℕ → ℕ → Bool

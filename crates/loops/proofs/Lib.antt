@@ -10,3 +10,5 @@ pub mod LoopTests
 pub mod ChainWays
 pub mod OneRanking
 pub mod RankLists
+pub mod RankChains
+pub mod Rings

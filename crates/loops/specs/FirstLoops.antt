@@ -6,7 +6,7 @@ use Rattle.cluster_types.specs.declared.leaf.Op.TheVariants.{Monitor}
 use Rattle.cluster_types.specs.declared.placement.Decision.{Decision}
 use Rattle.cluster_types.specs.declared.rules.Colocation.{Colocation}
 use Rattle.cluster_types.specs.declared.rules.Order.{Order}
-use Rattle.cluster_types.specs.Decisions.{NeedsHaveNoLoop, all_decisions, needs_through}
+use Rattle.cluster_types.specs.Decisions.{NeedsHaveNoLoop, all_decisions, needs, needs_through}
 use Rattle.cluster_types.specs.Numbers.{StepsHaveNoLoop, StepOf, links, reaches}
 
 -- both leaves of the colocation are there
@@ -34,6 +34,11 @@ with_colocations c count = record c { colocations = take count c.colocations }
 -- the cluster with so many of its orders, the first ones
 abbrev pub with_first_orders : Cluster → ℕ → Cluster
 with_first_orders c count = record c { orders = take count c.orders }
+
+-- the one decision needs the other, which is one of those that there may be
+pub record IsNeedLink (c : Cluster) (d e : Decision) : Type 0 where
+  pub among : Contains (all_decisions c) e
+  pub needed : needs c d e ≡ true
 
 -- some decision needs itself
 abbrev pub has_need_loop : Cluster → Bool

@@ -1,10 +1,15 @@
 //! What follows from the definitions of `specs/`, for every cluster whose links have no loop, as each valid one.
 
-ghost use Rattle.std.specs.Prelude.{◌≡◌, ◌<◌, ℕ, Contains};
+ghost use Rattle.std.specs.Prelude.{◌≡◌, ◌<◌, ◌↔◌, ℕ, Contains};
 ghost use Rattle.cluster_types.specs.declared.cluster.Cluster.{Cluster};
-ghost use Rattle.cluster_types.specs.Numbers.{StepsHaveNoLoop, Link, StepOf, links, rank};
+ghost use Rattle.cluster_types.specs.Numbers.{StepsHaveNoLoop, IsRank, Link, StepOf, links, rank};
 ghost use Rattle.loops.specs.FirstLoops.{AllOrder};
 ghost use Rattle.loops.specs.Ranks.{IsRanking};
+
+/// What `rank` computes is the rank of the step, the length of the longest chain of links that ends at it, and no other number is.
+pub fn rank_is_computed()
+    ensures { (c : Cluster) → AllOrder c → StepsHaveNoLoop c → (s : StepOf) (count : ℕ) → IsRank c s count ↔ (count ≡ rank c s) }
+{}
 
 /// The rank of a step is one more than the greatest rank of those that a link has before it, and 0 where there are none: the bound that
 /// the definition gives to chains cuts none off.
