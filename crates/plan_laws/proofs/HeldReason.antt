@@ -1,5 +1,5 @@
 -- A place that is held is held by a rule, and one of these is the first.
-use Rattle.std.proofs.Common.{◌≡◌, ◌&&◌, ℕ, Bool, true, List, ◌⊎◌, inl, inr, refl, sym, subst, Contains}
+use Rattle.std.proofs.Common.{◌≡◌, ◌&&◌, ℕ, Bool, true, List, ◌⊎◌, inl, inr, refl, Contains}
 use Rattle.std.specs.List.{AllByRecursion}
 use Rattle.lemmas.proofs.Booleans.{sooner, later}
 use Rattle.loops.proofs.Needs.{is_itself, placed_by, same_decision}

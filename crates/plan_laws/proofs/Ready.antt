@@ -1,10 +1,8 @@
 -- What holds where a decision can be made.
-use Rattle.std.proofs.Common.{◌≡◌, ◌||◌, not, ℕ, Bool, true, false, List, [], ◌∷◌, inl, inr, refl, Contains}
-use Rattle.std.specs.List.{list_all}
+use Rattle.std.proofs.Common.{◌≡◌, ◌||◌, not, ℕ, true, false, List, refl}
 use Rattle.std.proofs.lemmas.Bool.{not-true}
 use Rattle.lemmas.proofs.Booleans.{implied, later, sooner}
 use Rattle.lemmas.proofs.Searches.{each_passes}
-use Rattle.lemmas.proofs.Members.{head_or_rest, in_none}
 use Rattle.loops.proofs.Needs.{is_itself}
 use Rattle.cluster_types.specs.declared.cluster.Cluster.{Cluster}
 use Rattle.cluster_types.specs.declared.journal.Event.{Event}
