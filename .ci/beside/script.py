@@ -42,7 +42,8 @@ class Copy:
         shutil.copytree(os.path.join(TOP, "tools"), os.path.join(self.top, "tools"))
         shutil.copy(WRAPPER, self.top)
         shutil.copy(os.path.join(TOP, "crates", "sim_core", "src", "help.rt"), os.path.join(self.top, "crates", "sim_core", "src"))
-        shutil.copy(os.path.join(TOP, "crates.txt"), self.top)
+        with open(os.path.join(self.top, "crates.txt"), "w", encoding="utf-8") as crates:
+            crates.write("sim_core:\nsim_cli: sim_core\n")
         os.mkdir(commands)
         with open(os.path.join(commands, "rt"), "w", encoding="utf-8") as file:
             file.write(RT.format(folder=folder, program=PROGRAM, build=build, ended=ended))
@@ -109,7 +110,7 @@ def try_trial(folder):
         expect(f"--try {word} that is cut", status == 124 and "60 seconds and 1 MiB" in said, said)
 
 
-BUILDS = f'[ "$1" = all ] && sleep 2.5; [ "$1" = all ] || {{ mkdir -p out; cp {PROGRAM} out/sim_cli; }}'
+BUILDS = f'[ "$1" = lib ] && sleep 2.5; [ "$1" = lib ] || {{ mkdir -p out; cp {PROGRAM} out/sim_cli; }}'
 
 
 def try_lock(folder):
