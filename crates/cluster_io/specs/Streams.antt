@@ -13,6 +13,14 @@ next_fault faults = min (faults + 1) (2 ^ 64 - 1)
 abbrev pub Rose : ℕ → ℕ → Type 0
 Rose before now = next_fault before ≤ now
 
+-- what a call leaves of a count of faults: it never falls, and a failure raises it. Where failures alone raise it, a failure raises it by one, and
+-- any other call leaves it as it was
+pub record Bears (alone : Bool) (failed : Type 0) (before now : ℕ) : Type 0 where
+  pub count : before ≤ now
+  pub cause : failed → Rose before now
+  pub no_failure : alone ≡ true → (failed → ⊥) → now ≡ before
+  pub once : alone ≡ true → failed → now ≡ next_fault before
+
 -- these bytes were taken from the front of what was left, if that is told; it stays told or untold
 abbrev pub TakesBytes : Option (List ℕ) → List ℕ → Option (List ℕ) → Type 0
 TakesBytes before bytes after = before ≡ option_map (λ left. bytes ++ left) after

@@ -1,5 +1,5 @@
-ghost use Rattle.std.specs.Prelude.{◌≡◌, ◌≢◌, ℕ, ◌+◌, ◌*◌, ◌^◌, ◌≤◌, ◌<◌, None, Some, true, false, [], length, IfOk, IfSome};
-ghost use Rattle.cluster_io.specs.Streams.{Rose, next_fault};
+ghost use Rattle.std.specs.Prelude.{◌≡◌, ℕ, ◌+◌, ◌*◌, ◌^◌, ◌≤◌, ◌<◌, None, Some, true, false, [], length, IfOk, IfSome};
+ghost use Rattle.cluster_io.specs.Streams.{Bears};
 ghost use Rattle.cluster_io.specs.NextLine.{holds_line};
 ghost use Rattle.cluster_io.specs.HeldLines.{MayGiveFound, GivesFound, Stops, Turned};
 
@@ -157,12 +157,8 @@ impl HeldLines {
         ensures untouched { holds_line self.old.held ≡ true → src.new ≡ src.old }
         ensures quiet { self.old.ended ≡ true → src.new ≡ src.old }
         ensures same_end { self.new.ended ≡ S.ended src.new }
-        ensures count { S.faults src.old ≤ S.faults src.new }
-        ensures cause { result ≡ Some LineStep.Failed → Rose (S.faults src.old) (S.faults src.new) }
-        ensures no_failure { S.counts_only_failures ≡ true → result ≢ Some LineStep.Failed →
-            S.faults src.new ≡ S.faults src.old }
-        ensures once { S.counts_only_failures ≡ true → result ≡ Some LineStep.Failed →
-            S.faults src.new ≡ next_fault (S.faults src.old) }
+        ensures bears { Bears S.counts_only_failures (result ≡ Some LineStep.Failed)
+            (S.faults src.old) (S.faults src.new) }
     {
         let (scan, found) = look(self.window.held(), self.scan, self.bounds);
         self.scan = scan;

@@ -1,6 +1,6 @@
-ghost use Rattle.std.specs.Prelude.{◌≡◌, ◌≢◌, ℕ, ◌^◌, ◌≤◌, ◌<◌, None, Some, true, false, [], IfOk};
+ghost use Rattle.std.specs.Prelude.{◌≡◌, ℕ, ◌^◌, ◌<◌, None, Some, true, false, [], IfOk};
 ghost use Rattle.std.specs.Option.{ForSome};
-ghost use Rattle.cluster_io.specs.Streams.{Rose, next_fault};
+ghost use Rattle.cluster_io.specs.Streams.{Bears};
 ghost use Rattle.cluster_io.specs.NextLine.{holds_line};
 ghost use Rattle.cluster_io.specs.Readings.{ReaderAnswered, TellsAnswer};
 
@@ -103,15 +103,10 @@ impl<'s, S: Source> LineReader<'s, S> {
 
         // Once the source has ended, nothing more is asked of it.
         ensures quiet { (reading_of self.old).ended ≡ true → source_of self.new ≡ source_of self.old }
-        ensures count { S.faults (source_of self.old) ≤ S.faults (source_of self.new) }
-        ensures cause { result ≡ LineStep.Failed →
-            Rose (S.faults (source_of self.old)) (S.faults (source_of self.new)) }
 
         // The first failed read ends the call.
-        ensures no_failure { S.counts_only_failures ≡ true → result ≢ LineStep.Failed →
-            S.faults (source_of self.new) ≡ S.faults (source_of self.old) }
-        ensures once { S.counts_only_failures ≡ true → result ≡ LineStep.Failed →
-            S.faults (source_of self.new) ≡ next_fault (S.faults (source_of self.old)) }
+        ensures bears { Bears S.counts_only_failures (result ≡ LineStep.Failed)
+            (S.faults (source_of self.old)) (S.faults (source_of self.new)) }
         ensures same_source { loan_of self.new ≡ loan_of self.old }
     {
         if let Some(step) = self.lines.stop() {

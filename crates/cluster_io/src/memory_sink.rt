@@ -1,5 +1,5 @@
-ghost use Rattle.std.specs.Prelude.{◌≡◌, ◌≢◌, ℕ, ◌+◌, ◌≤◌, ◌<◌, true, Some, [], length, min, Contains, IfOk};
-ghost use Rattle.cluster_io.specs.Streams.{Writes, Rose, next_fault};
+ghost use Rattle.std.specs.Prelude.{◌≡◌, ℕ, ◌+◌, ◌<◌, true, Some, [], length, min, Contains, IfOk};
+ghost use Rattle.cluster_io.specs.Streams.{Bears, Writes, next_fault};
 ghost use Rattle.cluster_io.specs.Memory.{next_call};
 
 use crate::{NoMemory, Sink, WriteStep};
@@ -98,8 +98,7 @@ impl Sink for MemorySink {
     fn write(&mut self, bytes: &[u8]) -> WriteStep
         requires { 0 < length bytes.now }
         ensures bytes { Writes (Some self.old.held) (Some self.new.held) result bytes.now }
-        ensures count { self.old.faults ≤ self.new.faults }
-        ensures cause { result ≡ WriteStep.Failed → Rose self.old.faults self.new.faults }
+        ensures bears { Bears true (result ≡ WriteStep.Failed) self.old.faults self.new.faults }
 
         // It takes as much as it may, and fails with no room left and at the calls named alone.
         ensures takes { (n : ℕ) → result ≡ WriteStep.Took n →
@@ -109,9 +108,6 @@ impl Sink for MemorySink {
         ensures fails_only { result ≡ WriteStep.Failed → 0 < self.old.room →
             Contains self.old.fails self.new.calls }
         ensures room { length self.new.held + self.new.room ≡ length self.old.held + self.old.room }
-        ensures failure_counted { result ≡ WriteStep.Failed →
-            self.new.faults ≡ next_fault self.old.faults }
-        ensures others_not_counted { result ≢ WriteStep.Failed → self.new.faults ≡ self.old.faults }
         ensures calls { self.new.calls ≡ next_call self.old.calls }
         ensures step_stays { self.new.step ≡ self.old.step }
         ensures fails_stay { self.new.fails ≡ self.old.fails }

@@ -1,5 +1,5 @@
-ghost use Rattle.std.specs.Prelude.{◌≡◌, ◌≢◌, ◌↔◌, ℕ, ◌≤◌, ◌<◌, true, false, Some, [], length, min, Contains};
-ghost use Rattle.cluster_io.specs.Streams.{ReadsBytes, Rose, is_end, next_fault};
+ghost use Rattle.std.specs.Prelude.{◌≡◌, ◌↔◌, ℕ, ◌<◌, true, false, Some, [], length, min, Contains};
+ghost use Rattle.cluster_io.specs.Streams.{Bears, ReadsBytes, is_end};
 ghost use Rattle.cluster_io.specs.Memory.{next_call};
 
 use crate::{ReadStep, Source};
@@ -72,17 +72,13 @@ impl Source for MemorySource {
         requires room { 0 < length buf.old }
         requires going { self.old.ended ≡ false }
         ensures bytes { ReadsBytes (Some self.old.left) (Some self.new.left) result buf.new }
-        ensures count { self.old.faults ≤ self.new.faults }
-        ensures cause { result ≡ ReadStep.Failed → Rose self.old.faults self.new.faults }
+        ensures bears { Bears true (result ≡ ReadStep.Failed) self.old.faults self.new.faults }
         ensures end { self.new.ended ≡ is_end result }
 
         // It gives as much as it may, and fails at the calls named and no other.
         ensures gives { (n : ℕ) → result ≡ ReadStep.Got n →
             n ≡ min (min (length self.old.left) self.old.step) (length buf.old) }
         ensures fails { (result ≡ ReadStep.Failed) ↔ Contains self.old.fails self.new.calls }
-        ensures failure_counted { result ≡ ReadStep.Failed →
-            self.new.faults ≡ next_fault self.old.faults }
-        ensures others_not_counted { result ≢ ReadStep.Failed → self.new.faults ≡ self.old.faults }
         ensures calls { self.new.calls ≡ next_call self.old.calls }
         ensures step_stays { self.new.step ≡ self.old.step }
         ensures fails_stay { self.new.fails ≡ self.old.fails }

@@ -1,5 +1,5 @@
-ghost use Rattle.std.specs.Prelude.{◌≡◌, ◌≢◌, ℕ, ◌≤◌, ◌<◌, Bool, true, Option, List, [], length, OnOk, OnErr};
-ghost use Rattle.cluster_io.specs.Streams.{Writes, Rose, Adds, AddsPrefix, next_fault};
+ghost use Rattle.std.specs.Prelude.{◌≡◌, ℕ, ◌<◌, Bool, Option, List, [], length, IsErr, OnOk, OnErr};
+ghost use Rattle.cluster_io.specs.Streams.{Bears, Writes, Adds, AddsPrefix};
 
 /// What one call of `Sink::write` took.
 #[derive(Clone, Copy, Debug, PartialEq, Eq)]
@@ -26,12 +26,8 @@ pub trait Sink {
     fn write(&mut self, bytes: &[u8]) -> WriteStep
         requires { 0 < length bytes.now }
         ensures bytes { Writes (written self.old) (written self.new) result bytes.now }
-        ensures count { faults self.old ≤ faults self.new }
-        ensures cause { result ≡ WriteStep.Failed → Rose (faults self.old) (faults self.new) }
-        ensures no_failure { counts_only_failures ≡ true → result ≢ WriteStep.Failed →
-            faults self.new ≡ faults self.old }
-        ensures once { counts_only_failures ≡ true → result ≡ WriteStep.Failed →
-            faults self.new ≡ next_fault (faults self.old) };
+        ensures bears { Bears counts_only_failures (result ≡ WriteStep.Failed)
+            (faults self.old) (faults self.new) };
 }
 
 /// The sink failed before it had taken all of a text.
@@ -42,14 +38,10 @@ pub struct WriteFault;
 pub fn write_text<W: Sink>(out: &mut W, text: &[u8]) -> Result<(), WriteFault>
     ensures all { OnOk result (Adds (W.written out.old) text.now (W.written out.new)) }
     ensures prefix { OnErr result (AddsPrefix text.now (W.written out.old) (W.written out.new)) }
-    ensures fault { OnErr result (Rose (W.faults out.old) (W.faults out.new)) }
-    ensures count { W.faults out.old ≤ W.faults out.new }
 
     // The first failed write ends the call.
-    ensures no_failure { OnOk result (W.counts_only_failures ≡ true →
-        W.faults out.new ≡ W.faults out.old) }
-    ensures once { OnErr result (W.counts_only_failures ≡ true →
-        W.faults out.new ≡ next_fault (W.faults out.old)) }
+    ensures bears { Bears W.counts_only_failures (IsErr result)
+        (W.faults out.old) (W.faults out.new) }
     ensures no_call { text.now ≡ [] → out.new ≡ out.old }
 {
     let mut done = 0;

@@ -1,5 +1,5 @@
-ghost use Rattle.std.specs.Prelude.{◌≡◌, ◌≢◌, ℕ, ◌+◌, ◌≤◌, ◌<◌, Bool, true, false, Option, [], List, length, OnErr, IfOk, IfSome, IsErrOf};
-ghost use Rattle.cluster_io.specs.Streams.{ReadsBytes, Rose, is_end, next_fault, TakesBytes, TakesAtMost, TakesCount};
+ghost use Rattle.std.specs.Prelude.{◌≡◌, ℕ, ◌+◌, ◌≤◌, ◌<◌, Bool, true, false, Option, [], List, length, OnErr, IfOk, IfSome, IsErrOf};
+ghost use Rattle.cluster_io.specs.Streams.{Bears, ReadsBytes, is_end, TakesBytes, TakesAtMost, TakesCount};
 
 use std::alloc::{AllocError, Global};
 
@@ -36,12 +36,8 @@ pub trait Source {
         requires room { 0 < length buf.old }
         requires going { ended self.old ≡ false }
         ensures bytes { ReadsBytes (left self.old) (left self.new) result buf.new }
-        ensures count { faults self.old ≤ faults self.new }
-        ensures cause { result ≡ ReadStep.Failed → Rose (faults self.old) (faults self.new) }
-        ensures no_failure { counts_only_failures ≡ true → result ≢ ReadStep.Failed →
-            faults self.new ≡ faults self.old }
-        ensures once { counts_only_failures ≡ true → result ≡ ReadStep.Failed →
-            faults self.new ≡ next_fault (faults self.old) }
+        ensures bears { Bears counts_only_failures (result ≡ ReadStep.Failed)
+            (faults self.old) (faults self.new) }
         ensures end { ended self.new ≡ is_end result };
 }
 
@@ -85,14 +81,10 @@ pub fn read_all<S: Source>(alloc: Global, src: &mut S, limit: usize) -> Result<V
     ensures taken { OnErr result (TakesAtMost (limit + 1) (S.left src.old) (S.left src.new)) }
     ensures too_large { IsErrOf result ReadEnd.TooLarge →
         TakesCount (limit + 1) (S.left src.old) (S.left src.new) }
-    ensures fault { IsErrOf result ReadEnd.Fault → Rose (S.faults src.old) (S.faults src.new) }
-    ensures count { S.faults src.old ≤ S.faults src.new }
 
     // The first failed read ends the call.
-    ensures no_failure { S.counts_only_failures ≡ true → ¬ IsErrOf result ReadEnd.Fault →
-        S.faults src.new ≡ S.faults src.old }
-    ensures once { S.counts_only_failures ≡ true → IsErrOf result ReadEnd.Fault →
-        S.faults src.new ≡ next_fault (S.faults src.old) }
+    ensures bears { Bears S.counts_only_failures (IsErrOf result ReadEnd.Fault)
+        (S.faults src.old) (S.faults src.new) }
 {
     let mut bytes = Vec::new(alloc);
     let mut piece = [0u8; PIECE];

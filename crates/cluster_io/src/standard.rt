@@ -1,7 +1,7 @@
-ghost use Rattle.std.specs.Prelude.{◌≡◌, ◌≢◌, ℕ, true, false, None, ◌≤◌, ◌<◌, length, take, IfOk, IfErr};
+ghost use Rattle.std.specs.Prelude.{◌≡◌, ◌≢◌, ℕ, true, false, None, ◌<◌, length, take, IfOk, IfErr};
 ghost use Rattle.std.specs.IoError.{error_kind};
 ghost use Rattle.std.specs.Io.KnownBytes.{Appends, Consumes, IsAtEnd, Keeps};
-ghost use Rattle.cluster_io.specs.Streams.{ReadsBytes, Writes, Rose, is_end, next_fault};
+ghost use Rattle.cluster_io.specs.Streams.{Bears, ReadsBytes, Writes, is_end};
 
 use crate::{ReadStep, Sink, Source, WriteStep};
 use std::io;
@@ -73,16 +73,9 @@ impl<R: Read> Source for StdSource<R> {
         requires room { 0 < length buf.old }
         requires going { has_source_ended self.old ≡ false }
         ensures bytes { ReadsBytes None None result buf.new }
-        ensures count { source_faults self.old ≤ source_faults self.new }
-        ensures cause { result ≡ ReadStep.Failed →
-            Rose (source_faults self.old) (source_faults self.new) }
+        ensures bears { Bears true (result ≡ ReadStep.Failed)
+            (source_faults self.old) (source_faults self.new) }
         ensures ended { has_source_ended self.new ≡ is_end result }
-
-        // Each failure is counted, and nothing else is.
-        ensures failure_counted { result ≡ ReadStep.Failed →
-            source_faults self.new ≡ next_fault (source_faults self.old) }
-        ensures others_not_counted { result ≢ ReadStep.Failed →
-            source_faults self.new ≡ source_faults self.old }
 
         // Where the reader's own bytes are known, these are they, and the end is theirs.
         ensures given { (n : ℕ) → result ≡ ReadStep.Got n →
@@ -142,15 +135,8 @@ impl<W: Write> Sink for StdSink<W> {
     fn write(&mut self, bytes: &[u8]) -> WriteStep
         requires { 0 < length bytes.now }
         ensures bytes { Writes None None result bytes.now }
-        ensures count { sink_faults self.old ≤ sink_faults self.new }
-        ensures cause { result ≡ WriteStep.Failed →
-            Rose (sink_faults self.old) (sink_faults self.new) }
-
-        // Each failure is counted, and nothing else is.
-        ensures failure_counted { result ≡ WriteStep.Failed →
-            sink_faults self.new ≡ next_fault (sink_faults self.old) }
-        ensures others_not_counted { result ≢ WriteStep.Failed →
-            sink_faults self.new ≡ sink_faults self.old }
+        ensures bears { Bears true (result ≡ WriteStep.Failed)
+            (sink_faults self.old) (sink_faults self.new) }
 
         // Where it is known what the writer holds, it has gained these bytes.
         ensures held { (n : ℕ) → result ≡ WriteStep.Took n →

@@ -1,5 +1,5 @@
 ghost use Rattle.std.specs.Prelude.{◌≡◌, ◌≢◌, ℕ, ◌+◌, ◌≤◌, ◌<◌, true, false, [], length, take, drop, IfOk, IfSome};
-ghost use Rattle.cluster_io.specs.Streams.{Rose, is_end, next_fault};
+ghost use Rattle.cluster_io.specs.Streams.{Bears, is_end};
 ghost use Rattle.cluster_io.specs.Windows.{Received, reached};
 
 use crate::{NoMemory, ReadStep, Source};
@@ -124,12 +124,8 @@ impl Window {
         ensures same_end { self.new.ended ≡ S.ended src.new }
         ensures quiet { self.old.ended ≡ true → src.new ≡ src.old }
         ensures going { result ≢ ReadStep.End → self.old.ended ≡ false }
-        ensures count { S.faults src.old ≤ S.faults src.new }
-        ensures cause { result ≡ ReadStep.Failed → Rose (S.faults src.old) (S.faults src.new) }
-        ensures no_failure { S.counts_only_failures ≡ true → result ≢ ReadStep.Failed →
-            S.faults src.new ≡ S.faults src.old }
-        ensures once { S.counts_only_failures ≡ true → result ≡ ReadStep.Failed →
-            S.faults src.new ≡ next_fault (S.faults src.old) }
+        ensures bears { Bears S.counts_only_failures (result ≡ ReadStep.Failed)
+            (S.faults src.old) (S.faults src.new) }
     {
         if self.ended {
             self.forget();
@@ -155,12 +151,8 @@ fn read_behind<S: Source>(src: &mut S, bytes: &mut [u8], end: usize, most: usize
     ensures received { Received result most (take end bytes.old) (reached result end bytes.new) (S.left src.old) (S.left src.new) }
     ensures within { (n : ℕ) → result ≡ ReadStep.Got n → n ≤ most }
     ensures end { S.ended src.new ≡ is_end result }
-    ensures count { S.faults src.old ≤ S.faults src.new }
-    ensures cause { result ≡ ReadStep.Failed → Rose (S.faults src.old) (S.faults src.new) }
-    ensures no_failure { S.counts_only_failures ≡ true → result ≢ ReadStep.Failed →
-        S.faults src.new ≡ S.faults src.old }
-    ensures once { S.counts_only_failures ≡ true → result ≡ ReadStep.Failed →
-        S.faults src.new ≡ next_fault (S.faults src.old) }
+    ensures bears { Bears S.counts_only_failures (result ≡ ReadStep.Failed)
+        (S.faults src.old) (S.faults src.new) }
 {
     src.read(&mut bytes[end..end + most])
 }

@@ -1,4 +1,4 @@
-use Rattle.std.proofs.Common.{◌≡◌, ℕ, ◌≤◌, Bool, true, false, IfSome, List, [], length, arith, sym, ap, subst, refl, ◌∙◌}
+use Rattle.std.proofs.Common.{◌≡◌, ℕ, ◌≤◌, Bool, true, false, IfSome, List, [], length, sym, ap, subst, refl, ◌∙◌}
 use Rattle.std.proofs.lemmas.Bool.{both_ways, false≢true}
 use Rattle.cluster_io.specs.NextLine.{holds_line, IsUndecided}
 use Rattle.cluster_io.specs.Readings.{Reading}
@@ -6,6 +6,7 @@ use Rattle.cluster_io.specs.declared.line_step.LineStep.TheVariants.{Failed}
 use Rattle.cluster_io.specs.Scanning.{Finds, FindsLast}
 use Rattle.cluster_io.specs.HeldLines.{GivesFound, Settles}
 use Rattle.cluster_io.proofs.Turns.{settles_found, settles_last, same_reading, given_is_no_failure, given_keeps_end}
+use Rattle.cluster_io.proofs.Bearing.{Bears-none}
 use Rattle.cluster_io.proofs.held_lines.HeldLines.turn.Goals as goal
 
 pub returns-in_default : goal.returns-in_default
@@ -27,10 +28,7 @@ returns-in_default g c =
       same_end =
           given_keeps_end c.look-found.result.1 c.give.result _ c.give.new.self c.give.ensures
           ∙ (ap (λ (r : Reading). r.ended) c.self.view_is ∙ c.requires.same_end);
-      count = omega arith;
-      cause = λ e. absurd (given_is_no_failure c.look-found.result.1 c.give.result _ c.give.new.self c.give.ensures cc);
-      no_failure = λ alone none. refl;
-      once = λ alone e. absurd (given_is_no_failure c.look-found.result.1 c.give.result _ c.give.new.self c.give.ensures cc);
+      bears = Bears-none _ _ _ (λ e. given_is_no_failure c.look-found.result.1 c.give.result _ c.give.new.self c.give.ensures cc);
     }
 
 pub returns-in-End-2-clause-turned : goal.returns-in-End-2-clause-turned

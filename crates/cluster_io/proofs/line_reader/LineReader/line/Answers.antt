@@ -18,8 +18,8 @@ loop-step-preserved g c =
           c.in_default-turn.ensures.quiet (ap (λ (r : Reading). r.ended) so.leaves ∙ h) ∙ c.loop-step.invariant.quiet h;
       at_end = λ h. absurd (both_ways c.turn.new.self.ended (ap (λ (r : Reading). r.ended) went.leaves ∙ went.going) h);
       same_end = c.in_default-turn.ensures.same_end;
-      count = omega arith;
-      no_failure = λ alone. c.in_default-turn.ensures.no_failure alone (λ failed. cc) ∙ c.loop-step.invariant.no_failure alone;
+      count = omega (arith, c.in_default-turn.ensures.bears.count, c.loop-step.invariant.count);
+      no_failure = λ alone. c.in_default-turn.ensures.bears.no_failure alone (λ failed. cc) ∙ c.loop-step.invariant.no_failure alone;
       same_source = grind (arith, common_steps);
     }
 
