@@ -1,6 +1,7 @@
 //! Where the bytes of a run come from and go to: sources and sinks that count their own faults.
 #![tactic(auto)]
 
+mod attempts;
 mod held_lines;
 mod line_reader;
 mod line_scan;

@@ -1,41 +1,19 @@
-ghost use Rattle.std.specs.Prelude.{◌≡◌, ◌≢◌, ℕ, true, false, None, ◌<◌, length, take, IfOk, IfErr};
-ghost use Rattle.std.specs.IoError.{error_kind};
+ghost use Rattle.std.specs.Prelude.{◌≡◌, ℕ, true, false, None, ◌<◌, length, take};
 ghost use Rattle.std.specs.Io.KnownBytes.{Appends, Consumes, IsAtEnd, Keeps};
-ghost use Rattle.cluster_io.specs.Streams.{Bears, ReadsBytes, Writes, is_end};
+ghost use Rattle.cluster_io.specs.Streams.{Bears, ReadsBytes, Writes, is_end, next_fault};
 
+use crate::attempts::{Attempt, ReaderCalls, WriterCalls};
 use crate::{ReadStep, Sink, Source, WriteStep};
-use std::io;
-use std::io::{ErrorKind, Read, Write};
+use std::io::{Read, Write};
 
 /// How many interrupted calls in turn count as a failure.
 const TRIES: u32 = 1000;
-
-/// What one call of a reader or a writer came to.
-enum Attempt {
-    Moved(usize),
-    Interrupted,
-    Failed,
-}
-
-fn attempt_of(outcome: io::Result<usize>) -> Attempt
-    ensures moved { IfOk outcome (λ count. result ≡ Attempt.Moved count) }
-    ensures interrupted { IfErr outcome (λ e. error_kind e ≡ ErrorKind.Interrupted →
-        result ≡ Attempt.Interrupted) }
-    ensures failed { IfErr outcome (λ e. error_kind e ≢ ErrorKind.Interrupted →
-        result ≡ Attempt.Failed) }
-{
-    match outcome {
-        Ok(count) => Attempt::Moved(count),
-        Err(e) if e.kind() == ErrorKind::Interrupted => Attempt::Interrupted,
-        Err(_) => Attempt::Failed,
-    }
-}
 
 /// A reader of std as a source, which tells nothing of the bytes still to come. An interrupted call
 /// is made again, up to 1,000 calls in all; past those, and at any other error, the source fails.
 #[derive(Drop)]
 pub struct StdSource<R: Read> {
-    reader: R,
+    calls: ReaderCalls<R>,
     faults: u64,
     ended: bool,
 }
@@ -51,15 +29,26 @@ impl<R: Read> StdSource<R> {
         ensures reader { reader_of result ≡ reader }
     {
         StdSource {
-            reader,
+            calls: ReaderCalls::new(reader),
             faults: 0,
             ended: false,
         }
     }
+
+    /// Counts a fault.
+    fn read_failed(&mut self) -> ReadStep
+        ensures failed { result ≡ ReadStep.Failed }
+        ensures counted { self.new.faults ≡ next_fault self.old.faults }
+        ensures calls { self.new.calls ≡ self.old.calls }
+        ensures ended { self.new.ended ≡ self.old.ended }
+    {
+        self.faults = self.faults.saturating_add(1);
+        ReadStep::Failed
+    }
 }
 
 impl<R: Read> Source for StdSource<R> {
-    ghost use Rattle.cluster_io.specs.Standard.{has_source_ended, reader_of, source_faults};
+    ghost use Rattle.cluster_io.specs.Standard.{Persists, has_source_ended, reader_of, reader_failures, reader_interruptions, source_faults};
 
     ghost left = { λ _. None };
 
@@ -77,6 +66,11 @@ impl<R: Read> Source for StdSource<R> {
             (source_faults self.old) (source_faults self.new) }
         ensures ended { has_source_ended self.new ≡ is_end result }
 
+        // A failed call of the reader is answered so, and nothing else is but 1,000 interrupted ones.
+        ensures calls { Persists (result ≡ ReadStep.Failed)
+            (reader_failures self.old) (reader_failures self.new)
+            (reader_interruptions self.old) (reader_interruptions self.new) }
+
         // Where the reader's own bytes are known, these are they, and the end is theirs.
         ensures given { (n : ℕ) → result ≡ ReadStep.Got n →
             Consumes (R.remaining (reader_of self.old)) (R.remaining (reader_of self.new))
@@ -85,19 +79,19 @@ impl<R: Read> Source for StdSource<R> {
         ensures kept { result ≡ ReadStep.Failed →
             Keeps (R.remaining (reader_of self.old)) (R.remaining (reader_of self.new)) }
     {
-        for _ in 0..TRIES {
-            match attempt_of(self.reader.read(buf)) {
+        let mut interrupted = 0;
+        while interrupted < TRIES {
+            match self.calls.attempt(buf) {
                 Attempt::Moved(0) => {
                     self.ended = true;
                     return ReadStep::End;
                 }
                 Attempt::Moved(count) => return ReadStep::Got(count),
-                Attempt::Interrupted => {}
-                Attempt::Failed => break,
+                Attempt::Interrupted => interrupted += 1,
+                Attempt::Failed => return self.read_failed(),
             }
         }
-        self.faults = self.faults.saturating_add(1);
-        ReadStep::Failed
+        self.read_failed()
     }
 }
 
@@ -106,7 +100,7 @@ impl<R: Read> Source for StdSource<R> {
 /// bytes, the sink fails.
 #[derive(Drop)]
 pub struct StdSink<W: Write> {
-    writer: W,
+    calls: WriterCalls<W>,
     faults: u64,
 }
 
@@ -119,12 +113,25 @@ impl<W: Write> StdSink<W> {
         ensures faults { ⟦<StdSink<W> as Sink>⟧.faults result ≡ 0 }
         ensures writer { writer_of result ≡ writer }
     {
-        StdSink { writer, faults: 0 }
+        StdSink {
+            calls: WriterCalls::new(writer),
+            faults: 0,
+        }
+    }
+
+    /// Counts a fault.
+    fn write_failed(&mut self) -> WriteStep
+        ensures failed { result ≡ WriteStep.Failed }
+        ensures counted { self.new.faults ≡ next_fault self.old.faults }
+        ensures calls { self.new.calls ≡ self.old.calls }
+    {
+        self.faults = self.faults.saturating_add(1);
+        WriteStep::Failed
     }
 }
 
 impl<W: Write> Sink for StdSink<W> {
-    ghost use Rattle.cluster_io.specs.Standard.{writer_of, sink_faults};
+    ghost use Rattle.cluster_io.specs.Standard.{Persists, writer_of, writer_failures, writer_interruptions, sink_faults};
 
     ghost written = { λ _. None };
 
@@ -138,6 +145,11 @@ impl<W: Write> Sink for StdSink<W> {
         ensures bears { Bears true (result ≡ WriteStep.Failed)
             (sink_faults self.old) (sink_faults self.new) }
 
+        // A failed call of the writer is answered so, and nothing else is but 1,000 interrupted ones.
+        ensures calls { Persists (result ≡ WriteStep.Failed)
+            (writer_failures self.old) (writer_failures self.new)
+            (writer_interruptions self.old) (writer_interruptions self.new) }
+
         // Where it is known what the writer holds, it has gained these bytes.
         ensures held { (n : ℕ) → result ≡ WriteStep.Took n →
             Appends (W.contents (writer_of self.old)) (W.contents (writer_of self.new))
@@ -145,15 +157,14 @@ impl<W: Write> Sink for StdSink<W> {
         ensures kept { result ≡ WriteStep.Failed →
             Keeps (W.contents (writer_of self.old)) (W.contents (writer_of self.new)) }
     {
-        for _ in 0..TRIES {
-            match attempt_of(self.writer.write(bytes)) {
-                Attempt::Moved(0) => break,
+        let mut interrupted = 0;
+        while interrupted < TRIES {
+            match self.calls.attempt(bytes) {
                 Attempt::Moved(count) => return WriteStep::Took(count),
-                Attempt::Interrupted => {}
-                Attempt::Failed => break,
+                Attempt::Interrupted => interrupted += 1,
+                Attempt::Failed => return self.write_failed(),
             }
         }
-        self.faults = self.faults.saturating_add(1);
-        WriteStep::Failed
+        self.write_failed()
     }
 }

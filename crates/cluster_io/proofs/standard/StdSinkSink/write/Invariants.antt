@@ -1,9 +1,16 @@
-use Rattle.std.proofs.Common.{◌≡◌}
+use Rattle.std.proofs.Common.{◌≡◌, ◌+◌, ◌-◌, ◌^◌, ◌≤◌, min}
 use Rattle.std.specs.Io.KnownBytes.{Keeps}
 use Rattle.cluster_io.proofs.standard.StdSinkSink.write.Given as goal
 
-abbrev pub invariant-loop : goal.invariant-loop
-invariant-loop g l = record {
+abbrev pub invariant-loop-interrupted : goal.invariant-loop-interrupted
+invariant-loop-interrupted g l = record {
+  tries : l.interrupted ≤ 1000;
   faults : l.self.faults ≡ l.fn.self.faults;
-  kept : Keeps (g.W.Write.contents l.fn.self.writer) (g.W.Write.contents l.self.writer);
+  kept : Keeps (g.W.Write.contents l.fn.self.calls.writer) (g.W.Write.contents l.self.calls.writer);
+  failures : l.self.calls.failures ≡ l.fn.self.calls.failures;
+  interruptions : min (l.fn.self.calls.interruptions + l.interrupted) (2 ^ 64 - 1) ≤ l.self.calls.interruptions;
+  few : l.self.calls.interruptions ≤ l.fn.self.calls.interruptions + l.interrupted;
 }
+
+abbrev pub decreases-loop-interrupted : goal.decreases-loop-interrupted
+decreases-loop-interrupted g l = 1000 - l.interrupted
