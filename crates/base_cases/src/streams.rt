@@ -117,6 +117,63 @@ fn interrupted_writes_to_std(rt: HostRuntime) {
     assert!(rt; interrupted_write(1, &mut []) == WriteStep::Failed);
 }
 
+/// Fails once, or takes nothing once, and then reads or writes as `inner` does.
+#[derive(Drop)]
+struct FailsOnce<T> {
+    failed: bool,
+    inner: T,
+}
+
+impl<T> FailsOnce<T> {
+    fn new(inner: T) -> FailsOnce<T> {
+        FailsOnce {
+            failed: false,
+            inner,
+        }
+    }
+}
+
+impl<R: Read> Read for FailsOnce<R> {
+    fn read(&mut self, buf: &mut [u8]) -> io::Result<usize> {
+        if !self.failed {
+            self.failed = true;
+            return Err(ErrorKind::TimedOut.into());
+        }
+        self.inner.read(buf)
+    }
+}
+
+impl<W: Write> Write for FailsOnce<W> {
+    fn write(&mut self, bytes: &[u8]) -> io::Result<usize> {
+        if !self.failed {
+            self.failed = true;
+            return Ok(0);
+        }
+        self.inner.write(bytes)
+    }
+
+    fn flush(&mut self) -> io::Result<()> {
+        self.inner.flush()
+    }
+}
+
+#[test]
+fn answers_a_failed_read(rt: HostRuntime) {
+    let mut buf = [0u8; 4];
+    let mut source = StdSource::new(FailsOnce::new(b"ab".as_slice()));
+    assert!(rt; source.read(&mut buf) == ReadStep::Failed);
+    assert!(rt; source.read(&mut buf) == ReadStep::Got(2));
+    assert!(rt; source.read(&mut buf) == ReadStep::End);
+}
+
+#[test]
+fn answers_a_write_of_nothing(rt: HostRuntime) {
+    let mut buf = [0u8; 4];
+    let mut sink = StdSink::new(FailsOnce::new(buf.as_mut_slice()));
+    assert!(rt; sink.write(b"xy") == WriteStep::Failed);
+    assert!(rt; sink.write(b"xy") == WriteStep::Took(2));
+}
+
 /// A new source of these bytes, of which a read gives at most `step`, and these reads fail, counted from 1.
 fn source_of(
     rt: &impl Abort,
