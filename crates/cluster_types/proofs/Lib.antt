@@ -43,3 +43,4 @@ mod GuardExamples
 mod MigrationGuards
 mod RecoveryGuards
 mod AnswerGuards
+mod PlacementGuards
