@@ -79,3 +79,4 @@ pub mod Sorted
 pub mod Few
 pub mod Pairs
 pub mod WholeOrder
+mod LossExamples
