@@ -1,5 +1,5 @@
 -- What is left when no dependency takes more away are the targets in the end.
-use Rattle.std.proofs.Common.{arith, ◌≡◌, ◌==◌, ◌&&◌, ◌||◌, not, ℕ, Bool, true, false, Option, List, refl, sym, ap, subst, Contains, length, map}
+use Rattle.std.proofs.Common.{arith, ◌≡◌, ◌==◌, ◌&&◌, ◌||◌, not, ℕ, Bool, true, false, Option, List, refl, ap, Contains, length, map}
 use Rattle.std.specs.List.{range_with_len}
 use Rattle.std.proofs.lemmas.Bool.{and_from, false_from_ne_true}
 use Rattle.cluster_types.specs.declared.cluster.Cluster.{Cluster}

@@ -1,5 +1,5 @@
 -- The tests for a rule that holds a leaf back say what the definitions say.
-use Rattle.std.proofs.Common.{◌≡◌, ◌<◌, ◌&&◌, not, ℕ, Bool, true, false, if◌then◌else◌, Some, None, List, refl, sym, subst, length}
+use Rattle.std.proofs.Common.{◌≡◌, ◌<◌, ◌&&◌, not, ℕ, Bool, true, false, if◌then◌else◌, Some, None, List, refl, length}
 use Rattle.std.proofs.lemmas.Bool.{and_from, not-true}
 use Rattle.lemmas.proofs.Booleans.{later, sooner}
 use Rattle.loops.proofs.Needs.{is_itself, placed_by, same_decision}
