@@ -94,7 +94,7 @@ fn decide_each(
     for decision in order {
         let turn = decide(alloc, known, loaded, *decision)?;
         loaded = turn.loaded;
-        decided.push(turn.decided)?;
+        decided.push_reserved(turn.decided);
     }
     Ok(Choices {
         table: loaded.table,

@@ -34,7 +34,7 @@ pub(crate) fn totals_on(
     let mut all = Vec::with_capacity(alloc, preferences.len())?;
     for node in 0..preferences.len() {
         let base = known.scores.total_at(decision, node as u32);
-        all.push(total_of_both(base, preferences[node]))?;
+        all.push_reserved(total_of_both(base, preferences[node]));
     }
     Ok(all)
 }

@@ -86,6 +86,61 @@ fn needs_reason(pins: &[Option<Pin>], targets: &Table, leaf: LeafId) -> bool
     !is_pinned(pins, leaf) && !has_target(targets, leaf)
 }
 
+/// The reason of the leaf, if it needs one.
+fn needed_reason(
+    alloc: Global,
+    cluster: &Cluster,
+    states: &States,
+    may_start: bool,
+    pins: &[Option<Pin>],
+    chosen: &Table,
+    targets: &Table,
+    leaf: LeafId,
+) -> Result<Option<NoReason>, NoMemory>
+    requires { chosen.now.nodes ≡ targets.now.nodes }
+    ensures { IfOk result (λ reason. reason
+        ≡ spec.reason_in cluster.now states.now may_start targets.now.nodes (targets_of chosen.now) (targets_of targets.now) pins.now leaf) }
+{
+    if needs_reason(pins, targets, leaf) {
+        reason_of(alloc, cluster, states, may_start, chosen, targets, leaf)
+    } else {
+        Ok(None)
+    }
+}
+
+/// Of each leaf its reason, if it needs one.
+fn all_reasons(
+    alloc: Global,
+    cluster: &Cluster,
+    states: &States,
+    may_start: bool,
+    pins: &[Option<Pin>],
+    chosen: &Table,
+    targets: &Table,
+) -> Result<Vec<Option<NoReason>>, NoMemory>
+    requires limits { KeepsLimits cluster.now }
+    requires nodes { chosen.now.nodes ≡ targets.now.nodes }
+    ensures { IfOk result (λ none. none.items
+        ≡ map (spec.reason_in cluster.now states.now may_start targets.now.nodes (targets_of chosen.now) (targets_of targets.now) pins.now)
+        (range_with_len 0 (length cluster.now.leaves))) }
+{
+    let mut none = Vec::with_capacity(alloc, cluster.leaves.len())?;
+    for leaf in 0..cluster.leaves.len() {
+        let reason = needed_reason(
+            alloc,
+            cluster,
+            states,
+            may_start,
+            pins,
+            chosen,
+            targets,
+            leaf as u32,
+        )?;
+        none.push_reserved(reason);
+    }
+    Ok(none)
+}
+
 /// Why each leaf has no target (rule of this project). A leaf that is left as it is, or has a target, needs no reason. Of the others the first
 /// of these counts: it may have no copy, it is to be stopped, a failure stops it, all resources are stopped, the cluster may start nothing, no
 /// node was chosen for it, or it is held back by a rule: on the earliest node that was chosen for it, by the first mandatory colocation of which
@@ -94,7 +149,6 @@ fn needs_reason(pins: &[Option<Pin>], targets: &Table, leaf: LeafId) -> bool
 /// The states are those that some journal tells of the cluster, the pins say of each leaf why it is left as it is, if it is, the first table is
 /// that after all decisions, and the second has the targets in the end; of others nothing is said. Out of memory is the only other answer. The
 /// time is that of the tables, and for each leaf that is held back that of the rules.
-#[tactic(auto, using(lemmas::proofs::Grown::value_more))]
 pub fn reasons(
     alloc: Global,
     cluster: &Cluster,
@@ -117,14 +171,6 @@ pub fn reasons(
         → HasReason cluster.now events (targets_of chosen.now) (targets_of targets.now) r reason) }
 {
     let may_start = rights(cluster, states).may_start;
-    let mut none = Vec::with_capacity(alloc, cluster.leaves.len())?;
-    for leaf in 0..cluster.leaves.len() as u32 {
-        if !needs_reason(pins, targets, leaf) {
-            none.push(None)?;
-            continue;
-        }
-        let reason = reason_of(alloc, cluster, states, may_start, chosen, targets, leaf)?;
-        none.push(reason)?;
-    }
+    let none = all_reasons(alloc, cluster, states, may_start, pins, chosen, targets)?;
     Ok(Listed::from(none))
 }

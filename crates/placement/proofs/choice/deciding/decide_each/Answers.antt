@@ -1,4 +1,4 @@
-use Rattle.std.proofs.Common.{rules, ◌≡◌, ◌++◌, ◌∷◌, [], take, get_or, refl, sym, subst, arith}
+use Rattle.std.proofs.Common.{rules, ◌≡◌, ◌++◌, ◌∷◌, [], length, take, get_or, refl, sym, ap, subst, arith}
 use Rattle.std.proofs.lemmas.List.{take_all}
 use Rattle.std.proofs.lemmas.List.Elements.{Contains-get_or}
 use Rattle.cluster_types.specs.declared.placement.Decision.TheVariants.{Place}
@@ -12,6 +12,8 @@ loop-decision-init c =
     let none : c.in_ok-decided.decided.items ≡ [] = search rules in
     record {
       loaded = c.requires.loaded;
+      size = ap length none;
+      room = search rules;
       made = λ es ps tell. record { cells = refl; totals = none };
     }
 
@@ -21,16 +23,21 @@ decide-requires-clause-leaf c =
     let i = c.loop-decision.decision-index in
     c.requires.leaves (get_or order i (Place 0)) (Contains-get_or order i (Place 0) c.loop-decision-test.true)
 
+pub push_reserved-requires : goal.push_reserved-requires
+push_reserved-requires c = omega (arith, c.loop-decision.invariant.size, c.loop-decision.invariant.room, c.loop-decision-test.true)
+
 pub loop-decision-preserved : goal.loop-decision-preserved
 loop-decision-preserved c =
     let l = c.loop-decision in
     let turn = c.in_ok-turn.turn in
-    let items : c.push.new.self.items ≡ l.decided.items ++ turn.decided ∷ [] = search rules in
+    let items : c.push_reserved.new.self.items ≡ l.decided.items ++ turn.decided ∷ [] = search rules in
     record {
       loaded = c.in_ok-turn.ensures.loaded;
+      size = search rules;
+      room = search rules;
       made = λ es ps tell.
           made-more c.args.known.now.cluster.now es ps (targets_of c.args.loaded.table) c.args.order.now l.decision-index (Place 0) c.loop-decision-test.true
-          (targets_of l.loaded.table) (targets_of turn.loaded.table) l.decided.items c.push.new.self.items turn.decided
+          (targets_of l.loaded.table) (targets_of turn.loaded.table) l.decided.items c.push_reserved.new.self.items turn.decided
           (l.invariant.made es ps tell) (c.in_ok-turn.ensures.made es ps tell) items;
     }
 

@@ -19,6 +19,9 @@ overflow_cast-node c =
     let low : c.loop-node.node < length c.in_ok-preferences.preferences.items = search rules in
     omega (arith, long, few, low)
 
+pub push_reserved-requires : goal.push_reserved-requires
+push_reserved-requires c = omega (arith, c.loop-node.invariant.size, c.loop-node.invariant.room, c.loop-node-test.true)
+
 pub loop-node-preserved : goal.loop-node-preserved
 loop-node-preserved c =
     let l = c.loop-node in
@@ -37,8 +40,12 @@ loop-node-preserved c =
     let is : c.total_of_both.result ≡ f l.node =
     c.total_of_both.ensures ∙ (ap (λ b. total_of (b ∷ read ∷ [])) c.total_at-base.ensures
     ∙ ap (λ p. total_of (score_in known.scores.now d l.node ∷ p ∷ [])) preferred) in
-    let items : c.push.new.self.items ≡ l.all.items ++ c.total_of_both.result ∷ [] = search rules in
-    items ∙ (ap (λ t. l.all.items ++ t ∷ []) is ∙ (ap (λ xs. xs ++ f l.node ∷ []) l.invariant ∙ sym (map-more f l.node)))
+    let items : c.push_reserved.new.self.items ≡ l.all.items ++ c.total_of_both.result ∷ [] = search rules in
+    record {
+      made = items ∙ (ap (λ t. l.all.items ++ t ∷ []) is ∙ (ap (λ xs. xs ++ f l.node ∷ []) l.invariant.made ∙ sym (map-more f l.node)));
+      size = search rules;
+      room = search rules;
+    }
 
 pub returns : goal.returns
 returns c =
@@ -49,4 +56,4 @@ returns c =
     let made : c.in_ok-preferences.preferences.items ≡ map (preference cluster table c.args.decision) (range_with_len 0 (length cluster.nodes)) = search rules in
     let long = ap length made ∙ length-map-range_with_len (preference cluster table c.args.decision) 0 (length cluster.nodes) in
     let done : l.node ≡ length c.in_ok-preferences.preferences.items = search rules in
-    l.invariant ∙ ap (λ k. map (total_in cluster known.scores.now table c.args.decision) (range_with_len 0 k)) (done ∙ long)
+    l.invariant.made ∙ ap (λ k. map (total_in cluster known.scores.now table c.args.decision) (range_with_len 0 k)) (done ∙ long)

@@ -1,4 +1,4 @@
-use Rattle.std.proofs.Common.{arith, ◌≡◌, length, ◌∙◌, ap}
+use Rattle.std.proofs.Common.{refl, length, ◌∙◌, ap}
 use Rattle.std.proofs.lemmas.List.FromFn.{length-map-range_with_len}
 use Rattle.cluster_types.specs.declared.states.Rights.{Rights}
 use Rattle.cluster_types.specs.Tables.{targets_of}
@@ -10,17 +10,12 @@ pub returns-clause-leaves : goal.returns-clause-leaves
 returns-clause-leaves c =
     let a = c.args in
     let f = reason_in a.cluster.now a.states.now c.rights-may_start.result.may_start a.targets.now.nodes (targets_of a.chosen.now) (targets_of a.targets.now) a.pins.now in
-    let size = ap length (c.from.ensures ∙ c.loop-leaf.invariant) ∙ length-map-range_with_len f 0 c.loop-leaf.leaf in
-    let all : c.loop-leaf.leaf ≡ length a.cluster.now.leaves
-    = let past = c.loop-leaf-test.false in let end = c.loop-leaf.auto.leaf-end in let count = c.len-leaf-end.ensures in omega arith in
-    size ∙ all
+    ap length (c.from.ensures ∙ c.in_ok-none.ensures) ∙ length-map-range_with_len f 0 (length a.cluster.now.leaves)
 
 pub returns-clause-reasons : goal.returns-clause-reasons
 returns-clause-reasons c = λ events promotions told pinned are.
     let a = c.args in
-    let all : c.loop-leaf.leaf ≡ length a.cluster.now.leaves
-    = let past = c.loop-leaf-test.false in let end = c.loop-leaf.auto.leaf-end in let count = c.len-leaf-end.ensures in omega arith in
     told_reason a.cluster.now events promotions a.chosen.now a.targets.now c.requires.nodes c.requires.size c.requires.same_nodes c.requires.same_size are
     a.states.now told a.pins.now pinned c.rights-may_start.result.may_start
     (ap (λ (x : Rights). x.may_start) (c.rights-may_start.ensures events promotions told))
-    c.from.result c.loop-leaf.leaf all (c.from.ensures ∙ c.loop-leaf.invariant)
+    c.from.result (length a.cluster.now.leaves) refl (c.from.ensures ∙ c.in_ok-none.ensures)
