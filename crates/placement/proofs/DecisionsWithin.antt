@@ -11,9 +11,9 @@ use Rattle.cluster_types.specs.declared.placement.Decision.TheVariants.{Place, P
 use Rattle.cluster_types.specs.declared.placement.Pin.{Pin}
 use Rattle.cluster_types.specs.Decisions.{Key, leaf_of}
 use Rattle.cluster_types.specs.Fields.{is_promotable}
-use Rattle.placement.specs.DecisionLists.{decisions_in, decisions_in_leaf}
+use Rattle.placement.specs.Inner.DecisionLists.{decisions_in, decisions_in_leaf}
 use Rattle.cluster_types.specs.Pins.{is_pinned_in}
-use Rattle.placement.specs.Turns.{WereMade, none_made, one_more}
+use Rattle.placement.specs.Inner.Turns.{WereMade, none_made, one_more}
 
 of-leaf : (r : ℕ) (pinned promotable : Bool) (d : Decision)
     → Contains (if pinned then [] else Place r ∷ (if promotable then Promote r ∷ [] else [])) d → leaf_of d ≡ r

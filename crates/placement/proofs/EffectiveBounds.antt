@@ -6,7 +6,7 @@ use Rattle.loops.proofs.Needs.{same_decision}
 use Rattle.cluster_types.specs.declared.cluster.Cluster.{Cluster}
 use Rattle.cluster_types.specs.declared.placement.Decision.{Decision}
 use Rattle.cluster_types.specs.Decisions.{Key, greater_key, is_less, is_same_decision, needs_through}
-use Rattle.placement.specs.Lending.{effective_within, greater_by}
+use Rattle.placement.specs.Inner.Lending.{effective_within, greater_by}
 use Rattle.placement.proofs.KeyOrder.{greatest_is_least, greatest_keeps_each, greatest_keeps_own}
 
 module _ (c : Cluster) (ds : List Decision) (key : Decision → Key) where

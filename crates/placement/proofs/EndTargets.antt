@@ -23,8 +23,8 @@ use Rattle.cluster_types.proofs.LeastSets.{held-least}
 use Rattle.cluster_types.proofs.TableCells.{promoted_somewhere}
 use Rattle.plan_laws.proofs.MadeOnes.{never_both}
 use Rattle.placement.specs.declared.held.dependencies.Dependency.{Dependency}
-use Rattle.placement.specs.Dependencies.{dependencies_by, from_colocation, from_order, may_hold_back}
-use Rattle.placement.specs.Taking.{IsRuleSettled, has_its_primary}
+use Rattle.placement.specs.Inner.Dependencies.{dependencies_by, from_colocation, from_order, may_hold_back}
+use Rattle.placement.specs.Inner.Taking.{IsRuleSettled, has_its_primary}
 use Rattle.placement.proofs.Lacking.{lacked, not_both}
 use Rattle.placement.proofs.LeftOfChosen.{IsLeft}
 use Rattle.placement.proofs.RuleOrigins.{colocation_there, order_there}

@@ -15,7 +15,7 @@ use Rattle.cluster_types.specs.Tables.{holds_role, targets_of}
 use Rattle.cluster_types.proofs.TableCells.{after_setting}
 use Rattle.plan_laws.proofs.MadeOnes.{never_both}
 use Rattle.plan_laws.proofs.StayHeld.{has, holds_is, nowhere_has_none}
-use Rattle.placement.specs.Taking.{below, roles_in, roles_of, without}
+use Rattle.placement.specs.Inner.Taking.{below, roles_in, roles_of, without}
 
 module _ (table : Table) where
   past_nodes : (r n : ℕ) → table.nodes ≤ n → targets_of table r n ≡ target.Nowhere

@@ -3,7 +3,7 @@ use Rattle.std.proofs.Common.{arith, ◌≡◌, ℕ, suc, zero, ◌+◌, ◌-◌
 use Rattle.std.specs.List.{range_with_len}
 use Rattle.std.proofs.lemmas.Bool.{cases_eq}
 use Rattle.listed.specs.Sets.{is_member, members}
-use Rattle.placement.specs.Queueing.{IsFirstPlace}
+use Rattle.placement.specs.Inner.Queueing.{IsFirstPlace}
 
 module _ (f : ℕ → Bool) where
   record First (a n k : ℕ) : Type 0 where

@@ -9,7 +9,7 @@ use Rattle.cluster_types.specs.declared.placement.Decision.{Decision}
 use Rattle.cluster_types.specs.declared.placement.Decision.TheVariants.{Place, Promote}
 use Rattle.cluster_types.specs.Decisions.{is_same_decision, leaf_of}
 use Rattle.cluster_types.proofs.TableCells.{get-at, same_place}
-use Rattle.placement.specs.Flags.{AreFlags, flag_at, slot_of}
+use Rattle.placement.specs.Inner.Flags.{AreFlags, flag_at, slot_of}
 
 -- two decisions have one slot where they are one
 pub same-slot : (d e : Decision) → (slot_of d == slot_of e) ≡ is_same_decision d e

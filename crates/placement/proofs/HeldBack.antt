@@ -17,9 +17,9 @@ use Rattle.cluster_types.specs.Precedence.{is_mandatory_order, is_up, role_by}
 use Rattle.cluster_types.specs.Reasons.{IsHeldByColocation, IsHeldByOrder}
 use Rattle.cluster_types.specs.Tables.{Targets, holds_role}
 use Rattle.cluster_types.proofs.OpLaws.{of_kind, start_of}
-use Rattle.placement.specs.Dependencies.{from_colocation, from_order, may_hold_back, of_colocation, of_order}
-use Rattle.placement.specs.Reasoning.{holds_back}
-use Rattle.placement.specs.Taking.{has_its_primary}
+use Rattle.placement.specs.Inner.Dependencies.{from_colocation, from_order, may_hold_back, of_colocation, of_order}
+use Rattle.placement.specs.Inner.Reasoning.{holds_back}
+use Rattle.placement.specs.Inner.Taking.{has_its_primary}
 use Rattle.placement.proofs.EndTargets.{has_gone, missing, scoped}
 use Rattle.placement.proofs.Lacking.{held_not, lacked, lacking}
 use Rattle.placement.proofs.LeftOfChosen.{IsLeft, in_scope}

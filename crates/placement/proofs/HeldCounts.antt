@@ -12,7 +12,7 @@ use Rattle.edges.specs.declared.edge.Edge.{Edge}
 use Rattle.edges.specs.Loops.{EndsWithin}
 use Rattle.edges.specs.declared.side.Side.TheVariants.{After}
 use Rattle.edges.specs.Rows.{edges_at, edge_targets_of}
-use Rattle.placement.specs.Queueing.{held}
+use Rattle.placement.specs.Inner.Queueing.{held}
 
 -- each target stands at the end of an edge
 pub target-within : (positions : ℕ) (edges : List Edge) → EndsWithin positions edges → (k x : ℕ) → Contains (edge_targets_of edges k) x → x < positions

@@ -7,7 +7,7 @@ use Rattle.lemmas.proofs.Members.{at_head, head_or_rest, in_none, in_rest}
 use Rattle.cluster_types.specs.Decisions.{Key, greater_key, is_less}
 use Rattle.plan_laws.proofs.MadeBefore.{less_somewhere}
 use Rattle.plan_laws.proofs.OneOrder.{less_one_way}
-use Rattle.placement.specs.Lending.{greater_by}
+use Rattle.placement.specs.Inner.Lending.{greater_by}
 
 -- number by number
 

@@ -20,8 +20,8 @@ use Rattle.cluster_types.specs.Tables.{Targets, holds_role, is_in_scope}
 use Rattle.cluster_types.proofs.OpLaws.{of_kind}
 use Rattle.plan_laws.proofs.MadeOnes.{never_both}
 use Rattle.placement.specs.declared.held.dependencies.Dependency.{Dependency}
-use Rattle.placement.specs.Dependencies.{dependencies_by, from_colocation, from_order, may_hold_back}
-use Rattle.placement.specs.Taking.{TakenAway, has_its_primary, none_yet, one_more, takes, without}
+use Rattle.placement.specs.Inner.Dependencies.{dependencies_by, from_colocation, from_order, may_hold_back}
+use Rattle.placement.specs.Inner.Taking.{TakenAway, has_its_primary, none_yet, one_more, takes, without}
 use Rattle.placement.proofs.Lacking.{lacking}
 use Rattle.placement.proofs.RolesTaken.{Gone, gone, lowered}
 use Rattle.placement.proofs.RuleOrigins.{Origin, a_colocation, an_order, origin}

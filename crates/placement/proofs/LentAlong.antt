@@ -5,9 +5,9 @@ use Rattle.cluster_types.specs.declared.cluster.Cluster.{Cluster}
 use Rattle.cluster_types.specs.declared.placement.Decision.{Decision}
 use Rattle.cluster_types.specs.Decisions.{Key, greater_key, is_among, is_less, is_same_decision, leaf_of, needs}
 use Rattle.plan_laws.proofs.MadeOnes.{stands_among}
-use Rattle.placement.specs.Flags.{slot_of}
-use Rattle.placement.specs.Lending.{AreKeys, effective_within, greater_by, is_raised, slot_key_at, keys_among, lent_along, raises, with_lent}
-use Rattle.placement.specs.Links.{lending_link}
+use Rattle.placement.specs.Inner.Flags.{slot_of}
+use Rattle.placement.specs.Inner.Lending.{AreKeys, effective_within, greater_by, is_raised, slot_key_at, keys_among, lent_along, raises, with_lent}
+use Rattle.placement.specs.Inner.Links.{lending_link}
 use Rattle.placement.proofs.EffectiveBounds.{each_within, most_within, own_within}
 use Rattle.placement.proofs.FlagLaws.{slot-within}
 use Rattle.placement.proofs.KeyOrder.{at_most_onward, least_bound, not_itself, own_kept, second_kept}

@@ -9,9 +9,9 @@ use Rattle.cluster_types.specs.declared.placement.Decision.{Decision}
 use Rattle.cluster_types.specs.Decisions.{Key, is_among, is_less, is_same_decision, leaf_of, needs}
 use Rattle.cluster_types.specs.Valid.{IsValid}
 use Rattle.plan_laws.proofs.MadeOnes.{stands_among}
-use Rattle.placement.specs.Flags.{slot_of}
-use Rattle.placement.specs.Lending.{AreKeys, effective_within, slot_key_at, keys_among, lent_along}
-use Rattle.placement.specs.Links.{lending_link, links_in}
+use Rattle.placement.specs.Inner.Flags.{slot_of}
+use Rattle.placement.specs.Inner.Lending.{AreKeys, effective_within, slot_key_at, keys_among, lent_along}
+use Rattle.placement.specs.Inner.Links.{lending_link, links_in}
 use Rattle.placement.proofs.EffectiveBounds.{each_within, most_within, own_within, reached_within}
 use Rattle.placement.proofs.FlagLaws.{same-slot}
 use Rattle.placement.proofs.KeyOrder.{at_most_onward, not_itself, one_key}

@@ -20,9 +20,9 @@ use Rattle.edges.specs.Loops.{EndsWithin}
 use Rattle.cluster_types.specs.Valid.{IsValid}
 use Rattle.plan_laws.proofs.Ready.{needs_place}
 use Rattle.plan_laws.proofs.MadeOnes.{stands_among}
-use Rattle.placement.specs.Flags.{AreFlags, slot_of}
-use Rattle.placement.specs.Links.{lending_link, links_in, promote_links, rule_links}
-use Rattle.placement.specs.Queueing.{held}
+use Rattle.placement.specs.Inner.Flags.{AreFlags, slot_of}
+use Rattle.placement.specs.Inner.Links.{lending_link, links_in, promote_links, rule_links}
+use Rattle.placement.specs.Inner.Queueing.{held}
 use Rattle.placement.proofs.FlagLaws.{flag-is, same-slot, slot-within}
 use Rattle.placement.proofs.ReadyFlags.{all-met, among-is}
 use Rattle.placement.proofs.SameDecisions.{role-within, same-turned}

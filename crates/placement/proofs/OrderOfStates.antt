@@ -17,10 +17,10 @@ use Rattle.plan_laws.proofs.Reaches.{Reaches, all_of_reached}
 use Rattle.plan_laws.proofs.Ready.{ready_is_one}
 use Rattle.placement.specs.declared.totals.table.ScoreTable.{ScoreTable}
 use Rattle.placement.specs.Scores.{scores_of}
-use Rattle.placement.specs.DecisionLists.{decisions_in, compared_key}
-use Rattle.placement.specs.Effective.{effective_in}
-use Rattle.placement.specs.Turns as turns
-use Rattle.placement.specs.Turns.{AreInOrder, IsFirstReady, WereMade, is_ready_in}
+use Rattle.placement.specs.Inner.DecisionLists.{decisions_in, compared_key}
+use Rattle.placement.specs.Inner.Effective.{effective_in}
+use Rattle.placement.specs.Inner.Turns as turns
+use Rattle.placement.specs.Inner.Turns.{AreInOrder, IsFirstReady, WereMade, is_ready_in}
 use Rattle.placement.proofs.DecisionsWithin.{decisions-within}
 use Rattle.placement.proofs.KeysOfStates.{effective-same, key-is}
 use Rattle.placement.proofs.PinsOfStates.{decisions-are}

@@ -14,11 +14,11 @@ use Rattle.cluster_types.specs.Valid.{IsValid}
 use Rattle.plan_laws.proofs.MadeBefore.{before_some_way}
 use Rattle.placement.specs.declared.order.queue.Queue.{Queue}
 use Rattle.placement.specs.declared.order.ranked.Ranked.{Ranked}
-use Rattle.placement.specs.Effective.{goes_before}
-use Rattle.placement.specs.Flags.{AreFlags, slot_of}
-use Rattle.placement.specs.Links.{links_in}
-use Rattle.placement.specs.Queueing.{IsFirstPlace, IsQueue, has_place, is_free}
-use Rattle.placement.specs.Turns.{AreSorted, IsFirstReady, is_ready_in, ranks_before, slots_of}
+use Rattle.placement.specs.Inner.Effective.{goes_before}
+use Rattle.placement.specs.Inner.Flags.{AreFlags, slot_of}
+use Rattle.placement.specs.Inner.Links.{links_in}
+use Rattle.placement.specs.Inner.Queueing.{IsFirstPlace, IsQueue, has_place, is_free}
+use Rattle.placement.specs.Inner.Turns.{AreSorted, IsFirstReady, is_ready_in, ranks_before, slots_of}
 use Rattle.placement.proofs.FlagLaws.{same-slot, slot-within}
 use Rattle.placement.proofs.LinkedNeeds.{all-met-by, was-made}
 use Rattle.placement.proofs.QueueSteps.{place-is}

@@ -9,7 +9,7 @@ use Rattle.cluster_types.proofs.Loads.{one_more_counted}
 use Rattle.score.specs.Choice.{GoesBefore, IsGreatest}
 use Rattle.score.specs.NodeSet.{has}
 use Rattle.score.specs.declared.node_set.NodeSet.{NodeSet}
-use Rattle.placement.specs.Picks.{ArePicked, size_of}
+use Rattle.placement.specs.Inner.Picks.{ArePicked, size_of}
 
 -- so many were picked, and the others are left
 pub record Picked (totals : List ℤ) (loads : List ℕ) (among : NodeSet) (turn : ℕ) (chosen left : NodeSet) : Type 0 where

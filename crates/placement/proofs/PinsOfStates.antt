@@ -26,8 +26,8 @@ use Rattle.cluster_types.proofs.PinnedLeaves.{pin_known}
 use Rattle.cluster_types.proofs.StatesKept.{cell_kept, length-rows, node_kept, slice_get-rows}
 use Rattle.plan_laws.proofs.TablesWithin.{kept_within, pinned_within, same_within}
 use Rattle.placement.specs.Scores.{cells_of}
-use Rattle.placement.specs.DecisionLists.{decisions_in, decisions_in_leaf}
-use Rattle.placement.specs.Pins.{is_blocked_by, may_stay, pin_by, pinned_in, pins_by, stay_by}
+use Rattle.placement.specs.Inner.DecisionLists.{decisions_in, decisions_in_leaf}
+use Rattle.placement.specs.Inner.Pins.{is_blocked_by, may_stay, pin_by, pinned_in, pins_by, stay_by}
 
 -- a cell of the cluster, a leaf that is left as it is, and whether it stays there
 in_cluster : (leaf node pinned online runs unprobed : Bool) (stays otherwise : Target) → leaf ≡ true → node ≡ true

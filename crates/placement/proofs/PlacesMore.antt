@@ -4,7 +4,7 @@ use Rattle.std.specs.Option.{option_map_or}
 use Rattle.std.proofs.lemmas.Bool.{cases_eq, cases_lt, eq-eqb}
 use Rattle.std.proofs.lemmas.List.{get_or-replicate, get_or-set_same, get_or-set_other, get_or_default, get_or_past, length-replicate, length-set}
 use Rattle.std.proofs.lemmas.Option.{same_Some}
-use Rattle.placement.specs.Queueing.{ArePlaces, has_place}
+use Rattle.placement.specs.Inner.Queueing.{ArePlaces, has_place}
 
 pub record Placed (positions : ℕ) (order : List ℕ) (done : ℕ) (places : List (Option ℕ)) : Type 0 where
   pub size : length places ≡ positions

@@ -5,7 +5,7 @@ use Rattle.edges.specs.declared.edge.Edge.{Edge}
 use Rattle.edges.specs.Rows.{row_of, edge_targets_of}
 use Rattle.edges.proofs.Filled.{row_is, row_order, row_room}
 use Rattle.placement.specs.declared.order.queue.Queue.{Queue}
-use Rattle.placement.specs.Queueing.{IsFirstPlace, IsQueue}
+use Rattle.placement.specs.Inner.Queueing.{IsFirstPlace, IsQueue}
 use Rattle.placement.proofs.HeldCounts.{row-few, target-within}
 use Rattle.placement.proofs.QueueSteps.{was-open}
 

@@ -8,7 +8,7 @@ use Rattle.std.proofs.lemmas.List.Folds.{Any-from_list_any}
 use Rattle.lemmas.proofs.Booleans.{either, later, same_test, sooner}
 use Rattle.lemmas.proofs.Counts.{count-none}
 use Rattle.lemmas.proofs.Searches.{passes_by}
-use Rattle.placement.specs.Queueing.{ArePlaces, has_place, is_free}
+use Rattle.placement.specs.Inner.Queueing.{ArePlaces, has_place, is_free}
 
 -- a position has one place
 pub place-is : (places : List (Option ℕ)) (x p : ℕ) → has_place places x p ≡ true → slice_index_or places x None ≡ Some p

@@ -9,8 +9,8 @@ use Rattle.loops.proofs.Needs.{is_itself}
 use Rattle.cluster_types.specs.declared.cluster.Cluster.{Cluster}
 use Rattle.cluster_types.specs.declared.placement.Decision.{Decision}
 use Rattle.cluster_types.specs.Decisions.{Key, is_among, is_same_decision}
-use Rattle.placement.specs.Flags.{AreFlags}
-use Rattle.placement.specs.Turns.{IsFirstReady, is_ready_in}
+use Rattle.placement.specs.Inner.Flags.{AreFlags}
+use Rattle.placement.specs.Inner.Turns.{IsFirstReady, is_ready_in}
 use Rattle.placement.proofs.FlagLaws.{flags-same}
 use Rattle.placement.proofs.SameDecisions.{same-turned}
 

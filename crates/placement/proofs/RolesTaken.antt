@@ -9,7 +9,7 @@ use Rattle.cluster_types.specs.Tables.{Targets, holds_role}
 use Rattle.cluster_types.proofs.TableCells.{promoted_somewhere}
 use Rattle.plan_laws.proofs.MadeOnes.{never_both}
 use Rattle.plan_laws.proofs.StayHeld.{has, holds_is}
-use Rattle.placement.specs.Taking.{below, without}
+use Rattle.placement.specs.Inner.Taking.{below, without}
 
 -- of one target
 

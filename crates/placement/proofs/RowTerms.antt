@@ -7,12 +7,12 @@ use Rattle.cluster_types.specs.declared.rules.Colocation.{Colocation}
 use Rattle.cluster_types.specs.Choice.{is_dependent, is_mandatory, is_separation}
 use Rattle.cluster_types.specs.Tables.{Targets, holds_role}
 use Rattle.placement.specs.Tests.{counts}
-use Rattle.placement.specs.Rows.{few, IsRow, more_where}
+use Rattle.placement.specs.Inner.Rows.{few, IsRow, more_where}
 use Rattle.placement.proofs.EachNode.{each-more}
 use Rattle.placement.proofs.FewTerms.{few-kept}
 use Rattle.placement.proofs.Given.{taken, kept-more}
 use Rattle.placement.proofs.TermRows.{row-same}
-use Rattle.placement.specs.Counted.{counted_scores}
+use Rattle.placement.specs.Inner.Counted.{counted_scores}
 
 -- one more node of those that pass
 pub one-node : (nodes : ℕ) (p : ℕ → Bool) (k : ℕ) (here : Bool) (term : ℤ) (terms : ℕ → List ℤ) (row : List Tally) → p k ≡ here

@@ -10,8 +10,8 @@ use Rattle.loops.proofs.Needs.{same_decision}
 use Rattle.cluster_types.specs.declared.placement.Decision.{Decision}
 use Rattle.cluster_types.specs.Decisions.{Key, is_among, is_same_decision, leaf_of}
 use Rattle.cluster_types.proofs.TableCells.{get-at}
-use Rattle.placement.specs.Flags.{slot_of}
-use Rattle.placement.specs.Lending.{AreKeys, is_raised, slot_key_at, keys_among, with_lent}
+use Rattle.placement.specs.Inner.Flags.{slot_of}
+use Rattle.placement.specs.Inner.Lending.{AreKeys, is_raised, slot_key_at, keys_among, with_lent}
 use Rattle.placement.proofs.FlagLaws.{same-slot, slot-within}
 use Rattle.placement.proofs.SameDecisions.{same-turned}
 

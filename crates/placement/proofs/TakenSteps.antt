@@ -6,7 +6,7 @@ use Rattle.cluster_types.specs.declared.leaf.Role.{Role}
 use Rattle.cluster_types.specs.Tables.{Targets, holds_role}
 use Rattle.plan_laws.proofs.StayHeld.{has, holds_is}
 use Rattle.placement.specs.declared.held.dependencies.Dependency.{Dependency}
-use Rattle.placement.specs.Taking.{TakenAway, has_its_primary, none_yet, one_more, takes}
+use Rattle.placement.specs.Inner.Taking.{TakenAway, has_its_primary, none_yet, one_more, takes}
 use Rattle.placement.proofs.RolesTaken.{lowered}
 
 pub role_alike : (one other : Targets) (r : ℕ) (given : Role) (n : ℕ) → one r n ≡ other r n → holds_role one r given n ≡ holds_role other r given n

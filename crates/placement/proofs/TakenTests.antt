@@ -6,7 +6,7 @@ use Rattle.cluster_types.specs.declared.leaf.Role.{Role}
 use Rattle.cluster_types.specs.Tables.{Targets, holds_role}
 use Rattle.plan_laws.proofs.MadeOnes.{never_both}
 use Rattle.placement.specs.declared.held.dependencies.Dependency.{Dependency}
-use Rattle.placement.specs.Taking.{has_its_primary, has_primary_where, is_anywhere, takes}
+use Rattle.placement.specs.Inner.Taking.{has_its_primary, has_primary_where, is_anywhere, takes}
 use Rattle.placement.proofs.Lacking.{anywhere_not, held_not, none_in_range}
 
 module _ (nodes : ℕ) (first : Targets) (rule : Dependency) (anywhere : Bool)

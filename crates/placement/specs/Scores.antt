@@ -10,9 +10,9 @@ use Rattle.cluster_types.specs.declared.states.States.{States}
 use Rattle.cluster_types.specs.Terms.{base}
 use Rattle.score.specs.Total.{total_of}
 use Rattle.placement.specs.declared.totals.table.ScoreTable.{ScoreTable}
-use Rattle.placement.specs.LendingRows.{all_joined}
+use Rattle.placement.specs.Inner.LendingRows.{all_joined}
 use Rattle.placement.specs.OwnRows.{terms_by}
-use Rattle.placement.specs.Promotions.{wished_by}
+use Rattle.placement.specs.Inner.Promotions.{wished_by}
 
 -- a list of all cells, leaf by leaf, node by node
 abbrev pub cells_of : {X : Type 0} → Cluster → (ℕ → ℕ → X) → List X

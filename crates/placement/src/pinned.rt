@@ -10,7 +10,7 @@ ghost use Rattle.cluster_types.specs.Tables.{targets_of};
 ghost use Rattle.cluster_types.specs.Unpacked.{states_of};
 ghost use Rattle.cluster_types.specs.Valid.{KeepsLimits};
 ghost use Rattle.placement.specs.Scores.{cells_of};
-ghost use Rattle.placement.specs.Pins as spec;
+ghost use Rattle.placement.specs.Inner.Pins as spec;
 
 use cluster_types::{
     CellState, Cluster, LeafId, NoMemory, NodeId, Pin, States, Table, Target, cell_place, is_pinned,

@@ -7,7 +7,7 @@ ghost use Rattle.cluster_types.specs.declared.journal.Promotion.{Promotion as Pr
 ghost use Rattle.cluster_types.specs.Pins.{pin_of};
 ghost use Rattle.cluster_types.specs.Unpacked.{states_of};
 ghost use Rattle.cluster_types.specs.Valid.{KeepsLimits};
-ghost use Rattle.placement.specs.Pins as spec;
+ghost use Rattle.placement.specs.Inner.Pins as spec;
 
 use cluster_types::{CellState, Cluster, LeafId, NoMemory, NodeId, Pin, States, cell_place};
 use listed::Listed;

@@ -8,7 +8,7 @@ ghost use Rattle.cluster_types.specs.Pins.{pin_of};
 ghost use Rattle.cluster_types.specs.Plans.{IsPlaced};
 ghost use Rattle.cluster_types.specs.Unpacked.{states_of};
 ghost use Rattle.cluster_types.specs.Valid.{IsValid};
-ghost use Rattle.placement.specs.Chosen.{AreChosen};
+ghost use Rattle.placement.specs.Inner.Chosen.{AreChosen};
 ghost use Rattle.placement.specs.Scores.{scores_of};
 
 use crate::{

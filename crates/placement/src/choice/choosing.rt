@@ -2,7 +2,7 @@
 
 ghost use Rattle.std.specs.Prelude.{◌≡◌, ◌<◌, ◌≤◌, ℕ, true, length};
 ghost use Rattle.score.specs.NodeSet.{has};
-ghost use Rattle.placement.specs.Picks.{ArePicked};
+ghost use Rattle.placement.specs.Inner.Picks.{ArePicked};
 
 use score::{NodeSet, Score, greatest};
 

@@ -3,8 +3,8 @@
 ghost use Rattle.std.specs.Prelude.{◌≡◌, ◌++◌, IfOk, OnOk};
 ghost use Rattle.std.specs.List.{list_any, range_with_len};
 ghost use Rattle.cluster_types.specs.Tables.{holds_role, targets_of};
-ghost use Rattle.placement.specs.Dependencies as spec;
-ghost use Rattle.placement.specs.Taking as taking;
+ghost use Rattle.placement.specs.Inner.Dependencies as spec;
+ghost use Rattle.placement.specs.Inner.Taking as taking;
 
 use cluster_types::{Cluster, Colocation, LeafId, NodeId, Order, Pin, Role, Table, is_pinned};
 use std::alloc::{AllocError, Global};

@@ -7,7 +7,7 @@ ghost use Rattle.cluster_types.specs.Held.{AreTargets};
 ghost use Rattle.cluster_types.specs.Pins.{pin_of};
 ghost use Rattle.cluster_types.specs.Tables.{targets_of};
 ghost use Rattle.placement.specs.declared.held.dependencies.Dependency.{Dependency as DependencyOf};
-ghost use Rattle.placement.specs.Taking.{IsRuleSettled, TakenAway};
+ghost use Rattle.placement.specs.Inner.Taking.{IsRuleSettled, TakenAway};
 
 use crate::held::dependencies::{Dependency, dependencies};
 use crate::held::passes::settled;

@@ -2,7 +2,7 @@
 
 ghost use Rattle.std.specs.Prelude.{◌≡◌, ◌<◌, ℕ, true, length};
 ghost use Rattle.cluster_types.specs.Tables.{holds_role, targets_of};
-ghost use Rattle.placement.specs.Taking as spec;
+ghost use Rattle.placement.specs.Inner.Taking as spec;
 
 use cluster_types::{LeafId, NodeId, Role, Table, Target};
 

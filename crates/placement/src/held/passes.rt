@@ -3,7 +3,7 @@
 ghost use Rattle.std.specs.Prelude.{◌≡◌, ◌≤◌, ◌+◌, ◌&&◌, ℕ, List, not, cond, true, false, length, Contains};
 ghost use Rattle.cluster_types.specs.Tables.{holds_role, targets_of};
 ghost use Rattle.placement.specs.declared.held.dependencies.Dependency.{Dependency as DependencyOf};
-ghost use Rattle.placement.specs.Taking as spec;
+ghost use Rattle.placement.specs.Inner.Taking as spec;
 
 use crate::held::dependencies::{Dependency, is_anywhere};
 use crate::held::left::Left;

@@ -4,7 +4,7 @@ ghost use Rattle.std.specs.Prelude.{◌≡◌, ◌≤◌, ◌+◌, List, IfOk, O
 ghost use Rattle.std.specs.List.Sorted.{IsNonDecreasingBy, IsPermutation};
 ghost use Rattle.cluster_types.specs.Tables.{targets_of};
 ghost use Rattle.placement.specs.declared.held.dependencies.Dependency.{Dependency as DependencyOf};
-ghost use Rattle.placement.specs.Taking as spec;
+ghost use Rattle.placement.specs.Inner.Taking as spec;
 
 use crate::held::dependencies::Dependency;
 use crate::held::left::Left;

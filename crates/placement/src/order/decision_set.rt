@@ -4,7 +4,7 @@ ghost use Rattle.std.specs.Prelude.{◌≡◌, ◌<◌, ◌≤◌, Contains, len
 ghost use Rattle.cluster_types.specs.declared.placement.Decision.{Decision as DecisionOf};
 ghost use Rattle.cluster_types.specs.Decisions.{leaf_of};
 ghost use Rattle.cluster_types.specs.Valid.{KeepsLimits};
-ghost use Rattle.placement.specs.DecisionLists.{decisions_in};
+ghost use Rattle.placement.specs.Inner.DecisionLists.{decisions_in};
 
 use crate::order::decisions::all_decisions;
 use cluster_types::{Cluster, Decision, Pin};

@@ -2,7 +2,7 @@
 
 ghost use Rattle.std.specs.Prelude.{◌≡◌, ◌++◌, IfOk, OnOk};
 ghost use Rattle.cluster_types.specs.Valid.{KeepsLimits};
-ghost use Rattle.placement.specs.DecisionLists as spec;
+ghost use Rattle.placement.specs.Inner.DecisionLists as spec;
 
 use cluster_types::{Cluster, Decision, LeafId, Pin, is_pinned};
 use std::alloc::{AllocError, Global};

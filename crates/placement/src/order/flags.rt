@@ -3,7 +3,7 @@
 ghost use Rattle.std.specs.Prelude.{◌≡◌, ◌&&◌, ◌||◌, ◌<◌, ◌≤◌, ◌^◌, ℕ, Bool, false, length, IfOk, IsTrue};
 ghost use Rattle.cluster_types.specs.declared.placement.Decision.{Decision as DecisionOf};
 ghost use Rattle.cluster_types.specs.Decisions.{is_same_decision};
-ghost use Rattle.placement.specs.Flags as spec;
+ghost use Rattle.placement.specs.Inner.Flags as spec;
 
 use cluster_types::{Decision, cell_place};
 use std::alloc::{AllocError, Global};

@@ -3,7 +3,7 @@
 ghost use Rattle.std.specs.Prelude.{◌≡◌, ◌≤◌, ℕ, Option, None, if◌then◌else◌, length, map, IfOk};
 ghost use Rattle.cluster_types.specs.declared.placement.Decision.{Decision as DecisionOf};
 ghost use Rattle.cluster_types.specs.Decisions as decisions;
-ghost use Rattle.placement.specs.Lending as spec;
+ghost use Rattle.placement.specs.Inner.Lending as spec;
 
 use crate::order::decision_set::DecisionSet;
 use crate::order::flags::slot_of;

@@ -4,8 +4,8 @@ ghost use Rattle.std.specs.Prelude.{◌≡◌, ℕ, Option, false, if◌then◌e
 ghost use Rattle.cluster_types.specs.declared.placement.Decision.{Decision as DecisionOf};
 ghost use Rattle.cluster_types.specs.Decisions as decisions;
 ghost use Rattle.cluster_types.specs.Valid.{IsValid};
-ghost use Rattle.placement.specs.Lending as spec;
-ghost use Rattle.placement.specs.Lending.{AreKeys};
+ghost use Rattle.placement.specs.Inner.Lending as spec;
+ghost use Rattle.placement.specs.Inner.Lending.{AreKeys};
 
 use crate::order::decision_set::DecisionSet;
 use crate::order::key_slots::own_keys;

@@ -3,7 +3,7 @@
 ghost use Rattle.std.specs.Prelude.{◌≡◌, IfOk};
 ghost use Rattle.std.specs.List.Sorted.{IsPermutation};
 ghost use Rattle.cluster_types.specs.Valid.{IsValid};
-ghost use Rattle.placement.specs.Links.{links_in};
+ghost use Rattle.placement.specs.Inner.Links.{links_in};
 
 use crate::chain_order::put_in_order;
 use crate::order::decision_set::DecisionSet;

@@ -5,8 +5,8 @@ ghost use Rattle.std.specs.List.{flat_map};
 ghost use Rattle.cluster_types.specs.declared.placement.Decision.{Decision as DecisionOf};
 ghost use Rattle.cluster_types.specs.Decisions.{decision_of, is_among, leaf_of};
 ghost use Rattle.cluster_types.specs.Valid.{IsValid};
-ghost use Rattle.placement.specs.Flags.{AreFlags};
-ghost use Rattle.placement.specs.Links as spec;
+ghost use Rattle.placement.specs.Inner.Flags.{AreFlags};
+ghost use Rattle.placement.specs.Inner.Links as spec;
 
 use crate::order::decision_set::DecisionSet;
 use crate::order::flags::{flag_at, no_flags, raise_if, slot_of};

@@ -10,9 +10,9 @@ ghost use Rattle.cluster_types.specs.Pins.{pin_of};
 ghost use Rattle.cluster_types.specs.Unpacked.{states_of};
 ghost use Rattle.cluster_types.specs.Valid.{IsValid};
 ghost use Rattle.placement.specs.Scores.{scores_of};
-ghost use Rattle.placement.specs.DecisionLists.{decisions_in, compared_key};
-ghost use Rattle.placement.specs.Effective.{effective_in};
-ghost use Rattle.placement.specs.Turns.{AreInOrder};
+ghost use Rattle.placement.specs.Inner.DecisionLists.{decisions_in, compared_key};
+ghost use Rattle.placement.specs.Inner.Effective.{effective_in};
+ghost use Rattle.placement.specs.Inner.Turns.{AreInOrder};
 
 use crate::ScoreTable;
 use crate::order::decision_set::DecisionSet;

@@ -4,10 +4,10 @@ ghost use Rattle.std.specs.Prelude.{◌≡◌, ◌<◌, ◌*◌, ℕ, false, Con
 ghost use Rattle.cluster_types.specs.declared.placement.Decision.{Decision as DecisionOf};
 ghost use Rattle.cluster_types.specs.Decisions as decisions;
 ghost use Rattle.cluster_types.specs.Valid.{IsValid};
-ghost use Rattle.placement.specs.Links.{links_in};
-ghost use Rattle.placement.specs.Queueing.{IsQueue, has_place};
+ghost use Rattle.placement.specs.Inner.Links.{links_in};
+ghost use Rattle.placement.specs.Inner.Queueing.{IsQueue, has_place};
 ghost use Rattle.placement.specs.declared.order.ranked.Ranked.{Ranked as RankedOf};
-ghost use Rattle.placement.specs.Turns as spec;
+ghost use Rattle.placement.specs.Inner.Turns as spec;
 
 use crate::order::decision_set::DecisionSet;
 use crate::order::links::links_of;

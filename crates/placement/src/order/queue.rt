@@ -4,7 +4,7 @@ ghost use Rattle.std.specs.Prelude.{◌≡◌, ◌<◌, ◌≤◌, ◌+◌, ◌=
 ghost use Rattle.std.specs.List.{list_any};
 ghost use Rattle.edges.specs.declared.edge.Edge.{Edge as EdgeOf};
 ghost use Rattle.edges.specs.Loops.{EndsWithin};
-ghost use Rattle.placement.specs.Queueing as spec;
+ghost use Rattle.placement.specs.Inner.Queueing as spec;
 ghost use Rattle.edges.specs.Rows.{AreRows, edges_at};
 
 use edges::{Edge, Rows, Side, count_ends};

@@ -5,8 +5,8 @@ ghost use Rattle.std.specs.Ordering.{is_lt};
 ghost use Rattle.cluster_types.specs.declared.placement.Decision.{Decision as DecisionOf};
 ghost use Rattle.cluster_types.specs.Decisions as decisions;
 ghost use Rattle.placement.specs.declared.order.ranked.Ranked.{Ranked as RankedOf};
-ghost use Rattle.placement.specs.Turns as spec;
-ghost use Rattle.placement.specs.Turns.{AreSorted, ranked_by, ranks_before};
+ghost use Rattle.placement.specs.Inner.Turns as spec;
+ghost use Rattle.placement.specs.Inner.Turns.{AreSorted, ranked_by, ranks_before};
 
 use crate::order::decision_set::DecisionSet;
 use crate::order::flags::slot_of;

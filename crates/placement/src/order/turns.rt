@@ -2,7 +2,7 @@
 
 ghost use Rattle.std.specs.Prelude.{◌≡◌, ◌&&◌, ◌||◌, ◌==◌, not, nat_lt};
 ghost use Rattle.cluster_types.specs.Decisions as decisions;
-ghost use Rattle.placement.specs.Turns as spec;
+ghost use Rattle.placement.specs.Inner.Turns as spec;
 
 use crate::order::ranked::Ranked;
 use cluster_types::Decision;

@@ -3,7 +3,7 @@
 ghost use Rattle.std.specs.Prelude.{◌≡◌};
 ghost use Rattle.std.specs.Option.{option_copied};
 ghost use Rattle.cluster_types.specs.Tables.{targets_of};
-ghost use Rattle.placement.specs.Reasoning as spec;
+ghost use Rattle.placement.specs.Inner.Reasoning as spec;
 
 use crate::held::dependencies::Dependency;
 use cluster_types::{Cluster, Colocation, Decision, LeafId, NodeId, Order, Table};

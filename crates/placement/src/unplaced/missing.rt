@@ -11,7 +11,7 @@ ghost use Rattle.cluster_types.specs.Reasons.{HasReason};
 ghost use Rattle.cluster_types.specs.Tables.{targets_of};
 ghost use Rattle.cluster_types.specs.Unpacked.{states_of};
 ghost use Rattle.cluster_types.specs.Valid.{KeepsLimits};
-ghost use Rattle.placement.specs.Reasoning as spec;
+ghost use Rattle.placement.specs.Inner.Reasoning as spec;
 
 use crate::choice::caps::is_fail_stopped;
 use crate::unplaced::holders::holder_id;

@@ -2,7 +2,7 @@
 
 ghost use Rattle.std.specs.Prelude.{◌≡◌};
 ghost use Rattle.cluster_types.specs.Choice.{is_stopped_role};
-ghost use Rattle.placement.specs.Reasoning as spec;
+ghost use Rattle.placement.specs.Inner.Reasoning as spec;
 
 use cluster_types::{Cluster, LeafId, NoReason, TargetRole};
 

@@ -3,7 +3,7 @@ use Rattle.cluster_types.specs.declared.states.States.{States}
 use Rattle.cluster_types.specs.Tables.{targets_of}
 use Rattle.cluster_types.proofs.StatesKept.{length-rows}
 use Rattle.placement.specs.Scores.{cells_of}
-use Rattle.placement.specs.Pins.{pinned_in}
+use Rattle.placement.specs.Inner.Pins.{pinned_in}
 use Rattle.placement.proofs.PinsOfStates.{table-is}
 use Rattle.placement.proofs.pinned.pinned_table.Goals as goal
 

@@ -3,7 +3,7 @@ use Rattle.std.specs.List.{range_with_len}
 use Rattle.lemmas.proofs.Ranges.{map-more}
 use Rattle.cluster_types.specs.declared.placement.Target.{Target}
 use Rattle.cluster_types.specs.declared.placement.Target.TheVariants as target
-use Rattle.placement.specs.Pins.{stay_by}
+use Rattle.placement.specs.Inner.Pins.{stay_by}
 use Rattle.placement.proofs.pinned.push_row.Goals as goal
 
 pub loop-node-preserved : goal.loop-node-preserved

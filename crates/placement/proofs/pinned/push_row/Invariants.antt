@@ -1,7 +1,7 @@
 use Rattle.std.proofs.Common.{◌≡◌, ◌++◌, if◌then◌else◌, map}
 use Rattle.std.specs.List.{range_with_len}
 use Rattle.cluster_types.specs.declared.placement.Target.TheVariants as target
-use Rattle.placement.specs.Pins.{stay_by}
+use Rattle.placement.specs.Inner.Pins.{stay_by}
 use Rattle.placement.proofs.pinned.push_row.Given as goal
 
 abbrev pub invariant-loop-node : goal.invariant-loop-node

@@ -3,7 +3,7 @@ use Rattle.std.specs.List.{range_with_len}
 use Rattle.lemmas.proofs.Ranges.{flat_map-more}
 use Rattle.cluster_types.specs.declared.placement.Target.{Target}
 use Rattle.cluster_types.specs.declared.placement.Target.TheVariants as target
-use Rattle.placement.specs.Pins.{pinned_in, stay_by}
+use Rattle.placement.specs.Inner.Pins.{pinned_in, stay_by}
 use Rattle.placement.proofs.pinned.targets_before.Goals as goal
 
 pub loop-leaf-preserved : goal.loop-leaf-preserved

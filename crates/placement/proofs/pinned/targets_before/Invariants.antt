@@ -1,6 +1,6 @@
 use Rattle.std.proofs.Common.{◌≡◌, length, map}
 use Rattle.std.specs.List.{flat_map, range_with_len}
-use Rattle.placement.specs.Pins.{pinned_in}
+use Rattle.placement.specs.Inner.Pins.{pinned_in}
 use Rattle.placement.proofs.pinned.targets_before.Given as goal
 
 abbrev pub invariant-loop-leaf : goal.invariant-loop-leaf

@@ -1,6 +1,6 @@
 use Rattle.std.proofs.Common.{rules, ◌≡◌, ◌++◌, ◌∷◌, [], sym, ap, ◌∙◌}
 use Rattle.lemmas.proofs.Ranges.{map-more}
-use Rattle.placement.specs.Pins.{pin_by}
+use Rattle.placement.specs.Inner.Pins.{pin_by}
 use Rattle.placement.proofs.pinning.all_pins.Goals as goal
 
 pub loop-leaf-preserved : goal.loop-leaf-preserved

@@ -1,6 +1,6 @@
 use Rattle.std.proofs.Common.{◌≡◌, map}
 use Rattle.std.specs.List.{range_with_len}
-use Rattle.placement.specs.Pins.{pin_by}
+use Rattle.placement.specs.Inner.Pins.{pin_by}
 use Rattle.placement.proofs.pinning.all_pins.Given as goal
 
 abbrev pub invariant-loop-leaf : goal.invariant-loop-leaf

@@ -1,5 +1,5 @@
 use Rattle.std.proofs.Common.{rules, ◌≡◌, ap, ◌∙◌}
-use Rattle.placement.specs.Pins.{pins_by}
+use Rattle.placement.specs.Inner.Pins.{pins_by}
 use Rattle.placement.proofs.PinsOfStates.{pins-are}
 use Rattle.placement.proofs.pinning.pins.Goals as goal
 

@@ -1,5 +1,5 @@
 use Rattle.std.proofs.Common.{◌≡◌, ◌++◌, take}
-use Rattle.placement.specs.Dependencies.{by_colocations}
+use Rattle.placement.specs.Inner.Dependencies.{by_colocations}
 use Rattle.placement.proofs.held.dependencies.push_colocations.Given as goal
 
 abbrev pub invariant-loop-colocation : goal.invariant-loop-colocation

@@ -1,5 +1,5 @@
 use Rattle.std.proofs.Common.{◌≡◌, ◌++◌, take}
-use Rattle.placement.specs.Dependencies.{by_orders}
+use Rattle.placement.specs.Inner.Dependencies.{by_orders}
 use Rattle.placement.proofs.held.dependencies.push_orders.Given as goal
 
 abbrev pub invariant-loop-order : goal.invariant-loop-order

@@ -3,7 +3,7 @@ use Rattle.std.specs.List.Sorted.{IsPermutation}
 use Rattle.std.proofs.lemmas.List.Sorted.{Contains-permutation, IsPermutation-sym}
 use Rattle.cluster_types.specs.Tables.{targets_of}
 use Rattle.placement.specs.declared.held.dependencies.Dependency.{Dependency}
-use Rattle.placement.specs.Taking.{IsRuleSettled, TakenAway}
+use Rattle.placement.specs.Inner.Taking.{IsRuleSettled, TakenAway}
 use Rattle.placement.proofs.TakenSteps.{taken_among, taken_on}
 use Rattle.placement.proofs.held.final_targets.rest_of.Goals as goal
 

@@ -2,8 +2,8 @@ use Rattle.std.proofs.Common.{◌≡◌, ℕ, List, Contains, length, sym, ◌�
 use Rattle.cluster_types.specs.declared.placement.Table.{Table}
 use Rattle.cluster_types.specs.Tables.{targets_of}
 use Rattle.placement.specs.declared.held.dependencies.Dependency.{Dependency}
-use Rattle.placement.specs.Dependencies.{dependencies_by}
-use Rattle.placement.specs.Taking.{IsRuleSettled, TakenAway}
+use Rattle.placement.specs.Inner.Dependencies.{dependencies_by}
+use Rattle.placement.specs.Inner.Taking.{IsRuleSettled, TakenAway}
 use Rattle.placement.proofs.EndTargets.{are_targets}
 use Rattle.placement.proofs.LeftOfChosen.{left_of_chosen}
 use Rattle.placement.proofs.held.final_targets.targets.Goals as goal

@@ -3,7 +3,7 @@ use Rattle.cluster_types.specs.declared.leaf.Role.{Role}
 use Rattle.cluster_types.specs.Tables.{holds_role, targets_of}
 use Rattle.lemmas.proofs.Members.{at_head}
 use Rattle.plan_laws.proofs.MadeOnes.{never_both}
-use Rattle.placement.specs.Taking.{none_yet, one_more, takes}
+use Rattle.placement.specs.Inner.Taking.{none_yet, one_more, takes}
 use Rattle.placement.proofs.TakenSteps.{still_chosen}
 use Rattle.placement.proofs.TakenTests.{takes_now}
 use Rattle.placement.proofs.held.passes.after.Goals as goal

@@ -1,7 +1,7 @@
 use Rattle.std.proofs.Common.{◌≡◌, ◌<◌, ◌≤◌, ◌+◌, ℕ, List, cond, false, length, Contains}
 use Rattle.cluster_types.specs.Tables.{targets_of}
 use Rattle.placement.specs.declared.held.dependencies.Dependency.{Dependency}
-use Rattle.placement.specs.Taking.{TakenAway, roles_in, takes}
+use Rattle.placement.specs.Inner.Taking.{TakenAway, roles_in, takes}
 use Rattle.placement.proofs.held.passes.after.Given as goal
 
 abbrev pub invariant-loop-node : goal.invariant-loop-node

@@ -5,7 +5,7 @@ use Rattle.cluster_types.specs.declared.leaf.Role.TheVariants as role
 use Rattle.cluster_types.specs.declared.placement.Table.{Table}
 use Rattle.cluster_types.specs.Tables.{targets_of}
 use Rattle.placement.specs.declared.held.dependencies.Dependency.{Dependency}
-use Rattle.placement.specs.Taking.{IsRuleSettled, TakenAway, none_yet}
+use Rattle.placement.specs.Inner.Taking.{IsRuleSettled, TakenAway, none_yet}
 use Rattle.placement.proofs.TakenSteps.{taken_on}
 use Rattle.placement.proofs.held.passes.pass.Goals as goal
 

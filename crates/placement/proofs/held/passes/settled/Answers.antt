@@ -1,7 +1,7 @@
 use Rattle.std.proofs.Common.{ℕ, sym, ◌∙◌, subst}
 use Rattle.cluster_types.specs.declared.placement.Table.{Table}
 use Rattle.cluster_types.specs.Tables.{targets_of}
-use Rattle.placement.specs.Taking.{IsRuleSettled, TakenAway}
+use Rattle.placement.specs.Inner.Taking.{IsRuleSettled, TakenAway}
 use Rattle.placement.proofs.TakenSteps.{taken_on}
 use Rattle.placement.proofs.held.passes.settled.Goals as goal
 

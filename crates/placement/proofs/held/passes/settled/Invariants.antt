@@ -1,7 +1,7 @@
 use Rattle.std.proofs.Common.{◌≡◌, ◌+◌, cond, false, length, Contains}
 use Rattle.cluster_types.specs.Tables.{targets_of}
 use Rattle.placement.specs.declared.held.dependencies.Dependency.{Dependency}
-use Rattle.placement.specs.Taking.{IsRuleSettled, TakenAway, roles_in}
+use Rattle.placement.specs.Inner.Taking.{IsRuleSettled, TakenAway, roles_in}
 use Rattle.placement.proofs.held.passes.settled.Given as goal
 
 abbrev pub invariant-loop-left : goal.invariant-loop-left

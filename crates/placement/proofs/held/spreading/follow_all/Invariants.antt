@@ -1,7 +1,7 @@
 use Rattle.std.proofs.Common.{◌≡◌, ◌≤◌, ◌+◌, List, length, Contains}
 use Rattle.cluster_types.specs.Tables.{targets_of}
 use Rattle.placement.specs.declared.held.dependencies.Dependency.{Dependency}
-use Rattle.placement.specs.Taking.{TakenAway, roles_in}
+use Rattle.placement.specs.Inner.Taking.{TakenAway, roles_in}
 use Rattle.placement.proofs.held.spreading.follow_all.Given as goal
 
 abbrev pub invariant-loop-rule : goal.invariant-loop-rule

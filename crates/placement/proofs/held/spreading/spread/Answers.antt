@@ -1,6 +1,6 @@
 use Rattle.std.proofs.Common.{ℕ, ◌∙◌, subst}
 use Rattle.cluster_types.specs.Tables.{targets_of}
-use Rattle.placement.specs.Taking.{TakenAway}
+use Rattle.placement.specs.Inner.Taking.{TakenAway}
 use Rattle.placement.proofs.TakenSteps.{taken_on}
 use Rattle.placement.proofs.held.spreading.spread.Goals as goal
 

@@ -1,6 +1,6 @@
 use Rattle.std.proofs.Common.{◌≡◌, ◌+◌, ◌-◌, length}
 use Rattle.cluster_types.specs.Tables.{targets_of}
-use Rattle.placement.specs.Taking.{TakenAway, roles_in}
+use Rattle.placement.specs.Inner.Taking.{TakenAway, roles_in}
 use Rattle.placement.proofs.held.spreading.spread.Given as goal
 
 abbrev pub invariant-loop-looked : goal.invariant-loop-looked

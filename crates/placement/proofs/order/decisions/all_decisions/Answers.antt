@@ -1,6 +1,6 @@
 use Rattle.std.proofs.Common.{rules, ◌≡◌, ◌++◌, sym, ap, ◌∙◌}
 use Rattle.lemmas.proofs.Ranges.{flat_map-more}
-use Rattle.placement.specs.DecisionLists.{decisions_in_leaf}
+use Rattle.placement.specs.Inner.DecisionLists.{decisions_in_leaf}
 use Rattle.placement.proofs.order.decisions.all_decisions.Goals as goal
 
 pub loop-leaf-preserved : goal.loop-leaf-preserved

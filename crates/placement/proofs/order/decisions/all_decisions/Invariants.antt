@@ -1,6 +1,6 @@
 use Rattle.std.proofs.Common.{◌≡◌}
 use Rattle.std.specs.List.{flat_map, range_with_len}
-use Rattle.placement.specs.DecisionLists.{decisions_in_leaf}
+use Rattle.placement.specs.Inner.DecisionLists.{decisions_in_leaf}
 use Rattle.placement.proofs.order.decisions.all_decisions.Given as goal
 
 abbrev pub invariant-loop-leaf : goal.invariant-loop-leaf

@@ -1,5 +1,5 @@
 use Rattle.std.proofs.Common.{rules, ◌≡◌, ◌*◌, false, replicate, subst, sym, arith}
-use Rattle.placement.specs.Flags.{AreFlags}
+use Rattle.placement.specs.Inner.Flags.{AreFlags}
 use Rattle.placement.proofs.FlagLaws.{none-raised}
 use Rattle.placement.proofs.order.flags.no_flags.Goals as goal
 

@@ -1,6 +1,6 @@
 use Rattle.std.proofs.Common.{rules, ◌≡◌, ◌<◌, ◌≤◌, ◌||◌, ◌&&◌, true, length, set, sym, subst, arith}
 use Rattle.cluster_types.specs.Decisions.{is_same_decision}
-use Rattle.placement.specs.Flags.{AreFlags, slot_of}
+use Rattle.placement.specs.Inner.Flags.{AreFlags, slot_of}
 use Rattle.placement.proofs.FlagLaws.{raised, raised-none, raised-out}
 use Rattle.placement.proofs.order.flags.raise_if.Goals as goal
 

@@ -1,5 +1,5 @@
 use Rattle.std.proofs.Common.{rules, ◌≡◌, ◌*◌, None, replicate, subst, sym, arith}
-use Rattle.placement.specs.Lending.{AreKeys}
+use Rattle.placement.specs.Inner.Lending.{AreKeys}
 use Rattle.placement.proofs.SlotLaws.{no-keys}
 use Rattle.placement.proofs.order.key_slots.no_keys.Goals as goal
 

@@ -3,7 +3,7 @@ use Rattle.std.proofs.lemmas.List.{get_or_read, take_all}
 use Rattle.cluster_types.specs.declared.placement.Decision.{Decision}
 use Rattle.cluster_types.specs.declared.placement.Decision.TheVariants.{Place}
 use Rattle.cluster_types.specs.Decisions.{Key, is_same_decision}
-use Rattle.placement.specs.Lending.{AreKeys, keys_among}
+use Rattle.placement.specs.Inner.Lending.{AreKeys, keys_among}
 use Rattle.placement.proofs.ReadKeys.{key-at}
 use Rattle.placement.proofs.SlotLaws.{key-more, keys-same}
 use Rattle.placement.proofs.order.key_slots.own_keys.Goals as goal

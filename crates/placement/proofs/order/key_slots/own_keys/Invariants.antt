@@ -1,7 +1,7 @@
 use Rattle.std.proofs.Common.{◌≡◌, length, map, take}
 use Rattle.cluster_types.specs.declared.placement.Decision.{Decision}
 use Rattle.cluster_types.specs.Decisions.{Key}
-use Rattle.placement.specs.Lending.{AreKeys, keys_among}
+use Rattle.placement.specs.Inner.Lending.{AreKeys, keys_among}
 use Rattle.placement.proofs.order.key_slots.own_keys.Given as goal
 
 abbrev pub invariant-loop-position : goal.invariant-loop-position

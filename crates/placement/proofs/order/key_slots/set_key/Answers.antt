@@ -1,7 +1,7 @@
 use Rattle.std.proofs.Common.{rules, ◌≡◌, ◌<◌, ◌≤◌, if◌then◌else◌, length, set, sym, subst, arith}
 use Rattle.cluster_types.specs.Decisions.{is_same_decision}
-use Rattle.placement.specs.Flags.{slot_of}
-use Rattle.placement.specs.Lending.{AreKeys}
+use Rattle.placement.specs.Inner.Flags.{slot_of}
+use Rattle.placement.specs.Inner.Lending.{AreKeys}
 use Rattle.placement.proofs.SlotLaws.{set-one, set-out}
 use Rattle.placement.proofs.order.key_slots.set_key.Goals as goal
 

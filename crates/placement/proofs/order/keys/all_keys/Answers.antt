@@ -1,7 +1,7 @@
 use Rattle.std.proofs.Common.{rules, ◌≡◌, ◌<◌, ◌≤◌, ◌++◌, ◌∷◌, [], get_or, length, map, take, sym, ap, ◌∙◌}
 use Rattle.std.proofs.lemmas.List.{get_or_read, map-append, take_all, take_more}
 use Rattle.cluster_types.specs.declared.placement.Decision.TheVariants.{Place}
-use Rattle.placement.specs.DecisionLists.{compared_key}
+use Rattle.placement.specs.Inner.DecisionLists.{compared_key}
 use Rattle.placement.proofs.order.keys.all_keys.Goals as goal
 
 pub loop-position-preserved : goal.loop-position-preserved

@@ -1,5 +1,5 @@
 use Rattle.std.proofs.Common.{◌≡◌, map, take}
-use Rattle.placement.specs.DecisionLists.{compared_key}
+use Rattle.placement.specs.Inner.DecisionLists.{compared_key}
 use Rattle.placement.proofs.order.keys.all_keys.Given as goal
 
 abbrev pub invariant-loop-position : goal.invariant-loop-position

@@ -1,8 +1,8 @@
 use Rattle.std.proofs.Common.{rules, ◌≡◌, ◌+◌, ℕ, suc, fold, length, sym, ap, subst, ◌∙◌, arith}
 use Rattle.std.specs.List.Sorted.{IsPermutation}
 use Rattle.std.proofs.lemmas.List.Sorted.{Contains-permutation, IsPermutation-sym}
-use Rattle.placement.specs.Lending.{AreKeys, effective_within, keys_among, lent_along}
-use Rattle.placement.specs.Links.{links_in}
+use Rattle.placement.specs.Inner.Lending.{AreKeys, effective_within, keys_among, lent_along}
+use Rattle.placement.specs.Inner.Links.{links_in}
 use Rattle.placement.proofs.LentKeys.{Turned, all-lent, first-turn, settled, turned}
 use Rattle.placement.proofs.order.lending.lent_keys.Goals as goal
 

@@ -4,7 +4,7 @@ use Rattle.std.proofs.lemmas.List.{take_all}
 use Rattle.std.proofs.lemmas.List.Sums.{fold_more}
 use Rattle.edges.specs.declared.edge.Edge.{Edge}
 use Rattle.cluster_types.specs.Decisions.{Key}
-use Rattle.placement.specs.Lending.{key_in, lent_along}
+use Rattle.placement.specs.Inner.Lending.{key_in, lent_along}
 use Rattle.placement.proofs.order.lending.pass.Goals as goal
 
 pub loop-link-init : goal.loop-link-init

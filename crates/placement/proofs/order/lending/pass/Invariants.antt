@@ -1,5 +1,5 @@
 use Rattle.std.proofs.Common.{◌≡◌, false, fold, take}
-use Rattle.placement.specs.Lending.{lent_along}
+use Rattle.placement.specs.Inner.Lending.{lent_along}
 use Rattle.placement.proofs.order.lending.pass.Given as goal
 
 abbrev pub invariant-loop-link : goal.invariant-loop-link

@@ -3,7 +3,7 @@ use Rattle.std.specs.List.Sorted.{IsPermutation}
 use Rattle.std.proofs.lemmas.List.Sorted.{IsPermutation-reverse, IsPermutation-trans}
 use Rattle.edges.specs.declared.edge.Edge.{Edge}
 use Rattle.edges.specs.Loops.{EndsWithin}
-use Rattle.placement.specs.Links.{links_in}
+use Rattle.placement.specs.Inner.Links.{links_in}
 use Rattle.placement.proofs.LinkedNeeds.{links-within}
 use Rattle.placement.proofs.order.link_order.links_in_order.Goals as goal
 

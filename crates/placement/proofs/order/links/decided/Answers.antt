@@ -2,7 +2,7 @@ use Rattle.std.proofs.Common.{rules, ◌≡◌, false, get_or, length, take, sub
 use Rattle.std.proofs.lemmas.List.{take_all, take_more}
 use Rattle.cluster_types.specs.declared.placement.Decision.TheVariants.{Place}
 use Rattle.cluster_types.specs.Decisions.{is_among}
-use Rattle.placement.specs.Flags.{AreFlags}
+use Rattle.placement.specs.Inner.Flags.{AreFlags}
 use Rattle.placement.proofs.ReadyFlags.{among-more}
 use Rattle.placement.proofs.order.links.decided.Goals as goal
 

@@ -1,6 +1,6 @@
 use Rattle.std.proofs.Common.{length, take}
 use Rattle.cluster_types.specs.Decisions.{is_among}
-use Rattle.placement.specs.Flags.{AreFlags}
+use Rattle.placement.specs.Inner.Flags.{AreFlags}
 use Rattle.placement.proofs.order.links.decided.Given as goal
 
 abbrev pub invariant-loop-decision : goal.invariant-loop-decision

@@ -1,6 +1,6 @@
 use Rattle.std.proofs.Common.{◌≡◌, ◌++◌, take}
 use Rattle.std.specs.List.{flat_map}
-use Rattle.placement.specs.Links.{promote_links}
+use Rattle.placement.specs.Inner.Links.{promote_links}
 use Rattle.placement.proofs.order.links.push_promote_links.Given as goal
 
 abbrev pub invariant-loop-decision : goal.invariant-loop-decision

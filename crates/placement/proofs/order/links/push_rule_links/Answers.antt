@@ -1,7 +1,7 @@
 use Rattle.std.proofs.Common.{length, sym, subst, arith, Contains}
 use Rattle.std.proofs.lemmas.List.Elements.{Contains-get_or}
 use Rattle.cluster_types.specs.declared.rules.Colocation.{Colocation}
-use Rattle.placement.specs.Links.{rule_links}
+use Rattle.placement.specs.Inner.Links.{rule_links}
 use Rattle.lemmas.proofs.Grown.{elements_more}
 use Rattle.placement.proofs.SameDecisions.{role-within}
 use Rattle.placement.proofs.order.links.push_rule_links.Goals as goal

@@ -1,6 +1,6 @@
 use Rattle.std.proofs.Common.{◌∙◌}
 use Rattle.std.proofs.lemmas.Result.{IfOk-weaker}
-use Rattle.placement.specs.DecisionLists.{compared_key}
+use Rattle.placement.specs.Inner.DecisionLists.{compared_key}
 use Rattle.placement.proofs.order.making.keys_of.Goals as goal
 
 pub returns : goal.returns

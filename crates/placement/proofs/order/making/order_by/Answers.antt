@@ -2,9 +2,9 @@ use Rattle.std.proofs.Common.{List, subst}
 use Rattle.std.proofs.lemmas.Result.{IfOk-weaker}
 use Rattle.cluster_types.specs.declared.cluster.Cluster.{Cluster}
 use Rattle.cluster_types.specs.declared.placement.Decision.{Decision}
-use Rattle.placement.specs.DecisionLists.{decisions_in, compared_key}
-use Rattle.placement.specs.Effective.{effective_in}
-use Rattle.placement.specs.Turns.{AreInOrder}
+use Rattle.placement.specs.Inner.DecisionLists.{decisions_in, compared_key}
+use Rattle.placement.specs.Inner.Effective.{effective_in}
+use Rattle.placement.specs.Inner.Turns.{AreInOrder}
 use Rattle.placement.proofs.order.making.order_by.Goals as goal
 
 pub returns : goal.returns

@@ -1,8 +1,8 @@
 use Rattle.std.proofs.Common.{sym, subst, ◌∙◌}
 use Rattle.std.proofs.lemmas.Result.{IfOk-at_ok, IfOk-weaker}
-use Rattle.placement.specs.DecisionLists.{compared_key}
-use Rattle.placement.specs.Effective.{effective_in}
-use Rattle.placement.specs.Turns.{AreSorted}
+use Rattle.placement.specs.Inner.DecisionLists.{compared_key}
+use Rattle.placement.specs.Inner.Effective.{effective_in}
+use Rattle.placement.specs.Inner.Turns.{AreSorted}
 use Rattle.placement.proofs.order.making.order_of.Goals as goal
 
 pub returns : goal.returns

@@ -6,10 +6,10 @@ use Rattle.edges.specs.declared.edge.Edge.{Edge}
 use Rattle.edges.specs.Loops.{EndsWithin}
 use Rattle.placement.specs.declared.order.queue.Queue.{Queue}
 use Rattle.placement.specs.declared.order.ranked.Ranked.{Ranked}
-use Rattle.placement.specs.Flags.{slot_of}
-use Rattle.placement.specs.Links.{links_in}
-use Rattle.placement.specs.Queueing.{IsQueue, has_place}
-use Rattle.placement.specs.Turns.{slots_of}
+use Rattle.placement.specs.Inner.Flags.{slot_of}
+use Rattle.placement.specs.Inner.Links.{links_in}
+use Rattle.placement.specs.Inner.Queueing.{IsQueue, has_place}
+use Rattle.placement.specs.Inner.Turns.{slots_of}
 use Rattle.placement.proofs.FlagLaws.{slot-within}
 use Rattle.placement.proofs.LinkedNeeds.{links-within}
 use Rattle.placement.proofs.order.ordering.queue_of.Goals as goal

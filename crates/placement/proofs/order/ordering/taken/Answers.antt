@@ -2,10 +2,10 @@ use Rattle.std.proofs.Common.{rules, arith, ◌≡◌, ◌<◌, ◌*◌, ◌++�
 use Rattle.cluster_types.specs.declared.placement.Decision.{Decision}
 use Rattle.cluster_types.specs.Decisions.{is_among, is_same_decision, leaf_of}
 use Rattle.placement.specs.declared.order.ranked.Ranked.{Ranked}
-use Rattle.placement.specs.Flags.{AreFlags, slot_of}
-use Rattle.placement.specs.Links.{links_in}
-use Rattle.placement.specs.Queueing.{IsFirstPlace, IsNextPlace, has_place}
-use Rattle.placement.specs.Turns.{WereMade, none_made, one_more}
+use Rattle.placement.specs.Inner.Flags.{AreFlags, slot_of}
+use Rattle.placement.specs.Inner.Links.{links_in}
+use Rattle.placement.specs.Inner.Queueing.{IsFirstPlace, IsNextPlace, has_place}
+use Rattle.placement.specs.Inner.Turns.{WereMade, none_made, one_more}
 use Rattle.placement.proofs.FlagLaws.{none-raised, raised, slot-within}
 use Rattle.placement.proofs.OrderSteps.{next-first, next-leaf, next-within, no_rank, none-ready-left, slot-at}
 use Rattle.placement.proofs.ReadyFlags.{among-more, fewer-left}

@@ -1,10 +1,10 @@
 use Rattle.std.proofs.Common.{◌≡◌, ◌*◌, ℕ, true, not, count_by, length, Contains}
 use Rattle.cluster_types.specs.declared.placement.Decision.{Decision}
 use Rattle.cluster_types.specs.Decisions.{Key, is_among}
-use Rattle.placement.specs.Flags.{AreFlags}
-use Rattle.placement.specs.Links.{links_in}
-use Rattle.placement.specs.Queueing.{IsQueue, has_place}
-use Rattle.placement.specs.Turns.{AreSorted, WereMade, slots_of}
+use Rattle.placement.specs.Inner.Flags.{AreFlags}
+use Rattle.placement.specs.Inner.Links.{links_in}
+use Rattle.placement.specs.Inner.Queueing.{IsQueue, has_place}
+use Rattle.placement.specs.Inner.Turns.{AreSorted, WereMade, slots_of}
 use Rattle.placement.proofs.order.ordering.taken.Given as goal
 
 abbrev pub invariant-loop-place : goal.invariant-loop-place

@@ -1,6 +1,6 @@
 use Rattle.std.proofs.Common.{◌≡◌, ◌&&◌, ◌||◌, ℕ, false, length, slice_index_or, take}
 use Rattle.std.specs.List.{list_any}
-use Rattle.placement.specs.Queueing.{has_place, is_free}
+use Rattle.placement.specs.Inner.Queueing.{has_place, is_free}
 use Rattle.placement.proofs.order.queue.admit.Given as goal
 
 abbrev pub invariant-loop-position : goal.invariant-loop-position

@@ -3,7 +3,7 @@ use Rattle.std.proofs.lemmas.List.{get_or_read, map-append, take_all, take_more}
 use Rattle.cluster_types.specs.declared.placement.Decision.{Decision}
 use Rattle.cluster_types.specs.declared.placement.Decision.TheVariants.{Place}
 use Rattle.placement.specs.declared.order.ranked.Ranked.{Ranked}
-use Rattle.placement.specs.Turns.{ranked_by}
+use Rattle.placement.specs.Inner.Turns.{ranked_by}
 use Rattle.placement.proofs.ReadKeys.{key-at}
 use Rattle.placement.proofs.order.ranked.all_ranked.Goals as goal
 

@@ -1,7 +1,7 @@
 use Rattle.std.proofs.Common.{arith, ◌≡◌, ◌<◌, ◌*◌, Contains, sym, subst}
 use Rattle.std.proofs.lemmas.List.Elements.{Contains-get_or}
 use Rattle.placement.specs.declared.order.ranked.Ranked.{Ranked}
-use Rattle.placement.specs.Flags.{slot_of}
+use Rattle.placement.specs.Inner.Flags.{slot_of}
 use Rattle.placement.proofs.FlagLaws.{slot-within}
 use Rattle.placement.proofs.order.ranked.slots_of.Goals as goal
 

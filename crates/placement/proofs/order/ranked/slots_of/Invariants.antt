@@ -1,5 +1,5 @@
 use Rattle.std.proofs.Common.{◌≡◌, take}
-use Rattle.placement.specs.Turns.{slots_of}
+use Rattle.placement.specs.Inner.Turns.{slots_of}
 use Rattle.placement.proofs.order.ranked.slots_of.Given as goal
 
 abbrev pub invariant-loop-one : goal.invariant-loop-one

@@ -2,7 +2,7 @@ use Rattle.std.proofs.Common.{rules, arith, ◌≡◌, length}
 use Rattle.std.specs.List.Sorted.{IsPermutation}
 use Rattle.std.specs.Ordering.{is_lt}
 use Rattle.std.proofs.lemmas.Fn.{always_returns_same}
-use Rattle.placement.specs.Turns.{ranks_before}
+use Rattle.placement.specs.Inner.Turns.{ranks_before}
 use Rattle.placement.proofs.RankedOrder.{are-sorted, ranks-order}
 use Rattle.placement.proofs.order.ranked.sort_ranked.Goals as goal
 

@@ -1,6 +1,6 @@
 use Rattle.std.proofs.Common.{◌≡◌, ◌≤◌, ◌++◌, ◌∷◌, [], true, false, length, sym, ◌∙◌, arith}
 use Rattle.score.specs.NodeSet.{has}
-use Rattle.placement.specs.LendingRows as spec
+use Rattle.placement.specs.Inner.LendingRows as spec
 use Rattle.placement.specs.OwnRows.{own_by}
 use Rattle.placement.proofs.Lenders.{few-joined}
 use Rattle.placement.proofs.OwnTerms.{few-own, small-own}

@@ -2,7 +2,7 @@ use Rattle.std.proofs.Common.{rules, ◌≡◌, ◌++◌, ◌∷◌, [], length,
 use Rattle.std.specs.List.{range_with_len}
 use Rattle.lemmas.proofs.Grown.{value_more}
 use Rattle.cluster_types.specs.Tables.{targets_of}
-use Rattle.placement.specs.Reasoning.{reason_in}
+use Rattle.placement.specs.Inner.Reasoning.{reason_in}
 use Rattle.placement.proofs.unplaced.missing.all_reasons.Goals as goal
 
 pub push_reserved-requires : goal.push_reserved-requires

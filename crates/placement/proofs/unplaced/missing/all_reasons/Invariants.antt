@@ -1,7 +1,7 @@
 use Rattle.std.proofs.Common.{◌≡◌, ◌≤◌, length, map, vec_capacity}
 use Rattle.std.specs.List.{range_with_len}
 use Rattle.cluster_types.specs.Tables.{targets_of}
-use Rattle.placement.specs.Reasoning.{reason_in}
+use Rattle.placement.specs.Inner.Reasoning.{reason_in}
 use Rattle.placement.proofs.unplaced.missing.all_reasons.Given as goal
 
 abbrev pub invariant-loop-leaf : goal.invariant-loop-leaf

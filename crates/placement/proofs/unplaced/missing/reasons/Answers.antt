@@ -2,7 +2,7 @@ use Rattle.std.proofs.Common.{refl, length, ◌∙◌, ap}
 use Rattle.std.proofs.lemmas.List.FromFn.{length-map-range_with_len}
 use Rattle.cluster_types.specs.declared.states.Rights.{Rights}
 use Rattle.cluster_types.specs.Tables.{targets_of}
-use Rattle.placement.specs.Reasoning.{reason_in}
+use Rattle.placement.specs.Inner.Reasoning.{reason_in}
 use Rattle.placement.proofs.ReasonsTold.{told_reason}
 use Rattle.placement.proofs.unplaced.missing.reasons.Goals as goal
 

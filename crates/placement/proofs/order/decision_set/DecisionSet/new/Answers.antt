@@ -1,5 +1,5 @@
 use Rattle.std.proofs.Common.{rules, arith, ◌≡◌, ap, length, subst, Contains}
-use Rattle.placement.specs.DecisionLists.{decisions_in}
+use Rattle.placement.specs.Inner.DecisionLists.{decisions_in}
 use Rattle.placement.proofs.DecisionsWithin.{decisions-few, decisions-within}
 use Rattle.placement.proofs.order.decision_set.DecisionSet.new.Goals as goal
 

@@ -3,7 +3,7 @@ use Rattle.std.specs.List.{list_any}
 use Rattle.std.proofs.lemmas.List.{length-replicate}
 use Rattle.std.proofs.lemmas.Result.{IfOk-at_ok}
 use Rattle.edges.specs.Rows.{AreRows}
-use Rattle.placement.specs.Queueing.{ArePlaces, Waits, held, has_place, is_free}
+use Rattle.placement.specs.Inner.Queueing.{ArePlaces, Waits, held, has_place, is_free}
 use Rattle.placement.proofs.HeldCounts.{counted-first, none-ready}
 use Rattle.placement.proofs.QueueSteps.{all-ready}
 use Rattle.placement.proofs.order.queue.Queue.new.Goals as goal

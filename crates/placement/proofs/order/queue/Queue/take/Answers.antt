@@ -2,7 +2,7 @@ use Rattle.std.proofs.Common.{arith, ◌≡◌, ◌<◌, ◌≤◌, ◌==◌, �
 use Rattle.std.specs.List.{list_any}
 use Rattle.std.proofs.lemmas.List.{get_or_read, length-set}
 use Rattle.edges.specs.Rows.{row_of, edge_targets_of}
-use Rattle.placement.specs.Queueing.{Waits, has_place, is_free}
+use Rattle.placement.specs.Inner.Queueing.{Waits, has_place, is_free}
 use Rattle.placement.proofs.QueueNext.{few, in-made, in-order, in-place, in-rows, open-yet, row-is, row-low, with-room}
 use Rattle.placement.proofs.HeldCounts.{counted-next}
 use Rattle.placement.proofs.QueueSteps.{readied-next}

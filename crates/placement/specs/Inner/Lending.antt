@@ -4,7 +4,7 @@ use Rattle.cluster_types.specs.declared.cluster.Cluster.{Cluster}
 use Rattle.edges.specs.declared.edge.Edge.{Edge}
 use Rattle.cluster_types.specs.declared.placement.Decision.{Decision}
 use Rattle.cluster_types.specs.Decisions.{Key, greater_key, is_among, is_less, leaf_of, needs_through}
-use Rattle.placement.specs.Flags.{slot_of}
+use Rattle.placement.specs.Inner.Flags.{slot_of}
 
 -- a key for each decision of so many leaves, in its slot, and none for what isn't decided
 pub record AreKeys (leaves : ℕ) (kept : Decision → Option Key) (slots : List (Option Key)) : Type 0 where

@@ -7,7 +7,7 @@ use Rattle.cluster_types.specs.declared.placement.Decision.{Decision}
 use Rattle.cluster_types.specs.declared.placement.Decision.TheVariants.{Promote}
 use Rattle.cluster_types.specs.declared.rules.Colocation.{Colocation}
 use Rattle.cluster_types.specs.Decisions.{decision_of, is_among, is_place, leaf_of}
-use Rattle.placement.specs.Flags.{slot_of}
+use Rattle.placement.specs.Inner.Flags.{slot_of}
 
 abbrev pub lending_link : Decision → Decision → Edge
 lending_link needed needing = record { before = slot_of needed; after = slot_of needing }
