@@ -78,6 +78,21 @@ impl<'c> Known<'c> {
         Ok(known)
     }
 
+    /// The same once more, to be told of other events than this one.
+    pub fn copied(&self, alloc: Global) -> Result<Known<'c>, NoMemory>
+        ensures { IfOk result (λ copy. copy ≡ self.now) }
+    {
+        let cells = Vec::from_slice(alloc, self.cells.as_slice())?;
+        let signs = Vec::from_slice(alloc, self.signs.as_slice())?;
+        Ok(Known {
+            cluster: self.cluster,
+            cells,
+            signs,
+            quorum: self.quorum,
+            moment: self.moment,
+        })
+    }
+
     /// Tells of one more event. The moment after it fits 64 bits.
     pub fn tell(&mut self, event: Event)
         requires moment { self.old.moment + journals.seconds_of event < 2 ^ 64 }
