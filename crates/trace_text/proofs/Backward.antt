@@ -9,7 +9,7 @@ use Rattle.cluster_types.specs.Graphs.{LeadUpward, LeadsByGates, direct, through
 use Rattle.edges.specs.Loops.{EndsWithin}
 use Rattle.cluster_types.specs.Walks.{joins}
 use Rattle.cluster_types.proofs.Walks.{by_edge, joined}
-use Rattle.trace_text.specs.Backward.{IsOnTheWay, LeadsToFound}
+use Rattle.trace_text.specs.Inner.Backward.{IsOnTheWay, LeadsToFound}
 
 -- the last edge of a way to y
 record LastEdge (actions : ℕ) (edges : List Edge) (x y : ℕ) : Type 0 where

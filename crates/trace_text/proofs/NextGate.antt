@@ -11,8 +11,8 @@ use Rattle.edges.specs.Loops.{EndsWithin}
 use Rattle.cluster_types.specs.Walks.{joins}
 use Rattle.listed.specs.Sets.{is_member, members}
 use Rattle.trace_text.specs.declared.found.Found.{Found}
-use Rattle.trace_text.specs.Backward.{IsOnTheWay}
-use Rattle.trace_text.specs.Found.{PositionsHaveRoom, SameSizes, is_found}
+use Rattle.trace_text.specs.Inner.Backward.{IsOnTheWay}
+use Rattle.trace_text.specs.Inner.Found.{PositionsHaveRoom, SameSizes, is_found}
 use Rattle.trace_text.proofs.Backward.{gate_passed, on_the_way_first, source_below}
 use Rattle.trace_text.proofs.FirstMembers.{first_above, first_from_one, first_least, first_member, first_to_most}
 use Rattle.trace_text.proofs.Places.{gate_found, nothing_found, room_kept}

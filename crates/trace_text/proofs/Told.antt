@@ -7,9 +7,9 @@ use Rattle.cluster_types.proofs.Paths.{before-from_computed, before-computed}
 use Rattle.cluster_types.proofs.Walks.{numbered}
 use Rattle.listed.specs.Sets.{is_member, members}
 use Rattle.trace_text.specs.declared.found.Found.{Found}
-use Rattle.trace_text.specs.Backward.{IsOnTheWay}
-use Rattle.trace_text.specs.Found.{PositionsHaveRoom, is_found}
-use Rattle.trace_text.specs.Walk.{befores}
+use Rattle.trace_text.specs.Inner.Backward.{IsOnTheWay}
+use Rattle.trace_text.specs.Inner.Found.{PositionsHaveRoom, is_found}
+use Rattle.trace_text.specs.Inner.Walk.{befores}
 use Rattle.trace_text.proofs.Backward.{found_leads}
 use Rattle.trace_text.proofs.Places.{found_action, no_gate_found}
 

@@ -1,6 +1,6 @@
 ghost use Rattle.std.specs.Prelude.{IfOk, length};
 ghost use Rattle.edges.specs.Loops.{EndsWithin};
-ghost use Rattle.trace_text.specs.Arriving.{AreLinked};
+ghost use Rattle.trace_text.specs.Inner.Arriving.{AreLinked};
 
 use cluster_types::Edge;
 use std::alloc::{AllocError, Global};

@@ -5,9 +5,9 @@ ghost use Rattle.cluster_types.specs.Graphs.{LeadUpward, LeadsByGates};
 ghost use Rattle.edges.specs.Loops.{EndsWithin};
 ghost use Rattle.cluster_types.specs.Walks.{joins};
 ghost use Rattle.listed.specs.Sets.{members};
-ghost use Rattle.trace_text.specs.Arriving.{AreLinked};
-ghost use Rattle.trace_text.specs.Found.{PositionsHaveRoom, SameSizes, is_found};
-ghost use Rattle.trace_text.specs.Backward.{IsOnTheWay};
+ghost use Rattle.trace_text.specs.Inner.Arriving.{AreLinked};
+ghost use Rattle.trace_text.specs.Inner.Found.{PositionsHaveRoom, SameSizes, is_found};
+ghost use Rattle.trace_text.specs.Inner.Backward.{IsOnTheWay};
 
 use crate::arriving::Arriving;
 use cluster_types::Edge;

@@ -1,5 +1,5 @@
 ghost use Rattle.std.specs.Prelude.{◌≡◌, ◌<◌, ◌≤◌, [], drop, length, slice_get, IfOk};
-ghost use Rattle.trace_text.specs.Walk.{befores};
+ghost use Rattle.trace_text.specs.Inner.Walk.{befores};
 
 use crate::arriving::Arriving;
 use crate::found::Found;
@@ -21,7 +21,7 @@ pub struct Predecessors<'g> {
 
 impl<'g> Model for Predecessors<'g> {
     ghost use Rattle.listed.specs.Sets.{members};
-    ghost use Rattle.trace_text.specs.Walk.{WalkRests, Walk};
+    ghost use Rattle.trace_text.specs.Inner.Walk.{WalkRests, Walk};
 
     ghost Value = { Walk };
 

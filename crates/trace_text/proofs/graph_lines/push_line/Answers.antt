@@ -4,7 +4,7 @@ use Rattle.std.specs.Prelude.{slice_get}
 use Rattle.cluster_types.specs.declared.journal.Action.{Action}
 use Rattle.cluster_types.specs.Graphs.{GraphOf}
 use Rattle.cluster_types.specs.Texts.{action_text, after_text}
-use Rattle.trace_text.specs.Walk.{Walk, befores}
+use Rattle.trace_text.specs.Inner.Walk.{Walk, befores}
 use Rattle.trace_text.proofs.MoreLines.{six_more}
 use Rattle.trace_text.proofs.graph_lines.push_line.Goals as goal
 

@@ -1,4 +1,4 @@
-use Rattle.trace_text.specs.Arriving.{AreLinked}
+use Rattle.trace_text.specs.Inner.Arriving.{AreLinked}
 use Rattle.trace_text.proofs.arriving.Arriving.new.Given as goal
 
 abbrev pub invariant-loop-edge : goal.invariant-loop-edge

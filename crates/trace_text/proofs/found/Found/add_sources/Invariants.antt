@@ -2,7 +2,7 @@ use Rattle.std.proofs.Common.{◌≡◌, ◌<◌, ◌≤◌, ◌-◌, ◌||◌, 
 use Rattle.std.specs.List.{list_any}
 use Rattle.cluster_types.specs.Walks.{joins}
 use Rattle.edges.specs.Rows.{no_edge}
-use Rattle.trace_text.specs.Found.{SameSizes, is_found}
+use Rattle.trace_text.specs.Inner.Found.{SameSizes, is_found}
 use Rattle.trace_text.proofs.found.Found.add_sources.Given as goal
 
 abbrev pub invariant-loop-next : goal.invariant-loop-next

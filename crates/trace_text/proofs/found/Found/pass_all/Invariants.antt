@@ -1,6 +1,6 @@
 use Rattle.std.proofs.Common.{ℕ, length}
-use Rattle.trace_text.specs.Backward.{IsOnTheWay}
-use Rattle.trace_text.specs.Found.{SameSizes, is_found}
+use Rattle.trace_text.specs.Inner.Backward.{IsOnTheWay}
+use Rattle.trace_text.specs.Inner.Found.{SameSizes, is_found}
 use Rattle.trace_text.proofs.NextGate.{gates_left}
 use Rattle.trace_text.proofs.found.Found.pass_all.Given as goal
 

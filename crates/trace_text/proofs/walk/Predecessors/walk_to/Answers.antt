@@ -3,9 +3,9 @@ use Rattle.edges.specs.declared.edge.Edge.{Edge}
 use Rattle.cluster_types.specs.declared.graph_edges.Edges.{Edges}
 use Rattle.edges.specs.Loops.{EndsWithin}
 use Rattle.listed.specs.Sets.{members}
-use Rattle.trace_text.specs.Backward.{IsOnTheWay}
-use Rattle.trace_text.specs.Found.{is_found}
-use Rattle.trace_text.specs.Walk.{befores}
+use Rattle.trace_text.specs.Inner.Backward.{IsOnTheWay}
+use Rattle.trace_text.specs.Inner.Found.{is_found}
+use Rattle.trace_text.specs.Inner.Walk.{befores}
 use Rattle.trace_text.proofs.NextGate.{of_sizes}
 use Rattle.trace_text.proofs.Places.{room_kept}
 use Rattle.trace_text.proofs.Told.{members_before}
