@@ -18,7 +18,7 @@ use Rattle.planner.specs.Gates.{edges_of_joins}
 use Rattle.planner.specs.Groups.{AddsGroup}
 use Rattle.planner.specs.Joins.{joins_of}
 use Rattle.planner.specs.Places.{places_of}
-use Rattle.planner.specs.Precede.{AreEdges}
+use Rattle.planner.specs.Precede.{AreEdges, most_positions}
 use Rattle.planner.specs.Rooms.{Builds, IsActionWithin, rows_of_join, width_of_join}
 use Rattle.planner.specs.Serials.{most_serial, serial_room}
 use Rattle.planner.proofs.AllJoins.{JoinFits, leads_precede, whole_group}
@@ -60,6 +60,11 @@ module _ (actions : List Action) where
       → base ≤ length actions + 1027001 + 512 * length c.colocations + 512 * length c.orders → base + sum_by (serial_room actions) c.orders < 4294967296
   room_for_all c base rules most below = let r = rooms c.orders in omega arith
 
+  pub few_positions : (c : Cluster) (base upto : ℕ) → length c.colocations + length c.orders ≤ 2000
+      → base ≤ length actions + 1027001 + 512 * length c.colocations + 512 * length c.orders → upto ≤ base + sum_by (serial_room actions) c.orders
+      → upto ≤ most_positions c actions
+  few_positions c base upto rules below room = let r = rooms c.orders in omega arith
+
   pub few_actions : (c : Cluster) → most_edges c actions ≤ 2000000000 → length actions ≤ 2000000000
   few_actions c most = omega arith
 
@@ -82,8 +87,9 @@ module _ (c : Cluster) (actions : List Action) (inside : (a : Action) → Contai
 
   pub whole : (list all : List Edge) (base upto : ℕ) → Builds c actions (places_of actions) list base (joins_of c)
       → AddsGroup (length actions) list all base upto (sum_by (most_serial actions) c.orders) Chained
+      → upto ≤ most_positions c actions
       → (edges : Edges) → edges.list ≡ all → edges.positions ≡ upto → AreEdges c actions (is_earlier c actions) edges
-  whole list all base upto builds adds edges list_is positions_is =
+  whole list all base upto builds adds few_gates edges list_is positions_is =
       let e = list_is ∙ (adds.list_is ∙ ap (λ v. v ++ adds.more) builds.list_is) in
       let group = whole_group c actions (rows_of_join c) (width_of_join c) (places_of actions) (is_earlier c actions) (length actions) base upto adds.more (omega arith) fits
       builds.base_is Chained chained_is adds.group in
@@ -95,11 +101,14 @@ module _ (c : Cluster) (actions : List Action) (inside : (a : Action) → Contai
         positions = let o = group.ordered in omega arith;
         within = λ x h. subst (λ n. (x.before < n) × (x.after < n)) (sym positions_is) (group.below x (subst (λ v. Contains v x) e h));
         upward = λ x h. group.upward x (subst (λ v. Contains v x) e h);
-        few =
-            let joins = joins_few_apart c actions (few c actions) (length actions) in
-            let chains = adds.few in
-            let l = length-append (edges_of_joins c actions (rows_of_join c) (width_of_join c) (places_of actions) (length actions) (joins_of c)) adds.more in
-            let long = ap length e in
-            let k = kinds actions c.orders in
-            omega arith;
+        few = record {
+          list =
+              let joins = joins_few_apart c actions (few c actions) (length actions) in
+              let chains = adds.few in
+              let l = length-append (edges_of_joins c actions (rows_of_join c) (width_of_join c) (places_of actions) (length actions) (joins_of c)) adds.more in
+              let long = ap length e in
+              let k = kinds actions c.orders in
+              omega arith;
+          positions = subst (λ n. n ≤ most_positions c actions) (sym positions_is) few_gates;
+        };
       }

@@ -10,6 +10,7 @@ ghost use Rattle.cluster_types.specs.Steps.{numbered};
 ghost use Rattle.cluster_types.specs.Tables.{Targets};
 ghost use Rattle.cluster_types.specs.Valid.{IsValid};
 ghost use Rattle.planner.specs.PlannedActions.{ArePlanned};
+ghost use Rattle.planner.specs.Precede.{AreFewEdges};
 
 use crate::by_number::in_number_order;
 use crate::edges;
@@ -20,8 +21,8 @@ use std::alloc::Global;
 /// leaf, node and interval; `must_precede`).
 ///
 /// The actions may stand in whatever order, each once; they are those that are needed for what is placed by some journal, of a valid
-/// cluster. Of two numbers the graph has the one before the other just when the action of the one must precede that of the other. Out of
-/// memory is the only other answer. But for the sorts the time is linear: in the actions, and for each rule in the nodes and the actions of
+/// cluster. Of two numbers the graph has the one before the other just when the action of the one must precede that of the other. Its edges and
+/// positions are at most as many as `most_edges` and `most_positions` say. Out of memory is the only other answer. But for the sorts the time is linear: in the actions, and for each rule in the nodes and the actions of
 /// its leaves.
 pub fn number(alloc: Global, cluster: &Cluster, actions: Vec<Action>) -> Result<Graph, NoMemory>
     requires valid { IsValid cluster.now }
@@ -30,6 +31,7 @@ pub fn number(alloc: Global, cluster: &Cluster, actions: Vec<Action>) -> Result<
         → AreNumbered cluster.now (Needed cluster.now events targets) graph.actions) }
     ensures pairs { IfOk result (λ graph. (j k : ℕ)
         → is_before graph j k ≡ precedes_by_number cluster.now graph.actions (numbered graph.actions j) (numbered graph.actions k)) }
+    ensures few { IfOk result (λ graph. AreFewEdges cluster.now graph.actions graph.edges) }
 {
     let sorted = in_number_order(alloc, cluster, actions)?;
     let edges = edges(alloc, cluster, sorted.as_slice())?;

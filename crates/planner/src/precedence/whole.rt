@@ -47,7 +47,8 @@ fn all_edges(alloc: Global, known: &Known) -> Result<Edges, NoMemory>
 
 /// Which of some actions of a valid cluster must have succeeded before which may begin (rule of this project: `must_precede`): those
 /// from whose position the edges lead to the other's, directly or through gates alone. The positions of the actions come first, in the
-/// order that they have here; the gates follow. There are at most as many edges as `most_edges` says.
+/// order that they have here; the gates follow. There are at most as many edges as `most_edges` says, and
+/// at most as many positions as `most_positions` says.
 ///
 /// The actions stand in the order of their numbers, and their leaves and nodes are those of the cluster. It asks that `most_edges` is at
 /// most 2,000,000,000. Out of memory is the only other answer. But for the sorts that orders of the kind Serialize need, the time is

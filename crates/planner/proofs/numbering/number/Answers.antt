@@ -4,7 +4,7 @@ use Rattle.cluster_types.specs.Needed.{Needed}
 use Rattle.cluster_types.specs.Numbers.{AreNumbered, is_earlier}
 use Rattle.cluster_types.specs.Plans.{most_edges, precedes_by_number}
 use Rattle.cluster_types.specs.Steps.{numbered}
-use Rattle.planner.specs.Precede.{AreEdges, graph_by}
+use Rattle.planner.specs.Precede.{AreEdges, AreFewEdges, graph_by}
 use Rattle.planner.proofs.Pairs.{pairs_are}
 use Rattle.planner.proofs.Sorted.{numbered_by}
 use Rattle.planner.proofs.WholeOrder.{few, graph, inside}
@@ -48,3 +48,9 @@ returns-clause-pairs c = λ j k.
     let is = graph cluster c.requires.valid c.args.actions.items sorted c.requires.planned c.in_ok-sorted.ensures.moved c.in_ok-sorted.ensures.in_order c.in_ok-edges.edges are in
     subst (λ (g : GraphOf). is_before g j k ≡ precedes_by_number cluster g.actions (numbered g.actions j) (numbered g.actions k)) (sym c.new.ensures)
     (pairs_are cluster (graph_by sorted c.in_ok-edges.edges) is are j k)
+
+pub returns-clause-few : goal.returns-clause-few
+returns-clause-few c =
+    let cluster = c.args.cluster.now in
+    let are = subst (λ v. AreEdges cluster v (is_earlier cluster v) c.in_ok-edges.edges) c.as_slice.ensures.value c.in_ok-edges.ensures in
+    subst (λ (g : GraphOf). AreFewEdges cluster g.actions g.edges) (sym c.new.ensures) are.few

@@ -43,4 +43,5 @@ returns c = λ events promotions told.
         };
         pairs = IfOk-at_ok _ last.ensures.1 c.number-graph.ensures.pairs;
       };
+      few = IfOk-at_ok _ last.ensures.1 c.number-graph.ensures.few;
     }
