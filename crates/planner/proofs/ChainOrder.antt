@@ -1,5 +1,5 @@
 -- In a list in an order, one stands before another exactly where it comes before it.
-use Rattle.std.proofs.Common.{arith, ◌≡◌, ◌⊎◌, inl, inr, ℕ, suc, List, [], ◌∷◌, AllPairs, Contains, sym, subst, ◌∙◌}
+use Rattle.std.proofs.Common.{arith, ◌≡◌, ◌⊎◌, inl, inr, ℕ, List, [], ◌∷◌, AllPairs, Contains, sym, subst, ◌∙◌}
 use Rattle.lemmas.proofs.Members.{head_or_rest}
 use Rattle.lemmas.proofs.Ordered.{first_earlier, rest_in_order}
 use Rattle.planner.specs.Gates.{StandsBefore, here, later}

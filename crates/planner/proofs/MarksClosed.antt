@@ -7,11 +7,9 @@ use Rattle.lemmas.proofs.Searches.{passes_by}
 use Rattle.lemmas.proofs.Members.{at_head, head_or_rest, in_none, in_range, in_rest}
 use Rattle.cluster_types.specs.declared.cluster.Cluster.{Cluster}
 use Rattle.cluster_types.specs.declared.journal.Event.{Event}
-use Rattle.cluster_types.specs.declared.leaf.Role.{Role}
 use Rattle.cluster_types.specs.declared.rules.Order.{Order}
 use Rattle.cluster_types.specs.Needed.{OrderMayCycle, can_cycle, has_disturbing, steps_at}
 use Rattle.cluster_types.specs.LeastSets.{IsClosedUnderCycling}
-use Rattle.cluster_types.specs.Precedence.{role_by}
 use Rattle.cluster_types.specs.Tables.{Targets, is_in_scope}
 use Rattle.planner.specs.Cycling.{MarkedCells, NoneComesBack, first_marks, is_cycling, is_disturbed, may_be_marked, with_order, with_orders}
 use Rattle.planner.proofs.OrderWords.{cycling_of}

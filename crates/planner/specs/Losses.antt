@@ -25,10 +25,10 @@ module _ (c : Cluster) (es : List Event) (promotions : List Promotion) where
     pub nodes_lost : map (λ (loss : Loss). loss.node) losses ≡ nodes
     pub each : (loss : Loss) → Contains losses loss → IsLoss loss
 
-  -- the nodes before this one that are online, in their order
-  abbrev pub online_before : ℕ → List ℕ
-  online_before upto = filter (λ n. is_online c n es) (range_with_len 0 upto)
+-- the nodes before this one that are online, in their order
+abbrev pub online_before : Cluster → List Event → ℕ → List ℕ
+online_before c es upto = filter (λ n. is_online c n es) (range_with_len 0 upto)
 
-  -- what the loss of each node does that is online
-  abbrev pub IsReport : Report → Type 0
-  IsReport report = AreLosses (online_before (length c.nodes)) report.losses
+-- what the loss of each node does that is online
+abbrev pub IsReport : Cluster → List Event → List Promotion → Report → Type 0
+IsReport c es promotions report = AreLosses c es promotions (online_before c es (length c.nodes)) report.losses
