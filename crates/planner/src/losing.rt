@@ -30,20 +30,21 @@ fn known<'c>(alloc: Global, cluster: &'c Cluster, journal: &Journal) -> Result<K
     Known::new(alloc, cluster, journal.events.as_slice())
 }
 
-/// What the journal tells of the cluster once the node is lost.
+/// What the journal tells of the cluster once the node is lost, where this is known of it before.
 fn states_without(
     alloc: Global,
     cluster: &Cluster,
     journal: &Journal,
+    known: &Known,
     node: NodeId,
 ) -> Result<States, NoMemory>
-    requires valid { IsValid cluster.now }
     requires moment { journals.moment_of journal.now.events < 2 ^ 64 }
+    requires known { Knows cluster.now journal.now.events known.now }
     ensures { IfOk result (λ states. states ≡ states_of cluster.now (journal.now.events ++ Lost node ∷ []) journal.now.promotions) }
 {
-    let mut known = known(alloc, cluster, journal)?;
-    known.tell(Event::Lost { node });
-    known.states(alloc, journal.promotions.as_slice())
+    let mut lost = known.copied(alloc)?;
+    lost.tell(Event::Lost { node });
+    lost.states(alloc, journal.promotions.as_slice())
 }
 
 /// Where everything goes once the node is lost.
@@ -51,14 +52,16 @@ fn loss_of(
     alloc: Global,
     cluster: &Cluster,
     journal: &Journal,
+    known: &Known,
     node: NodeId,
 ) -> Result<Loss, NoMemory>
     requires valid { IsValid cluster.now }
     requires moment { journals.moment_of journal.now.events < 2 ^ 64 }
+    requires known { Knows cluster.now journal.now.events known.now }
     ensures node { IfOk result (λ loss. loss.node ≡ node) }
     ensures loss { IfOk result (λ loss. IsLoss cluster.now journal.now.events journal.now.promotions loss) }
 {
-    let states = states_without(alloc, cluster, journal, node)?;
+    let states = states_without(alloc, cluster, journal, known, node)?;
     let placed = placement_of(alloc, cluster, &states);
     let (_states, placed) = with(states, placed)?;
     Ok(Loss {
@@ -82,7 +85,7 @@ pub fn survive(alloc: Global, cluster: &Cluster, journal: &Journal) -> Result<Re
         if !is_online(now.node_state(node)) {
             continue;
         }
-        losses.push(loss_of(alloc, cluster, journal, node)?)?;
+        losses.push(loss_of(alloc, cluster, journal, &now, node)?)?;
     }
     Ok(Report {
         losses: Listed::from(losses),
