@@ -2,7 +2,7 @@
 use Rattle.std.proofs.Common.{arith, ◌<◌, ◌≤◌, ◌+◌, ◌++◌, ◌⊎◌, ℕ, List, [], sym, ap, ◌∙◌}
 use Rattle.std.proofs.lemmas.List.{append-nil, append_assoc, length-append}
 use Rattle.edges.specs.declared.edge.Edge.{Edge}
-use Rattle.planner.specs.Groups.{AddsGroup}
+use Rattle.planner.specs.Inner.Groups.{AddsGroup}
 use Rattle.planner.proofs.Groups.{group_after, group_says, no_group}
 
 pub adds_none : (actions : ℕ) (list : List Edge) (from : ℕ) → actions ≤ from → AddsGroup actions list list from from 0 (λ x y. ⊥)

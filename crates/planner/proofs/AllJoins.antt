@@ -12,7 +12,7 @@ use Rattle.planner.specs.declared.precedence.sides.Join.{Join}
 use Rattle.planner.specs.declared.precedence.sides.Side.{Side}
 use Rattle.planner.specs.Gates.{edges_of_joins, gates_upto, join_edges, key_at}
 use Rattle.planner.specs.Joins.{is_joined, joins_of, side_key_of}
-use Rattle.planner.specs.Groups.{IsGroup}
+use Rattle.planner.specs.Inner.Groups.{IsGroup}
 use Rattle.planner.proofs.Groups.{group_after, group_says, no_group}
 use Rattle.planner.proofs.JoinGroups.{Fits, join_group}
 use Rattle.planner.proofs.JoinsSay.{joins-say}

@@ -23,7 +23,7 @@ use Rattle.cluster_types.specs.Tables.{Targets}
 use Rattle.cluster_types.proofs.NeededLaws.{bounds_of_first}
 use Rattle.loops.specs.FirstLoops.{AllJoin, AllOrder}
 use Rattle.loops.proofs.StepPlaces.{same_op}
-use Rattle.planner.specs.Actions.{cell_actions, free_leaf_actions, includes_op, is_elsewhere, is_filled, is_undisturbed, leaves_actions, migrations_of, migrations_to, leaf_monitor, monitors_in, probes_in, migration_source, stays_needed, step_action, steps_in, wanted}
+use Rattle.planner.specs.Inner.Actions.{cell_actions, free_leaf_actions, includes_op, is_elsewhere, is_filled, is_undisturbed, leaves_actions, migrations_of, migrations_to, leaf_monitor, monitors_in, probes_in, migration_source, stays_needed, step_action, steps_in, wanted}
 use Rattle.planner.specs.Cycling.{MarkedCells}
 use Rattle.planner.specs.declared.needed.steps.CellNeed.{CellNeed}
 use Rattle.planner.proofs.Conditions.{in_unless, of_if, of_one, of_unless}

@@ -6,7 +6,7 @@ use Rattle.std.specs.Ordering.{nat_cmp}
 use Rattle.std.proofs.lemmas.List.Kept.{Contains-dedup_nat, Contains-from_dedup}
 use Rattle.std.proofs.lemmas.List.Sorted.{Contains-permutation, IsPermutation-sym, length_permutation}
 use Rattle.std.proofs.lemmas.Map.Keys.{IsStrictlyIncreasing-dedup}
-use Rattle.planner.specs.Serials.{AreAscending}
+use Rattle.planner.specs.Inner.Serials.{AreAscending}
 
 pub are_ascending : (all sorted numbers : List ℕ) → IsPermutation all sorted → IsSorted nat_cmp sorted → numbers ≡ dedup eqb sorted → length numbers ≤ length sorted
     → AreAscending all numbers

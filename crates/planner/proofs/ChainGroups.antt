@@ -5,7 +5,7 @@ use Rattle.edges.specs.declared.edge.Edge.{Edge}
 use Rattle.cluster_types.specs.Graphs.{LeadsByGates}
 use Rattle.planner.specs.Gates.{InChain, StandsBefore, here, later, chain_edges, chain_step, last_gate, next_gate, then_step}
 use Rattle.lemmas.proofs.Members.{head_or_rest, in_rest}
-use Rattle.planner.specs.Groups.{IsGroup}
+use Rattle.planner.specs.Inner.Groups.{IsGroup}
 use Rattle.planner.proofs.Groups.{none_leads, own_ends}
 use Rattle.planner.proofs.ChainEdges.{IsHeadEdge, to_then, into, onward, chain_edge, is_head, lower, next_is, next_of}
 use Rattle.planner.proofs.ChainWays.{FromAction, itself_on, only_rest, FromStart, to_itself, onwards, action_on, from_action, from_start, in_tail, start_on, to_place}

@@ -8,7 +8,7 @@ use Rattle.std.proofs.lemmas.List.Sums.{length-filter, sum_by-cons, sum_by-le-su
 use Rattle.cluster_types.specs.declared.journal.Action.{Action}
 use Rattle.cluster_types.specs.declared.journal.Action.TheVariants.{Fence, Probe, Cell, MigrateTo, MigrateFrom}
 use Rattle.cluster_types.specs.Plans.{is_of_either}
-use Rattle.planner.specs.Places.{is_of_leaf, leaf_places, rule_places}
+use Rattle.planner.specs.Inner.Places.{is_of_leaf, leaf_places, rule_places}
 
 module _ {X : Type 0} (p : X → Bool) where
   at_end : (pre : List X) (y : X) (ys : List X) → slice_get (pre ++ y ∷ ys) (length pre) ≡ Some y

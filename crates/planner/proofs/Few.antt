@@ -23,8 +23,8 @@ use Rattle.cluster_types.specs.Needed.{FirstSet, Needed, fence, kept, monitor, p
 use Rattle.cluster_types.specs.Plans.{is_of_either, most_edges}
 use Rattle.cluster_types.specs.Tables.{Targets, targets_of}
 use Rattle.cluster_types.specs.Valid.{IsValid}
-use Rattle.planner.specs.Leaves.{action_leaf}
-use Rattle.planner.specs.Places.{is_of_leaf}
+use Rattle.planner.specs.Inner.Leaves.{action_leaf}
+use Rattle.planner.specs.Inner.Places.{is_of_leaf}
 use Rattle.planner.specs.Rooms.{IsActionWithin}
 use Rattle.planner.proofs.Counts.{both_counts}
 use Rattle.planner.proofs.NeededWithin.{needed_within}

@@ -14,9 +14,9 @@ use Rattle.cluster_types.specs.Fields.{copies}
 use Rattle.cluster_types.specs.Needed.{can_cycle}
 use Rattle.cluster_types.specs.Tables.{Targets}
 use Rattle.cluster_types.specs.Terms as terms
-use Rattle.planner.specs.ByNeeds as by_needs
+use Rattle.planner.specs.Inner.ByNeeds as by_needs
 use Rattle.planner.specs.Cycling.{MarkedCells, first_marks}
-use Rattle.planner.specs.Levels.{AreNeeds, need_in}
+use Rattle.planner.specs.Inner.Levels.{AreNeeds, need_in}
 use Rattle.planner.specs.declared.needed.steps.CellNeed.{CellNeed}
 
 -- one leaf more

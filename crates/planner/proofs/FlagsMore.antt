@@ -8,7 +8,7 @@ use Rattle.std.proofs.Math.Bool.{or-false, or-true}
 use Rattle.cluster_types.specs.declared.journal.Action.{Action}
 use Rattle.cluster_types.specs.declared.journal.Action.TheVariants.{Fence, Probe, Cell, MigrateTo, MigrateFrom}
 use Rattle.cluster_types.specs.Precedence.{is_migrating, sends}
-use Rattle.planner.specs.Flags.{send_if, with_flag}
+use Rattle.planner.specs.Inner.Flags.{send_if, with_flag}
 use Rattle.loops.specs.Ranks.{AreMigrating}
 
 sends_is : (r : ℕ) (a : Action) (q : ℕ) → send_if a ≡ Some q → sends r a ≡ (q == r)

@@ -10,7 +10,7 @@ use Rattle.cluster_types.specs.Numbers.{StepsHaveNoLoop, rank, step_of}
 use Rattle.cluster_types.specs.Tables.{Targets}
 use Rattle.loops.specs.FirstLoops.{AllOrder}
 use Rattle.planner.specs.Cycling.{MarkedCells, first_marks, with_orders}
-use Rattle.planner.specs.Levels.{below_level}
+use Rattle.planner.specs.Inner.Levels.{below_level}
 use Rattle.planner.proofs.FallingLevels.{are_cycling, below_apart}
 use Rattle.planner.proofs.MarksClosed.{last_closed}
 use Rattle.planner.proofs.MarksDerived.{first_cycled, orders_cycled}

@@ -3,7 +3,7 @@ use Rattle.std.proofs.Common.{arith, ◌<◌, ◌≤◌, ◌⊎◌, inl, inr, �
 use Rattle.std.proofs.lemmas.List.Elements.{Contains-append_cases}
 use Rattle.edges.specs.declared.edge.Edge.{Edge}
 use Rattle.cluster_types.specs.Graphs.{LeadsByGates, direct, through}
-use Rattle.planner.specs.Groups.{IsGroup, IsOwnEnd}
+use Rattle.planner.specs.Inner.Groups.{IsGroup, IsOwnEnd}
 use Rattle.cluster_types.proofs.GateGroups.{IsOwn, action, gate, one_group, of_old, of_more}
 
 pub to_own : (actions from x : ℕ) → IsOwn actions from x → IsOwnEnd actions from x

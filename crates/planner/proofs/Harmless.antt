@@ -19,7 +19,7 @@ use Rattle.cluster_types.specs.Precedence.{is_same_op, is_serialize}
 use Rattle.cluster_types.specs.Tables.{Targets}
 use Rattle.loops.specs.FirstLoops.{AllJoin, AllOrder}
 use Rattle.loops.proofs.StepPlaces.{same_op}
-use Rattle.planner.specs.Actions.{is_undisturbed, is_harmless_colocation, is_harmless_order, keeps_first}
+use Rattle.planner.specs.Inner.Actions.{is_undisturbed, is_harmless_colocation, is_harmless_order, keeps_first}
 
 -- the first of an order, by tests: it is this leaf, the kind is Serialize, the word is a start, and the then gets a step
 first_kept : (same s u t : Bool) → not (same && ((s || not u) && t)) ≡ true → same ≡ true → ((s ≡ false) × (u ≡ true)) ⊎ (t ≡ false)

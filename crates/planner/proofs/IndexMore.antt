@@ -8,8 +8,8 @@ use Rattle.std.proofs.lemmas.Option.{unwrap_or-slice_get}
 use Rattle.lemmas.proofs.Ranges.{range-more}
 use Rattle.cluster_types.specs.declared.journal.Action.{Action}
 use Rattle.cluster_types.specs.declared.journal.Action.TheVariants.{Fence, Probe, Cell, MigrateTo, MigrateFrom}
-use Rattle.planner.specs.Index.{IsIndexBefore, leaf_if, leaf_places_before, with_place}
-use Rattle.planner.specs.Places.{is_of_leaf}
+use Rattle.planner.specs.Inner.Index.{IsIndexBefore, leaf_if, leaf_places_before, with_place}
+use Rattle.planner.specs.Inner.Places.{is_of_leaf}
 
 pub filter_last : {X : Type 0} (p : X → Bool) (xs : List X) (x : X) → filter p (xs ++ x ∷ []) ≡ filter p xs ++ cond (p x) (x ∷ []) []
 filter_last p [] x = on (p x)

@@ -4,8 +4,8 @@ use Rattle.std.specs.List.{slice_get}
 use Rattle.std.proofs.lemmas.List.Elements.{All-from_get_or, Contains-get_or}
 use Rattle.cluster_types.specs.declared.journal.Action.{Action}
 use Rattle.cluster_types.specs.declared.cluster.Cluster.{Cluster}
-use Rattle.planner.specs.Index.{IsIndex, places_in}
-use Rattle.planner.specs.Places.{leaf_places, rule_places}
+use Rattle.planner.specs.Inner.Index.{IsIndex, places_in}
+use Rattle.planner.specs.Inner.Places.{leaf_places, rule_places}
 use Rattle.planner.proofs.JoinFits.{rule_within}
 
 pub index_is : (actions : List Action) (leaves : ℕ) (index : List (List ℕ)) (r s : ℕ) → IsIndex actions leaves index → r < leaves → s < leaves

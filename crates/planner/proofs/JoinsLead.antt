@@ -5,11 +5,11 @@ use Rattle.cluster_types.specs.declared.cluster.Cluster.{Cluster}
 use Rattle.cluster_types.specs.declared.journal.Action.{Action}
 use Rattle.planner.specs.Gates.{edges_of_joins, gates_upto}
 use Rattle.planner.specs.Joins.{joins_of}
-use Rattle.planner.specs.Places.{places_of}
+use Rattle.planner.specs.Inner.Places.{places_of}
 use Rattle.planner.specs.Rooms.{IsActionWithin, rows_of_join, width_of_join}
 use Rattle.planner.proofs.AllJoins.{joined_at, joins_group}
 use Rattle.planner.proofs.EvenJoins.{each_even}
-use Rattle.planner.specs.Groups.{IsGroup}
+use Rattle.planner.specs.Inner.Groups.{IsGroup}
 use Rattle.planner.proofs.JoinFits.{join_fits}
 
 module _ (c : Cluster) (actions : List Action) (inside : (a : Action) → Contains actions a → IsActionWithin c a) where

@@ -13,7 +13,7 @@ use Rattle.planner.specs.declared.precedence.sides.Side.{Side}
 use Rattle.planner.specs.declared.precedence.sides.Side.TheVariants as side
 use Rattle.cluster_types.specs.Precedence.{CellOf, as_later, is_migrating}
 use Rattle.planner.specs.Joins.{in_leaf, side_key_of, later_demote, later_taker}
-use Rattle.planner.specs.Leaves.{key_by, later_by, later_demote_by, later_stop, later_taker_by, action_leaf}
+use Rattle.planner.specs.Inner.Leaves.{key_by, later_by, later_demote_by, later_stop, later_taker_by, action_leaf}
 
 module _ (actions : List Action) where
   abbrev moves : Action → Bool

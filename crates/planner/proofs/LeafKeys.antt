@@ -13,7 +13,7 @@ use Rattle.cluster_types.specs.Precedence.{CellOf, as_earlier, as_later, cell_of
 use Rattle.planner.specs.declared.precedence.sides.Side.{Side}
 use Rattle.planner.specs.declared.precedence.sides.Side.TheVariants as side
 use Rattle.planner.specs.Joins.{earlier_taker, in_leaf, side_key_of, later_demote, later_taker, take_cell}
-use Rattle.planner.specs.Places.{is_of_leaf, side_leaf}
+use Rattle.planner.specs.Inner.Places.{is_of_leaf, side_leaf}
 
 -- the cell is of a leaf of which the action is
 abbrev Of : Action → Option CellOf → Type 0

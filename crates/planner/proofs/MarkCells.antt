@@ -3,7 +3,7 @@ use Rattle.std.proofs.Common.{arith, ◌≡◌, ◌<◌, ◌+◌, ◌*◌, ◌==
 use Rattle.std.proofs.lemmas.Bool.{cases_lt, le-ltb, lt-ltb, ne_eqb}
 use Rattle.lemmas.proofs.Booleans.{cond-or}
 use Rattle.cluster_types.proofs.TableCells.{get-at, same_place}
-use Rattle.planner.specs.Levels.{marks_in}
+use Rattle.planner.specs.Inner.Levels.{marks_in}
 
 none_of : (a : Bool) → (false || a && false) ≡ false
 none_of true = refl

@@ -8,7 +8,7 @@ use Rattle.cluster_types.specs.declared.journal.Event.{Event}
 use Rattle.cluster_types.specs.declared.rules.Order.{Order}
 use Rattle.cluster_types.specs.Tables.{Targets}
 use Rattle.planner.specs.Cycling.{MarkedCells, with_order, with_orders}
-use Rattle.planner.specs.Levels.{at_level, below_level}
+use Rattle.planner.specs.Inner.Levels.{at_level, below_level}
 use Rattle.planner.proofs.FallingLevels.{orders_joined}
 
 -- a leaf that is there has room for its row

@@ -18,9 +18,9 @@ use Rattle.cluster_types.specs.Needed.{can_cycle, has_disturbing}
 use Rattle.cluster_types.specs.Precedence.{role_by}
 use Rattle.cluster_types.specs.Tables.{Targets, holds_role, is_in_scope, target_holds}
 use Rattle.cluster_types.proofs.TableCells.{by_target}
-use Rattle.planner.specs.ByNeeds as by_needs
+use Rattle.planner.specs.Inner.ByNeeds as by_needs
 use Rattle.planner.specs.Cycling.{MarkedCells, is_disturbed, is_marked_by, with_order}
-use Rattle.planner.specs.Levels.{AreNeeds, marks_in, steps_by}
+use Rattle.planner.specs.Inner.Levels.{AreNeeds, marks_in, steps_by}
 use Rattle.planner.specs.declared.needed.steps.CellNeed.{CellNeed}
 
 any_flag : (p : ℕ → Bool) (xs : List ℕ) → list_any (λ b. b) (map p xs) ≡ list_any p xs

@@ -19,7 +19,7 @@ use Rattle.cluster_types.specs.Plans.{IsPlaced}
 use Rattle.cluster_types.specs.Precedence.{is_migrating}
 use Rattle.cluster_types.specs.Tables.{Targets, targets_of}
 use Rattle.cluster_types.specs.Valid.{IsValid}
-use Rattle.planner.specs.Leaves.{action_leaf}
+use Rattle.planner.specs.Inner.Leaves.{action_leaf}
 use Rattle.plan_laws.proofs.CellSteps.{is_step}
 use Rattle.plan_laws.proofs.Links.{link_of_leaf}
 use Rattle.plan_laws.proofs.LowerNumbers.{promotable_target}

@@ -18,7 +18,7 @@ use Rattle.cluster_types.specs.May.{may, may_promoted}
 use Rattle.cluster_types.specs.Needed.{GetsStep}
 use Rattle.cluster_types.specs.NodeStates.{is_online}
 use Rattle.cluster_types.specs.Tables.{Targets}
-use Rattle.planner.specs.Actions.{first_node, is_alone, is_on_state, is_source, may_be_sent, source_at, migration_source, steps_in}
+use Rattle.planner.specs.Inner.Actions.{first_node, is_alone, is_on_state, is_source, may_be_sent, source_at, migration_source, steps_in}
 use Rattle.planner.specs.Cycling.{MarkedCells}
 use Rattle.planner.specs.declared.needed.steps.CellNeed.{CellNeed}
 use Rattle.planner.proofs.StepTests.{found_is, has_it, it_is, only_found}

@@ -11,8 +11,8 @@ use Rattle.cluster_types.specs.declared.journal.Action.{Action}
 use Rattle.cluster_types.specs.declared.rules.Order.{Order}
 use Rattle.cluster_types.specs.Numbers.{is_earlier}
 use Rattle.planner.specs.Chains.{serialized_at}
-use Rattle.planner.specs.Groups.{AddsGroup}
-use Rattle.planner.specs.Serials.{most_serial, serial_room}
+use Rattle.planner.specs.Inner.Groups.{AddsGroup}
+use Rattle.planner.specs.Inner.Serials.{most_serial, serial_room}
 use Rattle.planner.proofs.Adding.{adds_after, adds_none, adds_says}
 use Rattle.planner.proofs.AllJoins.{one_or}
 

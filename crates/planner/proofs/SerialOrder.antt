@@ -12,10 +12,10 @@ use Rattle.cluster_types.specs.declared.leaf.Op.TheVariants as op
 use Rattle.cluster_types.specs.declared.rules.Order.{Order}
 use Rattle.cluster_types.specs.Precedence.{cell_of, change_cell}
 use Rattle.planner.specs.Chains.{earlier_of, is_earlier_at, is_cell_on}
-use Rattle.planner.specs.Index.{IsIndex, places_in}
+use Rattle.planner.specs.Inner.Index.{IsIndex, places_in}
 use Rattle.planner.specs.Joins.{in_leaf}
-use Rattle.planner.specs.Places.{is_of_leaf, leaf_places, rule_places}
-use Rattle.planner.specs.Serials.{AreAscending, AreSerials}
+use Rattle.planner.specs.Inner.Places.{is_of_leaf, leaf_places, rule_places}
+use Rattle.planner.specs.Inner.Serials.{AreAscending, AreSerials}
 use Rattle.planner.proofs.Counts.{rule_few}
 use Rattle.planner.proofs.IndexPlaces.{index_is}
 use Rattle.planner.proofs.JoinFits.{leaf_there, one_there, other_there, rule_within}

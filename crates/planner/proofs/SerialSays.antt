@@ -12,8 +12,8 @@ use Rattle.cluster_types.proofs.NumberLaws.{not_both}
 use Rattle.cluster_types.specs.Precedence.{is_across, is_serialize, is_serialized}
 use Rattle.cluster_types.specs.Plans.{is_of_either}
 use Rattle.planner.specs.Chains.{IsChainedSomewhere, earlier_of, is_earlier_at, serialized_at, serialized_of}
-use Rattle.planner.specs.Groups.{AddsGroup}
-use Rattle.planner.specs.Serials.{AreSerials, most_serial}
+use Rattle.planner.specs.Inner.Groups.{AddsGroup}
+use Rattle.planner.specs.Inner.Serials.{AreSerials, most_serial}
 use Rattle.planner.proofs.Adding.{adds_none, adds_says}
 use Rattle.planner.proofs.Serialized.{chained_says, says_chained}
 

@@ -17,9 +17,9 @@ use Rattle.cluster_types.specs.Unpacked.{states_of}
 use Rattle.cluster_types.specs.Valid.{IsValid}
 use Rattle.loops.proofs.FromValid.{valid_order}
 use Rattle.loops.proofs.OneRanking.{rank_bounded}
-use Rattle.planner.specs.Actions.{all_fences, is_undisturbed, is_touched, leaves_actions}
+use Rattle.planner.specs.Inner.Actions.{all_fences, is_undisturbed, is_touched, leaves_actions}
 use Rattle.planner.specs.Cycling.{MarkedCells, first_marks, with_orders}
-use Rattle.planner.specs.Levels.{below_level, need_at}
+use Rattle.planner.specs.Inner.Levels.{below_level, need_at}
 use Rattle.planner.proofs.Found.{found}
 use Rattle.planner.proofs.StepsGot.{Tells}
 use Rattle.planner.proofs.WholeList.{whole_list}

@@ -10,7 +10,7 @@ use Rattle.cluster_types.specs.declared.leaf.Op.{Op}
 use Rattle.cluster_types.specs.Precedence.{is_same_op}
 use Rattle.cluster_types.proofs.OpLaws.{op_itself}
 use Rattle.loops.proofs.StepPlaces.{same_op}
-use Rattle.planner.specs.Actions.{includes_op, is_filled}
+use Rattle.planner.specs.Inner.Actions.{includes_op, is_filled}
 
 -- an element that passes, where some does
 pub record Passing {X : Type 0} (p : X → Bool) (xs : List X) : Type 0 where

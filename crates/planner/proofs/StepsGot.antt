@@ -9,9 +9,9 @@ use Rattle.cluster_types.specs.declared.journal.Event.{Event}
 use Rattle.cluster_types.specs.declared.leaf.Op.{Op}
 use Rattle.cluster_types.specs.Needed.{Cycled, GetsAny, GetsStep, IsDisturbed, steps_at}
 use Rattle.cluster_types.specs.Tables.{Targets}
-use Rattle.planner.specs.Actions.{is_filled, is_touched, steps_in}
+use Rattle.planner.specs.Inner.Actions.{is_filled, is_touched, steps_in}
 use Rattle.planner.specs.Cycling.{MarkedCells}
-use Rattle.planner.specs.Levels.{need_at, steps_by}
+use Rattle.planner.specs.Inner.Levels.{need_at, steps_by}
 use Rattle.planner.specs.declared.needed.steps.CellNeed.{CellNeed}
 use Rattle.planner.proofs.StepTests.{filled, first_step, some_of}
 

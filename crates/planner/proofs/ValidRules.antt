@@ -8,8 +8,8 @@ use Rattle.cluster_types.specs.declared.rules.Colocation.{Colocation}
 use Rattle.cluster_types.specs.declared.rules.Order.{Order}
 use Rattle.cluster_types.specs.Valid.{IsValid}
 use Rattle.cluster_types.proofs.RuleLeaves.{role_leaf, word_leaf}
-use Rattle.planner.specs.Flags.{send_if}
-use Rattle.planner.specs.Index.{leaf_if}
+use Rattle.planner.specs.Inner.Flags.{send_if}
+use Rattle.planner.specs.Inner.Index.{leaf_if}
 use Rattle.planner.specs.Rooms.{IsActionWithin}
 
 pub dependents : (c : Cluster) → IsValid c → All (λ (col : Colocation). col.dependent < length c.leaves) c.colocations

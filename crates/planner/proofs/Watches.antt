@@ -11,7 +11,7 @@ use Rattle.cluster_types.specs.CellStates.{is_running}
 use Rattle.cluster_types.specs.Fields.{monitors}
 use Rattle.cluster_types.specs.Needed.{is_monitor_for}
 use Rattle.cluster_types.specs.Unpacked.{running_bit, running_bits}
-use Rattle.planner.specs.Actions.{is_wanted, wanted}
+use Rattle.planner.specs.Inner.Actions.{is_wanted, wanted}
 
 -- the bits of a list of monitors, by which of them are running
 abbrev pub bits_of : (MonitorOf → Bool) → List MonitorOf → ℕ

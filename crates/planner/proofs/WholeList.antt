@@ -25,7 +25,7 @@ use Rattle.cluster_types.specs.Unpacked.{states_of}
 use Rattle.cluster_types.specs.Valid.{IsValid}
 use Rattle.cluster_types.proofs.StatesKept.{node_kept}
 use Rattle.loops.proofs.FromValid.{valid_join, valid_order}
-use Rattle.planner.specs.Actions.{all_fences, fences_in, is_undisturbed, is_touched, is_unclean_in, leaves_actions}
+use Rattle.planner.specs.Inner.Actions.{all_fences, fences_in, is_undisturbed, is_touched, is_unclean_in, leaves_actions}
 use Rattle.planner.specs.Cycling.{MarkedCells}
 use Rattle.planner.specs.declared.needed.steps.CellNeed.{CellNeed}
 use Rattle.planner.proofs.AllNeeded.{all_needed, there}

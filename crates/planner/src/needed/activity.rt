@@ -4,9 +4,9 @@ ghost use Rattle.std.specs.Prelude.{◌≡◌, ◌≤◌, ◌+◌, ◌*◌, ◌&
 ghost use Rattle.std.specs.List.{range_with_len};
 ghost use Rattle.cluster_types.specs.declared.journal.Event.{Event as EventOf};
 ghost use Rattle.cluster_types.specs.Tables.{Targets};
-ghost use Rattle.planner.specs.ByNeeds as by_needs;
+ghost use Rattle.planner.specs.Inner.ByNeeds as by_needs;
 ghost use Rattle.planner.specs.Cycling as cycling;
-ghost use Rattle.planner.specs.Levels.{AreNeeds, marks_in, need_in};
+ghost use Rattle.planner.specs.Inner.Levels.{AreNeeds, marks_in, need_in};
 
 use crate::needed::marking::need_of;
 use crate::needed::marks::CellMarks;

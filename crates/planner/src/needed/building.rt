@@ -12,8 +12,8 @@ ghost use Rattle.cluster_types.specs.Rights.{rights_of};
 ghost use Rattle.cluster_types.specs.Tables.{Targets, targets_of};
 ghost use Rattle.cluster_types.specs.Unpacked.{states_of};
 ghost use Rattle.cluster_types.specs.Valid.{IsValid, KeepsLimits};
-ghost use Rattle.planner.specs.Actions as actions;
-ghost use Rattle.planner.specs.Works.{IsWork, marks_of, needs_of};
+ghost use Rattle.planner.specs.Inner.Actions as actions;
+ghost use Rattle.planner.specs.Inner.Works.{IsWork, marks_of, needs_of};
 
 use crate::needed::finding::cycled_cells;
 use crate::needed::flags::{free, touched};

@@ -6,7 +6,7 @@ ghost use Rattle.cluster_types.specs.Needed.{Cycled};
 ghost use Rattle.cluster_types.specs.Tables.{Targets};
 ghost use Rattle.cluster_types.specs.Valid.{IsValid};
 ghost use Rattle.loops.specs.Ranks.{AreRanks};
-ghost use Rattle.planner.specs.Levels.{AreNeeds, marks_in};
+ghost use Rattle.planner.specs.Inner.Levels.{AreNeeds, marks_in};
 
 use crate::needed::activity::mark_active;
 use crate::needed::marks::CellMarks;

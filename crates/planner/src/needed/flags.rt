@@ -4,8 +4,8 @@ ghost use Rattle.std.specs.Prelude.{◌≡◌, ◌<◌, ◌==◌, ◌&&◌, ℕ,
 ghost use Rattle.std.specs.List.{range_with_len};
 ghost use Rattle.listed.specs.Flags.{is_marked};
 ghost use Rattle.cluster_types.specs.Valid.{KeepsLimits};
-ghost use Rattle.planner.specs.Actions as actions;
-ghost use Rattle.planner.specs.Works.{marks_of, needs_of};
+ghost use Rattle.planner.specs.Inner.Actions as actions;
+ghost use Rattle.planner.specs.Inner.Works.{marks_of, needs_of};
 
 use crate::needed::work::CellWork;
 use cluster_types::{Cluster, Colocation, LeafId, Op, Order, OrderKind};

@@ -10,8 +10,8 @@ ghost use Rattle.cluster_types.specs.Rights as rights;
 ghost use Rattle.cluster_types.specs.Tables.{is_somewhere, targets_of};
 ghost use Rattle.cluster_types.specs.Unpacked.{states_of};
 ghost use Rattle.cluster_types.specs.Valid.{KeepsLimits};
-ghost use Rattle.planner.specs.Knowing as knowing;
-ghost use Rattle.planner.specs.Levels.{AreNeeds};
+ghost use Rattle.planner.specs.Inner.Knowing as knowing;
+ghost use Rattle.planner.specs.Inner.Levels.{AreNeeds};
 
 use crate::needed::steps::CellNeed;
 use cluster_types::{

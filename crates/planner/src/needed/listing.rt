@@ -5,8 +5,8 @@ ghost use Rattle.std.specs.List.{flat_map, range_with_len};
 ghost use Rattle.listed.specs.Flags.{is_marked};
 ghost use Rattle.cluster_types.specs.Needed as needed;
 ghost use Rattle.cluster_types.specs.Valid.{KeepsLimits};
-ghost use Rattle.planner.specs.Actions as actions;
-ghost use Rattle.planner.specs.Works.{marks_of, needs_of};
+ghost use Rattle.planner.specs.Inner.Actions as actions;
+ghost use Rattle.planner.specs.Inner.Works.{marks_of, needs_of};
 
 use crate::needed::sources::source_of;
 use crate::needed::work::CellWork;

@@ -8,8 +8,8 @@ ghost use Rattle.cluster_types.specs.Precedence.{role_by};
 ghost use Rattle.cluster_types.specs.Tables.{Targets, target_holds};
 ghost use Rattle.loops.specs.FirstLoops.{OrdersSteps};
 ghost use Rattle.planner.specs.Cycling as cycling;
-ghost use Rattle.planner.specs.ByNeeds as by_needs;
-ghost use Rattle.planner.specs.Levels.{AreNeeds, marks_in, need_in};
+ghost use Rattle.planner.specs.Inner.ByNeeds as by_needs;
+ghost use Rattle.planner.specs.Inner.Levels.{AreNeeds, marks_in, need_in};
 
 use crate::needed::marks::CellMarks;
 use crate::needed::steps::CellNeed;

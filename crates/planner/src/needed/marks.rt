@@ -1,7 +1,7 @@
 //! Marks of cells.
 
 ghost use Rattle.std.specs.Prelude.{◌≡◌, ◌≤◌, ◌<◌, ◌+◌, ◌*◌, ◌==◌, ◌&&◌, ◌||◌, ℕ, false, IfOk, length, slice_index_or};
-ghost use Rattle.planner.specs.Levels.{marks_in};
+ghost use Rattle.planner.specs.Inner.Levels.{marks_in};
 
 use cluster_types::{LeafId, NodeId, cell_place};
 use std::alloc::{AllocError, Global};

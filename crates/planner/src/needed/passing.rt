@@ -11,7 +11,7 @@ ghost use Rattle.cluster_types.specs.Valid.{IsValid};
 ghost use Rattle.loops.specs.FirstLoops.{AllOrder};
 ghost use Rattle.loops.specs.Ranks.{AreRanks};
 ghost use Rattle.planner.specs.Cycling as cycling;
-ghost use Rattle.planner.specs.Levels.{AreNeeds, at_level, below_level, is_at_level, marks_in};
+ghost use Rattle.planner.specs.Inner.Levels.{AreNeeds, at_level, below_level, is_at_level, marks_in};
 
 use crate::needed::marking::{is_cycling, mark_by};
 use crate::needed::marks::CellMarks;

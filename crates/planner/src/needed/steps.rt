@@ -2,7 +2,7 @@
 
 ghost use Rattle.std.specs.Prelude.{◌≡◌, [], if◌then◌else◌};
 ghost use Rattle.cluster_types.specs.Needed as needed;
-ghost use Rattle.planner.specs.Levels.{no_need, steps_by};
+ghost use Rattle.planner.specs.Inner.Levels.{no_need, steps_by};
 
 use cluster_types::{CellState, Op, Target};
 

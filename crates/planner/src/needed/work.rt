@@ -1,8 +1,8 @@
 //! What each cell needs, with the cells that are cycled.
 
 ghost use Rattle.std.specs.Prelude.{◌≡◌};
-ghost use Rattle.planner.specs.Actions.{includes_op, is_filled, steps_in};
-ghost use Rattle.planner.specs.Works.{marks_of, needs_of};
+ghost use Rattle.planner.specs.Inner.Actions.{includes_op, is_filled, steps_in};
+ghost use Rattle.planner.specs.Inner.Works.{marks_of, needs_of};
 
 use crate::needed::marking::need_of;
 use crate::needed::marks::CellMarks;

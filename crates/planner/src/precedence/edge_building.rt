@@ -4,7 +4,7 @@ ghost use Rattle.std.specs.Prelude.{◌≡◌, ◌+◌, ◌*◌, ◌++◌, ◌<�
 ghost use Rattle.std.specs.List.{range_with_len};
 ghost use Rattle.planner.specs.Gates.{join_edges, key_at};
 ghost use Rattle.planner.specs.Joins.{first_joins, join as spec_join};
-ghost use Rattle.planner.specs.Places.{places_of};
+ghost use Rattle.planner.specs.Inner.Places.{places_of};
 ghost use Rattle.planner.specs.Rooms as rooms;
 ghost use Rattle.planner.specs.Rooms.{Builds};
 

@@ -2,7 +2,7 @@
 
 ghost use Rattle.std.specs.Prelude.{◌≡◌, ◌<◌, ◌++◌, [], Contains, length, IfOk, IfSome, OnOk, slice_get, unwrap_or, vec_len};
 ghost use Rattle.cluster_types.specs.declared.journal.Action.{Action as ActionOf};
-ghost use Rattle.planner.specs.Index.{IsIndex, leaf_if, places_in, with_place};
+ghost use Rattle.planner.specs.Inner.Index.{IsIndex, leaf_if, places_in, with_place};
 
 use cluster_types::{Action, LeafId};
 use listed::{Listed, empty_lists};

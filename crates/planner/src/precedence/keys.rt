@@ -3,7 +3,7 @@
 ghost use Rattle.std.specs.Prelude.{◌≡◌};
 ghost use Rattle.cluster_types.specs.Precedence as precedence;
 ghost use Rattle.planner.specs.Joins as spec;
-ghost use Rattle.planner.specs.Leaves as leaves;
+ghost use Rattle.planner.specs.Inner.Leaves as leaves;
 
 use crate::precedence::sides::Side;
 use cluster_types::{Action, Cluster, LeafId, NodeId, Op, Role};

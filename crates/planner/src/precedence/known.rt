@@ -6,7 +6,7 @@ ghost use Rattle.cluster_types.specs.declared.rules.Colocation.{Colocation as Co
 ghost use Rattle.cluster_types.specs.declared.rules.Order.{Order as OrderOf};
 ghost use Rattle.cluster_types.specs.Numbers.{is_earlier};
 ghost use Rattle.cluster_types.specs.Plans.{most_edges};
-ghost use Rattle.planner.specs.Index.{IsIndex};
+ghost use Rattle.planner.specs.Inner.Index.{IsIndex};
 ghost use Rattle.planner.specs.Rooms.{IsActionWithin, all_within_prop};
 ghost use Rattle.loops.specs.Ranks.{AreMigrating};
 

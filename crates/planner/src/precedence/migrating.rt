@@ -1,7 +1,7 @@
 //! Which leaves migrate.
 
 ghost use Rattle.std.specs.Prelude.{◌≡◌, ◌<◌, length, IfOk, IfSome, vec_len, All};
-ghost use Rattle.planner.specs.Flags.{send_if, with_flag};
+ghost use Rattle.planner.specs.Inner.Flags.{send_if, with_flag};
 ghost use Rattle.loops.specs.Ranks.{AreMigrating};
 
 use cluster_types::{Action, LeafId};

@@ -5,7 +5,7 @@ ghost use Rattle.cluster_types.specs.Precedence as precedence;
 ghost use Rattle.planner.specs.declared.precedence.sides.Join.{Join as JoinOf};
 ghost use Rattle.planner.specs.Joins as joins;
 ghost use Rattle.planner.specs.Joins.{order_joins};
-ghost use Rattle.planner.specs.Places.{places_of};
+ghost use Rattle.planner.specs.Inner.Places.{places_of};
 ghost use Rattle.planner.specs.Rooms.{Builds};
 
 use crate::precedence::colocations::add_rule;

@@ -4,11 +4,11 @@ ghost use Rattle.std.specs.Prelude.{◌≡◌, ◌+◌, ◌*◌, ◌++◌, ◌<�
 ghost use Rattle.std.specs.List.{flat_map, list_any};
 ghost use Rattle.cluster_types.specs.Numbers.{is_earlier};
 ghost use Rattle.planner.specs.Chains.{serialized_at};
-ghost use Rattle.planner.specs.Groups.{AddsGroup};
-ghost use Rattle.planner.specs.Serials.{most_serial, serial_room};
+ghost use Rattle.planner.specs.Inner.Groups.{AddsGroup};
+ghost use Rattle.planner.specs.Inner.Serials.{most_serial, serial_room};
 ghost use Rattle.planner.specs.declared.precedence.sides.Join.{Join as JoinOf};
 ghost use Rattle.planner.specs.Joins.{colocation_joins, order_joins};
-ghost use Rattle.planner.specs.Places.{places_of};
+ghost use Rattle.planner.specs.Inner.Places.{places_of};
 ghost use Rattle.planner.specs.Rooms.{Builds};
 
 use crate::precedence::colocations::add_colocation;

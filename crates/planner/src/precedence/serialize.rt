@@ -2,7 +2,7 @@
 
 ghost use Rattle.std.specs.Prelude.{◌≡◌, ◌<◌, ◌≤◌, ◌+◌, ◌*◌, [], true, All, OnOk, length, slice_get, unwrap_or};
 ghost use Rattle.planner.specs.Chains.{IsChained, IsChainedSomewhere};
-ghost use Rattle.planner.specs.Groups.{AddsGroup};
+ghost use Rattle.planner.specs.Inner.Groups.{AddsGroup};
 
 use crate::precedence::buckets::node_buckets;
 use crate::precedence::chains::{Changes, add_chain};

@@ -6,7 +6,7 @@ ghost use Rattle.cluster_types.specs.Numbers.{is_earlier};
 ghost use Rattle.cluster_types.specs.Plans.{most_edges};
 ghost use Rattle.cluster_types.specs.Valid.{IsValid};
 ghost use Rattle.planner.specs.Joins.{joins_of};
-ghost use Rattle.planner.specs.Places.{places_of};
+ghost use Rattle.planner.specs.Inner.Places.{places_of};
 ghost use Rattle.planner.specs.Precede.{AreEdges};
 ghost use Rattle.planner.specs.Rooms.{Builds, IsActionWithin};
 

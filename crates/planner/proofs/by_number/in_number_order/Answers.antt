@@ -2,7 +2,7 @@ use Rattle.std.proofs.Common.{rules, ◌≡◌, ◌<◌, All, IfSome, length, su
 use Rattle.std.specs.List.Sorted.{IsPermutation}
 use Rattle.std.proofs.lemmas.Fn.{always_returns_same}
 use Rattle.cluster_types.specs.Numbers.{action_place}
-use Rattle.planner.specs.Flags.{send_if}
+use Rattle.planner.specs.Inner.Flags.{send_if}
 use Rattle.planner.proofs.ValidRules.{sent_leaves}
 use Rattle.loops.specs.Ranks.{AreMigrating}
 use Rattle.planner.proofs.Sorted.{in_order, still_migrating}

@@ -1,7 +1,7 @@
 use Rattle.std.proofs.Common.{arith, ◌≡◌, true, false, ◌∙◌, ap, sym}
 use Rattle.lemmas.proofs.Ranges.{count-no, count-yes}
 use Rattle.cluster_types.specs.Terms.{is_active}
-use Rattle.planner.specs.Levels.{need_in}
+use Rattle.planner.specs.Inner.Levels.{need_in}
 use Rattle.planner.specs.declared.needed.steps.CellNeed.{CellNeed}
 use Rattle.planner.proofs.needed.activity.active_count.Goals as goal
 

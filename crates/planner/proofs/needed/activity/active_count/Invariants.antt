@@ -1,7 +1,7 @@
 use Rattle.std.proofs.Common.{◌≡◌, ◌≤◌, count_by}
 use Rattle.std.specs.List.{range_with_len}
 use Rattle.cluster_types.specs.Terms.{is_active}
-use Rattle.planner.specs.Levels.{need_in}
+use Rattle.planner.specs.Inner.Levels.{need_in}
 use Rattle.planner.proofs.needed.activity.active_count.Given as goal
 
 abbrev pub invariant-loop-node : goal.invariant-loop-node

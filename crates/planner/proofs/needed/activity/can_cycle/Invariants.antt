@@ -1,6 +1,6 @@
 use Rattle.std.proofs.Common.{◌≡◌, ◌&&◌, map}
 use Rattle.std.specs.List.{range_with_len}
-use Rattle.planner.specs.Levels.{need_in}
+use Rattle.planner.specs.Inner.Levels.{need_in}
 use Rattle.planner.proofs.needed.activity.can_cycle.Given as goal
 
 abbrev pub invariant-loop-node : goal.invariant-loop-node

@@ -1,7 +1,7 @@
 use Rattle.std.proofs.Common.{arith, ◌<◌, false, length, nat_lt, slice_index_or, ◌∙◌, ap, refl}
 use Rattle.std.proofs.lemmas.List.FromFn.{length-map-range_with_len}
 use Rattle.planner.specs.Cycling.{first_marks}
-use Rattle.planner.specs.Levels.{marks_in}
+use Rattle.planner.specs.Inner.Levels.{marks_in}
 use Rattle.planner.proofs.FirstMarks.{all_first, flag_is, row_more}
 use Rattle.planner.proofs.needed.activity.mark_active.Goals as goal
 

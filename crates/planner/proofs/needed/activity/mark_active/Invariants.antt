@@ -2,7 +2,7 @@ use Rattle.std.proofs.Common.{◌≡◌, ◌&&◌, ℕ, List, length, nat_lt}
 use Rattle.cluster_types.specs.declared.journal.Event.{Event}
 use Rattle.cluster_types.specs.Tables.{Targets}
 use Rattle.planner.specs.Cycling.{first_marks}
-use Rattle.planner.specs.Levels.{AreNeeds, marks_in}
+use Rattle.planner.specs.Inner.Levels.{AreNeeds, marks_in}
 use Rattle.planner.proofs.needed.activity.mark_active.Given as goal
 
 abbrev pub invariant-loop-leaf : goal.invariant-loop-leaf

@@ -2,7 +2,7 @@ use Rattle.std.proofs.Common.{ap, ◌∙◌}
 use Rattle.std.proofs.lemmas.Result.{IfOk-weaker}
 use Rattle.cluster_types.specs.declared.states.Rights.{Rights}
 use Rattle.cluster_types.specs.declared.states.States.{States}
-use Rattle.planner.specs.Works.{marks_of, needs_of}
+use Rattle.planner.specs.Inner.Works.{marks_of, needs_of}
 use Rattle.planner.proofs.StepsGot.{Tells}
 use Rattle.planner.proofs.WholeList.{whole_list}
 use Rattle.planner.proofs.needed.building.actions_of.Goals as goal

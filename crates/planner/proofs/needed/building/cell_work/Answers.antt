@@ -1,7 +1,7 @@
 use Rattle.std.proofs.Common.{ap}
 use Rattle.cluster_types.specs.declared.states.Rights.{Rights}
 use Rattle.cluster_types.specs.Tables.{targets_of}
-use Rattle.planner.specs.Levels.{AreNeeds}
+use Rattle.planner.specs.Inner.Levels.{AreNeeds}
 use Rattle.planner.proofs.needed.building.cell_work.Goals as goal
 
 pub returns : goal.returns

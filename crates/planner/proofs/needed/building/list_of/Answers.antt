@@ -1,7 +1,7 @@
 use Rattle.std.proofs.Common.{◌++◌, ap, ◌∙◌}
 use Rattle.listed.specs.Flags.{is_marked}
-use Rattle.planner.specs.Actions.{all_fences, leaves_actions}
-use Rattle.planner.specs.Works.{marks_of, needs_of}
+use Rattle.planner.specs.Inner.Actions.{all_fences, leaves_actions}
+use Rattle.planner.specs.Inner.Works.{marks_of, needs_of}
 use Rattle.planner.proofs.needed.building.list_of.Goals as goal
 
 pub returns : goal.returns

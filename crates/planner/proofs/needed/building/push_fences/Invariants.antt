@@ -1,6 +1,6 @@
 use Rattle.std.proofs.Common.{◌≡◌, ◌++◌}
 use Rattle.std.specs.List.{flat_map, range_with_len}
-use Rattle.planner.specs.Actions.{fences_in}
+use Rattle.planner.specs.Inner.Actions.{fences_in}
 use Rattle.planner.proofs.needed.building.push_fences.Given as goal
 
 abbrev pub invariant-loop-node : goal.invariant-loop-node

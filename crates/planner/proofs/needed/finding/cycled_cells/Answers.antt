@@ -1,7 +1,7 @@
 use Rattle.std.proofs.Common.{◌∙◌, ap}
 use Rattle.loops.proofs.FromValid.{valid_order}
 use Rattle.planner.specs.Cycling.{MarkedCells, with_orders}
-use Rattle.planner.specs.Levels.{below_level}
+use Rattle.planner.specs.Inner.Levels.{below_level}
 use Rattle.planner.proofs.Found.{found}
 use Rattle.planner.proofs.needed.finding.cycled_cells.Goals as goal
 

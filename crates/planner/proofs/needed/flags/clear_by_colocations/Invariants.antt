@@ -1,7 +1,7 @@
 use Rattle.std.proofs.Common.{◌≡◌, ◌&&◌, ℕ, length, take}
 use Rattle.std.specs.List.{list_all}
 use Rattle.listed.specs.Flags.{is_marked}
-use Rattle.planner.specs.Actions.{is_harmless_colocation}
+use Rattle.planner.specs.Inner.Actions.{is_harmless_colocation}
 use Rattle.planner.proofs.needed.flags.clear_by_colocations.Given as goal
 
 abbrev pub invariant-loop-colocation : goal.invariant-loop-colocation

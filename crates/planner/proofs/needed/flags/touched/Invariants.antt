@@ -1,7 +1,7 @@
 use Rattle.std.proofs.Common.{◌≡◌, map}
 use Rattle.std.specs.List.{range_with_len}
-use Rattle.planner.specs.Actions.{is_touched}
-use Rattle.planner.specs.Works.{marks_of, needs_of}
+use Rattle.planner.specs.Inner.Actions.{is_touched}
+use Rattle.planner.specs.Inner.Works.{marks_of, needs_of}
 use Rattle.planner.proofs.needed.flags.touched.Given as goal
 
 abbrev pub invariant-loop-leaf : goal.invariant-loop-leaf

@@ -1,7 +1,7 @@
 use Rattle.std.proofs.Common.{arith, [], ap, map}
 use Rattle.std.specs.List.{range_with_len}
 use Rattle.cluster_types.specs.declared.states.States.{States}
-use Rattle.planner.specs.Knowing as knowing
+use Rattle.planner.specs.Inner.Knowing as knowing
 use Rattle.lemmas.proofs.Grown.{values_more}
 use Rattle.planner.proofs.KnownNeeds.{needs_known}
 use Rattle.planner.proofs.needed.knowing.cell_needs.Goals as goal

@@ -1,5 +1,5 @@
 use Rattle.std.proofs.Common.{◌≡◌}
-use Rattle.planner.specs.Knowing as knowing
+use Rattle.planner.specs.Inner.Knowing as knowing
 use Rattle.planner.proofs.needed.knowing.cell_needs.Given as goal
 
 abbrev pub invariant-loop-leaf : goal.invariant-loop-leaf

@@ -2,7 +2,7 @@ use Rattle.std.proofs.Common.{rules, ◌≡◌, ◌++◌, ◌∷◌, [], ap, sym
 use Rattle.std.specs.List.{range_with_len}
 use Rattle.std.proofs.lemmas.List.{append_assoc}
 use Rattle.lemmas.proofs.Ranges.{map-more}
-use Rattle.planner.specs.Knowing as knowing
+use Rattle.planner.specs.Inner.Knowing as knowing
 use Rattle.planner.proofs.needed.knowing.push_row.Goals as goal
 
 pub loop-node-preserved : goal.loop-node-preserved

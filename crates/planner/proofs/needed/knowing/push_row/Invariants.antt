@@ -1,6 +1,6 @@
 use Rattle.std.proofs.Common.{◌≡◌, ◌++◌, map}
 use Rattle.std.specs.List.{range_with_len}
-use Rattle.planner.specs.Knowing as knowing
+use Rattle.planner.specs.Inner.Knowing as knowing
 use Rattle.planner.proofs.needed.knowing.push_row.Given as goal
 
 abbrev pub invariant-loop-node : goal.invariant-loop-node

@@ -1,7 +1,7 @@
 use Rattle.std.proofs.Common.{◌≡◌, ◌++◌}
 use Rattle.std.specs.List.{flat_map, range_with_len}
-use Rattle.planner.specs.Actions.{cell_actions}
-use Rattle.planner.specs.Works.{marks_of, needs_of}
+use Rattle.planner.specs.Inner.Actions.{cell_actions}
+use Rattle.planner.specs.Inner.Works.{marks_of, needs_of}
 use Rattle.planner.proofs.needed.listing.push_cells.Given as goal
 
 abbrev pub invariant-loop-node : goal.invariant-loop-node

@@ -1,8 +1,8 @@
 use Rattle.std.proofs.Common.{◌≡◌, ◌++◌}
 use Rattle.std.specs.List.{flat_map, range_with_len}
 use Rattle.listed.specs.Flags.{is_marked}
-use Rattle.planner.specs.Actions.{free_leaf_actions}
-use Rattle.planner.specs.Works.{marks_of, needs_of}
+use Rattle.planner.specs.Inner.Actions.{free_leaf_actions}
+use Rattle.planner.specs.Inner.Works.{marks_of, needs_of}
 use Rattle.planner.proofs.needed.listing.push_leaves.Given as goal
 
 abbrev pub invariant-loop-leaf : goal.invariant-loop-leaf

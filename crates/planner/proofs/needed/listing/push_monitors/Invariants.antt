@@ -1,5 +1,5 @@
 use Rattle.std.proofs.Common.{◌≡◌, ◌++◌, drop, map}
-use Rattle.planner.specs.Actions.{leaf_monitor, wanted}
+use Rattle.planner.specs.Inner.Actions.{leaf_monitor, wanted}
 use Rattle.planner.proofs.needed.listing.push_monitors.Given as goal
 
 -- what is left to add gives what was to be added

@@ -1,5 +1,5 @@
 use Rattle.std.proofs.Common.{◌≡◌, ◌++◌, filter, map, take}
-use Rattle.planner.specs.Actions.{stays_needed, step_action}
+use Rattle.planner.specs.Inner.Actions.{stays_needed, step_action}
 use Rattle.planner.proofs.needed.listing.push_steps.Given as goal
 
 abbrev pub invariant-loop-step : goal.invariant-loop-step

@@ -1,7 +1,7 @@
 use Rattle.std.proofs.Common.{◌≡◌, map}
 use Rattle.std.specs.List.{range_with_len}
-use Rattle.planner.specs.ByNeeds as by_needs
-use Rattle.planner.specs.Levels.{marks_in}
+use Rattle.planner.specs.Inner.ByNeeds as by_needs
+use Rattle.planner.specs.Inner.Levels.{marks_in}
 use Rattle.planner.proofs.needed.marking.disturbed.Given as goal
 
 abbrev pub invariant-loop-node : goal.invariant-loop-node

@@ -1,6 +1,6 @@
 use Rattle.std.proofs.Common.{length, ◌∙◌, ap}
 use Rattle.std.proofs.lemmas.List.FromFn.{length-map-range_with_len}
-use Rattle.planner.specs.Levels.{marks_in}
+use Rattle.planner.specs.Inner.Levels.{marks_in}
 use Rattle.planner.proofs.OrderMarks.{marked_by_order}
 use Rattle.planner.proofs.needed.marking.mark_by.Goals as goal
 

@@ -1,6 +1,6 @@
 use Rattle.std.proofs.Common.{◌≡◌, map}
 use Rattle.std.specs.List.{range_with_len}
-use Rattle.planner.specs.ByNeeds as by_needs
+use Rattle.planner.specs.Inner.ByNeeds as by_needs
 use Rattle.planner.proofs.needed.marking.marked.Given as goal
 
 abbrev pub invariant-loop-node : goal.invariant-loop-node

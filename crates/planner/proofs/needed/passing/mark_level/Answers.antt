@@ -1,6 +1,6 @@
 use Rattle.std.proofs.Common.{◌≡◌, true, ◌∙◌}
 use Rattle.lemmas.proofs.Members.{read_there}
-use Rattle.planner.specs.Levels.{is_at_level, marks_in}
+use Rattle.planner.specs.Inner.Levels.{is_at_level, marks_in}
 use Rattle.planner.proofs.MorePasses.{orders_more, room_for}
 use Rattle.planner.proofs.needed.passing.mark_level.Goals as goal
 

@@ -2,7 +2,7 @@ use Rattle.std.proofs.Common.{◌≡◌, List, filter, length, take}
 use Rattle.cluster_types.specs.declared.journal.Event.{Event}
 use Rattle.cluster_types.specs.Tables.{Targets}
 use Rattle.planner.specs.Cycling.{with_orders}
-use Rattle.planner.specs.Levels.{AreNeeds, is_at_level, marks_in}
+use Rattle.planner.specs.Inner.Levels.{AreNeeds, is_at_level, marks_in}
 use Rattle.planner.proofs.needed.passing.mark_level.Given as goal
 
 abbrev pub invariant-loop-order : goal.invariant-loop-order

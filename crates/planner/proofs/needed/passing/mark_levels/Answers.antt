@@ -1,5 +1,5 @@
 use Rattle.std.proofs.Common.{arith, ◌-◌, ◌∙◌}
-use Rattle.planner.specs.Levels.{marks_in}
+use Rattle.planner.specs.Inner.Levels.{marks_in}
 use Rattle.planner.proofs.MorePasses.{levels_less}
 use Rattle.planner.proofs.needed.passing.mark_levels.Goals as goal
 

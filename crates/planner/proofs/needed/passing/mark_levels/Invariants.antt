@@ -2,7 +2,7 @@ use Rattle.std.proofs.Common.{◌≡◌, List, length}
 use Rattle.cluster_types.specs.declared.journal.Event.{Event}
 use Rattle.cluster_types.specs.Tables.{Targets}
 use Rattle.planner.specs.Cycling.{with_orders}
-use Rattle.planner.specs.Levels.{AreNeeds, below_level, marks_in}
+use Rattle.planner.specs.Inner.Levels.{AreNeeds, below_level, marks_in}
 use Rattle.planner.proofs.needed.passing.mark_levels.Given as goal
 
 -- what is left to do of these marks gives what was to be done

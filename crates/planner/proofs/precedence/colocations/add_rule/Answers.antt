@@ -1,5 +1,5 @@
 use Rattle.std.proofs.Common.{rules, ◌≡◌, length}
-use Rattle.planner.specs.Index.{places_in}
+use Rattle.planner.specs.Inner.Index.{places_in}
 use Rattle.planner.proofs.IndexPlaces.{index_within}
 use Rattle.planner.proofs.precedence.colocations.add_rule.Goals as goal
 

@@ -1,6 +1,6 @@
 use Rattle.std.proofs.Common.{◌≡◌}
 use Rattle.std.specs.Prelude.{vec_len}
-use Rattle.planner.specs.Index.{IsIndexBefore}
+use Rattle.planner.specs.Inner.Index.{IsIndexBefore}
 use Rattle.planner.proofs.precedence.index.leaf_index.Given as goal
 
 abbrev pub invariant-loop-place : goal.invariant-loop-place

@@ -1,6 +1,6 @@
 use Rattle.std.proofs.Common.{rules, eqb}
 use Rattle.std.proofs.lemmas.List.Filters.{dedup_is}
-use Rattle.planner.specs.Index.{places_in}
+use Rattle.planner.specs.Inner.Index.{places_in}
 use Rattle.planner.proofs.Ascending.{are_ascending}
 use Rattle.planner.proofs.precedence.serials.ascending.Goals as goal
 

@@ -1,6 +1,6 @@
 use Rattle.std.proofs.Common.{arith, rules, ◌≡◌, ◌<◌, All, IfSome, ap, length, subst, sym, ◌∙◌}
-use Rattle.planner.specs.Flags.{send_if}
-use Rattle.planner.specs.Index.{leaf_if}
+use Rattle.planner.specs.Inner.Flags.{send_if}
+use Rattle.planner.specs.Inner.Index.{leaf_if}
 use Rattle.loops.specs.Ranks.{AreMigrating}
 use Rattle.planner.proofs.AllEdges.{few_actions}
 use Rattle.planner.proofs.ValidRules.{dependents, firsts, leaves_within, primaries, sent_leaves, thens}

@@ -1,5 +1,5 @@
 use Rattle.std.proofs.Common.{◌≡◌, ◌==◌, ◌&&◌, ◌||◌, ℕ, false, length, nat_lt, slice_index_or}
-use Rattle.planner.specs.Levels.{marks_in}
+use Rattle.planner.specs.Inner.Levels.{marks_in}
 use Rattle.planner.proofs.needed.marks.CellMarks.mark_where.Given as goal
 
 abbrev pub invariant-loop-node : goal.invariant-loop-node

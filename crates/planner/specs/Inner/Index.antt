@@ -4,7 +4,7 @@ use Rattle.std.specs.List.{range_with_len}
 use Rattle.std.specs.Option.{option_map_or}
 use Rattle.cluster_types.specs.declared.journal.Action.{Action}
 use Rattle.cluster_types.specs.declared.journal.Action.TheVariants.{Fence, Probe, Cell, MigrateTo, MigrateFrom}
-use Rattle.planner.specs.Places.{is_of_leaf, leaf_places}
+use Rattle.planner.specs.Inner.Places.{is_of_leaf, leaf_places}
 
 -- of each of so many leaves the index has the positions of its actions
 abbrev pub IsIndex : List Action → ℕ → List (List ℕ) → Type 0

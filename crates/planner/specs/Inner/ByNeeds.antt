@@ -7,7 +7,7 @@ use Rattle.cluster_types.specs.Precedence.{role_by}
 use Rattle.cluster_types.specs.Tables.{target_holds}
 use Rattle.cluster_types.specs.Terms.{is_active}
 use Rattle.planner.specs.Cycling.{MarkedCells}
-use Rattle.planner.specs.Levels.{need_in, steps_by}
+use Rattle.planner.specs.Inner.Levels.{need_in, steps_by}
 use Rattle.planner.specs.declared.needed.steps.CellNeed.{CellNeed}
 
 -- the first of the order is disturbed on node m

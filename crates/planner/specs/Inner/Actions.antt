@@ -22,7 +22,7 @@ use Rattle.cluster_types.specs.NodeStates.{is_unclean_state}
 use Rattle.cluster_types.specs.Pins.{is_unprobed_state}
 use Rattle.cluster_types.specs.Precedence.{is_same_op, is_serialize}
 use Rattle.planner.specs.Cycling.{MarkedCells}
-use Rattle.planner.specs.Levels.{steps_by}
+use Rattle.planner.specs.Inner.Levels.{steps_by}
 use Rattle.planner.specs.declared.needed.steps.CellNeed.{CellNeed}
 
 abbrev pub includes_op : Op → List Op → Bool

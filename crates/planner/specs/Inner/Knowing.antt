@@ -9,7 +9,7 @@ use Rattle.cluster_types.specs.declared.states.Cell.{Cell}
 use Rattle.cluster_types.specs.Needed.{runs}
 use Rattle.cluster_types.specs.Pins.{is_pinned_in}
 use Rattle.cluster_types.specs.Tables.{is_somewhere, targets_of}
-use Rattle.planner.specs.Levels.{no_need}
+use Rattle.planner.specs.Inner.Levels.{no_need}
 use Rattle.planner.specs.declared.needed.steps.CellNeed.{CellNeed}
 
 abbrev pub need_from : Cell → Target → Bool → Bool → CellNeed

@@ -5,7 +5,7 @@ use Rattle.cluster_types.specs.declared.journal.Event.{Event}
 use Rattle.cluster_types.specs.Needed.{Cycled}
 use Rattle.cluster_types.specs.Tables.{Targets}
 use Rattle.planner.specs.Cycling.{MarkedCells}
-use Rattle.planner.specs.Levels.{AreNeeds, marks_in, need_in}
+use Rattle.planner.specs.Inner.Levels.{AreNeeds, marks_in, need_in}
 use Rattle.planner.specs.declared.needed.steps.CellNeed.{CellNeed}
 use Rattle.planner.specs.declared.needed.work.CellWork.{CellWork}
 

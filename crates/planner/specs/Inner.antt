@@ -1,0 +1,12 @@
+-- What no public clause rests on: what the code of this crate keeps and counts on the way, for its proofs alone.
+pub mod Actions
+pub mod ByNeeds
+pub mod Flags
+pub mod Groups
+pub mod Index
+pub mod Knowing
+pub mod Leaves
+pub mod Levels
+pub mod Places
+pub mod Serials
+pub mod Works
