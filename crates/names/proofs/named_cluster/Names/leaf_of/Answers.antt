@@ -1,0 +1,9 @@
+use Rattle.std.proofs.Common.{◌∙◌}
+use Rattle.cluster_types.specs.declared.leaf.Leaf.{Leaf}
+use Rattle.names.proofs.Places.{place_of_name}
+use Rattle.names.proofs.named_cluster.Names.leaf_of.Goals as goal
+
+pub returns-clause-value : goal.returns-clause-value
+returns-clause-value c =
+    rw (← c.self.view_is) (c.place_of.ensures.value
+    ∙ place_of_name (λ (each : Leaf). each.name) c.self.inside.cluster.now.leaves _ c.args.word.now c.self.invariant.leaves_in_order)

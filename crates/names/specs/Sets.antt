@@ -1,0 +1,30 @@
+-- Sets of names in first-seen order.
+use Rattle.std.specs.Prelude.{◌≡◌, ℕ, List, [], ◌∷◌, ◌++◌, map, if◌then◌else◌}
+use Rattle.std.specs.List.{list_any}
+use Rattle.std.specs.Borrow.{Bor}
+use Rattle.crm_lex.specs.Names.{is}
+use Rattle.cluster_types.specs.declared.cluster.Cluster.{Cluster}
+use Rattle.cluster_types.specs.declared.leaf.Leaf.{Leaf}
+use Rattle.cluster_types.specs.declared.node.Node.{Node}
+use Rattle.cluster_types.specs.Valid.{KeepsLimits}
+use Rattle.indexmap.specs.IndexSet.{IndexSet}
+
+-- the names that a set borrows, in its order
+abbrev pub names_in : {S : Type 0} → IndexSet (Bor (List ℕ)) S → List (List ℕ)
+names_in set = map (λ (name : Bor (List ℕ)). name.now) set.keys
+
+-- one more name goes last, if it isn't one of them
+abbrev pub with_name : List (List ℕ) → List ℕ → List (List ℕ)
+with_name names name = if list_any (is name) names then names else names ++ name ∷ []
+
+abbrev pub node_names : List Node → List (List ℕ)
+node_names nodes = map (λ (node : Node). node.name) nodes
+
+abbrev pub leaf_names : List Leaf → List (List ℕ)
+leaf_names leaves = map (λ (leaf : Leaf). leaf.name) leaves
+
+-- the sets have the names of the nodes and of the leaves, in the order of their numbers
+pub record AreNamesOf {S T : Type 0} (nodes : IndexSet (Bor (List ℕ)) S) (leaves : IndexSet (Bor (List ℕ)) T) (c : Cluster) : Type 0 where
+  pub limits : KeepsLimits c
+  pub nodes_in_order : names_in nodes ≡ node_names c.nodes
+  pub leaves_in_order : names_in leaves ≡ leaf_names c.leaves
