@@ -2,16 +2,16 @@
 
 ghost use Rattle.std.specs.Prelude.{◌≡◌, ◌<◌, ◌^◌};
 ghost use Rattle.cluster_types.specs.Journals.{moment_of};
-ghost use Rattle.cluster_types.specs.Valid.{KeepsLimits};
 
 use crate::resolved::cluster;
-use cluster_types::{Answer, Cluster, Journal};
+use cluster_types::{Answer, Journal};
 use crm_lex::{Line, WordBuf, lex_one, logical_lines};
 use input_reading::{
     Recovery, ResultCause, ResultFault, ResultLine, StatusFault, class_of, read_result,
     read_results, read_status,
 };
 use listed::Listed;
+use names::Names;
 use std::alloc::{AllocError, Global};
 use std::process::Abort;
 
@@ -22,14 +22,6 @@ const CONFIGURATION: &str =
     clone dbs db meta promotable=true";
 
 const WITHOUT_STARTUP_FENCING: &str = "node n1|node n2|property startup-fencing=false";
-
-fn keeps_limits(rt: &impl Abort, cluster: &Cluster)
-    ensures { KeepsLimits cluster.now }
-{
-    assert!(rt; cluster.nodes.len() <= 256 && cluster.leaves.len() <= 1_000);
-    assert!(rt; cluster.locations.is_empty() && cluster.rule_locations.is_empty());
-    assert!(rt; cluster.colocations.is_empty() && cluster.orders.is_empty());
-}
 
 fn lines(rt: &impl Abort, alloc: Global, text: &str) -> Vec<Line> {
     assert!(rt; text.len() < 4_294_967_296);
@@ -175,18 +167,17 @@ fn print_status(out: &mut String, read: &Result<Journal, StatusFault>) -> Result
     }
 }
 
-fn status(rt: &impl Abort, alloc: Global, cluster: &Cluster, text: &str) -> String {
-    keeps_limits(rt, cluster);
+fn status(rt: &impl Abort, alloc: Global, names: &Names<'_>, text: &str) -> String {
     let lines = lines(rt, alloc, text);
-    let read = read_status(alloc, cluster, lines.as_slice());
+    let read = read_status(alloc, names, lines.as_slice());
     let mut out = String::new(alloc);
     print_status(&mut out, &read).expect(rt, "memory");
     out
 }
 
-fn assert_statuses(rt: &impl Abort, alloc: Global, cluster: &Cluster, rows: &[Row]) {
+fn assert_statuses(rt: &impl Abort, alloc: Global, names: &Names<'_>, rows: &[Row]) {
     for (text, want) in rows {
-        let read = status(rt, alloc, cluster, text);
+        let read = status(rt, alloc, names, text);
         assert!(rt; read.as_str() == *want, "{text:?}");
     }
 }
@@ -194,8 +185,9 @@ fn assert_statuses(rt: &impl Abort, alloc: Global, cluster: &Cluster, rows: &[Ro
 #[test]
 fn statuses_are_read(rt: HostRuntime) {
     let cluster = cluster(&rt, rt.alloc(), CONFIGURATION);
-    assert_statuses(&rt, rt.alloc(), &cluster, JOURNALS);
-    assert_statuses(&rt, rt.alloc(), &cluster, STATUS_FAULTS);
+    let names = Names::new(rt.alloc(), &cluster).expect(&rt, "memory");
+    assert_statuses(&rt, rt.alloc(), &names, JOURNALS);
+    assert_statuses(&rt, rt.alloc(), &names, STATUS_FAULTS);
 }
 
 const UNSAID_IS_DOWN: &[Row] = &[(
@@ -206,7 +198,8 @@ const UNSAID_IS_DOWN: &[Row] = &[(
 #[test]
 fn unsaid_nodes_are_down_without_startup_fencing(rt: HostRuntime) {
     let cluster = cluster(&rt, rt.alloc(), WITHOUT_STARTUP_FENCING);
-    assert_statuses(&rt, rt.alloc(), &cluster, UNSAID_IS_DOWN);
+    let names = Names::new(rt.alloc(), &cluster).expect(&rt, "memory");
+    assert_statuses(&rt, rt.alloc(), &names, UNSAID_IS_DOWN);
 }
 
 /// Result lines that are taken at the moment 1000, and their answers or their fault.
@@ -286,27 +279,25 @@ fn print_results(
 }
 
 /// The journal of a status at the moment 1000.
-fn at_1000(rt: &impl Abort, alloc: Global, cluster: &Cluster) -> Journal
+fn at_1000(rt: &impl Abort, alloc: Global, names: &Names<'_>) -> Journal
     ensures { moment_of result.events < 2 ^ 40 }
 {
-    keeps_limits(rt, cluster);
     let lines = lines(rt, alloc, "now 1000\n");
-    read_status(alloc, cluster, lines.as_slice()).expect(rt, "the status is read")
+    read_status(alloc, names, lines.as_slice()).expect(rt, "the status is read")
 }
 
-fn results(rt: &impl Abort, alloc: Global, cluster: &Cluster, text: &str) -> String {
-    keeps_limits(rt, cluster);
-    let journal = at_1000(rt, alloc, cluster);
+fn results(rt: &impl Abort, alloc: Global, names: &Names<'_>, text: &str) -> String {
+    let journal = at_1000(rt, alloc, names);
     let lines = lines(rt, alloc, text);
-    let read = read_results(alloc, cluster, &journal, lines.as_slice());
+    let read = read_results(alloc, names, &journal, lines.as_slice());
     let mut out = String::new(alloc);
     print_results(&mut out, &read).expect(rt, "memory");
     out
 }
 
-fn assert_results(rt: &impl Abort, alloc: Global, cluster: &Cluster, rows: &[Row]) {
+fn assert_results(rt: &impl Abort, alloc: Global, names: &Names<'_>, rows: &[Row]) {
     for (text, want) in rows {
-        let read = results(rt, alloc, cluster, text);
+        let read = results(rt, alloc, names, text);
         assert!(rt; read.as_str() == *want, "{text:?}");
     }
 }
@@ -314,14 +305,15 @@ fn assert_results(rt: &impl Abort, alloc: Global, cluster: &Cluster, rows: &[Row
 #[test]
 fn results_are_read(rt: HostRuntime) {
     let cluster = cluster(&rt, rt.alloc(), CONFIGURATION);
-    assert_results(&rt, rt.alloc(), &cluster, RESULTS);
+    let names = Names::new(rt.alloc(), &cluster).expect(&rt, "memory");
+    assert_results(&rt, rt.alloc(), &names, RESULTS);
 }
 
 /// What is read of so many lines that let no time go by, and a last one.
 fn results_of_waits(
     rt: &impl Abort,
     alloc: Global,
-    cluster: &Cluster,
+    names: &Names<'_>,
     count: u32,
     last: &str,
 ) -> String {
@@ -330,23 +322,24 @@ fn results_of_waits(
         text.push_str("wait 0\n").expect(rt, "memory");
     }
     text.push_str(last).expect(rt, "memory");
-    results(rt, alloc, cluster, text.as_str())
+    results(rt, alloc, names, text.as_str())
 }
 
 /// Reads as many results as may be, and one more.
-fn ask_for_many(rt: &impl Abort, alloc: Global, cluster: &Cluster) {
-    let faulty = results_of_waits(rt, alloc, cluster, 9_999, "wait x\n");
+fn ask_for_many(rt: &impl Abort, alloc: Global, names: &Names<'_>) {
+    let faulty = results_of_waits(rt, alloc, names, 9_999, "wait x\n");
     assert!(rt; faulty.as_str() == "10000 BadValue");
-    let most = results_of_waits(rt, alloc, cluster, 10_000, "");
+    let most = results_of_waits(rt, alloc, names, 10_000, "");
     assert!(rt; most.as_str().ends_with("10000 Wait { seconds: 0 } "));
-    let more = results_of_waits(rt, alloc, cluster, 10_000, "%results x\n");
+    let more = results_of_waits(rt, alloc, names, 10_000, "%results x\n");
     assert!(rt; more.as_str() == "10001 TooManyResults");
 }
 
 #[test]
 fn ten_thousand_results_are_read(rt: HostRuntime) {
     let cluster = cluster(&rt, rt.alloc(), CONFIGURATION);
-    ask_for_many(&rt, rt.alloc(), &cluster);
+    let names = Names::new(rt.alloc(), &cluster).expect(&rt, "memory");
+    ask_for_many(&rt, rt.alloc(), &names);
 }
 
 /// A moment, how many results came before, the bytes of a line, and its answer or its fault.
@@ -407,27 +400,26 @@ const LINES: &[OneLine] = &[
 
 fn one_result(
     rt: &impl Abort,
-    cluster: &Cluster,
+    names: &Names<'_>,
     words: &mut WordBuf,
     row: &OneLine,
 ) -> Result<Answer, ResultFault> {
-    keeps_limits(rt, cluster);
     let (moment, before, text, _) = *row;
     assert!(rt; moment < 1_099_511_627_776);
     assert!(rt; text.len() < 100);
     assert!(rt; lex_one(7, text.as_bytes(), words).is_ok());
-    read_result(cluster, moment, before, 7, words)
+    read_result(names, moment, before, 7, words)
 }
 
 /// Whether this is read of the line.
 fn is_read(
     rt: &impl Abort,
     alloc: Global,
-    cluster: &Cluster,
+    names: &Names<'_>,
     words: &mut WordBuf,
     row: &OneLine,
 ) -> bool {
-    let read = one_result(rt, cluster, words, row);
+    let read = one_result(rt, names, words, row);
     let shown = format!(in alloc; "{read:?}").expect(rt, "memory");
     shown.as_str() == row.3
 }
@@ -435,9 +427,10 @@ fn is_read(
 #[test]
 fn results_are_read_line_by_line(rt: HostRuntime) {
     let cluster = cluster(&rt, rt.alloc(), CONFIGURATION);
+    let names = Names::new(rt.alloc(), &cluster).expect(&rt, "memory");
     let mut words = WordBuf::new(rt.alloc()).expect(&rt, "memory");
     for row in LINES {
-        assert!(rt; is_read(&rt, rt.alloc(), &cluster, &mut words, row));
+        assert!(rt; is_read(&rt, rt.alloc(), &names, &mut words, row));
     }
 }
 

@@ -21,7 +21,7 @@ mod scores;
 #[cfg(test)]
 mod lines;
 #[cfg(test)]
-mod names;
+mod kept_names;
 #[cfg(test)]
 mod printed;
 #[cfg(test)]

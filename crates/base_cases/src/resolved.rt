@@ -1,5 +1,8 @@
 //! Clusters, statements and names of a text, for the tests that begin with them.
 
+ghost use Rattle.cluster_types.specs.Valid.{IsValid};
+ghost use Rattle.input_reading.specs.Reading.{AreStated};
+
 use cluster_model::{expand, resolve};
 use cluster_types::Cluster;
 use crm_lex::{Line, Name};
@@ -19,7 +22,9 @@ fn words(rt: &impl Abort, alloc: Global, line: &str) -> Listed<Name> {
 }
 
 /// The statements of a text, whose words are parted by single spaces. A `|` ends a line.
-pub fn crm(rt: &impl Abort, alloc: Global, text: &str) -> Crm {
+pub fn crm(rt: &impl Abort, alloc: Global, text: &str) -> Crm
+    ensures { AreStated result }
+{
     let mut lines = Vec::new(alloc);
     let mut number = 0u32;
     for line in text.split('|') {
@@ -35,7 +40,10 @@ pub fn crm(rt: &impl Abort, alloc: Global, text: &str) -> Crm {
 }
 
 /// The cluster of a text, whose words and lines are parted so.
-pub fn cluster(rt: &impl Abort, alloc: Global, text: &str) -> Cluster {
+#[tactic(auto, using(input_reading::proofs::ValidInput::stated_valid))]
+pub fn cluster(rt: &impl Abort, alloc: Global, text: &str) -> Cluster
+    ensures { IsValid result }
+{
     let crm = crm(rt, alloc, text);
     let leaves = expand(alloc, &crm).expect(rt, "the leaves are made");
     resolve(alloc, &crm, &leaves).expect(rt, "the names are resolved")

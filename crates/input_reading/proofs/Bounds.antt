@@ -1,16 +1,16 @@
 -- In which range lies what is read.
-use Rattle.std.proofs.Common.{◌≡◌, ℕ, nat_lt, nat_le, ◌&&◌, Bool, true, false, List, length, IfOk, IfSome, arith, ◌^◌}
+use Rattle.std.proofs.Common.{position, ◌≡◌, ℕ, nat_lt, nat_le, ◌&&◌, Bool, true, false, List, length, IfOk, IfSome, arith, ◌^◌}
 use Rattle.std.specs.List.{position_or_len}
 use Rattle.std.specs.Str.Parse.{digits_value}
 use Rattle.std.proofs.lemmas.Bool.Decides.{nat_tests}
 use Rattle.faults.specs.Digits.{is_number}
 use Rattle.cluster_types.specs.declared.cluster.Cluster.{Cluster}
-use Rattle.input_reading.specs.Names.{node_of_word, place_of_first}
+use Rattle.names.specs.Names.{node_of_word}
 use Rattle.input_reading.specs.Numbers.{read_seconds}
 use Rattle.input_reading.specs.Places.{WordsOfLine, node_at, seconds_at, word_at}
 use Rattle.input_reading.proofs.Steps.{any_step, given, where_true}
 
-place_within : {X : Type 0} (test : X → Bool) (xs : List X) → IfSome (place_of_first test xs) (λ n. nat_lt n (length xs) ≡ true)
+place_within : {X : Type 0} (test : X → Bool) (xs : List X) → IfSome (position test xs) (λ n. nat_lt n (length xs) ≡ true)
 place_within test xs =
     where_true (λ n. nat_lt n (length xs) ≡ true) (nat_lt (position_or_len test xs) (length xs)) (position_or_len test xs) (λ h. h)
 

@@ -1,6 +1,6 @@
 -- Names of a cluster stand for their nodes and leaves.
 use Rattle.std.proofs.Common.{arith, ◌≡◌, ◌≢◌, ◌<◌, nat_lt, ℕ, zero, suc, true, false, Some, List, [], ◌∷◌, length, get_or, AllPairs, refl, sym, ap, ◌∙◌}
-use Rattle.std.specs.Prelude.{slice_get}
+use Rattle.std.specs.Prelude.{position, slice_get}
 use Rattle.std.specs.List.{position_or_len}
 use Rattle.std.proofs.lemmas.Bool.{false_from_ne_true}
 use Rattle.std.proofs.lemmas.Bool.Decides.{nat_tests}
@@ -14,7 +14,7 @@ use Rattle.cluster_types.specs.Texts.{node_name}
 use Rattle.cluster_types.specs.Valid.{IsValid}
 use Rattle.crm_lex.specs.Names.{is, is_name}
 use Rattle.crm_parse.proofs.Binds.{is-true, is-same}
-use Rattle.input_reading.specs.Names.{leaf_of_word, node_of_word, place_of_first}
+use Rattle.names.specs.Names.{leaf_of_word, node_of_word}
 
 -- what stands at a place
 found_at : {X : Type 0} (xs : List X) (n : ℕ) → n < length xs → (x : X) × (slice_get xs n ≡ Some x)
@@ -23,7 +23,7 @@ found_at (x ∷ xs) zero h = (x, refl)
 found_at (x ∷ xs) (suc n) h = found_at xs n (omega (arith, h))
 
 module _ {X : Type 0} (name_of : X → List ℕ) (xs : List X) (apart : AllPairs (λ (one other : X). name_of one ≢ name_of other) xs) where
-  place_again : (n : ℕ) (x : X) → slice_get xs n ≡ Some x → place_of_first (λ y. is (name_of y) (name_of x)) xs ≡ Some n
+  place_again : (n : ℕ) (x : X) → slice_get xs n ≡ Some x → position (λ y. is (name_of y) (name_of x)) xs ≡ Some n
   place_again n x e =
       let within : n < length xs = slice_get_within xs n x e in
       let at : get_or xs n x ≡ x = get_or_from_slice_get xs n x x e in

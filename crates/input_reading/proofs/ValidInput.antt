@@ -28,7 +28,7 @@ use Rattle.input_reading.specs.declared.input.cause.InputCause.TheVariants as ca
 use Rattle.input_reading.specs.declared.input.reading.Configuration.{Configuration}
 use Rattle.input_reading.specs.declared.input.reading.Head.{Head}
 use Rattle.input_reading.specs.declared.input.reading.Input.{Input}
-use Rattle.input_reading.specs.Reading.{ReadsInput, configuration_lines, configuration_of, following_lines, head_of, input_of, status_lines, with_cluster, with_results}
+use Rattle.input_reading.specs.Reading.{AreStated, ReadsInput, configuration_lines, configuration_of, following_lines, head_of, input_of, status_lines, with_cluster, with_results}
 
 -- a step that was passed: what it gave, and what the steps behind it give
 pub record IsPassed {A B F : Type 0} (step : Result A F) (next : A → Result B (Fault InputCause)) (end : B) : Type 0 where
@@ -169,6 +169,15 @@ module _ (text : List ℕ) (given : Result Input (Fault InputCause)) where
   pub few_given : Gives (λ (input : Input). input) given (input_of text) → IfOk given (λ input. length input.results ≤ most_results)
   few_given h = by_result (λ (r : Result Input (Fault InputCause)). Gives (λ (input : Input). input) r (input_of text) → IfOk r (λ input. length input.results ≤ most_results))
       (λ input read. results_few text input read) (λ fault read. tt) given h
+
+-- the statements that a step gave
+pub stated : (lines : List Line) (crm : Crm) → faulting cause.Statements (statements_of lines) ≡ Ok crm → AreStated crm
+stated lines crm e = record { lines = lines; are = faulting-ok cause.Statements (statements_of lines) crm e }
+
+-- the cluster of statements that were read is valid
+pub stated_valid : (crm : Crm) (leaves : Leaves) (cluster : Cluster) → AreStated crm → expansion_of crm.statements ≡ Ok leaves
+    → resolution_of leaves crm.statements ≡ Ok cluster → IsValid cluster
+stated_valid crm leaves cluster stated e r = resolved_valid stated.lines crm leaves cluster stated.are e r
 
 -- the leaves that a step gave
 pub leaves_given : (statements : List Statement) (leaves : Leaves) → faulting cause.Leaves (expansion_of statements) ≡ Ok leaves → expansion_of statements ≡ Ok leaves

@@ -8,7 +8,7 @@ pub mod Said
 pub mod Written
 pub mod Numbers
 pub mod OpWords
-pub mod Names
+pub use Rattle.names.specs.Names
 pub mod Places
 pub mod HistoryCauses
 pub mod Recovery

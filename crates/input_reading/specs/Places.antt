@@ -6,7 +6,7 @@ use Rattle.cluster_types.specs.declared.cluster.Cluster.{Cluster}
 use Rattle.faults.specs.Reading.{◌>>=◌}
 use Rattle.input_reading.specs.declared.words.word_cause.WordCause.{WordCause}
 use Rattle.input_reading.specs.declared.words.word_cause.WordCause.TheVariants.{MissingWord, ExtraWord, BadValue, UnknownName}
-use Rattle.input_reading.specs.Names.{leaf_of_word, node_of_word}
+use Rattle.names.specs.Names.{leaf_of_word, node_of_word}
 use Rattle.input_reading.specs.Numbers.{read_exit_code, read_action_number, read_seconds}
 
 abbrev pub WordsOfLine : Type 0

@@ -57,6 +57,11 @@ configuration_of sections text = do
   leaves ← faulting cause.Leaves (expansion_of crm.statements)
   Ok (record { lines = lines; marks = marks; crm = crm; leaves = leaves })
 
+-- the statements are those of some lines
+pub record AreStated (crm : Crm) : Type 0 where
+  pub lines : List Line
+  pub are : statements_of lines ≡ Ok crm
+
 -- the head of an input: its configuration, which says this cluster, and the journal that these lines of the status tell
 unfoldable pub head_of : Crm → Cluster → List Line → Result Head (Fault InputCause)
 head_of crm cluster lines = do

@@ -2,7 +2,6 @@
 
 // The words of a line by their places, with the numbers and the names of a cluster that they stand for.
 pub mod by_place;
-pub mod named;
 pub mod number_words;
 pub mod op_words;
 pub mod places;

@@ -7,7 +7,7 @@ use Rattle.live_run.specs.declared.line_outcomes.LineOutcomes.{LineOutcomes}
 
 abbrev pub standing_of : {S : Type 0} {g : _} → LineOutcomes S g → SourceState
 standing_of o = record {
-  cluster = o.cluster.now;
+  cluster = o.names.now;
   lines = readers.reader_lines o.reader;
   course = o.course;
   line = o.line;

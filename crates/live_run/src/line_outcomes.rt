@@ -3,7 +3,6 @@
 ghost use Rattle.std.specs.Prelude.{◌≡◌, ◌≢◌, ◌+◌, ◌≤◌, ◌<◌, ◌^◌, None, Some, true, false, is_none, is_some, IfOk};
 ghost use Rattle.cluster_io.specs.LineReaders.{loan_of, reading_of, source_of};
 ghost use Rattle.cluster_io.specs.Streams.{Rose};
-ghost use Rattle.cluster_types.specs.Valid.{KeepsLimits};
 ghost use Rattle.live_run.specs.Coming.{AreReady};
 ghost use Rattle.live_run.specs.Courses.{CourseAnswers, faults_of, has_course_ended, is_reading, starting, stop_of, stops_last};
 ghost use Rattle.live_run.specs.Followed.{HasSaid};
@@ -16,9 +15,9 @@ use crate::line_stop::LineStop;
 use crate::place::Place;
 use crate::result_reader::ResultReader;
 use cluster_io::{LineReader, Source};
-use cluster_types::Cluster;
 use crm_lex::{NoMemory, WordBuf};
 use graph_exec::Next;
+use names::Names;
 use std::alloc::Global;
 
 /// A source of answers: it reads one result line each time that it is asked, and passes over comments and lines without
@@ -29,12 +28,11 @@ use std::alloc::Global;
 /// no memory after it was made. Rule of this project.
 #[derive(Drop)]
 pub struct LineOutcomes<'c, 's, S: Source> {
-    cluster: &'c Cluster,
+    names: &'c Names<'c>,
     reader: ResultReader<'s, S>,
     course: Course,
     line: u32,
     failed: bool,
-    ghost limits: { KeepsLimits cluster.now },
     ghost ready: { AreReady (reader_lines reader) },
     ghost going: { is_reading course ≡ true → is_none (reader_lines reader).reading.stop ≡ true },
     ghost last: { stops_last course ≡ true },
@@ -48,37 +46,35 @@ impl<'c, 's, S: Source> LineOutcomes<'c, 's, S> {
     /// made for lines of at most 1,048,576 bytes, and can go on. It takes memory for the words of the longest line.
     pub fn new(
         alloc: Global,
-        cluster: &'c Cluster,
+        names: &'c Names<'c>,
         moment: u64,
         next: u64,
         reader: LineReader<'s, S>,
     ) -> Result<LineOutcomes<'c, 's, S>, NoMemory>
-        requires limits { KeepsLimits cluster.now }
         requires moment { moment < 2 ^ 40 }
         requires next { next ≡ (reading_of reader).next }
         requires reader { CanGoOn (reading_of reader) }
-        ensures standing { IfOk result (λ o. standing_of o ≡ starting cluster.now moment (reading_of reader.entry)) }
+        ensures standing { IfOk result (λ o. standing_of o ≡ starting names.now moment (reading_of reader.entry)) }
         ensures source { IfOk result (λ o. outcomes_source o ≡ source_of reader.entry) }
         ensures same_source { IfOk result (λ o. outcomes_loan o ≡ loan_of reader.entry) }
     {
         let words = WordBuf::new(alloc)?;
-        Ok(LineOutcomes::over(cluster, moment, next, reader, words))
+        Ok(LineOutcomes::over(names, moment, next, reader, words))
     }
 
     /// The same, with memory that was taken before. `new` does both; apart, a caller knows that the source is as it
     /// was when memory runs out.
     pub fn over(
-        cluster: &'c Cluster,
+        names: &'c Names<'c>,
         moment: u64,
         next: u64,
         reader: LineReader<'s, S>,
         words: WordBuf,
     ) -> LineOutcomes<'c, 's, S>
-        requires limits { KeepsLimits cluster.now }
         requires moment { moment < 2 ^ 40 }
         requires next { next ≡ (reading_of reader).next }
         requires reader { CanGoOn (reading_of reader) }
-        ensures standing { standing_of result ≡ starting cluster.now moment (reading_of reader.entry) }
+        ensures standing { standing_of result ≡ starting names.now moment (reading_of reader.entry) }
         ensures source { outcomes_source result ≡ source_of reader.entry }
         ensures same_source { outcomes_loan result ≡ loan_of reader.entry }
     {
@@ -88,7 +84,7 @@ impl<'c, 's, S: Source> LineOutcomes<'c, 's, S> {
             line: next,
         };
         LineOutcomes {
-            cluster,
+            names,
             reader: ResultReader {
                 lines: reader,
                 words,
@@ -106,7 +102,7 @@ impl<'c, 's, S: Source> LineOutcomes<'c, 's, S> {
         ensures same_source { result.ghost_name ≡ outcomes_loan self.entry }
     {
         let LineOutcomes {
-            cluster: _,
+            names: _,
             reader,
             course: _,
             line: _,
@@ -160,7 +156,7 @@ impl<'c, 's, S: Source> LineOutcomes<'c, 's, S> {
             S.faults (outcomes_source self.new) ≡ S.faults (outcomes_source self.old) }
         ensures same_source { outcomes_loan self.new ≡ outcomes_loan self.old }
     {
-        match self.reader.read_on(self.cluster) {
+        match self.reader.read_on(self.names) {
             Came::Answer(result) => {
                 self.line = result.line;
                 Next::Answer(result.answer)

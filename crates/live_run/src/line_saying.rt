@@ -1,7 +1,6 @@
 //! What one logical line says where an answer is due.
 
 ghost use Rattle.std.specs.Prelude.{◌≡◌, ◌≢◌, ◌+◌, ◌<◌, ◌≤◌, ◌^◌, List, ℕ, length, IfErr};
-ghost use Rattle.cluster_types.specs.Valid.{KeepsLimits};
 ghost use Rattle.crm_lex.specs.RawLines.{physical_lines};
 ghost use Rattle.crm_lex.specs.Reading.{kept};
 ghost use Rattle.faults.specs.declared.fault.Fault.TheVariants as found;
@@ -11,9 +10,10 @@ ghost use Rattle.live_run.specs.declared.line_stop.LineCause.TheVariants as of_l
 use crate::line_stop::{LineCause, LineStop};
 use crate::place::Place;
 use crate::said::Said;
-use cluster_types::{Answer, Cluster};
+use cluster_types::Answer;
 use crm_lex::{LexFault, WordBuf, lex_one};
 use input_reading::{ResultFault, read_result};
+use names::Names;
 
 /// Why a line is refused that can't be cut into words.
 fn refused_words(fault: LexFault) -> LineStop
@@ -55,37 +55,35 @@ fn answer_says(read: Result<Answer, ResultFault>) -> Said
 }
 
 /// What the words of a line say, whose first physical line has this number.
-fn words_say(cluster: &Cluster, place: Place, line: u32, words: &WordBuf) -> Said
-    requires limits { KeepsLimits cluster.now }
+fn words_say(names: &Names<'_>, place: Place, line: u32, words: &WordBuf) -> Said
     requires moment { place.moment < 2 ^ 40 }
     requires line { place.line ≡ line }
-    ensures says { (all : List (List ℕ)) → words.now ≡ kept all → result ≡ words_say cluster.now place all }
+    ensures says { (all : List (List ℕ)) → words.now ≡ kept all → result ≡ words_say names.now place all }
     ensures fits { SaidFits place result }
 {
     if words.count() == 0 {
         return Said::Nothing;
     }
-    answer_says(read_result(cluster, place.moment, place.before, line, words))
+    answer_says(read_result(names, place.moment, place.before, line, words))
 }
 
 /// What the bytes of a line say, whose first physical line has this number. The buffer then has its words. It takes no
 /// memory.
 pub(crate) fn line_says(
-    cluster: &Cluster,
+    names: &Names<'_>,
     place: Place,
     line: u32,
     raw: &[u8],
     words: &mut WordBuf,
 ) -> Said
-    requires limits { KeepsLimits cluster.now }
     requires moment { place.moment < 2 ^ 40 }
     requires line { place.line ≡ line }
     requires numbers { line + length (physical_lines raw.now) ≤ 2 ^ 32 }
-    ensures says { result ≡ line_says cluster.now place raw.now }
+    ensures says { result ≡ line_says names.now place raw.now }
     ensures fits { SaidFits place result }
 {
     match lex_one(line, raw, words) {
-        Ok(()) => words_say(cluster, place, line, words),
+        Ok(()) => words_say(names, place, line, words),
         Err(fault) => Said::Stop(refused_words(fault)),
     }
 }

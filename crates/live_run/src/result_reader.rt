@@ -3,7 +3,6 @@
 ghost use Rattle.std.specs.Prelude.{◌≡◌, ◌≢◌, ◌+◌, ◌<◌, ◌≤◌, ◌^◌, None, Some, true, length};
 ghost use Rattle.cluster_io.specs.LineReaders.{reading_of};
 ghost use Rattle.cluster_io.specs.Streams.{Rose};
-ghost use Rattle.cluster_types.specs.Valid.{KeepsLimits};
 ghost use Rattle.crm_lex.specs.RawLines.{physical_lines};
 ghost use Rattle.live_run.specs.Coming.{AreReady, Brings, answers_in, reads_on, is_stop_last, said_came};
 ghost use Rattle.live_run.specs.Followed.{ReadUntil};
@@ -15,9 +14,9 @@ use crate::line_stop::{LineCause, LineStop};
 use crate::place::Place;
 use crate::said::Said;
 use cluster_io::{LineReader, LineStep, Source};
-use cluster_types::Cluster;
 use crm_lex::{LexCause, WordBuf, line_count};
 use input_reading::ResultLine;
+use names::Names;
 
 /// Reads result lines one by one. It takes no memory.
 #[derive(Drop)]
@@ -43,36 +42,34 @@ impl<'s, S: Source> ResultReader<'s, S> {
     ghost use Rattle.live_run.specs.ResultReaders.{reader_lines, loan_in, source_in};
 
     /// What the line says that was just handed out. The next place is that behind it.
-    fn take_line(&mut self, cluster: &Cluster) -> Option<Came>
-        requires limits { KeepsLimits cluster.now }
+    fn take_line(&mut self, names: &Names<'_>) -> Option<Came>
         requires moment { self.old.at.moment < 2 ^ 40 }
         requires few { self.old.at.before ≤ 10000 }
         requires line { self.old.at.line ≡ (reading_of self.old.lines).number }
         requires numbers { self.old.at.line + length (physical_lines (reading_of self.old.lines).raw) ≤ 2 ^ 32 }
         ensures came { result ≡ said_came self.old.at.line
-            (line_says cluster.now self.old.at (reading_of self.old.lines).raw) }
+            (line_says names.now self.old.at (reading_of self.old.lines).raw) }
         ensures place { self.new.at ≡ place_behind_said self.old.at
-            (line_says cluster.now self.old.at (reading_of self.old.lines).raw)
+            (line_says names.now self.old.at (reading_of self.old.lines).raw)
             (length (physical_lines (reading_of self.old.lines).raw)) }
-        ensures fits { SaidFits self.old.at (line_says cluster.now self.old.at (reading_of self.old.lines).raw) }
+        ensures fits { SaidFits self.old.at (line_says names.now self.old.at (reading_of self.old.lines).raw) }
         ensures lines { self.new.lines ≡ self.old.lines }
     {
         let line = self.lines.number();
         let raw = self.lines.raw();
         let lines = line_count(raw);
-        let said = line_says(cluster, self.at, line, raw, &mut self.words);
+        let said = line_says(names, self.at, line, raw, &mut self.words);
         self.at = self.at.behind(said, lines);
         said_came(said, line)
     }
 
     /// What comes of the next logical line; None where it has no words.
-    fn step(&mut self, cluster: &Cluster) -> Option<Came>
-        requires limits { KeepsLimits cluster.now }
+    fn step(&mut self, names: &Names<'_>) -> Option<Came>
         requires ready { AreReady (reader_lines self.old) }
         requires going { (reader_lines self.old).reading.stop ≡ None }
-        ensures brings { Brings cluster.now result (reader_lines self.old) (reader_lines self.new)
+        ensures brings { Brings names.now result (reader_lines self.old) (reader_lines self.new)
             (S.left (source_in self.old)) (S.left (source_in self.new)) }
-        ensures until { ReadUntil cluster.now result (reader_lines self.old) (reader_lines self.new)
+        ensures until { ReadUntil names.now result (reader_lines self.old) (reader_lines self.new)
             (S.left (source_in self.old)) (S.left (source_in self.new)) }
         ensures ready { AreReady (reader_lines self.new) }
         ensures going { reads_on result ≡ true → (reader_lines self.new).reading.stop ≡ None }
@@ -88,7 +85,7 @@ impl<'s, S: Source> ResultReader<'s, S> {
         ensures same_source { loan_in self.new ≡ loan_in self.old }
     {
         match self.lines.line() {
-            LineStep::Line => self.take_line(cluster),
+            LineStep::Line => self.take_line(names),
             LineStep::End => Some(Came::End),
             LineStep::TooLong => Some(Came::Stop(LineStop::Refused {
                 line: self.at.line as u32,
@@ -100,13 +97,12 @@ impl<'s, S: Source> ResultReader<'s, S> {
     }
 
     /// What comes next, past all lines without words. A line that is refused or goes past the limit is the last.
-    pub(crate) fn read_on(&mut self, cluster: &Cluster) -> Came
-        requires limits { KeepsLimits cluster.now }
+    pub(crate) fn read_on(&mut self, names: &Names<'_>) -> Came
         requires ready { AreReady (reader_lines self.old) }
         requires going { (reader_lines self.old).reading.stop ≡ None }
-        ensures brings { Brings cluster.now (Some result) (reader_lines self.old) (reader_lines self.new)
+        ensures brings { Brings names.now (Some result) (reader_lines self.old) (reader_lines self.new)
             (S.left (source_in self.old)) (S.left (source_in self.new)) }
-        ensures until { ReadUntil cluster.now (Some result) (reader_lines self.old) (reader_lines self.new)
+        ensures until { ReadUntil names.now (Some result) (reader_lines self.old) (reader_lines self.new)
             (S.left (source_in self.old)) (S.left (source_in self.new)) }
         ensures ready { AreReady (reader_lines self.new) }
         ensures going { reads_on (Some result) ≡ true → (reader_lines self.new).reading.stop ≡ None }
@@ -120,7 +116,7 @@ impl<'s, S: Source> ResultReader<'s, S> {
         ensures same_source { loan_in self.new ≡ loan_in self.old }
     {
         loop {
-            if let Some(came) = self.step(cluster) {
+            if let Some(came) = self.step(names) {
                 return came;
             }
         }

@@ -1,6 +1,6 @@
 //! What each question brings.
 
-ghost use Rattle.cluster_types.specs.Valid.{KeepsLimits};
+ghost use Rattle.cluster_types.specs.Valid.{IsValid};
 
 use crate::starts::{TWO, cluster_of};
 use cluster_io::{LineReader, MemorySource, Source};
@@ -9,6 +9,7 @@ use crm_lex::LexCause;
 use graph_exec::Next;
 use input_reading::ResultCause;
 use live_run::{LineCause, LineOutcomes, LineStop};
+use names::Names;
 use std::alloc::Global;
 use std::process::Abort;
 
@@ -164,7 +165,7 @@ fn brings<S: Source>(outcomes: &mut LineOutcomes<'_, '_, S>, asked: &Asked) -> b
 
 #[tactic(auto, using(live_run::proofs::Readers::fresh_reader))]
 fn check_row(rt: &impl Abort, alloc: Global, cluster: &Cluster, row: &Row)
-    requires { KeepsLimits cluster.now }
+    requires { IsValid cluster.now }
 {
     let (text, limit, fails, expected) = row;
     assert!(rt; *limit < 4_294_967_296);
@@ -172,7 +173,8 @@ fn check_row(rt: &impl Abort, alloc: Global, cluster: &Cluster, row: &Row)
     let fails = fails.to_vec(alloc).expect(rt, "memory");
     let mut source = MemorySource::new(text, 8, fails);
     let reader = LineReader::new(alloc, &mut source, *limit, 1_048_576).expect(rt, "memory");
-    let mut outcomes = LineOutcomes::new(alloc, cluster, 1000, 1, reader).expect(rt, "memory");
+    let names = Names::new(alloc, cluster).expect(rt, "memory");
+    let mut outcomes = LineOutcomes::new(alloc, &names, 1000, 1, reader).expect(rt, "memory");
     for asked in *expected {
         assert!(rt; brings(&mut outcomes, asked));
     }

@@ -1,11 +1,12 @@
 //! What is read of the lines of runs.
 
-ghost use Rattle.cluster_types.specs.Valid.{KeepsLimits};
+ghost use Rattle.cluster_types.specs.Valid.{IsValid};
 
 use crate::starts::{CONFIGURATION, cluster_of};
 use cluster_types::{Action, Answer, Cluster, NoReason, Op, Pin, Role, RunLine, Target};
 use crm_lex::{Name, logical_lines};
 use input_reading::{RunText, RunTextLine, TraceFault, WordCause, read_run};
+use names::Names;
 use std::alloc::Global;
 use std::process::Abort;
 
@@ -15,11 +16,12 @@ fn read(
     cluster: &Cluster,
     text: &str,
 ) -> Result<RunText, TraceFault>
-    requires { KeepsLimits cluster.now }
+    requires { IsValid cluster.now }
 {
     assert!(rt; text.len() < 4_294_967_296);
     let lines = logical_lines(alloc, text.as_bytes()).expect(rt, "the words are read");
-    read_run(alloc, cluster, lines.as_slice())
+    let names = Names::new(alloc, cluster).expect(rt, "memory");
+    read_run(alloc, &names, lines.as_slice())
 }
 
 /// There is one line, the first, which says this.
@@ -32,14 +34,14 @@ fn is_line(lines: &[RunTextLine], what: &RunLine) -> bool {
 
 /// The line is read so.
 fn says(rt: &impl Abort, alloc: Global, cluster: &Cluster, text: &str, what: RunLine)
-    requires { KeepsLimits cluster.now }
+    requires { IsValid cluster.now }
 {
     let run = read(rt, alloc, cluster, text).expect(rt, "the line is read");
     assert!(rt; is_line(run.lines.as_slice(), &what), "{text}");
 }
 
 fn targets_are_read(rt: &impl Abort, alloc: Global, cluster: &Cluster)
-    requires { KeepsLimits cluster.now }
+    requires { IsValid cluster.now }
 {
     let unmanaged = RunLine::Pinned(0, Pin::Unmanaged);
     let promoted = RunLine::Goal(1, 1, Target::Promoted);
@@ -152,7 +154,7 @@ const FAULTS: &[(&str, u32, WordCause)] = &[
 
 /// The text is refused so.
 fn refuses(rt: &impl Abort, alloc: Global, cluster: &Cluster, text: &str, fault: TraceFault)
-    requires { KeepsLimits cluster.now }
+    requires { IsValid cluster.now }
 {
     let read = read(rt, alloc, cluster, text).err();
     assert!(rt; read == Some(fault), "{text}");

@@ -16,6 +16,7 @@ use cluster_types::moment_of;
 use crm_lex::WordBuf;
 use input_reading::{Head, InputCause, MOST_BYTES};
 use live_run::{LineOutcomes, LiveEnd, run_live};
+use names::Names;
 use std::alloc::Global;
 
 /// The most bytes that a logical line may have, without its line ends: 1 MiB.
@@ -106,7 +107,11 @@ pub(crate) fn replay<S: Source, W: Sink>(alloc: Global, src: &mut S, out: &mut W
         journal,
     } = head;
     let moment = moment_of(journal.events.as_slice()) as u64;
-    let mut answers = LineOutcomes::over(&cluster, moment, next, reader, words);
+    let Ok(names) = Names::new(alloc, &cluster) else {
+        let _src = reader.into_source();
+        return Status::NoMemory;
+    };
+    let mut answers = LineOutcomes::over(&names, moment, next, reader, words);
     let end = run_live(alloc, &cluster, journal, &mut answers, out);
     let _src = answers.into_source();
     status_of(end)

@@ -4,7 +4,7 @@ ghost use Rattle.std.specs.Prelude.{◌≡◌, ◌<◌, ◌≤◌, ◌^◌, IfOk
 ghost use Rattle.cluster_model.specs.Expansion.{expansion_of};
 ghost use Rattle.cluster_types.specs.Journals.{Orderly, in_flight, moment_of};
 ghost use Rattle.cluster_types.specs.Safety.{IsAtRest};
-ghost use Rattle.cluster_types.specs.Valid.{IsValid, KeepsLimits};
+ghost use Rattle.cluster_types.specs.Valid.{IsValid};
 ghost use Rattle.cluster_model.specs.Resolution.{resolution_of};
 ghost use Rattle.crm_lex.specs.Reading.{reads};
 ghost use Rattle.crm_parse.specs.Statements.{statements_of};
@@ -12,7 +12,7 @@ ghost use Rattle.input_reading.specs.FirstJournal.{status_journal};
 ghost use Rattle.input_reading.specs.Results.{most_results, results_of};
 ghost use Rattle.faults.specs.Reading.{Gives, faulting};
 ghost use Rattle.input_reading.specs.declared.input.cause.InputCause.TheVariants as cause;
-ghost use Rattle.input_reading.specs.Reading.{configuration_of, head_of, input_of, line_behind, most_bytes, nothing_yet, start_of, with_cluster, with_results};
+ghost use Rattle.input_reading.specs.Reading.{AreStated, configuration_of, head_of, input_of, line_behind, most_bytes, nothing_yet, start_of, with_cluster, with_results};
 ghost use Rattle.input_reading.specs.Sections.{sections_by};
 
 use crate::input::cause::InputCause;
@@ -24,6 +24,7 @@ use cluster_types::{Cluster, Journal};
 use crm_lex::{Line, logical_lines};
 use crm_parse::{Crm, SectionMarks, parse};
 use listed::Listed;
+use names::Names;
 use std::alloc::Global;
 
 /// The most bytes that an input may have: 16 MiB (rule of this project).
@@ -79,7 +80,7 @@ fn leaves_in(alloc: Global, crm: &Crm) -> Result<Leaves, InputFault>
 }
 
 /// The configuration of a text, which may have this last section.
-#[tactic(auto, unfolding(crate::specs::Reading::configuration_of), using(crate::proofs::ValidInput::leaves_given))]
+#[tactic(auto, unfolding(crate::specs::Reading::configuration_of), using(crate::proofs::ValidInput::leaves_given, crate::proofs::ValidInput::stated))]
 pub(crate) fn configuration_of(
     alloc: Global,
     last: LastSection,
@@ -87,6 +88,7 @@ pub(crate) fn configuration_of(
 ) -> Result<Configuration, InputFault>
     requires { length text.items ≤ most_bytes }
     ensures given { Gives (λ found. found) result (configuration_of (sections_by last) text.items) }
+    ensures stated { IfOk result (λ found. AreStated found.crm) }
     ensures leaves { IfOk result (λ found. expansion_of found.crm.statements ≡ Ok found.leaves) }
     ensures results { IfOk result (λ found. found.marks.results_at ≤ length found.lines) }
     ensures end { IfOk result (λ found. found.marks.end ≤ length found.lines) }
@@ -105,11 +107,12 @@ pub(crate) fn configuration_of(
 }
 
 fn status_in(alloc: Global, cluster: &Cluster, lines: &[Line]) -> Result<Journal, InputFault>
-    requires { KeepsLimits cluster.now }
+    requires { IsValid cluster.now }
     ensures journal { Gives (λ journal. journal) result (faulting cause.Status (status_journal cluster.now lines.now)) }
     ensures moment { IfOk result (λ journal. moment_of journal.events < 2 ^ 40) }
 {
-    read_status(alloc, cluster, lines).map_err(|fault| fault.map(InputCause::Status))
+    let names = Names::new(alloc, cluster)?;
+    read_status(alloc, &names, lines).map_err(|fault| fault.map(InputCause::Status))
 }
 
 fn results_in(
@@ -118,11 +121,12 @@ fn results_in(
     journal: &Journal,
     lines: &[Line],
 ) -> Result<Listed<ResultLine>, InputFault>
-    requires limits { KeepsLimits cluster.now }
+    requires valid { IsValid cluster.now }
     requires moment { moment_of journal.now.events < 2 ^ 40 }
     ensures { Gives (λ results. results) result (faulting cause.Results (results_of cluster.now (moment_of journal.now.events) lines.now)) }
 {
-    let results = read_results(alloc, cluster, journal, lines).map_err(|fault| fault.map(
+    let names = Names::new(alloc, cluster)?;
+    let results = read_results(alloc, &names, journal, lines).map_err(|fault| fault.map(
         InputCause::Results,
     ))?;
     Ok(Listed::from(results))
@@ -136,9 +140,9 @@ pub(crate) fn head_of(
     cluster: Cluster,
     lines: &[Line],
 ) -> Result<Head, InputFault>
-    requires { KeepsLimits cluster }
+    requires { IsValid cluster }
     ensures head { Gives (λ head. head) result (head_of crm cluster lines.now) }
-    ensures limits { IfOk result (λ head. KeepsLimits head.cluster) }
+    ensures valid { IfOk result (λ head. IsValid head.cluster) }
     ensures moment { IfOk result (λ head. moment_of head.journal.events < 2 ^ 40) }
 {
     let journal = status_in(alloc, &cluster, lines)?;
@@ -152,7 +156,7 @@ pub(crate) fn head_of(
 /// An input with this head and these result lines.
 #[tactic(auto, unfolding(crate::specs::Reading::with_results))]
 fn with_results(alloc: Global, head: Head, lines: &[Line]) -> Result<Input, InputFault>
-    requires limits { KeepsLimits head.cluster }
+    requires valid { IsValid head.cluster }
     requires moment { moment_of head.journal.events < 2 ^ 40 }
     ensures input { Gives (λ input. input) result (with_results head lines.now) }
     ensures moment { IfOk result (λ input. moment_of input.head.journal.events < 2 ^ 40) }
@@ -163,7 +167,7 @@ fn with_results(alloc: Global, head: Head, lines: &[Line]) -> Result<Input, Inpu
 
 /// Reads the other sections, where the configuration says this cluster.
 fn with_cluster(alloc: Global, found: Configuration, cluster: Cluster) -> Result<Input, InputFault>
-    requires limits { KeepsLimits cluster }
+    requires valid { IsValid cluster }
     requires results { found.marks.results_at ≤ length found.lines }
     requires end { found.marks.end ≤ length found.lines }
     ensures input { Gives (λ input. input) result (with_cluster with_results found cluster) }
@@ -182,18 +186,19 @@ fn with_cluster(alloc: Global, found: Configuration, cluster: Cluster) -> Result
 }
 
 /// The cluster that a configuration says.
-#[tactic(auto, using(cluster_model::proofs::Limits::limits_kept))]
+#[tactic(auto, using(crate::proofs::ValidInput::stated_valid))]
 pub(crate) fn cluster_in(alloc: Global, found: &Configuration) -> Result<Cluster, InputFault>
-    requires { expansion_of found.now.crm.statements ≡ Ok found.now.leaves }
+    requires stated { AreStated found.now.crm }
+    requires leaves { expansion_of found.now.crm.statements ≡ Ok found.now.leaves }
     ensures cluster { Gives (λ cluster. cluster) result (faulting cause.Cluster (resolution_of found.now.leaves found.now.crm.statements)) }
-    ensures limits { IfOk result (λ cluster. KeepsLimits cluster) }
+    ensures valid { IfOk result (λ cluster. IsValid cluster) }
 {
     resolve(alloc, &found.crm, &found.leaves).map_err(|fault| fault.map(InputCause::Cluster))
 }
 
 /// Reads the status, where the configuration says this cluster.
 fn with_status(alloc: Global, found: Configuration, cluster: Cluster) -> Result<Head, InputFault>
-    requires limits { KeepsLimits cluster }
+    requires valid { IsValid cluster }
     requires results { found.marks.results_at ≤ length found.lines }
     ensures head { Gives (λ head. head) result (with_cluster nothing_yet found cluster) }
     ensures moment { IfOk result (λ head. moment_of head.journal.events < 2 ^ 40) }

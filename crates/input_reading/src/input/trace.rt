@@ -3,7 +3,7 @@
 ghost use Rattle.std.specs.Prelude.{◌≡◌, ◌+◌, ◌<◌, ◌≤◌, ◌^◌, IfOk, [], length};
 ghost use Rattle.cluster_types.specs.Journals.{moment_of};
 ghost use Rattle.cluster_types.specs.Safety.{IsAtRest};
-ghost use Rattle.cluster_types.specs.Valid.{IsValid, KeepsLimits};
+ghost use Rattle.cluster_types.specs.Valid.{IsValid};
 ghost use Rattle.faults.specs.Reading.{Gives, faulting};
 ghost use Rattle.input_reading.specs.declared.input.cause.InputCause.TheVariants as cause;
 ghost use Rattle.input_reading.specs.Reading.{line_behind, most_bytes, with_cluster};
@@ -18,6 +18,7 @@ use crate::input::sections::{LastSection, lines_after};
 use crate::{RunText, read_run};
 use cluster_types::Cluster;
 use crm_lex::Line;
+use names::Names;
 use std::alloc::Global;
 
 /// What an input with a trace says: its head, and the lines of a written run.
@@ -41,17 +42,18 @@ fn line_behind(lines: &[Line]) -> u32
 }
 
 fn run_in(alloc: Global, cluster: &Cluster, lines: &[Line]) -> Result<RunText, InputFault>
-    requires { KeepsLimits cluster.now }
+    requires { IsValid cluster.now }
     ensures run { Gives (λ run. run.lines) result (faulting cause.Run (read_run_lines cluster.now lines.now)) }
     ensures named { IfOk result (λ run. AreNamed run.lines) }
 {
-    read_run(alloc, cluster, lines).map_err(|fault| fault.map(InputCause::Run))
+    let names = Names::new(alloc, cluster)?;
+    read_run(alloc, &names, lines).map_err(|fault| fault.map(InputCause::Run))
 }
 
 /// An input with this head and these lines of a run.
 #[tactic(auto, unfolding(crate::specs::Traces::with_run))]
 fn with_run(alloc: Global, after: u32, head: Head, lines: &[Line]) -> Result<Trace, InputFault>
-    requires limits { KeepsLimits head.cluster }
+    requires valid { IsValid head.cluster }
     requires moment { moment_of head.journal.events < 2 ^ 40 }
     ensures trace { Gives (λ trace. trace) result (with_run after head lines.now) }
     ensures named { IfOk result (λ trace. AreNamed trace.run.lines) }
@@ -63,7 +65,7 @@ fn with_run(alloc: Global, after: u32, head: Head, lines: &[Line]) -> Result<Tra
 
 /// Reads the other sections, where the configuration says this cluster.
 fn with_cluster(alloc: Global, found: Configuration, cluster: Cluster) -> Result<Trace, InputFault>
-    requires limits { KeepsLimits cluster }
+    requires valid { IsValid cluster }
     requires trace { found.marks.results_at ≤ length found.lines }
     requires end { found.marks.end ≤ length found.lines }
     requires numbers { line_behind found.lines < 2 ^ 32 }

@@ -2,14 +2,14 @@
 
 ghost use Rattle.std.specs.Prelude.{◌≡◌, ◌+◌, ◌<◌, ◌^◌, IfOk};
 ghost use Rattle.cluster_types.specs.Answering.{seconds_in};
-ghost use Rattle.cluster_types.specs.Valid.{KeepsLimits};
 ghost use Rattle.input_reading.specs.Results.{answer_as, answer_of, end_line, in_time, lost_line, quorum_answer, report_line, result_word, timeout_line, up_line, wait_line};
 
 use crate::{
     WordCause, Words, code_at, end_at, leaf_at, node_at, number_at, seconds_at, word_at, yes_at,
 };
-use cluster_types::{Answer, Cluster};
+use cluster_types::Answer;
 use crm_lex::is;
+use names::Names;
 
 /// The forms of result lines.
 #[derive(Clone, Copy)]
@@ -68,23 +68,21 @@ fn timeout_line<W: Words>(words: &W) -> Result<Answer, WordCause>
 }
 
 #[tactic(auto, unfolding(crate::specs::Results::lost_line))]
-fn lost_line<W: Words>(cluster: &Cluster, words: &W) -> Result<Answer, WordCause>
-    requires { KeepsLimits cluster.now }
-    ensures value { result ≡ lost_line cluster.now (W.words words.now) }
+fn lost_line<W: Words>(names: &Names<'_>, words: &W) -> Result<Answer, WordCause>
+    ensures value { result ≡ lost_line names.now (W.words words.now) }
     ensures still { IfOk result (λ answer. seconds_in answer ≡ 0) }
 {
-    let node = node_at(cluster, 1, words)?;
+    let node = node_at(names, 1, words)?;
     end_at(2, words)?;
     Ok(Answer::Lost { node })
 }
 
 #[tactic(auto, unfolding(crate::specs::Results::up_line))]
-fn up_line<W: Words>(cluster: &Cluster, words: &W) -> Result<Answer, WordCause>
-    requires { KeepsLimits cluster.now }
-    ensures value { result ≡ up_line cluster.now (W.words words.now) }
+fn up_line<W: Words>(names: &Names<'_>, words: &W) -> Result<Answer, WordCause>
+    ensures value { result ≡ up_line names.now (W.words words.now) }
     ensures still { IfOk result (λ answer. seconds_in answer ≡ 0) }
 {
-    let node = node_at(cluster, 1, words)?;
+    let node = node_at(names, 1, words)?;
     end_at(2, words)?;
     Ok(Answer::Up { node })
 }
@@ -126,13 +124,12 @@ fn wait_line<W: Words>(moment: u64, words: &W) -> Result<Answer, WordCause>
 }
 
 #[tactic(auto, unfolding(crate::specs::Results::report_line))]
-fn report_line<W: Words>(cluster: &Cluster, words: &W) -> Result<Answer, WordCause>
-    requires { KeepsLimits cluster.now }
-    ensures value { result ≡ report_line cluster.now (W.words words.now) }
+fn report_line<W: Words>(names: &Names<'_>, words: &W) -> Result<Answer, WordCause>
+    ensures value { result ≡ report_line names.now (W.words words.now) }
     ensures still { IfOk result (λ answer. seconds_in answer ≡ 0) }
 {
-    let node = node_at(cluster, 1, words)?;
-    let leaf = leaf_at(cluster, 2, words)?;
+    let node = node_at(names, 1, words)?;
+    let leaf = leaf_at(names, 2, words)?;
     let interval_ms = number_at(3, words)?;
     let code = code_at(4, words)?;
     end_at(5, words)?;
@@ -145,37 +142,35 @@ fn report_line<W: Words>(cluster: &Cluster, words: &W) -> Result<Answer, WordCau
 }
 
 fn answer_as<W: Words>(
-    cluster: &Cluster,
+    names: &Names<'_>,
     moment: u64,
     form: ResultWord,
     words: &W,
 ) -> Result<Answer, WordCause>
-    requires limits { KeepsLimits cluster.now }
     requires moment { moment < 2 ^ 40 }
-    ensures value { result ≡ answer_as cluster.now moment form (W.words words.now) }
+    ensures value { result ≡ answer_as names.now moment form (W.words words.now) }
     ensures within { IfOk result (λ answer. moment + seconds_in answer < 2 ^ 40) }
 {
     match form {
         ResultWord::End => end_line(words),
         ResultWord::Timeout => timeout_line(words),
-        ResultWord::Lost => lost_line(cluster, words),
-        ResultWord::Up => up_line(cluster, words),
+        ResultWord::Lost => lost_line(names, words),
+        ResultWord::Up => up_line(names, words),
         ResultWord::Quorum => quorum_line(words),
         ResultWord::Wait => wait_line(moment, words),
-        ResultWord::Report => report_line(cluster, words),
+        ResultWord::Report => report_line(names, words),
     }
 }
 
 /// The answer that the words of a result line give, which is taken at a moment in seconds, or the cause of its leftmost
-/// faulty word. The lines are those of `read_result`. It asks for a cluster within the limits and a moment below 2^40.
+/// faulty word. The lines are those of `read_result`. It asks for a moment below 2^40.
 #[tactic(auto, unfolding(crate::specs::Results::answer_of))]
-pub fn answer_of<W: Words>(cluster: &Cluster, moment: u64, words: &W) -> Result<Answer, WordCause>
-    requires limits { KeepsLimits cluster.now }
+pub fn answer_of<W: Words>(names: &Names<'_>, moment: u64, words: &W) -> Result<Answer, WordCause>
     requires moment { moment < 2 ^ 40 }
-    ensures value { result ≡ answer_of cluster.now moment (W.words words.now) }
+    ensures value { result ≡ answer_of names.now moment (W.words words.now) }
     ensures within { IfOk result (λ answer. moment + seconds_in answer < 2 ^ 40) }
 {
     let first = word_at(0, words)?;
     let form = result_word(first)?;
-    answer_as(cluster, moment, form, words)
+    answer_as(names, moment, form, words)
 }

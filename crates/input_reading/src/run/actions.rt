@@ -2,66 +2,62 @@
 
 ghost use Rattle.std.specs.Prelude.{◌≡◌};
 ghost use Rattle.cluster_types.specs.Answering.{monitor_action};
-ghost use Rattle.cluster_types.specs.Valid.{KeepsLimits};
 ghost use Rattle.input_reading.specs.RunReading.{action_as, fence_at_end, migrate_from_at_end, migrate_to_at_end, monitor_at_end, operation_at_end, probe_at_end};
 
 use crate::run::words::ActionWord;
 use crate::{WordCause, Words, end_at, leaf_at, node_at, number_at};
-use cluster_types::{Action, Cluster, LeafId, NodeId, Op, Role};
+use cluster_types::{Action, LeafId, NodeId, Op, Role};
+use names::Names;
 
 #[tactic(auto, unfolding(crate::specs::RunReading::fence_at_end))]
-fn fence_at_end<W: Words>(cluster: &Cluster, words: &W) -> Result<Action, WordCause>
-    requires { KeepsLimits cluster.now }
-    ensures { result ≡ fence_at_end cluster.now (W.words words.now) }
+fn fence_at_end<W: Words>(names: &Names<'_>, words: &W) -> Result<Action, WordCause>
+    ensures { result ≡ fence_at_end names.now (W.words words.now) }
 {
-    let node = node_at(cluster, 3, words)?;
+    let node = node_at(names, 3, words)?;
     end_at(4, words)?;
     Ok(Action::Fence { node })
 }
 
 #[tactic(auto, unfolding(crate::specs::RunReading::probe_at_end))]
-fn probe_at_end<W: Words>(cluster: &Cluster, words: &W) -> Result<Action, WordCause>
-    requires { KeepsLimits cluster.now }
-    ensures { result ≡ probe_at_end cluster.now (W.words words.now) }
+fn probe_at_end<W: Words>(names: &Names<'_>, words: &W) -> Result<Action, WordCause>
+    ensures { result ≡ probe_at_end names.now (W.words words.now) }
 {
-    let leaf = leaf_at(cluster, 3, words)?;
-    let node = node_at(cluster, 4, words)?;
+    let leaf = leaf_at(names, 3, words)?;
+    let node = node_at(names, 4, words)?;
     end_at(5, words)?;
     Ok(Action::Probe { leaf, node })
 }
 
 /// The leaf's monitor of the interval on the node. Its role is that of the interval's statement.
-fn monitor_action(cluster: &Cluster, leaf: LeafId, node: NodeId, interval_ms: u32) -> Action
-    ensures { result ≡ monitor_action cluster.now leaf node interval_ms }
+fn monitor_action(names: &Names<'_>, leaf: LeafId, node: NodeId, interval_ms: u32) -> Action
+    ensures { result ≡ monitor_action names.now leaf node interval_ms }
 {
     Action::Cell {
         op: Op::Monitor,
         leaf,
         node,
         interval_ms,
-        role: cluster.role_of_interval(leaf, interval_ms),
+        role: names.cluster().role_of_interval(leaf, interval_ms),
     }
 }
 
 #[tactic(auto, unfolding(crate::specs::RunReading::monitor_at_end))]
-fn monitor_at_end<W: Words>(cluster: &Cluster, words: &W) -> Result<Action, WordCause>
-    requires { KeepsLimits cluster.now }
-    ensures { result ≡ monitor_at_end cluster.now (W.words words.now) }
+fn monitor_at_end<W: Words>(names: &Names<'_>, words: &W) -> Result<Action, WordCause>
+    ensures { result ≡ monitor_at_end names.now (W.words words.now) }
 {
-    let leaf = leaf_at(cluster, 3, words)?;
-    let node = node_at(cluster, 4, words)?;
+    let leaf = leaf_at(names, 3, words)?;
+    let node = node_at(names, 4, words)?;
     let interval_ms = number_at(5, words)?;
     end_at(6, words)?;
-    Ok(monitor_action(cluster, leaf, node, interval_ms))
+    Ok(monitor_action(names, leaf, node, interval_ms))
 }
 
 #[tactic(auto, unfolding(crate::specs::RunReading::operation_at_end))]
-fn operation_at_end<W: Words>(cluster: &Cluster, op: Op, words: &W) -> Result<Action, WordCause>
-    requires { KeepsLimits cluster.now }
-    ensures { result ≡ operation_at_end cluster.now op (W.words words.now) }
+fn operation_at_end<W: Words>(names: &Names<'_>, op: Op, words: &W) -> Result<Action, WordCause>
+    ensures { result ≡ operation_at_end names.now op (W.words words.now) }
 {
-    let leaf = leaf_at(cluster, 3, words)?;
-    let node = node_at(cluster, 4, words)?;
+    let leaf = leaf_at(names, 3, words)?;
+    let node = node_at(names, 4, words)?;
     end_at(5, words)?;
     Ok(Action::Cell {
         op,
@@ -73,13 +69,12 @@ fn operation_at_end<W: Words>(cluster: &Cluster, op: Op, words: &W) -> Result<Ac
 }
 
 #[tactic(auto, unfolding(crate::specs::RunReading::migrate_to_at_end))]
-fn migrate_to_at_end<W: Words>(cluster: &Cluster, words: &W) -> Result<Action, WordCause>
-    requires { KeepsLimits cluster.now }
-    ensures { result ≡ migrate_to_at_end cluster.now (W.words words.now) }
+fn migrate_to_at_end<W: Words>(names: &Names<'_>, words: &W) -> Result<Action, WordCause>
+    ensures { result ≡ migrate_to_at_end names.now (W.words words.now) }
 {
-    let leaf = leaf_at(cluster, 3, words)?;
-    let source = node_at(cluster, 4, words)?;
-    let target = node_at(cluster, 5, words)?;
+    let leaf = leaf_at(names, 3, words)?;
+    let source = node_at(names, 4, words)?;
+    let target = node_at(names, 5, words)?;
     end_at(6, words)?;
     Ok(Action::MigrateTo {
         leaf,
@@ -89,13 +84,12 @@ fn migrate_to_at_end<W: Words>(cluster: &Cluster, words: &W) -> Result<Action, W
 }
 
 #[tactic(auto, unfolding(crate::specs::RunReading::migrate_from_at_end))]
-fn migrate_from_at_end<W: Words>(cluster: &Cluster, words: &W) -> Result<Action, WordCause>
-    requires { KeepsLimits cluster.now }
-    ensures { result ≡ migrate_from_at_end cluster.now (W.words words.now) }
+fn migrate_from_at_end<W: Words>(names: &Names<'_>, words: &W) -> Result<Action, WordCause>
+    ensures { result ≡ migrate_from_at_end names.now (W.words words.now) }
 {
-    let leaf = leaf_at(cluster, 3, words)?;
-    let source = node_at(cluster, 4, words)?;
-    let target = node_at(cluster, 5, words)?;
+    let leaf = leaf_at(names, 3, words)?;
+    let source = node_at(names, 4, words)?;
+    let target = node_at(names, 5, words)?;
     end_at(6, words)?;
     Ok(Action::MigrateFrom {
         leaf,
@@ -106,19 +100,18 @@ fn migrate_from_at_end<W: Words>(cluster: &Cluster, words: &W) -> Result<Action,
 
 /// The action of a form, from its leaf and nodes on to the end of the line.
 pub(crate) fn action_as<W: Words>(
-    cluster: &Cluster,
+    names: &Names<'_>,
     form: ActionWord,
     words: &W,
 ) -> Result<Action, WordCause>
-    requires { KeepsLimits cluster.now }
-    ensures { result ≡ action_as cluster.now form (W.words words.now) }
+    ensures { result ≡ action_as names.now form (W.words words.now) }
 {
     match form {
-        ActionWord::Fence => fence_at_end(cluster, words),
-        ActionWord::Probe => probe_at_end(cluster, words),
-        ActionWord::Operation(op) => operation_at_end(cluster, op, words),
-        ActionWord::Monitor => monitor_at_end(cluster, words),
-        ActionWord::MigrateTo => migrate_to_at_end(cluster, words),
-        ActionWord::MigrateFrom => migrate_from_at_end(cluster, words),
+        ActionWord::Fence => fence_at_end(names, words),
+        ActionWord::Probe => probe_at_end(names, words),
+        ActionWord::Operation(op) => operation_at_end(names, op, words),
+        ActionWord::Monitor => monitor_at_end(names, words),
+        ActionWord::MigrateTo => migrate_to_at_end(names, words),
+        ActionWord::MigrateFrom => migrate_from_at_end(names, words),
     }
 }

@@ -1,7 +1,6 @@
 //! What one line of a run says, by its words.
 
 ghost use Rattle.std.specs.Prelude.{◌≡◌};
-ghost use Rattle.cluster_types.specs.Valid.{KeepsLimits};
 ghost use Rattle.faults.specs.Reading.{Reads};
 ghost use Rattle.input_reading.specs.RunReading.{aborted_line, answer_line, begin_line, complete_line, held_line, lacking_line, line_as, line_of_words, number_alone, pinned_line, plain_line, target_line, transition_line, unexpected_line};
 ghost use Rattle.input_reading.specs.Said.{said_of};
@@ -9,8 +8,9 @@ ghost use Rattle.input_reading.specs.Said.{said_of};
 use crate::run::actions::action_as;
 use crate::run::words::{LineWord, action_word_at, id_at, line_word, pin_at, reason_of, target_at};
 use crate::{WordCause, Words, answer_of, end_at, leaf_at, node_at, number_at, word_at};
-use cluster_types::{Cluster, LeafId, RunLine};
+use cluster_types::{LeafId, RunLine};
 use crm_lex::is;
+use names::Names;
 
 /// What a line says, without memory: the id of a rule is lent.
 pub(crate) enum Said<'w> {
@@ -62,45 +62,41 @@ fn unexpected_line<W: Words>(words: &W) -> Result<RunLine, WordCause>
 }
 
 #[tactic(auto, unfolding(crate::specs::RunReading::pinned_line))]
-fn pinned_line<W: Words>(cluster: &Cluster, words: &W) -> Result<RunLine, WordCause>
-    requires { KeepsLimits cluster.now }
-    ensures { result ≡ pinned_line cluster.now (W.words words.now) }
+fn pinned_line<W: Words>(names: &Names<'_>, words: &W) -> Result<RunLine, WordCause>
+    ensures { result ≡ pinned_line names.now (W.words words.now) }
 {
-    let leaf = leaf_at(cluster, 1, words)?;
+    let leaf = leaf_at(names, 1, words)?;
     let pin = pin_at(2, words)?;
     end_at(3, words)?;
     Ok(RunLine::Pinned(leaf, pin))
 }
 
 #[tactic(auto, unfolding(crate::specs::RunReading::target_line))]
-fn target_line<W: Words>(cluster: &Cluster, words: &W) -> Result<RunLine, WordCause>
-    requires { KeepsLimits cluster.now }
-    ensures { result ≡ target_line cluster.now (W.words words.now) }
+fn target_line<W: Words>(names: &Names<'_>, words: &W) -> Result<RunLine, WordCause>
+    ensures { result ≡ target_line names.now (W.words words.now) }
 {
-    let leaf = leaf_at(cluster, 1, words)?;
-    let node = node_at(cluster, 2, words)?;
+    let leaf = leaf_at(names, 1, words)?;
+    let node = node_at(names, 2, words)?;
     let target = target_at(3, words)?;
     end_at(4, words)?;
     Ok(RunLine::Goal(leaf, node, target))
 }
 
 #[tactic(auto, unfolding(crate::specs::RunReading::begin_line))]
-fn begin_line<W: Words>(cluster: &Cluster, words: &W) -> Result<RunLine, WordCause>
-    requires { KeepsLimits cluster.now }
-    ensures { result ≡ begin_line cluster.now (W.words words.now) }
+fn begin_line<W: Words>(names: &Names<'_>, words: &W) -> Result<RunLine, WordCause>
+    ensures { result ≡ begin_line names.now (W.words words.now) }
 {
     let number = number_at(1, words)?;
     let form = action_word_at(2, words)?;
-    let action = action_as(cluster, form, words)?;
+    let action = action_as(names, form, words)?;
     Ok(RunLine::Begin(number, action))
 }
 
 #[tactic(auto, unfolding(crate::specs::RunReading::answer_line))]
-fn answer_line<W: Words>(cluster: &Cluster, words: &W) -> Result<RunLine, WordCause>
-    requires { KeepsLimits cluster.now }
-    ensures { result ≡ answer_line cluster.now (W.words words.now) }
+fn answer_line<W: Words>(names: &Names<'_>, words: &W) -> Result<RunLine, WordCause>
+    ensures { result ≡ answer_line names.now (W.words words.now) }
 {
-    let answer = answer_of(cluster, 0, words)?;
+    let answer = answer_of(names, 0, words)?;
     Ok(RunLine::Taken(answer))
 }
 
@@ -123,11 +119,10 @@ fn plain_line<W: Words>(leaf: LeafId, word: &[u8], words: &W) -> Result<RunLine,
 }
 
 #[tactic(auto, unfolding(crate::specs::RunReading::lacking_line))]
-fn lacking_line<'w, W: Words>(cluster: &Cluster, words: &'w W) -> Result<Said<'w>, WordCause>
-    requires { KeepsLimits cluster.now }
-    ensures { Reads said_of result (lacking_line cluster.now (W.words words.now)) }
+fn lacking_line<'w, W: Words>(names: &Names<'_>, words: &'w W) -> Result<Said<'w>, WordCause>
+    ensures { Reads said_of result (lacking_line names.now (W.words words.now)) }
 {
-    let leaf = leaf_at(cluster, 1, words)?;
+    let leaf = leaf_at(names, 1, words)?;
     let word = word_at(2, words)?;
     if is(word, b"Held") {
         return held_line(leaf, words);
@@ -137,23 +132,22 @@ fn lacking_line<'w, W: Words>(cluster: &Cluster, words: &'w W) -> Result<Said<'w
 }
 
 fn line_as<'w, W: Words>(
-    cluster: &Cluster,
+    names: &Names<'_>,
     form: LineWord,
     words: &'w W,
 ) -> Result<Said<'w>, WordCause>
-    requires { KeepsLimits cluster.now }
-    ensures { Reads said_of result (line_as cluster.now form (W.words words.now)) }
+    ensures { Reads said_of result (line_as names.now form (W.words words.now)) }
 {
     let line = match form {
-        LineWord::Lacking => return lacking_line(cluster, words),
+        LineWord::Lacking => return lacking_line(names, words),
         LineWord::Transition => transition_line(words)?,
-        LineWord::Pinned => pinned_line(cluster, words)?,
-        LineWord::Target => target_line(cluster, words)?,
-        LineWord::Begin => begin_line(cluster, words)?,
+        LineWord::Pinned => pinned_line(names, words)?,
+        LineWord::Target => target_line(names, words)?,
+        LineWord::Begin => begin_line(names, words)?,
         LineWord::Complete => complete_line(words)?,
         LineWord::Aborted => aborted_line(words)?,
         LineWord::Unexpected => unexpected_line(words)?,
-        LineWord::Answer => answer_line(cluster, words)?,
+        LineWord::Answer => answer_line(names, words)?,
     };
     Ok(Said::Line(line))
 }
@@ -161,12 +155,11 @@ fn line_as<'w, W: Words>(
 /// What the words of a line say.
 #[tactic(auto, unfolding(crate::specs::RunReading::line_of_words))]
 pub(crate) fn line_of_words<'w, W: Words>(
-    cluster: &Cluster,
+    names: &Names<'_>,
     words: &'w W,
 ) -> Result<Said<'w>, WordCause>
-    requires { KeepsLimits cluster.now }
-    ensures { Reads said_of result (line_of_words cluster.now (W.words words.now)) }
+    ensures { Reads said_of result (line_of_words names.now (W.words words.now)) }
 {
     let first = word_at(0, words)?;
-    line_as(cluster, line_word(first), words)
+    line_as(names, line_word(first), words)
 }

@@ -1,7 +1,6 @@
 //! The lines of a run, read.
 
 ghost use Rattle.std.specs.Prelude.{◌≡◌, IfOk};
-ghost use Rattle.cluster_types.specs.Valid.{KeepsLimits};
 ghost use Rattle.faults.specs.Reading.{Gives};
 ghost use Rattle.input_reading.specs.RunReading.{read_run_lines, text_line};
 ghost use Rattle.input_reading.specs.Said.{said_of};
@@ -9,10 +8,11 @@ ghost use Rattle.input_reading.specs.Written.{AreNamed};
 
 use crate::run::line::{Said, line_of_words};
 use crate::run::text::{RunText, RunTextLine, TraceFault};
-use cluster_types::{Cluster, NoReason, RunLine};
+use cluster_types::{NoReason, RunLine};
 use crm_lex::{Line, Name};
 use faults::NoMemory;
 use listed::Listed;
+use names::Names;
 use std::alloc::Global;
 
 /// What was said, with memory of its own.
@@ -28,11 +28,10 @@ fn kept(alloc: Global, said: Said<'_>) -> Result<RunLine, NoMemory>
     }
 }
 
-fn text_line(alloc: Global, cluster: &Cluster, line: &Line) -> Result<RunTextLine, TraceFault>
-    requires { KeepsLimits cluster.now }
-    ensures { Gives (λ read. read) result (text_line cluster.now line.now) }
+fn text_line(alloc: Global, names: &Names<'_>, line: &Line) -> Result<RunTextLine, TraceFault>
+    ensures { Gives (λ read. read) result (text_line names.now line.now) }
 {
-    match line_of_words(cluster, line) {
+    match line_of_words(names, line) {
         Ok(said) => {
             let what = kept(alloc, said)?;
             Ok(RunTextLine {
@@ -60,14 +59,13 @@ fn text_line(alloc: Global, cluster: &Cluster, line: &Line) -> Result<RunTextLin
 /// word that begins no such line, `MissingWord` where the line ends too early, `ExtraWord` past its end, `UnknownName`
 /// at a NODE or LEAF that the cluster doesn't have, and `BadValue` at any other word that isn't one of its place.
 /// `NoMemory` comes when memory runs out. Rule of this project.
-pub fn read_run(alloc: Global, cluster: &Cluster, lines: &[Line]) -> Result<RunText, TraceFault>
-    requires limits { KeepsLimits cluster.now }
-    ensures lines { Gives (λ text. text.lines) result (read_run_lines cluster.now lines.now) }
+pub fn read_run(alloc: Global, names: &Names<'_>, lines: &[Line]) -> Result<RunText, TraceFault>
+    ensures lines { Gives (λ text. text.lines) result (read_run_lines names.now lines.now) }
     ensures named { IfOk result (λ text. AreNamed text.lines) }
 {
     let mut read = Vec::new(alloc);
     for line in lines {
-        read.push(text_line(alloc, cluster, line)?)?;
+        read.push(text_line(alloc, names, line)?)?;
     }
     Ok(RunText {
         lines: Listed::from(read),

@@ -11,6 +11,7 @@ use crate::status::told::{NodeWord, Told};
 use cluster_types::{Cluster, Event, Journal, NodeId, Promotion};
 use faults::{NoMemory, done};
 use listed::Listed;
+use names::Names;
 use std::alloc::Global;
 
 /// The moment that is said, or 0.
@@ -177,12 +178,11 @@ fn promotions_of(alloc: Global, told: &[Told]) -> Result<Listed<Promotion>, NoMe
 }
 
 /// The first journal of all that was told.
-pub fn journal_of(alloc: Global, cluster: &Cluster, told: &[Told]) -> Result<Journal, NoMemory>
-    requires { KeepsLimits cluster.now }
-    ensures { IfOk result (λ journal. journal ≡ journal_of cluster.now told.now) }
+pub fn journal_of(alloc: Global, names: &Names<'_>, told: &[Told]) -> Result<Journal, NoMemory>
+    ensures { IfOk result (λ journal. journal ≡ journal_of names.now told.now) }
 {
     Ok(Journal {
-        events: events_of(alloc, cluster, told)?,
+        events: events_of(alloc, names.cluster(), told)?,
         promotions: promotions_of(alloc, told)?,
     })
 }

@@ -3,7 +3,6 @@
 ghost use Rattle.std.specs.Prelude.{◌≡◌, ◌<◌, ◌^◌, ℕ, length, true, IfOk};
 ghost use Rattle.cluster_types.specs.Journals.{is_reported};
 ghost use Rattle.cluster_types.specs.declared.journal.Event.TheVariants as event;
-ghost use Rattle.cluster_types.specs.Valid.{KeepsLimits};
 ghost use Rattle.faults.specs.Digits.{number_up_to};
 ghost use Rattle.input_reading.specs.FirstJournal.{is_known};
 ghost use Rattle.input_reading.specs.Status.{history_action, cleanup_line, fitting, interval_as, interval_at, may_have, node_line, node_word, now_line, op_at, op_line, outcome_at, outcome_of, promotable, promotable_at, promotion_line, quorum_line, score_at, state_at, status_word, told_as, told_of};
@@ -13,9 +12,10 @@ use crate::words::op_words::op_named;
 use crate::{
     WordCause, Words, code_of, end_at, interval_of, leaf_at, node_at, seconds_at, word_at, yes_at,
 };
-use cluster_types::{Action, Cluster, Event, LeafId, NodeId, Op, Outcome, Promotion, Role};
+use cluster_types::{Action, Event, LeafId, NodeId, Op, Outcome, Promotion, Role};
 use crm_lex::is;
 use faults::number_up_to;
+use names::Names;
 use score::Score;
 
 /// The forms of the lines of a status.
@@ -93,31 +93,30 @@ fn state_at<W: Words>(place: usize, words: &W) -> Result<NodeWord, WordCause>
 }
 
 #[tactic(auto, unfolding(crate::specs::Status::node_line))]
-fn node_line<W: Words>(cluster: &Cluster, words: &W) -> Result<Told, WordCause>
-    requires { KeepsLimits cluster.now }
-    ensures value { result ≡ node_line cluster.now (W.words words.now) }
+fn node_line<W: Words>(names: &Names<'_>, words: &W) -> Result<Told, WordCause>
+    ensures value { result ≡ node_line names.now (W.words words.now) }
     ensures known { (nodes : ℕ) → IfOk result (λ told. is_known nodes told ≡ true) }
 {
-    let node = node_at(cluster, 1, words)?;
+    let node = node_at(names, 1, words)?;
     let word = state_at(2, words)?;
     end_at(3, words)?;
     Ok(Told::Node { node, word })
 }
 
 /// Whether the leaf may have had the operation: only a promotable leaf is promoted and demoted.
-fn may_have(cluster: &Cluster, leaf: LeafId, op: Op) -> bool
-    ensures { result ≡ may_have cluster.now leaf op }
+fn may_have(names: &Names<'_>, leaf: LeafId, op: Op) -> bool
+    ensures { result ≡ may_have names.now leaf op }
 {
     match op {
-        Op::Promote | Op::Demote => cluster.is_promotable(leaf),
+        Op::Promote | Op::Demote => names.cluster().is_promotable(leaf),
         Op::Start | Op::Stop | Op::Monitor => true,
     }
 }
 
-fn fitting(cluster: &Cluster, leaf: LeafId, op: Op) -> Result<Op, WordCause>
-    ensures { result ≡ fitting cluster.now leaf op }
+fn fitting(names: &Names<'_>, leaf: LeafId, op: Op) -> Result<Op, WordCause>
+    ensures { result ≡ fitting names.now leaf op }
 {
-    if may_have(cluster, leaf, op) {
+    if may_have(names, leaf, op) {
         Ok(op)
     } else {
         Err(WordCause::BadValue)
@@ -126,16 +125,16 @@ fn fitting(cluster: &Cluster, leaf: LeafId, op: Op) -> Result<Op, WordCause>
 
 #[tactic(auto, unfolding(crate::specs::Status::op_at))]
 fn op_at<W: Words>(
-    cluster: &Cluster,
+    names: &Names<'_>,
     leaf: LeafId,
     place: usize,
     words: &W,
 ) -> Result<Op, WordCause>
-    ensures { result ≡ op_at cluster.now leaf place (W.words words.now) }
+    ensures { result ≡ op_at names.now leaf place (W.words words.now) }
 {
     let word = word_at(place, words)?;
     let op = op_named(word).ok_or(WordCause::BadValue)?;
-    fitting(cluster, leaf, op)
+    fitting(names, leaf, op)
 }
 
 /// The interval of an operation that has none: 0.
@@ -183,10 +182,10 @@ fn outcome_at<W: Words>(place: usize, words: &W) -> Result<Outcome, WordCause>
 }
 
 /// The operation as an action of the cell.
-fn action_as(cluster: &Cluster, op: Op, leaf: LeafId, node: NodeId, interval_ms: u32) -> Action
-    requires { node < length cluster.now.nodes }
-    ensures value { result ≡ history_action cluster.now op leaf node interval_ms }
-    ensures known { is_reported (length cluster.now.nodes) (event.Ended 0 result Outcome.TimedOut 0) ≡ true }
+fn action_as(names: &Names<'_>, op: Op, leaf: LeafId, node: NodeId, interval_ms: u32) -> Action
+    requires { node < length names.now.nodes }
+    ensures value { result ≡ history_action names.now op leaf node interval_ms }
+    ensures known { is_reported (length names.now.nodes) (event.Ended 0 result Outcome.TimedOut 0) ≡ true }
 {
     match op {
         Op::Monitor if interval_ms == 0 => Action::Probe { leaf, node },
@@ -195,7 +194,7 @@ fn action_as(cluster: &Cluster, op: Op, leaf: LeafId, node: NodeId, interval_ms:
             leaf,
             node,
             interval_ms,
-            role: cluster.role_of_interval(leaf, interval_ms),
+            role: names.cluster().role_of_interval(leaf, interval_ms),
         },
         Op::Start | Op::Stop | Op::Promote | Op::Demote => Action::Cell {
             op,
@@ -208,42 +207,40 @@ fn action_as(cluster: &Cluster, op: Op, leaf: LeafId, node: NodeId, interval_ms:
 }
 
 #[tactic(auto, unfolding(crate::specs::Status::op_line))]
-fn op_line<W: Words>(cluster: &Cluster, words: &W) -> Result<Told, WordCause>
-    requires { KeepsLimits cluster.now }
-    ensures value { result ≡ op_line cluster.now (W.words words.now) }
-    ensures known { IfOk result (λ told. is_known (length cluster.now.nodes) told ≡ true) }
+fn op_line<W: Words>(names: &Names<'_>, words: &W) -> Result<Told, WordCause>
+    ensures value { result ≡ op_line names.now (W.words words.now) }
+    ensures known { IfOk result (λ told. is_known (length names.now.nodes) told ≡ true) }
 {
-    let node = node_at(cluster, 1, words)?;
-    let leaf = leaf_at(cluster, 2, words)?;
-    let op = op_at(cluster, leaf, 3, words)?;
+    let node = node_at(names, 1, words)?;
+    let leaf = leaf_at(names, 2, words)?;
+    let op = op_at(names, leaf, 3, words)?;
     let interval_ms = interval_at(op, 4, words)?;
     let outcome = outcome_at(5, words)?;
     let moment = seconds_at(6, words)?;
     end_at(7, words)?;
     Ok(Told::Past(Event::Ended {
         number: 0,
-        action: action_as(cluster, op, leaf, node, interval_ms),
+        action: action_as(names, op, leaf, node, interval_ms),
         outcome,
         moment,
     }))
 }
 
 #[tactic(auto, unfolding(crate::specs::Status::cleanup_line))]
-fn cleanup_line<W: Words>(cluster: &Cluster, words: &W) -> Result<Told, WordCause>
-    requires { KeepsLimits cluster.now }
-    ensures value { result ≡ cleanup_line cluster.now (W.words words.now) }
-    ensures known { IfOk result (λ told. is_known (length cluster.now.nodes) told ≡ true) }
+fn cleanup_line<W: Words>(names: &Names<'_>, words: &W) -> Result<Told, WordCause>
+    ensures value { result ≡ cleanup_line names.now (W.words words.now) }
+    ensures known { IfOk result (λ told. is_known (length names.now.nodes) told ≡ true) }
 {
-    let node = node_at(cluster, 1, words)?;
-    let leaf = leaf_at(cluster, 2, words)?;
+    let node = node_at(names, 1, words)?;
+    let leaf = leaf_at(names, 2, words)?;
     end_at(3, words)?;
     Ok(Told::Past(Event::Cleanup { leaf, node }))
 }
 
-fn promotable(cluster: &Cluster, leaf: LeafId) -> Result<LeafId, WordCause>
-    ensures { result ≡ promotable cluster.now leaf }
+fn promotable(names: &Names<'_>, leaf: LeafId) -> Result<LeafId, WordCause>
+    ensures { result ≡ promotable names.now leaf }
 {
-    if cluster.is_promotable(leaf) {
+    if names.cluster().is_promotable(leaf) {
         Ok(leaf)
     } else {
         Err(WordCause::BadValue)
@@ -251,12 +248,11 @@ fn promotable(cluster: &Cluster, leaf: LeafId) -> Result<LeafId, WordCause>
 }
 
 #[tactic(auto, unfolding(crate::specs::Status::promotable_at))]
-fn promotable_at<W: Words>(cluster: &Cluster, place: usize, words: &W) -> Result<LeafId, WordCause>
-    requires { KeepsLimits cluster.now }
-    ensures { result ≡ promotable_at cluster.now place (W.words words.now) }
+fn promotable_at<W: Words>(names: &Names<'_>, place: usize, words: &W) -> Result<LeafId, WordCause>
+    ensures { result ≡ promotable_at names.now place (W.words words.now) }
 {
-    let leaf = leaf_at(cluster, place, words)?;
-    promotable(cluster, leaf)
+    let leaf = leaf_at(names, place, words)?;
+    promotable(names, leaf)
 }
 
 #[tactic(auto, unfolding(crate::specs::Status::score_at))]
@@ -268,41 +264,38 @@ fn score_at<W: Words>(place: usize, words: &W) -> Result<Score, WordCause>
 }
 
 #[tactic(auto, unfolding(crate::specs::Status::promotion_line))]
-fn promotion_line<W: Words>(cluster: &Cluster, words: &W) -> Result<Told, WordCause>
-    requires { KeepsLimits cluster.now }
-    ensures value { result ≡ promotion_line cluster.now (W.words words.now) }
+fn promotion_line<W: Words>(names: &Names<'_>, words: &W) -> Result<Told, WordCause>
+    ensures value { result ≡ promotion_line names.now (W.words words.now) }
     ensures known { (nodes : ℕ) → IfOk result (λ told. is_known nodes told ≡ true) }
 {
-    let node = node_at(cluster, 1, words)?;
-    let leaf = promotable_at(cluster, 2, words)?;
+    let node = node_at(names, 1, words)?;
+    let leaf = promotable_at(names, 2, words)?;
     let score = score_at(3, words)?;
     end_at(4, words)?;
     Ok(Told::Promoting(Promotion { leaf, node, score }))
 }
 
-fn told_as<W: Words>(cluster: &Cluster, form: StatusWord, words: &W) -> Result<Told, WordCause>
-    requires { KeepsLimits cluster.now }
-    ensures value { result ≡ told_as cluster.now form (W.words words.now) }
-    ensures known { IfOk result (λ told. is_known (length cluster.now.nodes) told ≡ true) }
+fn told_as<W: Words>(names: &Names<'_>, form: StatusWord, words: &W) -> Result<Told, WordCause>
+    ensures value { result ≡ told_as names.now form (W.words words.now) }
+    ensures known { IfOk result (λ told. is_known (length names.now.nodes) told ≡ true) }
 {
     match form {
         StatusWord::Now => now_line(words),
         StatusWord::Quorum => quorum_line(words),
-        StatusWord::Node => node_line(cluster, words),
-        StatusWord::Op => op_line(cluster, words),
-        StatusWord::Cleanup => cleanup_line(cluster, words),
-        StatusWord::Promotion => promotion_line(cluster, words),
+        StatusWord::Node => node_line(names, words),
+        StatusWord::Op => op_line(names, words),
+        StatusWord::Cleanup => cleanup_line(names, words),
+        StatusWord::Promotion => promotion_line(names, words),
     }
 }
 
 /// What the words of a line tell.
 #[tactic(auto, unfolding(crate::specs::Status::told_of))]
-pub fn told_of<W: Words>(cluster: &Cluster, words: &W) -> Result<Told, WordCause>
-    requires { KeepsLimits cluster.now }
-    ensures value { result ≡ told_of cluster.now (W.words words.now) }
-    ensures known { IfOk result (λ told. is_known (length cluster.now.nodes) told ≡ true) }
+pub fn told_of<W: Words>(names: &Names<'_>, words: &W) -> Result<Told, WordCause>
+    ensures value { result ≡ told_of names.now (W.words words.now) }
+    ensures known { IfOk result (λ told. is_known (length names.now.nodes) told ≡ true) }
 {
     let first = word_at(0, words)?;
     let form = status_word(first)?;
-    told_as(cluster, form, words)
+    told_as(names, form, words)
 }

@@ -4,7 +4,6 @@ ghost use Rattle.std.specs.Prelude.{◌≡◌, ◌<◌, ◌^◌, ◌++◌, ◌�
 ghost use Rattle.std.specs.List.{list_all};
 ghost use Rattle.cluster_types.specs.declared.journal.Promotion.{Promotion as PromotionOf};
 ghost use Rattle.cluster_types.specs.Journals.{Orderly, in_flight, moment_of};
-ghost use Rattle.cluster_types.specs.Valid.{KeepsLimits};
 ghost use Rattle.faults.specs.Reading.{Gives};
 ghost use Rattle.input_reading.specs.FirstJournal.{all_differ, is_known, is_repeated, is_promotion_of_same_cell, journal_of, status_journal, with_status_line, with_status_lines};
 
@@ -13,19 +12,19 @@ use crate::status::status_lines::told_of;
 use crate::status::told::Told;
 use crate::status::told_lines::ToldLines;
 use crate::{StatusCause, StatusFault};
-use cluster_types::{Cluster, Journal};
+use cluster_types::Journal;
 use crm_lex::Line;
 use faults::with;
+use names::Names;
 use std::alloc::Global;
 
 /// What one more line tells; `Repeated` where a line before it told what may be told once.
-fn told_on(cluster: &Cluster, told: &ToldLines, line: &Line) -> Result<Told, StatusFault>
-    requires { KeepsLimits cluster.now }
-    ensures read { Gives (λ one. told.now ++ one ∷ []) result (with_status_line cluster.now told.now line.now) }
-    ensures known { IfOk result (λ one. is_known (length cluster.now.nodes) one ≡ true) }
+fn told_on(names: &Names<'_>, told: &ToldLines, line: &Line) -> Result<Told, StatusFault>
+    ensures read { Gives (λ one. told.now ++ one ∷ []) result (with_status_line names.now told.now line.now) }
+    ensures known { IfOk result (λ one. is_known (length names.now.nodes) one ≡ true) }
     ensures first { IfOk result (λ one. is_repeated told.now one ≡ false) }
 {
-    match told_of(cluster, line) {
+    match told_of(names, line) {
         Ok(one) if told.is_repeated(one) => Err(StatusFault::At {
             line: line.line,
             cause: StatusCause::Repeated,
@@ -40,45 +39,42 @@ fn told_on(cluster: &Cluster, told: &ToldLines, line: &Line) -> Result<Told, Sta
 
 /// Reads one more line.
 #[tactic(auto, using(crate::proofs::FirstJournals::one_more_known, crate::proofs::FirstJournals::one_more_differs))]
-fn with_line(cluster: &Cluster, told: ToldLines, line: &Line) -> Result<ToldLines, StatusFault>
-    requires { KeepsLimits cluster.now }
-    ensures read { Gives (λ more. more) result (with_status_line cluster.now told line.now) }
-    ensures known { IfOk result (λ more. list_all (is_known (length cluster.now.nodes)) told ≡ true
-        → list_all (is_known (length cluster.now.nodes)) more ≡ true) }
+fn with_line(names: &Names<'_>, told: ToldLines, line: &Line) -> Result<ToldLines, StatusFault>
+    ensures read { Gives (λ more. more) result (with_status_line names.now told line.now) }
+    ensures known { IfOk result (λ more. list_all (is_known (length names.now.nodes)) told ≡ true
+        → list_all (is_known (length names.now.nodes)) more ≡ true) }
     ensures once { IfOk result (λ more. all_differ told ≡ true → all_differ more ≡ true) }
 {
-    let one = told_on(cluster, &told, line);
+    let one = told_on(names, &told, line);
     let (told, one) = with(told, one)?;
     Ok(told.with(one)?)
 }
 
 #[tactic(auto, using(crate::proofs::LinesSoFar::one_more))]
-fn with_lines(alloc: Global, cluster: &Cluster, lines: &[Line]) -> Result<ToldLines, StatusFault>
-    requires { KeepsLimits cluster.now }
-    ensures read { Gives (λ told. told) result (with_status_lines cluster.now [] lines.now) }
-    ensures known { IfOk result (λ told. list_all (is_known (length cluster.now.nodes)) told ≡ true) }
+fn with_lines(alloc: Global, names: &Names<'_>, lines: &[Line]) -> Result<ToldLines, StatusFault>
+    ensures read { Gives (λ told. told) result (with_status_lines names.now [] lines.now) }
+    ensures known { IfOk result (λ told. list_all (is_known (length names.now.nodes)) told ≡ true) }
     ensures once { IfOk result (λ told. all_differ told ≡ true) }
 {
     let mut told = ToldLines::new(alloc);
     for line in lines {
-        told = with_line(cluster, told, line)?;
+        told = with_line(names, told, line)?;
     }
     Ok(told)
 }
 
 /// The first journal of all that the lines told.
 #[tactic(auto, using(crate::proofs::FirstJournals::journal_in_order, crate::proofs::FirstJournals::journal_is_idle, crate::proofs::FirstJournals::journal_moment, crate::proofs::FirstJournals::promotions_differ))]
-fn told_journal(alloc: Global, cluster: &Cluster, told: &[Told]) -> Result<Journal, StatusFault>
-    requires limits { KeepsLimits cluster.now }
-    requires known { list_all (is_known (length cluster.now.nodes)) told.now ≡ true }
+fn told_journal(alloc: Global, names: &Names<'_>, told: &[Told]) -> Result<Journal, StatusFault>
+    requires known { list_all (is_known (length names.now.nodes)) told.now ≡ true }
     requires once { all_differ told.now ≡ true }
-    ensures read { Gives (λ journal. journal) result (Ok (journal_of cluster.now told.now)) }
+    ensures read { Gives (λ journal. journal) result (Ok (journal_of names.now told.now)) }
     ensures orderly { IfOk result (λ journal. Orderly journal.events) }
     ensures idle { IfOk result (λ journal. in_flight journal.events ≡ []) }
     ensures moment { IfOk result (λ journal. moment_of journal.events < 2 ^ 40) }
     ensures once { IfOk result (λ journal. AllPairs (λ (one other : PromotionOf). is_promotion_of_same_cell one other ≡ false) journal.promotions) }
 {
-    Ok(journal_of(alloc, cluster, told)?)
+    Ok(journal_of(alloc, names, told)?)
 }
 
 /// Reads the status of a cluster as its first journal (Pacemaker Explained, operation history; the lines are a rule of this project).
@@ -95,14 +91,13 @@ fn told_journal(alloc: Global, cluster: &Cluster, told: &[Told]) -> Result<Journ
 /// `MissingWord` where the line ends too early, `ExtraWord` past its end, `UnknownName` at a NODE or LEAF that the cluster doesn't have, and
 /// `BadValue` at any other word that isn't one of its place. `Repeated` comes where all words of a line are read, and a line before it said the
 /// moment, quorum, the state of this node or the score of this cell. `NoMemory` comes when memory runs out.
-pub fn read_status(alloc: Global, cluster: &Cluster, lines: &[Line]) -> Result<Journal, StatusFault>
-    requires { KeepsLimits cluster.now }
-    ensures read { Gives (λ journal. journal) result (status_journal cluster.now lines.now) }
+pub fn read_status(alloc: Global, names: &Names<'_>, lines: &[Line]) -> Result<Journal, StatusFault>
+    ensures read { Gives (λ journal. journal) result (status_journal names.now lines.now) }
     ensures orderly { IfOk result (λ journal. Orderly journal.events) }
     ensures idle { IfOk result (λ journal. in_flight journal.events ≡ []) }
     ensures moment { IfOk result (λ journal. moment_of journal.events < 2 ^ 40) }
     ensures once { IfOk result (λ journal. AllPairs (λ (one other : PromotionOf). is_promotion_of_same_cell one other ≡ false) journal.promotions) }
 {
-    let told = with_lines(alloc, cluster, lines)?;
-    told_journal(alloc, cluster, told.as_slice())
+    let told = with_lines(alloc, names, lines)?;
+    told_journal(alloc, names, told.as_slice())
 }

@@ -2,15 +2,14 @@
 
 ghost use Rattle.std.specs.Prelude.{◌≡◌, ◌<◌, ◌^◌, length, IfOk};
 ghost use Rattle.crm_lex.specs.Names.{is};
-ghost use Rattle.cluster_types.specs.Valid.{KeepsLimits};
 ghost use Rattle.faults.specs.Reading.{Reads};
 ghost use Rattle.input_reading.specs.Places.{code_at, line_end_at, leaf_at, node_at, number_at, seconds_at, word_at, yes_at, yes_or_no};
 
-use crate::words::named::{leaf_of, node_of};
 use crate::words::number_words::{code_of, number_of, seconds_of};
 use crate::{WordCause, Words};
-use cluster_types::{Cluster, LeafId, NodeId};
+use cluster_types::{LeafId, NodeId};
 use crm_lex::is;
+use names::Names;
 
 /// The word at this place.
 pub fn word_at<W: Words>(place: usize, words: &W) -> Result<&[u8], WordCause>
@@ -34,24 +33,22 @@ pub fn end_at<W: Words>(place: usize, words: &W) -> Result<(), WordCause>
 
 /// The node that is named at this place. `UnknownName` comes when the cluster doesn't have it.
 #[tactic(auto, unfolding(crate::specs::Places::node_at))]
-pub fn node_at<W: Words>(cluster: &Cluster, place: usize, words: &W) -> Result<NodeId, WordCause>
-    requires { KeepsLimits cluster.now }
-    ensures value { result ≡ node_at cluster.now place (W.words words.now) }
-    ensures within { IfOk result (λ node. node < length cluster.now.nodes) }
+pub fn node_at<W: Words>(names: &Names<'_>, place: usize, words: &W) -> Result<NodeId, WordCause>
+    ensures value { result ≡ node_at names.now place (W.words words.now) }
+    ensures within { IfOk result (λ node. node < length names.now.nodes) }
 {
     let word = word_at(place, words)?;
-    node_of(cluster, word).ok_or(WordCause::UnknownName)
+    names.node_of(word).ok_or(WordCause::UnknownName)
 }
 
 /// The leaf that is named at this place. `UnknownName` comes when the cluster doesn't have it.
 #[tactic(auto, unfolding(crate::specs::Places::leaf_at))]
-pub fn leaf_at<W: Words>(cluster: &Cluster, place: usize, words: &W) -> Result<LeafId, WordCause>
-    requires { KeepsLimits cluster.now }
-    ensures value { result ≡ leaf_at cluster.now place (W.words words.now) }
-    ensures within { IfOk result (λ leaf. leaf < length cluster.now.leaves) }
+pub fn leaf_at<W: Words>(names: &Names<'_>, place: usize, words: &W) -> Result<LeafId, WordCause>
+    ensures value { result ≡ leaf_at names.now place (W.words words.now) }
+    ensures within { IfOk result (λ leaf. leaf < length names.now.leaves) }
 {
     let word = word_at(place, words)?;
-    leaf_of(cluster, word).ok_or(WordCause::UnknownName)
+    names.leaf_of(word).ok_or(WordCause::UnknownName)
 }
 
 /// The number of an action, from 1 to 4,294,967,295. `BadValue` comes at any other word.

@@ -4,4 +4,4 @@ use Rattle.input_reading.proofs.results.result_lines.read_result.Goals as goal
 
 pub returns-clause-whole : goal.returns-clause-whole
 returns-clause-whole c all e =
-    c.result_of.ensures.value ∙ kept_suffice c.args.cluster.now c.args.moment c.args.before c.args.line c.args.words.now all e
+    c.result_of.ensures.value ∙ kept_suffice c.args.names.now c.args.moment c.args.before c.args.line c.args.words.now all e

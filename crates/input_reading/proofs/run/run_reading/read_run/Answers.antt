@@ -10,5 +10,5 @@ pub returns-clause-named : goal.returns-clause-named
 returns-clause-named c =
     let l = c.loop-line in
     let full : drop l.line-index c.args.lines.now ≡ [] = drop_all l.line-index c.args.lines.now (omega (arith, c.loop-line-test.false)) in
-    let all : read_run_lines c.args.cluster.now c.args.lines.now ≡ Ok l.read.items = l.invariant ∙ ap (with_run_lines c.args.cluster.now l.read.items) full in
-    subst AreNamed (sym c.from.ensures) (subst (λ r. IfOk r AreNamed) all (read_named c.args.cluster.now c.args.lines.now))
+    let all : read_run_lines c.args.names.now c.args.lines.now ≡ Ok l.read.items = l.invariant ∙ ap (with_run_lines c.args.names.now l.read.items) full in
+    subst AreNamed (sym c.from.ensures) (subst (λ r. IfOk r AreNamed) all (read_named c.args.names.now c.args.lines.now))

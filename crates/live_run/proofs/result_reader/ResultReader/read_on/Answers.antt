@@ -18,7 +18,7 @@ loop-came-init g c = record {
 
 pub returns-in-Some-clause-until : goal.returns-in-Some-clause-until
 returns-in-Some-clause-until g c =
-    until_then c.args.cluster.now (reader_lines c.args.self.now) (reader_lines c.loop-came.self) (reader_lines c.step.new.self) (g.S.Source.left (source_in c.args.self.now))
+    until_then c.args.names.now (reader_lines c.args.self.now) (reader_lines c.loop-came.self) (reader_lines c.step.new.self) (g.S.Source.left (source_in c.args.self.now))
     (g.S.Source.left (source_in c.loop-came.self)) (g.S.Source.left (source_in c.step.new.self)) (Some c.in-Some.came) c.loop-came.invariant.passed
     c.in-Some.ensures.until
 
@@ -32,9 +32,9 @@ loop-came-preserved g c =
     let count_now = now.count in
     record {
       told = so_far.told
-          ∙ none_brings c.args.cluster.now (reader_lines c.loop-came.self) (reader_lines c.step.new.self) (g.S.Source.left (source_in c.loop-came.self))
+          ∙ none_brings c.args.names.now (reader_lines c.loop-came.self) (reader_lines c.step.new.self) (g.S.Source.left (source_in c.loop-came.self))
           (g.S.Source.left (source_in c.step.new.self)) now.brings;
-      passed = until_then c.args.cluster.now (reader_lines c.args.self.now) (reader_lines c.loop-came.self) (reader_lines c.step.new.self) (g.S.Source.left (source_in c.args.self.now))
+      passed = until_then c.args.names.now (reader_lines c.args.self.now) (reader_lines c.loop-came.self) (reader_lines c.step.new.self) (g.S.Source.left (source_in c.args.self.now))
           (g.S.Source.left (source_in c.loop-came.self)) (g.S.Source.left (source_in c.step.new.self)) None so_far.passed now.until;
       ready = now.ready;
       going = now.going refl;

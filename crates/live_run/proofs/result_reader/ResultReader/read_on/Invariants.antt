@@ -6,8 +6,8 @@ use Rattle.live_run.proofs.result_reader.ResultReader.read_on.Given as goal
 
 abbrev pub invariant-loop-came : goal.invariant-loop-came
 invariant-loop-came g l = record {
-  told : told_coming l.cluster (reader_lines l.fn.self) (g.S.Source.left (source_in l.fn.self)) ≡ told_coming l.cluster (reader_lines l.self) (g.S.Source.left (source_in l.self));
-  passed : HasPassed l.cluster (reader_lines l.fn.self) (reader_lines l.self) (g.S.Source.left (source_in l.fn.self)) (g.S.Source.left (source_in l.self));
+  told : told_coming l.names (reader_lines l.fn.self) (g.S.Source.left (source_in l.fn.self)) ≡ told_coming l.names (reader_lines l.self) (g.S.Source.left (source_in l.self));
+  passed : HasPassed l.names (reader_lines l.fn.self) (reader_lines l.self) (g.S.Source.left (source_in l.fn.self)) (g.S.Source.left (source_in l.self));
   ready : AreReady (reader_lines l.self);
   going : (reader_lines l.self).reading.stop ≡ None;
   counted : (reader_lines l.self).at.before ≡ (reader_lines l.fn.self).at.before;

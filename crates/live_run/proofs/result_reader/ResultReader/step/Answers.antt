@@ -16,13 +16,13 @@ take_line-requires-clause-numbers g c =
 pub returns-in-Line-clause-brings : goal.returns-in-Line-clause-brings
 returns-in-Line-clause-brings g c =
     rw (c.take_line.ensures.came, c.take_line.ensures.lines, c.take_line.ensures.place)
-    (line_brings c.args.cluster.now c.args.self.now.at _ _ _ _ (c.in-Line.ensures.answered c.requires.going))
+    (line_brings c.args.names.now c.args.self.now.at _ _ _ _ (c.in-Line.ensures.answered c.requires.going))
 
 pub returns-in-Line-clause-ready : goal.returns-in-Line-clause-ready
 returns-in-Line-clause-ready g c =
     rw (c.take_line.ensures.lines, c.take_line.ensures.place)
     (ready_behind _ _ _ _ (c.in-Line.ensures.answered c.requires.going) c.args.self.now.at
-    (line_says c.args.cluster.now c.args.self.now.at (reading_of c.line.new.self).raw) c.requires.ready c.take_line.ensures.fits)
+    (line_says c.args.names.now c.args.self.now.at (reading_of c.line.new.self).raw) c.requires.ready c.take_line.ensures.fits)
 
 pub returns-in-Line-clause-fewer : goal.returns-in-Line-clause-fewer
 returns-in-Line-clause-fewer g c none = rw c.take_line.ensures.lines (fewer_left _ _ _ _ (c.in-Line.ensures.answered c.requires.going))
@@ -30,7 +30,7 @@ returns-in-Line-clause-fewer g c none = rw c.take_line.ensures.lines (fewer_left
 pub returns-in-Line-clause-counted : goal.returns-in-Line-clause-counted
 returns-in-Line-clause-counted g c =
     rw (c.take_line.ensures.came, c.take_line.ensures.place)
-    (before_behind c.args.self.now.at (line_says c.args.cluster.now c.args.self.now.at (reading_of c.line.new.self).raw) _)
+    (before_behind c.args.self.now.at (line_says c.args.names.now c.args.self.now.at (reading_of c.line.new.self).raw) _)
 
 -- it isn't given
 
@@ -41,27 +41,27 @@ overflow_cast-result g c =
 
 pub returns-in-TooLong-clause-brings : goal.returns-in-TooLong-clause-brings
 returns-in-TooLong-clause-brings g c =
-    too_long_brings c.args.cluster.now c.args.self.now.at _ _ _ _ (c.in-TooLong.ensures.answered c.requires.going)
+    too_long_brings c.args.names.now c.args.self.now.at _ _ _ _ (c.in-TooLong.ensures.answered c.requires.going)
 
 pub returns-in-TooLarge-clause-brings : goal.returns-in-TooLarge-clause-brings
 returns-in-TooLarge-clause-brings g c =
-    too_large_brings c.args.cluster.now c.args.self.now.at _ _ _ _ (c.in-TooLarge.ensures.answered c.requires.going)
+    too_large_brings c.args.names.now c.args.self.now.at _ _ _ _ (c.in-TooLarge.ensures.answered c.requires.going)
 
 -- what was read
 
 pub returns-in-Line-clause-until : goal.returns-in-Line-clause-until
 returns-in-Line-clause-until g c =
     rw (c.take_line.ensures.came, c.take_line.ensures.lines, c.take_line.ensures.place)
-    (line_until c.args.cluster.now c.args.self.now.at _ _ _ _ (c.in-Line.ensures.answered c.requires.going))
+    (line_until c.args.names.now c.args.self.now.at _ _ _ _ (c.in-Line.ensures.answered c.requires.going))
 
 pub returns-in-End-clause-until : goal.returns-in-End-clause-until
-returns-in-End-clause-until g c = end_until c.args.cluster.now c.args.self.now.at _ _ _ _ (c.in-End.ensures.answered c.requires.going)
+returns-in-End-clause-until g c = end_until c.args.names.now c.args.self.now.at _ _ _ _ (c.in-End.ensures.answered c.requires.going)
 
 pub returns-in-TooLong-clause-until : goal.returns-in-TooLong-clause-until
-returns-in-TooLong-clause-until g c = too_long_until c.args.cluster.now c.args.self.now.at _ _ _ _ (c.in-TooLong.ensures.answered c.requires.going)
+returns-in-TooLong-clause-until g c = too_long_until c.args.names.now c.args.self.now.at _ _ _ _ (c.in-TooLong.ensures.answered c.requires.going)
 
 pub returns-in-TooLarge-clause-until : goal.returns-in-TooLarge-clause-until
-returns-in-TooLarge-clause-until g c = too_large_until c.args.cluster.now c.args.self.now.at _ _ _ _ (c.in-TooLarge.ensures.answered c.requires.going)
+returns-in-TooLarge-clause-until g c = too_large_until c.args.names.now c.args.self.now.at _ _ _ _ (c.in-TooLarge.ensures.answered c.requires.going)
 
 pub returns-in-Failed-clause-until : goal.returns-in-Failed-clause-until
-returns-in-Failed-clause-until g c = fault_until c.args.cluster.now c.args.self.now.at _ _ _ _ (c.in-Failed.ensures.answered c.requires.going)
+returns-in-Failed-clause-until g c = fault_until c.args.names.now c.args.self.now.at _ _ _ _ (c.in-Failed.ensures.answered c.requires.going)
