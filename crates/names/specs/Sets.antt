@@ -10,8 +10,8 @@ use Rattle.cluster_types.specs.Valid.{KeepsLimits}
 use Rattle.indexmap.specs.IndexSet.{IndexSet}
 
 -- the names that a set borrows, in its order
-abbrev pub names_in : {S : Type 0} → IndexSet (Bor (List ℕ)) S → List (List ℕ)
-names_in set = map (λ (name : Bor (List ℕ)). name.now) set.keys
+abbrev pub borrowed_names : {S : Type 0} → IndexSet (Bor (List ℕ)) S → List (List ℕ)
+borrowed_names set = map (λ (name : Bor (List ℕ)). name.now) set.keys
 
 -- one more name goes last, if it isn't one of them
 abbrev pub with_name : List (List ℕ) → List ℕ → List (List ℕ)
@@ -26,5 +26,5 @@ leaf_names leaves = map (λ (leaf : Leaf). leaf.name) leaves
 -- the sets have the names of the nodes and of the leaves, in the order of their numbers
 pub record AreNamesOf {S T : Type 0} (nodes : IndexSet (Bor (List ℕ)) S) (leaves : IndexSet (Bor (List ℕ)) T) (c : Cluster) : Type 0 where
   pub limits : KeepsLimits c
-  pub nodes_in_order : names_in nodes ≡ node_names c.nodes
-  pub leaves_in_order : names_in leaves ≡ leaf_names c.leaves
+  pub nodes_in_order : borrowed_names nodes ≡ node_names c.nodes
+  pub leaves_in_order : borrowed_names leaves ≡ leaf_names c.leaves

@@ -4,7 +4,7 @@ ghost use Rattle.std.specs.Prelude.{◌≡◌, ◌≢◌, ◌<◌, ◌≤◌, Al
 ghost use Rattle.cluster_types.specs.declared.leaf.Leaf.{Leaf as LeafOf};
 ghost use Rattle.cluster_types.specs.declared.node.Node.{Node as NodeOf};
 ghost use Rattle.crm_lex.specs.Names.{is};
-ghost use Rattle.names.specs.Sets.{leaf_names, names_in, node_names, with_name};
+ghost use Rattle.names.specs.Sets.{leaf_names, borrowed_names, node_names, with_name};
 
 use cluster_types::{Leaf, Node};
 use faults::NoMemory;
@@ -13,7 +13,7 @@ use std::alloc::Global;
 
 /// Adds the name behind the others, if it isn't one of them.
 fn add<'c>(names: &mut IndexSet<&'c [u8]>, name: &'c [u8]) -> Result<(), NoMemory>
-    ensures { OnOk result (names_in names.new ≡ with_name (names_in names.old) name.now) }
+    ensures { OnOk result (borrowed_names names.new ≡ with_name (borrowed_names names.old) name.now) }
 {
     names.insert(name)?;
     Ok(())
@@ -22,7 +22,7 @@ fn add<'c>(names: &mut IndexSet<&'c [u8]>, name: &'c [u8]) -> Result<(), NoMemor
 /// The names of the nodes. No two of them may be the same.
 pub fn node_names<'c>(alloc: Global, nodes: &'c [Node]) -> Result<IndexSet<&'c [u8]>, NoMemory>
     requires { AllPairs (λ (one other : NodeOf). one.name ≢ other.name) nodes.now }
-    ensures { IfOk result (λ names. names_in names ≡ node_names nodes.now) }
+    ensures { IfOk result (λ names. borrowed_names names ≡ node_names nodes.now) }
 {
     let mut names = IndexSet::with_capacity(alloc, nodes.len())?;
     for node in nodes {
@@ -34,7 +34,7 @@ pub fn node_names<'c>(alloc: Global, nodes: &'c [Node]) -> Result<IndexSet<&'c [
 /// The names of the leaves. No two of them may be the same.
 pub fn leaf_names<'c>(alloc: Global, leaves: &'c [Leaf]) -> Result<IndexSet<&'c [u8]>, NoMemory>
     requires { AllPairs (λ (one other : LeafOf). one.name ≢ other.name) leaves.now }
-    ensures { IfOk result (λ names. names_in names ≡ leaf_names leaves.now) }
+    ensures { IfOk result (λ names. borrowed_names names ≡ leaf_names leaves.now) }
 {
     let mut names = IndexSet::with_capacity(alloc, leaves.len())?;
     for leaf in leaves {
@@ -46,9 +46,9 @@ pub fn leaf_names<'c>(alloc: Global, leaves: &'c [Leaf]) -> Result<IndexSet<&'c 
 /// The index of the name. It asks for at most 1,000 names.
 #[tactic(auto, using(crate::proofs::Places::position_map))]
 pub fn place_of(names: &IndexSet<&[u8]>, word: &[u8]) -> Option<u32>
-    requires { length (names_in names.now) ≤ 1000 }
-    ensures value { result ≡ position (is word.now) (names_in names.now) }
-    ensures within { IfSome result (λ place. place < length (names_in names.now)) }
+    requires { length (borrowed_names names.now) ≤ 1000 }
+    ensures value { result ≡ position (is word.now) (borrowed_names names.now) }
+    ensures within { IfSome result (λ place. place < length (borrowed_names names.now)) }
 {
     let place = names.get_index_of(word)?;
     Some(place as u32)

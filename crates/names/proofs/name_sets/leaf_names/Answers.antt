@@ -1,6 +1,6 @@
 use Rattle.std.proofs.Common.{rules, ◌≡◌, ◌<◌, length, get_or}
 use Rattle.cluster_types.specs.declared.leaf.Leaf.{Leaf}
-use Rattle.names.specs.Sets.{names_in, with_name}
+use Rattle.names.specs.Sets.{borrowed_names, with_name}
 use Rattle.names.proofs.Sets.{one_more}
 use Rattle.names.proofs.name_sets.leaf_names.Goals as goal
 
@@ -11,5 +11,5 @@ loop-leaf-preserved c =
     let leaf = c.leaf-item.result in
     let within : i < length leaves = search rules in
     let is_it : leaf ≡ get_or leaves i leaf = search rules in
-    let step : names_in c.add.new.names ≡ with_name (names_in c.loop-leaf.names) leaf.name = search rules in
+    let step : borrowed_names c.add.new.names ≡ with_name (borrowed_names c.loop-leaf.names) leaf.name = search rules in
     one_more (λ (each : Leaf). each.name) leaves c.requires i leaf within is_it _ _ c.loop-leaf.invariant step
