@@ -179,6 +179,14 @@ pub stated_valid : (crm : Crm) (leaves : Leaves) (cluster : Cluster) → AreStat
     → resolution_of leaves crm.statements ≡ Ok cluster → IsValid cluster
 stated_valid crm leaves cluster stated e r = resolved_valid stated.lines crm leaves cluster stated.are e r
 
+-- the cluster that a step gave, where it gave one
+pub cluster_given : (crm : Crm) (leaves : Leaves) (given : Result Cluster (Fault InputCause)) → AreStated crm → expansion_of crm.statements ≡ Ok leaves
+    → Gives (λ (cluster : Cluster). cluster) given (faulting cause.Cluster (resolution_of leaves crm.statements)) → IfOk given (λ cluster. IsValid cluster)
+cluster_given crm leaves given stated e h =
+    by_result (λ (r : Result Cluster (Fault InputCause)). Gives (λ (cluster : Cluster). cluster) r (faulting cause.Cluster (resolution_of leaves crm.statements))
+    → IfOk r (λ cluster. IsValid cluster))
+    (λ cluster read. stated_valid crm leaves cluster stated e (faulting-ok cause.Cluster (resolution_of leaves crm.statements) cluster read)) (λ fault read. tt) given h
+
 -- the leaves that a step gave
 pub leaves_given : (statements : List Statement) (leaves : Leaves) → faulting cause.Leaves (expansion_of statements) ≡ Ok leaves → expansion_of statements ≡ Ok leaves
 leaves_given statements leaves e = faulting-ok cause.Leaves (expansion_of statements) leaves e

@@ -185,15 +185,20 @@ fn with_cluster(alloc: Global, found: Configuration, cluster: Cluster) -> Result
     with_results(alloc, head, lines_after(lines, marks.results_at, marks.end))
 }
 
+fn resolved(alloc: Global, crm: &Crm, leaves: &Leaves) -> Result<Cluster, InputFault>
+    ensures { Gives (λ cluster. cluster) result (faulting cause.Cluster (resolution_of leaves.now crm.now.statements)) }
+{
+    resolve(alloc, crm, leaves).map_err(|fault| fault.map(InputCause::Cluster))
+}
+
 /// The cluster that a configuration says.
-#[tactic(auto, using(crate::proofs::ValidInput::stated_valid))]
 pub(crate) fn cluster_in(alloc: Global, found: &Configuration) -> Result<Cluster, InputFault>
     requires stated { AreStated found.now.crm }
     requires leaves { expansion_of found.now.crm.statements ≡ Ok found.now.leaves }
     ensures cluster { Gives (λ cluster. cluster) result (faulting cause.Cluster (resolution_of found.now.leaves found.now.crm.statements)) }
     ensures valid { IfOk result (λ cluster. IsValid cluster) }
 {
-    resolve(alloc, &found.crm, &found.leaves).map_err(|fault| fault.map(InputCause::Cluster))
+    resolved(alloc, &found.crm, &found.leaves)
 }
 
 /// Reads the status, where the configuration says this cluster.
