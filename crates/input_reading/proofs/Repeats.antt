@@ -6,7 +6,7 @@ use Rattle.lemmas.proofs.Booleans.{cond-or}
 use Rattle.cluster_types.specs.declared.journal.Promotion.{Promotion}
 use Rattle.input_reading.specs.declared.status.told.Told.TheVariants.{Now, Quorum, Node, Past, Promoting}
 use Rattle.input_reading.specs.declared.status.told_keys.ToldKeys.{ToldKeys}
-use Rattle.input_reading.specs.Repeats.{is_same_pair, AddsKey}
+use Rattle.input_reading.specs.Inner.Repeats.{is_same_pair, AddsKey}
 
 -- one more cell adds what its line tells
 pub adds_cell : (old new : ToldKeys) (p : Promotion) → new.moment ≡ old.moment → new.quorum ≡ old.quorum → new.nodes ≡ old.nodes

@@ -1,10 +1,10 @@
+pub mod Inner
 pub mod Causes
 pub mod Reading
 pub mod Sections
 pub mod Traces
 pub mod LineWords
 pub mod RunReading
-pub mod Said
 pub mod Written
 pub mod Numbers
 pub mod OpWords
@@ -15,4 +15,3 @@ pub mod Recovery
 pub mod Results
 pub mod Status
 pub mod FirstJournal
-pub mod Repeats

@@ -3,7 +3,7 @@
 ghost use Rattle.std.specs.Prelude.{◌≡◌, IfOk};
 ghost use Rattle.faults.specs.Reading.{Gives};
 ghost use Rattle.input_reading.specs.RunReading.{read_run_lines, text_line};
-ghost use Rattle.input_reading.specs.Said.{said_of};
+ghost use Rattle.input_reading.specs.Inner.Said.{said_of};
 ghost use Rattle.input_reading.specs.Written.{AreNamed};
 
 use crate::run::line::{Said, line_of_words};

@@ -2,7 +2,7 @@
 
 ghost use Rattle.std.specs.Prelude.{◌≡◌, false, OnOk};
 ghost use Rattle.input_reading.specs.declared.status.told.Told.{Told as ToldOf};
-ghost use Rattle.input_reading.specs.Repeats.{has_told, AddsKey};
+ghost use Rattle.input_reading.specs.Inner.Repeats.{has_told, AddsKey};
 
 use crate::status::told::Told;
 use cluster_types::{LeafId, NodeId};

@@ -20,7 +20,7 @@ pub(crate) struct ToldLines {
 impl Model for ToldLines {
     ghost use Rattle.std.specs.Prelude.{List};
     ghost use Rattle.input_reading.specs.declared.status.told.Told.{Told};
-    ghost use Rattle.input_reading.specs.Repeats.{HasToldKeysOf};
+    ghost use Rattle.input_reading.specs.Inner.Repeats.{HasToldKeysOf};
 
     ghost Value = { List Told };
 

@@ -1,7 +1,7 @@
 use Rattle.std.proofs.Common.{rules, ◌≡◌, ℕ, true, cond, refl}
 use Rattle.std.specs.HashSet.{contains}
 use Rattle.input_reading.specs.declared.status.told_keys.ToldKeys.{ToldKeys}
-use Rattle.input_reading.specs.Repeats.{is_same_pair}
+use Rattle.input_reading.specs.Inner.Repeats.{is_same_pair}
 use Rattle.input_reading.proofs.Repeats.{adds_cell}
 use Rattle.input_reading.proofs.status.told_keys.ToldKeys.add.Goals as goal
 

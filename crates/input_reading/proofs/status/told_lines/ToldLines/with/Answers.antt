@@ -2,7 +2,7 @@ use Rattle.std.proofs.Common.{rules, ◌≡◌, Bool, ◌||◌, List, [], ◌∷
 use Rattle.std.specs.List.{list_any}
 use Rattle.lemmas.proofs.Searches.{any-more}
 use Rattle.input_reading.specs.FirstJournal.{is_again}
-use Rattle.input_reading.specs.Repeats.{AddsKey}
+use Rattle.input_reading.specs.Inner.Repeats.{AddsKey}
 use Rattle.input_reading.proofs.status.told_lines.ToldLines.with.Goals as goal
 
 -- a test that passed somewhere or passes now passes somewhere with one more element
