@@ -2,7 +2,6 @@
 use Rattle.std.proofs.Common.{arith, ◌≡◌, ◌<◌, ◌≤◌, ℕ, Bool, true, Option, Some, None, List, [], ◌∷◌, ◌++◌, length, refl, sym, ap, ◌∙◌, subst}
 use Rattle.std.proofs.lemmas.Bool.{eq-eqb}
 use Rattle.std.proofs.lemmas.List.{nil_from_length}
-use Rattle.cluster_io.specs.Streams.{Rose}
 use Rattle.cluster_types.specs.declared.journal.Action.{Action}
 use Rattle.cluster_types.specs.declared.journal.Answer.{Answer}
 use Rattle.cluster_types.specs.declared.journal.Event.{Event}
@@ -20,10 +19,6 @@ use Rattle.graph_exec.specs.Running.{Running, EndedSilently, Took, Went, going, 
 use Rattle.graph_exec.specs.Transitions.{EndsAs, GoneTo, HasGoneToEnd, IsExpected}
 use Rattle.graph_exec.proofs.Fewer.{asks_fewer, begin_leaves, silent_leaves, take_leaves}
 use Rattle.graph_exec.proofs.Flying.{many_flying}
-
--- a count that rose later rose since
-pub rose_since : (before middle now : ℕ) → before ≤ middle → Rose middle now → Rose before now
-rose_since before middle now more rose = omega (arith, more, rose)
 
 pub goes-on : (t : Transition) (whole : Bool) (since middle later : List Event) (rest between left : Option (List Answer))
     → Goes t whole since rest middle between → Goes t whole middle between later left → Goes t whole since rest later left
@@ -164,13 +159,6 @@ no_fault (how.Aborted event) d e = let f : ⊥ = cc in absurd f
 no_fault (how.Unexpected given) d e = absurd d
 no_fault how.SourceFault d e = absurd d
 no_fault how.Stopped d e = absurd d
-
-pub not_stopped : {R : Type 0} (end : WatchedEnd) → HasGoneToEnd end → end ≡ how.Stopped → R
-not_stopped how.Complete d e = let f : ⊥ = cc in absurd f
-not_stopped (how.Aborted event) d e = let f : ⊥ = cc in absurd f
-not_stopped (how.Unexpected given) d e = absurd d
-not_stopped how.SourceFault d e = absurd d
-not_stopped how.Stopped d e = absurd d
 
 -- where none may begin, the transition has ended when nothing is in flight; else it waits
 module _ (r : Running) (settled : is_settled (going r) r.since ≡ true) (shown : List (ℕ × Action)) (is : shown ≡ flying (going r) r.since) where

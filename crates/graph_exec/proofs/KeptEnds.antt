@@ -21,7 +21,6 @@ use Rattle.cluster_types.specs.Texts.{all_passed_lines, event_lines}
 use Rattle.graph_exec.specs.Logs.{JournalOf}
 use Rattle.graph_exec.specs.Resting.{TookResting}
 use Rattle.graph_exec.specs.Saying.{TakesAnswers}
-use Rattle.graph_exec.proofs.Carrying.{rose_since}
 use Rattle.graph_exec.proofs.Said.{taken_one}
 use Rattle.run_safety.specs.Kept.{AreWithin}
 use Rattle.run_safety.proofs.Kept.{between_passed}
@@ -30,8 +29,8 @@ use Rattle.run_safety.proofs.Rests.{at_rest, in_order}
 use Rattle.run_safety.proofs.SoFar.{runs_joined, runs_once}
 use Rattle.graph_exec.specs.declared.run.run_ending.RunEnd.{RunEnd}
 use Rattle.graph_exec.specs.declared.run.run_ending.RunEnd.TheVariants as run
-use Rattle.graph_exec.specs.Keeping.{EndsWithCause, IsUnanswered, KeepsPassed, KeepsEnd, KeepsTo, kept_end, watched_end}
-use Rattle.graph_exec.specs.Kept.{FailsWithCause, IsExpectedRun, IsPassedOfPlan, KeepsAs, KeepsPlans, OfRun}
+use Rattle.graph_exec.specs.Keeping.{IsUnanswered, KeepsPassed, KeepsEnd, KeepsTo, kept_end, watched_end}
+use Rattle.graph_exec.specs.Kept.{IsExpectedRun, IsPassedOfPlan, KeepsAs, KeepsPlans, OfRun}
 use Rattle.graph_exec.specs.Replays.{Setting, AgreesWith, IsReplayExpected, IsJournalKept, OfJournal}
 use Rattle.graph_exec.specs.Turns.{IsSaid, journal_back, plain_of}
 use Rattle.graph_exec.proofs.Joined.{said_none, said_then}
@@ -183,12 +182,6 @@ module _ (s : Setting) (es : List Event) (first : Option (List Answer)) where
       kept_in_order run.NoMemory w = tt
 
 -- what is said of the end of a run holds where its transitions are kept
-pub fails_since : (passed : List Passed) (f f' f'' : ℕ) → f ≤ f' → (end : RunEnd) → EndsWithCause f' f'' end → FailsWithCause f f'' (kept_end passed end)
-fails_since passed f f' f'' le (run.Whole journal) h = tt
-fails_since passed f f' f'' le (run.Unexpected journal given) h = tt
-fails_since passed f f' f'' le (run.SourceFault journal) h = rose_since f f' f'' le h
-fails_since passed f f' f'' le run.NoMemory h = tt
-
 pub agrees_kept : (passed : List Passed) (agrees : Cluster → List Event → ℕ → Type 0) (c : Cluster) (end : RunEnd) → OfJournal (AgreesWith agrees c) (watched_end end)
     → OfRun (λ (made : Run). AgreesWith agrees c made.journal) (kept_end passed end)
 agrees_kept passed agrees c (run.Whole journal) h = h

@@ -18,7 +18,7 @@ pub mod Losses
 pub mod Silent
 pub mod Fewer
 pub mod Carrying
-pub mod Coming
+pub mod Lasts
 pub mod Stepping
 pub mod Said
 pub mod Told
@@ -31,7 +31,7 @@ pub mod Steps
 pub mod Ready
 pub mod Served
 pub mod Closings
-pub mod ComingNext
+pub mod LastsNext
 pub mod Quiet
 pub mod Rests
 pub mod Whole

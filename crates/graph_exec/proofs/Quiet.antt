@@ -18,8 +18,8 @@ use Rattle.graph_exec.proofs.Told.{adds_nothing}
 use Rattle.run_safety.proofs.SoFar.{runs_once}
 use Rattle.graph_exec.specs.declared.run.run_ending.RunEnd.{RunEnd}
 use Rattle.graph_exec.specs.declared.run.run_ending.RunEnd.TheVariants as run
-use Rattle.graph_exec.specs.Keeping.{EndsWithCause, HasRestingFailed, IsAnswered, IsRestingRefused, IsSilent, IsUnanswered, watched_end}
-use Rattle.graph_exec.specs.Replays.{Setting, HasCause, setting, sight}
+use Rattle.graph_exec.specs.Keeping.{HasRestingFailed, IsAnswered, IsRestingRefused, IsSilent, IsUnanswered, watched_end}
+use Rattle.graph_exec.specs.Replays.{Setting, setting, sight}
 use Rattle.graph_exec.specs.Turns.{HasComeTo, CameTo, RunEndsAs, EndsBroken, RunEndsCut, EndsStopped, EndsWhole, IsSaid, plain_of}
 use Rattle.graph_exec.proofs.Joined.{came_step, said_none}
 
@@ -121,13 +121,6 @@ module _ (whole steady : Bool) (names : Option Cluster) (k : ℕ) (j : JournalOf
     ends_unanswered (run.Unexpected journal given) w = is_cut given w.said w.back w.refused journal w.leaves
     ends_unanswered (run.SourceFault journal) w = is_broken w.left_is w.not_over journal w.leaves
     ends_unanswered run.NoMemory same = record { at = idle k j.events; lines = []; runs = runs_nowhere same; told = adds_nothing names text; between = tt }
-
--- a cause of the end of a run is one of a run that is watched
-pub cause_watched : (f f' v v' : ℕ) (end : RunEnd) → EndsWithCause f f' end → HasCause f f' v v' (watched_end end)
-cause_watched f f' v v' (run.Whole journal) h = tt
-cause_watched f f' v v' (run.Unexpected journal given) h = tt
-cause_watched f f' v v' (run.SourceFault journal) h = h
-cause_watched f f' v v' run.NoMemory h = tt
 
 -- what came of the question, put together
 module _ (whole : Bool) (j : JournalOf) (rest left : Option (List Answer)) where

@@ -5,11 +5,13 @@ use Rattle.cluster_types.specs.declared.journal.Answer.{Answer}
 use Rattle.cluster_types.specs.declared.journal.Event.{Event}
 use Rattle.cluster_types.specs.Sources.{Says, told, used_up, untold}
 use Rattle.cluster_types.specs.Steps.{Transition, StepsOn, begins, takes, is_silent, Goes, here, one_more}
+use Rattle.graph_exec.specs.declared.transition.ends.WatchedEnd.{WatchedEnd}
+use Rattle.graph_exec.specs.declared.transition.ends.WatchedEnd.TheVariants as how
 use Rattle.graph_exec.specs.Rounds.{Began}
 use Rattle.graph_exec.specs.Running.{Running, Took, Went, going}
 use Rattle.graph_exec.specs.Saying.{TakesAnswers}
-use Rattle.graph_exec.specs.Transitions.{WentAsSaid}
-use Rattle.graph_exec.proofs.Carrying.{went_begun, went_nowhere, went_on, went_step}
+use Rattle.graph_exec.specs.Transitions.{HasGoneToEnd, HasSaidAll, WentAsSaid}
+use Rattle.graph_exec.proofs.Carrying.{no_fault, went_begun, went_nowhere, went_on, went_step}
 
 -- the same steps, with more answers to come behind
 module _ (ys : List Answer) where
@@ -80,3 +82,18 @@ said_taken whole old new rest left given said t = record {
   went = went_step false old new _ (Some (given ∷ [])) (Some []) t.goes_on (takes (Some (given ∷ [])) (Some []) given (told given []) t.takes);
   taken = taken_one whole rest left given (Some given) refl said;
 }
+
+-- what a steady source has said, by how the transition ended
+module _ (old new : Running) (rest left : Option (List Answer)) (over over_now : Bool) where
+  pub done_said : (end : WatchedEnd) → HasGoneToEnd end → (over_now ≡ false → WentAsSaid old new rest left) → HasSaidAll old new rest left over over_now end
+  done_said end done said = record {
+    failed = λ fault. no_fault end done fault;
+    not_over = λ fault. no_fault end done fault;
+    to_end = λ open_still there. said open_still;
+  }
+
+  no_fault_stopped : {R : Type 0} → how.Stopped ≡ how.SourceFault → R
+  no_fault_stopped e = let f : ⊥ = cc in absurd f
+
+  pub stopped_said : HasSaidAll old new rest left over over_now how.Stopped
+  stopped_said = record { failed = λ fault. no_fault_stopped fault; not_over = λ fault. no_fault_stopped fault; to_end = λ open_still there. absurd there }

@@ -12,13 +12,12 @@ use Rattle.cluster_types.specs.Runs.{RunStanding, due, amid, idle, Runs, here, I
 use Rattle.cluster_types.specs.Safety.{IsAtRest, IsSafeRun}
 use Rattle.graph_exec.specs.Logs.{JournalOf}
 use Rattle.graph_exec.specs.Saying.{TakesAnswers}
-use Rattle.graph_exec.proofs.Carrying.{rose_since}
 use Rattle.graph_exec.proofs.Told.{adds_nothing}
 use Rattle.run_safety.proofs.Rests.{at_rest, in_order}
 use Rattle.run_safety.proofs.SoFar.{runs_more}
 use Rattle.graph_exec.specs.declared.run.stop.ReplayStop.{ReplayStop}
 use Rattle.graph_exec.specs.declared.run.stop.ReplayStop.TheVariants as stop
-use Rattle.graph_exec.specs.Replays.{Setting, Sight, HasCause, IsBetweenTwo, IsJournalKept, IsUpTo, OfJournal, ReplaysAs, setting}
+use Rattle.graph_exec.specs.Replays.{Setting, Sight, IsBetweenTwo, IsJournalKept, IsUpTo, OfJournal, ReplaysAs, setting}
 use Rattle.graph_exec.specs.Turns.{HasComeTo, CameTo, RunEndsAs, journal_back}
 use Rattle.graph_exec.proofs.Joined.{came_nowhere}
 
@@ -117,15 +116,6 @@ module _ (s : Setting) (es : List Event) (a b : Sight) where
 -- no memory is left before the first transition
 pub nothing_made : (s : Setting) (es : List Event) (a : Sight) → IsBetweenTwo s es a a
 nothing_made s es a = record { lines = []; at = due 1 es; run = here (due 1 es) a.rest; between = tt; told = adds_nothing s.names a.text }
-
--- the count that rose later rose since
-pub cause_since : (f f' f'' v v' v'' : ℕ) → f ≤ f' → v ≤ v' → (end : Result Journal ReplayStop) → HasCause f' f'' v' v'' end → HasCause f f'' v v'' end
-cause_since f f' f'' v v' v'' faults stops (Ok journal) h = tt
-cause_since f f' f'' v v' v'' faults stops (Err (stop.Unexpected journal given)) h = tt
-cause_since f f' f'' v v' v'' faults stops (Err (stop.SourceFault journal)) h = rose_since f f' f'' faults h
-cause_since f f' f'' v v' v'' faults stops (Err (stop.Stopped journal)) h = rose_since v v' v'' stops h
-cause_since f f' f'' v v' v'' faults stops (Err (stop.Most journal)) h = tt
-cause_since f f' f'' v v' v'' faults stops (Err stop.NoMemory) h = tt
 
 -- the run begins
 pub starts : (c : Cluster) (promotions : List Promotion) (whole steady : Bool) (names : Option Cluster) (es : List Event) (a : Sight) (j : JournalOf)

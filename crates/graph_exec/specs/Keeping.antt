@@ -1,7 +1,6 @@
 -- A run that is kept, transition by transition. No public clause cites this module (rule of this project).
 use Rattle.std.specs.Prelude.{◌≡◌, ℕ, ◌+◌, Bool, true, false, Option, Some, None, Result, Ok, Err, List, length}
 use Rattle.std.specs.List.{AllByRecursion}
-use Rattle.cluster_io.specs.Streams.{Rose}
 use Rattle.cluster_types.specs.declared.journal.Answer.{Answer}
 use Rattle.cluster_types.specs.declared.journal.Event.{Event}
 use Rattle.cluster_types.specs.declared.journal.Journal.{Journal}
@@ -14,8 +13,8 @@ use Rattle.cluster_types.specs.Sources.{Says}
 use Rattle.cluster_types.specs.Texts.{all_passed_lines}
 use Rattle.graph_exec.specs.declared.transition.ends.End.{End}
 use Rattle.graph_exec.specs.declared.transition.ends.End.TheVariants as end
-use Rattle.graph_exec.specs.declared.transition.outcomes.Next.{Next}
 use Rattle.graph_exec.specs.declared.transition.outcomes.Next.TheVariants as next
+use Rattle.graph_exec.specs.Lasting.{LastWord, none_failed, word_is, word_open}
 use Rattle.graph_exec.specs.Logs.{JournalOf}
 use Rattle.graph_exec.specs.Resting.{IsRefusedResting, TookResting}
 use Rattle.graph_exec.specs.declared.run.run_ending.RunEnd.{RunEnd}
@@ -26,7 +25,7 @@ use Rattle.graph_exec.specs.declared.run.stop.ReplayEnd.TheVariants as kept
 use Rattle.graph_exec.specs.declared.run.stop.ReplayStop.{ReplayStop}
 use Rattle.graph_exec.specs.declared.run.stop.ReplayStop.TheVariants as stop
 use Rattle.graph_exec.specs.Kept.{IsPassedOfPlan}
-use Rattle.graph_exec.specs.Replays.{Setting}
+use Rattle.graph_exec.specs.Replays.{Setting, replay_word}
 use Rattle.graph_exec.specs.Turns.{IsSaid, journal_back, plain_of}
 
 -- as the end of a run that was watched
@@ -58,17 +57,20 @@ pub record StaysOf (j later : JournalOf) : Type 0 where
   pub cluster_stays : later.cluster ≡ j.cluster
   pub promotions_stay : later.promotions ≡ j.promotions
 
--- the source failed only where its count of faults rose
-abbrev pub EndsWithCause : ℕ → ℕ → RunEnd → Type 0
-EndsWithCause faults faults_now (run.SourceFault journal) = Rose faults faults_now
-EndsWithCause faults faults_now _ = Unit {0}
+-- the last word of the source: of a question while nothing is to be done, and of a transition that is kept. Out of memory the latter isn't told
+abbrev pub idle_word : {T : Type 0} → Result T RunEnd → LastWord
+idle_word (Ok taken) = none_failed
+idle_word (Err end) = replay_word (watched_end end)
 
--- what the source said last
-abbrev pub EndsCome : (Next → Type 0) → RunEnd → Type 0
-EndsCome Said (run.Whole journal) = Said next.Silent
-EndsCome Said (run.Unexpected journal given) = Said (next.Answer given)
-EndsCome Said (run.SourceFault journal) = Said next.Failed
-EndsCome Said run.NoMemory = Unit {0}
+abbrev pub end_word : RunEnd → LastWord
+end_word (run.Whole journal) = word_is next.Silent
+end_word (run.Unexpected journal given) = word_is (next.Answer given)
+end_word (run.SourceFault journal) = word_is next.Failed
+end_word run.NoMemory = word_open
+
+abbrev pub keeping_word : {T : Type 0} → Result T RunEnd → LastWord
+keeping_word (Ok later) = none_failed
+keeping_word (Err end) = end_word end
 
 -- what comes of a question while nothing is to be done
 module _ (whole : Bool) (j : JournalOf) (rest left : Option (List Answer)) where

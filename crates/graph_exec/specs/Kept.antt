@@ -2,7 +2,6 @@
 -- Administration, "Transitions"; when a run ends is a rule of this project).
 use Rattle.std.specs.Prelude.{◌≡◌, ◌≤◌, ℕ, Bool, true, false, Option, Some, Result, Ok, Err, List, [], length, take}
 use Rattle.std.specs.List.{AllByRecursion}
-use Rattle.cluster_io.specs.Streams.{Rose}
 use Rattle.cluster_types.specs.declared.cluster.Cluster.{Cluster}
 use Rattle.cluster_types.specs.declared.journal.Action.{Action}
 use Rattle.cluster_types.specs.declared.journal.Answer.{Answer}
@@ -17,8 +16,8 @@ use Rattle.cluster_types.specs.Plans.{IsPlan, transition_of}
 use Rattle.cluster_types.specs.Runs.{IsCutRun, IsRunSoFar, IsRunUpTo, IsWholeRun}
 use Rattle.cluster_types.specs.Steps.{Transition, HasEnded, IsWaiting, has_aborted}
 use Rattle.cluster_types.specs.Texts.{PassedFits, between, run_lines}
-use Rattle.graph_exec.specs.declared.transition.outcomes.Next.{Next}
 use Rattle.graph_exec.specs.declared.transition.outcomes.Next.TheVariants as next
+use Rattle.graph_exec.specs.Lasting.{LastWord, none_failed, word_is, word_open}
 use Rattle.graph_exec.specs.Saying.{TakesAnswers}
 use Rattle.graph_exec.specs.declared.run.stop.ReplayEnd.{ReplayEnd}
 use Rattle.graph_exec.specs.declared.run.stop.ReplayEnd.TheVariants as end
@@ -80,20 +79,16 @@ OfRun P (Err (end.SourceFault run)) = P run
 OfRun P (Err (end.Most run)) = P run
 OfRun P (Err end.NoMemory) = Unit {0}
 
--- the source failed only where its count of faults rose
-abbrev pub FailsWithCause : ℕ → ℕ → Result Run ReplayEnd → Type 0
-FailsWithCause faults faults_now (Err (end.SourceFault run)) = Rose faults faults_now
-FailsWithCause faults faults_now _ = Unit {0}
-
 -- no answer came that doesn't apply
 abbrev pub IsExpectedRun : Result Run ReplayEnd → Type 0
 IsExpectedRun (Err (end.Unexpected run given)) = ⊥
 IsExpectedRun _ = Unit {0}
 
--- what the source has come to, by how the run ended: nothing more, an answer that doesn't apply or a failure was said last; else no question failed
-abbrev pub RunHasCome : Type 0 → (Next → Type 0) → Result Run ReplayEnd → Type 0
-RunHasCome Follows Said (Ok run) = Said next.Silent
-RunHasCome Follows Said (Err (end.Unexpected run given)) = Said (next.Answer given)
-RunHasCome Follows Said (Err (end.SourceFault run)) = Said next.Failed
-RunHasCome Follows Said (Err (end.Most run)) = Follows
-RunHasCome Follows Said (Err end.NoMemory) = Unit {0}
+-- the last word of the source, by how the run ended: nothing more, an answer that doesn't apply or a failure was said last; else no question failed. Out of
+-- memory it isn't told
+abbrev pub kept_word : Result Run ReplayEnd → LastWord
+kept_word (Ok run) = word_is next.Silent
+kept_word (Err (end.Unexpected run given)) = word_is (next.Answer given)
+kept_word (Err (end.SourceFault run)) = word_is next.Failed
+kept_word (Err (end.Most run)) = none_failed
+kept_word (Err end.NoMemory) = word_open

@@ -1,7 +1,7 @@
 -- What a replay makes: a run from a journal on, of which a watcher is told the lines (Pacemaker Administration, "Transitions"; when a run ends is a
 -- rule of this project).
 use Rattle.std.specs.Prelude.{◌≡◌, ℕ, Bool, true, false, Option, Some, IfSome, Result, Ok, Err, List, []}
-use Rattle.cluster_io.specs.Streams.{Adds, AddsPrefix, Rose}
+use Rattle.cluster_io.specs.Streams.{Adds, AddsPrefix}
 use Rattle.cluster_types.specs.declared.cluster.Cluster.{Cluster}
 use Rattle.cluster_types.specs.declared.journal.Answer.{Answer}
 use Rattle.cluster_types.specs.declared.journal.Event.{Event}
@@ -10,10 +10,12 @@ use Rattle.cluster_types.specs.declared.journal.Promotion.{Promotion}
 use Rattle.cluster_types.specs.declared.run.RunLine.{RunLine}
 use Rattle.cluster_types.specs.Journals.{Orderly}
 use Rattle.cluster_types.specs.Runs.{RunStanding, due, Runs, IsBetween, IsCutRun, IsRunSoFar, IsRunUpTo, IsStoppedRun, IsWholeRun}
+use Rattle.graph_exec.specs.Lasting.{LastWord, none_failed, word_is}
 use Rattle.graph_exec.specs.Saying.{TakesAnswers}
 use Rattle.graph_exec.specs.Telling.{text_of}
-use Rattle.graph_exec.specs.declared.transition.outcomes.Next.{Next}
 use Rattle.graph_exec.specs.declared.transition.outcomes.Next.TheVariants as next
+use Rattle.graph_exec.specs.declared.transition.watcher.Heard.{Heard}
+use Rattle.graph_exec.specs.declared.transition.watcher.Heard.TheVariants as heard
 use Rattle.graph_exec.specs.declared.run.stop.ReplayStop.{ReplayStop}
 use Rattle.graph_exec.specs.declared.run.stop.ReplayStop.TheVariants as stop
 
@@ -126,26 +128,20 @@ abbrev pub IsReplayExpected : Result Journal ReplayStop → Type 0
 IsReplayExpected (Err (stop.Unexpected journal given)) = ⊥
 IsReplayExpected _ = Unit {0}
 
--- the source failed only where its count of faults rose, and the watcher stopped only where its count of stops did
-abbrev pub HasCause : ℕ → ℕ → ℕ → ℕ → Result Journal ReplayStop → Type 0
-HasCause faults faults_now stops stops_now (Err (stop.SourceFault journal)) = Rose faults faults_now
-HasCause faults faults_now stops stops_now (Err (stop.Stopped journal)) = Rose stops stops_now
-HasCause faults faults_now stops stops_now _ = Unit {0}
+-- the last word of the source, by how the run ended: nothing more, an answer that doesn't apply or a failure was said last; else no question failed
+abbrev pub replay_word : Result Journal ReplayStop → LastWord
+replay_word (Ok journal) = word_is next.Silent
+replay_word (Err (stop.Unexpected journal given)) = word_is (next.Answer given)
+replay_word (Err (stop.SourceFault journal)) = word_is next.Failed
+replay_word (Err (stop.Stopped journal)) = none_failed
+replay_word (Err (stop.Most journal)) = none_failed
+replay_word (Err stop.NoMemory) = none_failed
 
--- what the source has come to, by how the run ended: nothing more, an answer that doesn't apply or a failure was said last; else no question failed
-abbrev pub ReplayHasCome : Type 0 → (Next → Type 0) → Result Journal ReplayStop → Type 0
-ReplayHasCome Follows Said (Ok journal) = Said next.Silent
-ReplayHasCome Follows Said (Err (stop.Unexpected journal given)) = Said (next.Answer given)
-ReplayHasCome Follows Said (Err (stop.SourceFault journal)) = Said next.Failed
-ReplayHasCome Follows Said (Err (stop.Stopped journal)) = Follows
-ReplayHasCome Follows Said (Err (stop.Most journal)) = Follows
-ReplayHasCome Follows Said (Err stop.NoMemory) = Follows
-
--- what the watcher has come to: it went on each time, or has stopped the run
-abbrev pub ReplayHasHeard : Type 0 → Type 0 → Result Journal ReplayStop → Type 0
-ReplayHasHeard Follows Stopped (Ok journal) = Follows
-ReplayHasHeard Follows Stopped (Err (stop.Unexpected journal given)) = Follows
-ReplayHasHeard Follows Stopped (Err (stop.SourceFault journal)) = Follows
-ReplayHasHeard Follows Stopped (Err (stop.Stopped journal)) = Stopped
-ReplayHasHeard Follows Stopped (Err (stop.Most journal)) = Follows
-ReplayHasHeard Follows Stopped (Err stop.NoMemory) = Follows
+-- what the watcher said at last: it went on each time, or has stopped the run
+abbrev pub replay_heard : Result Journal ReplayStop → Heard
+replay_heard (Ok journal) = heard.Go
+replay_heard (Err (stop.Unexpected journal given)) = heard.Go
+replay_heard (Err (stop.SourceFault journal)) = heard.Go
+replay_heard (Err (stop.Stopped journal)) = heard.Stop
+replay_heard (Err (stop.Most journal)) = heard.Go
+replay_heard (Err stop.NoMemory) = heard.Go

@@ -1,5 +1,5 @@
 -- What one round of a transition makes. No public clause cites this module (rule of this project).
-use Rattle.std.specs.Prelude.{◌≡◌, ◌+◌, ◌-◌, ◌<◌, ℕ, Bool, not, Option, Some, List, [], ◌∷◌, count_by}
+use Rattle.std.specs.Prelude.{◌≡◌, ◌+◌, ◌-◌, ◌<◌, ℕ, Bool, not, Option, Some, None, Result, Ok, Err, List, [], ◌∷◌, count_by}
 use Rattle.std.specs.List.{flat_map}
 use Rattle.cluster_types.specs.declared.journal.Answer.{Answer}
 use Rattle.cluster_types.specs.declared.journal.Event.{Event}
@@ -10,6 +10,7 @@ use Rattle.cluster_types.specs.Steps.{IsWaiting, StepsOn, has_begun, has_ended, 
 use Rattle.cluster_types.specs.Texts.{event_lines}
 use Rattle.graph_exec.specs.declared.transition.ends.WatchedEnd.{WatchedEnd}
 use Rattle.graph_exec.specs.declared.transition.ends.WatchedEnd.TheVariants as how
+use Rattle.graph_exec.specs.Lasting.{LastWord, none_failed, transition_word}
 use Rattle.graph_exec.specs.Running.{Running, BeginsNow, IsAnswerRefused, Went, going, later}
 
 -- how many actions may begin yet, how many may end, and how often an answer may be taken
@@ -51,6 +52,15 @@ pub record HasSourceFailed (old new : Running) (rest left : Option (List Answer)
   pub waiting : IsWaiting (going old) old.since
   pub same : new ≡ old
   pub left_is : left ≡ rest
+
+-- the last word of the source: of a question, and of a round
+abbrev pub asked_word : {T : Type 0} → Result T WatchedEnd → LastWord
+asked_word (Ok given) = none_failed
+asked_word (Err end) = transition_word end
+
+abbrev pub round_word : Option WatchedEnd → LastWord
+round_word None = none_failed
+round_word (Some end) = transition_word end
 
 -- why no answer was taken
 abbrev pub StopsAs : Bool → Running → Running → Option (List Answer) → Option (List Answer) → WatchedEnd → Type 0

@@ -9,8 +9,6 @@ use Rattle.cluster_types.specs.Sources.{Says}
 use Rattle.cluster_types.specs.Steps.{HasEnded, IsWaiting, aborts, all_succeeded, flying, has_aborted, outside}
 use Rattle.graph_exec.specs.declared.transition.ends.WatchedEnd.{WatchedEnd}
 use Rattle.graph_exec.specs.declared.transition.ends.WatchedEnd.TheVariants as how
-use Rattle.graph_exec.specs.declared.transition.outcomes.Next.{Next}
-use Rattle.graph_exec.specs.declared.transition.outcomes.Next.TheVariants as next
 use Rattle.graph_exec.specs.Running.{Running, Went, going}
 use Rattle.graph_exec.specs.Saying.{TakesAnswers}
 
@@ -69,8 +67,8 @@ pub record WentAsSaid (old new : Running) (rest left : Option (List Answer)) : T
   pub went : Went false old new (Some answers) (Some [])
   pub taken : TakesAnswers rest answers left
 
--- what a source has come to, by how the transition ended: where an answer doesn't apply or the source failed, that was said last; else no question failed
-abbrev pub HasCome : Type 0 → (Next → Type 0) → WatchedEnd → Type 0
-HasCome Follows Said (how.Unexpected given) = Said (next.Answer given)
-HasCome Follows Said how.SourceFault = Said next.Failed
-HasCome Follows Said _ = Follows
+-- what a steady source has said: where it fails, or isn't over at the end, no action has ended silently, and the steps took the answers that it gave
+pub record HasSaidAll (old new : Running) (rest left : Option (List Answer)) (over over_now : Bool) (end : WatchedEnd) : Type 0 where
+  pub failed : end ≡ how.SourceFault → WentAsSaid old new rest left
+  pub not_over : end ≡ how.SourceFault → over ≡ false
+  pub to_end : over_now ≡ false → HasGoneToEnd end → WentAsSaid old new rest left

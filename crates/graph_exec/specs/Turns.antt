@@ -13,6 +13,7 @@ use Rattle.cluster_types.specs.Runs.{RunStanding, due, idle, Runs, RunsOn, IsAsk
 use Rattle.cluster_types.specs.Graphs.{GraphOf}
 use Rattle.cluster_types.specs.Plans.{CarriesOut}
 use Rattle.cluster_types.specs.Unpacked.{states_of}
+use Rattle.graph_exec.specs.Lasting.{LastWord, none_failed}
 use Rattle.graph_exec.specs.Logs.{JournalOf}
 use Rattle.graph_exec.specs.Promises.{IsGraphPlanned}
 use Rattle.graph_exec.specs.Running.{Running}
@@ -22,7 +23,9 @@ use Rattle.graph_exec.specs.declared.run.planning.KeptPlan.{KeptPlan}
 use Rattle.graph_exec.specs.declared.run.planning.Planned.{Planned}
 use Rattle.graph_exec.specs.declared.run.stop.ReplayStop.{ReplayStop}
 use Rattle.graph_exec.specs.declared.run.stop.ReplayStop.TheVariants as stop
-use Rattle.graph_exec.specs.Replays.{Setting, Sight}
+use Rattle.graph_exec.specs.Replays.{Setting, Sight, replay_heard, replay_word}
+use Rattle.graph_exec.specs.declared.transition.watcher.Heard.{Heard}
+use Rattle.graph_exec.specs.declared.transition.watcher.Heard.TheVariants as heard
 
 -- the journal that is handed back where a run stands
 abbrev pub journal_back : Setting → RunStanding → Journal
@@ -147,3 +150,12 @@ pub record HasPlannedGraph (r : Running) : Type 0 where
 abbrev pub closed_at : ℕ → Bool → (List Event → RunStanding)
 closed_at number true = idle number
 closed_at number false = due (number + 1)
+
+-- the last word of the source in a part of a run, and what the watcher said at last: the run goes on, or ends so
+abbrev pub part_word : {T : Type 0} → Result T (Result Journal ReplayStop) → LastWord
+part_word (Ok made) = none_failed
+part_word (Err ended) = replay_word ended
+
+abbrev pub part_heard : {T : Type 0} → Result T (Result Journal ReplayStop) → Heard
+part_heard (Ok made) = heard.Go
+part_heard (Err ended) = replay_heard ended

@@ -1,11 +1,12 @@
 //! A transition of a run, carried out and closed.
 
-ghost use Rattle.std.specs.Prelude.{◌≡◌, ◌≤◌, [], true, IfOk, IfErr, OnOk};
+ghost use Rattle.std.specs.Prelude.{◌≡◌, [], true, IfOk, IfErr};
 ghost use Rattle.cluster_types.specs.Runs.{amid};
 ghost use Rattle.cluster_types.specs.Safety.{IsAtRest};
+ghost use Rattle.graph_exec.specs.Lasting.{SourceLasts, WatcherLasts};
 ghost use Rattle.graph_exec.specs.Running.{going};
-ghost use Rattle.graph_exec.specs.Replays.{AgreesWith, HasCause, ReplayHasCome, ReplayHasHeard, IsReplayExpected, OfJournal, WritesNamesOf, setting, sight};
-ghost use Rattle.graph_exec.specs.Turns.{CameTo, RunEndsAs, HasPlannedGraph, closed_at};
+ghost use Rattle.graph_exec.specs.Replays.{AgreesWith, IsReplayExpected, OfJournal, WritesNamesOf, setting, sight};
+ghost use Rattle.graph_exec.specs.Turns.{CameTo, RunEndsAs, HasPlannedGraph, closed_at, part_heard, part_word};
 
 use crate::run::stop::{Ended, ReplayStop};
 use crate::{Executor, Heard, KnownJournal, Outcomes, Parts, WatchedEnd, Watcher, run_watched};
@@ -43,7 +44,6 @@ pub(crate) fn carry_out<'c, S: Outcomes, V: Watcher>(
         (amid number (going executor.entry) [])
         (sight (S.rest outcomes.old) (S.over outcomes.old) (V.told watcher.old))
         (sight (S.rest outcomes.new) (S.over outcomes.new) (V.told watcher.new))) }
-    ensures cause { IfErr result (HasCause (S.faults outcomes.old) (S.faults outcomes.new) (V.stops watcher.old) (V.stops watcher.new)) }
 
     ensures agrees { S.agrees outcomes.old executor.entry.cluster executor.entry.planned_at 0
         → IfOk result (λ closed. S.agrees outcomes.new executor.entry.cluster closed.journal.events 0) }
@@ -51,17 +51,8 @@ pub(crate) fn carry_out<'c, S: Outcomes, V: Watcher>(
         → IfErr result (OfJournal (AgreesWith (S.agrees outcomes.new) executor.entry.cluster)) }
     ensures fitting { S.careful outcomes.old ≡ true → S.agrees outcomes.old executor.entry.cluster executor.entry.planned_at 0 → IfErr result IsReplayExpected }
 
-    ensures whole { S.whole outcomes.new ≡ S.whole outcomes.old }
-    ensures count { S.faults outcomes.old ≤ S.faults outcomes.new }
-    ensures careful { S.careful outcomes.new ≡ S.careful outcomes.old }
-    ensures steady { S.steady outcomes.new ≡ S.steady outcomes.old }
-    ensures over { S.steady outcomes.old ≡ true → S.over outcomes.old ≡ true → S.over outcomes.new ≡ true }
-    ensures source_follows { OnOk result (S.follows outcomes.old outcomes.new) }
-    ensures source_came { IfErr result (ReplayHasCome (S.follows outcomes.old outcomes.new) (S.said outcomes.old outcomes.new)) }
-    ensures names { V.names watcher.new ≡ V.names watcher.old }
-    ensures stops { V.stops watcher.old ≤ V.stops watcher.new }
-    ensures watcher_follows { OnOk result (V.follows watcher.old watcher.new) }
-    ensures watcher_came { IfErr result (ReplayHasHeard (V.follows watcher.old watcher.new) (V.stopped watcher.old watcher.new)) }
+    ensures source { SourceLasts S.Outcomes outcomes.old outcomes.new (part_word result) }
+    ensures watcher { WatcherLasts V.Watcher watcher.old watcher.new (part_heard result) }
 {
     match run_watched(&mut executor, outcomes, watcher) {
         WatchedEnd::Complete => match watcher.closed(number, true) {

@@ -1,11 +1,12 @@
 //! An answer that comes while nothing is to be done.
 
-ghost use Rattle.std.specs.Prelude.{◌≡◌, ◌≤◌, ◌+◌, [], true, IfOk, IfErr, OnOk};
+ghost use Rattle.std.specs.Prelude.{◌≡◌, ◌+◌, [], true, IfOk, IfErr};
 ghost use Rattle.cluster_types.specs.Journals.{in_flight};
 ghost use Rattle.cluster_types.specs.Runs.{due, idle};
-ghost use Rattle.graph_exec.specs.Keeping.{EndsWithCause, IsAnswered, IsUnanswered, watched_end};
-ghost use Rattle.graph_exec.specs.Replays.{AgreesWith, HasCause, ReplayHasCome, ReplayHasHeard, IsReplayExpected, OfJournal, setting, sight};
-ghost use Rattle.graph_exec.specs.Turns.{CameTo, RunEndsAs};
+ghost use Rattle.graph_exec.specs.Keeping.{IsAnswered, IsUnanswered, idle_word, watched_end};
+ghost use Rattle.graph_exec.specs.Lasting.{SourceLasts, WatcherLasts};
+ghost use Rattle.graph_exec.specs.Replays.{AgreesWith, IsReplayExpected, OfJournal, setting, sight};
+ghost use Rattle.graph_exec.specs.Turns.{CameTo, RunEndsAs, part_heard, part_word};
 
 use crate::run::run_ending::RunEnd;
 use crate::run::stop::{Ended, ReplayStop};
@@ -31,7 +32,6 @@ pub(crate) fn ask_idle<'c, S: Outcomes>(
     ensures answered { IfOk result (IsAnswered (S.whole outcomes.old) journal.entry (S.rest outcomes.old) (S.rest outcomes.new)) }
     ensures unanswered { IfErr result
         (IsUnanswered (S.whole outcomes.old) journal.entry (S.rest outcomes.old) (S.rest outcomes.new) (S.over outcomes.old)) }
-    ensures cause { IfErr result (EndsWithCause (S.faults outcomes.old) (S.faults outcomes.new)) }
 
     ensures agrees { S.agrees outcomes.old journal.entry.cluster journal.entry.events 0
         → IfOk result (λ taken. S.agrees outcomes.new journal.entry.cluster taken.journal.events 0) }
@@ -40,13 +40,7 @@ pub(crate) fn ask_idle<'c, S: Outcomes>(
     ensures fitting { S.careful outcomes.old ≡ true → S.agrees outcomes.old journal.entry.cluster journal.entry.events 0
         → IfErr result (λ end. IsReplayExpected (watched_end end)) }
 
-    ensures whole { S.whole outcomes.new ≡ S.whole outcomes.old }
-    ensures count { S.faults outcomes.old ≤ S.faults outcomes.new }
-    ensures careful { S.careful outcomes.new ≡ S.careful outcomes.old }
-    ensures steady { S.steady outcomes.new ≡ S.steady outcomes.old }
-    ensures over { S.steady outcomes.old ≡ true → S.over outcomes.old ≡ true → S.over outcomes.new ≡ true }
-    ensures source_follows { OnOk result (S.follows outcomes.old outcomes.new) }
-    ensures source_came { IfErr result (λ end. ReplayHasCome (S.follows outcomes.old outcomes.new) (S.said outcomes.old outcomes.new) (watched_end end)) }
+    ensures source { SourceLasts S.Outcomes outcomes.old outcomes.new (idle_word result) }
 {
     let Ok(resting) = Resting::new(alloc, journal) else {
         return Err(RunEnd::NoMemory);
@@ -88,7 +82,6 @@ pub(crate) fn take_idle<'c, S: Outcomes, V: Watcher>(
         (idle number journal.entry.events)
         (sight (S.rest outcomes.old) (S.over outcomes.old) (V.told watcher.old))
         (sight (S.rest outcomes.new) (S.over outcomes.new) (V.told watcher.new))) }
-    ensures cause { IfErr result (HasCause (S.faults outcomes.old) (S.faults outcomes.new) (V.stops watcher.old) (V.stops watcher.new)) }
 
     ensures agrees { S.agrees outcomes.old journal.entry.cluster journal.entry.events 0
         → IfOk result (λ later. S.agrees outcomes.new journal.entry.cluster later.events 0) }
@@ -96,17 +89,8 @@ pub(crate) fn take_idle<'c, S: Outcomes, V: Watcher>(
         → IfErr result (OfJournal (AgreesWith (S.agrees outcomes.new) journal.entry.cluster)) }
     ensures fitting { S.careful outcomes.old ≡ true → S.agrees outcomes.old journal.entry.cluster journal.entry.events 0 → IfErr result IsReplayExpected }
 
-    ensures whole { S.whole outcomes.new ≡ S.whole outcomes.old }
-    ensures count { S.faults outcomes.old ≤ S.faults outcomes.new }
-    ensures careful { S.careful outcomes.new ≡ S.careful outcomes.old }
-    ensures steady { S.steady outcomes.new ≡ S.steady outcomes.old }
-    ensures over { S.steady outcomes.old ≡ true → S.over outcomes.old ≡ true → S.over outcomes.new ≡ true }
-    ensures source_follows { OnOk result (S.follows outcomes.old outcomes.new) }
-    ensures source_came { IfErr result (ReplayHasCome (S.follows outcomes.old outcomes.new) (S.said outcomes.old outcomes.new)) }
-    ensures names { V.names watcher.new ≡ V.names watcher.old }
-    ensures stops { V.stops watcher.old ≤ V.stops watcher.new }
-    ensures watcher_follows { OnOk result (V.follows watcher.old watcher.new) }
-    ensures watcher_came { IfErr result (ReplayHasHeard (V.follows watcher.old watcher.new) (V.stopped watcher.old watcher.new)) }
+    ensures source { SourceLasts S.Outcomes outcomes.old outcomes.new (part_word result) }
+    ensures watcher { WatcherLasts V.Watcher watcher.old watcher.new (part_heard result) }
 {
     match ask_idle(alloc, journal, outcomes) {
         Ok(taken) => match watcher.taken(taken.answer) {

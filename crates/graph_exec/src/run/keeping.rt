@@ -5,7 +5,8 @@ ghost use Rattle.cluster_types.specs.declared.journal.Answer.{Answer as AnswerOf
 ghost use Rattle.cluster_types.specs.declared.journal.Event.{Event as EventOf};
 ghost use Rattle.cluster_types.specs.Safety.{IsAtRest};
 ghost use Rattle.cluster_types.specs.Valid.{IsValid};
-ghost use Rattle.graph_exec.specs.Keeping.{EndsCome, EndsWithCause, KeepsEnd, KeepsTo, StaysOf, passed_end, watched_end};
+ghost use Rattle.graph_exec.specs.Keeping.{KeepsEnd, KeepsTo, StaysOf, keeping_word, passed_end, watched_end};
+ghost use Rattle.graph_exec.specs.Lasting.{SourceLasts};
 ghost use Rattle.graph_exec.specs.Replays.{AgreesWith, IsReplayExpected, OfJournal, setting};
 
 use crate::run::idling::ask_idle;
@@ -101,7 +102,6 @@ pub(crate) fn keep_transition<'c, S: Outcomes>(
     ensures stays { IfOk result (StaysOf journal.entry) }
     ensures one_more { IfOk result (λ _. length passed.new ≡ length passed.old + 1) }
     ensures few { length passed.new ≤ length passed.old + 1 }
-    ensures cause { IfErr result (EndsWithCause (S.faults outcomes.old) (S.faults outcomes.new)) }
 
     ensures agrees { S.agrees outcomes.old journal.entry.cluster journal.entry.events 0
         → IfOk result (λ later. S.agrees outcomes.new journal.entry.cluster later.events 0) }
@@ -110,13 +110,7 @@ pub(crate) fn keep_transition<'c, S: Outcomes>(
     ensures fitting { S.careful outcomes.old ≡ true → S.agrees outcomes.old journal.entry.cluster journal.entry.events 0
         → IfErr result (λ end. IsReplayExpected (watched_end end)) }
 
-    ensures whole { S.whole outcomes.new ≡ S.whole outcomes.old }
-    ensures count { S.faults outcomes.old ≤ S.faults outcomes.new }
-    ensures careful { S.careful outcomes.new ≡ S.careful outcomes.old }
-    ensures steady { S.steady outcomes.new ≡ S.steady outcomes.old }
-    ensures over { S.steady outcomes.old ≡ true → S.over outcomes.old ≡ true → S.over outcomes.new ≡ true }
-    ensures source_follows { OnOk result (S.follows outcomes.old outcomes.new) }
-    ensures source_came { IfErr result (EndsCome (S.said outcomes.old outcomes.new)) }
+    ensures source { SourceLasts S.Outcomes outcomes.old outcomes.new (keeping_word result) }
 {
     let begins_at = journal.count();
     let Ok(planned) = plan_anew(alloc, journal) else {

@@ -1,10 +1,11 @@
 //! A run over a source of outcomes, of which each transition is kept.
 
-ghost use Rattle.std.specs.Prelude.{◌≡◌, ◌<◌, ◌≤◌, ◌^◌, true};
+ghost use Rattle.std.specs.Prelude.{◌≡◌, ◌<◌, ◌^◌, true};
 ghost use Rattle.cluster_types.specs.Journals.{moment_of};
 ghost use Rattle.cluster_types.specs.Safety.{IsAtRest, IsSafeRun};
 ghost use Rattle.cluster_types.specs.Valid.{IsValid};
-ghost use Rattle.graph_exec.specs.Kept.{FailsWithCause, IsExpectedRun, KeepsAs, KeepsPlans, OfRun, RunHasCome};
+ghost use Rattle.graph_exec.specs.Kept.{IsExpectedRun, KeepsAs, KeepsPlans, OfRun, kept_word};
+ghost use Rattle.graph_exec.specs.Lasting.{SourceLasts};
 ghost use Rattle.graph_exec.specs.Replays.{AgreesWith, IsJournalKept};
 
 use crate::run::keeping::keep_transition;
@@ -41,15 +42,9 @@ pub fn replay<S: Outcomes>(
     ensures plans { OfRun (KeepsPlans cluster.now journal.promotions most) result }
     ensures safe { IsSafeRun cluster.now journal.promotions (S.whole outcomes.old) journal.events (S.rest outcomes.old) }
     ensures kept { OfRun (λ run. IsJournalKept journal.promotions run.journal) result }
-    ensures cause { FailsWithCause (S.faults outcomes.old) (S.faults outcomes.new) result }
 
     // What became of the source.
-    ensures whole { S.whole outcomes.new ≡ S.whole outcomes.old }
-    ensures count { S.faults outcomes.old ≤ S.faults outcomes.new }
-    ensures careful { S.careful outcomes.new ≡ S.careful outcomes.old }
-    ensures steady { S.steady outcomes.new ≡ S.steady outcomes.old }
-    ensures over { S.steady outcomes.old ≡ true → S.over outcomes.old ≡ true → S.over outcomes.new ≡ true }
-    ensures source_follows { RunHasCome (S.follows outcomes.old outcomes.new) (S.said outcomes.old outcomes.new) result }
+    ensures source { SourceLasts S.Outcomes outcomes.old outcomes.new (kept_word result) }
     ensures agrees { S.agrees outcomes.old cluster.now journal.events 0
         → OfRun (λ run. AgreesWith (S.agrees outcomes.new) cluster.now run.journal) result }
     ensures fitting { S.careful outcomes.old ≡ true → S.agrees outcomes.old cluster.now journal.events 0 → IsExpectedRun result }

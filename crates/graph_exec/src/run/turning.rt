@@ -1,12 +1,13 @@
 //! One transition of a run, from its plan to where the next is due.
 
-ghost use Rattle.std.specs.Prelude.{◌≡◌, ◌≤◌, ◌+◌, true, Err, IfOk, IfErr, IfSome, OnOk};
+ghost use Rattle.std.specs.Prelude.{◌≡◌, ◌+◌, true, Err, IfOk, IfErr, IfSome};
 ghost use Rattle.cluster_types.specs.Runs.{due};
 ghost use Rattle.cluster_types.specs.Safety.{IsAtRest};
 ghost use Rattle.cluster_types.specs.Valid.{IsValid};
 ghost use Rattle.graph_exec.specs.declared.run.stop.ReplayStop.TheVariants.{Stopped};
-ghost use Rattle.graph_exec.specs.Replays.{AgreesWith, HasCause, ReplayHasCome, ReplayHasHeard, IsReplayExpected, OfJournal, WritesNamesOf, setting, sight};
-ghost use Rattle.graph_exec.specs.Turns.{CameTo, RunEndsAs, Serves, left_of};
+ghost use Rattle.graph_exec.specs.Lasting.{SourceLasts, WatcherLasts};
+ghost use Rattle.graph_exec.specs.Replays.{AgreesWith, IsReplayExpected, OfJournal, WritesNamesOf, setting, sight};
+ghost use Rattle.graph_exec.specs.Turns.{CameTo, RunEndsAs, Serves, left_of, part_heard, part_word};
 
 use crate::run::carrying_out::carry_out;
 use crate::run::idling::take_idle;
@@ -56,7 +57,6 @@ pub(crate) fn make_transition<'c, S: Outcomes, V: Watcher>(
         (due number journal.entry.events)
         (sight (S.rest outcomes.old) (S.over outcomes.old) (V.told watcher.old))
         (sight (S.rest outcomes.new) (S.over outcomes.new) (V.told watcher.new))) }
-    ensures cause { IfErr result (HasCause (S.faults outcomes.old) (S.faults outcomes.new) (V.stops watcher.old) (V.stops watcher.new)) }
 
     ensures agrees { S.agrees outcomes.old journal.entry.cluster journal.entry.events 0
         → IfOk result (λ turn. S.agrees outcomes.new journal.entry.cluster turn.journal.events 0) }
@@ -64,17 +64,8 @@ pub(crate) fn make_transition<'c, S: Outcomes, V: Watcher>(
         → IfErr result (OfJournal (AgreesWith (S.agrees outcomes.new) journal.entry.cluster)) }
     ensures fitting { S.careful outcomes.old ≡ true → S.agrees outcomes.old journal.entry.cluster journal.entry.events 0 → IfErr result IsReplayExpected }
 
-    ensures whole { S.whole outcomes.new ≡ S.whole outcomes.old }
-    ensures count { S.faults outcomes.old ≤ S.faults outcomes.new }
-    ensures careful { S.careful outcomes.new ≡ S.careful outcomes.old }
-    ensures steady { S.steady outcomes.new ≡ S.steady outcomes.old }
-    ensures over { S.steady outcomes.old ≡ true → S.over outcomes.old ≡ true → S.over outcomes.new ≡ true }
-    ensures source_follows { OnOk result (S.follows outcomes.old outcomes.new) }
-    ensures source_came { IfErr result (ReplayHasCome (S.follows outcomes.old outcomes.new) (S.said outcomes.old outcomes.new)) }
-    ensures names { V.names watcher.new ≡ V.names watcher.old }
-    ensures stops { V.stops watcher.old ≤ V.stops watcher.new }
-    ensures watcher_follows { OnOk result (V.follows watcher.old watcher.new) }
-    ensures watcher_came { IfErr result (ReplayHasHeard (V.follows watcher.old watcher.new) (V.stopped watcher.old watcher.new)) }
+    ensures source { SourceLasts S.Outcomes outcomes.old outcomes.new (part_word result) }
+    ensures watcher { WatcherLasts V.Watcher watcher.old watcher.new (part_heard result) }
 {
     let Ok((states, planned)) = plan_next(alloc, journal, last) else {
         return Err(Err(ReplayStop::NoMemory));

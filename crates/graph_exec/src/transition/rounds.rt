@@ -1,12 +1,12 @@
 //! One round of a transition over a source: all that may begin, begins, and then an answer is taken.
 
 ghost use Rattle.std.specs.Prelude.{◌≡◌, ◌<◌, ◌≤◌, ◌+◌, true, false, IfSome, IfNone, IfOk, IfErr, OnOk, unwrap_or};
-ghost use Rattle.cluster_io.specs.Streams.{Rose};
 ghost use Rattle.cluster_types.specs.Steps.{IsWaiting, is_settled};
-ghost use Rattle.graph_exec.specs.Rounds.{Advanced, Answered, StopsAs, asks_left, begins_left};
+ghost use Rattle.graph_exec.specs.Lasting.{SourceLasts, WatcherLasts, none_failed};
+ghost use Rattle.graph_exec.specs.Rounds.{Advanced, Answered, StopsAs, asked_word, asks_left, begins_left, round_word};
 ghost use Rattle.graph_exec.specs.Running.{IsUnderWay, Went, going};
-ghost use Rattle.graph_exec.specs.Transitions.{Accords, EndsAs, GoneTo, HasCome, HasGoneToEnd, IsExpected, WentAsSaid};
-ghost use Rattle.graph_exec.specs.Watching.{HasHeard, Hears, heard_in};
+ghost use Rattle.graph_exec.specs.Transitions.{Accords, EndsAs, GoneTo, HasGoneToEnd, IsExpected, WentAsSaid};
+ghost use Rattle.graph_exec.specs.Watching.{Hears, heard_in};
 
 use crate::transition::ends::WatchedEnd;
 use crate::transition::executor::Executor;
@@ -29,21 +29,13 @@ impl<'c> Executor<'c> {
         ensures asks { asks_left self.new ≤ asks_left self.old }
         ensures under_way { IsUnderWay self.new }
 
-        ensures whole { S.whole outcomes.new ≡ S.whole outcomes.old }
-        ensures count { S.faults outcomes.old ≤ S.faults outcomes.new }
+        ensures source { SourceLasts S.Outcomes outcomes.old outcomes.new none_failed }
         ensures asked { S.asked outcomes.new ≡ S.asked outcomes.old }
-        ensures careful { S.careful outcomes.new ≡ S.careful outcomes.old }
-        ensures steady { S.steady outcomes.new ≡ S.steady outcomes.old }
-        ensures over { S.over outcomes.new ≡ S.over outcomes.old }
         ensures agrees { Accords (S.agrees outcomes.old) self.old → Accords (S.agrees outcomes.new) self.new }
-        ensures source_follows { S.follows outcomes.old outcomes.new }
 
         ensures told { Hears (S.whole outcomes.old) (V.names watcher.old) self.old self.new (S.rest outcomes.old) (S.rest outcomes.new)
             (V.told watcher.old) (V.told watcher.new) (unwrap_or result Heard.Go) }
-        ensures names { V.names watcher.new ≡ V.names watcher.old }
-        ensures stops { V.stops watcher.old ≤ V.stops watcher.new }
-        ensures stopped { result ≡ Some Heard.Stop → Rose (V.stops watcher.old) (V.stops watcher.new) }
-        ensures watcher_follows { HasHeard (V.follows watcher.old watcher.new) (V.stopped watcher.old watcher.new) (unwrap_or result Heard.Go) }
+        ensures watcher { WatcherLasts V.Watcher watcher.old watcher.new (unwrap_or result Heard.Go) }
     {
         let Some(number) = self.begin_next() else {
             return None;
@@ -65,21 +57,13 @@ impl<'c> Executor<'c> {
         ensures asks { asks_left self.new ≤ asks_left self.old }
         ensures under_way { IsUnderWay self.new }
 
-        ensures whole { S.whole outcomes.new ≡ S.whole outcomes.old }
-        ensures count { S.faults outcomes.old ≤ S.faults outcomes.new }
+        ensures source { SourceLasts S.Outcomes outcomes.old outcomes.new none_failed }
         ensures asked { S.asked outcomes.new ≡ S.asked outcomes.old }
-        ensures careful { S.careful outcomes.new ≡ S.careful outcomes.old }
-        ensures steady { S.steady outcomes.new ≡ S.steady outcomes.old }
-        ensures over { S.over outcomes.new ≡ S.over outcomes.old }
         ensures agrees { Accords (S.agrees outcomes.old) self.old → Accords (S.agrees outcomes.new) self.new }
-        ensures source_follows { S.follows outcomes.old outcomes.new }
 
         ensures told { Hears (S.whole outcomes.old) (V.names watcher.old) self.old self.new (S.rest outcomes.old) (S.rest outcomes.new)
             (V.told watcher.old) (V.told watcher.new) result }
-        ensures names { V.names watcher.new ≡ V.names watcher.old }
-        ensures stops { V.stops watcher.old ≤ V.stops watcher.new }
-        ensures stopped { result ≡ Heard.Stop → Rose (V.stops watcher.old) (V.stops watcher.new) }
-        ensures watcher_follows { HasHeard (V.follows watcher.old watcher.new) (V.stopped watcher.old watcher.new) result }
+        ensures watcher { WatcherLasts V.Watcher watcher.old watcher.new result }
     {
         loop {
             match self.begin_one(outcomes, watcher) {
@@ -97,16 +81,9 @@ impl<'c> Executor<'c> {
         ensures answered { IfOk result (Answered (S.whole outcomes.old) self.old self.new (S.rest outcomes.old) (S.rest outcomes.new)) }
         ensures stops { IfErr result (StopsAs (S.whole outcomes.old) self.old self.new (S.rest outcomes.old) (S.rest outcomes.new)) }
         ensures under_way { IsUnderWay self.new }
-        ensures cause { IfErr result (λ end. end ≡ WatchedEnd.SourceFault → Rose (S.faults outcomes.old) (S.faults outcomes.new)) }
-        ensures whole { S.whole outcomes.new ≡ S.whole outcomes.old }
-        ensures count { S.faults outcomes.old ≤ S.faults outcomes.new }
+        ensures source { SourceLasts S.Outcomes outcomes.old outcomes.new (asked_word result) }
         ensures asked { S.asked outcomes.new ≤ S.asked outcomes.old + 1 }
-        ensures careful { S.careful outcomes.new ≡ S.careful outcomes.old }
-        ensures steady { S.steady outcomes.new ≡ S.steady outcomes.old }
-        ensures over { S.steady outcomes.old ≡ true → S.over outcomes.old ≡ true → S.over outcomes.new ≡ true }
         ensures agrees { Accords (S.agrees outcomes.old) self.old → Accords (S.agrees outcomes.new) self.new }
-        ensures source_follows { OnOk result (S.follows outcomes.old outcomes.new) }
-        ensures source_came { IfErr result (HasCome (S.follows outcomes.old outcomes.new) (S.said outcomes.old outcomes.new)) }
         ensures said { S.steady outcomes.old ≡ true → S.over outcomes.new ≡ false
             → OnOk result (WentAsSaid self.old self.new (S.rest outcomes.old) (S.rest outcomes.new)) }
         ensures not_over { IfErr result (λ end. end ≡ WatchedEnd.SourceFault → S.over outcomes.old ≡ false) }
@@ -137,16 +114,9 @@ impl<'c> Executor<'c> {
         ensures going { IfSome result (λ end. ¬ HasGoneToEnd end) }
         ensures under_way { IsUnderWay self.new }
 
-        ensures cause { result ≡ Some WatchedEnd.SourceFault → Rose (S.faults outcomes.old) (S.faults outcomes.new) }
-        ensures whole { S.whole outcomes.new ≡ S.whole outcomes.old }
-        ensures count { S.faults outcomes.old ≤ S.faults outcomes.new }
+        ensures source { SourceLasts S.Outcomes outcomes.old outcomes.new (round_word result) }
         ensures asked { S.asked outcomes.new ≤ S.asked outcomes.old + 1 }
-        ensures careful { S.careful outcomes.new ≡ S.careful outcomes.old }
-        ensures steady { S.steady outcomes.new ≡ S.steady outcomes.old }
-        ensures over { S.steady outcomes.old ≡ true → S.over outcomes.old ≡ true → S.over outcomes.new ≡ true }
         ensures agrees { Accords (S.agrees outcomes.old) self.old → Accords (S.agrees outcomes.new) self.new }
-        ensures source_follows { IfNone result (S.follows outcomes.old outcomes.new) }
-        ensures source_came { IfSome result (HasCome (S.follows outcomes.old outcomes.new) (S.said outcomes.old outcomes.new)) }
         ensures said { S.steady outcomes.old ≡ true → S.over outcomes.new ≡ false
             → IfNone result (WentAsSaid self.old self.new (S.rest outcomes.old) (S.rest outcomes.new)) }
         ensures failed { S.steady outcomes.old ≡ true → result ≡ Some WatchedEnd.SourceFault → self.new ≡ self.old }
@@ -156,10 +126,7 @@ impl<'c> Executor<'c> {
 
         ensures told { Hears (S.whole outcomes.old) (V.names watcher.old) self.old self.new (S.rest outcomes.old) (S.rest outcomes.new)
             (V.told watcher.old) (V.told watcher.new) (heard_in result) }
-        ensures names { V.names watcher.new ≡ V.names watcher.old }
-        ensures stops { V.stops watcher.old ≤ V.stops watcher.new }
-        ensures stopped { result ≡ Some WatchedEnd.Stopped → Rose (V.stops watcher.old) (V.stops watcher.new) }
-        ensures watcher_follows { HasHeard (V.follows watcher.old watcher.new) (V.stopped watcher.old watcher.new) (heard_in result) }
+        ensures watcher { WatcherLasts V.Watcher watcher.old watcher.new (heard_in result) }
     {
         match self.ask(outcomes) {
             Ok(answer) => match watcher.taken(answer) {

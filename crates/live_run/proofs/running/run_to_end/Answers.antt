@@ -20,7 +20,7 @@ returns-in-Err-Unexpected-clause-reaches g c =
     (g.S.Source.left (outcomes_source c.replay_watched.new.outcomes)) (g.W.Sink.written (sink_of c.args.writer.now)) (g.W.Sink.written (sink_of c.replay_watched.new.watcher))
     (g.W.Sink.written (sink_of c.end_of_cut.new.writer)) (has_course_ended (standing_of c.args.outcomes.now).course) (has_course_ended (standing_of c.replay_watched.new.outcomes).course)
     c.in-Err-Unexpected.journal c.in-Err-Unexpected.field-0-1 (rw c.in-Err-Unexpected.field-0-is at c.in-Err-Unexpected.ensures.run)
-    (rw c.in-Err-Unexpected.field-0-is at c.in-Err-Unexpected.ensures.source_follows).follows c.end_of_cut.result c.end_of_cut.ensures.text
+    (rw c.in-Err-Unexpected.field-0-is at c.in-Err-Unexpected.ensures.source).came.follows c.end_of_cut.result c.end_of_cut.ensures.text
 
 pub returns-in-Err-SourceFault-clause-reaches : goal.returns-in-Err-SourceFault-clause-reaches
 returns-in-Err-SourceFault-clause-reaches g c =
@@ -31,7 +31,7 @@ returns-in-Err-SourceFault-clause-reaches g c =
     c.in-Err-SourceFault.journal (rw c.in-Err-SourceFault.field-0-is at c.in-Err-SourceFault.ensures.run)
     (failed_kind g.S.Source.counts_only_failures (view_of g.S.Source.left g.S.Source.faults c.args.outcomes.now)
     (view_of g.S.Source.left g.S.Source.faults c.replay_watched.new.outcomes)
-    ((rw c.in-Err-SourceFault.field-0-is at c.in-Err-SourceFault.ensures.source_follows).1 (ap (λ (s : SourceState). is_reading s.course) c.requires.fresh)))
+    ((rw c.in-Err-SourceFault.field-0-is at c.in-Err-SourceFault.ensures.source).came.1 (ap (λ (s : SourceState). is_reading s.course) c.requires.fresh)))
     c.end_of_lines.result c.end_of_lines.ensures.text
 
 pub returns-in-Err-Stopped-clause-reaches : goal.returns-in-Err-Stopped-clause-reaches
@@ -40,7 +40,7 @@ returns-in-Err-Stopped-clause-reaches g c =
     (standing_of c.replay_watched.new.outcomes) (writer_cluster c.args.writer.now) c.requires.fresh c.requires.names (g.S.Source.left (outcomes_source c.args.outcomes.now))
     (g.S.Source.left (outcomes_source c.replay_watched.new.outcomes)) (g.W.Sink.written (sink_of c.args.writer.now)) (g.W.Sink.written (sink_of c.replay_watched.new.watcher))
     (g.W.Sink.written (sink_of c.replay_watched.new.watcher)) (has_course_ended (standing_of c.args.outcomes.now).course) (has_course_ended (standing_of c.replay_watched.new.outcomes).course)
-    c.in-Err-Stopped.journal (rw c.in-Err-Stopped.field-0-is at c.in-Err-Stopped.ensures.run) (rw c.in-Err-Stopped.field-0-is at c.in-Err-Stopped.ensures.source_follows).follows
+    c.in-Err-Stopped.journal (rw c.in-Err-Stopped.field-0-is at c.in-Err-Stopped.ensures.run) (rw c.in-Err-Stopped.field-0-is at c.in-Err-Stopped.ensures.source).came.follows
 
 pub returns-in-Err-Most-clause-reaches : goal.returns-in-Err-Most-clause-reaches
 returns-in-Err-Most-clause-reaches g c =

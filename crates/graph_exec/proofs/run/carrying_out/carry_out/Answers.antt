@@ -1,7 +1,9 @@
 use Rattle.std.proofs.Common.{ap, refl, ◌∙◌}
+use Rattle.graph_exec.specs.declared.transition.watcher.Heard.TheVariants as heard
 use Rattle.graph_exec.specs.Logs.{JournalOf}
 use Rattle.graph_exec.specs.Running.{Running}
 use Rattle.graph_exec.proofs.Closings.{broken, closes_aborted, closes_complete, cut, stops_aborted, stops_amid, stops_complete}
+use Rattle.graph_exec.proofs.Lasts.{watcher_then, watcher_told}
 use Rattle.graph_exec.proofs.Rests.{accords_first, accords_last, leaves_rest, stays_there}
 use Rattle.graph_exec.proofs.Whole.{events_in}
 use Rattle.graph_exec.proofs.run.carrying_out.carry_out.Goals as goal
@@ -11,7 +13,7 @@ use Rattle.graph_exec.proofs.run.carrying_out.carry_out.Goals as goal
 pub returns-in-Go-clause-closes : goal.returns-in-Go-clause-closes
 returns-in-Go-clause-closes g c =
     closes_complete _ _ _ _ _ _ c.requires.fresh _ _ _ _ _ _ c.in-Complete.ensures.steps c.in-Complete.ensures.told _ c.in-Complete.ensures.end
-    (λ steady open_still. c.in-Complete.ensures.said_to_end steady open_still tt) (rw c.run_watched.ensures.names at c.in-Go.ensures.tells) _ c.into_parts-journal.ensures.journal
+    (λ steady open_still. (c.in-Complete.ensures.said steady).to_end open_still tt) (rw c.run_watched.ensures.watcher.names at c.in-Go.ensures.tells) _ c.into_parts-journal.ensures.journal
 
 pub returns-in-Go-clause-at_rest : goal.returns-in-Go-clause-at_rest
 returns-in-Go-clause-at_rest g c =
@@ -29,7 +31,7 @@ returns-in-Go-clause-agrees g c h =
 pub returns-in-Stop-clause-ends : goal.returns-in-Stop-clause-ends
 returns-in-Stop-clause-ends g c =
     stops_complete _ _ _ _ _ _ c.requires.fresh _ _ _ _ _ _ c.in-Complete.ensures.steps c.in-Complete.ensures.told _ c.in-Complete.ensures.end
-    (rw c.run_watched.ensures.names at c.in-Stop.ensures.tells) _ c.into_journal.ensures
+    (rw c.run_watched.ensures.watcher.names at c.in-Stop.ensures.tells) _ c.into_journal.ensures
 
 pub returns-in-Stop-clause-agrees_at_end : goal.returns-in-Stop-clause-agrees_at_end
 returns-in-Stop-clause-agrees_at_end g c h =
@@ -42,7 +44,7 @@ returns-in-Stop-clause-agrees_at_end g c h =
 pub returns-in-Go-closed-clause-closes : goal.returns-in-Go-closed-clause-closes
 returns-in-Go-closed-clause-closes g c =
     closes_aborted _ _ _ _ _ _ c.requires.fresh _ _ _ _ _ _ c.in-Aborted.ensures.steps c.in-Aborted.ensures.told _ _ c.in-Aborted.ensures.end
-    (λ steady open_still. c.in-Aborted.ensures.said_to_end steady open_still tt) (rw c.run_watched.ensures.names at c.in-Go-closed.ensures.tells) _
+    (λ steady open_still. (c.in-Aborted.ensures.said steady).to_end open_still tt) (rw c.run_watched.ensures.watcher.names at c.in-Go-closed.ensures.tells) _
     c.into_parts-journal-in-Go-closed.ensures.journal
 
 pub returns-in-Go-closed-clause-at_rest : goal.returns-in-Go-closed-clause-at_rest
@@ -61,7 +63,7 @@ returns-in-Go-closed-clause-agrees g c h =
 pub returns-in-Stop-closed-clause-ends : goal.returns-in-Stop-closed-clause-ends
 returns-in-Stop-closed-clause-ends g c =
     stops_aborted _ _ _ _ _ _ c.requires.fresh _ _ _ _ _ _ c.in-Aborted.ensures.steps c.in-Aborted.ensures.told _ _ c.in-Aborted.ensures.end
-    (rw c.run_watched.ensures.names at c.in-Stop-closed.ensures.tells) _ c.into_journal-in-Stop-closed.ensures
+    (rw c.run_watched.ensures.watcher.names at c.in-Stop-closed.ensures.tells) _ c.into_journal-in-Stop-closed.ensures
 
 pub returns-in-Stop-closed-clause-agrees_at_end : goal.returns-in-Stop-closed-clause-agrees_at_end
 returns-in-Stop-closed-clause-agrees_at_end g c h =
@@ -87,7 +89,7 @@ returns-in-Unexpected-clause-agrees_at_end g c h =
 pub returns-in-SourceFault-clause-ends : goal.returns-in-SourceFault-clause-ends
 returns-in-SourceFault-clause-ends g c =
     broken _ _ _ _ _ _ c.requires.fresh _ _ _ _ _ _ c.in-SourceFault.ensures.steps c.in-SourceFault.ensures.told c.in-SourceFault.ensures.end
-    (λ steady. c.in-SourceFault.ensures.said steady refl) (λ steady. c.in-SourceFault.ensures.not_over steady refl) _ c.into_journal-in-SourceFault.ensures
+    (λ steady. (c.in-SourceFault.ensures.said steady).failed refl) (λ steady. (c.in-SourceFault.ensures.said steady).not_over refl) _ c.into_journal-in-SourceFault.ensures
 
 pub returns-in-SourceFault-clause-agrees_at_end : goal.returns-in-SourceFault-clause-agrees_at_end
 returns-in-SourceFault-clause-agrees_at_end g c h =
@@ -108,14 +110,26 @@ returns-in-Stopped-clause-agrees_at_end g c h =
 
 -- the watcher has come on through the transition and its end
 
-pub returns-in-Go-clause-watcher_follows : goal.returns-in-Go-clause-watcher_follows
-returns-in-Go-clause-watcher_follows g c = g.met.V.Watcher.from_before _ _ _ c.in-Complete.ensures.watcher_follows (c.in-Go.ensures.follows refl)
+pub returns-in-Go-clause-watcher : goal.returns-in-Go-clause-watcher
+returns-in-Go-clause-watcher g c =
+    let told = c.in-Go.ensures in
+    watcher_then g.V.Watcher g.met.V.Watcher.from_before g.met.V.Watcher.stopped_later _ _ _ _ c.in-Complete.ensures.watcher
+    (watcher_told g.V.Watcher _ _ heard.Go told.names told.count told.cause told.follows told.stopped)
 
-pub returns-in-Stop-clause-watcher_came : goal.returns-in-Stop-clause-watcher_came
-returns-in-Stop-clause-watcher_came g c = g.met.V.Watcher.stopped_later _ _ _ c.in-Complete.ensures.watcher_follows (c.in-Stop.ensures.stopped refl)
+pub returns-in-Stop-clause-watcher : goal.returns-in-Stop-clause-watcher
+returns-in-Stop-clause-watcher g c =
+    let told = c.in-Stop.ensures in
+    watcher_then g.V.Watcher g.met.V.Watcher.from_before g.met.V.Watcher.stopped_later _ _ _ _ c.in-Complete.ensures.watcher
+    (watcher_told g.V.Watcher _ _ heard.Stop told.names told.count told.cause told.follows told.stopped)
 
-pub returns-in-Go-closed-clause-watcher_follows : goal.returns-in-Go-closed-clause-watcher_follows
-returns-in-Go-closed-clause-watcher_follows g c = g.met.V.Watcher.from_before _ _ _ c.in-Aborted.ensures.watcher_follows (c.in-Go-closed.ensures.follows refl)
+pub returns-in-Go-closed-clause-watcher : goal.returns-in-Go-closed-clause-watcher
+returns-in-Go-closed-clause-watcher g c =
+    let told = c.in-Go-closed.ensures in
+    watcher_then g.V.Watcher g.met.V.Watcher.from_before g.met.V.Watcher.stopped_later _ _ _ _ c.in-Aborted.ensures.watcher
+    (watcher_told g.V.Watcher _ _ heard.Go told.names told.count told.cause told.follows told.stopped)
 
-pub returns-in-Stop-closed-clause-watcher_came : goal.returns-in-Stop-closed-clause-watcher_came
-returns-in-Stop-closed-clause-watcher_came g c = g.met.V.Watcher.stopped_later _ _ _ c.in-Aborted.ensures.watcher_follows (c.in-Stop-closed.ensures.stopped refl)
+pub returns-in-Stop-closed-clause-watcher : goal.returns-in-Stop-closed-clause-watcher
+returns-in-Stop-closed-clause-watcher g c =
+    let told = c.in-Stop-closed.ensures in
+    watcher_then g.V.Watcher g.met.V.Watcher.from_before g.met.V.Watcher.stopped_later _ _ _ _ c.in-Aborted.ensures.watcher
+    (watcher_told g.V.Watcher _ _ heard.Stop told.names told.count told.cause told.follows told.stopped)

@@ -1,13 +1,14 @@
 use Rattle.std.proofs.Common.{ap}
 use Rattle.graph_exec.specs.Logs.{JournalOf}
+use Rattle.graph_exec.proofs.Lasts.{source_asked, source_on, source_same}
 use Rattle.graph_exec.proofs.Quiet.{idle_answered, idle_failed, idle_refused, idle_silent}
 use Rattle.graph_exec.proofs.Rests.{agrees_refused, agrees_taken, none_in_flight}
 use Rattle.graph_exec.proofs.run.idling.ask_idle.Goals as goal
 
 -- no memory is left
 
-pub returns-in_default-clause-source_came : goal.returns-in_default-clause-source_came
-returns-in_default-clause-source_came g c = g.met.S.Outcomes.from_itself _
+pub returns-in_default-clause-source : goal.returns-in_default-clause-source
+returns-in_default-clause-source g c = source_same g.S.Outcomes g.met.S.Outcomes.from_itself _
 
 -- an answer is entered
 
@@ -23,13 +24,18 @@ returns-in-Ok-take-clause-agrees g c h =
     agrees_taken (g.S.Outcomes.agrees c.next.new.self) (λ d es k a. g.met.S.Outcomes.anew c.next.new.self d es k a) j.cluster j.events c.in-Answer.answer on took.applies _
     (ap (λ (x : JournalOf). x.events) took.goes_on)
 
-pub returns-in-Ok-take-clause-source_follows : goal.returns-in-Ok-take-clause-source_follows
-returns-in-Ok-take-clause-source_follows g c = g.met.S.Outcomes.from_said _ _ _ (λ e. cc) c.in-Answer.ensures.said
+pub returns-in-Ok-take-clause-source : goal.returns-in-Ok-take-clause-source
+returns-in-Ok-take-clause-source g c =
+    let says = c.in-Answer.ensures in
+    source_on g.S.Outcomes _ _ g.met.S.Outcomes.from_said _ (λ e. cc)
+    (source_asked g.S.Outcomes _ _ _ says.whole says.count says.cause says.careful says.steady says.over says.said)
 
 -- it doesn't apply
 
-pub returns-in-Err-clause-source_came : goal.returns-in-Err-clause-source_came
-returns-in-Err-clause-source_came g c = rw c.in-Err.ensures.answer c.in-Answer.ensures.said
+pub returns-in-Err-clause-source : goal.returns-in-Err-clause-source
+returns-in-Err-clause-source g c =
+    let says = c.in-Answer.ensures in
+    rw c.in-Err.ensures.answer (source_asked g.S.Outcomes _ _ _ says.whole says.count says.cause says.careful says.steady says.over says.said)
 
 pub returns-in-Err-clause-unanswered : goal.returns-in-Err-clause-unanswered
 returns-in-Err-clause-unanswered g c =
@@ -50,7 +56,17 @@ pub returns-in-Silent-clause-unanswered : goal.returns-in-Silent-clause-unanswer
 returns-in-Silent-clause-unanswered g c =
     idle_silent _ c.args.journal _ _ c.in-Silent.ensures.gives _ (rw (c.into_known.ensures, c.in-Ok.ensures.ok) at c.into_journal.ensures)
 
+pub returns-in-Silent-clause-source : goal.returns-in-Silent-clause-source
+returns-in-Silent-clause-source g c =
+    let says = c.in-Silent.ensures in
+    source_asked g.S.Outcomes _ _ _ says.whole says.count says.cause says.careful says.steady says.over says.said
+
 -- the source fails
+
+pub returns-in-Failed-clause-source : goal.returns-in-Failed-clause-source
+returns-in-Failed-clause-source g c =
+    let says = c.in-Failed.ensures in
+    source_asked g.S.Outcomes _ _ _ says.whole says.count says.cause says.careful says.steady says.over says.said
 
 pub returns-in-Failed-clause-unanswered : goal.returns-in-Failed-clause-unanswered
 returns-in-Failed-clause-unanswered g c =

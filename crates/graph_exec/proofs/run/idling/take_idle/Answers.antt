@@ -1,5 +1,7 @@
-use Rattle.graph_exec.proofs.ComingNext.{heard_unanswered}
-use Rattle.graph_exec.proofs.Quiet.{cause_watched, ends_unanswered, is_stopped, is_taken}
+use Rattle.graph_exec.specs.declared.transition.watcher.Heard.TheVariants as heard
+use Rattle.graph_exec.proofs.Lasts.{watcher_same, watcher_told}
+use Rattle.graph_exec.proofs.LastsNext.{watcher_unanswered}
+use Rattle.graph_exec.proofs.Quiet.{ends_unanswered, is_stopped, is_taken}
 use Rattle.graph_exec.proofs.run.idling.take_idle.Goals as goal
 
 -- an answer is entered
@@ -16,16 +18,20 @@ returns-in-Stop-clause-ends g c =
 pub returns-in-Stop-clause-agrees_at_end : goal.returns-in-Stop-clause-agrees_at_end
 returns-in-Stop-clause-agrees_at_end g c h = rw c.into_journal.ensures (c.in-Ok.ensures.agrees h)
 
-pub returns-in-Stop-clause-source_came : goal.returns-in-Stop-clause-source_came
-returns-in-Stop-clause-source_came g c = c.in-Ok.ensures.source_follows
+pub returns-in-Go-clause-watcher : goal.returns-in-Go-clause-watcher
+returns-in-Go-clause-watcher g c =
+    let told = c.in-Go.ensures in
+    watcher_told g.V.Watcher _ _ heard.Go told.names told.count told.cause told.follows told.stopped
+
+pub returns-in-Stop-clause-watcher : goal.returns-in-Stop-clause-watcher
+returns-in-Stop-clause-watcher g c =
+    let told = c.in-Stop.ensures in
+    watcher_told g.V.Watcher _ _ heard.Stop told.names told.count told.cause told.follows told.stopped
 
 -- none came that applies
 
 pub returns-in-Err-clause-ends : goal.returns-in-Err-clause-ends
 returns-in-Err-clause-ends g c = rw c.watched.ensures (ends_unanswered _ _ _ _ c.args.journal _ _ _ _ _ c.in-Err.end c.in-Err.ensures.unanswered)
-
-pub returns-in-Err-clause-cause : goal.returns-in-Err-clause-cause
-returns-in-Err-clause-cause g c = rw c.watched.ensures (cause_watched _ _ _ _ c.in-Err.end c.in-Err.ensures.cause)
 
 pub returns-in-Err-clause-agrees_at_end : goal.returns-in-Err-clause-agrees_at_end
 returns-in-Err-clause-agrees_at_end g c h = rw c.watched.ensures (c.in-Err.ensures.agrees_at_end h)
@@ -33,8 +39,9 @@ returns-in-Err-clause-agrees_at_end g c h = rw c.watched.ensures (c.in-Err.ensur
 pub returns-in-Err-clause-fitting : goal.returns-in-Err-clause-fitting
 returns-in-Err-clause-fitting g c careful h = rw c.watched.ensures (c.in-Err.ensures.fitting careful h)
 
-pub returns-in-Err-clause-source_came : goal.returns-in-Err-clause-source_came
-returns-in-Err-clause-source_came g c = rw c.watched.ensures c.in-Err.ensures.source_came
+pub returns-in-Err-clause-source : goal.returns-in-Err-clause-source
+returns-in-Err-clause-source g c = rw c.watched.ensures c.in-Err.ensures.source
 
-pub returns-in-Err-clause-watcher_came : goal.returns-in-Err-clause-watcher_came
-returns-in-Err-clause-watcher_came g c = rw c.watched.ensures (heard_unanswered _ c.in-Err.end (g.met.V.Watcher.from_itself _))
+pub returns-in-Err-clause-watcher : goal.returns-in-Err-clause-watcher
+returns-in-Err-clause-watcher g c =
+    rw c.watched.ensures (watcher_unanswered g.V.Watcher _ _ c.in-Err.end (watcher_same g.V.Watcher g.met.V.Watcher.from_itself _))

@@ -2,12 +2,21 @@ use Rattle.std.proofs.Common.{ap, length, refl, ◌∙◌}
 use Rattle.graph_exec.specs.declared.transition.ends.End.{End}
 use Rattle.graph_exec.specs.Logs.{JournalOf}
 use Rattle.graph_exec.specs.Keeping.{passed_end}
-use Rattle.graph_exec.proofs.ComingNext.{ends_come_later}
+use Rattle.graph_exec.proofs.Lasts.{source_open, source_same, source_then}
+use Rattle.graph_exec.proofs.LastsNext.{source_keeping}
 use Rattle.graph_exec.proofs.KeptTurns.{ends_cut, ends_failed, ends_unanswered_there, goes_on_aborted, goes_on_answered}
 use Rattle.graph_exec.proofs.Ready.{agrees_behind, has_plan, later_cluster}
 use Rattle.graph_exec.proofs.Rests.{leaves_rest}
 use Rattle.graph_exec.proofs.Whole.{events_in}
 use Rattle.graph_exec.proofs.run.keeping.keep_transition.Goals as goal
+
+-- no memory is left
+
+pub returns-in_default-clause-source : goal.returns-in_default-clause-source
+returns-in_default-clause-source g c = source_open g.S.Outcomes _ _ _ (source_same g.S.Outcomes g.met.S.Outcomes.from_itself _)
+
+pub returns-in_default-keep_behind-clause-source : goal.returns-in_default-keep_behind-clause-source
+returns-in_default-keep_behind-clause-source g c = source_open g.S.Outcomes _ _ _ c.run_transition-end.ensures.source
 
 -- it is complete
 
@@ -23,8 +32,8 @@ returns-in-Ok-ask_idle-clause-goes_on g c es first keeps =
     let made = c.in-Complete.ensures in
     let ends = c.count-ends_at.ensures ∙ ap (λ (x : JournalOf). length x.events) c.into_known-later.ensures in
     goes_on_answered c.args.journal c.in-Ok.planned c.in-Ok.ensures.ready _ _ es first _ _ _ keeps _ _ _ c.count-begins_at.ensures ends _ c.passed_end.result refl _ c.in-Ok-keep_behind.ensures.ok
-    _ made.steps _ made.over (λ steady open_still. made.said_to_end steady open_still tt) (c.passed_end.ensures ∙ ap (λ (x : End). passed_end x) c.in-Complete.is) made.end _
-    c.into_known-later.ensures _ _ (λ steady h. c.ask_idle.ensures.over (made.steady ∙ steady) h) c.in-Ok-ask_idle.taken (rw made.whole at c.in-Ok-ask_idle.ensures.answered)
+    _ made.steps _ made.source.over (λ steady open_still. (made.said steady).to_end open_still tt) (c.passed_end.ensures ∙ ap (λ (x : End). passed_end x) c.in-Complete.is) made.end _
+    c.into_known-later.ensures _ _ (λ steady h. c.ask_idle.ensures.source.over (made.source.steady ∙ steady) h) c.in-Ok-ask_idle.taken (rw made.source.whole at c.in-Ok-ask_idle.ensures.answered)
 
 pub returns-in-Ok-ask_idle-clause-agrees : goal.returns-in-Ok-ask_idle-clause-agrees
 returns-in-Ok-ask_idle-clause-agrees g c h =
@@ -35,24 +44,21 @@ returns-in-Ok-ask_idle-clause-agrees g c h =
     let same = later_cluster c.args.journal c.in-Ok.planned c.in-Ok.ensures.ready _ _ _ _ made.steps _ c.into_known-later.ensures in
     rw same at (c.in-Ok-ask_idle.ensures.agrees (rw same there))
 
-pub returns-in-Ok-ask_idle-clause-source_follows : goal.returns-in-Ok-ask_idle-clause-source_follows
-returns-in-Ok-ask_idle-clause-source_follows g c =
-    g.met.S.Outcomes.from_before _ _ _ c.in-Complete.ensures.source_follows c.in-Ok-ask_idle.ensures.source_follows
+pub returns-in-Ok-ask_idle-clause-source : goal.returns-in-Ok-ask_idle-clause-source
+returns-in-Ok-ask_idle-clause-source g c =
+    source_then g.S.Outcomes g.met.S.Outcomes.from_before g.met.S.Outcomes.said_later _ _ _ _ c.in-Complete.ensures.source c.in-Ok-ask_idle.ensures.source
 
-pub returns-in-Err-clause-source_came : goal.returns-in-Err-clause-source_came
-returns-in-Err-clause-source_came g c =
-    let so_far = c.in-Complete.ensures.source_follows in
-    ends_come_later (g.S.Outcomes.follows c.run_transition-end.new.outcomes c.ask_idle.new.outcomes)
-    (g.S.Outcomes.said c.run_transition-end.new.outcomes c.ask_idle.new.outcomes) (g.S.Outcomes.said c.args.outcomes.now c.ask_idle.new.outcomes) c.in-Err.ended
-    (λ brought s. g.met.S.Outcomes.said_later _ _ _ brought so_far s) c.in-Err.ensures.source_came
+pub returns-in-Err-clause-source : goal.returns-in-Err-clause-source
+returns-in-Err-clause-source g c =
+    source_keeping g.S.Outcomes _ _ c.in-Err.ended (source_then g.S.Outcomes g.met.S.Outcomes.from_before g.met.S.Outcomes.said_later _ _ _ _ c.in-Complete.ensures.source c.in-Err.ensures.source)
 
 pub returns-in-Err-clause-ends : goal.returns-in-Err-clause-ends
 returns-in-Err-clause-ends g c es first keeps =
     let made = c.in-Complete.ensures in
     let ends = c.count-ends_at.ensures ∙ ap (λ (x : JournalOf). length x.events) c.into_known-later.ensures in
     ends_unanswered_there c.args.journal c.in-Ok.planned c.in-Ok.ensures.ready _ _ es first _ _ _ keeps _ _ _ c.count-begins_at.ensures ends _ c.passed_end.result refl _
-    c.in-Ok-keep_behind.ensures.ok _ made.steps _ made.over (λ steady open_still. made.said_to_end steady open_still tt)
-    (c.passed_end.ensures ∙ ap (λ (x : End). passed_end x) c.in-Complete.is) made.end _ c.into_known-later.ensures _ c.in-Err.ended (rw made.whole at c.in-Err.ensures.unanswered)
+    c.in-Ok-keep_behind.ensures.ok _ made.steps _ made.source.over (λ steady open_still. (made.said steady).to_end open_still tt)
+    (c.passed_end.ensures ∙ ap (λ (x : End). passed_end x) c.in-Complete.is) made.end _ c.into_known-later.ensures _ c.in-Err.ended (rw made.source.whole at c.in-Err.ensures.unanswered)
 
 pub returns-in-Err-clause-agrees_at_end : goal.returns-in-Err-clause-agrees_at_end
 returns-in-Err-clause-agrees_at_end g c h =
@@ -70,7 +76,7 @@ returns-in-Err-clause-fitting g c careful h =
     (g.S.Outcomes.agrees c.run_transition-end.new.outcomes) (λ d es k a. g.met.S.Outcomes.anew c.run_transition-end.new.outcomes d es k a) made.agrees h _
     (ap (λ (x : JournalOf). x.events) c.into_known-later.ensures) in
     let same = later_cluster c.args.journal c.in-Ok.planned c.in-Ok.ensures.ready _ _ _ _ made.steps _ c.into_known-later.ensures in
-    c.in-Err.ensures.fitting (made.careful ∙ careful) (rw same there)
+    c.in-Err.ensures.fitting (made.source.careful ∙ careful) (rw same there)
 
 -- it was aborted
 
@@ -79,7 +85,7 @@ returns-in-Aborted-clause-goes_on g c es first keeps =
     let made = c.in-Aborted.ensures in
     let ends = c.count-ends_at.ensures ∙ ap (λ (x : JournalOf). length x.events) c.into_known-later.ensures in
     goes_on_aborted c.args.journal c.in-Ok.planned c.in-Ok.ensures.ready _ _ es first _ _ _ keeps _ _ _ c.count-begins_at.ensures ends _ c.passed_end.result refl _ c.in-Ok-keep_behind.ensures.ok
-    _ made.steps _ made.over (λ steady open_still. made.said_to_end steady open_still tt) _ (c.passed_end.ensures ∙ ap (λ (x : End). passed_end x) c.in-Aborted.is) made.end _
+    _ made.steps _ made.source.over (λ steady open_still. (made.said steady).to_end open_still tt) _ (c.passed_end.ensures ∙ ap (λ (x : End). passed_end x) c.in-Aborted.is) made.end _
     c.into_known-later.ensures
 
 pub returns-in-Aborted-clause-agrees : goal.returns-in-Aborted-clause-agrees
@@ -89,13 +95,7 @@ returns-in-Aborted-clause-agrees g c h =
     (g.S.Outcomes.agrees c.run_transition-end.new.outcomes) (λ d es k a. g.met.S.Outcomes.anew c.run_transition-end.new.outcomes d es k a) made.agrees h _
     (ap (λ (x : JournalOf). x.events) c.into_known-later.ensures)
 
-pub returns-in-Aborted-clause-source_follows : goal.returns-in-Aborted-clause-source_follows
-returns-in-Aborted-clause-source_follows g c = c.in-Aborted.ensures.source_follows
-
 -- an answer came that doesn't apply
-
-pub returns-in-Unexpected-clause-source_came : goal.returns-in-Unexpected-clause-source_came
-returns-in-Unexpected-clause-source_came g c = c.in-Unexpected.ensures.source_follows
 
 pub returns-in-Unexpected-clause-ends : goal.returns-in-Unexpected-clause-ends
 returns-in-Unexpected-clause-ends g c es first keeps =
@@ -113,15 +113,12 @@ returns-in-Unexpected-clause-agrees_at_end g c h =
 
 -- the source failed
 
-pub returns-in-SourceFault-clause-source_came : goal.returns-in-SourceFault-clause-source_came
-returns-in-SourceFault-clause-source_came g c = c.in-SourceFault.ensures.source_follows
-
 pub returns-in-SourceFault-clause-ends : goal.returns-in-SourceFault-clause-ends
 returns-in-SourceFault-clause-ends g c es first keeps =
     let made = c.in-SourceFault.ensures in
     let ends = c.count-ends_at.ensures ∙ ap (λ (x : JournalOf). length x.events) c.into_known-later.ensures in
     ends_failed c.args.journal c.in-Ok.planned c.in-Ok.ensures.ready _ _ es first _ _ _ keeps _ _ _ c.count-begins_at.ensures ends _ c.passed_end.result refl _ c.in-Ok-keep_behind.ensures.ok
-    _ made.steps (c.passed_end.ensures ∙ ap (λ (x : End). passed_end x) c.in-SourceFault.is) made.end (λ steady. made.said steady refl) (λ steady. made.not_over steady refl) _
+    _ made.steps (c.passed_end.ensures ∙ ap (λ (x : End). passed_end x) c.in-SourceFault.is) made.end (λ steady. (made.said steady).failed refl) (λ steady. (made.said steady).not_over refl) _
     (rw c.into_known-later.ensures at c.into_journal-in-SourceFault.ensures)
 
 pub returns-in-SourceFault-clause-agrees_at_end : goal.returns-in-SourceFault-clause-agrees_at_end

@@ -1,11 +1,15 @@
 use Rattle.std.proofs.Common.{arith, ap, length, refl, ◌∙◌}
 use Rattle.graph_exec.specs.Logs.{JournalOf}
 use Rattle.run_safety.proofs.SafeRuns.{safe_run}
-use Rattle.graph_exec.proofs.ComingNext.{come_kept}
-use Rattle.graph_exec.proofs.KeptEnds.{agrees_kept, expected_kept, fails_since, kept_as, kept_at_rest, kept_in_order, kept_plans, most_in_order, most_kept, most_plans, starts_kept}
+use Rattle.graph_exec.proofs.Lasts.{source_open, source_same, source_then}
+use Rattle.graph_exec.proofs.LastsNext.{source_kept}
+use Rattle.graph_exec.proofs.KeptEnds.{agrees_kept, expected_kept, kept_as, kept_at_rest, kept_in_order, kept_plans, most_in_order, most_kept, most_plans, starts_kept}
 use Rattle.graph_exec.proofs.run.kept.replay.Goals as goal
 
 -- no memory is left
+
+pub returns-in_default-clause-source : goal.returns-in_default-clause-source
+returns-in_default-clause-source g c = source_open g.S.Outcomes _ _ _ (source_same g.S.Outcomes g.met.S.Outcomes.from_itself _)
 
 pub returns-in_default-clause-safe : goal.returns-in_default-clause-safe
 returns-in_default-clause-safe g c = safe_run _ _ _ c.requires.valid _ _ c.requires.at_rest
@@ -18,12 +22,7 @@ loop-made-init g c = record {
   promotions_stay = ap (λ (x : JournalOf). x.promotions) c.in-Ok.ensures.ok;
   keeps = starts_kept _ _ _ _ _ c.in-Ok.known c.new-passed.ensures (ap (λ (x : JournalOf). x.events) c.in-Ok.ensures.ok);
   all = ap length c.new-passed.ensures;
-  whole = refl;
-  count = omega arith;
-  careful = refl;
-  steady = refl;
-  over = λ steady h. h;
-  source_follows = g.met.S.Outcomes.from_itself _;
+  source = source_same g.S.Outcomes g.met.S.Outcomes.from_itself _;
   agrees = λ h. rw c.in-Ok.ensures.ok h;
 }
 
@@ -38,21 +37,14 @@ pub loop-made-preserved : goal.loop-made-preserved
 loop-made-preserved g c =
     let so_far = c.loop-made.invariant in
     let now = c.in-Ok-keep_transition.ensures in
-    let count_before = so_far.count in
-    let count_now = now.count in
     let all_before = so_far.all in
     let one_more = now.one_more in
     record {
       cluster_stays = now.stays.cluster_stays ∙ so_far.cluster_stays;
       promotions_stay = now.stays.promotions_stay ∙ so_far.promotions_stay;
-      keeps = (rw (so_far.cluster_stays, so_far.promotions_stay, so_far.whole, so_far.steady) at now.goes_on) _ _ so_far.keeps;
+      keeps = (rw (so_far.cluster_stays, so_far.promotions_stay, so_far.source.whole, so_far.source.steady) at now.goes_on) _ _ so_far.keeps;
       all = omega arith;
-      whole = now.whole ∙ so_far.whole;
-      count = omega arith;
-      careful = now.careful ∙ so_far.careful;
-      steady = now.steady ∙ so_far.steady;
-      over = λ steady h. now.over (so_far.steady ∙ steady) (so_far.over steady h);
-      source_follows = g.met.S.Outcomes.from_before _ _ _ so_far.source_follows now.source_follows;
+      source = source_then g.S.Outcomes g.met.S.Outcomes.from_before g.met.S.Outcomes.said_later _ _ _ _ so_far.source now.source;
       agrees = λ h. rw so_far.cluster_stays at (now.agrees (rw so_far.cluster_stays (so_far.agrees h)));
     }
 
@@ -61,7 +53,7 @@ loop-made-preserved g c =
 pub returns-in-Err-clause-run : goal.returns-in-Err-clause-run
 returns-in-Err-clause-run g c =
     let so_far = c.loop-made.invariant in
-    rw c.kept.ensures (kept_as _ _ _ _ _ _ c.in-Err.end ((rw (so_far.cluster_stays, so_far.promotions_stay, so_far.whole, so_far.steady) at c.in-Err.ensures.ends) _ _ so_far.keeps))
+    rw c.kept.ensures (kept_as _ _ _ _ _ _ c.in-Err.end ((rw (so_far.cluster_stays, so_far.promotions_stay, so_far.source.whole, so_far.source.steady) at c.in-Err.ensures.ends) _ _ so_far.keeps))
 
 pub returns-in-Err-clause-plans : goal.returns-in-Err-clause-plans
 returns-in-Err-clause-plans g c =
@@ -69,7 +61,7 @@ returns-in-Err-clause-plans g c =
     let all_before = so_far.all in
     let few = c.in-Err.ensures.few in
     rw c.kept.ensures
-    (kept_plans _ _ _ _ _ _ (omega arith) c.in-Err.end ((rw (so_far.cluster_stays, so_far.promotions_stay, so_far.whole, so_far.steady) at c.in-Err.ensures.ends) _ _ so_far.keeps))
+    (kept_plans _ _ _ _ _ _ (omega arith) c.in-Err.end ((rw (so_far.cluster_stays, so_far.promotions_stay, so_far.source.whole, so_far.source.steady) at c.in-Err.ensures.ends) _ _ so_far.keeps))
 
 pub returns-in-Err-clause-safe : goal.returns-in-Err-clause-safe
 returns-in-Err-clause-safe g c = safe_run _ _ _ c.requires.valid _ _ c.requires.at_rest
@@ -79,18 +71,12 @@ returns-in-Err-clause-kept g c =
     let so_far = c.loop-made.invariant in
     rw c.kept.ensures
     (kept_in_order _ _ _ _ _ (safe_run _ _ _ c.requires.valid _ _ c.requires.at_rest) c.in-Err.end
-    ((rw (so_far.cluster_stays, so_far.promotions_stay, so_far.whole, so_far.steady) at c.in-Err.ensures.ends) _ _ so_far.keeps))
+    ((rw (so_far.cluster_stays, so_far.promotions_stay, so_far.source.whole, so_far.source.steady) at c.in-Err.ensures.ends) _ _ so_far.keeps))
 
-pub returns-in-Err-clause-cause : goal.returns-in-Err-clause-cause
-returns-in-Err-clause-cause g c = rw c.kept.ensures (fails_since _ _ _ _ c.loop-made.invariant.count c.in-Err.end c.in-Err.ensures.cause)
-
-pub returns-in-Err-clause-source_follows : goal.returns-in-Err-clause-source_follows
-returns-in-Err-clause-source_follows g c =
-    let so_far = c.loop-made.invariant.source_follows in
+pub returns-in-Err-clause-source : goal.returns-in-Err-clause-source
+returns-in-Err-clause-source g c =
     rw c.kept.ensures
-    (come_kept (g.S.Outcomes.follows c.args.outcomes.now c.keep_transition.new.outcomes) (g.S.Outcomes.said c.loop-made.outcomes c.keep_transition.new.outcomes)
-    (g.S.Outcomes.said c.args.outcomes.now c.keep_transition.new.outcomes) _ c.in-Err.end (λ brought s. g.met.S.Outcomes.said_later _ _ _ brought so_far s)
-    c.in-Err.ensures.source_came)
+    (source_kept g.S.Outcomes _ _ _ c.in-Err.end (source_then g.S.Outcomes g.met.S.Outcomes.from_before g.met.S.Outcomes.said_later _ _ _ _ c.loop-made.invariant.source c.in-Err.ensures.source))
 
 pub returns-in-Err-clause-agrees : goal.returns-in-Err-clause-agrees
 returns-in-Err-clause-agrees g c h =
@@ -101,7 +87,7 @@ returns-in-Err-clause-agrees g c h =
 pub returns-in-Err-clause-fitting : goal.returns-in-Err-clause-fitting
 returns-in-Err-clause-fitting g c careful h =
     let so_far = c.loop-made.invariant in
-    rw c.kept.ensures (expected_kept _ c.in-Err.end (c.in-Err.ensures.fitting (so_far.careful ∙ careful) (rw so_far.cluster_stays (so_far.agrees h))))
+    rw c.kept.ensures (expected_kept _ c.in-Err.end (c.in-Err.ensures.fitting (so_far.source.careful ∙ careful) (rw so_far.cluster_stays (so_far.agrees h))))
 
 -- as many transitions were made as are allowed
 

@@ -1,7 +1,8 @@
 use Rattle.std.proofs.Common.{◌∙◌, refl}
+use Rattle.graph_exec.specs.declared.transition.watcher.Heard.TheVariants as heard
 use Rattle.graph_exec.specs.Replays.{setting, sight}
-use Rattle.graph_exec.proofs.ComingNext.{come_later, heard_later}
 use Rattle.graph_exec.proofs.Joined.{lacks_memory}
+use Rattle.graph_exec.proofs.Lasts.{source_same, source_then, watcher_same, watcher_then, watcher_told}
 use Rattle.graph_exec.proofs.Ready.{came_begun, comes_behind, ends_behind, has_plan, same_cluster, same_promotions, starts_fresh, stops_begun}
 use Rattle.graph_exec.proofs.Served.{serves_again}
 use Rattle.graph_exec.proofs.run.turning.make_transition.Goals as goal
@@ -45,7 +46,7 @@ returns-then-not-closed-clause-goes_on g c =
     let p = c.in-Ok.planned in
     let ready = c.in-Ok.ensures.ready in
     let begun = came_begun j p ready _ _ _ _ _ _ _ _ c.requires.names c.in_default-planned.ensures.tells in
-    comes_behind _ _ _ _ _ _ _ _ _ begun _ _ (same_cluster j p ready) (same_promotions j p ready) _ _ _ c.carry_out-carried.ensures.over
+    comes_behind _ _ _ _ _ _ _ _ _ begun _ _ (same_cluster j p ready) (same_promotions j p ready) _ _ _ c.carry_out-carried.ensures.source.over
     (rw (c.in-Ok-with.ensures.1, c.planned.ensures.names, c.if-not-closed.true) at c.carry_out-carried.ensures.closes)
 
 -- it is complete
@@ -59,11 +60,11 @@ returns-clause-goes_on g c =
     let p = c.in-Ok.planned in
     let ready = c.in-Ok.ensures.ready in
     let begun = came_begun j p ready _ _ _ _ _ _ _ _ c.requires.names c.in_default-planned.ensures.tells in
-    let closed = comes_behind _ _ _ _ _ _ _ _ _ begun _ _ (same_cluster j p ready) (same_promotions j p ready) _ _ _ c.carry_out-carried.ensures.over
+    let closed = comes_behind _ _ _ _ _ _ _ _ _ begun _ _ (same_cluster j p ready) (same_promotions j p ready) _ _ _ c.carry_out-carried.ensures.source.over
     (rw (c.in-Ok-with.ensures.1, c.planned.ensures.names, c.if-not-closed.false) at c.carry_out-carried.ensures.closes) in
     comes_behind _ _ _ _ _ _ _ _ _ closed.came _ _ closed.cluster_stays closed.promotions_stay _ _ _
-    (λ steady h. c.take_idle-taken.ensures.over (c.carry_out-carried.ensures.steady ∙ steady) h)
-    (rw (c.carry_out-carried.ensures.whole, c.carry_out-carried.ensures.steady, c.carry_out-carried.ensures.names, c.planned.ensures.names) at (rw c.in-Ok-with-2.ensures.1 at c.take_idle-taken.ensures.goes_on))
+    (λ steady h. c.take_idle-taken.ensures.source.over (c.carry_out-carried.ensures.source.steady ∙ steady) h)
+    (rw (c.carry_out-carried.ensures.source.whole, c.carry_out-carried.ensures.source.steady, c.carry_out-carried.ensures.watcher.names, c.planned.ensures.names) at (rw c.in-Ok-with-2.ensures.1 at c.take_idle-taken.ensures.goes_on))
 
 pub returns-in-Err-with-clause-ends : goal.returns-in-Err-with-clause-ends
 returns-in-Err-with-clause-ends g c =
@@ -71,50 +72,70 @@ returns-in-Err-with-clause-ends g c =
     let p = c.in-Ok.planned in
     let ready = c.in-Ok.ensures.ready in
     let begun = came_begun j p ready _ _ _ _ _ _ _ _ c.requires.names c.in_default-planned.ensures.tells in
-    let closed = comes_behind _ _ _ _ _ _ _ _ _ begun _ _ (same_cluster j p ready) (same_promotions j p ready) _ _ _ c.carry_out-carried.ensures.over
+    let closed = comes_behind _ _ _ _ _ _ _ _ _ begun _ _ (same_cluster j p ready) (same_promotions j p ready) _ _ _ c.carry_out-carried.ensures.source.over
     (rw (c.in-Ok-with.ensures.1, c.planned.ensures.names, c.if-not-closed.false) at c.carry_out-carried.ensures.closes) in
-    ends_behind _ _ _ _ _ _ _ _ _ closed.came _ _ closed.cluster_stays closed.promotions_stay _ _ c.carry_out-carried.ensures.over
-    (rw (c.carry_out-carried.ensures.whole, c.carry_out-carried.ensures.steady, c.carry_out-carried.ensures.names, c.planned.ensures.names) at (rw c.in-Err-with.ensures at c.take_idle-taken.ensures.ends))
+    ends_behind _ _ _ _ _ _ _ _ _ closed.came _ _ closed.cluster_stays closed.promotions_stay _ _ c.carry_out-carried.ensures.source.over
+    (rw (c.carry_out-carried.ensures.source.whole, c.carry_out-carried.ensures.source.steady, c.carry_out-carried.ensures.watcher.names, c.planned.ensures.names) at (rw c.in-Err-with.ensures at c.take_idle-taken.ensures.ends))
 
 -- what the source and the watcher have come to
 
-pub returns-in_default-clause-source_came : goal.returns-in_default-clause-source_came
-returns-in_default-clause-source_came g c = g.met.S.Outcomes.from_itself _
+pub returns-in_default-clause-source : goal.returns-in_default-clause-source
+returns-in_default-clause-source g c = source_same g.S.Outcomes g.met.S.Outcomes.from_itself _
 
-pub returns-in_default-clause-watcher_came : goal.returns-in_default-clause-watcher_came
-returns-in_default-clause-watcher_came g c = g.met.V.Watcher.from_itself _
+pub returns-in_default-clause-watcher : goal.returns-in_default-clause-watcher
+returns-in_default-clause-watcher g c = watcher_same g.V.Watcher g.met.V.Watcher.from_itself _
 
-pub returns-in-Stop-clause-source_came : goal.returns-in-Stop-clause-source_came
-returns-in-Stop-clause-source_came g c = rw c.stopped.ensures (g.met.S.Outcomes.from_itself _)
+pub returns-in-Stop-clause-source : goal.returns-in-Stop-clause-source
+returns-in-Stop-clause-source g c = rw c.stopped.ensures (source_same g.S.Outcomes g.met.S.Outcomes.from_itself _)
 
-pub returns-in-Err-clause-watcher_came : goal.returns-in-Err-clause-watcher_came
-returns-in-Err-clause-watcher_came g c =
-    let planned = c.in_default-planned.ensures.follows refl in
-    heard_later _ (λ f. g.met.V.Watcher.from_before _ _ _ planned f) (λ s. g.met.V.Watcher.stopped_later _ _ _ planned s) (rw c.in-Err.ensures at c.carry_out-carried.ensures.watcher_came)
+pub returns-in-Stop-clause-watcher : goal.returns-in-Stop-clause-watcher
+returns-in-Stop-clause-watcher g c =
+    let told = c.in-Stop.ensures in
+    rw c.stopped.ensures (watcher_told g.V.Watcher _ _ heard.Stop told.names told.count told.cause told.follows told.stopped)
 
-pub returns-then-not-closed-clause-watcher_follows : goal.returns-then-not-closed-clause-watcher_follows
-returns-then-not-closed-clause-watcher_follows g c =
-    g.met.V.Watcher.from_before _ _ _ (c.in_default-planned.ensures.follows refl) (rw c.in-Ok-with.ensures.1 at c.carry_out-carried.ensures.watcher_follows)
+pub returns-in-Err-clause-source : goal.returns-in-Err-clause-source
+returns-in-Err-clause-source g c = rw c.in-Err.ensures at c.carry_out-carried.ensures.source
 
-pub returns-clause-source_follows : goal.returns-clause-source_follows
-returns-clause-source_follows g c =
-    g.met.S.Outcomes.from_before _ _ _ (rw c.in-Ok-with.ensures.1 at c.carry_out-carried.ensures.source_follows) (rw c.in-Ok-with-2.ensures.1 at c.take_idle-taken.ensures.source_follows)
+pub returns-in-Err-clause-watcher : goal.returns-in-Err-clause-watcher
+returns-in-Err-clause-watcher g c =
+    let told = c.in_default-planned.ensures in
+    watcher_then g.V.Watcher g.met.V.Watcher.from_before g.met.V.Watcher.stopped_later _ _ _ _ (watcher_told g.V.Watcher _ _ heard.Go told.names told.count told.cause told.follows told.stopped)
+    (rw c.in-Err.ensures at c.carry_out-carried.ensures.watcher)
 
-pub returns-clause-watcher_follows : goal.returns-clause-watcher_follows
-returns-clause-watcher_follows g c =
-    let carried = g.met.V.Watcher.from_before _ _ _ (c.in_default-planned.ensures.follows refl) (rw c.in-Ok-with.ensures.1 at c.carry_out-carried.ensures.watcher_follows) in
-    g.met.V.Watcher.from_before _ _ _ carried (rw c.in-Ok-with-2.ensures.1 at c.take_idle-taken.ensures.watcher_follows)
+pub returns-then-not-closed-clause-source : goal.returns-then-not-closed-clause-source
+returns-then-not-closed-clause-source g c = rw c.in-Ok-with.ensures.1 at c.carry_out-carried.ensures.source
 
-pub returns-in-Err-with-clause-source_came : goal.returns-in-Err-with-clause-source_came
-returns-in-Err-with-clause-source_came g c =
-    let carried = (rw c.in-Ok-with.ensures.1 at c.carry_out-carried.ensures.source_follows) in
-    come_later (g.S.Outcomes.said c.carry_out-carried.new.outcomes c.take_idle-taken.new.outcomes) (g.S.Outcomes.said c.args.outcomes.now c.take_idle-taken.new.outcomes) _
-    (λ f. g.met.S.Outcomes.from_before _ _ _ carried f) (λ brought s. g.met.S.Outcomes.said_later _ _ _ brought carried s) (rw c.in-Err-with.ensures at c.take_idle-taken.ensures.source_came)
+pub returns-then-not-closed-clause-watcher : goal.returns-then-not-closed-clause-watcher
+returns-then-not-closed-clause-watcher g c =
+    let told = c.in_default-planned.ensures in
+    watcher_then g.V.Watcher g.met.V.Watcher.from_before g.met.V.Watcher.stopped_later _ _ _ _ (watcher_told g.V.Watcher _ _ heard.Go told.names told.count told.cause told.follows told.stopped)
+    (rw c.in-Ok-with.ensures.1 at c.carry_out-carried.ensures.watcher)
 
-pub returns-in-Err-with-clause-watcher_came : goal.returns-in-Err-with-clause-watcher_came
-returns-in-Err-with-clause-watcher_came g c =
-    let carried = g.met.V.Watcher.from_before _ _ _ (c.in_default-planned.ensures.follows refl) (rw c.in-Ok-with.ensures.1 at c.carry_out-carried.ensures.watcher_follows) in
-    heard_later _ (λ f. g.met.V.Watcher.from_before _ _ _ carried f) (λ s. g.met.V.Watcher.stopped_later _ _ _ carried s) (rw c.in-Err-with.ensures at c.take_idle-taken.ensures.watcher_came)
+pub returns-clause-source : goal.returns-clause-source
+returns-clause-source g c =
+    source_then g.S.Outcomes g.met.S.Outcomes.from_before g.met.S.Outcomes.said_later _ _ _ _ (rw c.in-Ok-with.ensures.1 at c.carry_out-carried.ensures.source)
+    (rw c.in-Ok-with-2.ensures.1 at c.take_idle-taken.ensures.source)
+
+pub returns-clause-watcher : goal.returns-clause-watcher
+returns-clause-watcher g c =
+    let told = c.in_default-planned.ensures in
+    watcher_then g.V.Watcher g.met.V.Watcher.from_before g.met.V.Watcher.stopped_later _ _ _ _
+    (watcher_then g.V.Watcher g.met.V.Watcher.from_before g.met.V.Watcher.stopped_later _ _ _ _ (watcher_told g.V.Watcher _ _ heard.Go told.names told.count told.cause told.follows told.stopped)
+    (rw c.in-Ok-with.ensures.1 at c.carry_out-carried.ensures.watcher))
+    (rw c.in-Ok-with-2.ensures.1 at c.take_idle-taken.ensures.watcher)
+
+pub returns-in-Err-with-clause-source : goal.returns-in-Err-with-clause-source
+returns-in-Err-with-clause-source g c =
+    source_then g.S.Outcomes g.met.S.Outcomes.from_before g.met.S.Outcomes.said_later _ _ _ _ (rw c.in-Ok-with.ensures.1 at c.carry_out-carried.ensures.source)
+    (rw c.in-Err-with.ensures at c.take_idle-taken.ensures.source)
+
+pub returns-in-Err-with-clause-watcher : goal.returns-in-Err-with-clause-watcher
+returns-in-Err-with-clause-watcher g c =
+    let told = c.in_default-planned.ensures in
+    watcher_then g.V.Watcher g.met.V.Watcher.from_before g.met.V.Watcher.stopped_later _ _ _ _
+    (watcher_then g.V.Watcher g.met.V.Watcher.from_before g.met.V.Watcher.stopped_later _ _ _ _ (watcher_told g.V.Watcher _ _ heard.Go told.names told.count told.cause told.follows told.stopped)
+    (rw c.in-Ok-with.ensures.1 at c.carry_out-carried.ensures.watcher))
+    (rw c.in-Err-with.ensures at c.take_idle-taken.ensures.watcher)
 
 -- the plan serves again
 

@@ -1,6 +1,7 @@
 use Rattle.std.proofs.Common.{refl}
 use Rattle.graph_exec.proofs.Carrying.{answered_by, answered_silently}
 use Rattle.graph_exec.proofs.Agreeing.{accords_failed, accords_refused, accords_silent, accords_taken, never_refused, seen}
+use Rattle.graph_exec.proofs.Lasts.{source_asked, source_on}
 use Rattle.graph_exec.proofs.Said.{said_taken}
 use Rattle.graph_exec.proofs.transition.executor.Executor.ask.Goals as goal
 
@@ -53,8 +54,26 @@ returns-in-Failed-clause-under_way g c = rw c.self.view_is at c.self.invariant
 
 -- a question that didn't fail
 
-pub returns-in-Ok-clause-source_follows : goal.returns-in-Ok-clause-source_follows
-returns-in-Ok-clause-source_follows g c = g.met.S.Outcomes.from_said _ _ _ (λ e. cc) c.in-Answer.ensures.said
+pub returns-in-Ok-clause-source : goal.returns-in-Ok-clause-source
+returns-in-Ok-clause-source g c =
+    let says = c.in-Answer.ensures in
+    source_on g.S.Outcomes _ _ g.met.S.Outcomes.from_said _ (λ e. cc)
+    (source_asked g.S.Outcomes _ _ _ says.whole says.count says.cause says.careful says.steady says.over says.said)
 
-pub returns-in-Silent-clause-source_follows : goal.returns-in-Silent-clause-source_follows
-returns-in-Silent-clause-source_follows g c = g.met.S.Outcomes.from_said _ _ _ (λ e. cc) c.in-Silent.ensures.said
+pub returns-in-Silent-clause-source : goal.returns-in-Silent-clause-source
+returns-in-Silent-clause-source g c =
+    let says = c.in-Silent.ensures in
+    source_on g.S.Outcomes _ _ g.met.S.Outcomes.from_said _ (λ e. cc)
+    (source_asked g.S.Outcomes _ _ _ says.whole says.count says.cause says.careful says.steady says.over says.said)
+
+-- what was said last ends it
+
+pub returns-in-Err-clause-source : goal.returns-in-Err-clause-source
+returns-in-Err-clause-source g c =
+    let says = c.in-Answer.ensures in
+    rw c.in-Err.ensures.answer (source_asked g.S.Outcomes _ _ _ says.whole says.count says.cause says.careful says.steady says.over says.said)
+
+pub returns-in-Failed-clause-source : goal.returns-in-Failed-clause-source
+returns-in-Failed-clause-source g c =
+    let says = c.in-Failed.ensures in
+    source_asked g.S.Outcomes _ _ _ says.whole says.count says.cause says.careful says.steady says.over says.said

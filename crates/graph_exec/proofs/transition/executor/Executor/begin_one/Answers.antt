@@ -1,6 +1,6 @@
 use Rattle.std.proofs.Common.{◌∙◌}
 use Rattle.graph_exec.proofs.Carrying.{fewer_begins, no_more_asks, went_begun, went_nowhere}
-use Rattle.graph_exec.proofs.Coming.{heard_by}
+use Rattle.graph_exec.proofs.Lasts.{source_same, source_told, watcher_same, watcher_told}
 use Rattle.graph_exec.proofs.Said.{said_begun, said_nothing}
 use Rattle.graph_exec.proofs.Stepping.{begun_action, begun_high}
 use Rattle.graph_exec.proofs.Told.{hears_begin}
@@ -14,11 +14,11 @@ returns-in_default-clause-went g c = rw c.in_default.ensures.settled.same (went_
 pub returns-in_default-clause-said : goal.returns-in_default-clause-said
 returns-in_default-clause-said g c = rw c.in_default.ensures.settled.same (said_nothing _ _)
 
-pub returns-in_default-clause-source_follows : goal.returns-in_default-clause-source_follows
-returns-in_default-clause-source_follows g c = g.met.S.Outcomes.from_itself _
+pub returns-in_default-clause-source : goal.returns-in_default-clause-source
+returns-in_default-clause-source g c = source_same g.S.Outcomes g.met.S.Outcomes.from_itself _
 
-pub returns-in_default-clause-watcher_follows : goal.returns-in_default-clause-watcher_follows
-returns-in_default-clause-watcher_follows g c = g.met.V.Watcher.from_itself _
+pub returns-in_default-clause-watcher : goal.returns-in_default-clause-watcher
+returns-in_default-clause-watcher g c = watcher_same g.V.Watcher g.met.V.Watcher.from_itself _
 
 -- one begins
 
@@ -45,5 +45,12 @@ returns-clause-told g c =
     let action = begun_action _ _ c.in-Some.number c.in-Some.ensures.begins c.action-action.result (rw (c.graph.ensures ∙ graph) at c.action-action.ensures) in
     hears_begin _ _ _ _ _ _ c.in-Some.number c.in-Some.ensures.begins _ _ _ c.begun.ensures.rest (rw action c.begun-2.ensures.tells)
 
-pub returns-clause-watcher_follows : goal.returns-clause-watcher_follows
-returns-clause-watcher_follows g c = heard_by _ c.begun-2.ensures.follows c.begun-2.ensures.stopped
+pub returns-clause-source : goal.returns-clause-source
+returns-clause-source g c =
+    let told = c.begun.ensures in
+    source_told g.S.Outcomes _ _ told.whole told.count told.careful told.steady told.over told.follows
+
+pub returns-clause-watcher : goal.returns-clause-watcher
+returns-clause-watcher g c =
+    let told = c.begun-2.ensures in
+    watcher_told g.V.Watcher _ _ _ told.names told.count told.cause told.follows told.stopped

@@ -1,6 +1,6 @@
 use Rattle.graph_exec.specs.declared.transition.watcher.Heard.TheVariants as heard
 use Rattle.graph_exec.proofs.Carrying.{advanced, ends_by, gone_by, same_by, still_going, went_answered}
-use Rattle.graph_exec.proofs.Coming.{heard_none}
+use Rattle.graph_exec.proofs.Lasts.{watcher_same, watcher_told, watcher_untold}
 use Rattle.graph_exec.proofs.Told.{hears_answer, hears_none}
 use Rattle.graph_exec.proofs.transition.executor.Executor.go_on.Goals as goal
 
@@ -12,6 +12,11 @@ returns-in-Go-clause-on g c = advanced _ _ _ _ _ c.in-Ok.answer c.in-Ok.ensures.
 pub returns-in-Go-clause-told : goal.returns-in-Go-clause-told
 returns-in-Go-clause-told g c = hears_answer _ _ _ _ _ _ c.in-Ok.answer c.in-Ok.ensures.answered _ _ heard.Go c.in-Go.ensures.tells
 
+pub returns-in-Go-clause-watcher : goal.returns-in-Go-clause-watcher
+returns-in-Go-clause-watcher g c =
+    let told = c.in-Go.ensures in
+    watcher_told g.V.Watcher _ _ heard.Go told.names told.count told.cause told.follows told.stopped
+
 -- it stops
 
 pub returns-in-Stop-clause-steps : goal.returns-in-Stop-clause-steps
@@ -19,6 +24,11 @@ returns-in-Stop-clause-steps g c = went_answered _ _ _ _ _ c.in-Ok.answer c.in-O
 
 pub returns-in-Stop-clause-told : goal.returns-in-Stop-clause-told
 returns-in-Stop-clause-told g c = hears_answer _ _ _ _ _ _ c.in-Ok.answer c.in-Ok.ensures.answered _ _ heard.Stop c.in-Stop.ensures.tells
+
+pub returns-in-Stop-clause-watcher : goal.returns-in-Stop-clause-watcher
+returns-in-Stop-clause-watcher g c =
+    let told = c.in-Stop.ensures in
+    watcher_told g.V.Watcher _ _ heard.Stop told.names told.count told.cause told.follows told.stopped
 
 -- no answer was taken
 
@@ -37,5 +47,6 @@ returns-in-Err-clause-failed g c steady fault = same_by _ _ _ _ _ c.in-Err.end c
 pub returns-in-Err-clause-told : goal.returns-in-Err-clause-told
 returns-in-Err-clause-told g c = hears_none _ _ _ _ _ _ _ c.in-Err.end c.in-Err.ensures.stops
 
-pub returns-in-Err-clause-watcher_follows : goal.returns-in-Err-clause-watcher_follows
-returns-in-Err-clause-watcher_follows g c = heard_none _ _ _ _ _ _ c.in-Err.end c.in-Err.ensures.stops (g.met.V.Watcher.from_itself c.args.watcher.now)
+pub returns-in-Err-clause-watcher : goal.returns-in-Err-clause-watcher
+returns-in-Err-clause-watcher g c =
+    watcher_untold g.V.Watcher _ _ _ _ _ _ _ c.in-Err.end c.in-Err.ensures.stops (watcher_same g.V.Watcher g.met.V.Watcher.from_itself c.args.watcher.now)

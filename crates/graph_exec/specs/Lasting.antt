@@ -1,0 +1,57 @@
+-- What lasts of a source of answers and of a watcher, and what they have come to (rule of this project).
+use Rattle.std.specs.Prelude.{◌≡◌, ◌≤◌, ℕ, true}
+use Rattle.cluster_io.specs.Streams.{Rose}
+use Rattle.graph_exec.specs.declared.transition.ends.WatchedEnd.{WatchedEnd}
+use Rattle.graph_exec.specs.declared.transition.ends.WatchedEnd.TheVariants as how
+use Rattle.graph_exec.specs.declared.transition.outcomes.Next.{Next}
+use Rattle.graph_exec.specs.declared.transition.outcomes.Next.TheVariants as next
+use Rattle.graph_exec.specs.declared.transition.outcomes.Outcomes.{Ghosts as OutcomesOf}
+use Rattle.graph_exec.specs.declared.transition.watcher.Heard.{Heard}
+use Rattle.graph_exec.specs.declared.transition.watcher.Heard.TheVariants as says
+use Rattle.graph_exec.specs.declared.transition.watcher.Watcher.{Ghosts as WatcherOf}
+use Rattle.graph_exec.specs.Watching.{HasHeard}
+
+-- the last word of a source: none of its questions failed, this was said last, or neither is told
+pub data LastWord : Type 0 where
+  none_failed : LastWord
+  word_is : Next → LastWord
+  word_open : LastWord
+
+-- where an answer doesn't apply or the source failed, that was said last; else no question failed
+abbrev pub transition_word : WatchedEnd → LastWord
+transition_word (how.Unexpected given) = word_is (next.Answer given)
+transition_word how.SourceFault = word_is next.Failed
+transition_word _ = none_failed
+
+-- the source failed only where its count of faults rose, and the watcher stopped only where its count of stops did
+abbrev pub IsFailureCounted : ℕ → ℕ → LastWord → Type 0
+IsFailureCounted faults faults_now (word_is next.Failed) = Rose faults faults_now
+IsFailureCounted faults faults_now _ = Unit {0}
+
+abbrev pub IsStopCounted : ℕ → ℕ → Heard → Type 0
+IsStopCounted stops stops_now says.Go = Unit {0}
+IsStopCounted stops stops_now says.Stop = Rose stops stops_now
+
+module _ {A : Type 0} (s : OutcomesOf A) (old new : A) where
+  abbrev pub HasSourceCome : LastWord → Type 0
+  HasSourceCome none_failed = s.follows old new
+  HasSourceCome (word_is brought) = s.said old new brought
+  HasSourceCome word_open = Unit {0}
+
+  -- what lasts of a source, and what it has come to by its last word
+  pub record SourceLasts (word : LastWord) : Type 0 where
+    pub whole : s.whole new ≡ s.whole old
+    pub count : s.faults old ≤ s.faults new
+    pub cause : IsFailureCounted (s.faults old) (s.faults new) word
+    pub careful : s.careful new ≡ s.careful old
+    pub steady : s.steady new ≡ s.steady old
+    pub over : s.steady old ≡ true → s.over old ≡ true → s.over new ≡ true
+    pub came : HasSourceCome word
+
+module _ {B : Type 0} (v : WatcherOf B) (old new : B) where
+  -- what lasts of a watcher, and what it has come to by what it said at last
+  pub record WatcherLasts (heard : Heard) : Type 0 where
+    pub names : v.names new ≡ v.names old
+    pub stops : v.stops old ≤ v.stops new
+    pub cause : IsStopCounted (v.stops old) (v.stops new) heard
+    pub came : HasHeard (v.follows old new) (v.stopped old new) heard
