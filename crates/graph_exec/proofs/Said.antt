@@ -92,6 +92,10 @@ module _ (old new : Running) (rest left : Option (List Answer)) (over over_now :
     to_end = λ open_still there. said open_still;
   }
 
+  pub going_said : (end : WatchedEnd) → ¬ HasGoneToEnd end → (end ≡ how.SourceFault → WentAsSaid old new rest left) → (end ≡ how.SourceFault → over ≡ false)
+      → HasSaidAll old new rest left over over_now end
+  going_said end going failed not_over = record { failed = failed; not_over = not_over; to_end = λ open_still there. absurd (going there) }
+
   no_fault_stopped : {R : Type 0} → how.Stopped ≡ how.SourceFault → R
   no_fault_stopped e = let f : ⊥ = cc in absurd f
 

@@ -5,7 +5,7 @@ use Rattle.graph_exec.proofs.Carrying.{expected_done, gone_done, gone_further, h
 use Rattle.graph_exec.proofs.Lasts.{source_done, source_same, source_then, watcher_done, watcher_same, watcher_then}
 use Rattle.graph_exec.proofs.Fewer.{asks_most}
 use Rattle.graph_exec.proofs.Promised.{ends_well, promised}
-use Rattle.graph_exec.proofs.Said.{done_said, said_nothing, said_on, stopped_said}
+use Rattle.graph_exec.proofs.Said.{done_said, going_said, said_nothing, said_on, stopped_said}
 use Rattle.graph_exec.proofs.Told.{hears_done, hears_on, told_nothing, told_on}
 use Rattle.graph_exec.proofs.transition.over_source.run_watched.Goals as goal
 
@@ -133,13 +133,11 @@ returns-in-Some-clause-said g c steady =
     let so_far = c.loop-executor.invariant in
     let begun = c.begin_all.ensures in
     let over = begun.source.over (so_far.source.steady ∙ steady) in
-    record {
-      failed = λ fault.
-          rw (c.in-Some.ensures.failed (begun.source.steady ∙ so_far.source.steady ∙ steady) (ap Some fault), c.in-Some.ensures.unread (ap Some fault))
-          (said_on _ _ _ _ _ _ (so_far.said steady (fails_too _ _ over (c.in-Some.ensures.not_over (ap Some fault)))) begun.said);
-      not_over = λ fault. fails_too _ _ (so_far.source.over steady) (fails_too _ _ over (c.in-Some.ensures.not_over (ap Some fault)));
-      to_end = λ open_still end. absurd (c.in-Some.ensures.going end);
-    }
+    going_said _ _ _ _ _ _ _ c.in-Some.ensures.going
+    (λ fault.
+        rw (c.in-Some.ensures.failed (begun.source.steady ∙ so_far.source.steady ∙ steady) (ap Some fault), c.in-Some.ensures.unread (ap Some fault))
+        (said_on _ _ _ _ _ _ (so_far.said steady (fails_too _ _ over (c.in-Some.ensures.not_over (ap Some fault)))) begun.said))
+    (λ fault. fails_too _ _ (so_far.source.over steady) (fails_too _ _ over (c.in-Some.ensures.not_over (ap Some fault))))
 
 pub returns-in-Some-clause-source : goal.returns-in-Some-clause-source
 returns-in-Some-clause-source g c =
