@@ -1,5 +1,5 @@
 -- A transition without actions: nothing is in flight, and what applies in it applies while nothing is to be done.
-use Rattle.std.proofs.Common.{◌≡◌, ◌++◌, append-nil, ℕ, Bool, true, false, List, [], ◌∷◌, length, filter, map, count_by, refl, sym, ap, ◌∙◌}
+use Rattle.std.proofs.Common.{◌≡◌, ◌++◌, append-nil, ℕ, Bool, true, false, List, [], ◌∷◌, length, filter, count_by, sym, ap, ◌∙◌}
 use Rattle.std.specs.List.{flat_map, range_with_len}
 use Rattle.std.specs.Option.{option_map_or}
 use Rattle.cluster_types.specs.declared.journal.Action.{Action}

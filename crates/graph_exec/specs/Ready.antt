@@ -1,5 +1,5 @@
 -- Which actions wait no longer: those before which none is left (rule of this project).
-use Rattle.std.specs.Prelude.{ℕ, ◌-◌, ◌||◌, ◌&&◌, Bool, false, not, List, length, filter, replicate}
+use Rattle.std.specs.Prelude.{ℕ, ◌||◌, ◌&&◌, Bool, false, not, List, length, filter, replicate}
 use Rattle.std.specs.List.{list_all, range_with_len}
 use Rattle.cluster_types.specs.Graphs.{GraphOf, is_before}
 use Rattle.listed.specs.Sets.{is_member}

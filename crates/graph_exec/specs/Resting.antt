@@ -1,5 +1,5 @@
 -- A cluster of which nothing is to be done: which answers come to it then (rule of this project).
-use Rattle.std.specs.Prelude.{◌≡◌, ◌++◌, List, []}
+use Rattle.std.specs.Prelude.{◌≡◌, ◌++◌, []}
 use Rattle.cluster_types.specs.declared.journal.Answer.{Answer}
 use Rattle.cluster_types.specs.Steps.{Applies, answer_events, resting}
 use Rattle.graph_exec.specs.Logs.{JournalOf}

@@ -1,4 +1,4 @@
-use Rattle.std.proofs.Common.{arith, ap, length, refl, ◌∙◌}
+use Rattle.std.proofs.Common.{arith, ap, length, ◌∙◌}
 use Rattle.graph_exec.specs.Logs.{JournalOf}
 use Rattle.run_safety.proofs.SafeRuns.{safe_run}
 use Rattle.graph_exec.proofs.Lasts.{source_open, source_same, source_then}

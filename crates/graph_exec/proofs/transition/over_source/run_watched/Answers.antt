@@ -135,8 +135,8 @@ returns-in-Some-clause-said g c steady =
     let over = begun.source.over (so_far.source.steady ∙ steady) in
     going_said _ _ _ _ _ _ _ c.in-Some.ensures.going
     (λ fault.
-        rw (c.in-Some.ensures.failed (begun.source.steady ∙ so_far.source.steady ∙ steady) (ap Some fault), c.in-Some.ensures.unread (ap Some fault))
-        (said_on _ _ _ _ _ _ (so_far.said steady (fails_too _ _ over (c.in-Some.ensures.not_over (ap Some fault)))) begun.said))
+    rw (c.in-Some.ensures.failed (begun.source.steady ∙ so_far.source.steady ∙ steady) (ap Some fault), c.in-Some.ensures.unread (ap Some fault))
+    (said_on _ _ _ _ _ _ (so_far.said steady (fails_too _ _ over (c.in-Some.ensures.not_over (ap Some fault)))) begun.said))
     (λ fault. fails_too _ _ (so_far.source.over steady) (fails_too _ _ over (c.in-Some.ensures.not_over (ap Some fault))))
 
 pub returns-in-Some-clause-source : goal.returns-in-Some-clause-source

@@ -1,4 +1,4 @@
-use Rattle.std.proofs.Common.{rules, ◌≡◌, ◌<◌, ◌≤◌, ◌∙◌, ap, subst, sym, ℕ, false, length, replicate, slice_index_or, vec_capacity}
+use Rattle.std.proofs.Common.{rules, ◌≡◌, ◌<◌, ◌∙◌, ap, ℕ, false, length, replicate, slice_index_or}
 use Rattle.std.proofs.lemmas.Result.{IfOk-at_ok}
 use Rattle.edges.specs.declared.side.Side.TheVariants.{After}
 use Rattle.edges.specs.Rows.{edges_at}
