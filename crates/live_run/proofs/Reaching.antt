@@ -509,5 +509,5 @@ module _ (c : Cluster) (journal : Journal) (reading : Reading) (s t : SourceStat
   most_from w = most_never c journal reading before after old new t was is j (rw (fresh, names) at w)
 
 pub failed_kind : (exact : Bool) (v u : View) → HasQuestionFailed exact v u → HasBroken v.standing u.standing v.left u.left ⊎ HasStopped v.standing u.standing v.left u.left
-failed_kind exact v u (by_source h rose loan) = inl h
+failed_kind exact v u (by_source h failed) = inl h
 failed_kind exact v u (by_line h counts) = inr h

@@ -1,13 +1,14 @@
 -- A source of answers that are read from lines has come from itself, and from what it came from on the way; and so has a writer of lines.
 use Rattle.std.proofs.Common.{◌≡◌, ◌≢◌, ℕ, Bool, true, false, Option, Some, None, List, [], ◌∷◌, ◌++◌, option_map, refl, ap, sym, subst, ◌∙◌, arith}
+use Rattle.cluster_io.specs.Streams.{next_fault}
 use Rattle.cluster_types.specs.declared.cluster.Cluster.{Cluster}
 use Rattle.graph_exec.specs.declared.transition.outcomes.Next.{Next}
 use Rattle.graph_exec.specs.declared.transition.outcomes.Next.TheVariants as next
 use Rattle.input_reading.specs.declared.results.result_lines.ResultLine.{ResultLine}
 use Rattle.live_run.specs.Coming.{Coming}
 use Rattle.live_run.specs.Courses.{SourceState, has_course_ended, is_reading, coming_to}
-use Rattle.live_run.specs.Followed.{EndsInOne, SourceFollows, HasAnswered, HasBroken, HasQuestionFailed, HasFollowed, HasNotFailed, HasRead, HasSaid, HasStopped, IsStoppedBy, RestsBehind, View, answers, by_line, by_source, last_line, results_first, stays}
-use Rattle.live_run.specs.Writing.{HasWritingGoneOn, IsSameSink}
+use Rattle.live_run.specs.Followed.{EndsInOne, SourceFollows, HasAnswered, HasBroken, HasQuestionFailed, HasFailedOnce, HasFollowed, HasNotFailed, HasRead, HasSaid, HasStopped, IsStoppedBy, RestsBehind, View, answers, by_line, by_source, last_line, results_first, stays}
+use Rattle.live_run.specs.Writing.{HasWritingGoneOn, HasWritingStopped, IsSameSink}
 use Rattle.live_run.specs.declared.course.Course.{Course}
 use Rattle.live_run.specs.declared.course.Course.TheVariants as course
 use Rattle.live_run.specs.ReadLaws.{ends_then, near_then, read_then, stopped_then, told_joined}
@@ -97,6 +98,13 @@ module _ (exact : Bool) where
     same_source = q.same_source ∙ p.same_source;
   }
 
+  once_then : (a b d : View) → HasNotFailed exact a b → HasFailedOnce exact b d → HasFailedOnce exact a d
+  once_then a b d n failed = record {
+    cause = let m = n.count in let rose = failed.cause in omega (arith, m, rose);
+    once = λ e. failed.once e ∙ ap next_fault (n.no_failure e);
+    same_source = failed.same_source ∙ n.same_source;
+  }
+
   pub followed_itself : (v : View) → HasFollowed exact v v
   followed_itself v = record { follows = stays refl refl; counts = record { count = omega arith; no_failure = λ e. refl; same_source = refl } }
 
@@ -113,9 +121,8 @@ module _ (exact : Bool) where
 
   failed_then : (a b d : View) → HasAnswered a.standing b.standing a.left b.left → HasNotFailed exact a b → is_reading b.standing.course ≡ true → HasQuestionFailed exact b d
       → HasQuestionFailed exact a d
-  failed_then a b d p n reading (by_source h rose loan) =
-      by_source (broken_then a.standing b.standing d.standing a.left b.left d.left p reading h)
-      (let m = n.count in omega (arith, m, rose)) (loan ∙ n.same_source)
+  failed_then a b d p n reading (by_source h failed) =
+      by_source (broken_then a.standing b.standing d.standing a.left b.left d.left p reading h) (once_then a b d n failed)
   failed_then a b d p n reading (by_line h m) =
       by_line (stops_then a.standing b.standing d.standing a.left b.left d.left p reading h) (not_failed_then a b d n m)
 
@@ -132,9 +139,9 @@ module _ (exact : Bool) where
   )
     where
       same_failed : HasQuestionFailed exact b d → HasQuestionFailed exact a d
-      same_failed (by_source h rose loan) =
+      same_failed (by_source h failed) =
           by_source (subst (λ (t : SourceState). HasBroken t d.standing a.left d.left) e (subst (λ (o : Option (List ℕ)). HasBroken b.standing d.standing o d.left) f h))
-          (let m = n.count in omega (arith, m, rose)) (loan ∙ n.same_source)
+          (once_then a b d n failed)
       same_failed (by_line h m) =
           by_line (subst (λ (t : SourceState). HasStopped t d.standing a.left d.left) e (subst (λ (o : Option (List ℕ)). HasStopped b.standing d.standing o d.left) f h))
           (not_failed_then a b d n m)
@@ -157,5 +164,5 @@ gone_itself exact faults loan = record { no_failure = λ e. refl; same_sink = re
 pub gone_then : (exact : Bool) (f g h l m n : ℕ) → HasWritingGoneOn exact f g l m → HasWritingGoneOn exact g h m n → HasWritingGoneOn exact f h l n
 gone_then exact f g h l m n a b = record { no_failure = λ e. b.no_failure e ∙ a.no_failure e; same_sink = b.same_sink ∙ a.same_sink }
 
-pub gone_stopped : (exact : Bool) (f g l m n : ℕ) → HasWritingGoneOn exact f g l m → IsSameSink m n → IsSameSink l n
-gone_stopped exact f g l m n a b = b ∙ a.same_sink
+pub gone_stopped : (exact : Bool) (f g h l m n : ℕ) → HasWritingGoneOn exact f g l m → HasWritingStopped exact g h m n → HasWritingStopped exact f h l n
+gone_stopped exact f g h l m n a b = record { once = λ e. b.once e ∙ ap next_fault (a.no_failure e); same_sink = b.same_sink ∙ a.same_sink }

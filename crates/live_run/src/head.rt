@@ -1,9 +1,9 @@
 //! The head of an input, line by line.
 
-ghost use Rattle.std.specs.Prelude.{◌≡◌, ◌≢◌, ℕ, ◌+◌, ◌<◌, ◌≤◌, ◌^◌, Option, List, [], Some, None, Ok, Err, false, true, length, ◌++◌, if◌then◌else◌, IfOk, IfErr, IfSome, OnOk};
+ghost use Rattle.std.specs.Prelude.{◌≡◌, ◌≢◌, ℕ, ◌+◌, ◌<◌, ◌≤◌, ◌^◌, Option, List, [], Some, None, Ok, Err, false, true, length, ◌++◌, if◌then◌else◌, IfOk, IfErr, IfSome, IsErrOf, OnOk};
 ghost use Rattle.cluster_io.specs.LineReaders.{loan_of, reading_of, source_of};
 ghost use Rattle.cluster_io.specs.NextLine.{holds_line, IsUndecided};
-ghost use Rattle.cluster_io.specs.Streams.{Rose};
+ghost use Rattle.cluster_io.specs.Streams.{Bears};
 ghost use Rattle.crm_lex.specs.RawLines.{physical_lines};
 ghost use Rattle.cluster_io.specs.Readings.{Reading};
 ghost use Rattle.crm_lex.specs.Reading.{kept, reads_line};
@@ -135,10 +135,7 @@ fn step<S: Source>(
     ensures same_size { result ≡ Some (Err HeadStop.ReadFault) → (reading_of reader.new).longest ≡ (reading_of reader.old).longest }
     ensures short { result ≡ Some (Ok tt) → length (reading_of reader.new).held < 4096 }
 
-    ensures count { S.faults (source_of reader.old) ≤ S.faults (source_of reader.new) }
-    ensures cause { result ≡ Some (Err HeadStop.ReadFault) → Rose (S.faults (source_of reader.old)) (S.faults (source_of reader.new)) }
-    ensures no_failure { S.counts_only_failures ≡ true → result ≢ Some (Err HeadStop.ReadFault)
-        → S.faults (source_of reader.new) ≡ S.faults (source_of reader.old) }
+    ensures bears { Bears S.counts_only_failures (result ≡ Some (Err HeadStop.ReadFault)) (S.faults (source_of reader.old)) (S.faults (source_of reader.new)) }
     ensures same_source { loan_of reader.new ≡ loan_of reader.old }
 {
     match reader.line() {
@@ -174,10 +171,7 @@ pub fn read_head<S: Source>(
     ensures within { IfOk result (λ head. length head.text.items ≤ (reading_of reader.old).room) }
     ensures place { IfOk result (λ head. (CanGoOn (reading_of reader.new)) × (head.next ≡ (reading_of reader.new).next)) }
 
-    ensures count { S.faults (source_of reader.old) ≤ S.faults (source_of reader.new) }
-    ensures cause { IfErr result (λ why. why ≡ HeadStop.ReadFault → Rose (S.faults (source_of reader.old)) (S.faults (source_of reader.new))) }
-    ensures no_failure { S.counts_only_failures ≡ true → IfErr result (λ why. why ≢ HeadStop.ReadFault)
-        → S.faults (source_of reader.new) ≡ S.faults (source_of reader.old) }
+    ensures bears { Bears S.counts_only_failures (IsErrOf result HeadStop.ReadFault) (S.faults (source_of reader.old)) (S.faults (source_of reader.new)) }
     ensures same_source { loan_of reader.new ≡ loan_of reader.old }
 {
     let mut head = HeadText {

@@ -1,7 +1,7 @@
 //! A watcher that writes the lines of a run.
 
-ghost use Rattle.std.specs.Prelude.{◌≡◌, ◌≤◌, ◌++◌, true, codes, decimal, OnErr, OnOk};
-ghost use Rattle.cluster_io.specs.Streams.{Rose};
+ghost use Rattle.std.specs.Prelude.{◌≡◌, ◌++◌, codes, decimal, IsErr};
+ghost use Rattle.cluster_io.specs.Streams.{Bears};
 ghost use Rattle.cluster_types.specs.declared.run.RunLine.TheVariants as told;
 ghost use Rattle.cluster_types.specs.Texts as texts;
 ghost use Rattle.cluster_types.specs.Valid.{IsValid, KeepsLimits};
@@ -39,9 +39,7 @@ pub(crate) fn heard_of(done: Result<(), WriteFault>) -> Heard
 /// Writes some bytes behind others.
 fn put_more<W: Sink>(sink: &mut W, first: &[u8], more: &[u8]) -> Result<(), WriteFault>
     ensures text { Puts result (first.now ++ more.now) (W.written sink.old) (W.written sink.new) }
-    ensures count { W.faults sink.old ≤ W.faults sink.new }
-    ensures fault { OnErr result (Rose (W.faults sink.old) (W.faults sink.new)) }
-    ensures no_failure { OnOk result (W.counts_only_failures ≡ true → W.faults sink.new ≡ W.faults sink.old) }
+    ensures bears { Bears W.counts_only_failures (IsErr result) (W.faults sink.old) (W.faults sink.new) }
 {
     write_text(sink, first)?;
     write_text(sink, more)
@@ -50,9 +48,7 @@ fn put_more<W: Sink>(sink: &mut W, first: &[u8], more: &[u8]) -> Result<(), Writ
 /// `refused LINE`, and a space behind it.
 fn put_place<W: Sink>(sink: &mut W, line: u32) -> Result<(), WriteFault>
     ensures text { Puts result (codes "refused " ++ decimal line ++ codes " ") (W.written sink.old) (W.written sink.new) }
-    ensures count { W.faults sink.old ≤ W.faults sink.new }
-    ensures fault { OnErr result (Rose (W.faults sink.old) (W.faults sink.new)) }
-    ensures no_failure { OnOk result (W.counts_only_failures ≡ true → W.faults sink.new ≡ W.faults sink.old) }
+    ensures bears { Bears W.counts_only_failures (IsErr result) (W.faults sink.old) (W.faults sink.new) }
 {
     let mut digits = Buffer::new();
     put_more(sink, b"refused ", digits.format(line).as_bytes())?;
@@ -62,9 +58,7 @@ fn put_place<W: Sink>(sink: &mut W, line: u32) -> Result<(), WriteFault>
 /// `refused LINE CAUSE`.
 fn put_refusal<W: Sink>(sink: &mut W, line: u32, cause: LineCause) -> Result<(), WriteFault>
     ensures text { Puts result (line_refusal_text line cause) (W.written sink.old) (W.written sink.new) }
-    ensures count { W.faults sink.old ≤ W.faults sink.new }
-    ensures fault { OnErr result (Rose (W.faults sink.old) (W.faults sink.new)) }
-    ensures no_failure { OnOk result (W.counts_only_failures ≡ true → W.faults sink.new ≡ W.faults sink.old) }
+    ensures bears { Bears W.counts_only_failures (IsErr result) (W.faults sink.old) (W.faults sink.new) }
 {
     put_place(sink, line)?;
     put_more(sink, cause.name().as_bytes(), b"\n")
@@ -88,9 +82,7 @@ impl<'c, 's, W: Sink> LineWriter<'c, 's, W> {
     pub fn unexpected(&mut self, line: u32) -> Result<(), WriteFault>
         ensures text { Puts result (texts.run_line (writer_cluster self.old) (told.Unexpected line))
             (W.written (sink_of self.old)) (W.written (sink_of self.new)) }
-        ensures count { W.faults (sink_of self.old) ≤ W.faults (sink_of self.new) }
-        ensures fault { OnErr result (Rose (W.faults (sink_of self.old)) (W.faults (sink_of self.new))) }
-        ensures no_failure { OnOk result (W.counts_only_failures ≡ true → W.faults (sink_of self.new) ≡ W.faults (sink_of self.old)) }
+        ensures bears { Bears W.counts_only_failures (IsErr result) (W.faults (sink_of self.old)) (W.faults (sink_of self.new)) }
         ensures same_sink { IsSameSink (writer_loan self.old) (writer_loan self.new) }
     {
         put(self.cluster, self.sink, &RunLineRef::Unexpected(line))
@@ -99,9 +91,7 @@ impl<'c, 's, W: Sink> LineWriter<'c, 's, W> {
     /// Writes `refused LINE CAUSE`: the last line of a run that asks for a line which isn't read.
     pub fn refused(&mut self, line: u32, cause: LineCause) -> Result<(), WriteFault>
         ensures text { Puts result (line_refusal_text line cause) (W.written (sink_of self.old)) (W.written (sink_of self.new)) }
-        ensures count { W.faults (sink_of self.old) ≤ W.faults (sink_of self.new) }
-        ensures fault { OnErr result (Rose (W.faults (sink_of self.old)) (W.faults (sink_of self.new))) }
-        ensures no_failure { OnOk result (W.counts_only_failures ≡ true → W.faults (sink_of self.new) ≡ W.faults (sink_of self.old)) }
+        ensures bears { Bears W.counts_only_failures (IsErr result) (W.faults (sink_of self.old)) (W.faults (sink_of self.new)) }
         ensures same_sink { IsSameSink (writer_loan self.old) (writer_loan self.new) }
     {
         put_refusal(self.sink, line, cause)

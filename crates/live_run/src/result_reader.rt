@@ -1,8 +1,8 @@
 //! Result lines one by one.
 
-ghost use Rattle.std.specs.Prelude.{◌≡◌, ◌≢◌, ◌+◌, ◌<◌, ◌≤◌, ◌^◌, None, Some, true, length};
+ghost use Rattle.std.specs.Prelude.{◌≡◌, ◌+◌, ◌<◌, ◌≤◌, ◌^◌, None, Some, true, length};
 ghost use Rattle.cluster_io.specs.LineReaders.{reading_of};
-ghost use Rattle.cluster_io.specs.Streams.{Rose};
+ghost use Rattle.cluster_io.specs.Streams.{Bears};
 ghost use Rattle.crm_lex.specs.RawLines.{physical_lines};
 ghost use Rattle.live_run.specs.Coming.{AreReady, Brings, answers_in, reads_on, is_stop_last, said_came};
 ghost use Rattle.live_run.specs.Followed.{ReadUntil};
@@ -77,11 +77,8 @@ impl<'s, S: Source> ResultReader<'s, S> {
         ensures fewer { result ≡ None → (reader_lines self.new).reading.room < (reader_lines self.old).reading.room }
         ensures counted { (reader_lines self.new).at.before ≡ (reader_lines self.old).at.before + answers_in result }
 
-        ensures count { S.faults (source_in self.old) ≤ S.faults (source_in self.new) }
-        ensures cause { result ≡ Some Came.Fault →
-            Rose (S.faults (source_in self.old)) (S.faults (source_in self.new)) }
-        ensures no_failure { S.counts_only_failures ≡ true → result ≢ Some Came.Fault →
-            S.faults (source_in self.new) ≡ S.faults (source_in self.old) }
+        ensures bears { Bears S.counts_only_failures (result ≡ Some Came.Fault)
+            (S.faults (source_in self.old)) (S.faults (source_in self.new)) }
         ensures same_source { loan_in self.new ≡ loan_in self.old }
     {
         match self.lines.line() {
@@ -109,10 +106,8 @@ impl<'s, S: Source> ResultReader<'s, S> {
         ensures last { is_stop_last (Some result) ≡ true }
         ensures counted { (reader_lines self.new).at.before ≡ (reader_lines self.old).at.before + answers_in (Some result) }
 
-        ensures count { S.faults (source_in self.old) ≤ S.faults (source_in self.new) }
-        ensures cause { result ≡ Came.Fault → Rose (S.faults (source_in self.old)) (S.faults (source_in self.new)) }
-        ensures no_failure { S.counts_only_failures ≡ true → result ≢ Came.Fault →
-            S.faults (source_in self.new) ≡ S.faults (source_in self.old) }
+        ensures bears { Bears S.counts_only_failures (result ≡ Came.Fault)
+            (S.faults (source_in self.old)) (S.faults (source_in self.new)) }
         ensures same_source { loan_in self.new ≡ loan_in self.old }
     {
         loop {

@@ -1,8 +1,8 @@
 //! The lines of a run, written one by one.
 
-ghost use Rattle.std.specs.Prelude.{◌≡◌, ◌≤◌, ◌∷◌, List, ℕ, None, Some, true, length, slice_get, unwrap_or, OnErr, OnOk};
+ghost use Rattle.std.specs.Prelude.{◌≡◌, ◌∷◌, List, ℕ, None, Some, true, length, slice_get, unwrap_or, IsErr};
 ghost use Rattle.std.specs.List.{flat_map, range_with_len};
-ghost use Rattle.cluster_io.specs.Streams.{Rose};
+ghost use Rattle.cluster_io.specs.Streams.{Bears};
 ghost use Rattle.cluster_types.specs.declared.placement.NoReason.TheVariants.{Held};
 ghost use Rattle.cluster_types.specs.declared.run.RunLine.TheVariants as line;
 ghost use Rattle.cluster_types.specs.Tables.{targets_of};
@@ -27,9 +27,7 @@ pub(crate) fn put<W: Sink>(
     requires reason { HasName line.now }
     ensures text { Puts result (texts.run_line cluster.now (lent_line line.now))
         (W.written sink.old) (W.written sink.new) }
-    ensures count { W.faults sink.old ≤ W.faults sink.new }
-    ensures fault { OnErr result (Rose (W.faults sink.old) (W.faults sink.new)) }
-    ensures no_failure { OnOk result (W.counts_only_failures ≡ true → W.faults sink.new ≡ W.faults sink.old) }
+    ensures bears { Bears W.counts_only_failures (IsErr result) (W.faults sink.old) (W.faults sink.new) }
 {
     let mut buf = [0; 1024];
     let length = write_line(cluster, line, &mut buf);
@@ -47,9 +45,7 @@ fn put_pin<W: Sink>(
     requires { HasShortNames cluster.now }
     ensures text { Puts result (flat_map (texts.run_line cluster.now) (texts.pin_lines cluster.now leaf pin))
         (W.written sink.old) (W.written sink.new) }
-    ensures count { W.faults sink.old ≤ W.faults sink.new }
-    ensures fault { OnErr result (Rose (W.faults sink.old) (W.faults sink.new)) }
-    ensures no_failure { OnOk result (W.counts_only_failures ≡ true → W.faults sink.new ≡ W.faults sink.old) }
+    ensures bears { Bears W.counts_only_failures (IsErr result) (W.faults sink.old) (W.faults sink.new) }
 {
     match pin {
         Some(pin) => put(cluster, sink, &RunLineRef::Pinned(leaf, pin)),
@@ -69,9 +65,7 @@ fn put_goal<W: Sink>(
     requires { HasShortNames cluster.now }
     ensures text { Puts result (flat_map (texts.run_line cluster.now) (texts.goal_line cluster.now leaf node target))
         (W.written sink.old) (W.written sink.new) }
-    ensures count { W.faults sink.old ≤ W.faults sink.new }
-    ensures fault { OnErr result (Rose (W.faults sink.old) (W.faults sink.new)) }
-    ensures no_failure { OnOk result (W.counts_only_failures ≡ true → W.faults sink.new ≡ W.faults sink.old) }
+    ensures bears { Bears W.counts_only_failures (IsErr result) (W.faults sink.old) (W.faults sink.new) }
 {
     match target {
         Target::Nowhere => Ok(()),
@@ -95,9 +89,7 @@ fn put_goals<W: Sink>(
     ensures text { Puts result (flat_map (λ n. flat_map (texts.run_line cluster.now)
         (texts.goal_line cluster.now leaf n (targets_of table.now leaf n)))
         (range_with_len 0 (length cluster.now.nodes))) (W.written sink.old) (W.written sink.new) }
-    ensures count { W.faults sink.old ≤ W.faults sink.new }
-    ensures fault { OnErr result (Rose (W.faults sink.old) (W.faults sink.new)) }
-    ensures no_failure { OnOk result (W.counts_only_failures ≡ true → W.faults sink.new ≡ W.faults sink.old) }
+    ensures bears { Bears W.counts_only_failures (IsErr result) (W.faults sink.old) (W.faults sink.new) }
 {
     for node in 0..cluster.nodes.len() as u32 {
         put_goal(cluster, sink, leaf, node, table.target(leaf, node))?;
@@ -117,9 +109,7 @@ fn put_lacking<W: Sink>(
     requires reason { (id : List ℕ) → reason.now ≡ Some (Held id) → is_name id ≡ true }
     ensures text { Puts result (flat_map (texts.run_line cluster.now) (texts.lacking_lines cluster.now leaf reason.now))
         (W.written sink.old) (W.written sink.new) }
-    ensures count { W.faults sink.old ≤ W.faults sink.new }
-    ensures fault { OnErr result (Rose (W.faults sink.old) (W.faults sink.new)) }
-    ensures no_failure { OnOk result (W.counts_only_failures ≡ true → W.faults sink.new ≡ W.faults sink.old) }
+    ensures bears { Bears W.counts_only_failures (IsErr result) (W.faults sink.old) (W.faults sink.new) }
 {
     match reason {
         Some(reason) => put(cluster, sink, &RunLineRef::Lacking(leaf, reason)),
@@ -139,9 +129,7 @@ fn put_reason<W: Sink>(
     ensures text { Puts result (flat_map (texts.run_line cluster.now)
         (texts.lacking_lines cluster.now leaf (unwrap_or (slice_get none.now leaf) None)))
         (W.written sink.old) (W.written sink.new) }
-    ensures count { W.faults sink.old ≤ W.faults sink.new }
-    ensures fault { OnErr result (Rose (W.faults sink.old) (W.faults sink.new)) }
-    ensures no_failure { OnOk result (W.counts_only_failures ≡ true → W.faults sink.new ≡ W.faults sink.old) }
+    ensures bears { Bears W.counts_only_failures (IsErr result) (W.faults sink.old) (W.faults sink.new) }
 {
     match none.get(leaf as usize) {
         Some(reason) => put_lacking(cluster, sink, leaf, reason),
@@ -162,9 +150,7 @@ fn put_leaf<W: Sink>(
     ensures text { Puts result (flat_map (texts.run_line cluster.now)
         (texts.leaf_lines cluster.now placed.now.pins (targets_of placed.now.table) placed.now.none leaf))
         (W.written sink.old) (W.written sink.new) }
-    ensures count { W.faults sink.old ≤ W.faults sink.new }
-    ensures fault { OnErr result (Rose (W.faults sink.old) (W.faults sink.new)) }
-    ensures no_failure { OnOk result (W.counts_only_failures ≡ true → W.faults sink.new ≡ W.faults sink.old) }
+    ensures bears { Bears W.counts_only_failures (IsErr result) (W.faults sink.old) (W.faults sink.new) }
 {
     put_pin(cluster, sink, leaf, pin_of(placed.pins.as_slice(), leaf))?;
     put_goals(cluster, sink, &placed.table, leaf)?;
@@ -179,9 +165,7 @@ fn put_targets<W: Sink>(cluster: &Cluster, sink: &mut W, placed: &Placed) -> Res
     ensures text { Puts result (flat_map (texts.run_line cluster.now)
         (texts.target_lines cluster.now placed.now.pins (targets_of placed.now.table) placed.now.none))
         (W.written sink.old) (W.written sink.new) }
-    ensures count { W.faults sink.old ≤ W.faults sink.new }
-    ensures fault { OnErr result (Rose (W.faults sink.old) (W.faults sink.new)) }
-    ensures no_failure { OnOk result (W.counts_only_failures ≡ true → W.faults sink.new ≡ W.faults sink.old) }
+    ensures bears { Bears W.counts_only_failures (IsErr result) (W.faults sink.old) (W.faults sink.new) }
 {
     for leaf in 0..cluster.leaves.len() as u32 {
         put_leaf(cluster, sink, placed, leaf)?;
@@ -203,9 +187,7 @@ pub(crate) fn put_plan<W: Sink>(
         (line.Transition transition ∷
         texts.target_lines cluster.now placed.now.pins (targets_of placed.now.table) placed.now.none))
         (W.written sink.old) (W.written sink.new) }
-    ensures count { W.faults sink.old ≤ W.faults sink.new }
-    ensures fault { OnErr result (Rose (W.faults sink.old) (W.faults sink.new)) }
-    ensures no_failure { OnOk result (W.counts_only_failures ≡ true → W.faults sink.new ≡ W.faults sink.old) }
+    ensures bears { Bears W.counts_only_failures (IsErr result) (W.faults sink.old) (W.faults sink.new) }
 {
     put(cluster, sink, &RunLineRef::Transition(transition))?;
     put_targets(cluster, sink, placed)

@@ -1,7 +1,7 @@
 //! A run over result lines as they come.
 
-ghost use Rattle.std.specs.Prelude.{◌≡◌, ◌≢◌, ◌↔◌, ◌≤◌, ◌<◌, ◌^◌, true, [], IfSome};
-ghost use Rattle.cluster_io.specs.Streams.{Rose};
+ghost use Rattle.std.specs.Prelude.{◌≡◌, ◌≢◌, ◌↔◌, ◌<◌, ◌^◌, [], IfSome};
+ghost use Rattle.cluster_io.specs.Streams.{Bears, Rose};
 ghost use Rattle.cluster_types.specs.declared.run.RunLine.TheVariants as told;
 ghost use Rattle.cluster_types.specs.Journals.{moment_of};
 ghost use Rattle.cluster_types.specs.Safety.{IsAtRest};
@@ -32,9 +32,7 @@ fn end_of_cut<S: Source, W: Sink>(
 ) -> LiveEnd
     ensures text { EndsCut (run_line (writer_cluster writer.old) (told.Unexpected (standing_of outcomes.now).line)) result
         (W.written (sink_of writer.old)) (W.written (sink_of writer.new)) }
-    ensures count { W.faults (sink_of writer.old) ≤ W.faults (sink_of writer.new) }
-    ensures fault { result ≡ LiveEnd.WriteFault → Rose (W.faults (sink_of writer.old)) (W.faults (sink_of writer.new)) }
-    ensures no_failure { W.counts_only_failures ≡ true → result ≢ LiveEnd.WriteFault → W.faults (sink_of writer.new) ≡ W.faults (sink_of writer.old) }
+    ensures bears { Bears W.counts_only_failures (result ≡ LiveEnd.WriteFault) (W.faults (sink_of writer.old)) (W.faults (sink_of writer.new)) }
     ensures same_sink { IsSameSink (writer_loan writer.old) (writer_loan writer.new) }
 {
     match writer.unexpected(outcomes.line()) {
@@ -50,9 +48,7 @@ fn end_of_lines<S: Source, W: Sink>(
     writer: &mut LineWriter<'_, '_, W>,
 ) -> LiveEnd
     ensures text { EndsLines (stop_of (standing_of outcomes.now)) result (W.written (sink_of writer.old)) (W.written (sink_of writer.new)) }
-    ensures count { W.faults (sink_of writer.old) ≤ W.faults (sink_of writer.new) }
-    ensures fault { result ≡ LiveEnd.WriteFault → Rose (W.faults (sink_of writer.old)) (W.faults (sink_of writer.new)) }
-    ensures no_failure { W.counts_only_failures ≡ true → result ≢ LiveEnd.WriteFault → W.faults (sink_of writer.new) ≡ W.faults (sink_of writer.old) }
+    ensures bears { Bears W.counts_only_failures (result ≡ LiveEnd.WriteFault) (W.faults (sink_of writer.old)) (W.faults (sink_of writer.new)) }
     ensures same_sink { IsSameSink (writer_loan writer.old) (writer_loan writer.new) }
 {
     match outcomes.stop() {
@@ -82,14 +78,8 @@ fn run_to_end<S: Source, W: Sink>(
     ensures reaches { IfSome (S.left (outcomes_source outcomes.old)) (λ left. Reaches cluster.now journal (standing_of outcomes.old).lines.reading left
         (S.left (outcomes_source outcomes.new)) (W.written (sink_of writer.old)) (W.written (sink_of writer.new)) result) }
     ensures at_end { result ≡ LiveEnd.Done → IfSome (S.left (outcomes_source outcomes.new)) (λ left. left ≡ []) }
-    ensures read_fault { result ≡ LiveEnd.ReadFault → Rose (S.faults (outcomes_source outcomes.old)) (S.faults (outcomes_source outcomes.new)) }
-    ensures write_fault { result ≡ LiveEnd.WriteFault → Rose (W.faults (sink_of writer.old)) (W.faults (sink_of writer.new)) }
-    ensures read_count { S.faults (outcomes_source outcomes.old) ≤ S.faults (outcomes_source outcomes.new) }
-    ensures write_count { W.faults (sink_of writer.old) ≤ W.faults (sink_of writer.new) }
-    ensures no_read_failure { S.counts_only_failures ≡ true → result ≢ LiveEnd.ReadFault
-        → S.faults (outcomes_source outcomes.new) ≡ S.faults (outcomes_source outcomes.old) }
-    ensures no_write_failure { W.counts_only_failures ≡ true → result ≢ LiveEnd.WriteFault
-        → W.faults (sink_of writer.new) ≡ W.faults (sink_of writer.old) }
+    ensures reads { Bears S.counts_only_failures (result ≡ LiveEnd.ReadFault) (S.faults (outcomes_source outcomes.old)) (S.faults (outcomes_source outcomes.new)) }
+    ensures writes { Bears W.counts_only_failures (result ≡ LiveEnd.WriteFault) (W.faults (sink_of writer.old)) (W.faults (sink_of writer.new)) }
     ensures same_source { outcomes_loan outcomes.new ≡ outcomes_loan outcomes.old }
     ensures same_sink { IsSameSink (writer_loan writer.old) (writer_loan writer.new) }
 {
@@ -148,15 +138,10 @@ pub fn run_live<S: Source, W: Sink>(
         → (due : LiveEndOf) → (result ≡ due) ↔ IsDueText cluster.now journal (results_behind cluster.now journal (standing_of outcomes.old).lines.reading left) due) }
     ensures at_end { result ≡ LiveEnd.Done → IfSome (S.left (outcomes_source outcomes.new)) (λ left. left ≡ []) }
 
-    // A fault comes only where its count rose, and the first failure ends the call: no other end lets a count rise that rises with failures alone.
-    ensures read_fault { result ≡ LiveEnd.ReadFault → Rose (S.faults (outcomes_source outcomes.old)) (S.faults (outcomes_source outcomes.new)) }
-    ensures write_fault { result ≡ LiveEnd.WriteFault → Rose (W.faults out.old) (W.faults out.new) }
-    ensures read_count { S.faults (outcomes_source outcomes.old) ≤ S.faults (outcomes_source outcomes.new) }
-    ensures write_count { W.faults out.old ≤ W.faults out.new }
-    ensures no_read_failure { S.counts_only_failures ≡ true → result ≢ LiveEnd.ReadFault
-        → S.faults (outcomes_source outcomes.new) ≡ S.faults (outcomes_source outcomes.old) }
-    ensures no_write_failure { W.counts_only_failures ≡ true → result ≢ LiveEnd.WriteFault
-        → W.faults out.new ≡ W.faults out.old }
+    // A fault comes only where its count rose, and the first failure ends the call: of a count that rises with failures alone a fault is one failure more, and any
+    // other end none.
+    ensures reads { Bears S.counts_only_failures (result ≡ LiveEnd.ReadFault) (S.faults (outcomes_source outcomes.old)) (S.faults (outcomes_source outcomes.new)) }
+    ensures writes { Bears W.counts_only_failures (result ≡ LiveEnd.WriteFault) (W.faults out.old) (W.faults out.new) }
     ensures same_source { outcomes_loan outcomes.new ≡ outcomes_loan outcomes.old }
 {
     let mut writer = LineWriter::new(cluster, out);

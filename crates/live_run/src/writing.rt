@@ -10,7 +10,7 @@ use trace_text::RunLineRef;
 impl<'c, 's, W: Sink> Watcher for LineWriter<'c, 's, W> {
     ghost use Rattle.std.specs.Prelude.{Some};
     ghost use Rattle.live_run.specs.LineWriters.{writer_cluster, writer_loan, sink_of};
-    ghost use Rattle.live_run.specs.Writing.{HasWritingGoneOn, IsSameSink};
+    ghost use Rattle.live_run.specs.Writing.{HasWritingGoneOn, HasWritingStopped};
     ghost use Rattle.live_run.specs.FollowedLaws.{gone_itself, gone_stopped, gone_then};
 
     ghost told = { λ w. W.written (sink_of w) };
@@ -21,7 +21,7 @@ impl<'c, 's, W: Sink> Watcher for LineWriter<'c, 's, W> {
 
     ghost follows = { λ old new. HasWritingGoneOn W.counts_only_failures (W.faults (sink_of old)) (W.faults (sink_of new)) (writer_loan old) (writer_loan new) };
 
-    ghost stopped = { λ old new. IsSameSink (writer_loan old) (writer_loan new) };
+    ghost stopped = { λ old new. HasWritingStopped W.counts_only_failures (W.faults (sink_of old)) (W.faults (sink_of new)) (writer_loan old) (writer_loan new) };
 
     fn planned(&mut self, transition: u32, placed: &Placed) -> Heard {
         heard_of(put_plan(self.cluster, self.sink, transition, placed))
@@ -50,5 +50,5 @@ impl<'c, 's, W: Sink> Watcher for LineWriter<'c, 's, W> {
         (W.faults (sink_of last)) (writer_loan first) (writer_loan middle) (writer_loan last) };
 
     ghost stopped_later = { λ first middle last. gone_stopped W.counts_only_failures (W.faults (sink_of first)) (W.faults (sink_of middle))
-        (writer_loan first) (writer_loan middle) (writer_loan last) };
+        (W.faults (sink_of last)) (writer_loan first) (writer_loan middle) (writer_loan last) };
 }

@@ -1,8 +1,8 @@
 //! The head of the input of `replay`, as it comes.
 
-ghost use Rattle.std.specs.Prelude.{◌≡◌, ◌≢◌, ◌<◌, ◌≤◌, ◌^◌, true, length, IfErr, IfOk, IfSome};
+ghost use Rattle.std.specs.Prelude.{◌≡◌, ◌<◌, ◌^◌, length, IfErr, IfOk, IfSome, IsErrOf};
 ghost use Rattle.cluster_io.specs.LineReaders.{loan_of, reading_of, source_of};
-ghost use Rattle.cluster_io.specs.Streams.{Rose};
+ghost use Rattle.cluster_io.specs.Streams.{Bears};
 ghost use Rattle.cluster_types.specs.Journals.{moment_of};
 ghost use Rattle.cluster_types.specs.Safety.{IsAtRest};
 ghost use Rattle.cluster_types.specs.Valid.{IsValid};
@@ -64,10 +64,7 @@ pub(crate) fn begin<S: Source>(
     ensures at_rest { IfOk result (λ begun. IsAtRest begun.head.journal.events) }
     ensures moment { IfOk result (λ begun. moment_of begun.head.journal.events < 2 ^ 40) }
 
-    ensures count { S.faults (source_of reader.old) ≤ S.faults (source_of reader.new) }
-    ensures cause { IfErr result (λ why. why ≡ HeadEnd.ReadFault → Rose (S.faults (source_of reader.old)) (S.faults (source_of reader.new))) }
-    ensures no_failure { S.counts_only_failures ≡ true → IfErr result (λ why. why ≢ HeadEnd.ReadFault)
-        → S.faults (source_of reader.new) ≡ S.faults (source_of reader.old) }
+    ensures bears { Bears S.counts_only_failures (IsErrOf result HeadEnd.ReadFault) (S.faults (source_of reader.old)) (S.faults (source_of reader.new)) }
     ensures same_source { loan_of reader.new ≡ loan_of reader.old }
 {
     let HeadText { text, next } = match read_head(alloc, reader, words) {

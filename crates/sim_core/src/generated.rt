@@ -1,8 +1,8 @@
 //! The word `gen`: the run of a generated case, in numbers.
 
-ghost use Rattle.std.specs.Prelude.{◌≡◌, ◌≢◌, ◌≤◌, ◌<◌, ◌^◌, ℕ, true, Option, List, IfOk, length};
+ghost use Rattle.std.specs.Prelude.{◌≡◌, ◌≤◌, ◌<◌, ◌^◌, ℕ, true, Option, List, IfOk, length};
 ghost use Rattle.cases.specs.Case.{case_text};
-ghost use Rattle.cluster_io.specs.Streams.{Rose};
+ghost use Rattle.cluster_io.specs.Streams.{Bears};
 ghost use Rattle.cluster_types.specs.Journals.{moment_of};
 ghost use Rattle.cluster_types.specs.Safety.{IsAtRest};
 ghost use Rattle.cluster_types.specs.Valid.{IsValid};
@@ -113,10 +113,7 @@ pub(crate) fn with_case<W: Sink>(alloc: Global, number: u32, out: &mut W) -> Sta
     ensures says { (input : List ℕ) (left : Option (List ℕ))
         → SaysOf nothing (λ _. IsOutput (IsSummaryText number) (case_text number)) input left (W.written out.old) (W.written out.new) result }
     ensures status { MayAnswer true nothing (λ _. IsOutput (IsSummaryText number) (case_text number)) result }
-    ensures cause { result ≡ Status.WriteFault → Rose (W.faults out.old) (W.faults out.new) }
-    ensures count { W.faults out.old ≤ W.faults out.new }
-    ensures no_failure { W.counts_only_failures ≡ true → result ≢ Status.WriteFault
-        → W.faults out.new ≡ W.faults out.old }
+    ensures bears { Bears W.counts_only_failures (result ≡ Status.WriteFault) (W.faults out.old) (W.faults out.new) }
 {
     let Ok(case) = generate(alloc, number) else {
         return Status::NoMemory;

@@ -1,7 +1,7 @@
 //! What the words that read a whole input share: it is read to its end, and then the text is written that the word gives it.
 
-ghost use Rattle.std.specs.Prelude.{◌≡◌, ◌≢◌, ℕ, ◌+◌, ◌≤◌, ◌<◌, true, false, List, length, IfOk, IfSome};
-ghost use Rattle.cluster_io.specs.Streams.{Rose, TakesCount};
+ghost use Rattle.std.specs.Prelude.{◌≡◌, ℕ, ◌+◌, ◌≤◌, ◌<◌, true, false, List, length, IfOk, IfSome};
+ghost use Rattle.cluster_io.specs.Streams.{Bears, TakesCount};
 ghost use Rattle.sim_core.specs.declared.status.Status.{Status as StatusOf};
 ghost use Rattle.sim_core.specs.Answers.{IsEarly, IsOutcome, MayAnswer, SaysOf};
 ghost use Rattle.input_reading.specs.Reading.{most_bytes};
@@ -42,14 +42,8 @@ pub(crate) fn with_input<I: InputWord, S: Source, W: Sink>(
     ensures nothing_of_too_large { IfSome (S.left src.old)
         (λ input. most_bytes < length input → out.new ≡ out.old) }
 
-    ensures read_cause { result ≡ Status.ReadFault → Rose (S.faults src.old) (S.faults src.new) }
-    ensures write_cause { result ≡ Status.WriteFault → Rose (W.faults out.old) (W.faults out.new) }
-    ensures read_count { S.faults src.old ≤ S.faults src.new }
-    ensures write_count { W.faults out.old ≤ W.faults out.new }
-    ensures no_read_failure { S.counts_only_failures ≡ true → result ≢ Status.ReadFault
-        → S.faults src.new ≡ S.faults src.old }
-    ensures no_write_failure { W.counts_only_failures ≡ true → result ≢ Status.WriteFault
-        → W.faults out.new ≡ W.faults out.old }
+    ensures reads { Bears S.counts_only_failures (result ≡ Status.ReadFault) (S.faults src.old) (S.faults src.new) }
+    ensures writes { Bears W.counts_only_failures (result ≡ Status.WriteFault) (W.faults out.old) (W.faults out.new) }
 {
     let input = match read_all(alloc, src, MOST_BYTES) {
         Ok(input) => input,

@@ -1,7 +1,7 @@
 //! The word `replay`: the head of the input is read, and then the run is written while its result lines are read.
 
-ghost use Rattle.std.specs.Prelude.{◌≡◌, ◌≢◌, ◌≤◌, ℕ, List, Option, true, false, IfSome};
-ghost use Rattle.cluster_io.specs.Streams.{Rose};
+ghost use Rattle.std.specs.Prelude.{◌≡◌, ℕ, List, Option, true, false, IfSome};
+ghost use Rattle.cluster_io.specs.Streams.{Bears};
 ghost use Rattle.sim_core.specs.Answers.{MayAnswer};
 ghost use Rattle.sim_core.specs.Live.{SaysLive};
 ghost use Rattle.sim_core.specs.LiveSteps.{StopsBy, WritesFault, status_of};
@@ -25,10 +25,7 @@ const LONGEST_LINE: usize = 1_048_576;
 /// Writes the fault of a head.
 fn refuse<W: Sink>(alloc: Global, line: u32, cause: InputCause, out: &mut W) -> Status
     ensures writes { WritesFault line cause (W.written out.old) (W.written out.new) result }
-    ensures cause { result ≡ Status.WriteFault → Rose (W.faults out.old) (W.faults out.new) }
-    ensures count { W.faults out.old ≤ W.faults out.new }
-    ensures no_failure { W.counts_only_failures ≡ true → result ≢ Status.WriteFault
-        → W.faults out.new ≡ W.faults out.old }
+    ensures bears { Bears W.counts_only_failures (result ≡ Status.WriteFault) (W.faults out.old) (W.faults out.new) }
 {
     let Ok(text) = refusal_text(alloc, line, cause) else {
         return Status::NoMemory;
@@ -45,10 +42,7 @@ fn stop<W: Sink>(alloc: Global, end: HeadEnd, out: &mut W) -> Status
     ensures status { MayAnswer true live IsReplayOutput result }
     ensures read_cause { result ≡ Status.ReadFault → end ≡ HeadEnd.ReadFault }
     ensures read_fault { end ≡ HeadEnd.ReadFault → result ≡ Status.ReadFault }
-    ensures cause { result ≡ Status.WriteFault → Rose (W.faults out.old) (W.faults out.new) }
-    ensures count { W.faults out.old ≤ W.faults out.new }
-    ensures no_failure { W.counts_only_failures ≡ true → result ≢ Status.WriteFault
-        → W.faults out.new ≡ W.faults out.old }
+    ensures bears { Bears W.counts_only_failures (result ≡ Status.WriteFault) (W.faults out.old) (W.faults out.new) }
 {
     match end {
         HeadEnd::Refused { line, cause } => refuse(alloc, line, cause, out),
@@ -78,14 +72,8 @@ pub(crate) fn replay<S: Source, W: Sink>(alloc: Global, src: &mut S, out: &mut W
     requires { S.ended src.old ≡ false }
     ensures says { IfSome (S.left src.old) (λ input. SaysLive input (S.left src.new) (W.written out.old) (W.written out.new) result) }
     ensures status { MayAnswer true live IsReplayOutput result }
-    ensures read_cause { result ≡ Status.ReadFault → Rose (S.faults src.old) (S.faults src.new) }
-    ensures write_cause { result ≡ Status.WriteFault → Rose (W.faults out.old) (W.faults out.new) }
-    ensures read_count { S.faults src.old ≤ S.faults src.new }
-    ensures write_count { W.faults out.old ≤ W.faults out.new }
-    ensures no_read_failure { S.counts_only_failures ≡ true → result ≢ Status.ReadFault
-        → S.faults src.new ≡ S.faults src.old }
-    ensures no_write_failure { W.counts_only_failures ≡ true → result ≢ Status.WriteFault
-        → W.faults out.new ≡ W.faults out.old }
+    ensures reads { Bears S.counts_only_failures (result ≡ Status.ReadFault) (S.faults src.old) (S.faults src.new) }
+    ensures writes { Bears W.counts_only_failures (result ≡ Status.WriteFault) (W.faults out.old) (W.faults out.new) }
 {
     let Ok(held) = HeldLines::new(alloc, MOST_BYTES, LONGEST_LINE) else {
         return Status::NoMemory;

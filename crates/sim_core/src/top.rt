@@ -1,6 +1,6 @@
-ghost use Rattle.std.specs.Prelude.{◌≡◌, ◌≢◌, ◌↔◌, ◌+◌, ◌≤◌, ◌<◌, true, false, Some, None, IfSome, length, map};
+ghost use Rattle.std.specs.Prelude.{◌≡◌, ◌↔◌, ◌+◌, ◌<◌, false, Some, None, IfSome, length, map};
 ghost use Rattle.std.specs.String.{string_bytes};
-ghost use Rattle.cluster_io.specs.Streams.{Rose, TakesCount};
+ghost use Rattle.cluster_io.specs.Streams.{Bears, Rose, TakesCount};
 ghost use Rattle.sim_core.specs.Answers.{WordAnswers, IsCompleteAnswer, IsEarly, IsSafeReplay, IsStatusOf, ReadsLive, ReadsNothing, ReadsWhole};
 ghost use Rattle.input_reading.specs.Reading.{most_bytes};
 ghost use Rattle.sim_core.specs.Table.{intake, nothing, whole};
@@ -37,14 +37,8 @@ fn carry_out<S: Source, W: Sink>(alloc: Global, word: Command, src: &mut S, out:
     ensures nothing_of_too_large { intake word ≡ whole → IfSome (S.left src.old)
         (λ input. most_bytes < length input → out.new ≡ out.old) }
 
-    ensures read_cause { result ≡ Status.ReadFault → Rose (S.faults src.old) (S.faults src.new) }
-    ensures write_cause { result ≡ Status.WriteFault → Rose (W.faults out.old) (W.faults out.new) }
-    ensures read_count { S.faults src.old ≤ S.faults src.new }
-    ensures write_count { W.faults out.old ≤ W.faults out.new }
-    ensures no_read_failure { S.counts_only_failures ≡ true → result ≢ Status.ReadFault
-        → S.faults src.new ≡ S.faults src.old }
-    ensures no_write_failure { W.counts_only_failures ≡ true → result ≢ Status.WriteFault
-        → W.faults out.new ≡ W.faults out.old }
+    ensures reads { Bears S.counts_only_failures (result ≡ Status.ReadFault) (S.faults src.old) (S.faults src.new) }
+    ensures writes { Bears W.counts_only_failures (result ≡ Status.WriteFault) (W.faults out.old) (W.faults out.new) }
 {
     match word {
         Command::Check => with_input(alloc, &Reading(CheckWord), src, out),
@@ -88,15 +82,10 @@ pub fn run<S: Source, W: Sink>(alloc: Global, words: &[String], src: &mut S, out
     ensures nothing_of_too_large { ReadsWhole (command_of (map string_bytes words.now))
         → IfSome (S.left src.old) (λ input. most_bytes < length input → out.new ≡ out.old) }
 
-    // A fault comes only where its count rose, and the first failure ends the call: no other answer lets a count rise that rises with failures alone.
-    ensures read_fault { result ≡ Status.ReadFault → Rose (S.faults src.old) (S.faults src.new) }
-    ensures write_fault { result ≡ Status.WriteFault → Rose (W.faults out.old) (W.faults out.new) }
-    ensures read_faults_counted { S.faults src.old ≤ S.faults src.new }
-    ensures write_faults_counted { W.faults out.old ≤ W.faults out.new }
-    ensures no_read_failure { S.counts_only_failures ≡ true → result ≢ Status.ReadFault
-        → S.faults src.new ≡ S.faults src.old }
-    ensures no_write_failure { W.counts_only_failures ≡ true → result ≢ Status.WriteFault
-        → W.faults out.new ≡ W.faults out.old }
+    // A fault comes only where its count rose, and the first failure ends the call: of a count that rises with failures alone a fault is one failure more, and any
+    // other answer none.
+    ensures reads { Bears S.counts_only_failures (result ≡ Status.ReadFault) (S.faults src.old) (S.faults src.new) }
+    ensures writes { Bears W.counts_only_failures (result ≡ Status.WriteFault) (W.faults out.old) (W.faults out.new) }
 {
     ends_are_unique();
     faulty_runs_are_not_lawful();

@@ -21,10 +21,10 @@ loop-node-preserved g c =
     let cl = c.args.cluster.now in
     let goals : ℕ → List ℕ = λ n. flat_map (run_line cl) (goal_line cl c.args.leaf n (targets_of c.args.table.now c.args.leaf n)) in
     let before = c.loop-node.invariant.count in
-    let now = c.put_goal.ensures.count in
+    let now = c.put_goal.ensures.bears.count in
     record {
       text = more_put goals c.loop-node.node (g.W.Sink.written c.args.sink.now) (g.W.Sink.written c.loop-node.sink) (g.W.Sink.written c.put_goal.new.sink)
           c.loop-node.invariant.text (rw c.target.ensures at c.in_ok-put_goal.ensures.text);
       count = omega (arith, before, now);
-      no_failure = λ exact. c.in_ok-put_goal.ensures.no_failure exact ∙ c.loop-node.invariant.no_failure exact;
+      no_failure = λ exact. c.in_ok-put_goal.ensures.bears.no_failure exact (λ failed. cc) ∙ c.loop-node.invariant.no_failure exact;
     }

@@ -27,12 +27,12 @@ loop-leaf-preserved g c =
     let lines = leaf_lines cl c.args.placed.now.pins (targets_of c.args.placed.now.table) c.args.placed.now.none in
     let texts : ℕ → List ℕ = λ r. flat_map (run_line cl) (lines r) in
     let before = c.loop-leaf.invariant.count in
-    let now = c.put_leaf.ensures.count in
+    let now = c.put_leaf.ensures.bears.count in
     record {
       text = more_put texts c.loop-leaf.leaf (g.W.Sink.written c.args.sink.now) (g.W.Sink.written c.loop-leaf.sink) (g.W.Sink.written c.put_leaf.new.sink)
           c.loop-leaf.invariant.text c.in_ok-put_leaf.ensures.text;
       count = omega (arith, before, now);
-      no_failure = λ exact. c.in_ok-put_leaf.ensures.no_failure exact ∙ c.loop-leaf.invariant.no_failure exact;
+      no_failure = λ exact. c.in_ok-put_leaf.ensures.bears.no_failure exact (λ failed. cc) ∙ c.loop-leaf.invariant.no_failure exact;
     }
 
 pub returns-clause-text : goal.returns-clause-text

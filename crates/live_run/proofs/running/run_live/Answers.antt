@@ -6,5 +6,5 @@ use Rattle.live_run.proofs.running.run_live.Goals as goal
 pub returns-clause-complete : goal.returns-clause-complete
 returns-clause-complete g c =
     complete_by c.args.cluster.now c.args.journal (standing_of c.args.outcomes.now).lines.reading (g.S.Source.left (outcomes_source c.run_to_end.new.outcomes)) _ _ _ _
-    (g.S.Source.left (outcomes_source c.args.outcomes.now)) c.run_to_end.result c.run_to_end.ensures.reaches c.run_to_end.ensures.read_fault
+    (g.S.Source.left (outcomes_source c.args.outcomes.now)) c.run_to_end.result c.run_to_end.ensures.reaches c.run_to_end.ensures.reads.cause
     (search rules)

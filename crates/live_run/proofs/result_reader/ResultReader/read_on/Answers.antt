@@ -29,7 +29,7 @@ loop-came-preserved g c =
     let counted_before = so_far.counted in
     let counted_now = now.counted in
     let count_before = so_far.count in
-    let count_now = now.count in
+    let count_now = now.bears.count in
     record {
       told = so_far.told
           ∙ none_brings c.args.names.now (reader_lines c.loop-came.self) (reader_lines c.step.new.self) (g.S.Source.left (source_in c.loop-came.self))
@@ -40,6 +40,6 @@ loop-came-preserved g c =
       going = now.going refl;
       counted = omega arith;
       count = omega arith;
-      no_failure = λ exact. now.no_failure exact (λ e. cc) ∙ so_far.no_failure exact;
+      no_failure = λ exact. now.bears.no_failure exact (λ e. cc) ∙ so_far.no_failure exact;
       same_source = now.same_source ∙ so_far.same_source;
     }
