@@ -3,7 +3,7 @@
 use Rattle.std.specs.Prelude.{◌≡◌, ◌⊎◌, ℕ, ◌+◌, ◌<◌, ◌≤◌, Bool, true, false, if◌then◌else◌, Option, Some, None, List, [], ◌∷◌, ◌++◌, length, is_some, option_map, sum_by, IfSome}
 use Rattle.std.specs.List.{concat, flat_map}
 use Rattle.cluster_io.specs.NextLine.{holds_line, IsUndecided}
-use Rattle.cluster_io.specs.Streams.{Rose, TakesBytes, next_fault}
+use Rattle.cluster_io.specs.Streams.{Bears, TakesBytes}
 use Rattle.cluster_types.specs.declared.cluster.Cluster.{Cluster}
 use Rattle.crm_lex.specs.RawLines.{raw_lines}
 use Rattle.graph_exec.specs.declared.transition.outcomes.Next.{Next}
@@ -176,27 +176,20 @@ pub record View : Type 0 where
   pub faults : ℕ
   pub loan : ℕ
 
--- how often the source of bytes has failed: where it counts its failures alone, not once since
-pub record HasNotFailed (exact : Bool) (old new : View) : Type 0 where
-  pub count : old.faults ≤ new.faults
-  pub no_failure : exact ≡ true → new.faults ≡ old.faults
-  pub same_source : new.loan ≡ old.loan
-
--- the source of bytes has failed: where it counts its failures alone, once since
-pub record HasFailedOnce (exact : Bool) (old new : View) : Type 0 where
-  pub cause : Rose old.faults new.faults
-  pub once : exact ≡ true → new.faults ≡ next_fault old.faults
+-- what reading on has left of the count of failures of the source of bytes, by whether it failed last, and of its loan
+pub record HasCounted (exact : Bool) (failed : Type 0) (old new : View) : Type 0 where
+  pub bears : Bears exact failed old.faults new.faults
   pub same_source : new.loan ≡ old.loan
 
 -- no question failed
 pub record HasFollowed (exact : Bool) (old new : View) : Type 0 where
   pub follows : SourceFollows old.standing new.standing old.left new.left
-  pub counts : HasNotFailed exact old new
+  pub counts : HasCounted exact ⊥ old new
 
 -- the last question failed: by the source of bytes, which has counted it, or by a line
 pub data HasQuestionFailed (exact : Bool) (old new : View) : Type 0 where
-  by_source : HasBroken old.standing new.standing old.left new.left → HasFailedOnce exact old new → HasQuestionFailed exact old new
-  by_line : HasStopped old.standing new.standing old.left new.left → HasNotFailed exact old new → HasQuestionFailed exact old new
+  by_source : HasBroken old.standing new.standing old.left new.left → HasCounted exact (Unit {0}) old new → HasQuestionFailed exact old new
+  by_line : HasStopped old.standing new.standing old.left new.left → HasCounted exact ⊥ old new → HasQuestionFailed exact old new
 
 -- what the last question brought. After the end of the input none fails, and after a line that stops the reading each does
 abbrev pub HasSaid : Bool → View → View → Next → Type 0

@@ -1,14 +1,14 @@
 -- A source of answers that are read from lines has come from itself, and from what it came from on the way; and so has a writer of lines.
 use Rattle.std.proofs.Common.{◌≡◌, ◌≢◌, ℕ, Bool, true, false, Option, Some, None, List, [], ◌∷◌, ◌++◌, option_map, refl, ap, sym, subst, ◌∙◌, arith}
-use Rattle.cluster_io.specs.Streams.{next_fault}
+use Rattle.cluster_io.proofs.Bearing.{Bears-none, Bears-then}
 use Rattle.cluster_types.specs.declared.cluster.Cluster.{Cluster}
 use Rattle.graph_exec.specs.declared.transition.outcomes.Next.{Next}
 use Rattle.graph_exec.specs.declared.transition.outcomes.Next.TheVariants as next
 use Rattle.input_reading.specs.declared.results.result_lines.ResultLine.{ResultLine}
 use Rattle.live_run.specs.Coming.{Coming}
 use Rattle.live_run.specs.Courses.{SourceState, has_course_ended, is_reading, coming_to}
-use Rattle.live_run.specs.Followed.{EndsInOne, SourceFollows, HasAnswered, HasBroken, HasQuestionFailed, HasFailedOnce, HasFollowed, HasNotFailed, HasRead, HasSaid, HasStopped, IsStoppedBy, RestsBehind, View, answers, by_line, by_source, last_line, results_first, stays}
-use Rattle.live_run.specs.Writing.{HasWritingGoneOn, HasWritingStopped, IsSameSink}
+use Rattle.live_run.specs.Followed.{EndsInOne, SourceFollows, HasAnswered, HasBroken, HasQuestionFailed, HasCounted, HasFollowed, HasRead, HasSaid, HasStopped, IsStoppedBy, RestsBehind, View, answers, by_line, by_source, last_line, results_first, stays}
+use Rattle.live_run.specs.Writing.{HasPut}
 use Rattle.live_run.specs.declared.course.Course.{Course}
 use Rattle.live_run.specs.declared.course.Course.TheVariants as course
 use Rattle.live_run.specs.ReadLaws.{ends_then, near_then, read_then, stopped_then, told_joined}
@@ -91,27 +91,19 @@ follows_then a b d x y z (answers r p) (stays e f) = subst (λ (s : SourceState)
 follows_then a b d x y z (answers r p) (answers s q) = answers r (answered_then a b d x y z p s q)
 
 module _ (exact : Bool) where
-  not_failed_then : (a b d : View) → HasNotFailed exact a b → HasNotFailed exact b d → HasNotFailed exact a d
-  not_failed_then a b d p q = record {
-    count = let m = p.count in let n = q.count in omega (arith, m, n);
-    no_failure = λ e. q.no_failure e ∙ p.no_failure e;
+  read_behind : (failed : Type 0) (a b d : View) → HasCounted exact ⊥ a b → HasCounted exact failed b d → HasCounted exact failed a d
+  read_behind failed a b d p q = record {
+    bears = Bears-then exact ⊥ failed a.faults b.faults d.faults (λ none. none) p.bears q.bears;
     same_source = q.same_source ∙ p.same_source;
   }
 
-  once_then : (a b d : View) → HasNotFailed exact a b → HasFailedOnce exact b d → HasFailedOnce exact a d
-  once_then a b d n failed = record {
-    cause = let m = n.count in let rose = failed.cause in omega (arith, m, rose);
-    once = λ e. failed.once e ∙ ap next_fault (n.no_failure e);
-    same_source = failed.same_source ∙ n.same_source;
-  }
-
   pub followed_itself : (v : View) → HasFollowed exact v v
-  followed_itself v = record { follows = stays refl refl; counts = record { count = omega arith; no_failure = λ e. refl; same_source = refl } }
+  followed_itself v = record { follows = stays refl refl; counts = record { bears = Bears-none exact ⊥ v.faults (λ none. none); same_source = refl } }
 
   pub followed_then : (a b d : View) → HasFollowed exact a b → HasFollowed exact b d → HasFollowed exact a d
   followed_then a b d p q = record {
     follows = follows_then a.standing b.standing d.standing a.left b.left d.left p.follows q.follows;
-    counts = not_failed_then a b d p.counts q.counts;
+    counts = read_behind ⊥ a b d p.counts q.counts;
   }
 
   pub followed_said : (a b : View) (brought : Next) → brought ≢ next.Failed → HasSaid exact a b brought → HasFollowed exact a b
@@ -119,12 +111,12 @@ module _ (exact : Bool) where
   followed_said a b next.Silent other s = s.0
   followed_said a b next.Failed other s = absurd (other refl)
 
-  failed_then : (a b d : View) → HasAnswered a.standing b.standing a.left b.left → HasNotFailed exact a b → is_reading b.standing.course ≡ true → HasQuestionFailed exact b d
+  failed_then : (a b d : View) → HasAnswered a.standing b.standing a.left b.left → HasCounted exact ⊥ a b → is_reading b.standing.course ≡ true → HasQuestionFailed exact b d
       → HasQuestionFailed exact a d
   failed_then a b d p n reading (by_source h failed) =
-      by_source (broken_then a.standing b.standing d.standing a.left b.left d.left p reading h) (once_then a b d n failed)
+      by_source (broken_then a.standing b.standing d.standing a.left b.left d.left p reading h) (read_behind (Unit {0}) a b d n failed)
   failed_then a b d p n reading (by_line h m) =
-      by_line (stops_then a.standing b.standing d.standing a.left b.left d.left p reading h) (not_failed_then a b d n m)
+      by_line (stops_then a.standing b.standing d.standing a.left b.left d.left p reading h) (read_behind ⊥ a b d n m)
 
   -- where it stands after questions that were answered, it reads or has ended
   reads_or_ends : (a b : SourceState) (after : Option (List ℕ)) (lines : List (List (List ℕ))) (bytes : List ℕ) (k : Course) → RestsBehind a b after lines bytes k → has_course_ended k ≡ false → is_reading k ≡ true
@@ -132,7 +124,7 @@ module _ (exact : Bool) where
   reads_or_ends a b after lines bytes course.Ended r h = cc
   reads_or_ends a b after lines bytes (course.Stopped w times) r h = absurd r
 
-  failed_later : (a b d : View) → (f : SourceFollows a.standing b.standing a.left b.left) → HasNotFailed exact a b → HasSaid exact b d next.Failed → HasSaid exact a d next.Failed
+  failed_later : (a b d : View) → (f : SourceFollows a.standing b.standing a.left b.left) → HasCounted exact ⊥ a b → HasSaid exact b d next.Failed → HasSaid exact a d next.Failed
   failed_later a b d (stays e f) n s = (
     subst (λ (t : SourceState). has_course_ended t.course ≡ false) e s.0,
     λ reading. same_failed (s.1 (subst (λ (t : SourceState). is_reading t.course ≡ true) (sym e) reading)),
@@ -141,10 +133,10 @@ module _ (exact : Bool) where
       same_failed : HasQuestionFailed exact b d → HasQuestionFailed exact a d
       same_failed (by_source h failed) =
           by_source (subst (λ (t : SourceState). HasBroken t d.standing a.left d.left) e (subst (λ (o : Option (List ℕ)). HasBroken b.standing d.standing o d.left) f h))
-          (once_then a b d n failed)
+          (read_behind (Unit {0}) a b d n failed)
       same_failed (by_line h m) =
           by_line (subst (λ (t : SourceState). HasStopped t d.standing a.left d.left) e (subst (λ (o : Option (List ℕ)). HasStopped b.standing d.standing o d.left) f h))
-          (not_failed_then a b d n m)
+          (read_behind ⊥ a b d n m)
   failed_later a b d (answers r p) n s = (
     reading_not_ended a.standing.course r,
     λ reading.
@@ -157,12 +149,12 @@ module _ (exact : Bool) where
   said_behind a b d next.Silent f s = (followed_then a b d f s.0, s.1)
   said_behind a b d next.Failed f s = failed_later a b d f.follows f.counts s
 
--- how a writer has gone on
-pub gone_itself : (exact : Bool) (faults loan : ℕ) → HasWritingGoneOn exact faults faults loan loan
-gone_itself exact faults loan = record { no_failure = λ e. refl; same_sink = refl }
+-- what a writer has written
+pub written_itself : (exact : Bool) (faults loan : ℕ) → HasPut exact ⊥ faults faults loan loan
+written_itself exact faults loan = record { bears = Bears-none exact ⊥ faults (λ none. none); same_sink = refl }
 
-pub gone_then : (exact : Bool) (f g h l m n : ℕ) → HasWritingGoneOn exact f g l m → HasWritingGoneOn exact g h m n → HasWritingGoneOn exact f h l n
-gone_then exact f g h l m n a b = record { no_failure = λ e. b.no_failure e ∙ a.no_failure e; same_sink = b.same_sink ∙ a.same_sink }
-
-pub gone_stopped : (exact : Bool) (f g h l m n : ℕ) → HasWritingGoneOn exact f g l m → HasWritingStopped exact g h m n → HasWritingStopped exact f h l n
-gone_stopped exact f g h l m n a b = record { once = λ e. b.once e ∙ ap next_fault (a.no_failure e); same_sink = b.same_sink ∙ a.same_sink }
+pub written_then : (exact : Bool) (failed : Type 0) (f g h l m n : ℕ) → HasPut exact ⊥ f g l m → HasPut exact failed g h m n → HasPut exact failed f h l n
+written_then exact failed f g h l m n a b = record {
+  bears = Bears-then exact ⊥ failed f g h (λ none. none) a.bears b.bears;
+  same_sink = b.same_sink ∙ a.same_sink;
+}

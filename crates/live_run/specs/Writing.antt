@@ -1,6 +1,6 @@
 -- What is written of some lines of a run (rule of this project).
-use Rattle.std.specs.Prelude.{◌≡◌, ℕ, Bool, true, Option, Result, Ok, Err, List, ◌++◌, codes, decimal}
-use Rattle.cluster_io.specs.Streams.{Adds, AddsPrefix, next_fault}
+use Rattle.std.specs.Prelude.{◌≡◌, ℕ, Bool, Option, Result, Ok, Err, List, ◌++◌, codes, decimal}
+use Rattle.cluster_io.specs.Streams.{Adds, AddsPrefix, Bears}
 use Rattle.cluster_io.specs.declared.sink.WriteFault.{WriteFault}
 use Rattle.graph_exec.specs.declared.transition.watcher.Heard.{Heard}
 use Rattle.graph_exec.specs.declared.transition.watcher.Heard.TheVariants as heard
@@ -25,12 +25,7 @@ line_refusal_text line cause = codes "refused " ++ decimal line ++ codes " " ++ 
 abbrev pub IsSameSink : ℕ → ℕ → Type 0
 IsSameSink loan loan_now = loan_now ≡ loan
 
--- each line was written whole: a sink that counts its failures alone has counted none
-pub record HasWritingGoneOn (exact : Bool) (faults faults_now loan loan_now : ℕ) : Type 0 where
-  pub no_failure : exact ≡ true → faults_now ≡ faults
-  pub same_sink : IsSameSink loan loan_now
-
--- the last line wasn't written whole: a sink that counts its failures alone has counted one
-pub record HasWritingStopped (exact : Bool) (faults faults_now loan loan_now : ℕ) : Type 0 where
-  pub once : exact ≡ true → faults_now ≡ next_fault faults
+-- what lines that were written have left of a sink's count of faults, by whether the last of them failed, and of its loan
+pub record HasPut (exact : Bool) (failed : Type 0) (faults faults_now loan loan_now : ℕ) : Type 0 where
+  pub bears : Bears exact failed faults faults_now
   pub same_sink : IsSameSink loan loan_now

@@ -1,8 +1,8 @@
 //! A source of answers that are read from lines as they are asked for.
 
-ghost use Rattle.std.specs.Prelude.{◌≡◌, ◌≢◌, ◌+◌, ◌≤◌, ◌<◌, ◌^◌, None, Some, true, false, is_none, is_some, IfOk};
+ghost use Rattle.std.specs.Prelude.{◌≡◌, ◌+◌, ◌≤◌, ◌<◌, ◌^◌, None, Some, true, false, is_none, is_some, IfOk};
 ghost use Rattle.cluster_io.specs.LineReaders.{loan_of, reading_of, source_of};
-ghost use Rattle.cluster_io.specs.Streams.{Rose};
+ghost use Rattle.cluster_io.specs.Streams.{Bears, Rose};
 ghost use Rattle.live_run.specs.Coming.{AreReady};
 ghost use Rattle.live_run.specs.Courses.{CourseAnswers, faults_of, has_course_ended, is_reading, starting, stop_of, stops_last};
 ghost use Rattle.live_run.specs.Followed.{HasSaid};
@@ -147,13 +147,10 @@ impl<'c, 's, S: Source> LineOutcomes<'c, 's, S> {
         ensures said { HasSaid S.counts_only_failures (view_of S.left S.faults self.old) (view_of S.left S.faults self.new) result }
         ensures asked { (standing_of self.new).lines.at.before ≤ (standing_of self.old).lines.at.before + 1 }
         ensures stop { result ≡ Next.Failed → is_some (stop_of (standing_of self.new)) ≡ true }
-        ensures count { S.faults (outcomes_source self.old) ≤ S.faults (outcomes_source self.new) }
         ensures cause { result ≡ Next.Failed → Rose (faults_of (standing_of self.old) (S.faults (outcomes_source self.old)))
             (faults_of (standing_of self.new) (S.faults (outcomes_source self.new))) }
-        ensures fault { result ≡ Next.Failed → stop_of (standing_of self.new) ≡ Some LineStop.ReadFault →
-            Rose (S.faults (outcomes_source self.old)) (S.faults (outcomes_source self.new)) }
-        ensures no_failure { S.counts_only_failures ≡ true → result ≢ Next.Failed →
-            S.faults (outcomes_source self.new) ≡ S.faults (outcomes_source self.old) }
+        ensures bears { Bears S.counts_only_failures ((result ≡ Next.Failed) × (stop_of (standing_of self.new) ≡ Some LineStop.ReadFault))
+            (S.faults (outcomes_source self.old)) (S.faults (outcomes_source self.new)) }
         ensures same_source { outcomes_loan self.new ≡ outcomes_loan self.old }
     {
         match self.reader.read_on(self.names) {
@@ -188,15 +185,12 @@ impl<'c, 's, S: Source> LineOutcomes<'c, 's, S> {
         ensures over { has_course_ended (standing_of self.old).course ≡ true → has_course_ended (standing_of self.new).course ≡ true }
 
         // How often it and its source have failed.
-        ensures count { S.faults (outcomes_source self.old) ≤ S.faults (outcomes_source self.new) }
         ensures failures { faults_of (standing_of self.old) (S.faults (outcomes_source self.old))
             ≤ faults_of (standing_of self.new) (S.faults (outcomes_source self.new)) }
         ensures cause { result ≡ Next.Failed → Rose (faults_of (standing_of self.old) (S.faults (outcomes_source self.old)))
             (faults_of (standing_of self.new) (S.faults (outcomes_source self.new))) }
-        ensures fault { result ≡ Next.Failed → stop_of (standing_of self.new) ≡ Some LineStop.ReadFault →
-            Rose (S.faults (outcomes_source self.old)) (S.faults (outcomes_source self.new)) }
-        ensures no_failure { S.counts_only_failures ≡ true → result ≢ Next.Failed →
-            S.faults (outcomes_source self.new) ≡ S.faults (outcomes_source self.old) }
+        ensures bears { Bears S.counts_only_failures ((result ≡ Next.Failed) × (stop_of (standing_of self.new) ≡ Some LineStop.ReadFault))
+            (S.faults (outcomes_source self.old)) (S.faults (outcomes_source self.new)) }
         ensures same_source { outcomes_loan self.new ≡ outcomes_loan self.old }
     {
         match self.course {

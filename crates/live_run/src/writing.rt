@@ -10,8 +10,8 @@ use trace_text::RunLineRef;
 impl<'c, 's, W: Sink> Watcher for LineWriter<'c, 's, W> {
     ghost use Rattle.std.specs.Prelude.{Some};
     ghost use Rattle.live_run.specs.LineWriters.{writer_cluster, writer_loan, sink_of};
-    ghost use Rattle.live_run.specs.Writing.{HasWritingGoneOn, HasWritingStopped};
-    ghost use Rattle.live_run.specs.FollowedLaws.{gone_itself, gone_stopped, gone_then};
+    ghost use Rattle.live_run.specs.Writing.{HasPut};
+    ghost use Rattle.live_run.specs.FollowedLaws.{written_itself, written_then};
 
     ghost told = { λ w. W.written (sink_of w) };
 
@@ -19,9 +19,9 @@ impl<'c, 's, W: Sink> Watcher for LineWriter<'c, 's, W> {
 
     ghost stops = { λ w. W.faults (sink_of w) };
 
-    ghost follows = { λ old new. HasWritingGoneOn W.counts_only_failures (W.faults (sink_of old)) (W.faults (sink_of new)) (writer_loan old) (writer_loan new) };
+    ghost follows = { λ old new. HasPut W.counts_only_failures ⊥ (W.faults (sink_of old)) (W.faults (sink_of new)) (writer_loan old) (writer_loan new) };
 
-    ghost stopped = { λ old new. HasWritingStopped W.counts_only_failures (W.faults (sink_of old)) (W.faults (sink_of new)) (writer_loan old) (writer_loan new) };
+    ghost stopped = { λ old new. HasPut W.counts_only_failures (Unit {0}) (W.faults (sink_of old)) (W.faults (sink_of new)) (writer_loan old) (writer_loan new) };
 
     fn planned(&mut self, transition: u32, placed: &Placed) -> Heard {
         heard_of(put_plan(self.cluster, self.sink, transition, placed))
@@ -44,11 +44,11 @@ impl<'c, 's, W: Sink> Watcher for LineWriter<'c, 's, W> {
         heard_of(put(self.cluster, self.sink, &line))
     }
 
-    ghost from_itself = { λ w. gone_itself W.counts_only_failures (W.faults (sink_of w)) (writer_loan w) };
+    ghost from_itself = { λ w. written_itself W.counts_only_failures (W.faults (sink_of w)) (writer_loan w) };
 
-    ghost from_before = { λ first middle last. gone_then W.counts_only_failures (W.faults (sink_of first)) (W.faults (sink_of middle))
+    ghost from_before = { λ first middle last. written_then W.counts_only_failures ⊥ (W.faults (sink_of first)) (W.faults (sink_of middle))
         (W.faults (sink_of last)) (writer_loan first) (writer_loan middle) (writer_loan last) };
 
-    ghost stopped_later = { λ first middle last. gone_stopped W.counts_only_failures (W.faults (sink_of first)) (W.faults (sink_of middle))
+    ghost stopped_later = { λ first middle last. written_then W.counts_only_failures (Unit {0}) (W.faults (sink_of first)) (W.faults (sink_of middle))
         (W.faults (sink_of last)) (writer_loan first) (writer_loan middle) (writer_loan last) };
 }
