@@ -32,6 +32,7 @@ pub mod Ready
 pub mod Served
 pub mod Closings
 pub mod LastsNext
+pub mod Shown
 pub mod Quiet
 pub mod Rests
 pub mod Whole

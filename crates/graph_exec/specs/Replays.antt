@@ -123,6 +123,10 @@ pub record IsJournalKept (promotions : List Promotion) (journal : Journal) : Typ
 abbrev pub AgreesWith : (Cluster → List Event → ℕ → Type 0) → Cluster → Journal → Type 0
 AgreesWith agrees c journal = agrees c journal.events 0
 
+-- the watcher has been shown the journal
+abbrev pub IsShownJournal : (Cluster → List Event → Type 0) → Cluster → Journal → Type 0
+IsShownJournal shown c journal = shown c journal.events
+
 -- no answer came that doesn't apply
 abbrev pub IsReplayExpected : Result Journal ReplayStop → Type 0
 IsReplayExpected (Err (stop.Unexpected journal given)) = ⊥

@@ -58,3 +58,7 @@ Hears whole names old new rest left before after heard.Stop = IsWatcherCutOff wh
 abbrev pub HasHeard : Type 0 → Type 0 → Heard → Type 0
 HasHeard Follows Stopped heard.Go = Follows
 HasHeard Follows Stopped heard.Stop = Stopped
+
+-- the watcher has been shown the journal of a transition
+abbrev pub IsShownAll : (Cluster → List Event → Type 0) → Running → Type 0
+IsShownAll shown r = shown r.cluster (r.planned_at ++ r.since)

@@ -17,6 +17,8 @@ impl<'c, 's, W: Sink> Watcher for LineWriter<'c, 's, W> {
 
     ghost names = { λ w. Some (writer_cluster w) };
 
+    ghost shown = { λ _ _ _. Unit {0} };
+
     ghost stops = { λ w. W.faults (sink_of w) };
 
     ghost follows = { λ old new. HasPut W.counts_only_failures ⊥ (W.faults (sink_of old)) (W.faults (sink_of new)) (writer_loan old) (writer_loan new) };

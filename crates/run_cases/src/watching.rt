@@ -88,6 +88,8 @@ impl<'a> Watcher for Follower<'a> {
 
     ghost names = { λ _. None };
 
+    ghost shown = { λ _ _ _. Unit {0} };
+
     ghost stops = { λ w. w.stops };
 
     ghost follows = { λ _ _. Unit {0} };

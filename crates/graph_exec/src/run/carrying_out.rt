@@ -5,7 +5,7 @@ ghost use Rattle.cluster_types.specs.Runs.{amid};
 ghost use Rattle.cluster_types.specs.Safety.{IsAtRest};
 ghost use Rattle.graph_exec.specs.Lasting.{SourceLasts, WatcherLasts};
 ghost use Rattle.graph_exec.specs.Running.{going};
-ghost use Rattle.graph_exec.specs.Replays.{AgreesWith, IsReplayExpected, OfJournal, WritesNamesOf, setting, sight};
+ghost use Rattle.graph_exec.specs.Replays.{AgreesWith, IsReplayExpected, IsShownJournal, OfJournal, WritesNamesOf, setting, sight};
 ghost use Rattle.graph_exec.specs.Turns.{CameTo, RunEndsAs, HasPlannedGraph, closed_at, part_heard, part_word};
 
 use crate::run::stop::{Ended, ReplayStop};
@@ -53,6 +53,9 @@ pub(crate) fn carry_out<'c, S: Outcomes, V: Watcher>(
 
     ensures source { SourceLasts S.Outcomes outcomes.old outcomes.new (part_word result) }
     ensures watcher { WatcherLasts V.Watcher watcher.old watcher.new (part_heard result) }
+    ensures shown { V.shown watcher.old executor.entry.cluster executor.entry.planned_at → IfOk result (λ closed. V.shown watcher.new executor.entry.cluster closed.journal.events) }
+    ensures shown_at_end { part_heard result ≡ Heard.Go → V.shown watcher.old executor.entry.cluster executor.entry.planned_at
+        → IfErr result (OfJournal (IsShownJournal (V.shown watcher.new) executor.entry.cluster)) }
 {
     match run_watched(&mut executor, outcomes, watcher) {
         WatchedEnd::Complete => match watcher.closed(number, true) {

@@ -5,7 +5,7 @@ ghost use Rattle.cluster_types.specs.Journals.{in_flight};
 ghost use Rattle.cluster_types.specs.Runs.{due, idle};
 ghost use Rattle.graph_exec.specs.Keeping.{IsAnswered, IsUnanswered, idle_word, watched_end};
 ghost use Rattle.graph_exec.specs.Lasting.{SourceLasts, WatcherLasts};
-ghost use Rattle.graph_exec.specs.Replays.{AgreesWith, IsReplayExpected, OfJournal, setting, sight};
+ghost use Rattle.graph_exec.specs.Replays.{AgreesWith, IsReplayExpected, IsShownJournal, OfJournal, setting, sight};
 ghost use Rattle.graph_exec.specs.Turns.{CameTo, RunEndsAs, part_heard, part_word};
 
 use crate::run::run_ending::RunEnd;
@@ -91,6 +91,9 @@ pub(crate) fn take_idle<'c, S: Outcomes, V: Watcher>(
 
     ensures source { SourceLasts S.Outcomes outcomes.old outcomes.new (part_word result) }
     ensures watcher { WatcherLasts V.Watcher watcher.old watcher.new (part_heard result) }
+    ensures shown { V.shown watcher.old journal.entry.cluster journal.entry.events → IfOk result (λ later. V.shown watcher.new journal.entry.cluster later.events) }
+    ensures shown_at_end { part_heard result ≡ Heard.Go → V.shown watcher.old journal.entry.cluster journal.entry.events
+        → IfErr result (OfJournal (IsShownJournal (V.shown watcher.new) journal.entry.cluster)) }
 {
     match ask_idle(alloc, journal, outcomes) {
         Ok(taken) => match watcher.taken(taken.answer) {

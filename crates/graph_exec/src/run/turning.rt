@@ -6,7 +6,7 @@ ghost use Rattle.cluster_types.specs.Safety.{IsAtRest};
 ghost use Rattle.cluster_types.specs.Valid.{IsValid};
 ghost use Rattle.graph_exec.specs.declared.run.stop.ReplayStop.TheVariants.{Stopped};
 ghost use Rattle.graph_exec.specs.Lasting.{SourceLasts, WatcherLasts};
-ghost use Rattle.graph_exec.specs.Replays.{AgreesWith, IsReplayExpected, OfJournal, WritesNamesOf, setting, sight};
+ghost use Rattle.graph_exec.specs.Replays.{AgreesWith, IsReplayExpected, IsShownJournal, OfJournal, WritesNamesOf, setting, sight};
 ghost use Rattle.graph_exec.specs.Turns.{CameTo, RunEndsAs, Serves, left_of, part_heard, part_word};
 
 use crate::run::carrying_out::carry_out;
@@ -66,6 +66,9 @@ pub(crate) fn make_transition<'c, S: Outcomes, V: Watcher>(
 
     ensures source { SourceLasts S.Outcomes outcomes.old outcomes.new (part_word result) }
     ensures watcher { WatcherLasts V.Watcher watcher.old watcher.new (part_heard result) }
+    ensures shown { V.shown watcher.old journal.entry.cluster journal.entry.events → IfOk result (λ turn. V.shown watcher.new journal.entry.cluster turn.journal.events) }
+    ensures shown_at_end { part_heard result ≡ Heard.Go → V.shown watcher.old journal.entry.cluster journal.entry.events
+        → IfErr result (OfJournal (IsShownJournal (V.shown watcher.new) journal.entry.cluster)) }
 {
     let Ok((states, planned)) = plan_next(alloc, journal, last) else {
         return Err(Err(ReplayStop::NoMemory));

@@ -5,11 +5,11 @@ ghost use Rattle.cluster_types.specs.Journals.{moment_of};
 ghost use Rattle.cluster_types.specs.Safety.{IsAtRest, IsSafeRun};
 ghost use Rattle.cluster_types.specs.Valid.{IsValid};
 ghost use Rattle.graph_exec.specs.Lasting.{SourceLasts, WatcherLasts};
-ghost use Rattle.graph_exec.specs.Replays.{AgreesWith, IsReplayExpected, IsJournalKept, OfJournal, ReplaysAs, WritesNamesOf, replay_heard, replay_word, setting, sight};
+ghost use Rattle.graph_exec.specs.Replays.{AgreesWith, IsReplayExpected, IsJournalKept, IsShownJournal, OfJournal, ReplaysAs, WritesNamesOf, replay_heard, replay_word, setting, sight};
 
 use crate::run::stop::ReplayStop;
 use crate::run::turning::make_transition;
-use crate::{KnownJournal, Outcomes, Watcher};
+use crate::{Heard, KnownJournal, Outcomes, Watcher};
 use cluster_types::{Cluster, Journal};
 use state_unpack::valid_clusters_have_few_monitors;
 use std::alloc::Global;
@@ -52,6 +52,8 @@ pub fn replay_watched<S: Outcomes, V: Watcher>(
 
     // What became of the watcher.
     ensures watcher { WatcherLasts V.Watcher watcher.old watcher.new (replay_heard result) }
+    ensures shown { replay_heard result ≡ Heard.Go → V.shown watcher.old cluster.now journal.events
+        → OfJournal (IsShownJournal (V.shown watcher.new) cluster.now) result }
 {
     valid_clusters_have_few_monitors();
     let Ok(mut known) = KnownJournal::new(alloc, cluster, journal) else {

@@ -4,7 +4,7 @@ ghost use Rattle.std.specs.Prelude.{◌≡◌, ◌≤◌, ◌+◌, true, length}
 ghost use Rattle.graph_exec.specs.Lasting.{SourceLasts, WatcherLasts, transition_word};
 ghost use Rattle.graph_exec.specs.Promises.{EndsWell, KeepsPromises};
 ghost use Rattle.graph_exec.specs.Transitions.{Accords, EndsAs, GoneTo, HasSaidAll, IsExpected};
-ghost use Rattle.graph_exec.specs.Watching.{Hears, heard_at, watched};
+ghost use Rattle.graph_exec.specs.Watching.{Hears, IsShownAll, heard_at, watched};
 
 use crate::transition::ends::{End, WatchedEnd, without_watcher};
 use crate::transition::executor::Executor;
@@ -37,6 +37,7 @@ pub fn run_watched<S: Outcomes, V: Watcher>(
     ensures told { Hears (S.whole outcomes.old) (V.names watcher.old) executor.old executor.new (S.rest outcomes.old) (S.rest outcomes.new)
         (V.told watcher.old) (V.told watcher.new) (heard_at result) }
     ensures watcher { WatcherLasts V.Watcher watcher.old watcher.new (heard_at result) }
+    ensures shown { heard_at result ≡ Heard.Go → IsShownAll (V.shown watcher.old) executor.old → IsShownAll (V.shown watcher.new) executor.new }
 {
     loop {
         if let Heard::Stop = executor.begin_all(outcomes, watcher) {

@@ -6,7 +6,7 @@ ghost use Rattle.graph_exec.specs.Lasting.{SourceLasts, WatcherLasts, none_faile
 ghost use Rattle.graph_exec.specs.Rounds.{Advanced, Answered, StopsAs, asked_word, asks_left, begins_left, round_word};
 ghost use Rattle.graph_exec.specs.Running.{IsUnderWay, Went, going};
 ghost use Rattle.graph_exec.specs.Transitions.{Accords, EndsAs, GoneTo, HasGoneToEnd, IsExpected, WentAsSaid};
-ghost use Rattle.graph_exec.specs.Watching.{Hears, heard_in};
+ghost use Rattle.graph_exec.specs.Watching.{Hears, IsShownAll, heard_in};
 
 use crate::transition::ends::WatchedEnd;
 use crate::transition::executor::Executor;
@@ -36,6 +36,7 @@ impl<'c> Executor<'c> {
         ensures told { Hears (S.whole outcomes.old) (V.names watcher.old) self.old self.new (S.rest outcomes.old) (S.rest outcomes.new)
             (V.told watcher.old) (V.told watcher.new) (unwrap_or result Heard.Go) }
         ensures watcher { WatcherLasts V.Watcher watcher.old watcher.new (unwrap_or result Heard.Go) }
+        ensures shown { unwrap_or result Heard.Go ≡ Heard.Go → IsShownAll (V.shown watcher.old) self.old → IsShownAll (V.shown watcher.new) self.new }
     {
         let Some(number) = self.begin_next() else {
             return None;
@@ -64,6 +65,7 @@ impl<'c> Executor<'c> {
         ensures told { Hears (S.whole outcomes.old) (V.names watcher.old) self.old self.new (S.rest outcomes.old) (S.rest outcomes.new)
             (V.told watcher.old) (V.told watcher.new) result }
         ensures watcher { WatcherLasts V.Watcher watcher.old watcher.new result }
+        ensures shown { result ≡ Heard.Go → IsShownAll (V.shown watcher.old) self.old → IsShownAll (V.shown watcher.new) self.new }
     {
         loop {
             match self.begin_one(outcomes, watcher) {
@@ -127,6 +129,7 @@ impl<'c> Executor<'c> {
         ensures told { Hears (S.whole outcomes.old) (V.names watcher.old) self.old self.new (S.rest outcomes.old) (S.rest outcomes.new)
             (V.told watcher.old) (V.told watcher.new) (heard_in result) }
         ensures watcher { WatcherLasts V.Watcher watcher.old watcher.new (heard_in result) }
+        ensures shown { heard_in result ≡ Heard.Go → IsShownAll (V.shown watcher.old) self.old → IsShownAll (V.shown watcher.new) self.new }
     {
         match self.ask(outcomes) {
             Ok(answer) => match watcher.taken(answer) {

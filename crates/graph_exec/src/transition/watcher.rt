@@ -1,9 +1,16 @@
 //! Who is told what happens.
 
-ghost use Rattle.std.specs.Prelude.{◌≡◌, ◌≤◌, ◌∷◌, [], ℕ, Option, List};
+ghost use Rattle.std.specs.Prelude.{◌≡◌, ◌≤◌, ◌++◌, ◌∷◌, [], ℕ, Option, List};
+ghost use Rattle.std.specs.List.{flat_map};
 ghost use Rattle.cluster_io.specs.Streams.{Rose};
 ghost use Rattle.cluster_types.specs.declared.cluster.Cluster.{Cluster as ClusterOf};
+ghost use Rattle.cluster_types.specs.declared.journal.Action.{Action as ActionOf};
+ghost use Rattle.cluster_types.specs.declared.journal.Event.{Event as EventOf};
+ghost use Rattle.cluster_types.specs.declared.journal.Event.TheVariants.{Begin};
+ghost use Rattle.cluster_types.specs.declared.journal.Promotion.{Promotion as PromotionOf};
 ghost use Rattle.cluster_types.specs.declared.run.RunLine.TheVariants as line;
+ghost use Rattle.cluster_types.specs.Plans.{IsPlan};
+ghost use Rattle.cluster_types.specs.Texts.{event_lines};
 ghost use Rattle.graph_exec.specs.Telling.{ReasonsHaveNames, TellsLines, closing_line, plan_lines};
 
 use cluster_types::{Action, Answer, Placed};
@@ -24,6 +31,9 @@ pub trait Watcher {
     /// The cluster by whose names the lines are written. Without one they have no text.
     ghost names: { Self → Option ClusterOf };
 
+    /// It has been shown a journal of a cluster: each plan whole, and each event. It stays so where it is shown the next, and goes on.
+    ghost shown: { Self → ClusterOf → List EventOf → Type 0 };
+
     /// How often it has stopped. The count stands still at the end of 64 bits.
     ghost stops: { Self → ℕ };
 
@@ -33,19 +43,22 @@ pub trait Watcher {
     /// It has come so from another, and then has stopped.
     ghost stopped: { Self → Self → Type 0 };
 
-    /// The transition of this number in the run is planned.
+    /// The transition of this number in the run is planned. The plan is shown as it is, with all that was decided.
     fn planned(&mut self, transition: u32, placed: &Placed) -> Heard
         requires { ReasonsHaveNames placed.now }
         ensures tells { TellsLines (names self.old) (plan_lines (names self.old) transition placed.now) (told self.old) (told self.new) result }
+        ensures shown { result ≡ Heard.Go → (c : ClusterOf) (es : List EventOf) (promotions : List PromotionOf) (actions : List ActionOf)
+            → IsPlan c es promotions placed.now actions → shown self.old c es → shown self.new c es }
         ensures names { names self.new ≡ names self.old }
         ensures count { stops self.old ≤ stops self.new }
         ensures cause { result ≡ Heard.Stop → Rose (stops self.old) (stops self.new) }
         ensures follows { result ≡ Heard.Go → follows self.old self.new }
         ensures stopped { result ≡ Heard.Stop → stopped self.old self.new };
 
-    /// The action of this number in the transition has begun.
+    /// The action of this number in the transition has begun: its event is in the journal.
     fn begun(&mut self, number: u32, action: Action) -> Heard
         ensures tells { TellsLines (names self.old) (line.Begin number action ∷ []) (told self.old) (told self.new) result }
+        ensures shown { result ≡ Heard.Go → (c : ClusterOf) (es : List EventOf) → shown self.old c es → shown self.new c (es ++ Begin number action ∷ []) }
         ensures names { names self.new ≡ names self.old }
         ensures count { stops self.old ≤ stops self.new }
         ensures cause { result ≡ Heard.Stop → Rose (stops self.old) (stops self.new) }
@@ -55,6 +68,8 @@ pub trait Watcher {
     /// The answer is taken. A silent end is told as the end that it stands for.
     fn taken(&mut self, answer: Answer) -> Heard
         ensures tells { TellsLines (names self.old) (line.Taken answer ∷ []) (told self.old) (told self.new) result }
+        ensures shown { result ≡ Heard.Go → (c : ClusterOf) (es events : List EventOf) → flat_map event_lines events ≡ line.Taken answer ∷ []
+            → shown self.old c es → shown self.new c (es ++ events) }
         ensures names { names self.new ≡ names self.old }
         ensures count { stops self.old ≤ stops self.new }
         ensures cause { result ≡ Heard.Stop → Rose (stops self.old) (stops self.new) }
@@ -64,6 +79,7 @@ pub trait Watcher {
     /// The transition of this number in the run has ended, complete or aborted.
     fn closed(&mut self, transition: u32, complete: bool) -> Heard
         ensures tells { TellsLines (names self.old) (closing_line transition complete ∷ []) (told self.old) (told self.new) result }
+        ensures shown { result ≡ Heard.Go → (c : ClusterOf) (es : List EventOf) → shown self.old c es → shown self.new c es }
         ensures names { names self.new ≡ names self.old }
         ensures count { stops self.old ≤ stops self.new }
         ensures cause { result ≡ Heard.Stop → Rose (stops self.old) (stops self.new) }
@@ -90,6 +106,8 @@ impl Watcher for Unwatched {
     ghost told = { λ _. None };
 
     ghost names = { λ _. None };
+
+    ghost shown = { λ _ _ _. Unit {0} };
 
     ghost stops = { λ _. 0 };
 

@@ -5,6 +5,7 @@ use Rattle.graph_exec.specs.Running.{Running}
 use Rattle.graph_exec.proofs.Closings.{broken, closes_aborted, closes_complete, cut, stops_aborted, stops_amid, stops_complete}
 use Rattle.graph_exec.proofs.Lasts.{watcher_then, watcher_told}
 use Rattle.graph_exec.proofs.Rests.{accords_first, accords_last, leaves_rest, stays_there}
+use Rattle.graph_exec.proofs.Shown.{shown_carried}
 use Rattle.graph_exec.proofs.Whole.{events_in}
 use Rattle.graph_exec.proofs.run.carrying_out.carry_out.Goals as goal
 
@@ -133,3 +134,38 @@ returns-in-Stop-closed-clause-watcher g c =
     let told = c.in-Stop-closed.ensures in
     watcher_then g.V.Watcher g.met.V.Watcher.from_before g.met.V.Watcher.stopped_later _ _ _ _ c.in-Aborted.ensures.watcher
     (watcher_told g.V.Watcher _ _ heard.Stop told.names told.count told.cause told.follows told.stopped)
+
+-- what the watcher has been shown
+
+pub returns-in-Go-clause-shown : goal.returns-in-Go-clause-shown
+returns-in-Go-clause-shown g c h =
+    shown_carried (g.V.Watcher.shown c.args.watcher.now) _ c.args.executor c.run_watched.new.executor c.requires.fresh
+    (stays_there _ _ _ _ _ c.in-Complete.ensures.steps) (λ s. c.in-Go.ensures.shown refl _ _ (c.in-Complete.ensures.shown refl s)) h _
+    (ap (λ (x : JournalOf). x.events) c.into_parts-journal.ensures.journal)
+
+pub returns-in-Go-closed-clause-shown : goal.returns-in-Go-closed-clause-shown
+returns-in-Go-closed-clause-shown g c h =
+    shown_carried (g.V.Watcher.shown c.args.watcher.now) _ c.args.executor c.run_watched.new.executor c.requires.fresh
+    (stays_there _ _ _ _ _ c.in-Aborted.ensures.steps) (λ s. c.in-Go-closed.ensures.shown refl _ _ (c.in-Aborted.ensures.shown refl s)) h _
+    (ap (λ (x : JournalOf). x.events) c.into_parts-journal-in-Go-closed.ensures.journal)
+
+pub returns-in-Stop-clause-shown_at_end : goal.returns-in-Stop-clause-shown_at_end
+returns-in-Stop-clause-shown_at_end g c go h = let f : ⊥ = cc in absurd f
+
+pub returns-in-Stop-closed-clause-shown_at_end : goal.returns-in-Stop-closed-clause-shown_at_end
+returns-in-Stop-closed-clause-shown_at_end g c go h = let f : ⊥ = cc in absurd f
+
+pub returns-in-Stopped-clause-shown_at_end : goal.returns-in-Stopped-clause-shown_at_end
+returns-in-Stopped-clause-shown_at_end g c go h = let f : ⊥ = cc in absurd f
+
+pub returns-in-Unexpected-clause-shown_at_end : goal.returns-in-Unexpected-clause-shown_at_end
+returns-in-Unexpected-clause-shown_at_end g c go h =
+    shown_carried (g.V.Watcher.shown c.args.watcher.now) _ c.args.executor c.run_watched.new.executor c.requires.fresh
+    (stays_there _ _ _ _ _ c.in-Unexpected.ensures.steps.went) (λ s. c.in-Unexpected.ensures.shown refl s) h _
+    (ap events_in c.into_journal-in-Unexpected.ensures)
+
+pub returns-in-SourceFault-clause-shown_at_end : goal.returns-in-SourceFault-clause-shown_at_end
+returns-in-SourceFault-clause-shown_at_end g c go h =
+    shown_carried (g.V.Watcher.shown c.args.watcher.now) _ c.args.executor c.run_watched.new.executor c.requires.fresh
+    (stays_there _ _ _ _ _ c.in-SourceFault.ensures.steps) (λ s. c.in-SourceFault.ensures.shown refl s) h _
+    (ap events_in c.into_journal-in-SourceFault.ensures)

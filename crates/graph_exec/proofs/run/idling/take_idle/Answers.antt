@@ -2,6 +2,7 @@ use Rattle.graph_exec.specs.declared.transition.watcher.Heard.TheVariants as hea
 use Rattle.graph_exec.proofs.Lasts.{watcher_same, watcher_told}
 use Rattle.graph_exec.proofs.LastsNext.{watcher_unanswered}
 use Rattle.graph_exec.proofs.Quiet.{ends_unanswered, is_stopped, is_taken}
+use Rattle.graph_exec.proofs.Shown.{shown_answered, shown_unanswered}
 use Rattle.graph_exec.proofs.run.idling.take_idle.Goals as goal
 
 -- an answer is entered
@@ -45,3 +46,17 @@ returns-in-Err-clause-source g c = rw c.watched.ensures c.in-Err.ensures.source
 pub returns-in-Err-clause-watcher : goal.returns-in-Err-clause-watcher
 returns-in-Err-clause-watcher g c =
     rw c.watched.ensures (watcher_unanswered g.V.Watcher _ _ c.in-Err.end (watcher_same g.V.Watcher g.met.V.Watcher.from_itself _))
+
+-- what the watcher has been shown
+
+pub returns-in-Go-clause-shown : goal.returns-in-Go-clause-shown
+returns-in-Go-clause-shown g c h =
+    shown_answered (g.V.Watcher.shown c.args.watcher.now) _ c.args.journal _ c.in-Ok.taken.answer c.in-Ok.ensures.answered.took
+    (λ events lines before. c.in-Go.ensures.shown refl _ _ events lines before) h
+
+pub returns-in-Stop-clause-shown_at_end : goal.returns-in-Stop-clause-shown_at_end
+returns-in-Stop-clause-shown_at_end g c go h = let f : ⊥ = cc in absurd f
+
+pub returns-in-Err-clause-shown_at_end : goal.returns-in-Err-clause-shown_at_end
+returns-in-Err-clause-shown_at_end g c go h =
+    rw c.watched.ensures (shown_unanswered (g.V.Watcher.shown c.args.watcher.now) c.args.journal _ _ _ _ c.in-Err.end c.in-Err.ensures.unanswered h)

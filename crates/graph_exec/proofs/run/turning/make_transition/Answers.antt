@@ -5,6 +5,7 @@ use Rattle.graph_exec.proofs.Joined.{lacks_memory}
 use Rattle.graph_exec.proofs.Lasts.{source_same, source_then, watcher_same, watcher_then, watcher_told}
 use Rattle.graph_exec.proofs.Ready.{came_begun, comes_behind, ends_behind, has_plan, same_cluster, same_promotions, starts_fresh, stops_begun}
 use Rattle.graph_exec.proofs.Served.{serves_again}
+use Rattle.graph_exec.proofs.Shown.{end_behind, shown_behind, shown_end, shown_there}
 use Rattle.graph_exec.proofs.run.turning.make_transition.Goals as goal
 
 -- no memory is left
@@ -150,3 +151,38 @@ returns-clause-serves g c =
     let p = c.in-Ok.planned in
     rw (c.in-Ok-with-2.ensures.0, c.in-Ok-with.ensures.0)
     (serves_again _ (record { states = c.in-Ok.states; placed = p.placed; graph = p.executor.graph }) _ (rw c.in-Ok-with.ensures.1 at c.carry_out-carried.ensures.graph) c.in-Ok.ensures.serves)
+
+-- what the watcher has been shown
+
+pub returns-in-Stop-clause-shown_at_end : goal.returns-in-Stop-clause-shown_at_end
+returns-in-Stop-clause-shown_at_end g c go h = let stop = rw c.stopped.ensures at go in let f : ⊥ = cc in absurd f
+
+pub returns-in-Err-clause-shown_at_end : goal.returns-in-Err-clause-shown_at_end
+returns-in-Err-clause-shown_at_end g c go h =
+    shown_end (g.V.Watcher.shown c.args.watcher.now) (g.V.Watcher.shown c.planned.new.self) c.args.journal c.in-Ok.planned c.in-Ok.ensures.ready
+    (λ promotions actions plan before. c.in_default-planned.ensures.shown refl _ _ promotions actions plan before)
+    (g.V.Watcher.shown c.carry_out-carried.new.watcher) _ ((rw c.in-Err.ensures at c.carry_out-carried.ensures.shown_at_end) go) h
+
+pub returns-then-not-closed-clause-shown : goal.returns-then-not-closed-clause-shown
+returns-then-not-closed-clause-shown g c h =
+    shown_there (g.V.Watcher.shown c.args.watcher.now) (g.V.Watcher.shown c.planned.new.self) c.args.journal c.in-Ok.planned c.in-Ok.ensures.ready
+    (λ promotions actions plan before. c.in_default-planned.ensures.shown refl _ _ promotions actions plan before)
+    (g.V.Watcher.shown c.carry_out-carried.new.watcher) _ (rw c.in-Ok-with.ensures.1 at c.carry_out-carried.ensures.shown) h
+
+pub returns-clause-shown : goal.returns-clause-shown
+returns-clause-shown g c h =
+    let closed = shown_there (g.V.Watcher.shown c.args.watcher.now) (g.V.Watcher.shown c.planned.new.self) c.args.journal c.in-Ok.planned c.in-Ok.ensures.ready
+    (λ promotions actions plan before. c.in_default-planned.ensures.shown refl _ _ promotions actions plan before)
+    (g.V.Watcher.shown c.carry_out-carried.new.watcher) _ (rw c.in-Ok-with.ensures.1 at c.carry_out-carried.ensures.shown) h in
+    let same = (rw c.in-Ok-with.ensures.1 at c.carry_out-carried.ensures.closes).cluster_stays ∙ same_cluster c.args.journal c.in-Ok.planned c.in-Ok.ensures.ready in
+    shown_behind (g.V.Watcher.shown c.carry_out-carried.new.watcher) (g.V.Watcher.shown c.take_idle-taken.new.watcher) _ _ _ _ same
+    (rw c.in-Ok-with-2.ensures.1 at c.take_idle-taken.ensures.shown) closed
+
+pub returns-in-Err-with-clause-shown_at_end : goal.returns-in-Err-with-clause-shown_at_end
+returns-in-Err-with-clause-shown_at_end g c go h =
+    let closed = shown_there (g.V.Watcher.shown c.args.watcher.now) (g.V.Watcher.shown c.planned.new.self) c.args.journal c.in-Ok.planned c.in-Ok.ensures.ready
+    (λ promotions actions plan before. c.in_default-planned.ensures.shown refl _ _ promotions actions plan before)
+    (g.V.Watcher.shown c.carry_out-carried.new.watcher) _ (rw c.in-Ok-with.ensures.1 at c.carry_out-carried.ensures.shown) h in
+    let same = (rw c.in-Ok-with.ensures.1 at c.carry_out-carried.ensures.closes).cluster_stays ∙ same_cluster c.args.journal c.in-Ok.planned c.in-Ok.ensures.ready in
+    end_behind (g.V.Watcher.shown c.carry_out-carried.new.watcher) (g.V.Watcher.shown c.take_idle-taken.new.watcher) _ _ _ _ same
+    ((rw c.in-Err-with.ensures at c.take_idle-taken.ensures.shown_at_end) go) closed

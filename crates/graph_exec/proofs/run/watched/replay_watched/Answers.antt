@@ -28,6 +28,7 @@ loop-made-init g c = record {
   source = source_same g.S.Outcomes g.met.S.Outcomes.from_itself _;
   agrees = λ h. rw c.in-Ok.ensures.ok h;
   watcher = watcher_same g.V.Watcher g.met.V.Watcher.from_itself _;
+  shown = λ h. rw c.in-Ok.ensures.ok h;
 }
 
 pub make_transition-requires-clause-valid : goal.make_transition-requires-clause-valid
@@ -54,6 +55,7 @@ loop-made-preserved g c =
       source = source_then g.S.Outcomes g.met.S.Outcomes.from_before g.met.S.Outcomes.said_later _ _ _ _ so_far.source now.source;
       agrees = λ h. rw so_far.came.cluster_stays at (now.agrees (rw so_far.came.cluster_stays (so_far.agrees h)));
       watcher = watcher_then g.V.Watcher g.met.V.Watcher.from_before g.met.V.Watcher.stopped_later _ _ _ _ so_far.watcher now.watcher;
+      shown = λ h. rw so_far.came.cluster_stays at (now.shown (rw so_far.came.cluster_stays (so_far.shown h)));
     }
 
 -- the run ends on the way
@@ -92,6 +94,11 @@ pub returns-in-Err-clause-watcher : goal.returns-in-Err-clause-watcher
 returns-in-Err-clause-watcher g c =
     watcher_then g.V.Watcher g.met.V.Watcher.from_before g.met.V.Watcher.stopped_later _ _ _ _ c.loop-made.invariant.watcher c.in-Err.ensures.watcher
 
+pub returns-in-Err-clause-shown : goal.returns-in-Err-clause-shown
+returns-in-Err-clause-shown g c go h =
+    let so_far = c.loop-made.invariant in
+    rw so_far.came.cluster_stays at (c.in-Err.ensures.shown_at_end go (rw so_far.came.cluster_stays (so_far.shown h)))
+
 -- as many transitions were made as are allowed
 
 pub returns-clause-run : goal.returns-clause-run
@@ -111,3 +118,6 @@ returns-clause-kept g c =
 
 pub returns-clause-agrees : goal.returns-clause-agrees
 returns-clause-agrees g c h = rw c.into_journal.ensures (c.loop-made.invariant.agrees h)
+
+pub returns-clause-shown : goal.returns-clause-shown
+returns-clause-shown g c go h = rw c.into_journal.ensures (c.loop-made.invariant.shown h)

@@ -18,4 +18,5 @@ invariant-loop-made g l = record {
   source : SourceLasts g.S.Outcomes l.fn.outcomes l.outcomes none_failed;
   agrees : g.S.Outcomes.agrees l.fn.outcomes l.fn.cluster l.fn.journal.events 0 → g.S.Outcomes.agrees l.outcomes l.fn.cluster l.known.events 0;
   watcher : WatcherLasts g.V.Watcher l.fn.watcher l.watcher heard.Go;
+  shown : g.V.Watcher.shown l.fn.watcher l.fn.cluster l.fn.journal.events → g.V.Watcher.shown l.watcher l.fn.cluster l.known.events;
 }

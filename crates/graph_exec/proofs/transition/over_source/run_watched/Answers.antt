@@ -18,6 +18,7 @@ loop-executor-init g c = record {
   agrees = λ h. h;
   told = told_nothing _ _ _;
   watcher = watcher_same g.V.Watcher g.met.V.Watcher.from_itself _;
+  shown = λ h. h;
 }
 
 -- the watcher stops at a begin
@@ -179,4 +180,16 @@ loop-executor-preserved g c =
           (told_on _ _ _ _ _ _ _ (rw so_far.watcher.names at c.in_default.ensures.told) (rw (begun.watcher.names, so_far.watcher.names) at asked.told));
       watcher = watcher_then g.V.Watcher g.met.V.Watcher.from_before g.met.V.Watcher.stopped_later _ _ _ _ so_far.watcher
           (watcher_then g.V.Watcher g.met.V.Watcher.from_before g.met.V.Watcher.stopped_later _ _ _ _ c.in_default.ensures.watcher asked.watcher);
+      shown = λ h. asked.shown refl (c.in_default.ensures.shown refl (so_far.shown h));
     }
+
+-- what the watcher has been shown
+
+pub returns-in-Stop-clause-shown : goal.returns-in-Stop-clause-shown
+returns-in-Stop-clause-shown g c go h = let f : ⊥ = cc in absurd f
+
+pub returns-then-count-eq0-clause-shown : goal.returns-then-count-eq0-clause-shown
+returns-then-count-eq0-clause-shown g c go h = c.in_default.ensures.shown refl (c.loop-executor.invariant.shown h)
+
+pub returns-in-Some-clause-shown : goal.returns-in-Some-clause-shown
+returns-in-Some-clause-shown g c go h = c.in-Some.ensures.shown go (c.in_default.ensures.shown refl (c.loop-executor.invariant.shown h))

@@ -4,7 +4,7 @@ use Rattle.graph_exec.specs.Lasting.{SourceLasts, WatcherLasts, none_failed}
 use Rattle.graph_exec.specs.Rounds.{asks_left}
 use Rattle.graph_exec.specs.Running.{Went}
 use Rattle.graph_exec.specs.Transitions.{Accords, WentAsSaid}
-use Rattle.graph_exec.specs.Watching.{AreLinesTold}
+use Rattle.graph_exec.specs.Watching.{AreLinesTold, IsShownAll}
 use Rattle.graph_exec.proofs.transition.over_source.run_watched.Given as goal
 
 abbrev pub invariant-loop-executor : goal.invariant-loop-executor
@@ -17,6 +17,7 @@ invariant-loop-executor g l = record {
   agrees : Accords (g.S.Outcomes.agrees l.fn.outcomes) l.fn.executor → Accords (g.S.Outcomes.agrees l.outcomes) l.executor;
   told : AreLinesTold (g.V.Watcher.names l.fn.watcher) l.fn.executor l.executor (g.V.Watcher.told l.fn.watcher) (g.V.Watcher.told l.watcher);
   watcher : WatcherLasts g.V.Watcher l.fn.watcher l.watcher heard.Go;
+  shown : IsShownAll (g.V.Watcher.shown l.fn.watcher) l.fn.executor → IsShownAll (g.V.Watcher.shown l.watcher) l.executor;
 }
 
 abbrev pub decreases-loop-executor : goal.decreases-loop-executor

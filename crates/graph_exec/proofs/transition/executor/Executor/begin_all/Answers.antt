@@ -16,6 +16,7 @@ loop-init g c = record {
   agrees = λ h. h;
   told = told_nothing _ _ _;
   watcher = watcher_same g.V.Watcher g.met.V.Watcher.from_itself _;
+  shown = λ h. h;
 }
 
 pub loop-smaller : goal.loop-smaller
@@ -37,6 +38,7 @@ loop-preserved g c =
       told = told_on _ _ _ _ _ _ _ so_far.told (rw (so_far.watcher.names, c.in-Some-Go.field-0-is) at c.in-Some-Go.ensures.told);
       watcher = watcher_then g.V.Watcher g.met.V.Watcher.from_before g.met.V.Watcher.stopped_later _ _ _ _ so_far.watcher
           (rw c.in-Some-Go.field-0-is at c.in-Some-Go.ensures.watcher);
+      shown = λ h. c.in-Some-Go.ensures.shown c.in-Some-Go.field-0-is (so_far.shown h);
     }
 
 -- none may begin any more
@@ -79,3 +81,11 @@ pub returns-in-Some-Stop-clause-watcher : goal.returns-in-Some-Stop-clause-watch
 returns-in-Some-Stop-clause-watcher g c =
     watcher_then g.V.Watcher g.met.V.Watcher.from_before g.met.V.Watcher.stopped_later _ _ _ _ c.loop.invariant.watcher
     (rw c.in-Some-Stop.field-0-is at c.in-Some-Stop.ensures.watcher)
+
+-- what the watcher has been shown
+
+pub returns-in-None-clause-shown : goal.returns-in-None-clause-shown
+returns-in-None-clause-shown g c go h = c.in-None.ensures.shown refl (c.loop.invariant.shown h)
+
+pub returns-in-Some-Stop-clause-shown : goal.returns-in-Some-Stop-clause-shown
+returns-in-Some-Stop-clause-shown g c go h = let f : ⊥ = cc in absurd f

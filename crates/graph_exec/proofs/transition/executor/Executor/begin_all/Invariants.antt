@@ -4,7 +4,7 @@ use Rattle.graph_exec.specs.Lasting.{SourceLasts, WatcherLasts, none_failed}
 use Rattle.graph_exec.specs.Rounds.{asks_left, begins_left}
 use Rattle.graph_exec.specs.Running.{Went}
 use Rattle.graph_exec.specs.Transitions.{Accords, WentAsSaid}
-use Rattle.graph_exec.specs.Watching.{AreLinesTold}
+use Rattle.graph_exec.specs.Watching.{AreLinesTold, IsShownAll}
 use Rattle.graph_exec.proofs.transition.executor.Executor.begin_all.Given as goal
 
 abbrev pub invariant-loop : goal.invariant-loop
@@ -17,6 +17,7 @@ invariant-loop g l = record {
   agrees : Accords (g.S.Outcomes.agrees l.fn.outcomes) l.fn.self → Accords (g.S.Outcomes.agrees l.outcomes) l.self;
   told : AreLinesTold (g.V.Watcher.names l.fn.watcher) l.fn.self l.self (g.V.Watcher.told l.fn.watcher) (g.V.Watcher.told l.watcher);
   watcher : WatcherLasts g.V.Watcher l.fn.watcher l.watcher heard.Go;
+  shown : IsShownAll (g.V.Watcher.shown l.fn.watcher) l.fn.self → IsShownAll (g.V.Watcher.shown l.watcher) l.self;
 }
 
 abbrev pub decreases-loop : goal.decreases-loop

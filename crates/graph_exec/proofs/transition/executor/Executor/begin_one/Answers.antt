@@ -2,6 +2,7 @@ use Rattle.std.proofs.Common.{◌∙◌}
 use Rattle.graph_exec.proofs.Carrying.{fewer_begins, no_more_asks, went_begun, went_nowhere}
 use Rattle.graph_exec.proofs.Lasts.{source_same, source_told, watcher_same, watcher_told}
 use Rattle.graph_exec.proofs.Said.{said_begun, said_nothing}
+use Rattle.graph_exec.proofs.Shown.{shown_later}
 use Rattle.graph_exec.proofs.Stepping.{begun_action, begun_high}
 use Rattle.graph_exec.proofs.Told.{hears_begin}
 use Rattle.graph_exec.proofs.transition.executor.Executor.begin_one.Goals as goal
@@ -54,3 +55,16 @@ pub returns-clause-watcher : goal.returns-clause-watcher
 returns-clause-watcher g c =
     let told = c.begun-2.ensures in
     watcher_told g.V.Watcher _ _ _ told.names told.count told.cause told.follows told.stopped
+
+-- what the watcher has been shown
+
+pub returns-in_default-clause-shown : goal.returns-in_default-clause-shown
+returns-in_default-clause-shown g c go h = rw c.in_default.ensures.settled.same h
+
+pub returns-clause-shown : goal.returns-clause-shown
+returns-clause-shown g c go h =
+    let begins = c.in-Some.ensures.begins in
+    let graph = rw c.self.view_is at c.flight.ensures.graph in
+    let action = begun_action _ _ c.in-Some.number begins c.action-action.result (rw (c.graph.ensures ∙ graph) at c.action-action.ensures) in
+    shown_later (g.V.Watcher.shown c.args.watcher.now) (g.V.Watcher.shown c.begun-2.new.self) _ _ _ begins.goes_on
+    (λ before. rw action (c.begun-2.ensures.shown go _ _ before)) h

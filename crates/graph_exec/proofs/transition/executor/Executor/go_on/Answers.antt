@@ -1,6 +1,7 @@
 use Rattle.graph_exec.specs.declared.transition.watcher.Heard.TheVariants as heard
 use Rattle.graph_exec.proofs.Carrying.{advanced, ends_by, gone_by, same_by, still_going, went_answered}
 use Rattle.graph_exec.proofs.Lasts.{watcher_same, watcher_told, watcher_untold}
+use Rattle.graph_exec.proofs.Shown.{shown_later}
 use Rattle.graph_exec.proofs.Told.{hears_answer, hears_none}
 use Rattle.graph_exec.proofs.transition.executor.Executor.go_on.Goals as goal
 
@@ -50,3 +51,17 @@ returns-in-Err-clause-told g c = hears_none _ _ _ _ _ _ _ c.in-Err.end c.in-Err.
 pub returns-in-Err-clause-watcher : goal.returns-in-Err-clause-watcher
 returns-in-Err-clause-watcher g c =
     watcher_untold g.V.Watcher _ _ _ _ _ _ _ c.in-Err.end c.in-Err.ensures.stops (watcher_same g.V.Watcher g.met.V.Watcher.from_itself c.args.watcher.now)
+
+-- what the watcher has been shown
+
+pub returns-in-Go-clause-shown : goal.returns-in-Go-clause-shown
+returns-in-Go-clause-shown g c go h =
+    let answered = c.in-Ok.ensures.answered in
+    shown_later (g.V.Watcher.shown c.args.watcher.now) (g.V.Watcher.shown c.taken.new.self) _ _ answered.events answered.goes_on
+    (λ before. c.in-Go.ensures.shown refl _ _ answered.events answered.lines before) h
+
+pub returns-in-Stop-clause-shown : goal.returns-in-Stop-clause-shown
+returns-in-Stop-clause-shown g c go h = let f : ⊥ = cc in absurd f
+
+pub returns-in-Err-clause-shown : goal.returns-in-Err-clause-shown
+returns-in-Err-clause-shown g c go h = rw (same_by _ _ _ _ _ c.in-Err.end c.in-Err.ensures.stops) h
