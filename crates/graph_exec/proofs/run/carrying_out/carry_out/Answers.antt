@@ -139,13 +139,13 @@ returns-in-Stop-closed-clause-watcher g c =
 
 pub returns-in-Go-clause-shown : goal.returns-in-Go-clause-shown
 returns-in-Go-clause-shown g c h =
-    shown_carried (g.V.Watcher.shown c.args.watcher.now) _ c.args.executor c.run_watched.new.executor c.requires.fresh
+    shown_carried (g.V.Watcher.shown c.args.watcher.now) (g.V.Watcher.shown c.closed.new.self) c.args.executor c.run_watched.new.executor c.requires.fresh
     (stays_there _ _ _ _ _ c.in-Complete.ensures.steps) (λ s. c.in-Go.ensures.shown refl _ _ (c.in-Complete.ensures.shown refl s)) h _
     (ap (λ (x : JournalOf). x.events) c.into_parts-journal.ensures.journal)
 
 pub returns-in-Go-closed-clause-shown : goal.returns-in-Go-closed-clause-shown
 returns-in-Go-closed-clause-shown g c h =
-    shown_carried (g.V.Watcher.shown c.args.watcher.now) _ c.args.executor c.run_watched.new.executor c.requires.fresh
+    shown_carried (g.V.Watcher.shown c.args.watcher.now) (g.V.Watcher.shown c.closed-in-Aborted.new.self) c.args.executor c.run_watched.new.executor c.requires.fresh
     (stays_there _ _ _ _ _ c.in-Aborted.ensures.steps) (λ s. c.in-Go-closed.ensures.shown refl _ _ (c.in-Aborted.ensures.shown refl s)) h _
     (ap (λ (x : JournalOf). x.events) c.into_parts-journal-in-Go-closed.ensures.journal)
 
@@ -160,12 +160,12 @@ returns-in-Stopped-clause-shown_at_end g c go h = let f : ⊥ = cc in absurd f
 
 pub returns-in-Unexpected-clause-shown_at_end : goal.returns-in-Unexpected-clause-shown_at_end
 returns-in-Unexpected-clause-shown_at_end g c go h =
-    shown_carried (g.V.Watcher.shown c.args.watcher.now) _ c.args.executor c.run_watched.new.executor c.requires.fresh
+    shown_carried (g.V.Watcher.shown c.args.watcher.now) (g.V.Watcher.shown c.run_watched.new.watcher) c.args.executor c.run_watched.new.executor c.requires.fresh
     (stays_there _ _ _ _ _ c.in-Unexpected.ensures.steps.went) (λ s. c.in-Unexpected.ensures.shown refl s) h _
     (ap events_in c.into_journal-in-Unexpected.ensures)
 
 pub returns-in-SourceFault-clause-shown_at_end : goal.returns-in-SourceFault-clause-shown_at_end
 returns-in-SourceFault-clause-shown_at_end g c go h =
-    shown_carried (g.V.Watcher.shown c.args.watcher.now) _ c.args.executor c.run_watched.new.executor c.requires.fresh
+    shown_carried (g.V.Watcher.shown c.args.watcher.now) (g.V.Watcher.shown c.run_watched.new.watcher) c.args.executor c.run_watched.new.executor c.requires.fresh
     (stays_there _ _ _ _ _ c.in-SourceFault.ensures.steps) (λ s. c.in-SourceFault.ensures.shown refl s) h _
     (ap events_in c.into_journal-in-SourceFault.ensures)

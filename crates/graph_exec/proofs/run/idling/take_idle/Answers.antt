@@ -1,3 +1,4 @@
+use Rattle.std.proofs.Common.{refl}
 use Rattle.graph_exec.specs.declared.transition.watcher.Heard.TheVariants as heard
 use Rattle.graph_exec.proofs.Lasts.{watcher_same, watcher_told}
 use Rattle.graph_exec.proofs.LastsNext.{watcher_unanswered}
@@ -51,7 +52,7 @@ returns-in-Err-clause-watcher g c =
 
 pub returns-in-Go-clause-shown : goal.returns-in-Go-clause-shown
 returns-in-Go-clause-shown g c h =
-    shown_answered (g.V.Watcher.shown c.args.watcher.now) _ c.args.journal _ c.in-Ok.taken.answer c.in-Ok.ensures.answered.took
+    shown_answered (g.V.Watcher.shown c.args.watcher.now) (g.V.Watcher.shown c.taken.new.self) c.args.journal _ c.in-Ok.taken.answer c.in-Ok.ensures.answered.took
     (λ events lines before. c.in-Go.ensures.shown refl _ _ events lines before) h
 
 pub returns-in-Stop-clause-shown_at_end : goal.returns-in-Stop-clause-shown_at_end

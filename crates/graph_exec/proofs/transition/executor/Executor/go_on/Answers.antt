@@ -1,3 +1,4 @@
+use Rattle.std.proofs.Common.{refl}
 use Rattle.graph_exec.specs.declared.transition.watcher.Heard.TheVariants as heard
 use Rattle.graph_exec.proofs.Carrying.{advanced, ends_by, gone_by, same_by, still_going, went_answered}
 use Rattle.graph_exec.proofs.Lasts.{watcher_same, watcher_told, watcher_untold}
