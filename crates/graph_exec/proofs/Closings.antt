@@ -22,7 +22,7 @@ use Rattle.graph_exec.proofs.Beginning.{found_so}
 use Rattle.graph_exec.proofs.Said.{taken_none}
 use Rattle.run_safety.proofs.SoFar.{runs_once}
 use Rattle.graph_exec.specs.Replays.{Setting, setting, sight}
-use Rattle.graph_exec.specs.Turns.{HasComeTo, CameTo, EndsBroken, RunEndsCut, EndsStopped, closed_at, left_of}
+use Rattle.graph_exec.specs.Inner.Turns.{HasComeTo, CameTo, EndsBroken, RunEndsCut, EndsStopped, closed_at, left_of}
 use Rattle.graph_exec.proofs.Joined.{came_on, came_step}
 use Rattle.graph_exec.proofs.Steps.{came_carried, part_runs, part_said, part_told}
 

@@ -20,7 +20,7 @@ use Rattle.cluster_types.specs.Journals.{ends_number, moment_of}
 use Rattle.cluster_types.specs.Steps.{Begins, EndsSilently, begins_number, ended, answer_events, flight, flying, has_begun, has_ended, is_from_outside, is_in_flight_number, numbers, outside, silent_code}
 use Rattle.cluster_types.proofs.StepLaws.{not_begun}
 use Rattle.run_safety.proofs.InFlight.{number_within}
-use Rattle.graph_exec.specs.Rounds.{begins_left, ends_left, asks_left}
+use Rattle.graph_exec.specs.Inner.Rounds.{begins_left, ends_left, asks_left}
 use Rattle.graph_exec.specs.Running.{Running, all_gone, going}
 use Rattle.graph_exec.specs.Running as running
 use Rattle.graph_exec.proofs.Flying.{ended_of, flying_is}

@@ -15,7 +15,7 @@ use Rattle.run_safety.proofs.SoFar.{runs_joined, runs_once}
 use Rattle.graph_exec.specs.declared.run.stop.ReplayStop.{ReplayStop}
 use Rattle.graph_exec.specs.declared.run.stop.ReplayStop.TheVariants as stop
 use Rattle.graph_exec.specs.Replays.{Setting, Sight}
-use Rattle.graph_exec.specs.Turns.{HasComeTo, RunEndsAs, RunEndsBetween, IsSaid}
+use Rattle.graph_exec.specs.Inner.Turns.{HasComeTo, RunEndsAs, RunEndsBetween, IsSaid}
 
 module _ (s : Setting) where
   -- nothing is a part too

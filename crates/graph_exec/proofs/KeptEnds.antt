@@ -29,10 +29,10 @@ use Rattle.run_safety.proofs.Rests.{at_rest, in_order}
 use Rattle.run_safety.proofs.SoFar.{runs_joined, runs_once}
 use Rattle.graph_exec.specs.declared.run.run_ending.RunEnd.{RunEnd}
 use Rattle.graph_exec.specs.declared.run.run_ending.RunEnd.TheVariants as run
-use Rattle.graph_exec.specs.Keeping.{IsUnanswered, KeepsPassed, KeepsEnd, KeepsTo, kept_end, watched_end}
+use Rattle.graph_exec.specs.Inner.Keeping.{IsUnanswered, KeepsPassed, KeepsEnd, KeepsTo, kept_end, watched_end}
 use Rattle.graph_exec.specs.Kept.{IsExpectedRun, IsPassedOfPlan, KeepsAs, KeepsPlans, OfRun}
 use Rattle.graph_exec.specs.Replays.{Setting, AgreesWith, IsReplayExpected, IsJournalKept, OfJournal}
-use Rattle.graph_exec.specs.Turns.{IsSaid, journal_back, plain_of}
+use Rattle.graph_exec.specs.Inner.Turns.{IsSaid, journal_back, plain_of}
 use Rattle.graph_exec.proofs.Joined.{said_none, said_then}
 use Rattle.graph_exec.proofs.KeptPlans.{each_more, within_each}
 use Rattle.graph_exec.proofs.Quiet.{stays_said}

@@ -35,10 +35,10 @@ use Rattle.run_safety.proofs.SoFar.{runs_joined, runs_once}
 use Rattle.graph_exec.specs.declared.run.run_ending.RunEnd.{RunEnd}
 use Rattle.graph_exec.specs.declared.run.idling.Taken.{Taken}
 use Rattle.graph_exec.specs.declared.run.planning.Planned.{Planned}
-use Rattle.graph_exec.specs.Keeping.{IsAnswered, IsUnanswered, KeepsPassed, KeepsCut, KeepsEnd, KeepsSoFar, KeepsTo}
+use Rattle.graph_exec.specs.Inner.Keeping.{IsAnswered, IsUnanswered, KeepsPassed, KeepsCut, KeepsEnd, KeepsSoFar, KeepsTo}
 use Rattle.graph_exec.specs.Kept.{IsPassedOfPlan, StandsSo}
 use Rattle.graph_exec.specs.Replays.{Setting, setting}
-use Rattle.graph_exec.specs.Turns.{IsReady, IsSaid, left_of}
+use Rattle.graph_exec.specs.Inner.Turns.{IsReady, IsSaid, left_of}
 use Rattle.graph_exec.proofs.Joined.{said_then}
 use Rattle.graph_exec.proofs.KeptEnds.{kept_answered, kept_unanswered}
 use Rattle.graph_exec.proofs.KeptPlans.{each_more, newly_of_plan, passed_by, within_each}

@@ -11,7 +11,7 @@ use Rattle.graph_exec.specs.declared.transition.watcher.Heard.{Heard}
 use Rattle.graph_exec.specs.declared.transition.watcher.Heard.TheVariants as heard
 use Rattle.graph_exec.specs.declared.transition.watcher.Watcher.{Ghosts as WatcherOf}
 use Rattle.graph_exec.specs.Lasting.{LastWord, none_failed, word_is, word_open, HasSourceCome, IsFailureCounted, IsStopCounted, SourceLasts, WatcherLasts, transition_word}
-use Rattle.graph_exec.specs.Rounds.{StopsAs}
+use Rattle.graph_exec.specs.Inner.Rounds.{StopsAs}
 use Rattle.graph_exec.specs.Running.{Running}
 use Rattle.graph_exec.specs.Saying.{IsOverBy}
 use Rattle.graph_exec.specs.Transitions.{HasGoneToEnd}

@@ -6,7 +6,7 @@ use Rattle.std.specs.Prelude.{List}
 use Rattle.graph_exec.specs.declared.transition.outcomes.Outcomes.{Ghosts as OutcomesOf}
 use Rattle.graph_exec.specs.declared.transition.watcher.Heard.TheVariants as heard
 use Rattle.graph_exec.specs.declared.transition.watcher.Watcher.{Ghosts as WatcherOf}
-use Rattle.graph_exec.specs.Keeping.{end_word, kept_end, watched_end}
+use Rattle.graph_exec.specs.Inner.Keeping.{end_word, kept_end, watched_end}
 use Rattle.graph_exec.specs.Kept.{kept_word}
 use Rattle.graph_exec.specs.Lasting.{none_failed, SourceLasts, WatcherLasts}
 use Rattle.graph_exec.specs.Replays.{replay_heard, replay_word}

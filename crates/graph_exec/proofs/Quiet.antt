@@ -18,9 +18,9 @@ use Rattle.graph_exec.proofs.Told.{adds_nothing}
 use Rattle.run_safety.proofs.SoFar.{runs_once}
 use Rattle.graph_exec.specs.declared.run.run_ending.RunEnd.{RunEnd}
 use Rattle.graph_exec.specs.declared.run.run_ending.RunEnd.TheVariants as run
-use Rattle.graph_exec.specs.Keeping.{HasRestingFailed, IsAnswered, IsRestingRefused, IsSilent, IsUnanswered, watched_end}
+use Rattle.graph_exec.specs.Inner.Keeping.{HasRestingFailed, IsAnswered, IsRestingRefused, IsSilent, IsUnanswered, watched_end}
 use Rattle.graph_exec.specs.Replays.{Setting, setting, sight}
-use Rattle.graph_exec.specs.Turns.{HasComeTo, CameTo, RunEndsAs, EndsBroken, RunEndsCut, EndsStopped, EndsWhole, IsSaid, plain_of}
+use Rattle.graph_exec.specs.Inner.Turns.{HasComeTo, CameTo, RunEndsAs, EndsBroken, RunEndsCut, EndsStopped, EndsWhole, IsSaid, plain_of}
 use Rattle.graph_exec.proofs.Joined.{came_step, said_none}
 
 -- where nothing more is said, the answers to come stay as they were

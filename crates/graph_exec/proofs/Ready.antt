@@ -22,7 +22,7 @@ use Rattle.graph_exec.proofs.Told.{adds_nothing}
 use Rattle.graph_exec.specs.declared.run.planning.Planned.{Planned}
 use Rattle.graph_exec.specs.declared.run.stop.ReplayStop.{ReplayStop}
 use Rattle.graph_exec.specs.Replays.{Setting, Sight, WritesNamesOf, setting, sight}
-use Rattle.graph_exec.specs.Turns.{HasComeTo, CameTo, RunEndsAs, EndsStopped, HasPlannedGraph, IsReady, fresh_on, left_of}
+use Rattle.graph_exec.specs.Inner.Turns.{HasComeTo, CameTo, RunEndsAs, EndsStopped, HasPlannedGraph, IsReady, fresh_on, left_of}
 use Rattle.graph_exec.proofs.Joined.{came_on, ends_on}
 use Rattle.graph_exec.proofs.Named.{reasons_named}
 use Rattle.graph_exec.proofs.Rests.{accords_first, accords_last, stays_there}

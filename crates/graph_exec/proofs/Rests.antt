@@ -16,7 +16,7 @@ use Rattle.graph_exec.specs.Promises.{IsGraphPlanned}
 use Rattle.graph_exec.specs.Running.{Running, Went, known_of}
 use Rattle.graph_exec.specs.Saying.{AgreesOn}
 use Rattle.graph_exec.specs.Transitions.{Accords}
-use Rattle.graph_exec.specs.Turns.{HasPlannedGraph}
+use Rattle.graph_exec.specs.Inner.Turns.{HasPlannedGraph}
 
 pub none_in_flight : (es : List Event) (flight : List (ℕ × Action)) → in_flight es ≡ [] → flight ≡ [] → IsFlight es flight
 none_in_flight es flight idle none = rw none (record {

@@ -7,7 +7,7 @@ use Rattle.cluster_types.specs.Sources.{Says, told, used_up, untold}
 use Rattle.cluster_types.specs.Steps.{Transition, StepsOn, begins, takes, is_silent, Goes, here, one_more}
 use Rattle.graph_exec.specs.declared.transition.ends.WatchedEnd.{WatchedEnd}
 use Rattle.graph_exec.specs.declared.transition.ends.WatchedEnd.TheVariants as how
-use Rattle.graph_exec.specs.Rounds.{Began}
+use Rattle.graph_exec.specs.Inner.Rounds.{Began}
 use Rattle.graph_exec.specs.Running.{Running, Took, Went, going}
 use Rattle.graph_exec.specs.Saying.{TakesAnswers}
 use Rattle.graph_exec.specs.Transitions.{HasGoneToEnd, HasSaidAll, WentAsSaid}

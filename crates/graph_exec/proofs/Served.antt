@@ -10,7 +10,7 @@ use Rattle.cluster_types.specs.Plans.{CarriesOut}
 use Rattle.cluster_types.specs.Unpacked.{states_of}
 use Rattle.planner.specs.Planned.{AreTold, IsPlanned}
 use Rattle.graph_exec.specs.declared.run.planning.KeptPlan.{KeptPlan}
-use Rattle.graph_exec.specs.Turns.{Serves}
+use Rattle.graph_exec.specs.Inner.Turns.{Serves}
 
 -- a plan that was made for some states
 module _ (c : Cluster) (states : States) (plan : Plan) (told : AreTold c states)

@@ -16,12 +16,12 @@ use Rattle.graph_exec.specs.declared.run.planning.Planned.{Planned}
 use Rattle.graph_exec.specs.declared.run.run_ending.RunEnd.{RunEnd}
 use Rattle.graph_exec.specs.declared.run.run_ending.RunEnd.TheVariants as run
 use Rattle.graph_exec.specs.declared.run.stop.ReplayStop.{ReplayStop}
-use Rattle.graph_exec.specs.Keeping.{IsUnanswered, watched_end}
+use Rattle.graph_exec.specs.Inner.Keeping.{IsUnanswered, watched_end}
 use Rattle.graph_exec.specs.Logs.{JournalOf}
 use Rattle.graph_exec.specs.Replays.{IsShownJournal, OfJournal}
 use Rattle.graph_exec.specs.Resting.{TookResting}
 use Rattle.graph_exec.specs.Running.{Running, later}
-use Rattle.graph_exec.specs.Turns.{IsReady}
+use Rattle.graph_exec.specs.Inner.Turns.{IsReady}
 use Rattle.graph_exec.specs.Watching.{IsShownAll}
 use Rattle.graph_exec.proofs.Ready.{carries, same_cluster}
 use Rattle.run_safety.proofs.Printed.{answer_line}

@@ -25,7 +25,7 @@ use Rattle.graph_exec.proofs.Said.{goes_more, taken_none}
 use Rattle.run_safety.proofs.OneTransition.{goes_runs}
 use Rattle.run_safety.proofs.SoFar.{runs_once}
 use Rattle.graph_exec.specs.Replays.{Setting, WritesNamesOf, sight}
-use Rattle.graph_exec.specs.Turns.{HasComeTo, IsSaid}
+use Rattle.graph_exec.specs.Inner.Turns.{HasComeTo, IsSaid}
 use Rattle.graph_exec.proofs.Joined.{came_step}
 
 -- the lines of a plan, by the names of the cluster

@@ -15,7 +15,7 @@ use Rattle.graph_exec.specs.declared.transition.ends.WatchedEnd.{WatchedEnd}
 use Rattle.graph_exec.specs.declared.transition.ends.WatchedEnd.TheVariants as how
 use Rattle.graph_exec.specs.declared.transition.watcher.Heard.{Heard}
 use Rattle.graph_exec.specs.declared.transition.watcher.Heard.TheVariants as heard
-use Rattle.graph_exec.specs.Rounds.{Answered, StopsAs}
+use Rattle.graph_exec.specs.Inner.Rounds.{Answered, StopsAs}
 use Rattle.graph_exec.specs.Running.{Running, BeginsNow, Went, going, later}
 use Rattle.graph_exec.specs.Telling.{TellsLines, text_of}
 use Rattle.graph_exec.specs.Transitions.{HasGoneToEnd}

@@ -18,7 +18,7 @@ use Rattle.run_safety.proofs.SoFar.{runs_more}
 use Rattle.graph_exec.specs.declared.run.stop.ReplayStop.{ReplayStop}
 use Rattle.graph_exec.specs.declared.run.stop.ReplayStop.TheVariants as stop
 use Rattle.graph_exec.specs.Replays.{Setting, Sight, IsBetweenTwo, IsJournalKept, IsUpTo, OfJournal, ReplaysAs, setting}
-use Rattle.graph_exec.specs.Turns.{HasComeTo, CameTo, RunEndsAs, journal_back}
+use Rattle.graph_exec.specs.Inner.Turns.{HasComeTo, CameTo, RunEndsAs, journal_back}
 use Rattle.graph_exec.proofs.Joined.{came_nowhere}
 
 pub asks_still : (c : Cluster) (promotions : List Promotion) (one other : Bool) (at : RunStanding) → IsAsking c promotions one at → IsAsking c promotions other at

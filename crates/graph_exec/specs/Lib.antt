@@ -1,3 +1,4 @@
+pub mod Inner
 pub mod Ready
 pub mod Freed
 pub mod Logs
@@ -11,8 +12,5 @@ pub mod Watching
 pub mod Lasting
 pub mod Transitions
 pub mod Promises
-pub mod Rounds
 pub mod Replays
 pub mod Kept
-pub mod Turns
-pub mod Keeping

@@ -6,7 +6,7 @@ ghost use Rattle.cluster_types.specs.Safety.{IsAtRest};
 ghost use Rattle.graph_exec.specs.Lasting.{SourceLasts, WatcherLasts};
 ghost use Rattle.graph_exec.specs.Running.{going};
 ghost use Rattle.graph_exec.specs.Replays.{AgreesWith, IsReplayExpected, IsShownJournal, OfJournal, WritesNamesOf, setting, sight};
-ghost use Rattle.graph_exec.specs.Turns.{CameTo, RunEndsAs, HasPlannedGraph, closed_at, part_heard, part_word};
+ghost use Rattle.graph_exec.specs.Inner.Turns.{CameTo, RunEndsAs, HasPlannedGraph, closed_at, part_heard, part_word};
 
 use crate::run::stop::{Ended, ReplayStop};
 use crate::{Executor, Heard, KnownJournal, Outcomes, Parts, WatchedEnd, Watcher, run_watched};

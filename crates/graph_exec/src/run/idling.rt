@@ -3,10 +3,10 @@
 ghost use Rattle.std.specs.Prelude.{◌≡◌, ◌+◌, [], true, IfOk, IfErr};
 ghost use Rattle.cluster_types.specs.Journals.{in_flight};
 ghost use Rattle.cluster_types.specs.Runs.{due, idle};
-ghost use Rattle.graph_exec.specs.Keeping.{IsAnswered, IsUnanswered, idle_word, watched_end};
+ghost use Rattle.graph_exec.specs.Inner.Keeping.{IsAnswered, IsUnanswered, idle_word, watched_end};
 ghost use Rattle.graph_exec.specs.Lasting.{SourceLasts, WatcherLasts};
 ghost use Rattle.graph_exec.specs.Replays.{AgreesWith, IsReplayExpected, IsShownJournal, OfJournal, setting, sight};
-ghost use Rattle.graph_exec.specs.Turns.{CameTo, RunEndsAs, part_heard, part_word};
+ghost use Rattle.graph_exec.specs.Inner.Turns.{CameTo, RunEndsAs, part_heard, part_word};
 
 use crate::run::run_ending::RunEnd;
 use crate::run::stop::{Ended, ReplayStop};

@@ -5,7 +5,7 @@ ghost use Rattle.cluster_types.specs.Safety.{IsAtRest};
 ghost use Rattle.cluster_types.specs.Unpacked.{states_of};
 ghost use Rattle.cluster_types.specs.Valid.{IsValid};
 ghost use Rattle.planner.specs.Planned.{AreTold};
-ghost use Rattle.graph_exec.specs.Turns.{IsReady, Serves, ServesAgain, fresh_on};
+ghost use Rattle.graph_exec.specs.Inner.Turns.{IsReady, Serves, ServesAgain, fresh_on};
 
 use crate::run::same_states::are_same;
 use crate::{Executor, KnownJournal};

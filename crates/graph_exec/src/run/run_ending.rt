@@ -1,7 +1,7 @@
 //! How a run ends that no watcher stops.
 
 ghost use Rattle.std.specs.Prelude.{◌≡◌};
-ghost use Rattle.graph_exec.specs.Keeping.{kept_end, watched_end};
+ghost use Rattle.graph_exec.specs.Inner.Keeping.{kept_end, watched_end};
 
 use crate::run::stop::{Ended, ReplayEnd, ReplayStop};
 use cluster_types::{Answer, Journal, Passed, Run};

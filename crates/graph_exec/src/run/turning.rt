@@ -7,7 +7,7 @@ ghost use Rattle.cluster_types.specs.Valid.{IsValid};
 ghost use Rattle.graph_exec.specs.declared.run.stop.ReplayStop.TheVariants.{Stopped};
 ghost use Rattle.graph_exec.specs.Lasting.{SourceLasts, WatcherLasts};
 ghost use Rattle.graph_exec.specs.Replays.{AgreesWith, IsReplayExpected, IsShownJournal, OfJournal, WritesNamesOf, setting, sight};
-ghost use Rattle.graph_exec.specs.Turns.{CameTo, RunEndsAs, Serves, left_of, part_heard, part_word};
+ghost use Rattle.graph_exec.specs.Inner.Turns.{CameTo, RunEndsAs, Serves, left_of, part_heard, part_word};
 
 use crate::run::carrying_out::carry_out;
 use crate::run::idling::take_idle;

@@ -3,7 +3,7 @@
 ghost use Rattle.std.specs.Prelude.{◌≡◌, ◌<◌, ◌≤◌, ◌+◌, true, false, IfSome, IfNone, IfOk, IfErr, OnOk, unwrap_or};
 ghost use Rattle.cluster_types.specs.Steps.{IsWaiting, is_settled};
 ghost use Rattle.graph_exec.specs.Lasting.{SourceLasts, WatcherLasts, none_failed};
-ghost use Rattle.graph_exec.specs.Rounds.{Advanced, Answered, StopsAs, asked_word, asks_left, begins_left, round_word};
+ghost use Rattle.graph_exec.specs.Inner.Rounds.{Advanced, Answered, StopsAs, asked_word, asks_left, begins_left, round_word};
 ghost use Rattle.graph_exec.specs.Running.{IsUnderWay, Went, going};
 ghost use Rattle.graph_exec.specs.Transitions.{Accords, EndsAs, GoneTo, HasGoneToEnd, IsExpected, WentAsSaid};
 ghost use Rattle.graph_exec.specs.Watching.{Hears, IsShownAll, heard_in};

@@ -1,7 +1,7 @@
 use Rattle.std.proofs.Common.{ap, length, refl, ◌∙◌}
 use Rattle.graph_exec.specs.declared.transition.ends.End.{End}
 use Rattle.graph_exec.specs.Logs.{JournalOf}
-use Rattle.graph_exec.specs.Keeping.{passed_end}
+use Rattle.graph_exec.specs.Inner.Keeping.{passed_end}
 use Rattle.graph_exec.proofs.Lasts.{source_open, source_same, source_then}
 use Rattle.graph_exec.proofs.LastsNext.{source_keeping}
 use Rattle.graph_exec.proofs.KeptTurns.{ends_cut, ends_failed, ends_unanswered_there, goes_on_aborted, goes_on_answered}

@@ -1,6 +1,6 @@
 use Rattle.std.proofs.Common.{length, ◌≡◌}
 use Rattle.std.specs.Prelude.{None}
-use Rattle.graph_exec.specs.Keeping.{KeepsTo}
+use Rattle.graph_exec.specs.Inner.Keeping.{KeepsTo}
 use Rattle.graph_exec.specs.Lasting.{SourceLasts, none_failed}
 use Rattle.graph_exec.specs.Replays.{setting}
 use Rattle.graph_exec.proofs.run.kept.replay.Given as goal

@@ -3,7 +3,7 @@ use Rattle.cluster_types.specs.Runs.{due}
 use Rattle.graph_exec.specs.declared.transition.watcher.Heard.TheVariants as heard
 use Rattle.graph_exec.specs.Lasting.{SourceLasts, WatcherLasts, none_failed}
 use Rattle.graph_exec.specs.Replays.{setting, sight}
-use Rattle.graph_exec.specs.Turns.{CameTo, Serves}
+use Rattle.graph_exec.specs.Inner.Turns.{CameTo, Serves}
 use Rattle.graph_exec.proofs.run.watched.replay_watched.Given as goal
 
 abbrev pub invariant-loop-made : goal.invariant-loop-made

@@ -1,7 +1,7 @@
 use Rattle.std.proofs.Common.{true, false, ◌≡◌, ◌≤◌, ◌+◌}
 use Rattle.graph_exec.specs.declared.transition.watcher.Heard.TheVariants as heard
 use Rattle.graph_exec.specs.Lasting.{SourceLasts, WatcherLasts, none_failed}
-use Rattle.graph_exec.specs.Rounds.{asks_left}
+use Rattle.graph_exec.specs.Inner.Rounds.{asks_left}
 use Rattle.graph_exec.specs.Running.{Went}
 use Rattle.graph_exec.specs.Transitions.{Accords, WentAsSaid}
 use Rattle.graph_exec.specs.Watching.{AreLinesTold, IsShownAll}

@@ -26,7 +26,7 @@ use Rattle.graph_exec.specs.declared.run.stop.ReplayStop.{ReplayStop}
 use Rattle.graph_exec.specs.declared.run.stop.ReplayStop.TheVariants as stop
 use Rattle.graph_exec.specs.Kept.{IsPassedOfPlan}
 use Rattle.graph_exec.specs.Replays.{Setting, replay_word}
-use Rattle.graph_exec.specs.Turns.{IsSaid, journal_back, plain_of}
+use Rattle.graph_exec.specs.Inner.Turns.{IsSaid, journal_back, plain_of}
 
 -- as the end of a run that was watched
 abbrev pub watched_end : RunEnd → Result Journal ReplayStop
