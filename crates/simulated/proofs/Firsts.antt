@@ -20,7 +20,7 @@ use Rattle.simulated.specs.declared.real.Standing.TheVariants as standing
 use Rattle.cases.specs.Draws.{state_after}
 use Rattle.simulated.specs.Kept.{Holds, HoldsNodes, ShowsWorld, reality}
 use Rattle.simulated.specs.RealWorlds.{Cells, first_real, first_world, is_rising, standing_by}
-use Rattle.simulated.specs.Firsts.{IsFilled}
+use Rattle.simulated.specs.Inner.Firsts.{IsFilled}
 use Rattle.simulated.proofs.Hearing.{place_within}
 
 -- one element more is found where the list ended

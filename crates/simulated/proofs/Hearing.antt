@@ -10,7 +10,7 @@ use Rattle.cluster_types.specs.CellStates.{last_outcome}
 use Rattle.cluster_types.specs.Failures.{is_outcome}
 use Rattle.cluster_types.proofs.TableCells.{ordered, same_place, get-at, same_cell}
 use Rattle.state_unpack.proofs.MoreFacts.{seen-after}
-use Rattle.simulated.specs.Firsts.{HearsOutcomes, IsSaidOf}
+use Rattle.simulated.specs.Inner.Firsts.{HearsOutcomes, IsSaidOf}
 
 module _ (c : Cluster) where
   -- the place of a cell that is there

@@ -1,7 +1,7 @@
+pub mod Inner
 pub mod Worlds
 pub mod WorldLaws
 pub mod Moments
-pub mod Firsts
 pub mod RealWorlds
 pub mod Turns
 pub mod Lives

@@ -9,7 +9,7 @@ ghost use Rattle.state_unpack.specs.CellsKept.{has_few_monitors};
 ghost use Rattle.state_unpack.specs.Known.{Knows};
 ghost use Rattle.simulated.specs.Kept.{Holds, HoldsNodes, ShowsWorld};
 ghost use Rattle.simulated.specs.RealWorlds as worlds;
-ghost use Rattle.simulated.specs.Firsts.{HearsOutcomes, IsFilled};
+ghost use Rattle.simulated.specs.Inner.Firsts.{HearsOutcomes, IsFilled};
 
 use crate::heard::heard_of;
 use crate::{Real, Reality, Standing};

@@ -4,7 +4,7 @@ ghost use Rattle.std.specs.Prelude.{◌≡◌, ◌*◌, ◌==◌, ◌++◌, ◌�
 ghost use Rattle.cluster_types.specs.declared.journal.Event.{Event as EventOf};
 ghost use Rattle.cluster_types.specs.Cells as cells;
 ghost use Rattle.cluster_types.specs.Valid.{KeepsLimits};
-ghost use Rattle.simulated.specs.Firsts.{HearsOutcomes, IsSaidOf};
+ghost use Rattle.simulated.specs.Inner.Firsts.{HearsOutcomes, IsSaidOf};
 
 use cluster_types::{Action, Cluster, Event, LeafId, NodeId, cell_place};
 use state_unpack::is_ignored;

@@ -3,7 +3,7 @@ use Rattle.cluster_types.specs.Journals.{last_sign}
 use Rattle.state_unpack.specs.Known.{Knows}
 use Rattle.simulated.specs.Kept.{Holds, HoldsNodes}
 use Rattle.simulated.specs.RealWorlds.{first_real, standing_by}
-use Rattle.simulated.specs.Firsts.{HearsOutcomes}
+use Rattle.simulated.specs.Inner.Firsts.{HearsOutcomes}
 use Rattle.simulated.proofs.Firsts.{first_shows}
 use Rattle.simulated.proofs.first.first_reality.Goals as goal
 

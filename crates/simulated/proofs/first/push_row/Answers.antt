@@ -1,7 +1,7 @@
 use Rattle.std.proofs.Common.{rules, ◌≡◌, ◌<◌, ◌+◌, ◌*◌, ◌++◌, ◌∷◌, [], is_some, Some, length, length-append, slice_get, sym, ap, subst, arith}
 use Rattle.cluster_types.specs.CellStates.{last_outcome}
 use Rattle.simulated.specs.RealWorlds.{first_real}
-use Rattle.simulated.specs.Firsts.{IsFilled}
+use Rattle.simulated.specs.Inner.Firsts.{IsFilled}
 use Rattle.simulated.proofs.Firsts.{filled-push}
 use Rattle.simulated.proofs.first.push_row.Goals as goal
 

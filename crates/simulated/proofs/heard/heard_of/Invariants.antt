@@ -1,5 +1,5 @@
 use Rattle.std.proofs.Common.{take}
-use Rattle.simulated.specs.Firsts.{HearsOutcomes}
+use Rattle.simulated.specs.Inner.Firsts.{HearsOutcomes}
 use Rattle.simulated.proofs.heard.heard_of.Given as goal
 
 abbrev pub invariant-loop-event : goal.invariant-loop-event
