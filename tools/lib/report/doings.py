@@ -1,5 +1,5 @@
 """What a plan does with each resource: on each node, and in a sentence."""
-from showing.summaries import REASONS
+from show.summaries import REASONS
 
 from .markup import Markup, code, count, joined, names
 from .status import MAYBE, PROMOTED, RUNS

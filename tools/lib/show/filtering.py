@@ -3,7 +3,7 @@ import io
 import signal
 import sys
 
-from explaining.tables import command
+from explain.tables import command
 
 from .lines import NotALine
 

@@ -3,14 +3,14 @@ import os
 import stat
 import sys
 
-from explaining.asking import Program, Told
-from explaining.differences import differences
-from explaining.inputs import all_online, from_cib, is_cib
-from explaining.notes import notes
-from explaining.refusals import LONGEST_EXPLAINED, explain
-from explaining.report import say_note, tell
-from explaining.texts import Text
-from showing.program import Refused, answer, path
+from explain.asking import Program, Told
+from explain.differences import differences
+from explain.inputs import all_online, from_cib, is_cib
+from explain.notes import notes
+from explain.refusals import LONGEST_EXPLAINED, explain
+from explain.report import say_note, tell
+from explain.texts import Text
+from show.program import Refused, answer, path
 
 NO_ACCESS = "it can't be read"
 

@@ -1,15 +1,15 @@
 """`why RESOURCE`: what keeps a resource where it is: each statement, state or failure that changes its place when it is left out alone."""
 import json
 
-from explaining.differences import TRUE
-from explaining.faulty import RESOURCES
-from explaining.hints import primitives_of
-from explaining.report import tell
-from explaining.texts import STATUS, Text
-from showing.lines import read
-from showing.plans import Plan
-from showing.program import Refused, answer, prepare
-from showing.summaries import reason, role_on
+from explain.differences import TRUE
+from explain.faulty import RESOURCES
+from explain.hints import primitives_of
+from explain.report import tell
+from explain.texts import STATUS, Text
+from show.lines import read
+from show.plans import Plan
+from show.program import Refused, answer, prepare
+from show.summaries import reason, role_on
 
 from .edits import pair_in, the_node, with_pair
 from .sources import Source

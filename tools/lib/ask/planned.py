@@ -1,11 +1,11 @@
 """`plan`: what has to be done now, and how long it takes at most."""
 import json
 
-from explaining.texts import Text
-from showing.changing import plan_of
-from showing.lines import read
-from showing.program import answer, prepare
-from showing.summaries import Entry, lines_of, summary, together
+from explain.texts import Text
+from show.changing import plan_of
+from show.lines import read
+from show.program import answer, prepare
+from show.summaries import Entry, lines_of, summary, together
 
 from .sources import Source
 from .times import Timeouts, lines, longest

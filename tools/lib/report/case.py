@@ -3,8 +3,8 @@ import os
 import subprocess
 from concurrent.futures import ThreadPoolExecutor
 
-from showing.lines import ACTIONS
-from showing.program import answer, path
+from show.lines import ACTIONS
+from show.program import answer, path
 
 from .configuration import Configuration
 from .status import Status

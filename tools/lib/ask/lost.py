@@ -1,9 +1,9 @@
 """`losses`: what the loss of each node would change."""
 import json
 
-from showing.changing import losses_of, plan_of
-from showing.program import prepare
-from showing.summaries import changes, shown
+from show.changing import losses_of, plan_of
+from show.program import prepare
+from show.summaries import changes, shown
 
 from .sources import Source
 

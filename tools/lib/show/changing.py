@@ -1,7 +1,7 @@
 """The input that a changed configuration makes with the status of another input, the plans of both, and what a loss brings down."""
 import difflib
 
-from explaining.texts import RESULTS, STATUS, Text
+from explain.texts import RESULTS, STATUS, Text
 
 from .lines import read
 from .plans import Plan

@@ -1,8 +1,8 @@
 """Changes of an input that are asked about: each takes the text and gives the changed one."""
-from explaining.differences import FALSE, members
-from explaining.faulty import RESOURCES
-from explaining.hints import SECTIONS
-from explaining.texts import CONFIGURATION, RESULTS, STATUS, Text
+from explain.differences import FALSE, members
+from explain.faulty import RESOURCES
+from explain.hints import SECTIONS
+from explain.texts import CONFIGURATION, RESULTS, STATUS, Text
 
 NOTHING_RUNS = ("op", "cleanup", "promotion")
 

@@ -1,7 +1,7 @@
 """The configuration as `check` writes it: nodes, resources, what they are in, the rules that name them, the timeouts."""
 import re
 
-from showing.lines import read
+from show.lines import read
 
 SECTIONS = ("params", "meta", "utilization", "operations", "op", "attributes")
 UNITS = {"": 1.0, "s": 1.0, "sec": 1.0, "ms": 0.001, "msec": 0.001, "m": 60.0, "min": 60.0, "h": 3600.0, "hr": 3600.0}

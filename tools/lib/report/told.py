@@ -1,13 +1,13 @@
 """Notes and refusals, each with the line of the input and the word that it is about marked, and the text at the end."""
 import re
 
-from explaining.asking import Program
-from explaining.hints import hints
-from explaining.notes import notes
-from explaining.refusals import LONGEST_EXPLAINED, MOST_LISTED, every_finding
-from explaining.tables import causes
-from explaining.texts import Text
-from showing.program import path
+from explain.asking import Program
+from explain.hints import hints
+from explain.notes import notes
+from explain.refusals import LONGEST_EXPLAINED, MOST_LISTED, every_finding
+from explain.tables import causes
+from explain.texts import Text
+from show.program import path
 
 from .markup import code, count, joined, tag, text
 

@@ -1,9 +1,9 @@
-"""The tables beside this folder: causes, what is refused, what is kept without effect, known words."""
+"""The tables in the folder of the scripts: causes, what is refused, what is kept without effect, known words."""
 import functools
 import os
 import re
 
-FOLDER = os.path.dirname(os.path.dirname(os.path.abspath(__file__)))
+FOLDER = os.path.dirname(os.path.dirname(os.path.dirname(os.path.abspath(__file__))))
 
 
 def rows(name):

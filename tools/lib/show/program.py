@@ -6,9 +6,10 @@ import subprocess
 import sys
 import tempfile
 
-from explaining.trials import CUT, Trial
+from explain.tables import FOLDER
+from explain.trials import CUT, Trial
 
-TOP = os.path.dirname(os.path.dirname(os.path.dirname(os.path.abspath(__file__))))
+TOP = os.path.dirname(FOLDER)
 BUILT = os.path.join(TOP, "crates", "sim_cli", "out", "sim_cli")
 INSTALLED = os.path.join(TOP, "sim_cli")
 REFUSED, UNKNOWN_WORD, NOT_RUN = 5, 2, 127

@@ -4,9 +4,9 @@ import json
 import os
 import sys
 
-from showing.changing import Parts, brought_down, changed, differences, plan_of, removed
-from showing.program import Refused, answer, has_word, prepare
-from showing.summaries import lines_of, summary, together
+from show.changing import Parts, brought_down, changed, differences, plan_of, removed
+from show.program import Refused, answer, has_word, prepare
+from show.summaries import lines_of, summary, together
 
 from .edits import ARGUMENTS, EDITS, MEANINGS, NoChange, edited
 from .sources import Source, read
