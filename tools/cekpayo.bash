@@ -1,6 +1,6 @@
 # Completion of cekpayo for bash: source this file, or install it as completions/cekpayo.
 _cekpayo() {
-  local current=${COMP_WORDS[COMP_CWORD]} word='' at options='--all -q --json --online --try --help'
+  local current=${COMP_WORDS[COMP_CWORD]} word='' at changes='--standby --lost --fail --move --ban --clear --stop --start --maintenance' options='--all -q --json --online --try --help'
   local causes="NotUtf8 ControlByte OpenQuote LineTooLong UnknownStatement Unsupported BadScore BadTime BadValue MissingWord ExtraWord
     RepeatedKey DuplicateName UnknownName NestedTwice EmptyGroup MemberTwice UnsupportedMeta NotPromotable UnsupportedOrder
     TooManyNodes TooManyLeaves TooManyRules ColocationLoop OrderLoop Repeated TooManyResults"
@@ -18,7 +18,7 @@ _cekpayo() {
         case $word in
           plan) options+=" --time" ;;
           losses) options+=" --fail-on-loss" ;;
-          what-if) options+=" --standby --lost --fail --move --ban --stop --start --maintenance --config --fail-on-loss --fail-on-change" ;;
+          what-if) options+=" $changes --config --fail-on-loss --fail-on-change" ;;
         esac
         mapfile -t COMPREPLY < <(compgen -W "$options" -- "$current")
       else
@@ -28,7 +28,7 @@ _cekpayo() {
     report)
       compopt -o filenames 2>/dev/null
       if [[ $current == -* ]]; then
-        mapfile -t COMPREPLY < <(compgen -W "--change --secrets --help" -- "$current")
+        mapfile -t COMPREPLY < <(compgen -W "--change $changes --online --secrets --help" -- "$current")
       else
         mapfile -t COMPREPLY < <(compgen -f -- "$current")
       fi

@@ -3,8 +3,12 @@ import bz2
 import json
 import os
 import subprocess
+import sys
 
 from .expecting import ENVIRONMENT, TOP, WRAPPER, expect, kept, own
+
+sys.path.append(os.path.join(TOP, "tools", "lib"))
+from ask.edits import edited  # noqa: E402
 
 HEAD = """node n1
 node n2
@@ -37,6 +41,7 @@ CHANGES = [
     ("--fail a@n1=7", "+   * Start      a ", 0, 9),
     ("--move a n2", MOVED, 0, 9),
     ("--ban a n1", MOVED, 9, 9),
+    ("--ban a n1 --clear a", "nothing is done otherwise", 0, 0),
     ("--stop a", "+   * Stop       a                        ( n1 ) its target-role\n", 9, 9),
     ("--start a", "nothing is done otherwise", 0, 0),
     ("--maintenance", "+   * Leave      a                        ( n1 ) it isn't managed\n", 9, 9),
@@ -46,6 +51,18 @@ CHANGES = [
 ]
 NO_CHANGES = [("--standby n3", "there is no node `n3`"), ("--stop b", "there is no resource `b`"), ("--lost n3", "there is no node `n3`"),
               ("--fail wide-name-of-an-instance@n1=1", "has no recurring monitor"), ("", "which change?")]
+
+# The locations that a text has of `crm resource`, a change, and those that it then has.
+PREFER, BAN = "location cli-prefer-a a inf: {}\n", "location cli-ban-a-on-{0} a -inf: {0}\n"
+MOVES = [
+    ("", ("move", "a", "n2"), PREFER.format("n2")),
+    (PREFER.format("n1"), ("move", "a", "n2"), PREFER.format("n2")),
+    (BAN.format("n2"), ("move", "a", "n2"), PREFER.format("n2")),
+    (BAN.format("n1"), ("move", "a", "n2"), BAN.format("n1") + PREFER.format("n2")),
+    (PREFER.format("n1"), ("ban", "a", "n1"), PREFER.format("n1") + BAN.format("n1")),
+    (PREFER.format("n1") + BAN.format("n1") + BAN.format("n2"), ("clear", "a"), ""),
+    (PREFER.format("n1").replace("-a", "-ab"), ("clear", "a"), PREFER.format("n1").replace("-a", "-ab")),
+]
 
 # What an accepted text has, and what is noted of it beside an answer.
 CLONE = "node n1\nnode n2\nprimitive a Dummy\nprimitive b Dummy meta resource-stickiness=1\n"
@@ -96,6 +113,14 @@ def try_changes():
     expect("what-if of what is refused", run("what-if", "--maintenance", data="nod n1\n")[:2] == (5, ""))
     expect("what-if without a status", "it has no `%status`" in run("what-if", "--lost", "n1", data=HEAD)[2])
     expect("--online what-if", "( n2 )" in run("--online", "what-if", "--lost", "n1", data=HEAD)[1])
+
+
+def try_moves():
+    """What moves and bans leave of earlier ones is what `crm_resource` leaves."""
+    for own, change, then in MOVES:
+        text = edited((HEAD + own + STATE).encode(), [change]).decode()
+        found = "".join(line + "\n" for line in text.splitlines() if "cli-" in line)
+        expect(f"{change} after {own}", found == then and text.count("location l a 5: n1") == 1, text)
 
 
 def try_config(folder):
@@ -154,6 +179,46 @@ def try_cibs(folder):
     expect("a CIB that can't be read", run("check", data=b"<cib>")[:2] == (3, ""))
 
 
+def try_runs_of_cibs(folder):
+    """Words that take one FILE take a CIB too, with the results or the run that stand behind it."""
+    text, path = kept("cibs", "two-nodes.crm"), os.path.join(TOP, ".ci", "cibs", "two-nodes.xml")
+    with open(path, "rb") as file:
+        cib = file.read()
+    for words, data in (([path], b""), ([], cib)):
+        status, output, said = run("world", "7", *words, data=data)
+        expect(f"world 7 of a CIB {words}", (status, output) == (0, own(text.encode(), "world", "7")[1].decode()) and "collect: passwords are" in said, said)
+        status, output, said = run("audit", *words, data=data)
+        lines = own(text.encode(), "audit")
+        expect(f"audit of a CIB {words}", (status, output) == (lines[0], lines[1].decode()) and "collect: passwords are" in said, output + said)
+    lost = b"%results\nlost web1\n"
+    written = own(text.encode() + lost, "replay")[1]
+    both = os.path.join(folder, "lost.xml")
+    for data in (cib, bz2.compress(cib)):
+        with open(both, "wb") as file:
+            file.write(data + lost)
+        expect("results behind a CIB", run("-q", "replay", both)[:2] == (0, written.decode()), run("replay", both)[2])
+        run_of_it = data + b"%trace\n" + own(text.encode(), "replay")[1]
+        expect("a run behind a CIB", run("-q", "audit", data=run_of_it) == (0, "lawful\n", ""), str(run("audit", data=run_of_it)))
+    expect("a plan of a CIB with results", run("-q", "plan", both) == run("-q", "plan", path))
+    expect("a CIB that can't be read", [run(word, *number, data=b"<cib>")[:2] for word, *number in (["audit"], ["world", "7"])] == [(3, "")] * 2)
+
+
+def try_measured(folder):
+    """The times that a CIB's history has."""
+    path = os.path.join(folder, "measured.xml")
+    with open(os.path.join(TOP, ".ci", "cibs", "lost-node.xml"), encoding="utf-8") as file:
+        cib = file.read()
+    with open(path, "w", encoding="utf-8") as file:
+        file.write(cib.replace('operation="start"', 'exec-time="250" operation="start"'))
+    output = run("-q", "plan", "--time", path)[1]
+    part = ("It takes at most 100 s, by the timeouts on the longest way:\n      60 s     (+60)  fence web1\n      80 s     (+20)  start site-address web2\n"
+            "     100 s     (+20)  start site-server web2\nBy the times that these actions took last it takes some 60.5 s:\n"
+            "      60 s     (+60)  fence web1, by its timeout\n   60.25 s   (+0.25)  start site-address web2\n    60.5 s   (+0.25)  start site-server web2\n")
+    expect("measured times", output.endswith(part), output)
+    expect("measured times as JSON", json.loads(run("-q", "plan", "--time", "--json", path)[1])["measured"] == 60500)
+    expect("no measured times", "took last" not in run("-q", "plan", "--time", os.path.join(TOP, ".ci", "cibs", "lost-node.xml"))[1])
+
+
 def try_online():
     status, output, said = run("--online", "scores", data=HEAD)
     expect("--online", status == 0 and "target a n1 started" in output and "%status" not in said, output + said)
@@ -193,10 +258,13 @@ def try_json():
 def try_asked(folder):
     try_plan()
     try_changes()
+    try_moves()
     try_config(folder)
     try_losses()
     try_why()
     try_cibs(folder)
+    try_runs_of_cibs(folder)
+    try_measured(folder)
     try_online()
     try_notes()
     try_json()

@@ -132,10 +132,25 @@ def try_change(folder):
     expect("report of a change", status == 0, error)
     shown = check_structure("report of a change", text, ["change", *SECTIONS])
     expect("report of a change: what changes", "The loss of web2 would bring down site-address and site-server , which it doesn't now" in shown, shown[:1500])
+    status, text, error = report("--standby", "web1", cib)
+    shown = check_structure("report of a standby", text, ["change", *SECTIONS])
+    expect("report of a standby", status == 0 and "Change report: --standby web1 for two-nodes.xml" in shown and "Moves from web1 to web2" in shown, error + shown[:1500])
+    status, text, error = report("--change", path, "--lost", "web2", cib)
+    expect("report of a change and a loss", status == 0 and "<title>Change report: changed.crm --lost web2 for" in text, error + text[:300])
+    for change, told in CHANGED.items():
+        text = report(*change.split(), cib)[1]
+        expect(f"report {change}", told in check_structure(f"report {change}", text, ["change", *SECTIONS]), text[-1500:])
+    expect("report of a change that can't be", report("--lost", "web9", cib)[:2] == (2, ""))
     expect("report of a change without a file", report("--change", "/nonexistent", cib)[0] == 3)
     expect("report of no file", report("/nonexistent")[0] == 3)
     expect("report of wrong words", report("--nonsense")[0] == 2)
 
+
+CHANGED = {
+    "--fail site-server@web1=1": "Restarts on web1", "--move site web2": "Moves from web1 to web2", "--ban site web1": "Moves from web1 to web2",
+    "--clear site": "The same is done with each resource", "--stop site": "Stops on web1", "--start site": "The same is done with each resource",
+    "--maintenance": "it isn't managed", "--online web1": "The same is done with each resource",
+}
 
 REPORTS = {
     "failed-start": ["failed-start.crm", "failed-start.results"], "group-moves": ["group-moves.crm", "group-moves.results"],

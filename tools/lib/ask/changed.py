@@ -22,10 +22,14 @@ class Asked(argparse.Action):
         words.changes.append((option.lstrip("-"), *(values if isinstance(values, list) else [values])))
 
 
-def change_options(parser):
+def edit_options(parser):
     parser.set_defaults(changes=[])
     for name in EDITS:
         parser.add_argument(f"--{name}", action=Asked, nargs=len(ARGUMENTS[name]), metavar=tuple(ARGUMENTS[name]) or None, help=MEANINGS[name])
+
+
+def change_options(parser):
+    edit_options(parser)
     parser.add_argument("--fail-on-loss", action="store_true", help=f"the status is {FOUND} where something would lose its place")
     parser.add_argument("--fail-on-change", action="store_true", help=f"the status is {FOUND} where anything would be done otherwise")
 
@@ -36,9 +40,9 @@ def options(parser):
     parser.add_argument("file", nargs="?", metavar="FILE")
 
 
-def name_of(words):
-    """The changes in words, as they were given."""
-    return " ".join([*([words.config] if words.config else []), *(" ".join(["--" + change[0], *change[1:]]) for change in words.changes)])
+def name_of(config, changes):
+    """The changed configuration, where there is one, and the changes, as they were given."""
+    return " ".join([*([config] if config else []), *(" ".join(["--" + name, *own]) for name, *own in changes)])
 
 
 class Comparison:
@@ -120,7 +124,7 @@ def texts(old, new, words):
 def compare(place, old, new, words):
     """The comparison of an input with what the changes make of it, or the status where that can't be made. What `check` takes may still
     be refused in the state of the input, for a line of the status."""
-    name = name_of(words)
+    name = name_of(words.config, words.changes)
     try:
         now, then, behind = texts(old, new, words)
     except NoChange as error:

@@ -3,6 +3,7 @@ from explain.differences import FALSE, members
 from explain.faulty import RESOURCES
 from explain.hints import SECTIONS
 from explain.texts import CONFIGURATION, RESULTS, STATUS, Text
+from show.times import monitor_of
 
 NOTHING_RUNS = ("op", "cleanup", "promotion")
 
@@ -120,39 +121,11 @@ def fail(text, told):
     if resource.kind != "primitive":
         inside = [word.text for word in members(resource)]
         raise NoChange(f"`{name}` is a {resource.kind}; name a primitive in it: {', '.join(inside)}")
-    interval = monitor_of(resource)
+    interval = monitor_of([word.text for word in resource.words])
     if not interval:
         raise NoChange(f"`{name}` has no recurring monitor that could fail")
     now = [one.fields()[1] for one in with_status(text).each() if one.section == STATUS and one.kind == "now"]
     return with_lines(text, [f"op {node} {name} monitor {interval} {code or 1} {now[0] if now else 0}"], STATUS)
-
-
-def monitor_of(resource):
-    """The interval in milliseconds of the first recurring monitor, or 0."""
-    words, at = [word.text for word in resource.words], 0
-    while "op" in words[at:]:
-        at = words.index("op", at) + 1
-        pairs = dict(word.partition("=")[::2] for word in until_section(words[at + 1:]))
-        interval = milliseconds(pairs.get("interval", "0"))
-        if words[at] == "monitor" and interval and pairs.get("enabled", "true").lower() not in FALSE:
-            return interval
-    return 0
-
-
-def until_section(words):
-    for word in words:
-        if word in SECTIONS:
-            return
-        yield word
-
-
-UNITS = {"": 1000, "s": 1000, "sec": 1000, "ms": 1, "msec": 1, "m": 60000, "min": 60000, "h": 3600000, "hr": 3600000}
-
-
-def milliseconds(time):
-    """A time in milliseconds; 0 where it is none."""
-    digits = time.rstrip("abcdefghijklmnopqrstuvwxyz")
-    return int(digits) * UNITS.get(time[len(digits):], 0) if digits.isdigit() else 0
 
 
 def without_id(text, name):
@@ -161,7 +134,7 @@ def without_id(text, name):
 
 
 def move(text, name, node):
-    """As `crm resource move` with a node does: what an earlier move or ban of it to this node said is taken back."""
+    """As `crm resource move` with a node does: an earlier move is taken back, and a ban from this node; one from another node stays."""
     the_node(text, node)
     the_resource(text, name)
     text = without_id(without_id(text, f"cli-prefer-{name}"), f"cli-ban-{name}-on-{node}")
@@ -173,6 +146,14 @@ def ban(text, name, node):
     the_resource(text, name)
     text = without_id(text, f"cli-ban-{name}-on-{node}")
     return with_lines(text, [f"location cli-ban-{name}-on-{node} {name} -inf: {node}"], CONFIGURATION)
+
+
+def clear(text, name):
+    """As `crm resource clear` does: earlier moves and bans are taken back."""
+    the_resource(text, name)
+    for one in [f"cli-prefer-{name}", *(f"cli-ban-{name}-on-{node}" for node in text.defined(("node",)))]:
+        text = without_id(text, one)
+    return text
 
 
 def with_role(text, name, role):
@@ -200,14 +181,15 @@ def maintenance(text):
     return with_lines(text, ["property maintenance-mode=true"], CONFIGURATION)
 
 
-EDITS = {"standby": standby, "online": online, "lost": lost, "fail": fail, "move": move, "ban": ban, "stop": stop, "start": start,
-         "maintenance": maintenance}
+EDITS = {"standby": standby, "online": online, "lost": lost, "fail": fail, "move": move, "ban": ban, "clear": clear, "stop": stop,
+         "start": start, "maintenance": maintenance}
 ARGUMENTS = {"standby": ["NODE"], "online": ["NODE"], "lost": ["NODE"], "fail": ["RESOURCE@NODE=CODE"], "move": ["RESOURCE", "NODE"],
-             "ban": ["RESOURCE", "NODE"], "stop": ["RESOURCE"], "start": ["RESOURCE"], "maintenance": []}
+             "ban": ["RESOURCE", "NODE"], "clear": ["RESOURCE"], "stop": ["RESOURCE"], "start": ["RESOURCE"], "maintenance": []}
 MEANINGS = {
     "standby": "the node is put in standby", "online": "the node is there, and not in standby", "lost": "the node leaves without a word",
     "fail": "a recurring monitor ends with this exit code", "move": "as `crm resource move`", "ban": "as `crm resource ban`",
-    "stop": "target-role=Stopped", "start": "target-role=Started", "maintenance": "maintenance-mode=true",
+    "clear": "as `crm resource clear`", "stop": "target-role=Stopped", "start": "target-role=Started",
+    "maintenance": "maintenance-mode=true",
 }
 
 

@@ -1,20 +1,22 @@
-"""`plan`: what has to be done now, and how long it takes at most."""
+"""`plan`: what has to be done now, and how long it takes."""
 import json
 
+from collect.measured import measured
 from explain.texts import Text
 from show.changing import plan_of
 from show.lines import read
 from show.program import answer, prepare
 from show.summaries import Entry, lines_of, summary, together
+from show.times import Timeouts
 
 from .sources import Source
-from .times import Timeouts, lines, longest
+from .times import AS_MEASURED, AT_MOST, Measured, lines, way
 
 REFUSED = 5
 
 
 def options(parser):
-    parser.add_argument("--time", action="store_true", help="how long it takes at most, by the timeouts of operations")
+    parser.add_argument("--time", action="store_true", help="how long it takes, by the timeouts of operations and by the times that a CIB has")
     parser.add_argument("file", nargs="?", metavar="FILE")
 
 
@@ -37,6 +39,30 @@ def show(plan, entries):
     print("What has to be done now:" if acts else "Nothing has to be done now.", *lines_of(entries), sep="\n")
 
 
+class Times:
+    """How long the actions take: the longest way by timeouts, and by measured times where the input was a CIB that has them."""
+
+    def __init__(self, source, actions):
+        timeouts = Timeouts([word.text for word in one.words] for one in Text(source.data).configuration if one.words)
+        found = measured(source.cib) if source.cib else {}
+        self.measured = Measured(found, timeouts) if found else None
+        self.at_most = way(actions, timeouts.of_action)
+        self.last = way(actions, self.measured.of_action) if found else []
+
+    def lines(self):
+        yield from lines(self.at_most, AT_MOST)
+        if self.last:
+            yield from lines(self.last, AS_MEASURED, self.measured)
+
+    def fields(self):
+        found = {"milliseconds": total(self.at_most), "longest": [action["number"] for action, _, _ in self.at_most]}
+        return dict(found, measured=total(self.last)) if self.last else found
+
+
+def total(found):
+    return found[-1][2] if found else 0
+
+
 def ask(words):
     source = Source(words.file, words)
     prepare([(word, source.data) for word in ("check", "scores", "graph")])
@@ -45,19 +71,12 @@ def ask(words):
     plan = plan_of(source.data)
     entries = entries_of(plan, words.all)
     actions = [read(line) for line in answer("graph", source.data)] if words.time or words.json else []
-    way = longest(actions, Timeouts(Text(source.data))) if words.time else []
+    times = Times(source, actions) if words.time else None
     if words.json:
-        print(json.dumps(as_json(entries, actions, way, words.time), ensure_ascii=False))
+        found = {"kind": "plan", "entries": [entry.fields() for entry in entries], "actions": actions}
+        print(json.dumps(dict(found, **times.fields()) if times else found, ensure_ascii=False))
         return 0
     show(plan, entries)
-    if words.time:
-        print(*lines(way), sep="\n")
+    if times:
+        print(*times.lines(), sep="\n")
     return 0
-
-
-def as_json(entries, actions, way, timed):
-    found = {"kind": "plan", "entries": [entry.fields() for entry in entries], "actions": actions}
-    if timed:
-        found["milliseconds"] = way[-1][2] if way else 0
-        found["longest"] = [action["number"] for action, _, _ in way]
-    return found

@@ -5,7 +5,7 @@ import sys
 
 from explain.asking import Program, Told
 from explain.differences import differences
-from explain.inputs import all_online, from_cib, is_cib
+from explain.inputs import all_online, cut, from_cib, is_cib
 from explain.notes import notes
 from explain.refusals import LONGEST_EXPLAINED, explain
 from explain.report import say_note, tell
@@ -22,8 +22,9 @@ class Source:
         self.name = file or "standard input"
         if file is None and os.isatty(0) and not options.q:
             tell("reads from the terminal; Ctrl-D on a line of its own ends the input")
-        self.data = read(file)
+        self.data, self.cib = read(file), None
         if is_cib(self.data):
+            self.cib = cut(self.data)[0]
             self.data = from_cib(self.data, file, options.q)
             self.name += ", collected"
         if options.online:

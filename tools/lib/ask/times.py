@@ -1,63 +1,45 @@
-"""How long a plan takes at most: the longest way through its actions, by the timeouts of their operations."""
-from .edits import UNITS, milliseconds, until_section
-
-DEFAULT, FENCING = 20000, 60000  # Pacemaker's own, in milliseconds
+"""How long a plan takes, at most by the timeouts of its operations, and by the times that they took last: the longest way through it."""
+from show.times import longest, times
 
 
-class Timeouts:
-    def __init__(self, text):
-        self.of, self.default, self.fencing = {}, DEFAULT, FENCING
-        for one in text.configuration:
-            words = [word.text for word in one.words]
-            pairs = dict(word.partition("=")[::2] for word in words if "=" in word)
-            if one.kind == "op_defaults":
-                self.default = milliseconds(pairs.get("timeout", "")) or self.default
-            elif one.kind == "property":
-                self.fencing = milliseconds(pairs.get("stonith-timeout", "")) or self.fencing
-            elif one.kind == "primitive":
-                self.take(words)
+class Measured:
+    """The times that operations took last; of what wasn't measured on a node the longest elsewhere, or else its timeout."""
 
-    def take(self, words):
-        """The timeouts of a primitive's operations; of several monitors the longest."""
-        at = 0
-        while "op" in words[at:]:
-            at = words.index("op", at) + 1
-            pairs = dict(word.partition("=")[::2] for word in until_section(words[at + 1:]))
-            time, key = milliseconds(pairs.get("timeout", "")), (words[1], words[at])
-            self.of[key] = max(time, self.of.get(key, 0))
+    def __init__(self, found, timeouts):
+        self.on, self.anywhere, self.timeouts = found, {}, timeouts
+        for (name, kind, _), time in found.items():
+            self.anywhere[name, kind] = max(time, self.anywhere.get((name, kind), 0))
+
+    def known(self, action):
+        """The measured time of an action, or nothing."""
+        name, kind = action.get("resource"), action["action"]
+        node = action.get("node") or action["target" if kind == "migrate_from" else "source"]
+        return self.on.get((name, kind, node), self.anywhere.get((name, kind)))
 
     def of_action(self, action):
-        """Nothing waits for a recurring monitor to end."""
-        kind = action["action"]
-        if kind == "monitor":
-            return 0
-        if kind == "fence":
-            return self.fencing
-        return self.of.get((action["resource"], "monitor" if kind == "probe" else kind)) or self.default
+        known = self.known(action)
+        return self.timeouts.of_action(action) if known is None or action["action"] == "monitor" else known
 
 
-def longest(actions, timeouts):
+def way(actions, length):
     """The actions of the longest way, each with its own time and the time at which it ends at most."""
-    ends = {}
-    for action in actions:
-        before = max(((ends[number][0], number) for number in action.get("after", [])), default=(0, None))
-        own = timeouts.of_action(action)
-        ends[action["number"]] = before[0] + own, own, before[1], action
-    way, at = [], max(ends, key=lambda number: ends[number][0], default=None)
-    while at is not None:
-        way.append(ends[at])
-        at = ends[at][2]
-    return [(action, own, end) for end, own, _, action in reversed(way)]
+    found, by_number = times(actions, length), {action["number"]: action for action in actions}
+    return [(by_number[number], found[number][1] - found[number][0], found[number][1]) for number in longest(found)]
 
 
 def seconds(time):
-    return f"{time / UNITS['']:g}"
+    return f"{time / 1000:g}"
 
 
-def lines(way):
+def lines(found, head, measured=None):
     """The longest way as people read it."""
-    yield f"It takes at most {seconds(way[-1][2] if way else 0)} s, by the timeouts on the longest way:"
-    for action, own, end in way:
+    yield head.format(seconds(found[-1][2] if found else 0))
+    for action, own, end in found:
         where = action.get("node") or f"{action['source']} -> {action['target']}"
         words = [action["action"], *([action["resource"]] if "resource" in action else []), where]
-        yield f"  {seconds(end):>6} s  {'(+' + seconds(own) + ')':>8}  {' '.join(words)}"
+        of_timeout = ", by its timeout" if measured and own and measured.known(action) is None else ""
+        yield f"  {seconds(end):>6} s  {'(+' + seconds(own) + ')':>8}  {' '.join(words)}{of_timeout}"
+
+
+AT_MOST = "It takes at most {} s, by the timeouts on the longest way:"
+AS_MEASURED = "By the times that these actions took last it takes some {} s:"

@@ -1,22 +1,8 @@
 """The configuration as `check` writes it: nodes, resources, what they are in, the rules that name them, the timeouts."""
-import re
-
+from explain.differences import TRUE
+from explain.hints import SECTIONS
 from show.lines import read
-
-SECTIONS = ("params", "meta", "utilization", "operations", "op", "attributes")
-UNITS = {"": 1.0, "s": 1.0, "sec": 1.0, "ms": 0.001, "msec": 0.001, "m": 60.0, "min": 60.0, "h": 3600.0, "hr": 3600.0}
-TIMEOUT, FENCE_TIMEOUT = 20.0, 60.0
-TRUE = ("true", "on", "yes", "y", "1")
-
-
-def seconds(value):
-    """A time in seconds, or nothing where it is none."""
-    found = re.fullmatch(r"(\d+)([a-z]*)", value)
-    return float(found[1]) * UNITS[found[2]] if found and found[2] in UNITS else None
-
-
-def pairs(words):
-    return dict(word.partition("=")[::2] for word in words if "=" in word)
+from show.times import Timeouts, pairs
 
 
 class Rule:
@@ -47,7 +33,7 @@ class Configuration:
     def __init__(self, lines):
         self.lines = lines
         self.nodes, self.standby, self.agents, self.tops, self.rules = [], set(), {}, {}, []
-        self.properties, self.defaults, self.timeouts = {}, {}, {}
+        self.timeouts = Timeouts()
         for number, line in enumerate(lines):
             found = read(line)
             if found["kind"] == "statement":
@@ -55,37 +41,23 @@ class Configuration:
         self.nest()
 
     def take(self, kind, words, line):
+        self.timeouts.take([kind, *words])
         if kind == "node":
             self.take_node(words)
         elif kind == "primitive":
-            self.take_primitive(words, line)
+            self.agents[words[0]] = words[1]
+            self.tops[words[0]] = Top("primitive", words[0], [], line)
         elif kind in ("group", "clone", "ms"):
             ends = [at for at, word in enumerate(words) if word in SECTIONS or word.startswith("description=")]
             self.tops[words[0]] = Top(kind, words[0], words[1:ends[0] if ends else len(words)], line)
         elif kind in ("location", "colocation", "order"):
             self.rules.append(Rule(kind, words, line))
-        elif kind == "property":
-            self.properties.update(pairs(words))
-        elif kind == "op_defaults":
-            self.defaults.update(pairs(words))
 
     def take_node(self, words):
         name = words[1] if words[0].endswith(":") and len(words) > 1 else words[0]
         self.nodes.append(name)
         if pairs(words).get("standby", "").lower() in TRUE:
             self.standby.add(name)
-
-    def take_primitive(self, words, line):
-        self.agents[words[0]] = words[1]
-        self.tops[words[0]] = Top("primitive", words[0], [], line)
-        operation = None
-        for before, word in zip(words, words[1:]):
-            if before == "op":
-                operation = word
-            elif word in SECTIONS:
-                operation = None
-            elif operation and word.startswith("timeout="):
-                self.timeouts[words[0], operation] = max(seconds(word[8:]) or 0.0, self.timeouts.get((words[0], operation), 0.0))
 
     def nest(self):
         """Finds the leaves of each top, and the top of each leaf; what is in another is no top."""
@@ -111,13 +83,7 @@ class Configuration:
 
     def timeout(self, action):
         """How many seconds an action may take."""
-        if action["action"] == "fence":
-            return seconds(self.properties.get("stonith-timeout", "")) or FENCE_TIMEOUT
-        if action["action"] == "monitor":
-            return 0.0
-        operation = "monitor" if action["action"] == "probe" else action["action"]
-        default = seconds(self.defaults.get("timeout", "")) or TIMEOUT
-        return self.timeouts.get((action["resource"], operation), default)
+        return self.timeouts.of_action(action) / 1000
 
     def aliases(self, leaf):
         """The names under which rules may mean a resource."""

@@ -1,10 +1,8 @@
 """The input of a report: files behind each other, or standard input; what is a CIB is turned into an input by `tools/collect`."""
 import os
-import subprocess
 import sys
 
-COLLECT = os.path.join(os.path.dirname(os.path.dirname(os.path.abspath(__file__))), "collect")
-OF_CIB = (b"<", b"BZh", b"\xef\xbb\xbf<", b"\x1f\x8b")
+from explain.inputs import collected, is_cib
 
 
 class Input:
@@ -12,18 +10,6 @@ class Input:
 
     def __init__(self, name, data, said=()):
         self.name, self.data, self.said = name, data, list(said)
-
-
-def is_cib(data):
-    return data.lstrip(b" \t\r\n").startswith(OF_CIB)
-
-
-def collected(name, data):
-    done = subprocess.run([sys.executable, "-B", COLLECT], input=data, stdout=subprocess.PIPE, stderr=subprocess.PIPE)
-    said = [line.partition(": ")[2] for line in done.stderr.decode("utf-8", "replace").splitlines()]
-    if done.returncode != 0:
-        raise OSError(f"{name}: {said[-1] if said else 'tools/collect fails'}")
-    return Input(name, done.stdout, said)
 
 
 def read(files):
@@ -48,4 +34,10 @@ def title(files):
 
 
 def of_data(name, data):
-    return collected(name, data) if is_cib(data) else Input(name, data)
+    if not is_cib(data):
+        return Input(name, data)
+    text, notes = collected(data)
+    said = [note.partition(": ")[2] for note in notes]
+    if text is None:
+        raise OSError(f"{name}: {said[-1] if said else 'tools/collect fails'}")
+    return Input(name, text, said)

@@ -1,5 +1,5 @@
 """The plan as a timeline: a lane for each node, in it what is done there, as long as it may take by the timeouts."""
-from show.rounds import longest, times
+from show.times import longest, times
 
 from .markup import Markup, code, count, joined, names, tag, text
 
