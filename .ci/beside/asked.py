@@ -3,12 +3,10 @@ import bz2
 import json
 import os
 import subprocess
-import sys
 
 from .expecting import ENVIRONMENT, TOP, WRAPPER, expect, kept, own
 
-sys.path.append(os.path.join(TOP, "tools", "lib"))
-from ask.edits import edited  # noqa: E402
+from ask.edits import edited
 
 HEAD = """node n1
 node n2

@@ -1,12 +1,14 @@
 """What the tests share: where things are, how they are run, and what was not as expected."""
 import os
 import subprocess
+import sys
 
 TOP = os.path.dirname(os.path.dirname(os.path.dirname(os.path.abspath(__file__))))
 WRAPPER = os.path.join(TOP, "cekpayo")
 PROGRAM = os.environ.get("CEKPAYO_PROGRAM", os.path.join(TOP, "crates", "sim_cli", "out", "sim_cli"))
 ENVIRONMENT = dict(os.environ, CEKPAYO_PROGRAM=PROGRAM)
 problems = []
+sys.path.append(os.path.join(TOP, "tools", "lib"))  # the packages of the tools, for tests of their modules
 
 
 def expect(name, holds, said=""):

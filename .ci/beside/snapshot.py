@@ -3,12 +3,10 @@ maintenance; and what --near leaves out."""
 import ctypes
 import os
 import random
-import sys
 
 from .expecting import TOP, expect, own, tool
 
-sys.path.insert(0, os.path.join(TOP, "tools"))
-from collecting.patterns import Pattern, Unsaid, Wrong
+from collect.patterns import Pattern, Unsaid, Wrong
 
 NOW = "1796000000"  # Monday 2026-11-30, 00:53:20 UTC
 AGENT = "class='ocf' provider='p' type='D'"
