@@ -1,6 +1,5 @@
 """Reads a CIB: its elements, the pairs of their sets, and what refers to other elements. `Notes` keeps what there is to say."""
 import bz2
-import functools
 import time
 import xml.etree.ElementTree as ElementTree
 
@@ -58,7 +57,7 @@ class Cib:
         self.root = root if root.tag == "cib" else root.find(".//cib")
         if self.root is None or self.root.find("configuration") is None:
             raise ValueError("there is no element `cib` with a `configuration`")
-        self.notes, self.moment_is_told = notes, True
+        self.notes, self.moment_is_told, self._seen = notes, True, None
         self.moment = self.moment_of(moment)
         self.by_id = {element.get("id"): element for element in self.root.iter() if element.get("id") and element.tag not in NAMING}
 
@@ -69,10 +68,12 @@ class Cib:
         self.moment_is_told = moment is not None
         return int(time.time()) if moment is None else moment
 
-    @functools.cached_property
+    @property
     def seen(self):
-        """The nodes as rules see them."""
-        return nodes.seen(self)
+        """The nodes as rules see them; they are found when they are first asked for."""
+        if self._seen is None:
+            self._seen = nodes.seen(self)
+        return self._seen
 
     def all(self, path):
         return [self.meant(element) for element in self.root.findall("configuration/" + path)]

@@ -21,6 +21,7 @@ class Case:
         with ThreadPoolExecutor(len(WORDS)) as pool:
             asked = {word: pool.submit(lines_of, word, source.data) for word in WORDS}
             self.configuration = Configuration(answer("check", source.data))
+            self.leaves = [leaf for top in self.configuration.tops.values() for leaf in top.leaves]
             self.status = Status(source.data)
             self.take_scores(asked["scores"].result())
             self.actions = [action(line.split(" ")[1:]) for line in asked["graph"].result()]
@@ -42,10 +43,6 @@ class Case:
                 now = self.totals if words[0] == "place" else self.promotions
         self.promotable = {leaf for leaf, _ in self.promotions}
         self.places, self.none, self.pinned = placed(lines)
-
-    @property
-    def leaves(self):
-        return [leaf for top in self.configuration.tops.values() for leaf in top.leaves]
 
     def usable(self, node):
         """Why nothing may go to a node, or an empty text."""

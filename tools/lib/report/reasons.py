@@ -1,4 +1,6 @@
 """Why a resource goes where it goes, in sentences. All that the page says of it comes from `reason`, here from the totals of `scores`."""
+import functools
+
 from .doings import because
 from .markup import code, joined, names, tag, text
 
@@ -12,6 +14,7 @@ class Reason:
         self.short, self.sentences = short, sentences
 
 
+@functools.lru_cache(maxsize=None)
 def value(total):
     """A total as a number, to compare."""
     return {"INFINITY": 10**6, NEVER: -10**6}.get(total) or int(total if total.lstrip("-").isdigit() else 0)
