@@ -1,11 +1,27 @@
-use Rattle.std.proofs.Common.{arith}
+use Rattle.std.proofs.Common.{◌≡◌, ℕ, Some, arith}
+use Rattle.cluster_io.proofs.Bearing.{Bears-as}
 use Rattle.cluster_io.specs.LineReaders.{reading_of}
+use Rattle.live_run.specs.Coming.{said_came}
 use Rattle.live_run.specs.Saying.{line_says}
+use Rattle.live_run.specs.declared.came.Came.TheVariants as came
+use Rattle.live_run.specs.declared.said.Said.{Said}
+use Rattle.live_run.specs.declared.said.Said.TheVariants as said
 use Rattle.live_run.proofs.Bringing.{before_behind, fewer_left, line_brings, long_number, numbers_fit, ready_behind, too_large_brings, too_long_brings}
 use Rattle.live_run.proofs.Stepping.{end_until, fault_until, line_until, too_large_until, too_long_until}
 use Rattle.live_run.proofs.result_reader.ResultReader.step.Goals as goal
 
+-- no line says that the source failed
+said_no_fault : (line : ℕ) (s : Said) → said_came line s ≡ Some came.Fault → ⊥
+said_no_fault line said.Nothing e = cc
+said_no_fault line (said.Answer given) e = cc
+said_no_fault line (said.Stop why) e = cc
+
 -- a line is handed out
+
+pub returns-in-Line-clause-bears : goal.returns-in-Line-clause-bears
+returns-in-Line-clause-bears g c =
+    rw (c.take_line.ensures.came, c.take_line.ensures.lines)
+    (Bears-as _ _ _ _ _ (λ e. cc) (λ e. absurd (said_no_fault _ _ e)) c.in-Line.ensures.bears)
 
 pub take_line-requires-clause-numbers : goal.take_line-requires-clause-numbers
 take_line-requires-clause-numbers g c =
