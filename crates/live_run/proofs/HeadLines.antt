@@ -10,7 +10,7 @@ use Rattle.live_run.specs.Followed.{bytes_of}
 use Rattle.live_run.specs.Heads.{HasHeadGoneOn, HasTaken, HeadVerdict, StillAmid, came_to, head_verdict, head_by_words, taken}
 use Rattle.live_run.specs.declared.head.HeadStop.{HeadStop}
 use Rattle.live_run.specs.declared.head.HeadStop.TheVariants as stop
-use Rattle.live_run.specs.ReadLaws.{bytes_joined, lines_joined}
+use Rattle.live_run.specs.Inner.ReadLaws.{bytes_joined, lines_joined}
 use Rattle.live_run.proofs.Bringing.{next_is, room_is}
 use Rattle.live_run.proofs.HeadBringing.{line_then, next_stays}
 use Rattle.live_run.proofs.Stepping.{bytes_one, line_cut, unmoved, unmoved_cut}

@@ -11,7 +11,7 @@ use Rattle.live_run.specs.Followed.{EndsInOne, SourceFollows, HasAnswered, HasBr
 use Rattle.live_run.specs.Writing.{HasPut}
 use Rattle.live_run.specs.declared.course.Course.{Course}
 use Rattle.live_run.specs.declared.course.Course.TheVariants as course
-use Rattle.live_run.specs.ReadLaws.{ends_then, near_then, read_then, stopped_then, told_joined}
+use Rattle.live_run.specs.Inner.ReadLaws.{ends_then, near_then, read_then, stopped_then, told_joined}
 
 pub reading_is : (k : Course) → is_reading k ≡ true → k ≡ course.Reading
 reading_is course.Reading h = refl

@@ -1,3 +1,4 @@
+pub mod Inner
 pub mod Ends
 pub mod Reached
 pub mod Saying
@@ -5,7 +6,6 @@ pub mod Coming
 pub mod ResultReaders
 pub mod Courses
 pub mod Followed
-pub mod ReadLaws
 pub mod FollowedLaws
 pub mod LineSources
 pub mod LineCauses

@@ -1,7 +1,7 @@
 -- The line that is due, from its begin on, as far as it was written.
 use Rattle.std.proofs.Common.{arith, ◌≡◌, ◌≤◌, ◌-◌, ℕ, List, ◌++◌, length, length-drop, take, drop, sym, ap, ◌∙◌}
 use Rattle.std.proofs.lemmas.List.{take-append-drop, take_all, length-take-le, drop-append-le}
-use Rattle.sim_core.specs.TextLines.{unended_in}
+use Rattle.sim_core.specs.Inner.TextLines.{unended_in}
 use Rattle.sim_core.proofs.Lines.{unended_end, unended_low}
 
 module _ (text written : List ℕ) (n : ℕ) (in_text : n ≤ length text) (in_written : n ≤ length written) (same : take n text ≡ take n written) where

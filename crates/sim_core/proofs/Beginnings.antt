@@ -16,7 +16,7 @@ use Rattle.sim_core.specs.declared.beginning.HeadEnd.TheVariants as stop
 use Rattle.input_reading.specs.declared.input.cause.InputCause.{InputCause}
 use Rattle.input_reading.specs.declared.input.reading.Head.{Head}
 use Rattle.sim_core.specs.Live.{IsAmidHead}
-use Rattle.sim_core.specs.LiveSteps.{IsBehind, StopsBy, head_end_of, fresh}
+use Rattle.sim_core.specs.Inner.LiveSteps.{IsBehind, StopsBy, head_end_of, fresh}
 use Rattle.input_reading.specs.Reading.{longest_line, most_bytes, start_of}
 use Rattle.sim_core.specs.Replay.{head_in, lacks_words, says_nothing}
 

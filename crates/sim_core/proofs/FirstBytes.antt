@@ -6,7 +6,7 @@ use Rattle.cluster_types.specs.declared.run.RunLine.{RunLine}
 use Rattle.cluster_types.specs.declared.run.RunLine.TheVariants as line
 use Rattle.cluster_types.specs.Texts.{run_line}
 use Rattle.sim_core.specs.Lawful.{clause_of}
-use Rattle.sim_core.specs.TextLines.{line_kind_in}
+use Rattle.sim_core.specs.Inner.TextLines.{line_kind_in}
 
 pub kind_of_line : (c : Cluster) (l : RunLine) (more : List ℕ) → line_kind_in (run_line c l ++ more) ≡ clause_of l
 kind_of_line c (line.Transition k) more = refl

@@ -26,7 +26,7 @@ use Rattle.input_reading.specs.Places.{WordsOfLine}
 use Rattle.input_reading.proofs.WordsOfLines.{action_words, answer_words, joined, line-joined, line_words}
 use Rattle.input_reading.proofs.TextAgain.{no_byte}
 use Rattle.input_reading.specs.Written.{IsLineNamed}
-use Rattle.sim_core.specs.TextLines.{ended_in}
+use Rattle.sim_core.specs.Inner.TextLines.{ended_in}
 use Rattle.sim_core.proofs.Lines.{IsTextLine, ended-append}
 
 abbrev Plain : List ℕ → Type 0

@@ -7,7 +7,7 @@ use Rattle.std.proofs.lemmas.List.{length-take-le, take-append-le}
 use Rattle.std.proofs.lemmas.Option.{none-some}
 use Rattle.std.proofs.Math.Seq.{take-append-add}
 use Rattle.lemmas.proofs.Members.{slice_get_left}
-use Rattle.sim_core.specs.TextLines.{ended_in, unended_in}
+use Rattle.sim_core.specs.Inner.TextLines.{ended_in, unended_in}
 
 -- a line of a text: bytes without a line end, and a line end
 pub record IsTextLine (t : List ℕ) : Type 0 where

@@ -26,7 +26,7 @@ use Rattle.sim_core.specs.declared.status.Status.{Status}
 use Rattle.sim_core.specs.declared.status.Status.TheVariants.{Done, NoMemory, Usage, ReadFault, WriteFault, Refused, Unexpected, TooLarge, NotLawful}
 use Rattle.sim_core.specs.Answers.{MayAnswer}
 use Rattle.sim_core.specs.Live.{IsBehindHead, SaysLive, amid_head, behind_head, of_head, of_run, at_first, between_two}
-use Rattle.sim_core.specs.LiveSteps.{IsBehind, StopsBy, WritesFault, status_of}
+use Rattle.sim_core.specs.Inner.LiveSteps.{IsBehind, StopsBy, WritesFault, status_of}
 use Rattle.input_reading.specs.Causes.{refusal_text}
 use Rattle.sim_core.specs.Replay.{IsHeadFault, IsReplayOutput, IsTextOfRun, coming_behind}
 use Rattle.sim_core.specs.Table.{live}

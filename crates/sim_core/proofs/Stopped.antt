@@ -12,7 +12,7 @@ use Rattle.cluster_types.specs.declared.run.RunLine.{RunLine}
 use Rattle.cluster_types.specs.Texts.{run_line}
 use Rattle.graph_exec.specs.Replays.{IsStopped, setting, sight}
 use Rattle.run_safety.proofs.SoFar.{runs_more}
-use Rattle.sim_core.specs.Compared.{RunFrontPrints}
+use Rattle.sim_core.specs.Inner.Compared.{RunFrontPrints}
 
 -- a text, and what was added to it
 added : (old : Option (List ℕ)) (before more now : List ℕ) → old ≡ Some before → Some now ≡ option_map (λ held. held ++ more) old → now ≡ before ++ more

@@ -17,9 +17,9 @@ use Rattle.sim_core.specs.declared.ended.Ended.TheVariants as ended
 use Rattle.sim_core.specs.declared.verdict.Clause.{Clause}
 use Rattle.sim_core.specs.declared.verdict.Verdict.{Verdict}
 use Rattle.sim_core.specs.declared.verdict.Verdict.TheVariants.{Yes, No}
-use Rattle.sim_core.specs.Compared.{Compares, IsDifference, IsEnd, IsFault, RunFrontPrints, WroteRun}
+use Rattle.sim_core.specs.Inner.Compared.{Compares, IsDifference, IsEnd, IsFault, RunFrontPrints, WroteRun}
 use Rattle.sim_core.specs.Lawful.{IsFaultyClause, IsFaultyLine, IsLawfulRun, IsOther, IsSoFar, IsUndue, Judges, answers_of_lines, clause_of, other, undue, said}
-use Rattle.sim_core.specs.TextLines.{ended_in, line_kind_in, unended_in}
+use Rattle.sim_core.specs.Inner.TextLines.{ended_in, line_kind_in, unended_in}
 use Rattle.sim_core.proofs.LineTexts.{one_line_each}
 use Rattle.sim_core.proofs.FirstBytes.{kind_of_line}
 use Rattle.sim_core.proofs.Lines.{IsParted, IsTextLine, ended-append, ended_line, no_line, parted, same_line}

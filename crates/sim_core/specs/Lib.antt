@@ -1,3 +1,4 @@
+pub mod Inner
 pub mod Status
 pub mod Outputs
 pub mod Audit
@@ -10,7 +11,6 @@ pub mod World
 pub mod Replay
 pub mod Headline
 pub mod Live
-pub mod LiveSteps
 pub mod OwnText
 pub mod Words
 pub mod Table
@@ -18,5 +18,3 @@ pub mod Answers
 pub mod Again
 pub mod Summary
 pub mod Lawful
-pub mod TextLines
-pub mod Compared

@@ -7,7 +7,7 @@ ghost use Rattle.cluster_types.specs.Journals.{moment_of};
 ghost use Rattle.cluster_types.specs.Safety.{IsAtRest};
 ghost use Rattle.cluster_types.specs.Valid.{IsValid};
 ghost use Rattle.live_run.specs.Heads.{CanGoOn};
-ghost use Rattle.sim_core.specs.LiveSteps.{IsBehind, StopsBy, head_end_of, fresh};
+ghost use Rattle.sim_core.specs.Inner.LiveSteps.{IsBehind, StopsBy, head_end_of, fresh};
 
 use cluster_io::{LineReader, Source};
 use crm_lex::WordBuf;

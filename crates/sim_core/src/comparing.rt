@@ -1,7 +1,7 @@
 //! Two texts of lines, and where they differ.
 
 ghost use Rattle.std.specs.Prelude.{◌≡◌, ◌≢◌, ◌≤◌, ◌<◌, length, take, slice_get};
-ghost use Rattle.sim_core.specs.TextLines.{ended_in, kind_by, line_kind_in, unended_in};
+ghost use Rattle.sim_core.specs.Inner.TextLines.{ended_in, kind_by, line_kind_in, unended_in};
 
 use crate::verdict::Clause;
 use memchr::memrchr;

@@ -1,7 +1,7 @@
 //! A verdict, from the texts of two runs.
 
 ghost use Rattle.std.specs.Prelude.{◌≡◌, IfSome};
-ghost use Rattle.sim_core.specs.Compared.{Compares};
+ghost use Rattle.sim_core.specs.Inner.Compared.{Compares};
 ghost use Rattle.sim_core.specs.Lawful.{line_number_at};
 
 use crate::comparing::{alike, ended_in, kind_in, unended_in};

@@ -4,7 +4,7 @@ ghost use Rattle.std.specs.Prelude.{◌≡◌, ℕ, List, Option, true, false, I
 ghost use Rattle.cluster_io.specs.Streams.{Bears};
 ghost use Rattle.sim_core.specs.Answers.{MayAnswer};
 ghost use Rattle.sim_core.specs.Live.{SaysLive};
-ghost use Rattle.sim_core.specs.LiveSteps.{StopsBy, WritesFault, status_of};
+ghost use Rattle.sim_core.specs.Inner.LiveSteps.{StopsBy, WritesFault, status_of};
 ghost use Rattle.sim_core.specs.Replay.{IsReplayOutput};
 ghost use Rattle.sim_core.specs.Table.{live};
 

@@ -4,7 +4,7 @@ ghost use Rattle.std.specs.Prelude.{◌≡◌, ◌+◌, ◌<◌, ◌^◌, IfOk, 
 ghost use Rattle.cluster_types.specs.Journals.{moment_of};
 ghost use Rattle.cluster_types.specs.Safety.{IsAtRest};
 ghost use Rattle.cluster_types.specs.Valid.{IsValid};
-ghost use Rattle.sim_core.specs.Compared.{WroteRun};
+ghost use Rattle.sim_core.specs.Inner.Compared.{WroteRun};
 
 use crate::ended::Ended;
 use cluster_io::{MemorySink, NoMemory};

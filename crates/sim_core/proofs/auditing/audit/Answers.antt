@@ -2,7 +2,7 @@ use Rattle.std.proofs.Common.{◌≡◌, sym, ap, subst, ◌∙◌}
 use Rattle.std.proofs.lemmas.List.Folds.{flat_map-map}
 use Rattle.cluster_types.specs.Texts.{run_line}
 use Rattle.input_reading.specs.declared.run.text.RunTextLine.{RunTextLine}
-use Rattle.sim_core.specs.Compared.{WroteRun}
+use Rattle.sim_core.specs.Inner.Compared.{WroteRun}
 use Rattle.sim_core.specs.Lawful.{answer_in, answers_of_lines, said}
 use Rattle.sim_core.proofs.Verdicts.{judged}
 use Rattle.sim_core.proofs.auditing.audit.Goals as goal

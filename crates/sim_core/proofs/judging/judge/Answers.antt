@@ -1,5 +1,5 @@
 use Rattle.std.proofs.Common.{arith, ◌≡◌, ◌≤◌, ◌-◌, length, inr, sym, subst, ap, ◌∙◌}
-use Rattle.sim_core.specs.TextLines.{line_kind_in}
+use Rattle.sim_core.specs.Inner.TextLines.{line_kind_in}
 use Rattle.sim_core.proofs.AuditDues.{due_is}
 use Rattle.sim_core.proofs.judging.judge.Goals as goal
 

@@ -1,6 +1,6 @@
 use Rattle.std.proofs.Common.{arith, Some, None, refl, ◌∙◌}
 use Rattle.live_run.specs.ResultReaders.{reader_lines, source_in}
-use Rattle.live_run.specs.ReadLaws.{passed_nothing, until_then}
+use Rattle.live_run.specs.Inner.ReadLaws.{passed_nothing, until_then}
 use Rattle.live_run.proofs.Bringing.{none_brings}
 use Rattle.live_run.proofs.result_reader.ResultReader.read_on.Goals as goal
 

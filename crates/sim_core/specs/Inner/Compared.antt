@@ -16,7 +16,7 @@ use Rattle.sim_core.specs.declared.verdict.Clause.TheVariants as clause
 use Rattle.sim_core.specs.declared.verdict.Verdict.{Verdict}
 use Rattle.sim_core.specs.declared.verdict.Verdict.TheVariants.{Yes, No}
 use Rattle.sim_core.specs.Lawful.{line_number_at}
-use Rattle.sim_core.specs.TextLines.{ended_in, line_kind_in, unended_in}
+use Rattle.sim_core.specs.Inner.TextLines.{ended_in, line_kind_in, unended_in}
 
 module _ (c : Cluster) (journal : Journal) (answers : List Answer) (written : List ℕ) where
   -- the whole run was written
