@@ -25,7 +25,7 @@ use std::alloc::Global;
 /// The most transitions of a run: each but the last takes a result line, and at most 10,000 are read.
 const MOST_TRANSITIONS: u32 = 10_001;
 
-/// What a run ends with that is cut by the last answer.
+/// How a run ends when its last answer doesn't apply.
 fn end_of_cut<S: Source, W: Sink>(
     outcomes: &LineOutcomes<'_, '_, S>,
     writer: &mut LineWriter<'_, '_, W>,
@@ -41,7 +41,7 @@ fn end_of_cut<S: Source, W: Sink>(
     }
 }
 
-/// What a run ends with that asks for a line which isn't read: the line is refused, goes past the limit of bytes, or the
+/// How a run ends when the line that it needs can't be read: the line is refused, goes past the limit of bytes, or the
 /// source failed.
 fn end_of_lines<S: Source, W: Sink>(
     outcomes: &LineOutcomes<'_, '_, S>,
