@@ -95,9 +95,12 @@ pub(crate) fn replay<S: Source, W: Sink>(alloc: Global, src: &mut S, out: &mut W
         journal,
     } = head;
     let moment = moment_of(journal.events.as_slice()) as u64;
-    let Ok(names) = Names::new(alloc, &cluster) else {
-        let _src = reader.into_source();
-        return Status::NoMemory;
+    let names = match Names::new(alloc, &cluster) {
+        Ok(names) => names,
+        Err(_) => {
+            let _src = reader.into_source();
+            return Status::NoMemory;
+        }
     };
     let mut answers = LineOutcomes::over(&names, moment, next, reader, words);
     let end = run_live(alloc, &cluster, journal, &mut answers, out);
