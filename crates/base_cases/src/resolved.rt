@@ -40,7 +40,6 @@ pub fn crm(rt: &impl Abort, alloc: Global, text: &str) -> Crm
 }
 
 /// The cluster of a text, whose words and lines are parted so.
-#[tactic(auto, using(input_reading::proofs::ValidInput::stated_valid))]
 pub fn cluster(rt: &impl Abort, alloc: Global, text: &str) -> Cluster
     ensures { IsValid result }
 {
