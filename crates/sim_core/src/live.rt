@@ -1,7 +1,13 @@
 //! The word `replay`: the head of the input is read, and then the run is written while its result lines are read.
 
-ghost use Rattle.std.specs.Prelude.{◌≡◌, ℕ, List, Option, true, false, IfSome};
+ghost use Rattle.std.specs.Prelude.{◌≡◌, ◌<◌, ◌^◌, ℕ, List, [], Option, true, false, IfSome};
+ghost use Rattle.cluster_io.specs.LineReaders.{loan_of, reading_of, source_of};
 ghost use Rattle.cluster_io.specs.Streams.{Bears};
+ghost use Rattle.cluster_types.specs.Journals.{moment_of};
+ghost use Rattle.cluster_types.specs.Safety.{IsAtRest};
+ghost use Rattle.cluster_types.specs.Valid.{IsValid};
+ghost use Rattle.live_run.specs.Heads.{CanGoOn};
+ghost use Rattle.live_run.specs.Reached.{Reaches};
 ghost use Rattle.sim_core.specs.Answers.{MayAnswer};
 ghost use Rattle.sim_core.specs.Live.{SaysLive};
 ghost use Rattle.sim_core.specs.Inner.LiveSteps.{StopsBy, WritesFault, status_of};
@@ -12,7 +18,7 @@ use crate::beginning::{Beginning, HeadEnd, begin};
 use crate::status::Status;
 use crate::text_word::refusal_text;
 use cluster_io::{HeldLines, LineReader, Sink, Source, write_text};
-use cluster_types::moment_of;
+use cluster_types::{Journal, moment_of};
 use crm_lex::WordBuf;
 use input_reading::{Head, InputCause, MOST_BYTES};
 use live_run::{LineOutcomes, LiveEnd, run_live};
@@ -66,6 +72,34 @@ fn status_of(end: LiveEnd) -> Status
     }
 }
 
+/// Carries out the run that follows from a head, over the result lines that the reader gives next. The source comes back as it is then.
+fn run_behind<'c, 's, S: Source, W: Sink>(
+    alloc: Global,
+    names: &'c Names<'c>,
+    journal: Journal,
+    next: u64,
+    reader: LineReader<'s, S>,
+    words: WordBuf,
+    out: &mut W,
+) -> (LiveEnd, &'s mut S)
+    requires valid { IsValid names.now }
+    requires at_rest { IsAtRest journal.events }
+    requires moment { moment_of journal.events < 2 ^ 40 }
+    requires next { next ≡ (reading_of reader).next }
+    requires reader { CanGoOn (reading_of reader) }
+    ensures reaches { IfSome (S.left (source_of reader.entry)) (λ left. Reaches names.now journal.entry (reading_of reader.entry) left
+        (S.left result.1.now) (W.written out.old) (W.written out.new) result.0) }
+    ensures at_end { result.0 ≡ LiveEnd.Done → IfSome (S.left result.1.now) (λ left. left ≡ []) }
+    ensures reads { Bears S.counts_only_failures (result.0 ≡ LiveEnd.ReadFault) (S.faults (source_of reader.entry)) (S.faults result.1.now) }
+    ensures writes { Bears W.counts_only_failures (result.0 ≡ LiveEnd.WriteFault) (W.faults out.old) (W.faults out.new) }
+    ensures same_source { result.1.ghost_name ≡ loan_of reader.entry }
+{
+    let moment = moment_of(journal.events.as_slice()) as u64;
+    let mut answers = LineOutcomes::over(names, moment, next, reader, words);
+    let end = run_live(alloc, names.cluster(), journal, &mut answers, out);
+    (end, answers.into_source())
+}
+
 /// Reads the head of the input, and carries out the run that follows from it, over the result lines behind it. It asks for a
 /// source that hasn't ended.
 pub(crate) fn replay<S: Source, W: Sink>(alloc: Global, src: &mut S, out: &mut W) -> Status
@@ -94,7 +128,6 @@ pub(crate) fn replay<S: Source, W: Sink>(alloc: Global, src: &mut S, out: &mut W
         cluster,
         journal,
     } = head;
-    let moment = moment_of(journal.events.as_slice()) as u64;
     let names = match Names::new(alloc, &cluster) {
         Ok(names) => names,
         Err(_) => {
@@ -102,8 +135,6 @@ pub(crate) fn replay<S: Source, W: Sink>(alloc: Global, src: &mut S, out: &mut W
             return Status::NoMemory;
         }
     };
-    let mut answers = LineOutcomes::over(&names, moment, next, reader, words);
-    let end = run_live(alloc, &cluster, journal, &mut answers, out);
-    let _src = answers.into_source();
+    let (end, _src) = run_behind(alloc, &names, journal, next, reader, words, out);
     status_of(end)
 }
