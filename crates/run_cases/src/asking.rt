@@ -1,6 +1,9 @@
 //! What each question brings.
 
+ghost use Rattle.std.specs.Prelude.{◌≡◌};
+ghost use Rattle.cluster_io.specs.LineReaders.{reading_of};
 ghost use Rattle.cluster_types.specs.Valid.{IsValid};
+ghost use Rattle.live_run.specs.Heads.{CanGoOn};
 
 use crate::starts::{TWO, cluster_of};
 use cluster_io::{LineReader, MemorySource, Source};
@@ -163,6 +166,23 @@ fn brings<S: Source>(outcomes: &mut LineOutcomes<'_, '_, S>, asked: &Asked) -> b
     outcomes.ask() == *next && outcomes.line() == *line && outcomes.stop() == *stop
 }
 
+/// Each question to a source over the reader brings what is expected.
+fn check_questions(
+    rt: &impl Abort,
+    alloc: Global,
+    names: &Names<'_>,
+    reader: LineReader<'_, MemorySource>,
+    expected: &[Asked],
+)
+    requires next { (reading_of reader).next ≡ 1 }
+    requires reader { CanGoOn (reading_of reader) }
+{
+    let mut outcomes = LineOutcomes::new(alloc, names, 1000, 1, reader).expect(rt, "memory");
+    for asked in expected {
+        assert!(rt; brings(&mut outcomes, asked));
+    }
+}
+
 #[tactic(auto, using(live_run::proofs::Readers::fresh_reader))]
 fn check_row(rt: &impl Abort, alloc: Global, cluster: &Cluster, row: &Row)
     requires { IsValid cluster.now }
@@ -174,10 +194,7 @@ fn check_row(rt: &impl Abort, alloc: Global, cluster: &Cluster, row: &Row)
     let mut source = MemorySource::new(text, 8, fails);
     let reader = LineReader::new(alloc, &mut source, *limit, 1_048_576).expect(rt, "memory");
     let names = Names::new(alloc, cluster).expect(rt, "memory");
-    let mut outcomes = LineOutcomes::new(alloc, &names, 1000, 1, reader).expect(rt, "memory");
-    for asked in *expected {
-        assert!(rt; brings(&mut outcomes, asked));
-    }
+    check_questions(rt, alloc, &names, reader, expected);
 }
 
 #[test]
