@@ -1,10 +1,11 @@
 -- What the word `replay` answers says what it has to of the input.
-use Rattle.std.proofs.Common.{◌≡◌, inl, inr, ℕ, true, Option, Some, None, List, [], ◌++◌, drop, length, IfSome, refl, sym, ap, subst, ◌∙◌}
+use Rattle.std.proofs.Common.{◌≡◌, inl, inr, ℕ, Bool, true, Option, Some, None, List, [], ◌++◌, drop, length, IfSome, refl, sym, ap, subst, ◌∙◌}
 use Rattle.std.specs.Option.{option_map}
 use Rattle.std.proofs.Math.Seq.{drop-append_seam}
 use Rattle.std.proofs.lemmas.Option.{IfSome_then}
 use Rattle.cluster_io.specs.Readings.{Reading}
-use Rattle.cluster_io.specs.Streams.{AddsPrefix}
+use Rattle.cluster_io.proofs.Bearing.{Bears-as, Bears-then}
+use Rattle.cluster_io.specs.Streams.{AddsPrefix, Bears}
 use Rattle.cluster_types.specs.declared.cluster.Cluster.{Cluster}
 use Rattle.cluster_types.specs.declared.journal.Journal.{Journal}
 use Rattle.cluster_types.specs.Journals.{moment_of}
@@ -66,6 +67,26 @@ large_says before input left large = record { text = []; due = inl (record { is 
 
 pub amid_says : (before : Option (List ℕ)) (input : List ℕ) (left : Option (List ℕ)) → StopsBy input left stop.ReadFault → SaysLive input left before before ReadFault
 amid_says before input left a = amid_head a refl
+
+-- the status of a failed read is that of this end alone
+pub read_fault_by : (how : LiveEnd) → status_of how ≡ ReadFault → how ≡ end.ReadFault
+read_fault_by end.ReadFault e = refl
+read_fault_by end.Done e = cc
+read_fault_by end.Unexpected e = cc
+read_fault_by end.Refused e = cc
+read_fault_by end.TooLarge e = cc
+read_fault_by end.WriteFault e = cc
+read_fault_by end.NoMemory e = cc
+
+-- and that of a failed write
+pub write_fault_by : (how : LiveEnd) → status_of how ≡ WriteFault → how ≡ end.WriteFault
+write_fault_by end.WriteFault e = refl
+write_fault_by end.Done e = cc
+write_fault_by end.Unexpected e = cc
+write_fault_by end.Refused e = cc
+write_fault_by end.TooLarge e = cc
+write_fault_by end.ReadFault e = cc
+write_fault_by end.NoMemory e = cc
 
 -- the run that follows from the head
 module _ (input : List ℕ) (head : Head) (reading : Reading) (from left before after : Option (List ℕ)) (k : IsBehind input head reading from) where
@@ -162,6 +183,29 @@ module _ {S : Type 0} (left : S → Option (List ℕ)) where
       subst (λ (s : S). IfSome (left s) (λ input. SaysLive input (left final) before after status)) lent
       (subst (λ (s : S). IfSome (left over) (λ input. SaysLive input (left s) before after status)) (sym back)
       (IfSome_then (left over) told (λ input stopped. says input (left begun) stopped)))
+
+  -- what became of a run over the answers of a reader, of the source that comes back
+  pub reaches_by : (asked begun done final : S) (before after : Option (List ℕ)) (cluster other : Cluster) (journal : Journal) (reading at : Reading) (how : LiveEnd)
+      → asked ≡ begun → final ≡ done → at ≡ reading → cluster ≡ other
+      → IfSome (left asked) (λ unread. Reaches cluster journal at unread (left done) before after how)
+      → IfSome (left begun) (λ unread. Reaches other journal reading unread (left final) before after how)
+  reaches_by asked begun done final before after cluster other journal reading at how asks back same of reached =
+      subst (λ (s : S). IfSome (left begun) (λ unread. Reaches other journal reading unread (left s) before after how)) (sym back)
+      (subst (λ (s : S). IfSome (left s) (λ unread. Reaches other journal reading unread (left done) before after how)) asks
+      (subst (λ (r : Reading). IfSome (left asked) (λ unread. Reaches other journal r unread (left done) before after how)) same
+      (subst (λ (x : Cluster). IfSome (left asked) (λ unread. Reaches x journal at unread (left done) before after how)) of reached)))
+
+  -- what a run behind a head leaves of the count of failed reads
+  pub reads_bear : (faults : S → ℕ) (alone : Bool) (failed : Type 0) (src over begun done final : S) (how : LiveEnd) (status : Status)
+      → over ≡ src → final ≡ done → status ≡ status_of how
+      → Bears alone failed (faults over) (faults begun) → (failed → ⊥) → Bears alone (how ≡ end.ReadFault) (faults begun) (faults done)
+      → Bears alone (status ≡ ReadFault) (faults src) (faults final)
+  reads_bear faults alone failed src over begun done final how status lent back is first none last =
+      subst (λ (s : S). Bears alone (status ≡ ReadFault) (faults s) (faults final)) lent
+      (subst (λ (s : S). Bears alone (status ≡ ReadFault) (faults over) (faults s)) (sym back)
+      (subst (λ (s : Status). Bears alone (s ≡ ReadFault) (faults over) (faults done)) (sym is)
+      (Bears-then alone failed (status_of how ≡ ReadFault) (faults over) (faults begun) (faults done) none first
+      (Bears-as alone (how ≡ end.ReadFault) (status_of how ≡ ReadFault) (faults begun) (faults done) (λ e. ap status_of e) (read_fault_by how) last))))
 
   pub run_told : (src over begun asked done final : S) (before after : Option (List ℕ)) (head : Head) (reading at : Reading) (how : LiveEnd) (status : Status)
       → over ≡ src → asked ≡ begun → final ≡ done → at ≡ reading → status ≡ status_of how

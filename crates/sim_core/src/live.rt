@@ -73,9 +73,9 @@ fn status_of(end: LiveEnd) -> Status
 }
 
 /// Carries out the run that follows from a head, over the result lines that the reader gives next. The source comes back as it is then.
-fn run_behind<'c, 's, S: Source, W: Sink>(
+fn run_behind<'s, S: Source, W: Sink>(
     alloc: Global,
-    names: &'c Names<'c>,
+    names: &Names<'_>,
     journal: Journal,
     next: u64,
     reader: LineReader<'s, S>,
@@ -87,7 +87,7 @@ fn run_behind<'c, 's, S: Source, W: Sink>(
     requires moment { moment_of journal.events < 2 ^ 40 }
     requires next { next ≡ (reading_of reader).next }
     requires reader { CanGoOn (reading_of reader) }
-    ensures reaches { IfSome (S.left (source_of reader.entry)) (λ left. Reaches names.now journal.entry (reading_of reader.entry) left
+    ensures reaches { IfSome (S.left (source_of reader.entry)) (λ left. Reaches names.now journal (reading_of reader.entry) left
         (S.left result.1.now) (W.written out.old) (W.written out.new) result.0) }
     ensures at_end { result.0 ≡ LiveEnd.Done → IfSome (S.left result.1.now) (λ left. left ≡ []) }
     ensures reads { Bears S.counts_only_failures (result.0 ≡ LiveEnd.ReadFault) (S.faults (source_of reader.entry)) (S.faults result.1.now) }
