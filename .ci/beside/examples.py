@@ -11,7 +11,7 @@ EXAMPLES = os.path.join(TOP, "examples")
 WORDS = ("scores", "graph", "survive", "replay")
 SHOWN = re.compile(r"^ +\$ (?:cat |\./cekpayo scores )(examples/\S+) \|(?: \./cekpayo scores \|)? tools/summary\n((?:    .*\n)+)", re.M)
 RUN = re.compile(r"^ +\$ cat (examples/\S+) \| \./cekpayo replay\n((?:    .*\n)+)", re.M)
-WALK = re.compile(r"^ +\$ \{ cat (examples/\S+); printf '%s\\n' (.*); \} \| \./cekpayo replay\n((?:    .*\n)+)", re.M)
+WALK = re.compile(r"^ +\$ \{ cat (examples/\S+); printf '%s\\n' (.*); \} \| \./cekpayo replay(?: \| tail -n \+(\d+))?\n((?:    .*\n)+)", re.M)
 PIPE = re.compile(r"^    \$ mkfifo told\n((?:    .*\n)+)", re.M)
 
 
@@ -68,10 +68,11 @@ def try_page():
         expect(f"the run that is shown of {path}", textwrap.dedent(lines) == output, output)
     walks = WALK.findall(pages[1])
     expect("the runs to walk through", len(walks) >= 2)
-    for path, results, lines in walks:
+    for path, results, first, lines in walks:
         text = read(path) + "".join(line + "\n" for line in shlex.split(results)).encode()
         output = own(text, "replay")[1].decode()
-        expect(f"the run of {path} with {results}", textwrap.dedent(lines) == output, output)
+        behind = "".join(output.splitlines(keepends=True)[int(first or 1) - 1 :])
+        expect(f"the run of {path} with {results}", textwrap.dedent(lines) == behind, output)
 
 
 def try_pipe():
