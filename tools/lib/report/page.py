@@ -48,7 +48,7 @@ class Sections:
             ("placement", "Placement", placement.section(case, self.doings, reasons)),
             ("plan", "Plan", plan(self.timeline)),
             ("losses", "Losses", losses.section(case, self.losses)),
-            ("run", "Run", runs.section(case)),
+            ("run", "Simulated run", runs.section(case)),
             ("notes", "Notes", told.section(noted, map(hide, case.source.said))),
             ("text", "Configuration", told.canonical(case.configuration.lines, hide)),
         ]

@@ -1,4 +1,4 @@
-"""The run over the given results: transition after transition, what begins and how it ends."""
+"""The simulated run over the given results: transition after transition, what begins and how it ends."""
 from .case import action, placed
 from .doings import because
 from .markup import Markup, code, count, joined, tag, text
@@ -79,7 +79,7 @@ def outcome(one, code_):
     if code_ is None:
         return Markup('<span class="chip">no end</span>')
     if is_fine(one, code_):
-        return Markup('<span class="chip fine">not running</span>' if one["action"] == "probe" else '<span class="chip fine">done</span>')
+        return Markup('<span class="chip">not running</span>' if one["action"] == "probe" else '<span class="chip">as expected</span>')
     return tag("span", "took too long" if code_ == "timeout" else f"exit code {code_}", class_="chip down")
 
 
@@ -109,9 +109,9 @@ def shown(case, transition):
     down = [joined([code(name), tag("small", " ", because(reason))]) for name, reason in list(none.items())[:20]]
     if len(none) > 20:
         down.append(text(f"{len(none) - 20} more"))
-    words = {"complete": "is completed", "aborted": "is broken off", "not complete": "isn't completed"}[transition.end]
+    words = {"complete": "would be completed", "aborted": "would be broken off", "not complete": "wouldn't be completed"}[transition.end]
     cause = joined([" after: ", transition.cause]) if transition.cause else ""
-    head = tag("summary", tag("h3", f"Transition {transition.number}", tag("small", cause, ", ", words)))
+    head = tag("summary", tag("h3", f"Simulated transition {transition.number}", tag("small", cause, ", ", words)))
     moves = tag("p", count(len(transition.actions), "action begins", "actions begin"), ". ",
                 joined(["Without a place: ", joined(down, ", "), "."]) if down else "Everything has a place.")
     return tag("details", head, moves, tag("ol", *step_rows(transition), class_="steps") if transition.steps else None, open=True, class_="transition")
@@ -120,9 +120,9 @@ def shown(case, transition):
 def section(case):
     found, last = transitions(case.run)
     given = case.status.results
-    said = f"The input has {count(given, 'result')}. After the last one each action ends as expected." if given \
-        else "The input has no results, so each action ends as expected."
-    parts = [tag("p", said, class_="hint"), *[shown(case, one) for one in found[:60]]]
+    ends = f"as the given results say, and after the last of them as expected. The input has {count(given, 'result')}." if given \
+        else "as expected. The input has no results."
+    parts = [tag("p", tag("strong", "Nothing here has happened yet:"), f" each action ends {ends}"), *[shown(case, one) for one in found[:60]]]
     if len(found) > 60:
         parts.append(tag("p", f"and {len(found) - 60:,} more transitions"))
     if last:
