@@ -38,4 +38,4 @@ def section(old, new, old_doings, new_doings, old_losses, new_losses, gone_names
     down = list(losses_changed(old_losses, new_losses))
     said = tag("ul", *down) if down else tag("p", "Of what has a place with the change, the loss of a single node brings down the same as now.")
     out = tag("p", "Not in the changed configuration, so their status is left out: ", names(gone_names), ".") if gone_names else None
-    return joined([out, table, tag("h3", "Losses"), said])
+    return joined([out, table, tag("h3", "Losses, once the plan is done"), said])

@@ -61,7 +61,7 @@ def summary_row(loss):
     return tag("tr", tag("th", code(loss.node), scope="row"), gone, tag("td", moving(loss)), tag("td", rest), data_find=loss.node)
 
 
-SHORT = {"stays": "stays", "down": "down", "none": "", "fewer": "fewer copies"}
+SHORT = {"stays": "stays", "down": "down", "none": "no place", "fewer": "fewer copies"}
 
 
 def matrix_cell(becomes):
@@ -85,10 +85,10 @@ def section(case, losses):
     if not losses:
         return tag("p", "No node is online, so none can be lost.")
     head = tag("thead", tag("tr", *[tag("th", word, scope="col") for word in ("When this node is lost", "goes down", "moves", "the rest")]))
-    caption = tag("caption", "What the loss of each node does, beside the plan")
+    caption = tag("caption", "What the loss of each node does, once this plan is done")
     table = tag("table", caption, head, tag("tbody", *map(summary_row, losses)), class_="summary")
     whole = tag("details", tag("summary", "Each resource at each loss"), matrix(case, losses), open=len(losses) <= 6 and len(case.leaves) <= 30)
-    hint = tag("p", "The node leaves without a word, and is cut off where fencing is on. Quorum stays as the status says it. "
-               "Each row is compared with where everything is to be by the plan.", class_="hint")
+    moment = tag("p", "This is told of the state ", tag("strong", "once this plan is done"), ", not of where everything is now.")
+    hint = tag("p", "The node leaves without a word, and is cut off where fencing is on. Quorum stays as the status says it.", class_="hint")
     region = tag("div", table, class_="wide", tabindex="0", role="region", aria_label="Losses")
-    return joined([hint, region, whole])
+    return joined([moment, hint, region, whole])

@@ -62,14 +62,20 @@ def lost(losses):
         return tag("p", "No node is online, so none can be lost.")
     harmful = [loss for loss in losses if loss.of("down")]
     if len(losses) <= 6:
-        return joined([tag("ul", *map(each_lost, losses)), more("What each loss does", "losses")])
+        return joined([tag("ul", *map(each_lost, losses)), nowhere(losses), more("What each loss does", "losses")])
     lines = [tag("li", tag("strong", code(loss.node), ": "), gone_down(loss.of("down"), 5)) for loss in harmful[:8]]
     if len(harmful) > 8:
         lines.append(tag("li", f"{len(harmful) - 8} more bring something down"))
     fine = [loss.node for loss in losses if not loss.of("down")]
     if fine:
         lines.append(tag("li", tag("strong", names(fine, 4), ": "), tag("span", "nothing goes down", class_="good")))
-    return joined([tag("ul", *lines), more("What each loss does", "losses")])
+    return joined([tag("ul", *lines), nowhere(losses), more("What each loss does", "losses")])
+
+
+def nowhere(losses):
+    """What has no place, whichever node is lost."""
+    own = [leaf for leaf in losses[0].of("none") if all(loss.becomes[leaf][0] == "none" for loss in losses)]
+    return tag("p", names(own, 6), " has" if len(own) == 1 else " have", " no place in any case.") if own else None
 
 
 def more(said, section_id):
@@ -82,7 +88,7 @@ def card(title, body):
 
 def section(case, timeline, doings, losses):
     return tag("div", card("What happens first", first(timeline)), card("What goes where", places(case, doings)),
-               card("If a node is lost", lost(losses)), class_="cards")
+               card("If a node is lost, once this plan is done", lost(losses)), class_="cards")
 
 
 def state(case):
