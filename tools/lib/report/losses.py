@@ -43,7 +43,7 @@ def down(loss):
         found.setdefault(loss.becomes[leaf][1], []).append(leaf)
     if not found:
         return Markup('<span class="chip fine">nothing</span>')
-    return joined([joined([names(own, 12), tag("small", " ", why)]) for why, own in found.items()], "; ")
+    return joined([joined([names(own, 12), ": ", tag("small", why)]) for why, own in found.items()], "; ")
 
 
 def moving(loss):

@@ -38,7 +38,7 @@ def places(case, doings):
             verb = said if len(own) > 1 else ONE.get(said, said + "s")
             lines.append(tag("li", tag("strong", f"{len(own)} {verb}: "), names(own, 6)))
     for leaf in found.get("down", [])[:6]:
-        lines.append(tag("li", tag("strong", "no place: ", class_="bad"), code(leaf), tag("small", " ", because(case.none.get(leaf, ["it has none"])))))
+        lines.append(tag("li", tag("strong", "no place: ", class_="bad"), code(leaf), ": ", tag("small", because(case.none.get(leaf, ["it has none"])))))
     if len(found.get("down", [])) > 6:
         lines.append(tag("li", tag("strong", f"{len(found['down']) - 6} more have no place", class_="bad")))
     return joined([tag("ul", *lines), more("Where everything goes, and why", "placement")])

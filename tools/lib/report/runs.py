@@ -106,14 +106,14 @@ def step_rows(transition):
 
 def shown(case, transition):
     places, none, pinned = placed(transition.lines)
-    down = [joined([code(name), tag("small", " ", because(reason))]) for name, reason in list(none.items())[:20]]
+    down = [joined([code(name), ": ", tag("small", because(reason))]) for name, reason in list(none.items())[:20]]
     if len(none) > 20:
         down.append(text(f"{len(none) - 20} more"))
     words = {"complete": "would be completed", "aborted": "would be broken off", "not complete": "wouldn't be completed"}[transition.end]
     cause = joined([" after: ", transition.cause]) if transition.cause else ""
     head = tag("summary", tag("h3", f"Simulated transition {transition.number}", tag("small", cause, ", ", words)))
     moves = tag("p", count(len(transition.actions), "action begins", "actions begin"), ". ",
-                joined(["Without a place: ", joined(down, ", "), "."]) if down else "Everything has a place.")
+                joined(["Without a place: ", joined(down, "; "), "."]) if down else "Everything has a place.")
     return tag("details", head, moves, tag("ol", *step_rows(transition), class_="steps") if transition.steps else None, open=True, class_="transition")
 
 
