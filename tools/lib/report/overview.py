@@ -1,7 +1,7 @@
 """What a reader wants first: what happens first, what goes where, and what a loss brings down."""
 from .doings import because
 from .markup import code, count, joined, names, tag, text
-from .timeline import duration, label
+from .timeline import counted, duration, label
 
 HEADS = (("moves", "move"), ("starts", "start"), ("restarts", "restart"), ("promotes", "change role"), ("stops", "lose a copy"), ("stays", "stay"),
          ("left", "are left alone"))
@@ -22,7 +22,7 @@ def first(timeline):
                 class_="first", title="These begin at once" if len(own) > 1 else None)
     others = f"; and {len(rest) - 3} more" if len(rest) > 3 else ""
     then = tag("p", "Then: ", joined([at(bar) for bar in rest[:3]], "; "), others, ".") if rest else None
-    total = tag("p", count(len(timeline.actions), "action"), ", at most ", tag("strong", duration(timeline.total)), " by the timeouts. ",
+    total = tag("p", counted(timeline.case.actions), ", at most ", tag("strong", duration(timeline.total)), " by the timeouts. ",
                 tag("a", "The whole plan", href="#plan"), class_="small")
     return joined([tag("p", "At once:") if len(own) > 1 else None, shown, then, total])
 

@@ -2,7 +2,7 @@
 from .case import action, placed
 from .doings import because
 from .markup import Markup, code, count, joined, tag, text
-from .timeline import Bar, label
+from .timeline import Bar, counted, label
 
 EVENTS = ("lost", "up", "quorum", "wait", "report")
 MOST = 250
@@ -112,7 +112,7 @@ def shown(case, transition):
     words = {"complete": "would be completed", "aborted": "would be broken off", "not complete": "wouldn't be completed"}[transition.end]
     cause = joined([" after: ", transition.cause]) if transition.cause else ""
     head = tag("summary", tag("h3", f"Simulated transition {transition.number}", tag("small", cause, ", ", words)))
-    moves = tag("p", count(len(transition.actions), "action begins", "actions begin"), ". ",
+    moves = tag("p", counted(transition.actions.values()), " begins. " if len(transition.actions) == 1 else " begin. ",
                 joined(["Without a place: ", joined(down, "; "), "."]) if down else "Everything has a place.")
     return tag("details", head, moves, tag("ol", *step_rows(transition), class_="steps") if transition.steps else None, open=True, class_="transition")
 

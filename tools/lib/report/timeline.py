@@ -82,6 +82,13 @@ def duration(seconds):
     return " ".join(parts)
 
 
+def counted(actions):
+    """How many actions there are; probes and monitors, which aren't listed one by one, are counted apart."""
+    kinds = [{"probe": "probe", "monitor": "monitor"}.get(one["action"], "action") for one in actions]
+    parts = [count(kinds.count(kind), kind) for kind in ("action", "probe", "monitor") if kind in kinds] or ["0 actions"]
+    return " and ".join([", ".join(parts[:-1])] * (len(parts) > 1) + parts[-1:])
+
+
 def label(bar, watched=True):
     """What a bar does, in words; and how it is watched from there on."""
     if bar.what == "fence":
@@ -138,7 +145,7 @@ def section(timeline):
         return tag("p", "Nothing has to be done: everything is as it should be.")
     lanes = [(node, own) for node, own in timeline.lanes() if own]
     idle = [node for node, own in timeline.lanes() if not own]
-    head = tag("p", count(len(timeline.actions), "action"), ", numbered in an order in which they may run. A bar is as long as its action may take: "
+    head = tag("p", counted(timeline.case.actions), ", numbered in an order in which they may run. A bar is as long as its action may take: "
                "by the timeouts all is done after at most ", tag("strong", duration(timeline.total)), ". What makes it last so long is marked: ",
                path(timeline), ".")
     parts = [tag("section", tag("h3", "On ", code(node)), tag("ol", *[row(timeline, bar) for bar in own]), class_="lane", data_find=node)
