@@ -26,6 +26,8 @@ class Timeline:
         self.total = max((end for _, end, _ in self.times.values()), default=0.0)
         self.critical = set(longest(self.times))
         self.bars = list(self.joined_bars(actions))
+        if all(bar.action["number"] in self.critical for bar in self.bars if bar.what != "monitor"):
+            self.critical = set()  # a mark on everything would tell nothing
 
     def joined_bars(self, actions):
         """A bar for each action. The probes of a node are one, and a monitor is told beside the start that it follows."""
@@ -146,8 +148,9 @@ def section(timeline):
     lanes = [(node, own) for node, own in timeline.lanes() if own]
     idle = [node for node, own in timeline.lanes() if not own]
     head = tag("p", counted(timeline.case.actions), ", numbered in an order in which they may run. A bar is as long as its action may take: "
-               "by the timeouts all is done after at most ", tag("strong", duration(timeline.total)), ". What makes it last so long is marked: ",
-               path(timeline), ".")
+               "by the timeouts all is done after at most ", tag("strong", duration(timeline.total)), ". ",
+               joined(["What makes it last so long is marked: ", path(timeline), "."] if timeline.critical
+                      else ["All that is shown makes it last so long, so nothing is marked."]))
     parts = [tag("section", tag("h3", "On ", code(node)), tag("ol", *[row(timeline, bar) for bar in own]), class_="lane", data_find=node)
              for node, own in lanes]
     none = tag("p", "Nothing is done on ", names(idle, 20), ".") if idle else None
