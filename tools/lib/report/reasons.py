@@ -1,6 +1,7 @@
 """Why a resource goes where it goes, in sentences. All that the page says of it comes from `reason`, here from the totals of `scores`."""
 import functools
 
+from .causes import Ban, Chain, failed
 from .doings import because
 from .markup import code, joined, names, tag, text
 
@@ -59,7 +60,10 @@ def for_chosen(case, resource, totals):
         return joined([names(chosen, 4), ": every node has one" if len(chosen) > 1 else ": the only node"])
     least = min(value(totals[node]) for node in chosen)
     open_to = [node for node in others if value(totals[node]) >= 0 and not case.usable(node)]
-    head = joined([names(chosen, 4), " with a total of " if len(chosen) == 1 else " with totals of ",
+    ban = Ban.of(case, resource, [node for node in others if totals[node] == NEVER])
+    if ban and len(others) == len(chosen) == 1:
+        return joined([ban.words(), "; ", code(chosen[0]), " is next"])
+    head = joined([*([ban.words(), "; "] if ban else []), names(chosen, 4), " with a total of " if len(chosen) == 1 else " with totals of ",
                    ", ".join(dict.fromkeys(shown(totals[node]) for node in chosen))])
     if not open_to:
         return joined([head, "; ", shut_out(case, resource, others, totals)])
@@ -70,6 +74,9 @@ def for_chosen(case, resource, totals):
     if greatest == least:
         return joined([head, ", as ", names(best, 3), " has" if len(best) == 1 else " have",
                        "; of equal ones that with fewer resources goes first, then the earlier one"])
+    chain = Chain.of(case, resource, best[0], chosen[0]) if len(chosen) == len(best) == 1 else None
+    if chain:
+        return chain.words()
     return joined([head, "; ", names(best, 3), " had more (", shown(totals[best[0]]), "), but ", unmet(case, resource, best[0])])
 
 
@@ -169,10 +176,6 @@ def facts(case, resource, totals):
     if rules:
         yield joined(["Rules that name it: ", joined([linked(case, rule) for rule in rules[:12]], ", "),
                       f" and {len(rules) - 12} more" if len(rules) > 12 else "", "."])
-
-
-def failed(failure):
-    return f"monitor every {failure.interval / 1000:g} s" if failure.operation == "monitor" and failure.interval else failure.operation
 
 
 def ended(outcome):
