@@ -32,7 +32,7 @@ def losses_changed(old_losses, new_losses):
 def section(old, new, old_doings, new_doings, old_losses, new_losses, gone_names):
     found = list(rows(old, new, old_doings, new_doings))
     head = tag("thead", tag("tr", *[tag("th", word, scope="col") for word in ("Resource", "As it is", "With the change")]))
-    table = tag("div", tag("table", tag("caption", "What is done otherwise with the change"), head, tag("tbody", *found), class_="summary"),
+    table = tag("div", tag("table", tag("caption", "What is done otherwise with the change"), head, tag("tbody", *found), class_="summary changes"),
                 class_="wide", tabindex="0", role="region", aria_label="Changes") if found \
         else tag("p", "The same is done with each resource.")
     down = list(losses_changed(old_losses, new_losses))

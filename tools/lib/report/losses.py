@@ -4,6 +4,9 @@ from .markup import Markup, code, count, joined, names, tag, text
 from .placement import wide
 
 
+HEADS = ("When this node is lost", "goes down", "moves", "the rest")
+
+
 class Loss:
     """What becomes of each resource when a node is lost: a class for a glance and words."""
 
@@ -57,8 +60,9 @@ def moving(loss):
 def summary_row(loss):
     stays, fewer = len(loss.of("stays")), len(loss.of("fewer"))
     rest = joined([count(stays, "stays", "stay"), f"; {count(fewer, 'clone loses', 'clones lose')} a copy" if fewer else ""])
-    gone = tag("td", down(loss), class_="down" if loss.of("down") else None)
-    return tag("tr", tag("th", code(loss.node), scope="row"), gone, tag("td", moving(loss)), tag("td", rest), data_find=loss.node)
+    gone = tag("td", down(loss), class_="down" if loss.of("down") else None, data_head=HEADS[1])
+    return tag("tr", tag("th", code(loss.node), scope="row", data_head=HEADS[0]), gone, tag("td", moving(loss), data_head=HEADS[2]),
+               tag("td", rest, data_head=HEADS[3]), data_find=loss.node)
 
 
 SHORT = {"stays": "stays", "down": "down", "none": "no place", "fewer": "fewer copies"}
@@ -78,13 +82,14 @@ def matrix(case, losses):
     rows = [tag("tr", tag("th", code(leaf), scope="row"), Markup("".join(matrix_cell(loss.becomes[leaf]) for loss in losses)),
                 data_find=" ".join(case.configuration.aliases(leaf))) for leaf in case.leaves]
     table = tag("table", tag("caption", "Each resource, and what becomes of it when a node is lost"), head, tag("tbody", *rows), class_="losses")
-    return tag("div", table, class_=wide(case), tabindex="0", role="region", aria_label="Losses of each resource, a wide table")
+    swipe = tag("p", "The table may be wider than the screen: move it sideways \u2194", class_="hint swipe") if len(losses) > 2 else None
+    return joined([swipe, tag("div", table, class_=wide(case), tabindex="0", role="region", aria_label="Losses of each resource, a wide table")])
 
 
 def section(case, losses):
     if not losses:
         return tag("p", "No node is online, so none can be lost.")
-    head = tag("thead", tag("tr", *[tag("th", word, scope="col") for word in ("When this node is lost", "goes down", "moves", "the rest")]))
+    head = tag("thead", tag("tr", *[tag("th", word, scope="col") for word in HEADS]))
     caption = tag("caption", "What the loss of each node does, once this plan is done")
     table = tag("table", caption, head, tag("tbody", *map(summary_row, losses)), class_="summary")
     whole = tag("details", tag("summary", "Each resource at each loss"), matrix(case, losses), open=len(losses) <= 6 and len(case.leaves) <= 30)

@@ -25,8 +25,9 @@ def cell(case, resource, node, doing):
     if promotion is not None:
         said += f", promoted {shown(promotion)}"
     told = f' data-total="{said}"' if said else ""
+    told += f' data-node="{text(node)}"'
     if node not in doing.cells:
-        return f"<td{told}></td>"
+        return f'<td{told} class="idle"></td>'
     word = doing.cells[node]
     if word == "stays" and doing.kind == "left":
         word = "stays as it is"

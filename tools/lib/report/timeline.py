@@ -161,4 +161,4 @@ def path(timeline):
     """Links to the actions of the longest path that have a bar of their own."""
     shown = {bar.action["number"] for bar in timeline.bars}
     own = [number for number in longest(timeline.times) if number in shown and timeline.actions[number]["action"] != "monitor"]
-    return joined([tag("a", str(number), href=f"#action-{number}") for number in own[:30]], ", ")
+    return tag("span", joined([tag("a", str(number), href=f"#action-{number}") for number in own[:30]], ", "), class_="path")
