@@ -107,6 +107,44 @@ def try_examples():
             expect(f"report of {names[0]}: {word}", word in re.sub(r" ([.,;])", r"\1", shown) or word in shown, shown[:3000])
 
 
+# What must be with what is elsewhere; a rule that may bar a node too makes the cause uncertain.
+CHAIN = """node n1
+node n2
+primitive a Dummy
+primitive b Dummy
+primitive c Dummy
+primitive d Dummy
+colocation b-with-a inf: b a
+colocation c-with-b inf: c b
+location a-n2 a 500: n2
+rsc_defaults resource-stickiness=10
+property stonith-enabled=no
+{}%status
+now 2000
+quorum yes
+node n1 online
+node n2 online
+op n1 a start 0 0 1000
+op n1 b start 0 0 1000
+op n1 c start 0 0 1000
+op n2 d start 0 {} 1000
+op n2 a monitor 0 7 990
+op n2 b monitor 0 7 990
+op n2 c monitor 0 7 990
+op n1 d monitor 0 7 990
+"""
+
+
+def try_causes():
+    """A cause is named first where it is certain, to the end of the chain; else the totals are."""
+    whole = "it must be where b is ( c-with-b ), which must be where a is ( b-with-a ), and that becomes n2"
+    for more, code, said, unsaid in (("", 0, whole, "its start failed"), ("colocation d-not-c -inf: d c\n", 0, "c-with-b isn't met there", whole),
+                                     ("", 1, "its start failed with exit code 1 on n2; n1 is next", "may not have it"),
+                                     ("location d-not-n2 d -inf: n2\n", 1, "may not have it ( d-not-n2 )", "its start failed")):
+        shown = check_structure("report of a chain", report(data=CHAIN.format(more, code).encode())[1])
+        expect(f"report of a chain {more}{code}", said in re.sub(r" ([.,;])", r"\1", shown) and unsaid not in shown, shown[:2500])
+
+
 def try_hostile(folder):
     """Nothing that an input says becomes markup, and passwords are hidden."""
     data = HOSTILE.format("a").encode()
@@ -188,12 +226,14 @@ def browser():
 
 LOOK = """<script>onload = () => { const frame = document.querySelector("iframe"), page = frame.contentDocument, box = page.getElementById("filter");
   const wide = page.documentElement.scrollWidth, hidden = () => page.querySelectorAll(".places tr[data-find][hidden]").length;
+  const places = page.querySelector("#placement .wide"), whole = places.scrollWidth <= places.clientWidth;
+  const low = [...page.querySelectorAll("summary, #totals, .told a, nav a")].filter(one => one.getBoundingClientRect().height < 24).length;
   box.value = "fence"; box.dispatchEvent(new Event("input"));
-  setTimeout(() => { document.title = [wide <= frame.clientWidth, hidden() > 0, !box.parentNode.hidden].join(" "); }, 600); };</script>"""
+  setTimeout(() => { document.title = [wide <= frame.clientWidth, hidden() > 0, !box.parentNode.hidden, whole, low === 0].join(" "); }, 600); };</script>"""
 
 
 def try_looks(folder):
-    """In a browser, on a phone's width: the page isn't wider than the screen, and the filter finds a resource."""
+    """In a browser, on a phone's width: neither the page nor its table is wider than the screen, what is tapped is high enough, the filter finds a resource."""
     if not browser():
         print("report: Chromium isn't installed, so no page is looked at")
         return
@@ -210,11 +250,12 @@ def try_looks(folder):
         expect("report in Chromium", False, "it took longer than four minutes")
         return
     found = re.search(rb"<title>(.*?)</title>", done.stdout)
-    expect("report in Chromium", found and found[1] == b"true true true", str(found and found[1]) + done.stderr.decode()[-500:])
+    expect("report in Chromium", found and found[1] == b"true true true true true", str(found and found[1]) + done.stderr.decode()[-500:])
 
 
 def try_report(folder):
     try_examples()
+    try_causes()
     try_hostile(folder)
     try_change(folder)
     try_looks(folder)
