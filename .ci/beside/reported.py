@@ -90,12 +90,13 @@ def try_examples():
     said = {
         ("group-moves.crm", "group-moves.results"): ["What happens first stop db on db1", "Loss of db1 : nothing goes down", "Loss of db2 : db goes down",
                                                      "Moves from db1 to db2", "took too long"],
-        ("web-server.crm", "web-server.status"): ["group site", "Moves from web1 to web2", "its start failed with exit code 1 on web1; web2 is next", "The input has no results",
-                                                       "Nothing here has happened yet"],
+        ("web-server.crm", "web-server.status"): ["group site", "Moves from web1 to web2", "its start failed with exit code 1 on web1; web2 is next",
+                                                  "The input has no results", "Nothing here has happened yet"],
         ("drbd-postgresql.crm", "drbd-postgresql.status"): [
             "its group postgresql must be where data-copies is promoted ( postgresql-where-promoted ), and that becomes db2",
             "8 actions and 5 monitors, at most", "8 actions and 5 monitors begin", "database-address : no node could be chosen", "so nothing is marked"],
-        ("failed-start.crm",): ["If a node is lost, once this plan is done", "archive and report have no place in any case", "archive : no node could be chosen",
+        ("failed-start.crm",): ["If a node is lost, once this plan is done", "archive and report have no place in any case",
+                                "archive : no node could be chosen",
                                 "the start of site, which is in its group, failed with exit code 1 on web1; web2 is next"],
         ("sap-hana.crm",): ["promotable clone", "is promoted on hana2", "Totals for the promotion"],
     }
