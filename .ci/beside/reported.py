@@ -94,7 +94,7 @@ def try_examples():
                                                   "The input has no results", "Nothing here has happened yet"],
         ("drbd-postgresql.crm", "drbd-postgresql.status"): [
             "its group postgresql must be where data-copies is promoted ( postgresql-where-promoted ), and that becomes db2",
-            "8 actions and 5 monitors, at most", "8 actions and 5 monitors begin", "database-address : no node could be chosen", "so nothing is marked"],
+            "8 actions and 5 monitors, at most", "8 actions and 5 monitors begin", "database-address : no node could be chosen", "so none is marked"],
         ("failed-start.crm",): ["If a node is lost, once this plan is done", "archive and report have no place in any case",
                                 "archive : no node could be chosen",
                                 "the start of site, which is in its group, failed with exit code 1 on web1; web2 is next"],
@@ -254,8 +254,16 @@ def try_looks(folder):
     expect("report in Chromium", found and found[1] == b"true true true true true", str(found and found[1]) + done.stderr.decode()[-500:])
 
 
+def try_same():
+    """The page of an input is always the same, whatever order Python gives the members of a set."""
+    path = os.path.join(TOP, "examples", "drbd-postgresql.crm")
+    pages = [subprocess.run([WRAPPER, "report", path], env=dict(ENVIRONMENT, PYTHONHASHSEED=seed), stdout=subprocess.PIPE).stdout for seed in "123456"]
+    expect("the same report each time", len(set(pages)) == 1 and pages[0].startswith(b"<!"))
+
+
 def try_report(folder):
     try_examples()
+    try_same()
     try_causes()
     try_hostile(folder)
     try_change(folder)

@@ -87,7 +87,7 @@ class Configuration:
 
     def aliases(self, leaf):
         """The names under which rules may mean a resource."""
-        return {leaf, self.group_of.get(leaf, leaf), self.above.get(leaf, leaf)}
+        return list(dict.fromkeys([leaf, self.group_of.get(leaf, leaf), self.above.get(leaf, leaf)]))
 
     def rules_of(self, leaf):
         """The rules that name a resource, or what it is in."""

@@ -1,4 +1,5 @@
 """Makes markup. Whatever comes from an input goes through `text`, or through `tag`, which does the same."""
+import functools
 from html import escape
 
 
@@ -11,11 +12,13 @@ def visible(value):
     return "".join(char if char == "\t" or char.isprintable() else f"\u27e8U+{ord(char):04X}\u27e9" for char in str(value))
 
 
-def text(value):
-    if isinstance(value, Markup):
-        return value
-    value = str(value)
+@functools.lru_cache(maxsize=None)  # a page says the same words many times
+def escaped(value):
     return Markup(escape(value if value.isprintable() else visible(value), quote=True))
+
+
+def text(value):
+    return value if isinstance(value, Markup) else escaped(str(value))
 
 
 def tag(name, *children, **attributes):
@@ -25,6 +28,7 @@ def tag(name, *children, **attributes):
     return Markup(f"<{name}{said}>{joined(children)}</{name}>")
 
 
+@functools.lru_cache(maxsize=None)
 def attribute(key):
     return key.rstrip("_").replace("_", "-")
 

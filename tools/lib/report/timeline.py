@@ -150,7 +150,7 @@ def section(timeline):
     head = tag("p", counted(timeline.case.actions), ", numbered in an order in which they may run. A bar is as long as its action may take: "
                "by the timeouts all is done after at most ", tag("strong", duration(timeline.total)), ". ",
                joined(["What makes it last so long is marked: ", path(timeline), "."] if timeline.critical
-                      else ["All that is shown makes it last so long, so nothing is marked."]))
+                      else ["Every action shown is on the longest path, so none is marked."]))
     parts = [tag("section", tag("h3", "On ", code(node)), tag("ol", *[row(timeline, bar) for bar in own]), class_="lane", data_find=node)
              for node, own in lanes]
     none = tag("p", "Nothing is done on ", names(idle, 20), ".") if idle else None
