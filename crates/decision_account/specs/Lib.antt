@@ -1,0 +1,5 @@
+pub mod Parts
+pub mod Verdicts
+pub mod Holders
+pub mod Accounts
+pub mod Grounds

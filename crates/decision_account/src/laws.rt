@@ -1,0 +1,1 @@
+//! Laws of the accounts of decisions, for every cluster, journal and list of promotion scores.
