@@ -1,1 +1,4 @@
 mod AccountExamples
+pub mod Totals
+pub mod ScoresLines
+pub mod TrueVerdicts

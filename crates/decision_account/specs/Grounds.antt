@@ -1,5 +1,5 @@
 -- What is true where a verdict is given, and where a rule is named (follows from the definitions of which nodes a decision chooses).
-use Rattle.std.specs.Prelude.{◌≡◌, ℕ, ◌<◌, ◌||◌, true, false, pos, int_lt, nat_lt, List, length, Contains}
+use Rattle.std.specs.Prelude.{◌≡◌, ◌≢◌, ℕ, ◌<◌, ◌||◌, true, false, pos, int_lt, nat_lt, List, length, Contains}
 use Rattle.std.specs.Ordering.{int_eq}
 use Rattle.cluster_types.specs.declared.cluster.Cluster.{Cluster}
 use Rattle.cluster_types.specs.declared.journal.Event.{Event}
@@ -12,13 +12,14 @@ use Rattle.cluster_types.specs.Tables.{Targets, holds_role, load_of}
 use Rattle.decision_account.specs.Verdicts.{Verdict, beside, below, capped, chosen, forbidden, fuller, later, less, unplaced, unusable, without}
 
 module _ (c : Cluster) (es : List Event) (promotions : List Promotion) (table : Targets) (d : Decision) (n : ℕ) where
-  -- the node is a candidate that isn't chosen, and m is chosen and goes before it
+  -- the node is a candidate that isn't chosen, and m goes before it: the last that is chosen, since each other that is goes before m
   pub record IsPassedBy (m : ℕ) : Type 0 where
     pub candidate : is_candidate c es promotions table d n ≡ true
     pub not_chosen : is_chosen c es promotions table d n ≡ false
     pub within : m < length c.nodes
     pub chosen_there : is_chosen c es promotions table d m ≡ true
     pub before : is_chosen_before c es promotions table d m n ≡ true
+    pub last : (k : ℕ) → k < length c.nodes → is_chosen c es promotions table d k ≡ true → k ≢ m → is_chosen_before c es promotions table d k m ≡ true
 
   -- what each verdict says of the node
   abbrev pub IsTrueVerdict : Verdict → Type 0

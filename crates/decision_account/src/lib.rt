@@ -1,4 +1,6 @@
-//! How each decision came about: what each node counted for it, and why it was chosen or not; its definitions, and their laws.
+//! How each decision came about: what each node counted for it, and why it was chosen or not. Its definitions, and their laws.
 #![tactic(auto)]
 
 mod laws;
+
+pub use laws::{parts_add_up, scores_are_left, verdicts_are_true};
