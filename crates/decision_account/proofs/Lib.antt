@@ -2,3 +2,4 @@ mod AccountExamples
 pub mod Totals
 pub mod ScoresLines
 pub mod TrueVerdicts
+pub mod TrueHolders

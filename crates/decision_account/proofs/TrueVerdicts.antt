@@ -26,7 +26,7 @@ use Rattle.plan_laws.proofs.FirstOnes.{first_among}
 use Rattle.plan_laws.proofs.MadeOnes.{never_both}
 use Rattle.decision_account.specs.Grounds.{IsPassedBy, IsTrueVerdict}
 use Rattle.decision_account.specs.Verdicts as verdict
-use Rattle.decision_account.specs.Verdicts.{Verdict, is_last_chosen, joined_apart, last_chosen, missing_primary, outdone, passed_by, refusal, verdict_on}
+use Rattle.decision_account.specs.Verdicts.{Verdict, is_last_chosen, joined_apart, joins_apart, last_chosen, misses_primary, missing_primary, outdone, passed_by, refusal, verdict_on}
 
 -- what a search finds is there and passes, and where it finds none all fail
 pub record Found {X : Type 0} (p : X → Bool) (xs : List X) (x : X) : Type 0 where
@@ -77,7 +77,7 @@ or_else : (a b : Bool) → (a ≡ true → ⊥) → a || b ≡ true → b ≡ tr
 or_else true b never h = absurd (never refl)
 or_else false b never h = h
 
-fails : (b : Bool) → not b ≡ true → b ≡ false
+pub fails : (b : Bool) → not b ≡ true → b ≡ false
 fails true h = cc
 fails false h = refl
 
@@ -220,25 +220,25 @@ module _ (c : Cluster) (es : List Event) (ps : List Promotion) (table : Targets)
     by_tests true e false f b g o h q i s j = f
     by_tests true e true f false g o h q i s j = not_least (total_on c es ps table d n) g
     by_tests true e true f true g (Some col) h q i s j =
-        let it = found (λ col. is_mandatory col && is_dependent d col && not (holds_role table col.primary col.primary_role n)) c.colocations col h in
+        let it = found (misses_primary table d n) c.colocations col h in
         let two = sooner (is_mandatory col && is_dependent d col) (not (holds_role table col.primary col.primary_role n)) it.passes in
         (it.there, sooner (is_mandatory col) (is_dependent d col) two, later (is_mandatory col) (is_dependent d col) two,
         fails (holds_role table col.primary col.primary_role n) (later (is_mandatory col && is_dependent d col) (not (holds_role table col.primary col.primary_role n)) it.passes))
     by_tests true e true f true g None h (Some col) i s j =
-        let it = found (λ col. is_separation col && (would_join_primary table d n col || would_join_dependent table d n col)) c.colocations col i in
+        let it = found (joins_apart table d n) c.colocations col i in
         (it.there, sooner (is_separation col) _ it.passes, later (is_separation col) _ it.passes)
     by_tests true e true f true g None h None i false j = j
     by_tests true e true f true g None h None i true j = outdone_true fit (last_chosen c es ps table d) refl
       where
         primaries : has_primaries c table d n ≡ true
         primaries =
-            none_found (λ col. is_mandatory col && is_dependent d col && not (holds_role table col.primary col.primary_role n))
+            none_found (misses_primary table d n)
             (λ col. implies (is_mandatory col && is_dependent d col) (holds_role table col.primary col.primary_role n))
             (λ col k. has_primary_there (is_mandatory col) (is_dependent d col) (holds_role table col.primary col.primary_role n) k) c.colocations h
 
         apart : is_apart c table d n ≡ true
         apart =
-            none_found (λ col. is_separation col && (would_join_primary table d n col || would_join_dependent table d n col))
+            none_found (joins_apart table d n)
             (λ col. implies (is_separation col) (not (would_join_primary table d n col) && not (would_join_dependent table d n col)))
             (λ col k. joins_neither (is_separation col) (would_join_primary table d n col) (would_join_dependent table d n col) k) c.colocations i
 

@@ -19,11 +19,14 @@ module _ (c : Cluster) (targets : Targets) where
   abbrev pub has_first_left : Order → ℕ → Bool
   has_first_left o n = list_any (λ m. is_in_scope o n m && holds_role targets o.first (role_by o.first_op) m) (range_with_len 0 (length c.nodes))
 
-  -- the first mandatory order that holds the decision back on the node
+  -- a mandatory order whose words both give a role, and the second that of the decision; its first has no target left
+  abbrev pub misses_first : Decision → ℕ → Order → Bool
+  misses_first d n o =
+      is_mandatory_order o.kind && is_up o.first_op && is_up o.then_op && is_same_decision d (decision_of o.then_leaf (role_by o.then_op)) && not (has_first_left o n)
+
+  -- the first such order
   abbrev pub missing_first : Decision → ℕ → Option Order
-  missing_first d n =
-      find (λ (o : Order). is_mandatory_order o.kind && is_up o.first_op && is_up o.then_op && is_same_decision d (decision_of o.then_leaf (role_by o.then_op))
-      && not (has_first_left o n)) c.orders
+  missing_first d n = find (misses_first d n) c.orders
 
   -- the id of the first mandatory colocation that holds the decision back on the node, or else of the first such order
   abbrev pub holder_of : Decision → ℕ → Option (List ℕ)

@@ -26,14 +26,21 @@ pub data Verdict : Type 0 where
   fuller : ℕ → Verdict
   later : ℕ → Verdict
 
-module _ (c : Cluster) (table : Targets) (d : Decision) (n : ℕ) where
-  -- the first mandatory colocation of the decision whose primary doesn't hold its role on the node
-  abbrev pub missing_primary : Option Colocation
-  missing_primary = find (λ (col : Colocation). is_mandatory col && is_dependent d col && not (holds_role table col.primary col.primary_role n)) c.colocations
+module _ (table : Targets) (d : Decision) (n : ℕ) where
+  -- a mandatory colocation of the decision, whose primary doesn't hold its role on the node
+  abbrev pub misses_primary : Colocation → Bool
+  misses_primary col = is_mandatory col && is_dependent d col && not (holds_role table col.primary col.primary_role n)
 
-  -- the first separation of which the decision would join one side to the other on the node
-  abbrev pub joined_apart : Option Colocation
-  joined_apart = find (λ (col : Colocation). is_separation col && (would_join_primary table d n col || would_join_dependent table d n col)) c.colocations
+  -- a separation, of which the decision would join one side to the other on the node
+  abbrev pub joins_apart : Colocation → Bool
+  joins_apart col = is_separation col && (would_join_primary table d n col || would_join_dependent table d n col)
+
+-- the first such colocations
+abbrev pub missing_primary : Cluster → Targets → Decision → ℕ → Option Colocation
+missing_primary c table d n = find (misses_primary table d n) c.colocations
+
+abbrev pub joined_apart : Cluster → Targets → Decision → ℕ → Option Colocation
+joined_apart c table d n = find (joins_apart table d n) c.colocations
 
 module _ (c : Cluster) (es : List Event) (promotions : List Promotion) (table : Targets) (d : Decision) where
   -- the first test of a candidate that the node fails

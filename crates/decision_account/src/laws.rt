@@ -1,21 +1,29 @@
 //! Laws of how decisions came about, for every cluster, journal and list of promotion scores.
 
-ghost use Rattle.std.specs.Prelude.{◌≡◌, ◌<◌, ℕ, true, List, [], ◌∷◌, length, filter};
+ghost use Rattle.std.specs.Prelude.{◌≡◌, ◌<◌, ℕ, true, Some, List, [], ◌∷◌, length, filter, Contains, ◌↔◌};
+ghost use Rattle.std.specs.Option.{IsSome};
 ghost use Rattle.score.specs.Total.{total_of};
 ghost use Rattle.cluster_types.specs.declared.cluster.Cluster.{Cluster as ClusterOf};
 ghost use Rattle.cluster_types.specs.declared.journal.Event.{Event as EventOf};
 ghost use Rattle.cluster_types.specs.declared.journal.Promotion.{Promotion as PromotionOf};
 ghost use Rattle.cluster_types.specs.declared.placement.Decision.{Decision as DecisionOf};
+ghost use Rattle.cluster_types.specs.declared.placement.Decision.TheVariants as decision;
 ghost use Rattle.cluster_types.specs.declared.placement.Placed.{Placed as PlacedOf};
+ghost use Rattle.cluster_types.specs.declared.rules.Colocation.{Colocation as ColocationOf};
+ghost use Rattle.cluster_types.specs.declared.rules.Order.{Order as OrderOf};
 ghost use Rattle.cluster_types.specs.Choice.{is_chosen, total_on};
+ghost use Rattle.cluster_types.specs.Held.{AreTargets, Held};
 ghost use Rattle.cluster_types.specs.Plans.{IsPlaced};
+ghost use Rattle.cluster_types.specs.Reasons.{IsHeldByColocation, IsHeldByOrder};
 ghost use Rattle.cluster_types.specs.Tables.{Targets};
 ghost use Rattle.cluster_types.specs.Texts.{scores_text};
+ghost use Rattle.cluster_types.specs.Valid.{IsValid};
 ghost use Rattle.decision_account.specs.Accounts.{is_scores_line, why_lines, why_text};
 ghost use Rattle.decision_account.specs.Grounds.{IsTrueVerdict};
+ghost use Rattle.decision_account.specs.Holders.{held_decision, holder_of, misses_first};
 ghost use Rattle.decision_account.specs.Parts.{base_parts, part_scores, preference_parts, without_zeros};
 ghost use Rattle.decision_account.specs.Verdicts as verdict;
-ghost use Rattle.decision_account.specs.Verdicts.{verdict_on};
+ghost use Rattle.decision_account.specs.Verdicts.{misses_primary, verdict_on};
 
 /// The parts that are told of a node add up to its total: that of two totals, of the parts before colocations and of those of colocations.
 pub fn parts_add_up()
@@ -39,4 +47,19 @@ pub fn verdicts_are_true()
 pub fn scores_are_left()
     ensures { (c : ClusterOf) (events : List EventOf) (promotions : List PromotionOf) (placed : PlacedOf) (is : IsPlaced c events promotions placed)
         → why_text c (filter is_scores_line (why_lines c events promotions is.decisions placed)) ≡ scores_text c placed }
+{}
+
+/// What is told as held back is held back, and by a rule: of a valid cluster, for the targets in the end. The rules that hold a place back are those of the
+/// reason that a leaf is held.
+pub fn holders_hold_back()
+    ensures held { (c : ClusterOf) (events : List EventOf) (chosen targets : Targets) (r n : ℕ) (d : DecisionOf) → IsValid c → AreTargets c events chosen targets
+        → r < length c.leaves → n < length c.nodes → held_decision chosen targets r n ≡ Some d → Held c events chosen d n }
+    ensures by_rule { (c : ClusterOf) (events : List EventOf) (chosen targets : Targets) (r n : ℕ) (d : DecisionOf) → IsValid c → AreTargets c events chosen targets
+        → r < length c.leaves → n < length c.nodes → held_decision chosen targets r n ≡ Some d → IsSome (holder_of c targets d n) }
+    ensures colocation { (c : ClusterOf) (events : List EventOf) (chosen targets : Targets) (r n : ℕ) (col : ColocationOf) → IsValid c
+        → AreTargets c events chosen targets → n < length c.nodes → Contains c.colocations col
+        → (misses_primary targets (decision.Place r) n col ≡ true) ↔ IsHeldByColocation c events chosen r n col }
+    ensures order { (c : ClusterOf) (events : List EventOf) (chosen targets : Targets) (r n : ℕ) (o : OrderOf) → IsValid c
+        → AreTargets c events chosen targets → n < length c.nodes → Contains c.orders o
+        → (misses_first c targets (decision.Place r) n o ≡ true) ↔ IsHeldByOrder c events chosen r n o }
 {}

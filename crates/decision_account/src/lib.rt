@@ -3,4 +3,4 @@
 
 mod laws;
 
-pub use laws::{parts_add_up, scores_are_left, verdicts_are_true};
+pub use laws::{holders_hold_back, parts_add_up, scores_are_left, verdicts_are_true};
