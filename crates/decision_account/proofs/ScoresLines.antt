@@ -1,5 +1,5 @@
 -- Without parts, verdicts and held lines there are left the lines of `scores`.
-use Rattle.std.proofs.Common.{◌≡◌, ℕ, suc, zero, ◌+◌, ℤ, Option, Some, None, List, [], ◌∷◌, ◌++◌, length, map, filter, refl, ap, sym, ◌∙◌}
+use Rattle.std.proofs.Common.{◌≡◌, ℕ, suc, zero, ◌+◌, Option, Some, None, List, [], ◌∷◌, ◌++◌, length, map, filter, refl, ap, ◌∙◌}
 use Rattle.std.specs.List.{enumerate_from, flat_map, range_with_len}
 use Rattle.std.specs.Option.{option_map_or}
 use Rattle.std.proofs.lemmas.Grind.{flat_map-append}
@@ -16,8 +16,8 @@ use Rattle.cluster_types.specs.Decisions.{leaf_of}
 use Rattle.cluster_types.specs.Pins.{pinned_targets}
 use Rattle.cluster_types.specs.Plans.{with_totals}
 use Rattle.cluster_types.specs.Tables.{Targets, targets_of}
-use Rattle.cluster_types.specs.Texts.{decided_lines, decision_line, run_line, score_line, scores_text, target_lines}
-use Rattle.decision_account.specs.Accounts.{WhyLine, account_lines, counted, decided, decision_lines, held, held_lines, holder_lines, is_scores_line, judged, node_lines, scored, told, why_line, why_lines, why_text}
+use Rattle.cluster_types.specs.Texts.{decided_lines, run_line, score_line, scores_text, target_lines}
+use Rattle.decision_account.specs.Accounts.{WhyLine, account_lines, counted, decision_lines, held, held_lines, holder_lines, is_scores_line, judged, node_lines, scored, told, why_line, why_lines, why_text}
 use Rattle.decision_account.specs.Holders.{held_decision, holder_of}
 use Rattle.decision_account.specs.Parts.{ScorePart, told_parts}
 use Rattle.decision_account.specs.Verdicts.{verdict_on}
@@ -89,5 +89,10 @@ module _ (c : Cluster) where
         let goals = target_lines c placed.pins (targets_of placed.table) placed.none in
         rest-append (accounts ++ holding) (map told goals)
         ∙ ap (λ (xs : List ℕ). xs ++ rest_of (map told goals)) (rest-append accounts holding)
-        ∙ rw (all_decisions (pinned_targets c es) ds, no_held_lines (after_decisions c es ps (pinned_targets c es) ds) (targets_of placed.table), all_targets goals,
-        append-nil (flat_map (decided_lines c) (with_totals c es ps (pinned_targets c es) ds)), same) refl
+        ∙ rw (
+          all_decisions (pinned_targets c es) ds,
+          no_held_lines (after_decisions c es ps (pinned_targets c es) ds) (targets_of placed.table),
+          all_targets goals,
+          append-nil (flat_map (decided_lines c) (with_totals c es ps (pinned_targets c es) ds)),
+          same,
+        ) refl

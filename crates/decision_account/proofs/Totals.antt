@@ -1,11 +1,11 @@
 -- The parts of a node add up to its total: their scores are the terms of the total, and a term of 0 changes none.
-use Rattle.std.proofs.Common.{arith, ◌≡◌, ℕ, ◌==◌, ◌&&◌, ◌||◌, ℤ, pos, Bool, true, false, not, cond, Option, None, List, [], ◌∷◌, ◌++◌, map, filter, fold, refl, ap, sym, ◌∙◌}
+use Rattle.std.proofs.Common.{arith, ◌≡◌, ℕ, ◌==◌, ◌&&◌, ◌||◌, ℤ, pos, Bool, true, false, not, cond, Option, None, List, [], ◌∷◌, ◌++◌, map, filter, fold, refl, ap, ◌∙◌}
 use Rattle.std.specs.Prelude.{◌+ℤ◌}
-use Rattle.std.specs.List.{flat_map, list_any}
+use Rattle.std.specs.List.{flat_map}
 use Rattle.std.specs.Ordering.{int_eq}
 use Rattle.std.proofs.lemmas.Int.{ints}
 use Rattle.std.proofs.lemmas.List.{map-append}
-use Rattle.score.specs.Total.{cut, has_points, infinity, minus_infinity, sum_of, total_of}
+use Rattle.score.specs.Total.{has_points, infinity, minus_infinity, total_of}
 use Rattle.cluster_types.specs.declared.cluster.Cluster.{Cluster}
 use Rattle.cluster_types.specs.declared.journal.Event.{Event}
 use Rattle.cluster_types.specs.declared.journal.Promotion.{Promotion}
@@ -18,7 +18,7 @@ use Rattle.cluster_types.specs.declared.rules.RuleLocation.{RuleLocation}
 use Rattle.cluster_types.specs.Choice.{is_dependent, is_finite_colocation, preference, total_on}
 use Rattle.cluster_types.specs.Tables.{Targets, holds_role}
 use Rattle.cluster_types.specs.Terms.{ban_scores, base, is_promoted, is_started, location_scores, opt_in_scores, own_terms, promotion_score, rule_holds, stickiness_scores, terms_of, with_lenders}
-use Rattle.decision_account.specs.Parts.{Origin, ScorePart, base_parts, from_ban, from_colocation, from_location, from_opt_in, from_stickiness, is_told, lender_of, location_parts, own_parts, part_of, part_scores, preference_parts, without_zeros}
+use Rattle.decision_account.specs.Parts.{Origin, ScorePart, base_parts, from_ban, from_colocation, from_location, from_opt_in, from_stickiness, lender_of, location_parts, own_parts, part_of, part_scores, preference_parts, without_zeros}
 
 -- parts that are made one by one have the scores that are made so
 scores_made : {X : Type 0} (f : X → ScorePart) (g : X → ℤ) → ((x : X) → (f x).score ≡ g x) → (xs : List X) → part_scores (map f xs) ≡ map g xs

@@ -1,10 +1,10 @@
 -- What a verdict says of a node is true.
-use Rattle.std.proofs.Common.{arith, ◌≡◌, ◌≢◌, ◌<◌, ◌≤◌, ◌==◌, ◌&&◌, ◌||◌, nat_lt, int_lt, ℕ, ℤ, pos, zero, suc, Bool, true, false, not, cond, if◌then◌else◌, Option, Some, None, List, [], ◌∷◌, length, count_by, slice_index_or, refl, sym, subst, ap, ◌∙◌, Contains, inl, inr}
+use Rattle.std.proofs.Common.{arith, ◌≡◌, ◌≢◌, ◌<◌, ◌==◌, ◌&&◌, ◌||◌, nat_lt, int_lt, ℕ, ℤ, pos, zero, suc, Bool, true, false, not, cond, if◌then◌else◌, Option, Some, None, List, [], ◌∷◌, length, count_by, slice_index_or, refl, sym, subst, Contains}
 use Rattle.std.specs.Prelude.{find, int_le, option_map, unwrap_or}
 use Rattle.std.specs.List.{list_all, range_with_len}
 use Rattle.std.specs.Option.{option_map_or, option_or}
 use Rattle.std.specs.Ordering.{int_eq}
-use Rattle.std.proofs.lemmas.Bool.{and_from, cases_eq, false_from_ne_true, lt-ltb, ltb-true, eqb-true}
+use Rattle.std.proofs.lemmas.Bool.{and_from, lt-ltb, ltb-true, eqb-true}
 use Rattle.std.proofs.lemmas.Int.{ints}
 use Rattle.lemmas.proofs.Booleans.{implied, later, sooner}
 use Rattle.std.proofs.lemmas.List.FromFn.{length-range_with_len, get_or-range_with_len}
@@ -221,9 +221,12 @@ module _ (c : Cluster) (es : List Event) (ps : List Promotion) (table : Targets)
     by_tests true e true f false g o h q i s j = not_least (total_on c es ps table d n) g
     by_tests true e true f true g (Some col) h q i s j =
         let it = found (misses_primary table d n) c.colocations col h in
-        let two = sooner (is_mandatory col && is_dependent d col) (not (holds_role table col.primary col.primary_role n)) it.passes in
-        (it.there, sooner (is_mandatory col) (is_dependent d col) two, later (is_mandatory col) (is_dependent d col) two,
-        fails (holds_role table col.primary col.primary_role n) (later (is_mandatory col && is_dependent d col) (not (holds_role table col.primary col.primary_role n)) it.passes))
+        let two = sooner (is_mandatory col && is_dependent d col) (not (holds_role table col.primary col.primary_role n)) it.passes in (
+          it.there,
+          sooner (is_mandatory col) (is_dependent d col) two,
+          later (is_mandatory col) (is_dependent d col) two,
+          fails (holds_role table col.primary col.primary_role n) (later (is_mandatory col && is_dependent d col) (not (holds_role table col.primary col.primary_role n)) it.passes),
+        )
     by_tests true e true f true g None h (Some col) i s j =
         let it = found (joins_apart table d n) c.colocations col i in
         (it.there, sooner (is_separation col) _ it.passes, later (is_separation col) _ it.passes)

@@ -5,7 +5,6 @@ use Rattle.cluster_types.specs.declared.cluster.Cluster.{Cluster}
 use Rattle.cluster_types.specs.declared.journal.Event.{Event}
 use Rattle.cluster_types.specs.declared.journal.Promotion.{Promotion}
 use Rattle.cluster_types.specs.declared.placement.Decision.{Decision}
-use Rattle.cluster_types.specs.declared.rules.Colocation.{Colocation}
 use Rattle.cluster_types.specs.Choice.{cap_of, is_candidate, is_chosen, is_chosen_before, is_dependent, is_mandatory, is_permitted, is_placed_for, is_separation, total_on, would_join_dependent, would_join_primary}
 use Rattle.cluster_types.specs.NodeStates.{is_usable}
 use Rattle.cluster_types.specs.Tables.{Targets, holds_role, load_of}

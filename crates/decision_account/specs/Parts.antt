@@ -1,6 +1,6 @@
 -- What a node counts for a decision: each term of its total, with the statement or the fact that it comes from (Pacemaker Explained, "Scores"; the
 -- order of the terms is a rule of this project).
-use Rattle.std.specs.Prelude.{ℕ, ◌==◌, ◌&&◌, Bool, not, if◌then◌else◌, ℤ, pos, Option, Some, None, List, [], ◌∷◌, ◌++◌, map, filter, flat_map}
+use Rattle.std.specs.Prelude.{ℕ, ◌==◌, ◌&&◌, Bool, not, if◌then◌else◌, ℤ, pos, Option, Some, None, List, ◌∷◌, ◌++◌, map, filter, flat_map}
 use Rattle.std.specs.Ordering.{int_eq}
 use Rattle.cluster_types.specs.declared.cluster.Cluster.{Cluster}
 use Rattle.cluster_types.specs.declared.journal.Event.{Event}
