@@ -3,3 +3,4 @@ pub mod Totals
 pub mod ScoresLines
 pub mod TrueVerdicts
 pub mod TrueHolders
+pub mod OneAccount

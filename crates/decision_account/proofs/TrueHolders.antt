@@ -57,6 +57,13 @@ module _ {X : Type 0} (f : X → List ℕ) where
   second_some None (Some x) h = refl
   second_some None None h = cc
 
+-- one decision gives one leaf one role
+same_sides : (s r : ℕ) (g h : Role) → decision_of s g ≡ decision_of r h → (s ≡ r) × (g ≡ h)
+same_sides s r role.Started role.Started e = (cc, refl)
+same_sides s r role.Promoted role.Promoted e = (cc, refl)
+same_sides s r role.Started role.Promoted e = cc
+same_sides s r role.Promoted role.Started e = cc
+
 module _ (c : Cluster) (es : List Event) (chosen targets : Targets) (valid : IsValid c) (are : AreTargets c es chosen targets) (n : ℕ) (within : n < length c.nodes) where
   -- what is held has no target in the end
   primary_gone : (col : Colocation) → Contains c.colocations col → LacksPrimary c es chosen (Held c es chosen) col n → holds_role targets col.primary col.primary_role n ≡ false
@@ -174,3 +181,28 @@ module _ (c : Cluster) (es : List Event) (chosen targets : Targets) (valid : IsV
             let was = sooner (holds_role chosen r role.Promoted n) (not (holds_role targets r role.Promoted n)) f in
             let has = unless (holds_role chosen r role.Started n) (holds_role targets r role.Started n) (promoted_somewhere (chosen r n) was) e in
             kept.free c es chosen targets r n role.Started (are r n low within) has (subst (λ (x : ℕ). Held c es chosen (Place x) n) (sym is) held)
+
+    -- and all that is held back is told
+    was_chosen : (given : Role) (e : Decision) → e ≡ decision_of r given → Held c es chosen e n → holds_role chosen r given n ≡ true
+    was_chosen given _ same (by_order o _ may lacks) =
+        let (leaf, its) = same_sides o.then_leaf r (role_by o.then_op) given same in
+        subst (λ (x : ℕ). holds_role chosen x given n ≡ true) leaf (subst (λ (g : Role). holds_role chosen o.then_leaf g n ≡ true) its may.chosen)
+    was_chosen given _ same (by_colocation col _ may lacks) =
+        let (leaf, its) = same_sides col.dependent r col.dependent_role given same in
+        subst (λ (x : ℕ). holds_role chosen x given n ≡ true) leaf (subst (λ (g : Role). holds_role chosen col.dependent g n ≡ true) its may.chosen)
+    was_chosen given _ same (by_place s _ promoted held) =
+        let (leaf, its) = same_sides s r role.Promoted given same in
+        subst (λ (x : ℕ). holds_role chosen x given n ≡ true) leaf (subst (λ (g : Role). holds_role chosen s g n ≡ true) its promoted)
+
+    is_told : (given : Role) → Held c es chosen (decision_of r given) n → is_held_role chosen targets r given n ≡ true
+    is_told given held =
+        let gone = false_from_ne_true (holds_role targets r given n) (λ has. kept.free c es chosen targets r n given (are r n low within) has held) in
+        and_from (holds_role chosen r given n) (not (holds_role targets r given n)) (was_chosen given (decision_of r given) refl held) (rw gone refl)
+
+    pub told_place : Held c es chosen (Place r) n → held_decision chosen targets r n ≡ Some (Place r)
+    told_place held = rw (is_told role.Started held) refl
+
+    pub told_promote : Held c es chosen (Promote r) n → (Held c es chosen (Place r) n → ⊥) → held_decision chosen targets r n ≡ Some (Promote r)
+    told_promote held free =
+        let not_place = false_from_ne_true (is_held_role chosen targets r role.Started n) (λ h. free (is_back role.Started h)) in
+        rw (not_place, is_told role.Promoted held) refl

@@ -68,18 +68,18 @@ why_lines c es promotions decisions placed =
     ++ held_lines c (after_decisions c es promotions (pinned_targets c es) decisions) (targets_of placed.table)
     ++ map told (target_lines c placed.pins (targets_of placed.table) placed.none)
 
+abbrev pub origin_text : Origin → List ℕ
+origin_text (from_location id) = codes "location " ++ id
+origin_text from_stickiness = codes "stickiness"
+origin_text from_ban = codes "banned"
+origin_text from_opt_in = codes "opt-in"
+origin_text from_promotion = codes "promotion"
+origin_text (from_colocation id) = codes "colocation " ++ id
+
 module _ (c : Cluster) where
   abbrev pub lender_text : Option ℕ → List ℕ
   lender_text None = []
   lender_text (Some s) = codes "lent " ++ leaf_name c s ++ codes " "
-
-  abbrev pub origin_text : Origin → List ℕ
-  origin_text (from_location id) = codes "location " ++ id
-  origin_text from_stickiness = codes "stickiness"
-  origin_text from_ban = codes "banned"
-  origin_text from_opt_in = codes "opt-in"
-  origin_text from_promotion = codes "promotion"
-  origin_text (from_colocation id) = codes "colocation " ++ id
 
   -- a verdict on a leaf and a node, as `not LEAF NODE REASON`
   abbrev pub verdict_line : ℕ → ℕ → Verdict → List ℕ

@@ -18,7 +18,7 @@ ghost use Rattle.cluster_types.specs.Reasons.{IsHeldByColocation, IsHeldByOrder}
 ghost use Rattle.cluster_types.specs.Tables.{Targets};
 ghost use Rattle.cluster_types.specs.Texts.{scores_text};
 ghost use Rattle.cluster_types.specs.Valid.{IsValid};
-ghost use Rattle.decision_account.specs.Accounts.{is_scores_line, why_lines, why_text};
+ghost use Rattle.decision_account.specs.Accounts.{IsWhyText, is_scores_line, why_lines, why_text};
 ghost use Rattle.decision_account.specs.Grounds.{IsTrueVerdict};
 ghost use Rattle.decision_account.specs.Holders.{held_decision, holder_of, misses_first};
 ghost use Rattle.decision_account.specs.Parts.{base_parts, part_scores, preference_parts, without_zeros};
@@ -49,17 +49,30 @@ pub fn scores_are_left()
         → why_text c (filter is_scores_line (why_lines c events promotions is.decisions placed)) ≡ scores_text c placed }
 {}
 
-/// What is told as held back is held back, and by a rule: of a valid cluster, for the targets in the end. The rules that hold a place back are those of the
-/// reason that a leaf is held.
+/// What is told as held back is held back, by a rule, and all that is held back is told: of a valid cluster, for the targets in the end. A promote that is
+/// held back with its place isn't told. The rules that hold a place back are those of the reason that a leaf is held.
 pub fn holders_hold_back()
     ensures held { (c : ClusterOf) (events : List EventOf) (chosen targets : Targets) (r n : ℕ) (d : DecisionOf) → IsValid c → AreTargets c events chosen targets
         → r < length c.leaves → n < length c.nodes → held_decision chosen targets r n ≡ Some d → Held c events chosen d n }
     ensures by_rule { (c : ClusterOf) (events : List EventOf) (chosen targets : Targets) (r n : ℕ) (d : DecisionOf) → IsValid c → AreTargets c events chosen targets
         → r < length c.leaves → n < length c.nodes → held_decision chosen targets r n ≡ Some d → IsSome (holder_of c targets d n) }
+    ensures place { (c : ClusterOf) (events : List EventOf) (chosen targets : Targets) (r n : ℕ) → IsValid c → AreTargets c events chosen targets
+        → r < length c.leaves → n < length c.nodes → Held c events chosen (decision.Place r) n → held_decision chosen targets r n ≡ Some (decision.Place r) }
+    ensures promote { (c : ClusterOf) (events : List EventOf) (chosen targets : Targets) (r n : ℕ) → IsValid c → AreTargets c events chosen targets
+        → r < length c.leaves → n < length c.nodes → Held c events chosen (decision.Promote r) n → (Held c events chosen (decision.Place r) n → ⊥)
+        → held_decision chosen targets r n ≡ Some (decision.Promote r) }
     ensures colocation { (c : ClusterOf) (events : List EventOf) (chosen targets : Targets) (r n : ℕ) (col : ColocationOf) → IsValid c
         → AreTargets c events chosen targets → n < length c.nodes → Contains c.colocations col
         → (misses_primary targets (decision.Place r) n col ≡ true) ↔ IsHeldByColocation c events chosen r n col }
     ensures order { (c : ClusterOf) (events : List EventOf) (chosen targets : Targets) (r n : ℕ) (o : OrderOf) → IsValid c
         → AreTargets c events chosen targets → n < length c.nodes → Contains c.orders o
         → (misses_first c targets (decision.Place r) n o ≡ true) ↔ IsHeldByOrder c events chosen r n o }
+{}
+
+/// Of one cluster, journal and list of promotion scores there is one text of how the decisions came about, and no more.
+pub fn there_is_one_account()
+    ensures some { (c : ClusterOf) (events : List EventOf) (promotions : List PromotionOf)
+        → (placed : PlacedOf) × (text : List ℕ) × IsWhyText c events promotions placed text }
+    ensures no_more { (c : ClusterOf) (events : List EventOf) (promotions : List PromotionOf) (one other : PlacedOf) (x y : List ℕ)
+        → IsWhyText c events promotions one x → IsWhyText c events promotions other y → x ≡ y }
 {}

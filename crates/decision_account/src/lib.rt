@@ -3,4 +3,6 @@
 
 mod laws;
 
-pub use laws::{holders_hold_back, parts_add_up, scores_are_left, verdicts_are_true};
+pub use laws::{
+    holders_hold_back, parts_add_up, scores_are_left, there_is_one_account, verdicts_are_true,
+};
