@@ -81,29 +81,30 @@ module _ (c : Cluster) where
   lender_text None = []
   lender_text (Some s) = codes "lent " ++ leaf_name c s ++ codes " "
 
-  -- a verdict on a leaf and a node, as `not LEAF NODE REASON`
-  abbrev pub verdict_line : ℕ → ℕ → Verdict → List ℕ
-  verdict_line r n chosen = codes "chosen " ++ leaf_on c r n ++ codes "\n"
-  verdict_line r n unusable = codes "not " ++ leaf_on c r n ++ codes " unusable\n"
-  verdict_line r n forbidden = codes "not " ++ leaf_on c r n ++ codes " forbidden\n"
-  verdict_line r n below = codes "not " ++ leaf_on c r n ++ codes " below\n"
-  verdict_line r n (without col) = codes "not " ++ leaf_on c r n ++ codes " without " ++ col.id ++ codes "\n"
-  verdict_line r n (beside col) = codes "not " ++ leaf_on c r n ++ codes " beside " ++ col.id ++ codes "\n"
-  verdict_line r n unplaced = codes "not " ++ leaf_on c r n ++ codes " unplaced\n"
-  verdict_line r n capped = codes "not " ++ leaf_on c r n ++ codes " capped\n"
-  verdict_line r n (less m) = codes "not " ++ leaf_on c r n ++ codes " less " ++ node_name c m ++ codes "\n"
-  verdict_line r n (fuller m) = codes "not " ++ leaf_on c r n ++ codes " fuller " ++ node_name c m ++ codes "\n"
-  verdict_line r n (later m) = codes "not " ++ leaf_on c r n ++ codes " later " ++ node_name c m ++ codes "\n"
+  -- the lines of a leaf and a node, which are told by their text
+  abbrev pub part_text : List ℕ → ScorePart → List ℕ
+  part_text cell part =
+      codes "part " ++ cell ++ codes " " ++ score_text part.score ++ codes " " ++ lender_text part.lender ++ origin_text part.origin ++ codes "\n"
 
-  abbrev pub part_line : ℕ → ℕ → ScorePart → List ℕ
-  part_line r n part =
-      codes "part " ++ leaf_on c r n ++ codes " " ++ score_text part.score ++ codes " " ++ lender_text part.lender ++ origin_text part.origin ++ codes "\n"
+  -- a verdict is `not LEAF NODE REASON`, where the node isn't chosen
+  abbrev pub verdict_text : List ℕ → Verdict → List ℕ
+  verdict_text cell chosen = codes "chosen " ++ cell ++ codes "\n"
+  verdict_text cell unusable = codes "not " ++ cell ++ codes " unusable\n"
+  verdict_text cell forbidden = codes "not " ++ cell ++ codes " forbidden\n"
+  verdict_text cell below = codes "not " ++ cell ++ codes " below\n"
+  verdict_text cell (without col) = codes "not " ++ cell ++ codes " without " ++ col.id ++ codes "\n"
+  verdict_text cell (beside col) = codes "not " ++ cell ++ codes " beside " ++ col.id ++ codes "\n"
+  verdict_text cell unplaced = codes "not " ++ cell ++ codes " unplaced\n"
+  verdict_text cell capped = codes "not " ++ cell ++ codes " capped\n"
+  verdict_text cell (less m) = codes "not " ++ cell ++ codes " less " ++ node_name c m ++ codes "\n"
+  verdict_text cell (fuller m) = codes "not " ++ cell ++ codes " fuller " ++ node_name c m ++ codes "\n"
+  verdict_text cell (later m) = codes "not " ++ cell ++ codes " later " ++ node_name c m ++ codes "\n"
 
   abbrev pub why_line : WhyLine → List ℕ
   why_line (decided d) = decision_line c d
-  why_line (counted r n part) = part_line r n part
+  why_line (counted r n part) = part_text (leaf_on c r n) part
   why_line (scored r n total) = score_line c r (n, total)
-  why_line (judged r n verdict) = verdict_line r n verdict
+  why_line (judged r n verdict) = verdict_text (leaf_on c r n) verdict
   why_line (held (Place r) n id) = codes "held " ++ leaf_on c r n ++ codes " " ++ id ++ codes "\n"
   why_line (held (Promote r) n id) = codes "unpromoted " ++ leaf_on c r n ++ codes " " ++ id ++ codes "\n"
   why_line (told line) = run_line c line
