@@ -2,15 +2,15 @@ ghost use Rattle.faults.specs.Reading.{IsCaused};
 
 use crate::NoMemory;
 use std::alloc::{AllocError, AllocFailed};
-use std::fmt::Debug;
+use std::fmt::Display;
 use thiserror::Error;
 
 /// Why nothing is read of an input: a line is refused, or memory ran out. `C` lists the causes that a reader knows.
 #[derive(Clone, Copy, Debug, PartialEq, Eq, Drop, Error)]
-#[error_bound(C: Debug)]
+#[error_bound(C: Display)]
 pub enum Fault<C> {
     /// A line is refused.
-    #[error("line {line}: {cause:?}")]
+    #[error("line {line}: {cause}")]
     At {
         /// The physical line, counted from 1.
         line: u32,

@@ -1,20 +1,31 @@
 use crate::WordCause;
 use faults::Fault;
+use thiserror::Error;
 
 /// Why a status isn't read.
-#[derive(Clone, Copy, Debug, PartialEq, Eq)]
+#[derive(Clone, Copy, Debug, PartialEq, Eq, Error)]
 pub enum StatusCause {
     /// The first word begins no line of a status.
+    #[error("The first word begins no statement, or no line of the section that it is in. Or a line that begins with \
+        `%` is neither `%status` nor `%results`, has a second word, is a second one of its kind, or is out of order.")]
     UnknownStatement,
     /// The line ends too early.
+    #[error("The statement or the section ends too early.")]
     MissingWord,
     /// The word has no place.
+    #[error("The word has no place here. A pair may lack its `=`, a section word may be misspelt, or parts may be \
+        out of order.")]
     ExtraWord,
     /// The word isn't one of its place.
+    #[error("The word isn't one that may be here: a name with other characters, a value that its key doesn't take, a \
+        number out of its range.")]
     BadValue,
     /// The cluster has no node, or no resource, of this name.
+    #[error("There is no node, resource, member or child of that name.")]
     UnknownName,
     /// It was said before. This comes after the causes of the words.
+    #[error("A second status line says what may be said once: `now`, `quorum`, a node's state, a promotion score of \
+        a resource on a node.")]
     Repeated,
 }
 
@@ -22,19 +33,28 @@ pub enum StatusCause {
 pub type StatusFault = Fault<StatusCause>;
 
 /// Why a result line isn't read.
-#[derive(Clone, Copy, Debug, PartialEq, Eq)]
+#[derive(Clone, Copy, Debug, PartialEq, Eq, Error)]
 pub enum ResultCause {
     /// The first word begins no result line.
+    #[error("The first word begins no statement, or no line of the section that it is in. Or a line that begins with \
+        `%` is neither `%status` nor `%results`, has a second word, is a second one of its kind, or is out of order.")]
     UnknownStatement,
     /// The line ends too early.
+    #[error("The statement or the section ends too early.")]
     MissingWord,
     /// The word has no place.
+    #[error("The word has no place here. A pair may lack its `=`, a section word may be misspelt, or parts may be \
+        out of order.")]
     ExtraWord,
     /// The word isn't one of its place.
+    #[error("The word isn't one that may be here: a name with other characters, a value that its key doesn't take, a \
+        number out of its range.")]
     BadValue,
     /// The cluster has no node, or no resource, of this name.
+    #[error("There is no node, resource, member or child of that name.")]
     UnknownName,
     /// There are 10,000 result lines before it. This comes before the causes of the words.
+    #[error("This is the 10,001st result line.")]
     TooManyResults,
 }
 

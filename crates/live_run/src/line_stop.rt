@@ -5,13 +5,16 @@ ghost use Rattle.live_run.specs.LineCauses.{line_cause_name};
 
 use crm_lex::LexCause;
 use input_reading::{InputCause, ResultCause};
+use thiserror::Error;
 
 /// Why a line isn't read as an answer.
-#[derive(Clone, Copy, Debug, PartialEq, Eq)]
+#[derive(Clone, Copy, Debug, PartialEq, Eq, Error)]
 pub enum LineCause {
     /// It can't be cut into words.
+    #[error(transparent)]
     Words(LexCause),
     /// Its words are no answer.
+    #[error(transparent)]
     Form(ResultCause),
 }
 

@@ -7,23 +7,31 @@ use crate::{ResultCause, StatusCause, WordCause};
 use cluster_model::{ExpandCause, ModelCause};
 use crm_lex::{LexCause, lex_name};
 use crm_parse::ParseCause;
+use thiserror::Error;
 
 /// Why an input is refused, by the step of reading that finds it.
-#[derive(Clone, Copy, Debug, PartialEq, Eq)]
+#[derive(Clone, Copy, Debug, PartialEq, Eq, Error)]
 pub enum InputCause {
     /// The words of a line can't be read.
+    #[error(transparent)]
     Words(LexCause),
     /// A section line is out of its place, or a line is no statement that can be read.
+    #[error(transparent)]
     Statements(ParseCause),
     /// The groups and clones don't stand for leaves.
+    #[error(transparent)]
     Leaves(ExpandCause),
     /// The configuration says no cluster.
+    #[error(transparent)]
     Cluster(ModelCause),
     /// A line of the status can't be read.
+    #[error(transparent)]
     Status(StatusCause),
     /// A result line can't be read.
+    #[error(transparent)]
     Results(ResultCause),
     /// A line of a run can't be read.
+    #[error(transparent)]
     Run(WordCause),
 }
 
