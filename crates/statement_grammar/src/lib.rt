@@ -1,0 +1,6 @@
+//! What a statement of a configuration says, form by form, and the laws that it is read just so.
+#![tactic(auto)]
+
+mod laws;
+
+pub use laws::orders_are_read_as_they_say;
