@@ -1,1 +1,5 @@
-pub mod OrdersSay
+pub mod Grammars
+pub mod WordsSaid
+pub mod KindsSaid
+pub mod OrderIsSaid
+pub mod OrderIsRead
