@@ -1,2 +1,4 @@
 pub mod Grammar
+pub mod Scores
 pub mod Orders
+pub mod Colocations

@@ -3,4 +3,4 @@
 
 mod laws;
 
-pub use laws::orders_are_read_as_they_say;
+pub use laws::{colocations_are_read_as_they_say, orders_are_read_as_they_say};
