@@ -1,6 +1,8 @@
 pub mod Grammars
 pub mod WordsSaid
 pub mod KindsSaid
+pub mod PairsRelated
+pub mod SectionWords
 pub mod ScoresSaid
 pub mod ColocationIsSaid
 pub mod ColocationIsRead

@@ -2,3 +2,4 @@ pub mod Grammar
 pub mod Scores
 pub mod Orders
 pub mod Colocations
+pub mod Parts
