@@ -3,6 +3,9 @@ pub mod WordsSaid
 pub mod KindsSaid
 pub mod PairsRelated
 pub mod SectionWords
+pub mod SectionStates
+pub mod SectionsAreSaid
+pub mod SectionsAreRead
 pub mod ScoresSaid
 pub mod ColocationIsSaid
 pub mod ColocationIsRead
