@@ -9,5 +9,9 @@ pub mod SectionsAreRead
 pub mod ScoresSaid
 pub mod ColocationIsSaid
 pub mod ColocationIsRead
+pub mod OptionsSaid
+pub mod NodeRelated
+pub mod GroupRelated
+pub mod CloneRelated
 pub mod OrderIsSaid
 pub mod OrderIsRead

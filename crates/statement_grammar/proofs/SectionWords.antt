@@ -47,9 +47,9 @@ same-section one other e =
     let s : Some one ≡ Some other = sym (text-section_word one) ∙ (ap section_word (is-true (section_text one) (section_text other) e) ∙ text-section_word other) in
     cc
 
-record BeginsSection (statement : Owner) (word : List ℕ) (section : SectionWord) : Type 0 where
-  text : word ≡ section_text section
-  allows : allows_section statement section ≡ true
+pub record BeginsSection (statement : Owner) (word : List ℕ) (section : SectionWord) : Type 0 where
+  pub text : word ≡ section_text section
+  pub allows : allows_section statement section ≡ true
 
 allowed-case : (statement : Owner) (word : List ℕ) (found : Option SectionWord) (section : SectionWord) → section_word word ≡ found → allowed statement found ≡ Some section
     → BeginsSection statement word section
@@ -61,7 +61,7 @@ allowed-case statement word (Some other) section f e =
       allows = subst (λ s. allows_section statement s ≡ true) (sym same) allows;
     }
 
-begins : (statement : Owner) (word : List ℕ) (section : SectionWord) → section_of statement word ≡ Some section → BeginsSection statement word section
+pub begins : (statement : Owner) (word : List ℕ) (section : SectionWord) → section_of statement word ≡ Some section → BeginsSection statement word section
 unfolding section_of
 begins statement word section e = allowed-case statement word (section_word word) section refl e
 

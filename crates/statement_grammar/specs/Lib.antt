@@ -3,3 +3,5 @@ pub mod Scores
 pub mod Orders
 pub mod Colocations
 pub mod Parts
+pub mod Resources
+pub mod Nodes

@@ -1,12 +1,31 @@
 //! A line is read as a statement just when its words say that statement.
 
-ghost use Rattle.std.specs.Prelude.{◌≡◌, ◌↔◌, ℕ, List, Ok};
+ghost use Rattle.std.specs.Prelude.{◌≡◌, ◌↔◌, ℕ, Bool, List, Ok};
 ghost use Rattle.crm_parse.specs.declared.draft.OrderDraft.{OrderDraft as OrderOf};
 ghost use Rattle.crm_parse.specs.declared.form.Form.{Form as FormOf};
 ghost use Rattle.crm_parse.specs.Colocation.{colocation_at};
+ghost use Rattle.crm_parse.specs.Groups.{clone_at, group_at};
+ghost use Rattle.crm_parse.specs.Node.{node_statement_at};
 ghost use Rattle.crm_parse.specs.Order.{order_at};
 ghost use Rattle.statement_grammar.specs.Colocations.{ColocationSays};
+ghost use Rattle.statement_grammar.specs.Nodes.{NodeSays};
 ghost use Rattle.statement_grammar.specs.Orders.{OrderSays};
+ghost use Rattle.statement_grammar.specs.Resources.{CloneSays, GroupSays};
+
+/// The words after `node` are read as a node just when they say it.
+pub fn nodes_are_read_as_they_say()
+    ensures { (words : List (List ℕ)) (form : FormOf) → (node_statement_at words ≡ Ok form) ↔ NodeSays words form }
+{}
+
+/// The words after `group` are read as a group just when they say it.
+pub fn groups_are_read_as_they_say()
+    ensures { (words : List (List ℕ)) (form : FormOf) → (group_at words ≡ Ok form) ↔ GroupSays words form }
+{}
+
+/// The words after `clone`, or after `ms` or `master`, are read as a clone just when they say it.
+pub fn clones_are_read_as_they_say()
+    ensures { (ms : Bool) (words : List (List ℕ)) (form : FormOf) → (clone_at ms words ≡ Ok form) ↔ CloneSays ms words form }
+{}
 
 /// The words after `order` are read as an order just when they say it.
 pub fn orders_are_read_as_they_say()

@@ -3,4 +3,7 @@
 
 mod laws;
 
-pub use laws::{colocations_are_read_as_they_say, orders_are_read_as_they_say};
+pub use laws::{
+    clones_are_read_as_they_say, colocations_are_read_as_they_say, groups_are_read_as_they_say,
+    nodes_are_read_as_they_say, orders_are_read_as_they_say,
+};
