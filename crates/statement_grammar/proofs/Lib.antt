@@ -13,5 +13,7 @@ pub mod OptionsSaid
 pub mod NodeRelated
 pub mod GroupRelated
 pub mod CloneRelated
+pub mod SettingsRelated
+pub mod OperationsRelated
 pub mod OrderIsSaid
 pub mod OrderIsRead

@@ -46,7 +46,7 @@ given-said words read e =
 name-is : (word name : List ℕ) → NameSays word name → (word ≡ name) × (is_name name ≡ true)
 name-is w n (a_name name h) = (refl, h)
 
-colon-is : (word name : List ℕ) → ColonSays NameSays word name → (word ≡ name ++ codes ":") × (is_name name ≡ true)
+pub colon-is : (word name : List ℕ) → ColonSays NameSays word name → (word ≡ name ++ codes ":") × (is_name name ≡ true)
 colon-is w n (then_colon text name s) = let (same, h) = name-is text name s in (ap (λ t. t ++ codes ":") same, h)
 
 pub record GivenIs (words : Words) (id : Option (List ℕ)) : Type 0 where

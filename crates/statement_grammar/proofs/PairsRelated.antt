@@ -24,7 +24,7 @@ filled-key : (key : List ℕ) → (length key == 0) ≡ false → key ≢ []
 filled-key [] h e = false≢true (sym h)
 filled-key (b ∷ bs) h e = cc
 
-key-filled : (key : List ℕ) → key ≢ [] → (length key == 0) ≡ false
+pub key-filled : (key : List ℕ) → key ≢ [] → (length key == 0) ≡ false
 key-filled [] h = absurd (h refl)
 key-filled (b ∷ bs) h = ne_eqb _ _ (λ e. let f : ⊥ = omega (arith, e) in f)
 
@@ -157,7 +157,7 @@ pub record SectionIsSaid (place : Place) (before : List Kv) (words : Words) (aft
   pub are : PairsAreSaid place before words after
   pub some : are.pairs ≢ []
 
-filled-said : (place : Place) (word : List ℕ) (words : Words) (pairs : List Kv) → EachSays (PairSays place) (word ∷ words) pairs → pairs ≢ []
+pub filled-said : (place : Place) (word : List ℕ) (words : Words) (pairs : List Kv) → EachSays (PairSays place) (word ∷ words) pairs → pairs ≢ []
 filled-said place word words [] s e = elim s [ ]
 filled-said place word words (kv ∷ kvs) s e = cc
 

@@ -16,6 +16,7 @@ use Rattle.crm_parse.specs.declared.section.Sections.{Sections}
 use Rattle.crm_parse.specs.Monitors.{AreFew, recurring}
 use Rattle.crm_parse.specs.Reading.{Words}
 use Rattle.crm_parse.specs.Sections.{allows_section, has_no_pairs, may_follow, no_sections, place_of, takes_name}
+use Rattle.crm_parse.proofs.OperationWords.{KeptOps}
 use Rattle.crm_print.proofs.SectionsAgain.{pairs_of, put}
 use Rattle.statement_grammar.specs.Parts.{EachTwo, MayBothRun, MayFollow, MayStandBoth, Section, SectionSays, a_section, an_operation, operation, operations_in, pairs_if, pairs_in, section_place, section_text, with_pairs}
 use Rattle.statement_grammar.proofs.PairsRelated.{two-push}
@@ -30,6 +31,7 @@ pub record Stands (statement : Owner) (done : List Section) (read : Sections) : 
   pub each : AllByRecursion (Stood statement) done
   pub pairs : (section : SectionWord) (place : Place) → section_place statement section ≡ Some place → pairs_of section read ≡ pairs_in section done
   pub ops : read.ops ≡ operations_in done
+  pub kept : KeptOps read.ops
   pub in_turn : EachTwo (MayFollow statement) done
   pub keys : (section : SectionWord) (place : Place) → section_place statement section ≡ Some place → EachTwo (MayStandBoth place) (pairs_in section done)
   pub singles : EachTwo MayBothRun (operations_in done)
@@ -108,7 +110,7 @@ put-ops Utilization kvs s = refl
 put-ops Operations kvs s = refl
 put-ops Op kvs s = refl
 
-all-stood : (statement : Owner) (done : List Section) (s : Section) → AllByRecursion (Stood statement) done → Stood statement s → AllByRecursion (Stood statement) (done ++ s ∷ [])
+pub all-stood : (statement : Owner) (done : List Section) (s : Section) → AllByRecursion (Stood statement) done → Stood statement s → AllByRecursion (Stood statement) (done ++ s ∷ [])
 all-stood statement [] s h k = (k, tt)
 all-stood statement (x ∷ done) s h k = (h.0, all-stood statement done s h.1 k)
 
@@ -120,6 +122,7 @@ more-stands statement done before w after kvs h stood turn a two = record {
   each = all-stood statement done (with_pairs w kvs) h.each stood;
   pairs = λ v place e. next-pairs w v done before after kvs (placed-is statement v place e).plain a (h.pairs v place e);
   ops = put-ops w after before ∙ (h.ops ∙ sym (no_operation done w kvs));
+  kept = subst KeptOps (sym (put-ops w after before)) h.kept;
   in_turn = two-push (MayFollow statement) done (with_pairs w kvs) h.in_turn turn;
   keys = λ v place e.
       let at = placed-is statement v place e in
@@ -137,6 +140,7 @@ stands-first statement = record {
   each = tt;
   pairs = λ v place e. none-pairs v;
   ops = refl;
+  kept = refl;
   in_turn = tt;
   keys = λ v place e. tt;
   singles = tt;
@@ -156,7 +160,7 @@ empty : (kvs : List Kv) → has_no_pairs kvs ≡ true → kvs ≡ []
 empty [] e = refl
 empty (kv ∷ kvs) e = let z = eqb-true (length (kv ∷ kvs)) 0 e in absurd (let f : ⊥ = omega (arith, z) in f)
 
-all-any : {A : Type 0} (P : A → Type 0) (xs : List A) → ((x : A) → P x) → AllByRecursion P xs
+pub all-any : {A : Type 0} (P : A → Type 0) (xs : List A) → ((x : A) → P x) → AllByRecursion P xs
 all-any P [] h = tt
 all-any P (x ∷ xs) h = (h x, all-any P xs h)
 

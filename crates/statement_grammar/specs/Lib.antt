@@ -5,3 +5,4 @@ pub mod Colocations
 pub mod Parts
 pub mod Resources
 pub mod Nodes
+pub mod Properties

@@ -2,14 +2,18 @@
 
 ghost use Rattle.std.specs.Prelude.{◌≡◌, ◌↔◌, ℕ, Bool, List, Ok};
 ghost use Rattle.crm_parse.specs.declared.draft.OrderDraft.{OrderDraft as OrderOf};
+ghost use Rattle.crm_parse.specs.declared.draft.DraftStatement.{DraftStatement as DraftOf};
 ghost use Rattle.crm_parse.specs.declared.form.Form.{Form as FormOf};
+ghost use Rattle.crm_parse.specs.declared.words.SettingsWord.{SettingsWord as SettingsOf};
 ghost use Rattle.crm_parse.specs.Colocation.{colocation_at};
 ghost use Rattle.crm_parse.specs.Groups.{clone_at, group_at};
 ghost use Rattle.crm_parse.specs.Node.{node_statement_at};
 ghost use Rattle.crm_parse.specs.Order.{order_at};
+ghost use Rattle.crm_parse.specs.Settings.{settings_at};
 ghost use Rattle.statement_grammar.specs.Colocations.{ColocationSays};
 ghost use Rattle.statement_grammar.specs.Nodes.{NodeSays};
 ghost use Rattle.statement_grammar.specs.Orders.{OrderSays};
+ghost use Rattle.statement_grammar.specs.Properties.{SettingsSay};
 ghost use Rattle.statement_grammar.specs.Resources.{CloneSays, GroupSays};
 
 /// The words after `node` are read as a node just when they say it.
@@ -35,4 +39,10 @@ pub fn orders_are_read_as_they_say()
 /// The words after `colocation` are read as a colocation just when they say it.
 pub fn colocations_are_read_as_they_say()
     ensures { (words : List (List ℕ)) (form : FormOf) → (colocation_at words ≡ Ok form) ↔ ColocationSays words form }
+{}
+
+/// The words after `property`, `rsc_defaults` or `op_defaults` are read as settings, after some statements, just when they say them.
+pub fn settings_are_read_as_they_say()
+    ensures { (what : SettingsOf) (before : List DraftOf) (words : List (List ℕ)) (form : FormOf)
+        → (settings_at what before words ≡ Ok form) ↔ SettingsSay what before words form }
 {}
