@@ -15,5 +15,11 @@ pub mod GroupRelated
 pub mod CloneRelated
 pub mod SettingsRelated
 pub mod OperationsRelated
+pub mod MonitorRoom
+pub mod OperationsAreRead
+pub mod AgentRelated
+pub mod PrimitiveRelated
+pub mod TestIsSaid
+pub mod TestIsRead
 pub mod OrderIsSaid
 pub mod OrderIsRead

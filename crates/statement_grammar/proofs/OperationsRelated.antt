@@ -53,7 +53,7 @@ differ-names : (name : List ℕ) (ops : List Operation) → AllByRecursion (λ o
 differ-names name [] h = refl
 differ-names name (op ∷ ops) h = or_from _ _ (false_from_ne_true _ (λ e. h.0 (is-true op.name name e))) (differ-names name ops h.1)
 
-single-read : (op : Operation) (ops : List Operation) (single : Bool) → is_single (op_name op.name) ≡ single → AllByRecursion (λ one. MayBothRun one op) ops
+pub single-read : (op : Operation) (ops : List Operation) (single : Bool) → is_single (op_name op.name) ≡ single → AllByRecursion (λ one. MayBothRun one op) ops
     → (single && has_op ops op.name) ≡ false
 single-read op ops true s h = differ-names op.name ops (weaken _ _ ops (λ one may. may s) h)
 single-read op ops false s h = refl

@@ -20,7 +20,7 @@ use Rattle.statement_grammar.specs.Grammar.{EachSays, no_word, one_word}
 use Rattle.statement_grammar.specs.Parts.{EachTwo, MayStandBoth, PairSays, a_pair}
 
 -- one pair
-filled-key : (key : List ℕ) → (length key == 0) ≡ false → key ≢ []
+pub filled-key : (key : List ℕ) → (length key == 0) ≡ false → key ≢ []
 filled-key [] h e = false≢true (sym h)
 filled-key (b ∷ bs) h e = cc
 

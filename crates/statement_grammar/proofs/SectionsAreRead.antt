@@ -44,7 +44,7 @@ above-front : (xs ys : List ℕ) → AllByRecursion (λ x. 0 < x) (xs ++ ys) →
 above-front [] ys h = tt
 above-front (x ∷ xs) ys h = (h.0, above-front xs ys h.1)
 
-in-front : (xs ys : List ℕ) (i d : ℕ) → i < length xs → slice_index_or (xs ++ ys) i d ≡ slice_index_or xs i d
+pub in-front : (xs ys : List ℕ) (i d : ℕ) → i < length xs → slice_index_or (xs ++ ys) i d ≡ slice_index_or xs i d
 in-front [] ys i d l = absurd (let f : ⊥ = omega (arith, l) in f)
 in-front (x ∷ xs) ys zero d l = refl
 in-front (x ∷ xs) ys (suc i) d l = in-front xs ys i d (omega (arith, l))

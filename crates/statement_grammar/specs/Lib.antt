@@ -6,3 +6,6 @@ pub mod Parts
 pub mod Resources
 pub mod Nodes
 pub mod Properties
+pub mod Primitives
+pub mod RuleTests
+pub mod Locations

@@ -9,16 +9,23 @@ ghost use Rattle.crm_parse.specs.Colocation.{colocation_at};
 ghost use Rattle.crm_parse.specs.Groups.{clone_at, group_at};
 ghost use Rattle.crm_parse.specs.Node.{node_statement_at};
 ghost use Rattle.crm_parse.specs.Order.{order_at};
+ghost use Rattle.crm_parse.specs.Primitive.{primitive_at};
 ghost use Rattle.crm_parse.specs.Settings.{settings_at};
 ghost use Rattle.statement_grammar.specs.Colocations.{ColocationSays};
 ghost use Rattle.statement_grammar.specs.Nodes.{NodeSays};
 ghost use Rattle.statement_grammar.specs.Orders.{OrderSays};
+ghost use Rattle.statement_grammar.specs.Primitives.{PrimitiveSays};
 ghost use Rattle.statement_grammar.specs.Properties.{SettingsSay};
 ghost use Rattle.statement_grammar.specs.Resources.{CloneSays, GroupSays};
 
 /// The words after `node` are read as a node just when they say it.
 pub fn nodes_are_read_as_they_say()
     ensures { (words : List (List ℕ)) (form : FormOf) → (node_statement_at words ≡ Ok form) ↔ NodeSays words form }
+{}
+
+/// The words after `primitive` are read as a primitive just when they say it.
+pub fn primitives_are_read_as_they_say()
+    ensures { (words : List (List ℕ)) (form : FormOf) → (primitive_at words ≡ Ok form) ↔ PrimitiveSays words form }
 {}
 
 /// The words after `group` are read as a group just when they say it.

@@ -3,7 +3,4 @@
 
 mod laws;
 
-pub use laws::{
-    clones_are_read_as_they_say, colocations_are_read_as_they_say, groups_are_read_as_they_say,
-    nodes_are_read_as_they_say, orders_are_read_as_they_say, settings_are_read_as_they_say,
-};
+pub use laws::{clones_are_read_as_they_say, colocations_are_read_as_they_say, groups_are_read_as_they_say, nodes_are_read_as_they_say, orders_are_read_as_they_say, primitives_are_read_as_they_say, settings_are_read_as_they_say};
