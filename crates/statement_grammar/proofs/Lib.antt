@@ -21,5 +21,8 @@ pub mod AgentRelated
 pub mod PrimitiveRelated
 pub mod TestIsSaid
 pub mod TestIsRead
+pub mod ExpressionRelated
+pub mod RuleRelated
+pub mod LocationRelated
 pub mod OrderIsSaid
 pub mod OrderIsRead

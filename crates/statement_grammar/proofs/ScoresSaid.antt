@@ -29,7 +29,7 @@ score-said word points e =
     let whole : word ≡ text ++ codes ":" = before-some (codes ":") word text (ok_or-ok (before (codes ":") word) BadScore text found) in
     subst (λ w. ScoreSays w points) (sym whole) (then_colon text points (in_table text points (ok_or-ok (read_score text) BadScore points rest)))
 
-table-is : {A : Type 0} (table : List ℕ → Option A) (word : List ℕ) (value : A) → BelowTable table word value → table word ≡ Some value
+pub table-is : {A : Type 0} (table : List ℕ → Option A) (word : List ℕ) (value : A) → BelowTable table word value → table word ≡ Some value
 table-is table w v (in_table word value h) = h
 
 pub score-read : (word : List ℕ) (points : ℤ) → ScoreSays word points → score_of word ≡ Ok points

@@ -9,3 +9,4 @@ pub mod Properties
 pub mod Primitives
 pub mod RuleTests
 pub mod Locations
+pub mod Lines
