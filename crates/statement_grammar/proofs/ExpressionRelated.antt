@@ -133,7 +133,7 @@ one_more-said all before words between got a b =
       more = a.one ∷ b.more;
       whole = a.whole ∙ (ap (λ ws. a.part ++ ws) b.whole ∙ sym (append_assoc a.part b.more_words got.1));
       made = b.made ∙ (ap (λ (ts : List Test). record { joined = Some all; tests = ts; words = between.0.words ++ kept_words b.more }) tests
-      ∙ ap (λ (ws : Words). record { joined = Some all; tests = before.tests ++ tests_of (a.one ∷ b.more); words = ws }) kept);
+          ∙ ap (λ (ws : Words). record { joined = Some all; tests = before.tests ++ tests_of (a.one ∷ b.more); words = ws }) kept);
       said = one_part a.part a.one b.more_words b.more a.said b.said;
     }
 

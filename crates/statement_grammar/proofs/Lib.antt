@@ -24,5 +24,6 @@ pub mod TestIsRead
 pub mod ExpressionRelated
 pub mod RuleRelated
 pub mod LocationRelated
+pub mod LineRelated
 pub mod OrderIsSaid
 pub mod OrderIsRead
