@@ -1,12 +1,12 @@
 -- What says a colocation is read as it.
-use Rattle.std.proofs.Common.{◌≡◌, ℕ, ℤ, true, false, List, [], ◌∷◌, ◌++◌, Option, Some, None, Ok, refl, sym, ap, ◌∙◌, subst}
+use Rattle.std.proofs.Common.{◌≡◌, ℕ, ℤ, true, false, List, [], ◌∷◌, Ok, refl}
 use Rattle.std.specs.Prelude.{codes}
 use Rattle.crm_lex.specs.Names.{is_name}
 use Rattle.crm_parse.specs.declared.form.Form.{Form}
 use Rattle.crm_parse.specs.declared.form.Side.{Side}
 use Rattle.crm_parse.specs.declared.words.RoleWord.{RoleWord}
 use Rattle.crm_parse.specs.Colocation.{colocation_at, no_attribute, side_at, side_in, side_of, side_started}
-use Rattle.crm_parse.specs.Reading.{Words, name_at, score_of}
+use Rattle.crm_parse.specs.Reading.{Words}
 use Rattle.crm_parse.specs.Values.{role_of}
 use Rattle.crm_parse.proofs.Binds.{name_at-again}
 use Rattle.crm_parse.proofs.PairWords.{has}

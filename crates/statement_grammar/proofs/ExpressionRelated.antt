@@ -1,5 +1,5 @@
 -- The expression of a rule is read just when the words say it.
-use Rattle.std.proofs.Common.{arith, ◌≡◌, ◌≢◌, ◌≤◌, zero, suc, ℕ, Bool, true, false, not, cond, List, [], ◌∷◌, ◌++◌, length, map, Option, Some, None, Result, Ok, Err, refl, sym, ap, ◌∙◌, subst, append_assoc, append-nil}
+use Rattle.std.proofs.Common.{arith, ◌≡◌, ◌≢◌, ◌≤◌, zero, suc, ℕ, Bool, true, false, cond, List, [], ◌∷◌, ◌++◌, length, map, Option, Some, None, Ok, refl, sym, ap, ◌∙◌, subst, append_assoc, append-nil}
 use Rattle.std.specs.Prelude.{codes}
 use Rattle.std.specs.List.{flat_map}
 use Rattle.std.proofs.lemmas.List.{length-append}
@@ -7,14 +7,11 @@ use Rattle.crm_lex.specs.Names.{is}
 use Rattle.date_rules.specs.declared.rule.Rule.{Rule}
 use Rattle.date_rules.specs.declared.rule.Test.{Test}
 use Rattle.crm_parse.specs.declared.expression.Expression.{Expression}
-use Rattle.crm_parse.specs.declared.fault.ParseCause.{ParseCause}
-use Rattle.crm_parse.specs.declared.fault.ParseCause.TheVariants.{Unsupported}
-use Rattle.crm_parse.specs.Keys.{when}
 use Rattle.crm_parse.specs.Location.{all_of}
-use Rattle.crm_parse.specs.Reading.{Words, next_word_in}
+use Rattle.crm_parse.specs.Reading.{Words}
 use Rattle.crm_parse.specs.Rules.{expression_at, joined_alike, joiner_at, joiner_of, no_tests, noted_at, test_at, with_joined, with_test, with_tests}
 use Rattle.faults.proofs.Steps.{bind-ok}
-use Rattle.crm_parse.proofs.Binds.{is-true, ok-same, when-ok, word_at-ok}
+use Rattle.crm_parse.proofs.Binds.{is-true, ok-same}
 use Rattle.crm_print.proofs.ExpressionAgain.{stops}
 use Rattle.statement_grammar.specs.Grammar.{PartsSay, no_part, one_part}
 use Rattle.statement_grammar.specs.RuleTests.{ExpressionSays, JoinedTestSays, KeptTest, TestSays, joined_test, joined_tests, joiner_text, one_test}

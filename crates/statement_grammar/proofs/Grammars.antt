@@ -1,5 +1,5 @@
 -- Laws of the small grammar.
-use Rattle.std.proofs.Common.{◌≡◌, ℕ, List, [], ◌∷◌, ◌++◌, length, refl, ap, ◌∙◌}
+use Rattle.std.proofs.Common.{ℕ, List, ◌++◌}
 use Rattle.crm_parse.specs.Reading.{Words}
 use Rattle.statement_grammar.specs.Grammar.{EachSays, no_word, one_word}
 

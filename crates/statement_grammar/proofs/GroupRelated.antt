@@ -1,8 +1,8 @@
 -- A group is read just when the words say it.
-use Rattle.std.proofs.Common.{◌≡◌, ◌≢◌, ◌||◌, ℕ, Bool, true, false, List, [], ◌∷◌, ◌++◌, Option, Some, None, Ok, refl, sym, ap, ◌∙◌, subst}
+use Rattle.std.proofs.Common.{◌≡◌, ◌≢◌, ℕ, true, false, List, [], ◌∷◌, ◌++◌, Option, Some, None, Ok, refl, sym, ap, ◌∙◌, subst}
 use Rattle.std.specs.Prelude.{codes, is_some}
 use Rattle.std.specs.List.{AllByRecursion}
-use Rattle.std.proofs.lemmas.Bool.{false≢true, or_from, or_parts, or_right}
+use Rattle.std.proofs.lemmas.Bool.{false≢true, or_from, or_right}
 use Rattle.crm_lex.specs.Names.{is_name}
 use Rattle.crm_parse.specs.declared.form.Form.{Form}
 use Rattle.crm_parse.specs.declared.form.Form.TheVariants as form
@@ -11,14 +11,14 @@ use Rattle.crm_parse.specs.declared.owner.SectionWord.{SectionWord}
 use Rattle.crm_parse.specs.declared.owner.SectionWord.TheVariants.{Attributes, Params, Meta, Utilization, Operations, Op}
 use Rattle.crm_parse.specs.Groups.{ends_members, group_at, members_from}
 use Rattle.crm_parse.specs.Reading.{Words, name_at, prefixed_at}
-use Rattle.crm_parse.specs.Sections.{allowed, is_section, section_of, sections_at}
+use Rattle.crm_parse.specs.Sections.{is_section, section_of, sections_at}
 use Rattle.crm_parse.specs.Texts.{after}
 use Rattle.faults.proofs.Steps.{bind-ok}
 use Rattle.crm_parse.proofs.Binds.{name_at-again, name_at-ok}
 use Rattle.crm_parse.proofs.GroupRead.{IsMember, members_from-read}
 use Rattle.crm_print.proofs.Affixes.{after-again, name-no_description, noted_words, prefixed_at-words}
 use Rattle.crm_print.proofs.GroupAgain.{EndsMembers, members-again}
-use Rattle.statement_grammar.specs.Grammar.{AnyText, EachSays, LabelSays, MayGive, PartsSay, is_given, label_then, no_part, no_word, not_given, one_part, one_word}
+use Rattle.statement_grammar.specs.Grammar.{EachSays, MayGive, PartsSay, is_given, label_then, no_part, no_word, not_given, one_part, one_word}
 use Rattle.statement_grammar.specs.Parts.{Section, SectionSays, a_section, an_operation, pairs_in, section_place, section_text}
 use Rattle.statement_grammar.specs.Resources.{DescriptionSays, GroupSays, MemberSays, a_group, a_member}
 use Rattle.statement_grammar.proofs.OptionsSaid.{description-read, no_operation_says, noted-said}

@@ -1,5 +1,5 @@
 -- The kind of an order, by its word.
-use Rattle.std.proofs.Common.{arith, ◌≡◌, ◌⊎◌, inl, inr, ◌+◌, ℕ, ℤ, pos, negsuc, int_lt, Bool, true, false, cond, List, [], ◌∷◌, Option, Some, None, Result, Ok, Err, refl, sym, ap, ◌∙◌, subst}
+use Rattle.std.proofs.Common.{arith, ◌≡◌, ◌⊎◌, inl, inr, ◌+◌, ℕ, ℤ, pos, int_lt, Bool, true, false, cond, List, [], ◌∷◌, Option, Some, None, Ok, Err, refl, sym, ap, ◌∙◌, subst}
 use Rattle.std.specs.Prelude.{codes}
 use Rattle.std.specs.Char.{to_ascii_lowercase}
 use Rattle.std.proofs.lemmas.Bool.{and_parts, eqb-true, false_from_ne_true}
@@ -7,10 +7,9 @@ use Rattle.std.proofs.lemmas.Bool.Decides.{nat_tests}
 use Rattle.std.proofs.lemmas.Int.{ints}
 use Rattle.std.specs.Option.{ok_or}
 use Rattle.score.specs.ScoreText.{read_score}
-use Rattle.crm_parse.specs.declared.fault.ParseCause.{ParseCause}
 use Rattle.crm_parse.specs.declared.fault.ParseCause.TheVariants.{BadScore, BadValue}
 use Rattle.crm_parse.specs.declared.words.KindWord.{KindWord}
-use Rattle.crm_parse.specs.declared.words.KindWord.TheVariants.{Mandatory, Optional, Serialize}
+use Rattle.crm_parse.specs.declared.words.KindWord.TheVariants.{Mandatory, Optional}
 use Rattle.crm_parse.specs.Order.{kind_by_score, kind_by_word}
 use Rattle.crm_parse.specs.Values.{kind_of, says}
 use Rattle.faults.specs.Reading.{◌>>=◌}

@@ -1,5 +1,5 @@
 -- A location is read just when the words say it.
-use Rattle.std.proofs.Common.{arith, ◌≡◌, ◌≢◌, ◌≤◌, ℕ, ℤ, Bool, true, false, cond, List, [], ◌∷◌, ◌++◌, length, Option, Some, None, Result, Ok, Err, refl, sym, ap, ◌∙◌, subst, append_assoc, append-nil}
+use Rattle.std.proofs.Common.{arith, ◌≡◌, ◌≢◌, ℕ, ℤ, Bool, true, false, cond, List, [], ◌∷◌, ◌++◌, length, Option, Some, None, Result, Ok, refl, sym, ap, ◌∙◌, subst}
 use Rattle.std.specs.Prelude.{codes}
 use Rattle.std.proofs.lemmas.Bool.{false_from_ne_true}
 use Rattle.crm_lex.specs.Names.{is, is_name}
@@ -19,10 +19,10 @@ use Rattle.crm_print.proofs.LocationAgain.{Rest, discovery-no_role, discovery_at
 use Rattle.crm_print.proofs.ScoreAgain.{first-none, score-none}
 use Rattle.crm_print.proofs.Written.{discovery_words}
 use Rattle.score.specs.ScoreText.{read_score}
-use Rattle.statement_grammar.specs.Grammar.{BelowTable, LabelSays, MayGive, PartsSay, is_given, label_then, no_part, not_given, one_part, then_colon}
+use Rattle.statement_grammar.specs.Grammar.{LabelSays, MayGive, PartsSay, is_given, label_then, no_part, not_given, one_part, then_colon}
 use Rattle.statement_grammar.specs.Locations.{DiscoverySays, LocationSays, RuleSays, a_place, a_rule, always_discovered, no_discovery, some_rules}
 use Rattle.statement_grammar.specs.Scores.{RuleRoleSays, ScoreSays}
-use Rattle.statement_grammar.proofs.RuleRelated.{RulesAreSaid, rules-read, rules-said}
+use Rattle.statement_grammar.proofs.RuleRelated.{rules-read, rules-said}
 use Rattle.statement_grammar.proofs.ScoresSaid.{role-read, role-said, score-begins, score-read, score-said, table-is}
 use Rattle.statement_grammar.proofs.WordsSaid.{end-ok, resource-again}
 

@@ -1,10 +1,10 @@
 -- A recurring monitor that may stand beside the others finds room behind them.
-use Rattle.std.proofs.Common.{arith, ◌≡◌, ◌≢◌, ◌⊎◌, inl, inr, ◌<◌, ◌≤◌, nat_le, nat_lt, ◌==◌, ◌&&◌, ◌||◌, not, ℕ, zero, suc, Bool, true, false, cond, eqb, List, [], ◌∷◌, ◌++◌, length, filter, slice_index_or, get_or, Option, Some, None, Ok, Err, refl, sym, ap, ◌∙◌, subst, append-nil}
-use Rattle.std.specs.Prelude.{codes, find, unwrap_or, AllPairs}
+use Rattle.std.proofs.Common.{arith, ◌≡◌, ◌≢◌, inl, inr, ◌<◌, nat_le, ◌==◌, ◌&&◌, ◌||◌, not, ℕ, zero, suc, Bool, true, false, cond, List, [], ◌∷◌, ◌++◌, length, filter, slice_index_or, Option, Some, None, Ok, Err, refl, sym, ap, ◌∙◌, subst, append-nil}
+use Rattle.std.specs.Prelude.{codes, find, unwrap_or}
 use Rattle.std.specs.List.{AllByRecursion, list_any}
-use Rattle.std.specs.Option.{option_and_then, option_map, option_map_or}
+use Rattle.std.specs.Option.{option_map, option_map_or}
 use Rattle.std.proofs.Math.Seq.{get_or-append_seam}
-use Rattle.std.proofs.lemmas.Bool.{and_from, and_parts, eq-eqb, eqb-true, false_from_ne_true, false≢true, lt-ltb, ne_eqb, or_from, or_left}
+use Rattle.std.proofs.lemmas.Bool.{and_from, and_parts, false_from_ne_true, false≢true, lt-ltb, ne_eqb, or_from, or_left}
 use Rattle.std.proofs.lemmas.Bool.Decides.{nat_tests}
 use Rattle.std.proofs.lemmas.Grind.{flat_map-append}
 use Rattle.std.proofs.lemmas.List.{length-append}
@@ -12,19 +12,17 @@ use Rattle.crm_lex.specs.Names.{is}
 use Rattle.crm_parse.specs.declared.fault.ParseCause.TheVariants.{RepeatedKey, Unsupported}
 use Rattle.crm_parse.specs.declared.pair.Kv.{Kv}
 use Rattle.crm_parse.specs.declared.pair.Operation.{Operation}
-use Rattle.crm_parse.specs.declared.place.OpName.{OpName}
 use Rattle.crm_parse.specs.declared.place.OpName.TheVariants as op
 use Rattle.crm_parse.specs.declared.place.Place.{Place}
 use Rattle.crm_parse.specs.Keys.{is_monitor_name, when}
 use Rattle.crm_parse.specs.Monitors.{AreFew, recurring, recurring_in}
 use Rattle.crm_parse.specs.Operations.{has_monitor_room, interval_in, interval_of, is_off, op_name, recurs, says_no, value_of}
-use Rattle.crm_parse.specs.Pairs.{is_same_key}
 use Rattle.crm_parse.specs.Texts.{after, cut_at}
 use Rattle.crm_parse.specs.Values.{time_of}
 use Rattle.crm_parse.proofs.Binds.{is-same, is-true}
 use Rattle.crm_parse.proofs.OperationRoom.{IsCut}
 use Rattle.crm_parse.proofs.PairLists.{pair_words}
-use Rattle.crm_parse.proofs.PairWords.{has, pair_word}
+use Rattle.crm_parse.proofs.PairWords.{pair_word}
 use Rattle.crm_print.proofs.Affixes.{after-some}
 use Rattle.crm_print.proofs.PairsAgain.{cut_at-again}
 use Rattle.crm_print.proofs.ScoreAgain.{none_by}

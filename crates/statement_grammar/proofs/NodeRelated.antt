@@ -1,6 +1,5 @@
 -- A node is read just when the words say it.
-use Rattle.std.proofs.Common.{◌≡◌, ℕ, true, List, [], ◌∷◌, ◌++◌, Option, Some, None, Ok, refl, sym, ap, ◌∙◌, subst}
-use Rattle.crm_lex.specs.Names.{is_name}
+use Rattle.std.proofs.Common.{◌≡◌, ◌∷◌, ◌++◌, Ok, refl, sym, ap, ◌∙◌, subst}
 use Rattle.crm_parse.specs.declared.form.Form.{Form}
 use Rattle.crm_parse.specs.declared.form.Form.TheVariants as form
 use Rattle.crm_parse.specs.declared.owner.Owner.TheVariants as owner
@@ -12,7 +11,7 @@ use Rattle.faults.proofs.Steps.{bind-ok}
 use Rattle.crm_parse.proofs.Binds.{name_at-again, name_at-ok}
 use Rattle.crm_print.proofs.Affixes.{name-no_colon_at}
 use Rattle.statement_grammar.specs.Nodes.{NodeSays, a_node}
-use Rattle.statement_grammar.specs.Parts.{Section, pairs_in}
+use Rattle.statement_grammar.specs.Parts.{pairs_in}
 use Rattle.statement_grammar.proofs.OptionsSaid.{given-read, given-said, no_operation_says}
 use Rattle.statement_grammar.proofs.SectionsAreRead.{OpsAreRead, sections-read}
 use Rattle.statement_grammar.proofs.SectionsAreSaid.{OpsAreSaid, sections-said}

@@ -1,18 +1,15 @@
 -- What says an operation is read as it.
-use Rattle.std.proofs.Common.{◌≡◌, ◌≢◌, ◌&&◌, not, ℕ, Bool, true, false, cond, List, [], ◌∷◌, ◌++◌, Option, Some, None, Ok, Err, refl, sym, ap, ◌∙◌, subst, append_assoc, append-nil}
+use Rattle.std.proofs.Common.{◌≡◌, ◌≢◌, ◌&&◌, not, ℕ, Bool, true, false, List, [], ◌∷◌, ◌++◌, Ok, refl, sym, ap, ◌∙◌, subst, append_assoc, append-nil}
 use Rattle.std.specs.Prelude.{codes}
 use Rattle.std.specs.List.{AllByRecursion}
 use Rattle.std.proofs.lemmas.Bool.{false_from_ne_true}
 use Rattle.std.proofs.lemmas.Grind.{flat_map-append}
 use Rattle.crm_lex.specs.Names.{is, is_name}
-use Rattle.crm_parse.specs.declared.owner.Owner.{Owner}
 use Rattle.crm_parse.specs.declared.owner.Owner.TheVariants as owner
-use Rattle.crm_parse.specs.declared.owner.SectionWord.TheVariants.{Op}
 use Rattle.crm_parse.specs.declared.pair.Kv.{Kv}
 use Rattle.crm_parse.specs.declared.pair.Operation.{Operation}
 use Rattle.crm_parse.specs.declared.place.Place.{Place}
 use Rattle.crm_parse.specs.declared.place.Place.TheVariants as place
-use Rattle.crm_parse.specs.declared.section.Sections.{Sections}
 use Rattle.crm_parse.specs.Keys.{is_monitor_name}
 use Rattle.crm_parse.specs.Monitors.{AreFew, recurring}
 use Rattle.crm_parse.specs.Operations.{is_off, is_single, new_name, op_name, op_pairs, operation_of, with_op_pair, with_op_pairs}
@@ -27,8 +24,7 @@ use Rattle.statement_grammar.specs.Parts.{EachTwo, MayBothRun, MayStandBoth, Pai
 use Rattle.statement_grammar.proofs.MonitorRoom.{Roomy, pairs-cut, rooms}
 use Rattle.statement_grammar.proofs.OperationsRelated.{op-stands, single-read}
 use Rattle.statement_grammar.proofs.PairsRelated.{new-read, pair-read, pairs-spelled, two-middle}
-use Rattle.statement_grammar.proofs.SectionStates.{Stands, Stood}
-use Rattle.statement_grammar.proofs.SectionsAreRead.{Fits, OpsAreRead, PartIsRead}
+use Rattle.statement_grammar.proofs.SectionsAreRead.{OpsAreRead}
 
 op_pairs-read : (ops : List Operation) (on : Bool) (p : Place) (before : List Kv) (words : Words) (pairs : List Kv) → EachSays (PairSays p) words pairs
     → EachTwo (MayStandBoth p) (before ++ pairs) → AllByRecursion (Roomy ops on) words → with_op_pairs ops on p before words ≡ Ok (before ++ pairs)

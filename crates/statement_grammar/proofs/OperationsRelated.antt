@@ -1,11 +1,9 @@
 -- The operations of a primitive are read just when the words say them.
-use Rattle.std.proofs.Common.{arith, ◌≡◌, ◌≢◌, ◌⊎◌, inl, inr, ◌<◌, ◌≤◌, nat_le, ◌==◌, ◌&&◌, not, ℕ, Bool, true, false, cond, eqb, List, [], ◌∷◌, ◌++◌, length, filter, Option, Some, None, Ok, Err, refl, sym, ap, ◌∙◌, subst, append_assoc, append-nil}
-use Rattle.std.specs.Prelude.{codes, find, unwrap_or}
-use Rattle.std.specs.List.{AllByRecursion, flat_map, list_any}
-use Rattle.std.specs.Option.{option_and_then, option_map, option_map_or}
-use Rattle.std.proofs.lemmas.Bool.{and_from, and_parts, eq-eqb, false_from_ne_true, false≢true, or_from, or_parts, not-true}
+use Rattle.std.proofs.Common.{◌≡◌, ◌≢◌, ◌&&◌, not, ℕ, Bool, true, false, cond, List, [], ◌∷◌, ◌++◌, Ok, refl, sym, ap, ◌∙◌, subst, append_assoc, append-nil}
+use Rattle.std.specs.Prelude.{codes}
+use Rattle.std.specs.List.{AllByRecursion}
+use Rattle.std.proofs.lemmas.Bool.{false_from_ne_true, false≢true, or_from, or_parts}
 use Rattle.std.proofs.lemmas.Grind.{flat_map-append}
-use Rattle.std.proofs.lemmas.List.{length-append}
 use Rattle.crm_lex.specs.Names.{is, is_name}
 use Rattle.crm_parse.specs.declared.fault.ParseCause.TheVariants.{RepeatedKey, Unsupported}
 use Rattle.crm_parse.specs.declared.owner.Owner.TheVariants as owner
@@ -19,19 +17,19 @@ use Rattle.crm_parse.specs.declared.place.Place.TheVariants as place
 use Rattle.crm_parse.specs.declared.section.Sections.{Sections}
 use Rattle.crm_parse.specs.Keys.{is_monitor_name}
 use Rattle.crm_parse.specs.Monitors.{AreFew, recurring}
-use Rattle.crm_parse.specs.Operations.{has_monitor_room, has_op, interval_in, interval_of, is_off, is_single, new_name, op_name, op_pairs, operation_of, recurs, with_op_pair, with_op_pairs}
+use Rattle.crm_parse.specs.Operations.{has_monitor_room, has_op, interval_in, is_off, is_single, new_name, op_name, op_pairs, operation_of, with_op_pair, with_op_pairs}
 use Rattle.crm_parse.specs.Pairs.{kv_of, repeats, with_pair}
 use Rattle.crm_parse.specs.Reading.{Words, name_of}
 use Rattle.faults.proofs.Steps.{bind-ok}
-use Rattle.crm_parse.proofs.Binds.{is-same, is-true, name_of-again, name_of-ok, unless-ok}
+use Rattle.crm_parse.proofs.Binds.{is-same, is-true, name_of-ok, unless-ok}
 use Rattle.crm_parse.proofs.FewMonitors.{few-kept}
-use Rattle.crm_parse.proofs.OperationWords.{KeptOps, kept_operation}
+use Rattle.crm_parse.proofs.OperationWords.{kept_operation}
 use Rattle.crm_print.proofs.SectionsAgain.{pairs_of}
 use Rattle.statement_grammar.specs.Grammar.{EachSays, no_word, one_word}
-use Rattle.statement_grammar.specs.Parts.{EachTwo, MayBothRun, MayFollow, MayStandBoth, PairSays, Section, SectionSays, an_operation, operation, operations_in, operation_if, pairs_if, pairs_in, section_place}
-use Rattle.statement_grammar.proofs.PairsRelated.{filled-said, new-read, new-said, pair-read, pair-said, two-middle, two-push}
+use Rattle.statement_grammar.specs.Parts.{EachTwo, MayBothRun, MayFollow, MayStandBoth, PairSays, Section, SectionSays, an_operation, operation, operations_in, operation_if, pairs_if, pairs_in}
+use Rattle.statement_grammar.proofs.PairsRelated.{filled-said, new-said, pair-said, two-push}
 use Rattle.statement_grammar.proofs.SectionStates.{Stands, Stood, all-any, all-stood}
-use Rattle.statement_grammar.proofs.SectionsAreSaid.{OpsAreSaid, PartIsSaid}
+use Rattle.statement_grammar.proofs.SectionsAreSaid.{OpsAreSaid}
 
 -- an operation that may stand once stands once
 names-differ : (name : List ℕ) (ops : List Operation) → has_op ops name ≡ false → AllByRecursion (λ one. one.name ≢ name) ops

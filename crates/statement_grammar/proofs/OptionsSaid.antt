@@ -1,5 +1,5 @@
 -- Words that may be left out: a description, an id before its colon.
-use Rattle.std.proofs.Common.{◌≡◌, ◌≢◌, ℕ, true, List, [], ◌∷◌, ◌++◌, Option, Some, None, Ok, refl, sym, ap, ◌∙◌, subst}
+use Rattle.std.proofs.Common.{◌≡◌, ℕ, true, List, [], ◌∷◌, ◌++◌, Option, Some, None, Ok, refl, sym, ap, subst}
 use Rattle.std.specs.Prelude.{codes}
 use Rattle.crm_lex.specs.Names.{is_name}
 use Rattle.crm_parse.specs.declared.owner.Owner.{Owner}
@@ -7,11 +7,11 @@ use Rattle.crm_parse.specs.declared.owner.Owner.TheVariants as owner
 use Rattle.crm_parse.specs.declared.owner.SectionWord.{SectionWord}
 use Rattle.crm_parse.specs.declared.owner.SectionWord.TheVariants.{Attributes, Params, Meta, Utilization, Operations, Op}
 use Rattle.crm_parse.specs.declared.pair.Operation.{Operation}
-use Rattle.crm_parse.specs.Reading.{Words, colon_at, given_at, name_of, prefixed_at, some_name}
+use Rattle.crm_parse.specs.Reading.{Words, colon_at, given_at, prefixed_at, some_name}
 use Rattle.crm_parse.proofs.Binds.{given_at-again, given_at-ok, name_of-again, some_name-name}
-use Rattle.crm_print.proofs.Affixes.{colon_at-again, colon_at-words, given_words, noted_words, prefixed_at-again, prefixed_at-words}
+use Rattle.crm_print.proofs.Affixes.{colon_at-again, colon_at-words, given_words, noted_words, prefixed_at-again}
 use Rattle.statement_grammar.specs.Grammar.{AnyText, ColonSays, LabelSays, MayGive, NameSays, PartsSay, a_name, any_text, is_given, label_then, no_part, not_given, one_part, then_colon}
-use Rattle.statement_grammar.specs.Parts.{Section, SectionSays, a_section, an_operation, operation, section_text, with_pairs}
+use Rattle.statement_grammar.specs.Parts.{Section, SectionSays, a_section, an_operation, operation, section_text}
 
 -- what stands behind a label
 pub noted-said : (label : List ℕ) (noted : Option (List ℕ)) → MayGive (LabelSays label AnyText) (noted_words label noted) noted

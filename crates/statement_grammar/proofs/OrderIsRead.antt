@@ -1,7 +1,6 @@
 -- What says an order is read as it.
-use Rattle.std.proofs.Common.{◌≡◌, ◌≤◌, ℕ, Bool, true, false, List, [], ◌∷◌, ◌++◌, length, Option, Some, None, Ok, refl, sym, ap, ◌∙◌, subst, append_assoc, append-nil, arith}
+use Rattle.std.proofs.Common.{◌≡◌, ◌≤◌, ℕ, Bool, true, false, List, [], ◌∷◌, ◌++◌, length, Some, None, Ok, refl, sym, ap, ◌∙◌, subst, append_assoc, append-nil, arith}
 use Rattle.std.specs.Prelude.{codes}
-use Rattle.crm_lex.specs.Names.{is_name}
 use Rattle.crm_parse.specs.declared.draft.OrderDraft.{OrderDraft}
 use Rattle.crm_parse.specs.declared.draft.StepDraft.{StepDraft}
 use Rattle.crm_parse.specs.declared.words.ActionWord.{ActionWord}
@@ -9,9 +8,9 @@ use Rattle.crm_parse.specs.declared.words.ActionWord.TheVariants.{Start, Stop, P
 use Rattle.crm_parse.specs.declared.words.KindWord.{KindWord}
 use Rattle.crm_parse.specs.declared.words.KindWord.TheVariants.{Mandatory, Optional, Serialize}
 use Rattle.crm_parse.specs.Order.{ends_steps, kind_at, order_at, order_steps_at, read_order_step, step_parts, symmetrical_as, symmetrical_in, with_step, with_steps}
-use Rattle.crm_parse.specs.Reading.{Words, colon_at, end_at, name_at, prefixed_at}
+use Rattle.crm_parse.specs.Reading.{Words, colon_at, end_at, prefixed_at}
 use Rattle.crm_parse.specs.Texts.{before}
-use Rattle.crm_parse.specs.Values.{action_of, bool_of}
+use Rattle.crm_parse.specs.Values.{bool_of}
 use Rattle.crm_parse.proofs.Binds.{name_at-again}
 use Rattle.crm_parse.proofs.PairWords.{has}
 use Rattle.crm_print.specs.WordTexts.{action_word_text}

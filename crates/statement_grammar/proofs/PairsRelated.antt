@@ -1,5 +1,5 @@
 -- Pairs that are read are those that the words say, and the other way round.
-use Rattle.std.proofs.Common.{◌≡◌, ◌≢◌, ◌⊎◌, inl, inr, ℕ, Bool, true, false, not, cond, eqb, ◌==◌, ◌&&◌, List, [], ◌∷◌, ◌++◌, length, Option, Some, None, Ok, Err, refl, sym, ap, ◌∙◌, subst, append_assoc, append-nil, arith}
+use Rattle.std.proofs.Common.{◌≡◌, ◌≢◌, inl, inr, ℕ, Bool, true, false, not, cond, eqb, ◌==◌, ◌&&◌, List, [], ◌∷◌, ◌++◌, length, Option, Some, None, Ok, Err, refl, sym, ap, ◌∙◌, subst, append_assoc, append-nil, arith}
 use Rattle.std.specs.Prelude.{codes}
 use Rattle.std.specs.List.{AllByRecursion, list_any}
 use Rattle.std.proofs.lemmas.Bool.{ne_eqb, or_from, or_parts, false≢true}
@@ -14,7 +14,7 @@ use Rattle.crm_parse.specs.Texts.{cut_at}
 use Rattle.faults.proofs.Steps.{bind-ok}
 use Rattle.crm_parse.proofs.Binds.{is-same, is-true, unless-ok}
 use Rattle.crm_parse.proofs.PairLists.{pair_words}
-use Rattle.crm_parse.proofs.PairWords.{cut_at-some, has, pair_word}
+use Rattle.crm_parse.proofs.PairWords.{cut_at-some, pair_word}
 use Rattle.crm_print.proofs.PairsAgain.{cut_at-again, pair_word-differs}
 use Rattle.statement_grammar.specs.Grammar.{EachSays, no_word, one_word}
 use Rattle.statement_grammar.specs.Parts.{EachTwo, MayStandBoth, PairSays, a_pair}

@@ -1,5 +1,5 @@
 -- The rules of a location are read just when the words say them.
-use Rattle.std.proofs.Common.{arith, ◌≡◌, ◌≢◌, ◌≤◌, zero, suc, ℕ, ℤ, Bool, true, false, cond, List, [], ◌∷◌, ◌++◌, length, Option, Some, None, Result, Ok, Err, refl, sym, ap, ◌∙◌, subst, append_assoc, append-nil}
+use Rattle.std.proofs.Common.{arith, ◌≡◌, ◌≤◌, zero, suc, ℕ, ℤ, true, List, [], ◌∷◌, ◌++◌, length, Option, Some, None, Ok, refl, sym, ap, ◌∙◌, subst, append_assoc, append-nil}
 use Rattle.std.specs.Prelude.{codes, is_some}
 use Rattle.std.proofs.lemmas.List.{length-append}
 use Rattle.crm_lex.specs.Names.{is, is_name}
@@ -9,7 +9,7 @@ use Rattle.crm_parse.specs.declared.fault.ParseCause.TheVariants.{ExtraWord, Uns
 use Rattle.crm_parse.specs.declared.rule_form.RuleForm.{RuleForm}
 use Rattle.crm_parse.specs.declared.words.RoleWord.{RoleWord}
 use Rattle.crm_parse.specs.Keys.{when}
-use Rattle.crm_parse.specs.Location.{all_of, either_at, rule_at, rule_id_at, rule_role_at, rule_score_of, some_role, with_rule, with_rules}
+use Rattle.crm_parse.specs.Location.{either_at, rule_at, rule_id_at, rule_role_at, rule_score_of, some_role, with_rule, with_rules}
 use Rattle.crm_parse.specs.Reading.{Words, next_word_in, prefixed_at, rule_role_of, score_of, some_name}
 use Rattle.crm_parse.specs.Rules.{expression_at, joiner_at}
 use Rattle.crm_parse.specs.Texts.{after}

@@ -1,7 +1,6 @@
 -- How sections that were read stand beside those that were written.
-use Rattle.std.proofs.Common.{◌≡◌, ◌≢◌, ◌==◌, ◌&&◌, ℕ, Bool, true, false, cond, eqb, List, [], ◌∷◌, ◌++◌, length, Option, Some, None, Ok, refl, sym, ap, ◌∙◌, subst, append-nil, arith}
-use Rattle.std.specs.Prelude.{codes}
-use Rattle.std.specs.List.{AllByRecursion, flat_map}
+use Rattle.std.proofs.Common.{◌≡◌, ◌≢◌, Bool, true, false, cond, List, [], ◌∷◌, ◌++◌, length, Some, refl, sym, ap, ◌∙◌, subst, append-nil, arith}
+use Rattle.std.specs.List.{AllByRecursion}
 use Rattle.std.proofs.lemmas.Bool.{and_parts, eqb-true}
 use Rattle.std.proofs.lemmas.Grind.{flat_map-append}
 use Rattle.crm_lex.specs.Names.{is}
@@ -10,7 +9,6 @@ use Rattle.crm_parse.specs.declared.owner.Owner.TheVariants as owner
 use Rattle.crm_parse.specs.declared.owner.SectionWord.{SectionWord}
 use Rattle.crm_parse.specs.declared.owner.SectionWord.TheVariants.{Attributes, Params, Meta, Utilization, Operations, Op}
 use Rattle.crm_parse.specs.declared.pair.Kv.{Kv}
-use Rattle.crm_parse.specs.declared.pair.Operation.{Operation}
 use Rattle.crm_parse.specs.declared.place.Place.{Place}
 use Rattle.crm_parse.specs.declared.section.Sections.{Sections}
 use Rattle.crm_parse.specs.Monitors.{AreFew, recurring}

@@ -1,5 +1,5 @@
 -- The words of sections, as they are cut.
-use Rattle.std.proofs.Common.{◌≡◌, ℕ, Bool, true, false, cond, List, [], ◌∷◌, ◌++◌, Option, Some, None, refl, sym, ap, ◌∙◌, subst, append_assoc}
+use Rattle.std.proofs.Common.{◌≡◌, ℕ, Bool, true, false, cond, List, [], ◌∷◌, ◌++◌, Option, Some, None, refl, sym, ap, ◌∙◌, subst}
 use Rattle.std.specs.Prelude.{codes}
 use Rattle.std.specs.List.{AllByRecursion, flat_map}
 use Rattle.crm_lex.specs.Names.{is}
@@ -8,7 +8,6 @@ use Rattle.crm_parse.specs.declared.owner.Owner.TheVariants as owner
 use Rattle.crm_parse.specs.declared.owner.SectionWord.{SectionWord}
 use Rattle.crm_parse.specs.declared.owner.SectionWord.TheVariants.{Attributes, Params, Meta, Utilization, Operations, Op}
 use Rattle.crm_parse.specs.declared.place.Place.{Place}
-use Rattle.crm_parse.specs.declared.place.Place.TheVariants as place
 use Rattle.crm_parse.specs.Reading.{Words}
 use Rattle.crm_parse.specs.Sections.{Part, allowed, allows_section, cut_into_sections, onto, place_of, section_of, section_word, takes_name}
 use Rattle.crm_parse.proofs.Binds.{is-true}

@@ -1,11 +1,10 @@
 -- Sections that the words say are read as those.
-use Rattle.std.proofs.Common.{arith, ◌≡◌, ◌≢◌, ◌<◌, zero, suc, length, slice_index_or, ℕ, Bool, true, false, cond, List, [], ◌∷◌, ◌++◌, map, Option, Some, None, Result, Ok, Err, refl, sym, ap, ◌∙◌, subst, append_assoc, append-nil}
+use Rattle.std.proofs.Common.{arith, ◌≡◌, ◌≢◌, ◌<◌, zero, suc, length, slice_index_or, ℕ, true, false, List, [], ◌∷◌, ◌++◌, map, Some, Ok, refl, sym, ap, ◌∙◌, subst, append_assoc, append-nil}
 use Rattle.std.specs.Prelude.{codes}
-use Rattle.std.specs.List.{AllByRecursion, flat_map}
+use Rattle.std.specs.List.{AllByRecursion}
 use Rattle.std.proofs.lemmas.Grind.{flat_map-append}
 use Rattle.std.proofs.lemmas.List.{length-append}
 use Rattle.crm_parse.specs.declared.owner.Owner.{Owner}
-use Rattle.crm_parse.specs.declared.owner.Owner.TheVariants as owner
 use Rattle.crm_parse.specs.declared.owner.SectionWord.{SectionWord}
 use Rattle.crm_parse.specs.declared.owner.SectionWord.TheVariants.{Attributes, Params, Meta, Utilization, Operations, Op}
 use Rattle.crm_parse.specs.declared.pair.Kv.{Kv}
@@ -15,7 +14,7 @@ use Rattle.crm_parse.specs.declared.section.Sections.{Sections}
 use Rattle.crm_parse.specs.Monitors.{AreFew, recurring, recurring_in}
 use Rattle.crm_parse.specs.Pairs.{with_section}
 use Rattle.crm_parse.specs.Reading.{Words}
-use Rattle.crm_parse.specs.Sections.{Part, allows_section, cut_into_sections, may_follow, no_sections, place_of, section_of, sections_at, takes_name, with_part, with_parts, with_words}
+use Rattle.crm_parse.specs.Sections.{Part, allows_section, cut_into_sections, no_sections, place_of, sections_at, takes_name, with_part, with_parts, with_words}
 use Rattle.crm_parse.proofs.OperationWords.{op_words}
 use Rattle.crm_parse.proofs.PairLists.{pair_words}
 use Rattle.crm_print.proofs.SectionCuts.{cut-pairs}

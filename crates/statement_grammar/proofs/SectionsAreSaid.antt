@@ -1,13 +1,11 @@
 -- Sections that are read are those that the words say.
-use Rattle.std.proofs.Common.{◌≡◌, ◌≢◌, ℕ, Bool, true, false, cond, List, [], ◌∷◌, ◌++◌, Option, Some, None, Result, Ok, Err, refl, sym, ap, ◌∙◌, subst, append_assoc, append-nil}
+use Rattle.std.proofs.Common.{◌≡◌, true, false, List, [], ◌∷◌, ◌++◌, Some, Ok, Err, refl, sym, ◌∙◌, subst, append_assoc, append-nil}
 use Rattle.std.specs.Prelude.{codes}
 use Rattle.std.specs.List.{AllByRecursion, flat_map}
-use Rattle.crm_parse.specs.declared.fault.ParseCause.{ParseCause}
 use Rattle.crm_parse.specs.declared.fault.ParseCause.TheVariants.{ExtraWord}
 use Rattle.crm_parse.specs.declared.owner.Owner.{Owner}
 use Rattle.crm_parse.specs.declared.owner.SectionWord.{SectionWord}
 use Rattle.crm_parse.specs.declared.owner.SectionWord.TheVariants.{Attributes, Params, Meta, Utilization, Operations, Op}
-use Rattle.crm_parse.specs.declared.pair.Kv.{Kv}
 use Rattle.crm_parse.specs.declared.pair.Operation.{Operation}
 use Rattle.crm_parse.specs.declared.place.Place.{Place}
 use Rattle.crm_parse.specs.declared.section.Sections.{Sections}
@@ -15,15 +13,15 @@ use Rattle.crm_parse.specs.Keys.{stray}
 use Rattle.crm_parse.specs.Operations.{operation_of}
 use Rattle.crm_parse.specs.Pairs.{with_section}
 use Rattle.crm_parse.specs.Reading.{Words}
-use Rattle.crm_parse.specs.Sections.{Part, allows_section, cut_into_sections, may_follow, no_sections, place_of, sections_at, sections_from, takes_name, with_cut, with_part, with_parts, with_words}
+use Rattle.crm_parse.specs.Sections.{Part, allows_section, cut_into_sections, may_follow, no_sections, place_of, sections_at, takes_name, with_cut, with_part, with_parts, with_words}
 use Rattle.faults.specs.Reading.{◌>>=◌}
 use Rattle.faults.proofs.Steps.{bind-ok}
 use Rattle.crm_parse.proofs.Binds.{if-ok}
 use Rattle.crm_print.proofs.SectionsAgain.{pairs_of, put}
 use Rattle.statement_grammar.specs.Grammar.{PartsSay, no_part, one_part}
-use Rattle.statement_grammar.specs.Parts.{EachTwo, MayStandBoth, Section, SectionSays, SectionsSay, a_section, operation, section_place, section_text, with_pairs}
+use Rattle.statement_grammar.specs.Parts.{EachTwo, MayStandBoth, Section, SectionSays, SectionsSay, a_section, with_pairs}
 use Rattle.statement_grammar.proofs.PairsRelated.{section-said}
-use Rattle.statement_grammar.proofs.SectionStates.{Stands, Stood, more-stands, stands-first, turn-said}
+use Rattle.statement_grammar.proofs.SectionStates.{Stands, more-stands, stands-first, turn-said}
 use Rattle.statement_grammar.proofs.SectionWords.{Allowed, cut-allowed, cut-words, part_words, placed}
 
 -- one more section

@@ -1,5 +1,5 @@
 -- Settings are read just when the words say them.
-use Rattle.std.proofs.Common.{◌≡◌, ◌≢◌, ◌⊎◌, inl, inr, ◌&&◌, ◌||◌, not, ℕ, Bool, true, false, cond, List, [], ◌∷◌, ◌++◌, Option, Some, None, Ok, refl, sym, ap, ◌∙◌, subst, append_assoc, append-nil}
+use Rattle.std.proofs.Common.{◌≡◌, ◌≢◌, inl, inr, ◌&&◌, ◌||◌, not, ℕ, Bool, true, false, List, [], ◌∷◌, ◌++◌, Option, Some, None, Ok, refl, sym, ap, ◌∙◌, subst, append_assoc, append-nil}
 use Rattle.std.specs.Prelude.{codes}
 use Rattle.std.specs.List.{AllByRecursion, list_any}
 use Rattle.std.proofs.lemmas.Bool.{false_from_ne_true, false≢true, or_from, or_parts}
@@ -16,10 +16,8 @@ use Rattle.crm_parse.specs.declared.words.SettingsWord.TheVariants.{Property, Rs
 use Rattle.crm_parse.specs.Pairs.{kv_of, repeats}
 use Rattle.crm_parse.specs.Reading.{Words, colon_at, given_at}
 use Rattle.crm_parse.specs.Settings.{begins_pair, form_sets, is_pair, is_same_settings, set_at, set_before, sets, settings_at, settings_pairs, settings_place, with_setting, with_settings}
-use Rattle.crm_parse.specs.Texts.{cut_at}
 use Rattle.faults.proofs.Steps.{bind-ok}
 use Rattle.crm_parse.proofs.Binds.{given_at-again, is-same, is-true, name_of-again, unless-ok}
-use Rattle.crm_parse.proofs.PairWords.{has}
 use Rattle.crm_print.proofs.Affixes.{before-again}
 use Rattle.crm_print.proofs.LackedBytes.{cut_at-none, has-append, name-lacks}
 use Rattle.crm_print.proofs.PairsAgain.{cut_at-again}

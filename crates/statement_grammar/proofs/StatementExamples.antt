@@ -1,13 +1,11 @@
 -- Examples of what lines say, computed: each form with its alternatives, and for each a line that is nearly one.
 use Rattle.std.proofs.Common.{ℕ, pos, neg_ℤ, true, false, List, [], ◌∷◌, Option, Some, None, Result, refl}
 use Rattle.std.specs.Prelude.{codes}
-use Rattle.date_rules.specs.declared.rule.Compare.TheVariants.{Lt, Gte, Eq}
+use Rattle.date_rules.specs.declared.rule.Compare.TheVariants.{Gte, Eq}
 use Rattle.date_rules.specs.declared.rule.Kind.TheVariants as kind
-use Rattle.date_rules.specs.declared.rule.Rule.{Rule}
-use Rattle.date_rules.specs.declared.rule.Test.TheVariants.{Attribute, Defined, NotDefined}
+use Rattle.date_rules.specs.declared.rule.Test.TheVariants.{Attribute, Defined}
 use Rattle.crm_parse.specs.declared.draft.Draft.{Draft}
 use Rattle.crm_parse.specs.declared.draft.Draft.TheVariants as draft
-use Rattle.crm_parse.specs.declared.draft.DraftStatement.{DraftStatement}
 use Rattle.crm_parse.specs.declared.draft.StepDraft.{StepDraft}
 use Rattle.crm_parse.specs.declared.fault.ParseCause.{ParseCause}
 use Rattle.crm_parse.specs.declared.fault.ParseCause.TheVariants.{BadScore, BadValue, ExtraWord, MissingWord, RepeatedKey, UnknownStatement, Unsupported}

@@ -1,5 +1,5 @@
 -- What says a test is read as it.
-use Rattle.std.proofs.Common.{◌≡◌, ◌≢◌, ◌||◌, not, ℕ, ℤ, Bool, true, false, cond, List, [], ◌∷◌, ◌++◌, length, Option, Some, None, Result, Ok, Err, refl, sym, ap, ◌∙◌, subst, append_assoc, append-nil}
+use Rattle.std.proofs.Common.{◌≡◌, ◌≢◌, ℕ, ℤ, true, false, List, [], ◌∷◌, ◌++◌, Some, Ok, refl, ap, ◌∙◌, append_assoc}
 use Rattle.std.specs.Prelude.{codes, is_some}
 use Rattle.std.proofs.lemmas.Bool.{false_from_ne_true}
 use Rattle.crm_lex.specs.Names.{is}
@@ -10,7 +10,6 @@ use Rattle.date_rules.specs.declared.rule.Test.{Test}
 use Rattle.date_rules.specs.declared.rule.Test.TheVariants.{Attribute, Defined, NotDefined, Before, After, Within}
 use Rattle.date_rules.specs.Instant.{instant}
 use Rattle.date_rules.specs.WholeNumber.{whole_number}
-use Rattle.crm_parse.specs.Keys.{ValueTaken}
 use Rattle.crm_parse.specs.Reading.{Words}
 use Rattle.crm_parse.specs.Rules.{attribute_at, comparable, compare_of, comparison_of, date_at, date_test_at, dates_at, defined_at, end_date_at, filled, noted_at, start_at, test_after, test_at, typed, untyped}
 use Rattle.crm_parse.proofs.Binds.{is-true}

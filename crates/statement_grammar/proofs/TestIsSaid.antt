@@ -1,5 +1,5 @@
 -- A test that is read is one that the words say.
-use Rattle.std.proofs.Common.{◌≡◌, ◌≢◌, ◌||◌, ◌==◌, not, ℕ, ℤ, Bool, true, false, cond, List, [], ◌∷◌, ◌++◌, length, Option, Some, None, Result, Ok, Err, refl, sym, ap, ◌∙◌, subst, append_assoc, append-nil}
+use Rattle.std.proofs.Common.{◌≡◌, ◌≢◌, ◌||◌, ◌==◌, not, ℕ, ℤ, Bool, true, false, cond, List, [], ◌∷◌, ◌++◌, length, Option, Some, None, Ok, Err, refl, sym, ap, ◌∙◌, subst, append_assoc}
 use Rattle.std.specs.Prelude.{codes, is_some}
 use Rattle.std.specs.Option.{ok_or}
 use Rattle.std.proofs.lemmas.Bool.{false≢true, not-true}
@@ -14,16 +14,15 @@ use Rattle.date_rules.specs.Instant.{instant}
 use Rattle.date_rules.specs.WholeNumber.{whole_number}
 use Rattle.crm_parse.specs.declared.expression.DateTest.{DateTest}
 use Rattle.crm_parse.specs.declared.expression.DateTest.TheVariants as date
-use Rattle.crm_parse.specs.declared.fault.ParseCause.{ParseCause}
 use Rattle.crm_parse.specs.declared.fault.ParseCause.TheVariants.{BadValue, Unsupported}
 use Rattle.crm_parse.specs.Reading.{Words, next_word_in}
-use Rattle.crm_parse.specs.Rules.{attribute_at, comparable, compare_of, comparison_of, date_at, date_test_at, date_test_of, date_test_text, dates_at, defined_at, end_date_at, end_text, filled, is_number_kind, noted_at, read_moment, start_at, test_after, test_at, type_of, typed, untyped}
+use Rattle.crm_parse.specs.Rules.{attribute_at, comparable, compare_of, comparison_of, date_at, date_test_at, date_test_of, date_test_text, dates_at, defined_at, end_date_at, end_text, filled, noted_at, read_moment, start_at, test_after, test_at, type_of, typed, untyped}
 use Rattle.crm_parse.specs.Texts.{after, cut_at, byte_place}
 use Rattle.faults.proofs.Steps.{bind-ok}
 use Rattle.crm_parse.proofs.Binds.{is-same, is-true, ok-same, ok_or-ok, when-ok, word_at-ok}
 use Rattle.crm_parse.proofs.PairWords.{cut_at-some}
 use Rattle.crm_print.proofs.Affixes.{after-some}
-use Rattle.statement_grammar.specs.RuleTests.{CompareSays, ComparisonSays, NamesAttribute, RangeWord, TestSays, TypeSays, after_date, before_date, compares, in_range_word, in_word, is_defined, is_not_defined, says_eq, says_gt, says_gte, says_integer, says_lt, says_lte, says_ne, says_number, says_string, with_type, within_dates, without_type}
+use Rattle.statement_grammar.specs.RuleTests.{CompareSays, ComparisonSays, RangeWord, TestSays, TypeSays, after_date, before_date, compares, in_range_word, in_word, is_defined, is_not_defined, says_eq, says_gt, says_gte, says_integer, says_lt, says_lte, says_ne, says_number, says_string, with_type, within_dates, without_type}
 use Rattle.statement_grammar.proofs.PairsRelated.{filled-key}
 
 -- CMP

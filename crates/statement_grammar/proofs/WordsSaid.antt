@@ -1,12 +1,12 @@
 -- What the readers of single words gave is what the grammar says.
-use Rattle.std.proofs.Common.{◌≡◌, ◌⊎◌, inl, inr, ℕ, Bool, true, false, cond, eqb, List, [], ◌∷◌, ◌++◌, Option, Some, None, Ok, refl, sym, ap, ◌∙◌, subst}
+use Rattle.std.proofs.Common.{◌≡◌, ◌⊎◌, inl, inr, ℕ, Bool, true, false, cond, eqb, List, [], ◌∷◌, ◌++◌, Some, None, Ok, refl, sym, ap, ◌∙◌}
 use Rattle.std.specs.Prelude.{codes}
 use Rattle.std.proofs.lemmas.Bool.{or_parts, false≢true}
 use Rattle.crm_lex.specs.Names.{is_name, is_name_byte}
 use Rattle.crm_parse.specs.declared.words.ActionWord.{ActionWord}
 use Rattle.crm_parse.specs.declared.words.ActionWord.TheVariants.{Start, Stop, Promote, Demote}
 use Rattle.crm_lex.specs.Names.{is}
-use Rattle.crm_parse.specs.Reading.{Words, begins_set, end_at, name_of, resource_of}
+use Rattle.crm_parse.specs.Reading.{Words, begins_set, end_at, resource_of}
 use Rattle.crm_parse.specs.Texts.{before}
 use Rattle.crm_parse.specs.Values.{action_of}
 use Rattle.crm_parse.proofs.Binds.{is-true, name_of-again}

@@ -1,6 +1,6 @@
 -- The sections of a statement: a section word, and the pairs behind it; and the operations of a primitive, each with its name and its pairs (crmsh manual,
 -- node, primitive, group, clone and op).
-use Rattle.std.specs.Prelude.{◌≡◌, ◌≢◌, ◌⊎◌, ◌==◌, ℕ, Bool, true, false, if◌then◌else◌, List, [], ◌∷◌, ◌++◌, codes, Option, Some, None, Ok}
+use Rattle.std.specs.Prelude.{◌≡◌, ◌≢◌, ◌⊎◌, ◌==◌, ℕ, true, false, if◌then◌else◌, List, [], ◌∷◌, ◌++◌, codes, Option, Some, None, Ok}
 use Rattle.std.specs.List.{AllByRecursion, flat_map, list_any}
 use Rattle.crm_lex.specs.Names.{is, is_name}
 use Rattle.crm_parse.specs.declared.owner.Owner.{Owner}
