@@ -2,7 +2,7 @@
 import os
 import re
 
-from .expecting import TOP, expect, own, tool
+from expecting import TOP, expect, own, tool
 
 NAMED = re.compile(r"^\[(\S+)\]\(\.\./examples/differences/\1\):.*?^- cekpayo: (.*?)\n\n", re.M | re.S)
 LINE = re.compile(r"`((?:target|none|pinned|action) [^`]*)`")
@@ -23,3 +23,7 @@ def try_differences():
         for line in lines:
             built = not line.startswith("action") or answers[1][0] != NOT_BUILT
             expect(f"docs/PACEMAKER.md: {name}: {line}", line in written or not built, "\n".join(written))
+
+
+def try_all(_folder):
+    try_differences()

@@ -6,8 +6,7 @@ import shutil
 import subprocess
 import textwrap
 
-from .expecting import ENVIRONMENT, TOP, WRAPPER, expect, kept, own, tool
-from .installed import plain
+from expecting import ENVIRONMENT, TOP, WRAPPER, expect, kept, own, plain, tool
 
 GRAPH = """action 1 fence web1
 action 2 start vip web2 after 1
@@ -263,7 +262,7 @@ def try_without_program(folder):
         expect("what-if without a program", (done.returncode, done.stdout) == (127, b"") and as_said, found)
 
 
-def try_shown(folder):
+def try_all(folder):
     try_dot()
     try_json()
     try_summary()

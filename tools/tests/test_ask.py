@@ -4,7 +4,7 @@ import json
 import os
 import subprocess
 
-from .expecting import ENVIRONMENT, TOP, WRAPPER, expect, kept, own
+from expecting import ENVIRONMENT, TOP, WRAPPER, expect, kept, own
 
 from ask.edits import edited
 
@@ -253,7 +253,7 @@ def try_json():
     expect("a refusal's remedies", found[0]["column"] == 14 and found[0]["remedies"][-1] == "A colon is missing: `5:`.", said)
 
 
-def try_asked(folder):
+def try_all(folder):
     try_plan()
     try_changes()
     try_moves()

@@ -4,7 +4,7 @@ import ctypes
 import os
 import random
 
-from .expecting import TOP, expect, own, tool
+from expecting import TOP, expect, own, tool
 
 from collect.patterns import Pattern, Unsaid, Wrong
 
@@ -240,7 +240,7 @@ def try_everyday():
     expect("the nine clusters", (len(names), len(plain)) == (9, 5), f"{names} {plain}")
 
 
-def try_snapshot(folder):
+def try_all(folder):
     try_rules()
     try_sets()
     try_patterns()

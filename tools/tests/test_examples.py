@@ -5,7 +5,7 @@ import shlex
 import subprocess
 import textwrap
 
-from .expecting import ENVIRONMENT, TOP, WRAPPER, expect, kept, own, tool
+from expecting import ENVIRONMENT, TOP, WRAPPER, expect, kept, own, tool
 
 EXAMPLES = os.path.join(TOP, "examples")
 WORDS = ("scores", "graph", "survive", "replay")
@@ -93,7 +93,7 @@ def try_pipe():
     expect("the live pipe ends there", process.stdout.read() == "" and process.wait() == 0)
 
 
-def try_examples():
+def try_all(_folder):
     try_answers()
     try_page()
     try_pipe()

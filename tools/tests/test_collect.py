@@ -3,7 +3,7 @@ import bz2
 import os
 import subprocess
 
-from .expecting import TOP, expect, kept, own, tool
+from expecting import TOP, expect, kept, own, tool
 
 CIBS = os.path.join(TOP, ".ci", "cibs")
 
@@ -278,7 +278,7 @@ def try_inputs():
         expect(command, (done.returncode, said.count("\n")) == (1, 1) and said.startswith(f"collect: {place}: "), said)
 
 
-def try_collect(folder):
+def try_all(folder):
     try_kept()
     try_text(folder)
     try_begun(folder)

@@ -5,7 +5,7 @@ import re
 import shutil
 import subprocess
 
-from .expecting import ENVIRONMENT, TOP, WRAPPER, expect, problems, tool
+from expecting import ENVIRONMENT, TOP, WRAPPER, expect, problems, tool
 
 EXAMPLES = os.path.join(TOP, "examples")
 VOID = ("meta", "input", "br")
@@ -261,7 +261,7 @@ def try_same():
     expect("the same report each time", len(set(pages)) == 1 and pages[0].startswith(b"<!"))
 
 
-def try_report(folder):
+def try_all(folder):
     try_examples()
     try_same()
     try_causes()
