@@ -74,6 +74,7 @@ end_build() {
   kill -TERM -- "-$builder" 2>/dev/null
   [ -z "$shower" ] || kill "$shower" 2>/dev/null
   wait "$builder" 2>/dev/null
+  [ ! -t 2 ] || echo >&2
   say "the build was ended; the next one goes on where it was"
   exit $((128 + $1))
 }

@@ -14,6 +14,7 @@ CRATES = "lemmas:\nlisted:\nsim_core: lemmas listed\nsim_cli: sim_core\nrun_case
 RT = """#!/bin/bash
 echo "$@" in "${{PWD##*/}}" >> "{folder}/asked"
 if [ "$1" = try ]; then
+  {tries}
   for file in "$3"/*; do
     case $file in *.args) continue ;; esac
     echo "== ${{file##*/}}"
@@ -32,7 +33,7 @@ CUT = 'echo "case=${file##*/} run=no-answer proved=no" >&2'
 class Copy:
     """The script in a copy of its folder, where nothing is built, with a stand-in for `rt`, or without any."""
 
-    def __init__(self, folder, name, build="exit 1", ended=ENDED):
+    def __init__(self, folder, name, build="exit 1", **tries):
         self.folder = os.path.join(folder, name)
         self.top, self.commands = os.path.join(self.folder, "top"), os.path.join(self.folder, "commands")
         for crate in ("lemmas", "listed", "sim_core", "sim_cli"):
@@ -45,13 +46,13 @@ class Copy:
         os.mkdir(self.commands)
         self.environment = dict(plain(), CEKPAYO_PROGRESS="1")
         self.environment["PATH"] = self.commands + ":" + self.environment["PATH"]
-        self.put_rt(build, ended)
+        self.put_rt(build, **tries)
 
-    def put_rt(self, build, ended=ENDED):
-        """Has `rt` build by these commands, which run in the folder of the crate."""
+    def put_rt(self, build, ended=ENDED, tries=":"):
+        """Has `rt` build by these commands, which run in the folder of the crate, and do others before a trial and behind each case."""
         path = os.path.join(self.commands, "rt")
         with open(path, "w", encoding="utf-8") as file:
-            file.write(RT.format(folder=self.folder, program=PROGRAM, build=build, ended=ended))
+            file.write(RT.format(folder=self.folder, program=PROGRAM, build=build, ended=ended, tries=tries))
         os.chmod(path, 0o755)
 
     def begin(self, *words):

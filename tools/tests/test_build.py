@@ -12,8 +12,10 @@ from expecting import PROGRAM, expect
 def try_build(folder):
     """The script builds when it must, and only then."""
     copy = Copy(folder, "build")
-    for words in ([], ["chek"], ["explain"], ["--help"]):
-        copy.run(*words)
+    for words in ([], ["chek"], ["explain"], ["--help"], ["plan", "--tme"], ["what-if"], ["why"]):
+        expect(f"{words} builds nothing", copy.run(*words)[0] == (0 if words[:1] in (["explain"], ["--help"]) else 2))
+    for words in (["check", "/nonexistent"], ["plan", "/nonexistent"], ["world", "7", "/nonexistent"], ["what-if", "--config", "/nonexistent"]):
+        expect(f"{words} builds nothing", copy.run(*words)[:2] == (3, ""))
     expect("what never builds", copy.asked() == [], str(copy.asked()))
     expect("a failed build", copy.run("check")[:2] == (126, ""))
     before = len(copy.asked())
@@ -67,25 +69,33 @@ def runs(number):
 
 
 def try_end(folder):
-    """What ends the script ends the build that it began."""
-    copy = Copy(folder, "end", build=f'echo $$ > "{folder}/end/pid"; sleep 60')
-    process = copy.begin("check")
-    path = os.path.join(folder, "end", "pid")
+    """What ends the script ends the build, or the trial, that it began."""
+    for name, words, told in (("a build", ["check"], "the build was ended"), ("a trial", ["--try", "plan"], "a trial of")):
+        try_end_of(folder, name, words, told)
+
+
+def try_end_of(folder, name, words, told):
+    path = os.path.join(folder, name, "pid")
+    stays = f'echo $$ > "{path}"; exec sleep 60'
+    copy = Copy(folder, name, build=stays, tries=stays)
+    process = copy.begin(*words)
+    process.stdin.write(INPUT)
+    process.stdin.close()
     for _ in range(100):
         if os.path.exists(path) and os.path.getsize(path):
             break
         time.sleep(0.1)
     process.send_signal(signal.SIGTERM)
-    _, said = process.communicate()
+    said = process.stderr.read().decode()
     with open(path, encoding="utf-8") as file:
         number = file.read().strip()
-    expect("SIGTERM ends the script", process.returncode == 143, str(process.returncode))
+    expect(f"SIGTERM ends the script: {name}", process.wait() == 143, str(process.returncode))
     for _ in range(100):  # a signal that was sent takes its time where others work too
         if not runs(number):
             break
         time.sleep(0.1)
-    expect("SIGTERM ends the build", not runs(number), said.decode())
-    expect("what is said of it", "the build was ended" in said.decode(), said.decode())
+    expect(f"SIGTERM ends {name}", not runs(number), said)
+    expect(f"what is said of the end of {name}", told in said, said)
 
 
 def try_all(folder):

@@ -10,7 +10,7 @@ def try_man_page():
     if not shutil.which("man"):
         return
     page = os.path.join(TOP, "tools", "cekpayo.1")
-    done = subprocess.script(["man", "--warnings", "-l", page], stdout=subprocess.PIPE, stderr=subprocess.PIPE,
+    done = subprocess.run(["man", "--warnings", "-l", page], stdout=subprocess.PIPE, stderr=subprocess.PIPE,
                           env=dict(os.environ, MANWIDTH="80", LC_ALL="C.UTF-8"))
     expect("the man page", done.returncode == 0 and not done.stderr and b"EXIT STATUS" in done.stdout, done.stderr.decode())
 

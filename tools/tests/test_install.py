@@ -41,14 +41,14 @@ def try_install(folder):
     answer = run(f"bin/cekpayo-collect -q {cib} | bin/cekpayo scores | bin/cekpayo-summary | tail -n 1", prefix)
     expect("installed tools", answer == (0, "  * Place      fence            ( web2 )\n", ""), str(answer))
     answer = run(f"bin/cekpayo -q plan {cib} && bin/cekpayo --help | head -n 1 && bin/cekpayo help check | head -n 1", prefix)
-    shown = "Nothing has to be done now.\n  * Stay       site-address, site-server, fence\nUsage: cekpayo [OPTION..] WORD [FILE..]    reads the FILEs, or standard input\ncheck\n"
+    shown = "Nothing has to be done now.\n  * Stay       site-address, site-server, fence\nUsage: cekpayo [OPTION..] WORD [FILE..]    reads the FILEs, or standard input\ncheck [FILE..]\n"
     expect("installed questions", answer == (0, shown, ""), str(answer))
     said = run("printf 'node n1\\nclone k a\\nprimitive a Dummy\\nprimitive b Dummy\\norder o k b\\n' | bin/cekpayo scores > /dev/null", prefix)[2]
     expect("an installed page", f'({os.path.realpath(prefix)}/lib/cekpayo/docs/PACEMAKER.md, "Orders after a clone")' in said, said)
     status, _, said = run('lib/cekpayo/tools/install --uninstall "$PWD"', prefix)
     expect("uninstall", (status, files_below(prefix), sorted(os.listdir(prefix))) == (0, ["own"], ["bin", "own"]), said)
     expect("uninstall of nothing", tool("install", "--uninstall", prefix)[0] == 1)
-    expect("install of no prefix", tool("install")[0] == 2 and tool("install", "--help")[0] == 2)
+    expect("install of no prefix", tool("install")[0] == 2 and tool("install", "--x")[0] == 2)
 
 
 def try_release(folder):

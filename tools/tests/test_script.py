@@ -4,7 +4,7 @@ import re
 import subprocess
 
 from copied import CUT, INPUT, Copy
-from expecting import ENVIRONMENT, PROGRAM, TOP, WRAPPER, expect, own, script
+from expecting import ENVIRONMENT, PROGRAM, TOP, WRAPPER, expect, own, script, tool
 
 WORDS = ("plan", "what-if", "losses", "why", "check", "scores", "graph", "survive", "replay", "audit", "world", "gen", "help", "explain")
 
@@ -15,6 +15,7 @@ def try_words():
     for words in ([], ["chek"], ["gen"], ["check", "--al"], ["--build", "x"]):
         status, output, said = script(words, environment=without)
         expect(f"words {words}", (status, output) == (2, b"") and "Usage:" in said, said)
+        expect(f"words {words}: what is wrong can be seen", said.count("\n") == 2 or not words, said)
     status, output, _ = script(["explain", "badtime"], environment=without)
     expect("explain", status == 0 and output.startswith(b"BadTime: A time belongs here"))
     expect("explain of no cause", script(["explain", "BadTmie"], environment=without)[0] == 2)
@@ -60,6 +61,16 @@ def try_trial(folder):
         expect(f"--try {word} that is cut", status == 124 and "60 seconds and 1 MiB" in said, said)
 
 
+def try_usage():
+    """Each script says how it is called, and one that wants words says so where it gets none."""
+    for name in ("ask", "causes", "collect", "dot", "explain", "install", "json", "prove", "release", "report", "summary", "what-if"):
+        status, output, said = tool(name, "--help")
+        expect(f"{name} --help", status == 0 and name in output and said == "", output + said)
+    for name in ("ask", "explain", "install", "prove", "what-if"):
+        status, output, said = tool(name)
+        expect(f"{name} without words", (status, output) == (2, "") and said and "Traceback" not in said, said)
+
+
 def try_names(folder):
     own_folder = os.path.join(folder, "names")
     os.mkdir(own_folder)
@@ -73,4 +84,5 @@ def try_all(folder):
     try_words()
     try_help(folder)
     try_trial(folder)
+    try_usage()
     try_names(folder)

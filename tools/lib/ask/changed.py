@@ -4,6 +4,7 @@ import json
 import os
 import sys
 
+from explain.tables import command
 from show.changing import Parts, brought_down, changed, differences, plan_of, removed
 from show.program import Refused, answer, has_word, prepare
 from show.summaries import lines_of, summary, together
@@ -139,9 +140,15 @@ def compare(place, old, new, words):
         return REFUSED
 
 
-def ask(words):
+def lacks_change(words):
+    """Whether no change is asked about, which is said."""
     if not words.changes and not words.config:
-        say("which change? `what-if --help` lists them")
+        say(f"which change? `{command()} help what-if` lists them")
+    return not words.changes and not words.config
+
+
+def ask(words):
+    if lacks_change(words):
         return WRONG
     source = Source(words.file, words)
     new = read(words.config) if words.config else None
