@@ -37,7 +37,7 @@ def try_no_rt(folder):
     for words, told in ((["check"], "the program is not built, and the command rt of the Rattle kit that builds it is not on the PATH"),
                         (["--try", "check"], "a trial compiles the program, and the command rt")):
         status, output, said = copy.run(*words)
-        expect(f"no rt: {words}", (status, output) == (127, "") and told in said, said)
+        expect(f"no rt: {words}", (status, output) == (127, "") and told in said and "tools/release" in said, said)
 
 
 BUILDS = f'[ "$1" = lib ] && sleep 2.5; [ "$1" = lib ] || {{ mkdir -p out; cp {PROGRAM} out/sim_cli; }}'

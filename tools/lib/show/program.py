@@ -57,7 +57,7 @@ def path():
         return INSTALLED
     if is_run(BUILT) and is_fresh():
         return BUILT
-    how = "`./cekpayo --build` builds it" if shutil.which("rt") else "the command rt of the Rattle kit that builds it is not on the PATH"
+    how = "`./cekpayo --build` builds it" if shutil.which("rt") else "the command rt of the Rattle kit that builds it is not on the PATH; tools/release makes an archive elsewhere"
     return end(f"the program is not built, or older than its sources, and {how}")
 
 
