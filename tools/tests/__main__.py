@@ -1,5 +1,5 @@
-"""tests [SUBJECT..]: tries the script `cekpayo` and its tools. Each module test_SUBJECT.py tries one subject. The program is built
-first where it isn't; CEKPAYO_PROGRAM names another one."""
+"""tests [SUBJECT..]: tries the script `cekpayo` and its tools. Each module test_SUBJECT.py tries one subject. The
+program is built first where it isn't; CEKPAYO_PROGRAM names another one."""
 import importlib
 import os
 import subprocess

@@ -10,7 +10,8 @@ INPUT = b"node n1\nnode n2\nprimitive vip IPaddr2\n%status\nnow 1\nquorum yes\nn
 # A crate of tests is the last, which the program doesn't need.
 CRATES = "lemmas:\nlisted:\nsim_core: lemmas listed\nsim_cli: sim_core\nrun_cases: sim_core\n"
 
-# A stand-in for `rt` writes down its words and the folder; `rt try --cases FOLDER` runs the program as the kit's own does.
+# A stand-in for `rt` writes down its words and the folder; `rt try --cases FOLDER` runs the program as the kit's own
+# does.
 RT = """#!/bin/bash
 echo "$@" in "${{PWD##*/}}" >> "{folder}/asked"
 if [ "$1" = try ]; then
@@ -49,7 +50,8 @@ class Copy:
         self.put_rt(build, **tries)
 
     def put_rt(self, build, ended=ENDED, tries=":"):
-        """Has `rt` build by these commands, which run in the folder of the crate, and do others before a trial and behind each case."""
+        """Has `rt` build by these commands, which run in the folder of the crate, and do others before a trial and
+        behind each case."""
         path = os.path.join(self.commands, "rt")
         with open(path, "w", encoding="utf-8") as file:
             file.write(RT.format(folder=self.folder, program=PROGRAM, build=build, ended=ended, tries=tries))

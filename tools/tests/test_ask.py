@@ -1,4 +1,5 @@
-"""Tries the questions `plan`, `what-if`, `losses` and `why`, CIBs as inputs, `--online`, `--json`, and the notes on what differs from Pacemaker."""
+"""Tries the questions `plan`, `what-if`, `losses` and `why`, CIBs as inputs, `--online`, `--json`, and the notes on
+what differs from Pacemaker."""
 import bz2
 import json
 import os

@@ -1,4 +1,5 @@
-"""Tries how `cekpayo` has the program built: when it does, what it says, the lock between two calls, and how a build is ended."""
+"""Tries how `cekpayo` has the program built: when it does, what it says, the lock between two calls, and how a build is
+ended."""
 import os
 import re
 import shutil

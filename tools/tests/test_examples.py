@@ -1,4 +1,5 @@
-"""Tries what the examples answer: as is kept of a reference program apart from this one, and as examples/README.md shows."""
+"""Tries what the examples answer: as is kept of a reference program apart from this one, and as examples/README.md
+shows."""
 import os
 import re
 import shlex

@@ -6,7 +6,8 @@ from expecting import expect, own, script
 
 HEAD = "node n1\nnode n2\nprimitive apple Dummy\nprimitive berry Dummy\nprimitive cherry Dummy\n"
 
-# Each mistake: its name, the text behind HEAD, the faulty word as the mark shows it (nothing where none is), and what is said.
+# Each mistake: its name, the text behind HEAD, the faulty word as the mark shows it (nothing where none is), and what
+# is said.
 MISTAKES = [
     ("misspelt word", "primitiv date Dummy\n", "primitiv", "Is `primitive` meant?"),
     ("unknown node", "location l apple 5: n9\n", "n9", "There is no node"),
@@ -65,7 +66,8 @@ SILENT = ["property enable-startup-probes=true no-quorum-policy=stop\n", "primit
 
 
 def from_file_and_pipe(name, data, folder):
-    """What is said of a text in a file and from a pipe, which is the same but for the name, beside the program's own answer."""
+    """What is said of a text in a file and from a pipe, which is the same but for the name, beside the program's own
+    answer."""
     path = os.path.join(folder, "input.crm")
     with open(path, "wb") as file:
         file.write(data)

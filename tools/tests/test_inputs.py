@@ -6,7 +6,8 @@ from expecting import ENVIRONMENT, TOP, WRAPPER, expect
 
 
 def try_inputs(folder):
-    """Inputs that can't be read, an output that can't be written, an input that is too large, one that was begun, several."""
+    """Inputs that can't be read, an output that can't be written, an input that is too large, one that was begun,
+    several."""
     path = os.path.join(folder, "begun.crm")
     with open(path, "w", encoding="utf-8") as file:
         file.write("node\nnod n1\n")

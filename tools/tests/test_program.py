@@ -1,4 +1,5 @@
-"""The program by itself, over real descriptors: each status that it ends with, what it has written then, and what it refuses of words."""
+"""The program by itself, over real descriptors: each status that it ends with, what it has written then, and what it
+refuses of words."""
 import os
 import resource
 import subprocess

@@ -1,5 +1,5 @@
-"""Tries what `tools/collect` makes of what depends on the moment and on attributes: rules, scores by attribute, patterns, nodes in
-maintenance; and what --near leaves out."""
+"""Tries what `tools/collect` makes of what depends on the moment and on attributes: rules, scores by attribute,
+patterns, nodes in maintenance; and what --near leaves out."""
 import ctypes
 import os
 import random

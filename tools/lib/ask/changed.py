@@ -63,8 +63,8 @@ class Comparison:
                 and self.new.without.get(name, ("",))[0] != "Stopped"]
 
     def losses(self):
-        """What only one of the two survives, of the nodes of the new configuration and of what has a place with it: the loss, the
-        resource, and the reason where it has no place with the changes."""
+        """What only one of the two survives, of the nodes of the new configuration and of what has a place with it: the
+        loss, the resource, and the reason where it has no place with the changes."""
         old, new = self.down
         for loss, down in new.items():
             yield from ((loss, resource, why) for resource, why in down.items() if resource not in old.get(loss, {}))
@@ -112,7 +112,8 @@ def accepted(name, data):
 
 
 def texts(old, new, words):
-    """The input without results, and the one with the changes; what only the state of the input has is left out, which is said."""
+    """The input without results, and the one with the changes; what only the state of the input has is left out, which
+    is said."""
     parts = Parts(old)
     if new is None:
         return parts.input(), edited(parts.input(), words.changes), None
@@ -123,8 +124,8 @@ def texts(old, new, words):
 
 
 def compare(place, old, new, words):
-    """The comparison of an input with what the changes make of it, or the status where that can't be made. What `check` takes may still
-    be refused in the state of the input, for a line of the status."""
+    """The comparison of an input with what the changes make of it, or the status where that can't be made. What `check`
+    takes may still be refused in the state of the input, for a line of the status."""
     name = name_of(words.config, words.changes)
     try:
         now, then, behind = texts(old, new, words)

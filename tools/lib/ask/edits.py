@@ -90,7 +90,7 @@ def standby(text, name):
 
 
 def online(text, name):
-    """The node is there, and not in standby. One that joins comes with nothing on it, and of which nothing is known."""
+    """The node is there, and not in standby. One that joins comes with nothing on it, and nothing is known of it."""
     node = the_node(text, name)
     if pair_in(node, "attributes", "standby"):
         text = with_pair(text, node, "attributes", "standby", "off")
@@ -134,7 +134,8 @@ def without_id(text, name):
 
 
 def move(text, name, node):
-    """As `crm resource move` with a node does: an earlier move is taken back, and a ban from this node; one from another node stays."""
+    """As `crm resource move` with a node does: an earlier move is taken back, and a ban from this node; one from
+    another node stays."""
     the_node(text, node)
     the_resource(text, name)
     text = without_id(without_id(text, f"cli-prefer-{name}"), f"cli-ban-{name}-on-{node}")

@@ -1,4 +1,5 @@
-"""Asks the sources as they stand, which the kit's `rt try` compiles without their proofs. One compilation answers many questions."""
+"""Asks the sources as they stand, which the kit's `rt try` compiles without their proofs. One compilation answers many
+questions."""
 import os
 import re
 import signal
@@ -17,7 +18,8 @@ CUT = 124
 
 
 class Trial:
-    """The answers to questions, each the words and the input: for each its status and output, or None where a limit cut it."""
+    """The answers to questions, each the words and the input: for each its status and output, or None where a limit cut
+    it."""
 
     def __init__(self, questions):
         self.questions = list(dict.fromkeys(questions))

@@ -48,7 +48,7 @@ def is_fresh():
 
 @functools.lru_cache(maxsize=None)
 def path():
-    """The program: the one that CEKPAYO_PROGRAM names, an installed one, or that of the repository. No tool builds it."""
+    """The program: the one that CEKPAYO_PROGRAM names, an installed or the repository's own. No tool builds it."""
     named = os.environ.get("CEKPAYO_PROGRAM")
     if named:
         named = named if "/" in named else os.path.join(".", named)
