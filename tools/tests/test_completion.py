@@ -1,5 +1,6 @@
 """Tries the man page, and the completion for bash."""
 import os
+import re
 import shutil
 import subprocess
 
@@ -12,6 +13,7 @@ def try_man_page():
     page = os.path.join(TOP, "tools", "cekpayo.1")
     done = subprocess.run(["man", "--warnings", "-l", page], stdout=subprocess.PIPE, stderr=subprocess.PIPE,
                           env=dict(os.environ, MANWIDTH="80", LC_ALL="C.UTF-8"))
+    expect("the man page names what is installed", not re.search(rb"tools/|\./cekpayo|docs/", done.stdout))
     expect("the man page", done.returncode == 0 and not done.stderr and b"EXIT STATUS" in done.stdout, done.stderr.decode())
 
 
@@ -34,6 +36,8 @@ def try_completion(folder):
     expect("completion of a folder", completed("cekpayo check su", folder) == ["sub"])
     expect("completion of a cause", completed("cekpayo explain BadT", folder) == ["BadTime"])
     expect("completion of causes", completed("cekpayo explain ", folder) == script(["explain"])[1].decode().split())
+    expect("completion of a number", completed("cekpayo world ", folder) == [])
+    expect("completion behind a number", completed("cekpayo world 7 inp", folder) == ["input.crm"])
     expect("completion of words", "explain" in completed("cekpayo ", folder))
 
 

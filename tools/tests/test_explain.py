@@ -48,6 +48,8 @@ MORE = [
     ("control byte in a comment", "# \x07\n", "\ufffd", "Take the byte out"),
     ("pair without a section", "group g apple berry target-role=Started\n", "target-role=Started",
      "A section word is missing before it: `meta target-role=Started`."),
+    ("what collect takes out by itself", "primitive date Dummy op monitor interval=10s op_params a=1\n", "op_params",
+     "as `tools/collect --config` does"),
     ("key of one value", "ms m apple meta promotable=false\n", "promotable=false", "Correct the word. Here `promotable` takes `true`."),
 ]
 

@@ -188,7 +188,7 @@ ARGUMENTS = {"standby": ["NODE"], "online": ["NODE"], "lost": ["NODE"], "fail": 
              "ban": ["RESOURCE", "NODE"], "clear": ["RESOURCE"], "stop": ["RESOURCE"], "start": ["RESOURCE"], "maintenance": []}
 MEANINGS = {
     "standby": "the node is put in standby", "online": "the node is there, and not in standby", "lost": "the node leaves without a word",
-    "fail": "a recurring monitor ends with this exit code", "move": "as `crm resource move`", "ban": "as `crm resource ban`",
+    "fail": "a recurring monitor ends with this exit code", "move": "as `crm resource move`; a ban from another node stays", "ban": "as `crm resource ban`",
     "clear": "as `crm resource clear`", "stop": "target-role=Stopped", "start": "target-role=Started",
     "maintenance": "maintenance-mode=true",
 }
