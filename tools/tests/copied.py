@@ -1,6 +1,7 @@
 """A copy of the script and its tools where nothing is built, with a stand-in for the command `rt`."""
 import os
 import shutil
+import signal
 import subprocess
 
 from expecting import PROGRAM, TOP, WRAPPER, plain
@@ -58,8 +59,9 @@ class Copy:
         os.chmod(path, 0o755)
 
     def begin(self, *words):
+        """Begins the script; it can be interrupted, even if these tests can't."""
         return subprocess.Popen([os.path.join(self.top, "cekpayo"), *words], env=self.environment, stdin=subprocess.PIPE, stdout=subprocess.PIPE,
-                                stderr=subprocess.PIPE)
+                                stderr=subprocess.PIPE, preexec_fn=lambda: signal.signal(signal.SIGINT, signal.SIG_DFL))
 
     def run(self, *words, data=INPUT):
         process = self.begin(*words)

@@ -72,10 +72,11 @@ def runs(number):
 def try_end(folder):
     """What ends the script ends the build, or the trial, that it began."""
     for name, words, told in (("a build", ["check"], "the build was ended"), ("a trial", ["--try", "plan"], "a trial of")):
-        try_end_of(folder, name, words, told)
+        for ending in (signal.SIGTERM, signal.SIGINT):
+            try_end_of(folder, f"{name} by {ending.name}", words, told, ending)
 
 
-def try_end_of(folder, name, words, told):
+def try_end_of(folder, name, words, told, ending):
     path = os.path.join(folder, name, "pid")
     stays = f'echo $$ > "{path}"; exec sleep 60'
     copy = Copy(folder, name, build=stays, tries=stays)
@@ -86,17 +87,17 @@ def try_end_of(folder, name, words, told):
         if os.path.exists(path) and os.path.getsize(path):
             break
         time.sleep(0.1)
-    process.send_signal(signal.SIGTERM)
+    process.send_signal(ending)
     said = process.stderr.read().decode()
     with open(path, encoding="utf-8") as file:
         number = file.read().strip()
-    expect(f"SIGTERM ends the script: {name}", process.wait() == 143, str(process.returncode))
+    expect(f"the status of {name}", process.wait() == 128 + ending, str(process.returncode))
     for _ in range(100):  # a signal that was sent takes its time where others work too
         if not runs(number):
             break
         time.sleep(0.1)
-    expect(f"SIGTERM ends {name}", not runs(number), said)
-    expect(f"what is said of the end of {name}", told in said, said)
+    expect(f"the end of {name}", not runs(number), said)
+    expect(f"what is said of the end of {name}", told in said and "Traceback" not in said, said)
 
 
 def try_all(folder):
