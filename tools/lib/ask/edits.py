@@ -90,7 +90,7 @@ def standby(text, name):
 
 
 def online(text, name):
-    """The node is there, and not in standby. One that joins comes with nothing on it, and of which nothing is known."""
+    """The node is there, and not in standby. One that joins comes with nothing on it, and nothing is known of it."""
     node = the_node(text, name)
     if pair_in(node, "attributes", "standby"):
         text = with_pair(text, node, "attributes", "standby", "off")
@@ -134,7 +134,8 @@ def without_id(text, name):
 
 
 def move(text, name, node):
-    """As `crm resource move` with a node does: an earlier move is taken back, and a ban from this node; one from another node stays."""
+    """As `crm resource move` with a node does: an earlier move is taken back, and a ban from this node; one from
+    another node stays."""
     the_node(text, node)
     the_resource(text, name)
     text = without_id(without_id(text, f"cli-prefer-{name}"), f"cli-ban-{name}-on-{node}")
@@ -187,7 +188,7 @@ ARGUMENTS = {"standby": ["NODE"], "online": ["NODE"], "lost": ["NODE"], "fail": 
              "ban": ["RESOURCE", "NODE"], "clear": ["RESOURCE"], "stop": ["RESOURCE"], "start": ["RESOURCE"], "maintenance": []}
 MEANINGS = {
     "standby": "the node is put in standby", "online": "the node is there, and not in standby", "lost": "the node leaves without a word",
-    "fail": "a recurring monitor ends with this exit code", "move": "as `crm resource move`", "ban": "as `crm resource ban`",
+    "fail": "a recurring monitor ends with this exit code", "move": "as `crm resource move`; a ban from another node stays", "ban": "as `crm resource ban`",
     "clear": "as `crm resource clear`", "stop": "target-role=Stopped", "start": "target-role=Started",
     "maintenance": "maintenance-mode=true",
 }

@@ -1,4 +1,5 @@
-"""Notes on what makes an answer another one than Pacemaker's: by what an accepted text has, each with its section of docs/PACEMAKER.md."""
+"""Notes on what makes an answer another one than Pacemaker's: by what an accepted text has, each with its section of
+docs/PACEMAKER.md."""
 from .tables import page
 from .texts import STATUS
 
@@ -131,7 +132,8 @@ def without_stickiness(found):
 
 
 def differences(text):
-    """Pairs of a word and a note. Of one kind the first few are said in full, and the others named with the last of them."""
+    """Pairs of a word and a note. Of one kind the first few are said in full, and the others named with the last of
+    them."""
     found = Configuration(text)
     if not found.has_status and found.statements:
         yield found.statements[-1].words[0], NO_STATUS

@@ -93,7 +93,8 @@ def every_finding(program, text, refusal):
 
 
 def without_refused(finding):
-    """The text without a refused line of no statement, a refused pair of settings, the refused statement, or a section whose line is refused."""
+    """The text without a refused line of no statement, a refused pair of settings, the refused statement, or a section
+    whose line is refused."""
     text, statement, word = finding.text, finding.statement, finding.word
     if statement is None:
         return b"\n".join(text.lines[:finding.line] + [b""] + text.lines[finding.line + 1:])

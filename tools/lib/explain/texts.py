@@ -30,7 +30,8 @@ class Word:
 
 
 class Statement:
-    """One logical line: `first` and `last` are the numbers of its lines from 0. Its words are read when they are asked for."""
+    """One logical line: `first` and `last` are the numbers of its lines from 0. Its words are read when they are asked
+    for."""
 
     __slots__ = ("first", "last", "section", "_lines", "_read")
 
@@ -74,7 +75,8 @@ class Statement:
 
 
 class Text:
-    """A text. Its statements are read when they are asked for, since a status has very many, and most questions are about others."""
+    """A text. Its statements are read when they are asked for, since a status has very many, and most questions are
+    about others."""
 
     def __init__(self, data):
         self.lines = data.split(b"\n")

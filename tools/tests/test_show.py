@@ -6,8 +6,7 @@ import shutil
 import subprocess
 import textwrap
 
-from .expecting import ENVIRONMENT, TOP, WRAPPER, expect, kept, own, tool
-from .installed import plain
+from expecting import ENVIRONMENT, TOP, WRAPPER, expect, kept, own, plain, tool
 
 GRAPH = """action 1 fence web1
 action 2 start vip web2 after 1
@@ -94,7 +93,8 @@ SUMMARIES = {
     "begin 3 stop vm n1\nend 3 0\ncomplete 1\n": "Transition 1:\n  * Migrate    vm               ( n1 -> n2 )\n",
 }
 
-# What happened since the last transition is in the title; what leaves a lost node moves, and a wide name pushes no column.
+# What happened since the last transition is in the title; what leaves a lost node moves, and a wide name pushes no
+# column.
 SUMMARIES["transition 1\ntarget vip db1 started\nbegin 1 start vip db1\nend 1 0\ncomplete 1\nlost db1\nquorum no\ntransition 2\n"
           "target vip db2 started\nbegin 1 fence db1\nend 1 0\nbegin 2 start vip db2\nend 2 0\ncomplete 2\n"] = \
     "Transition 1:\n  * Start      vip              ( db1 )\n" \
@@ -233,7 +233,8 @@ def try_changes(folder):
 
 
 def try_many(folder):
-    """What moves many resources is told without much work of the processor, each line next to the other of its resource."""
+    """What moves many resources is shown without much work of the processor, each line next to the other of its
+    resource."""
     path, names = os.path.join(folder, "many.crm"), [f"r{number}" for number in range(200)]
     places = {node: "node n1\nnode n2\n" + "".join(f"primitive {one} Dummy\nlocation l-{one} {one} 5: {node}\n" for one in names)
               for node in ("n1", "n2")}
@@ -263,7 +264,7 @@ def try_without_program(folder):
         expect("what-if without a program", (done.returncode, done.stdout) == (127, b"") and as_said, found)
 
 
-def try_shown(folder):
+def try_all(folder):
     try_dot()
     try_json()
     try_summary()

@@ -1,10 +1,10 @@
-"""Tries what `tools/collect` makes of what depends on the moment and on attributes: rules, scores by attribute, patterns, nodes in
-maintenance; and what --near leaves out."""
+"""Tries what `tools/collect` makes of what depends on the moment and on attributes: rules, scores by attribute,
+patterns, nodes in maintenance; and what --near leaves out."""
 import ctypes
 import os
 import random
 
-from .expecting import TOP, expect, own, tool
+from expecting import TOP, expect, own, tool
 
 from collect.patterns import Pattern, Unsaid, Wrong
 
@@ -240,7 +240,7 @@ def try_everyday():
     expect("the nine clusters", (len(names), len(plain)) == (9, 5), f"{names} {plain}")
 
 
-def try_snapshot(folder):
+def try_all(folder):
     try_rules()
     try_sets()
     try_patterns()

@@ -1,11 +1,12 @@
-"""Tries `tools/report`: the structure of its pages, that nothing of an input becomes markup, and how they look where Chromium is installed."""
+"""Tries `tools/report`: the structure of its pages, that nothing of an input becomes markup, and how they look where
+Chromium is installed."""
 import html.parser
 import os
 import re
 import shutil
 import subprocess
 
-from .expecting import ENVIRONMENT, TOP, WRAPPER, expect, problems, tool
+from expecting import ENVIRONMENT, TOP, WRAPPER, expect, problems, tool
 
 EXAMPLES = os.path.join(TOP, "examples")
 VOID = ("meta", "input", "br")
@@ -59,7 +60,8 @@ class Page(html.parser.HTMLParser):
 
 
 def check_structure(name, text, sections=SECTIONS):
-    """What each page has: one main heading, no level left out, headers with their scope, links that lead somewhere, nothing from elsewhere."""
+    """What each page has: one main heading, no level left out, headers with their scope, links that lead somewhere,
+    nothing from elsewhere."""
     page = Page(text)
     expect(f"{name}: elements", not page.problems, str(page.problems[:5]))
     expect(f"{name}: ids", len(set(page.ids)) == len(page.ids), str([one for one in page.ids if page.ids.count(one) > 1][:5]))
@@ -234,7 +236,8 @@ LOOK = """<script>onload = () => { const frame = document.querySelector("iframe"
 
 
 def try_looks(folder):
-    """In a browser, on a phone's width: neither the page nor its table is wider than the screen, what is tapped is high enough, the filter finds a resource."""
+    """In a browser, on a phone's width: neither the page nor its table is wider than the screen, what is tapped is high
+    enough, the filter finds a resource."""
     if not browser():
         print("report: Chromium isn't installed, so no page is looked at")
         return
@@ -261,7 +264,7 @@ def try_same():
     expect("the same report each time", len(set(pages)) == 1 and pages[0].startswith(b"<!"))
 
 
-def try_report(folder):
+def try_all(folder):
     try_examples()
     try_same()
     try_causes()

@@ -4,7 +4,7 @@ import shutil
 import subprocess
 import textwrap
 
-from .expecting import expect, kept, tool
+from expecting import expect, kept, tool
 
 GRAPH = """action 1 fence web3
 action 2 probe vip web1
@@ -144,7 +144,7 @@ def try_timeline():
     expect("summary --timeline in docs/TOOLS.md", textwrap.dedent(shown) == output, output)
 
 
-def try_drawn():
+def try_all(_folder):
     try_brief()
     try_taken_out()
     try_timeline()

@@ -1,5 +1,6 @@
 """What the tests share: where things are, how they are run, and what was not as expected."""
 import os
+import shutil
 import subprocess
 import sys
 
@@ -17,10 +18,22 @@ def expect(name, holds, said=""):
 
 
 def tool(name, *words, data=b"", environment=None):
-    """The status, the output and the standard error of a script of tools/."""
+    """The status, the output and the standard error of one of the scripts in tools/."""
     done = subprocess.run([os.path.join(TOP, "tools", name), *words], input=data, stdout=subprocess.PIPE, stderr=subprocess.PIPE,
                           env=environment or ENVIRONMENT)
     return done.returncode, done.stdout.decode("utf-8"), done.stderr.decode("utf-8")
+
+
+def script(words, data=b"", environment=None):
+    """The status, the output and the standard error of the script `cekpayo`."""
+    done = subprocess.run([WRAPPER, *words], input=data, stdout=subprocess.PIPE, stderr=subprocess.PIPE, env=environment or ENVIRONMENT)
+    return done.returncode, done.stdout, done.stderr.decode("utf-8")
+
+
+def plain():
+    """An environment that doesn't name the program, so that a built or installed one must be found."""
+    found = {key: value for key, value in os.environ.items() if not key.startswith(("CEKPAYO", "GIT_"))}
+    return dict(found, PATH="/usr/bin:/bin:" + os.path.dirname(shutil.which("python3")))
 
 
 def own(data, *words):

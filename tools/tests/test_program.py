@@ -1,9 +1,10 @@
-"""The program by itself, over real descriptors: each status that it ends with, what it has written then, and what it refuses of words."""
+"""The program by itself, over real descriptors: each status that it ends with, what it has written then, and what it
+refuses of words."""
 import os
 import resource
 import subprocess
 
-from .expecting import PROGRAM, expect, kept
+from expecting import PROGRAM, expect, kept
 
 CLUSTER = "node n1\nnode n2\nprimitive vip IPaddr2\n"
 STATUS = "%status\nnow 1000\nquorum yes\nnode n1 online\nnode n2 online\n"
@@ -84,7 +85,7 @@ def try_generated():
     expect("the program: gen 7", answer(["gen", "7"])[:2] == (0, kept("texts", "gen-7").encode()))
 
 
-def try_statuses():
+def try_all(_folder):
     try_answers()
     try_own_texts()
     try_failing_streams()

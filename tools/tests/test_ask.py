@@ -1,10 +1,11 @@
-"""Tries the questions `plan`, `what-if`, `losses` and `why`, CIBs as inputs, `--online`, `--json`, and the notes on what differs from Pacemaker."""
+"""Tries the questions `plan`, `what-if`, `losses` and `why`, CIBs as inputs, `--online`, `--json`, and the notes on
+what differs from Pacemaker."""
 import bz2
 import json
 import os
 import subprocess
 
-from .expecting import ENVIRONMENT, TOP, WRAPPER, expect, kept, own
+from expecting import ENVIRONMENT, TOP, WRAPPER, expect, kept, own
 
 from ask.edits import edited
 
@@ -253,7 +254,7 @@ def try_json():
     expect("a refusal's remedies", found[0]["column"] == 14 and found[0]["remedies"][-1] == "A colon is missing: `5:`.", said)
 
 
-def try_asked(folder):
+def try_all(folder):
     try_plan()
     try_changes()
     try_moves()

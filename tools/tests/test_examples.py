@@ -1,11 +1,12 @@
-"""Tries what the examples answer: as is kept of a reference program apart from this one, and as examples/README.md shows."""
+"""Tries what the examples answer: as is kept of a reference program apart from this one, and as examples/README.md
+shows."""
 import os
 import re
 import shlex
 import subprocess
 import textwrap
 
-from .expecting import ENVIRONMENT, TOP, WRAPPER, expect, kept, own, tool
+from expecting import ENVIRONMENT, TOP, WRAPPER, expect, kept, own, tool
 
 EXAMPLES = os.path.join(TOP, "examples")
 WORDS = ("scores", "graph", "survive", "replay")
@@ -93,7 +94,7 @@ def try_pipe():
     expect("the live pipe ends there", process.stdout.read() == "" and process.wait() == 0)
 
 
-def try_examples():
+def try_all(_folder):
     try_answers()
     try_page()
     try_pipe()

@@ -2,7 +2,7 @@
 import os
 import re
 
-from .expecting import TOP, expect, own, tool
+from expecting import TOP, expect, own, tool
 
 NAMED = re.compile(r"^\[(\S+)\]\(\.\./examples/differences/\1\):.*?^- cekpayo: (.*?)\n\n", re.M | re.S)
 LINE = re.compile(r"`((?:target|none|pinned|action) [^`]*)`")
@@ -19,7 +19,11 @@ def try_differences():
         answers = [own(text, word) for word in ("scores", "graph")]
         written = [line for _, answer in answers for line in answer.decode().splitlines()]
         lines = [" ".join(line.split()) for line in LINE.findall(said)]
-        expect(f"{name}: lines that are told", len(lines) >= 2)
+        expect(f"{name}: lines that are named", len(lines) >= 2)
         for line in lines:
             built = not line.startswith("action") or answers[1][0] != NOT_BUILT
             expect(f"docs/PACEMAKER.md: {name}: {line}", line in written or not built, "\n".join(written))
+
+
+def try_all(_folder):
+    try_differences()

@@ -3,7 +3,7 @@ import bz2
 import os
 import subprocess
 
-from .expecting import TOP, expect, kept, own, tool
+from expecting import TOP, expect, kept, own, tool
 
 CIBS = os.path.join(TOP, ".ci", "cibs")
 
@@ -55,7 +55,8 @@ REFUSED = {
     "</date_expression></rule></rsc_location>": "\trule 1: date spec moon=0",
 }
 
-# Sets with a rule that isn't known to hold, each within a node and within a primitive, and the word in front of it; all are refused.
+# Sets with a rule that isn't known to hold, each within a node and within a primitive, and the word in front of it; all
+# are refused.
 RULE = "<rule id='r' score='5'><rsc_expression id='e' class='ocf'/></rule><nvpair id='p' name='priority' value='4'/>"
 RULED = [
     (f"<instance_attributes id='i'>{RULE}</instance_attributes>", "", "attributes"),
@@ -142,7 +143,8 @@ HISTORIES = [
      "operation='monitor' call-id='6' rc-code='0' interval='9' last-rc-change='11'",
      "operation='monitor' call-id='6' rc-code='7' interval='9' last-rc-change='20'",
      ["start 0 0 10", "monitor 9 0 11", "monitor 9 7 20"]),
-    # The order is that of the call ids; a timeout and an error without a code; what was cancelled and what isn't known is left out.
+    # The order is that of the call ids; a timeout and an error without a code; what was cancelled and what isn't known
+    # is left out.
     ("operation='stop' call-id='8' rc-code='1' op-status='2' interval='0' last-rc-change='9'",
      "operation='start' call-id='7' rc-code='0' op-status='4' interval='0' last-rc-change='8'",
      "operation='monitor' call-id='9' rc-code='0' op-status='1' interval='9' last-rc-change='9'", ["start 0 1 8", "stop 0 timeout 9"]),
@@ -278,7 +280,7 @@ def try_inputs():
         expect(command, (done.returncode, said.count("\n")) == (1, 1) and said.startswith(f"collect: {place}: "), said)
 
 
-def try_collect(folder):
+def try_all(folder):
     try_kept()
     try_text(folder)
     try_begun(folder)

@@ -3,18 +3,12 @@ import os
 import shutil
 import subprocess
 
-from .expecting import ENVIRONMENT, PROGRAM, TOP, expect, tool
+from expecting import ENVIRONMENT, PROGRAM, TOP, expect, plain, tool
 
 PLACES = ["bin/cekpayo", "bin/cekpayo-collect", "bin/cekpayo-dot", "bin/cekpayo-json", "bin/cekpayo-summary",
           "bin/cekpayo-what-if", "lib/cekpayo/sim_cli", "lib/cekpayo/docs/USAGE.md", "lib/cekpayo/docs/TOOLS.md", "lib/cekpayo/docs/CAUSES.md",
           "share/man/man1/cekpayo.1", "share/bash-completion/completions/cekpayo"]
 ACCEPTED = "node n1\nprimitive vip ocf:heartbeat:IPaddr2\n# nodes 1 leaves 1 rules 0\n"
-
-
-def plain():
-    """An environment that doesn't name the program, so that the installed one must be found."""
-    found = {key: value for key, value in os.environ.items() if not key.startswith(("CEKPAYO", "GIT_"))}
-    return dict(found, PATH="/usr/bin:/bin:" + os.path.dirname(shutil.which("python3")))
 
 
 def run(command, folder, environment=None):
@@ -36,6 +30,7 @@ def try_install(folder):
         status, _, said = tool("install", prefix)
         expect("install", status == 0 and set(PLACES) <= set(files_below(prefix)), said)
     before = files_below(prefix)
+    expect("no tests are installed", not any("tests" in place for place in before), str(before))
     status, _, said = tool("install", prefix, environment=dict(ENVIRONMENT, CEKPAYO_PROGRAM="/nonexistent"))
     expect("install of no program", status == 1 and files_below(prefix) == before, said)
     status, _, said = run('lib/cekpayo/tools/install "$PWD"', prefix)
@@ -46,14 +41,14 @@ def try_install(folder):
     answer = run(f"bin/cekpayo-collect -q {cib} | bin/cekpayo scores | bin/cekpayo-summary | tail -n 1", prefix)
     expect("installed tools", answer == (0, "  * Place      fence            ( web2 )\n", ""), str(answer))
     answer = run(f"bin/cekpayo -q plan {cib} && bin/cekpayo --help | head -n 1 && bin/cekpayo help check | head -n 1", prefix)
-    shown = "Nothing has to be done now.\n  * Stay       site-address, site-server, fence\nUsage: cekpayo [OPTION..] WORD [FILE..]    reads the FILEs, or standard input\ncheck\n"
+    shown = "Nothing has to be done now.\n  * Stay       site-address, site-server, fence\nUsage: cekpayo [OPTION..] WORD [FILE..]    reads the FILEs, or standard input\ncheck [FILE..]\n"
     expect("installed questions", answer == (0, shown, ""), str(answer))
     said = run("printf 'node n1\\nclone k a\\nprimitive a Dummy\\nprimitive b Dummy\\norder o k b\\n' | bin/cekpayo scores > /dev/null", prefix)[2]
     expect("an installed page", f'({os.path.realpath(prefix)}/lib/cekpayo/docs/PACEMAKER.md, "Orders after a clone")' in said, said)
     status, _, said = run('lib/cekpayo/tools/install --uninstall "$PWD"', prefix)
     expect("uninstall", (status, files_below(prefix), sorted(os.listdir(prefix))) == (0, ["own"], ["bin", "own"]), said)
     expect("uninstall of nothing", tool("install", "--uninstall", prefix)[0] == 1)
-    expect("install of no prefix", tool("install")[0] == 2 and tool("install", "--help")[0] == 2)
+    expect("install of no prefix", tool("install")[0] == 2 and tool("install", "--x")[0] == 2)
 
 
 def try_release(folder):
@@ -99,7 +94,7 @@ def try_hook(folder):
     expect("a commit without cekpayo", answer[0] == 0 and "no .crm file was checked" in answer[2], str(answer))
 
 
-def try_installed(folder):
+def try_all(folder):
     try_install(folder)
     try_release(folder)
     try_hook(folder)
