@@ -5,6 +5,7 @@ import os
 import subprocess
 import sys
 import tempfile
+import traceback
 
 sys.dont_write_bytecode = True
 
@@ -23,7 +24,10 @@ def main(subjects):
         return 1
     for subject in subjects or SUBJECTS:
         with tempfile.TemporaryDirectory() as folder:
-            importlib.import_module("test_" + subject).try_all(folder)
+            try:
+                importlib.import_module("test_" + subject).try_all(folder)
+            except Exception:
+                problems.append(f"{subject} was cut short:\n{traceback.format_exc()}")
     for problem in problems:
         print(problem)
     return 1 if problems else 0

@@ -114,9 +114,10 @@ def accepted(name, data):
 def texts(old, new, words):
     """The input without results, and the one with the changes; what only the state of the input has is left out, which
     is said."""
-    parts = Parts(old)
     if new is None:
-        return parts.input(), edited(parts.input(), words.changes), None
+        now = Parts(old).input()
+        return now, edited(now, words.changes), None
+    parts = Parts(old)
     text, gone = changed(Parts(new), parts)
     for one in gone:
         say(f"{one} isn't in {words.config}: its status is left out")

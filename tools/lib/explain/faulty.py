@@ -7,6 +7,7 @@ from .texts import CONFIGURATION, RESULTS, STATUS, Word, content
 IN_COMMENTS = ("NotUtf8", "ControlByte")
 RESOURCES = ("primitive", "group", "clone", "ms", "master")
 GIVES_ROLE = re.compile(r"(?i):(promoted|master|promote|demote)$|^\$?role=(promoted|master)$")
+REPEATING = ("DuplicateName", "MemberTwice", "Repeated")
 WITHOUT_WORD = ("LineTooLong", "TooManyNodes", "TooManyLeaves", "TooManyRules", "TooManyResults", "ColocationLoop", "OrderLoop")
 
 
@@ -139,7 +140,7 @@ def repeated_subject(_program, _text, statement, _refusal):
 
 def earlier(text, statement, word, cause):
     """The earlier statement that a second one repeats, or nothing."""
-    for other in text.statements:
+    for other in text.each() if cause in REPEATING else ():
         if statement is None or other.first >= statement.first:
             return None
         if cause == "DuplicateName" and same_space(other, statement) and other.id and other.id.text == word.text:

@@ -17,7 +17,7 @@ class Parts:
     are left out."""
 
     def __init__(self, data):
-        self.text = Text(data)
+        self.data, self.text = data, Text(data)
         self.end = self.text.heads.get(RESULTS, len(self.text.lines))
         self.begin = self.text.heads.get(STATUS, self.end)
         self.configuration = self.text.lines[:self.begin]
@@ -26,7 +26,7 @@ class Parts:
         return (one for one in self.text.each() if one.section == STATUS)
 
     def input(self):
-        return b"\n".join(self.text.lines[:self.end])
+        return b"\n".join(self.text.lines[:self.end]) if self.end < len(self.text.lines) else self.data
 
     def status_without(self, dropped):
         """The lines of the status; those of some statements are empty, so that the others stay as far from its first
