@@ -22,3 +22,4 @@ pub mod LinesSoFar
 pub mod FirstWords
 pub mod Repeats
 pub mod StatusJournals
+pub mod AnswersFit
