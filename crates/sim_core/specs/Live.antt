@@ -84,10 +84,10 @@ module _ (input : List ℕ) (left before after : Option (List ℕ)) where
   abbrev pub SaysLive : Status → Type 0
   SaysLive Done = IsReplayDone
   SaysLive NoMemory = HasNoMemoryLeft
+  SaysLive Usage = ⊥
   SaysLive ReadFault = HasReadFault
   SaysLive WriteFault = HasWriteFault
   SaysLive Refused = HasWrittenReplay Refused
   SaysLive Unexpected = HasWrittenReplay Unexpected
   SaysLive TooLarge = HasWrittenReplay TooLarge
-  SaysLive Usage = ⊥
   SaysLive NotLawful = ⊥
