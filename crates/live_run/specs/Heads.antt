@@ -28,25 +28,49 @@ abbrev pub begins_results : List (List ℕ) → Bool
 begins_results [] = false
 begins_results (word ∷ words) = is word (codes "%results")
 
--- by what was read of a line, the head ends with it or goes on behind it
-abbrev pub head_by_words : Result (List (List ℕ)) (Fault LexCause) → HeadVerdict → HeadVerdict → HeadVerdict
-head_by_words (Ok words) ends goes_on = if begins_results words then ends else goes_on
-head_by_words (Err (At line why)) ends goes_on = refused line why
-head_by_words (Err NoMemory) ends goes_on = too_large
+-- what a logical line says of the head: it ends with this line, or goes on behind it; or the line can't be cut into words, and why; or it goes past the
+-- limit of bytes
+pub data LineOfHead : Type 0 where
+  ends_head : LineOfHead
+  goes_on_behind : LineOfHead
+  has_no_words : (line : ℕ) (why : LexCause) → LineOfHead
+  passes_limit : LineOfHead
 
--- the same, by the size of the line, the number of its first physical line and its bytes
-abbrev pub head_by_size : LineStep → ℕ → List ℕ → HeadVerdict → HeadVerdict → HeadVerdict
-head_by_size step.Line n raw ends goes_on = head_by_words (reads_line n raw) ends goes_on
-head_by_size step.TooLong n raw ends goes_on = refused n LineTooLong
-head_by_size _ n raw ends goes_on = too_large
+-- what a line says, by its words. It is cut without memory, so that the last case never comes
+abbrev pub line_by_words : Result (List (List ℕ)) (Fault LexCause) → LineOfHead
+line_by_words (Ok words) = if begins_results words then ends_head else goes_on_behind
+line_by_words (Err (At line why)) = has_no_words line why
+line_by_words (Err NoMemory) = passes_limit
 
--- the head of a text and some logical lines behind it, each given by its physical lines, of which the first has this number. So many bytes of them lie
--- within the limit, and a line may have so many without line ends
+-- by its size, the number of its first physical line and its bytes
+abbrev pub line_by_size : LineStep → ℕ → List ℕ → LineOfHead
+line_by_size step.Line n raw = line_by_words (reads_line n raw)
+line_by_size step.TooLong n raw = has_no_words n LineTooLong
+line_by_size _ n raw = passes_limit
+
+-- by its physical lines, of which the first has this number. So many bytes of them lie within the limit, and a line may have so many without line ends
+abbrev pub line_of_head : ℕ → ℕ → ℕ → List (List ℕ) → LineOfHead
+line_of_head longest room n lines = line_by_size (line_answer room longest lines) n (concat lines)
+
+-- the verdict, by what a line says: the head that ends with the line, and the verdict of what is behind it
+abbrev pub verdict_by : LineOfHead → HeadVerdict → HeadVerdict → HeadVerdict
+verdict_by ends_head with_it behind = with_it
+verdict_by goes_on_behind with_it behind = behind
+verdict_by (has_no_words line why) with_it behind = refused line why
+verdict_by passes_limit with_it behind = too_large
+
+-- the head of a text and some logical lines behind it, line by line: up to the first behind which it doesn't go on
 abbrev pub head_verdict : ℕ → List ℕ → ℕ → ℕ → List (List (List ℕ)) → HeadVerdict
 head_verdict longest before room n [] = taken before n room
 head_verdict longest before room n (lines ∷ more) =
-    head_by_size (line_answer room longest lines) n (concat lines) (taken (before ++ concat lines) (n + length lines) (room - length (concat lines)))
+    verdict_by (line_of_head longest room n lines) (taken (before ++ concat lines) (n + length lines) (room - length (concat lines)))
     (head_verdict longest (before ++ concat lines) (room - length (concat lines)) (n + length lines) more)
+
+-- behind each of these lines the head goes on
+abbrev pub AllGoOnBehind : ℕ → ℕ → ℕ → List (List (List ℕ)) → Type 0
+AllGoOnBehind longest room n [] = Unit {0}
+AllGoOnBehind longest room n (lines ∷ more) =
+    (line_of_head longest room n lines ≡ goes_on_behind) × AllGoOnBehind longest (room - length (concat lines)) (n + length lines) more
 
 -- the head of a text and of all bytes to come: those that a reader holds, and those that its source has left
 abbrev pub head_behind : List ℕ → Reading → List ℕ → HeadVerdict
@@ -108,15 +132,11 @@ pub record HasTaken (old new : Reading) (text : List ℕ) (before after : Option
   pub number : new.next ≡ old.next + count_lines lines
   pub room : length text + new.room ≡ old.room
 
--- behind some lines, whatever lines follow, the head is still to come: each of them is a line behind which it goes on. A reader has this text of them
-abbrev pub GoesOnBehind : List (List (List ℕ)) → Reading → Reading → List ℕ → Type 0
-GoesOnBehind lines old new text =
-    (more : List (List (List ℕ))) → head_verdict old.longest [] old.room old.next (lines ++ more) ≡ head_verdict new.longest text new.room new.next more
-
--- the same of the lines that were taken, where the source tells its bytes
+-- behind each of the lines that were taken the head goes on, where the source tells its bytes
 pub record HasHeadGoneOn (old new : Reading) (text : List ℕ) (before after : Option (List ℕ)) : Type 0 where
   pub taken : HasTaken old new text before after
-  pub goes_on : IfSome after (λ left. GoesOnBehind taken.lines old new text)
+  pub same_size : new.longest ≡ old.longest
+  pub goes_on : IfSome after (λ left. AllGoOnBehind old.longest old.room old.next taken.lines)
 
 -- reading goes on, or the source failed
 abbrev pub StillAmid : Option (Result (Unit {0}) HeadStop) → Type 0 → Type 0
@@ -124,15 +144,14 @@ StillAmid None P = P
 StillAmid (Some (Err stop.ReadFault)) P = P
 StillAmid _ P = Unit {0}
 
--- reading stopped amid the head: behind the lines that were taken whole, of which this is the text, the head is still to come, and no further line was
--- taken whole. What is held gives no answer yet
+-- reading stopped amid the head: behind each line that was taken whole the head goes on, and this is the text of these lines. No further line was taken
+-- whole, and what is held gives no answer yet
 pub record IsAmid (old new : Reading) (before after : Option (List ℕ)) : Type 0 where
   pub text : List ℕ
   pub keeps : KeepsBytes (progress [] old) (progress text new) before after
   pub gone_on : HasHeadGoneOn old new text before after
   pub none_whole : holds_line new.held ≡ false
   pub undecided : IsUndecided new.room new.longest new.held
-  pub same_size : new.longest ≡ old.longest
 
 -- more lines can be read: of at most 1,048,576 bytes, with numbers below 2^32
 pub record CanGoOn (reading : Reading) : Type 0 where

@@ -7,7 +7,7 @@ use Rattle.cluster_io.specs.Streams.{Adds, AddsPrefix}
 use Rattle.crm_lex.specs.RawLines.{raw_lines}
 use Rattle.cluster_types.specs.declared.cluster.Cluster.{Cluster}
 use Rattle.cluster_types.specs.declared.journal.Journal.{Journal}
-use Rattle.live_run.specs.Followed.{bytes_of, count_lines}
+use Rattle.live_run.specs.Followed.{bytes_of}
 use Rattle.live_run.specs.Heads as heads
 use Rattle.live_run.specs.Reached.{HasNoMemory, IsBrokenOff, IsCutOff}
 use Rattle.input_reading.specs.declared.input.cause.InputCause.{InputCause}
@@ -18,8 +18,8 @@ use Rattle.input_reading.specs.Causes.{refusal_text}
 use Rattle.input_reading.specs.Reading.{longest_line, most_bytes}
 use Rattle.sim_core.specs.Replay.{IsBegun, IsHeadFault, IsReplayOutput, head_in}
 
--- reading stopped amid the head: of the bytes that were taken these are whole lines, each of which the head goes on behind, whatever follows. The others hold
--- no whole line and give no answer yet
+-- reading stopped amid the head: of the bytes that were taken these are whole lines, and behind each of them the head goes on. The others hold no whole line
+-- and give no answer yet
 pub record IsAmidHead (input : List ℕ) (left : Option (List ℕ)) : Type 0 where
   pub lines : List (List (List ℕ))
   pub held : List ℕ
@@ -27,8 +27,7 @@ pub record IsAmidHead (input : List ℕ) (left : Option (List ℕ)) : Type 0 whe
   pub left_is : left ≡ Some unread
   pub parts : input ≡ bytes_of lines ++ (held ++ unread)
   pub cut : raw_lines input ≡ lines ++ raw_lines (held ++ unread)
-  pub goes_on : (more : List (List (List ℕ))) → heads.head_verdict longest_line [] most_bytes 1 (lines ++ more)
-      ≡ heads.head_verdict longest_line (bytes_of lines) (most_bytes - length (bytes_of lines)) (1 + count_lines lines) more
+  pub goes_on : heads.AllGoOnBehind longest_line most_bytes 1 lines
   pub unfinished : holds_line held ≡ false
   pub undecided : IsUndecided (most_bytes - length (bytes_of lines)) longest_line held
 

@@ -46,5 +46,4 @@ returns-in-Err-clause-amid g c why =
       gone_on = where_failed _ _ fault now.gone_on _ _ so_far.gone_on;
       none_whole = now.amid fault;
       undecided = now.undecided fault;
-      same_size = now.same_size fault ∙ (so_far.can.longest ∙ sym c.requires.can.longest);
     }
