@@ -55,22 +55,26 @@ amid : (old new : Reading) (input : List ℕ) (after : Option (List ℕ)) → ol
     → IsAmidHead input after
 amid old new input None e a = let none = a.keeps in absurd cc
 amid old new input (Some unread) e a = record {
-  lines = a.gone_on.taken.lines;
-  held = new.held;
-  unread = unread;
-  left_is = refl;
-  parts =
-      let all : Some input ≡ Some (a.text ++ (new.held ++ unread))
-      = subst (λ (r : Reading). Some ([] ++ (r.held ++ input)) ≡ Some (a.text ++ (new.held ++ unread))) e a.keeps in
-      let whole : input ≡ a.text ++ (new.held ++ unread) = cc in
-      whole ∙ ap (λ (t : List ℕ). t ++ (new.held ++ unread)) a.gone_on.taken.text_is;
-  cut =
-      let all : Some (raw_lines input) ≡ Some (a.gone_on.taken.lines ++ raw_lines (new.held ++ unread))
-      = subst (λ (r : Reading). Some (raw_lines (r.held ++ input)) ≡ Some (a.gone_on.taken.lines ++ raw_lines (new.held ++ unread))) e a.gone_on.taken.cut in
-      cc;
+  whole = record {
+    lines = a.gone_on.taken.lines;
+    held = new.held;
+    unread = unread;
+    left_is = refl;
+    parts =
+        let all : Some input ≡ Some (a.text ++ (new.held ++ unread))
+        = subst (λ (r : Reading). Some ([] ++ (r.held ++ input)) ≡ Some (a.text ++ (new.held ++ unread))) e a.keeps in
+        let whole : input ≡ a.text ++ (new.held ++ unread) = cc in
+        whole ∙ ap (λ (t : List ℕ). t ++ (new.held ++ unread)) a.gone_on.taken.text_is;
+    cut =
+        let all : Some (raw_lines input) ≡ Some (a.gone_on.taken.lines ++ raw_lines (new.held ++ unread))
+        = subst (λ (r : Reading). Some (raw_lines (r.held ++ input)) ≡ Some (a.gone_on.taken.lines ++ raw_lines (new.held ++ unread))) e a.gone_on.taken.cut in
+        cc;
+  };
   goes_on = subst (λ (r : Reading). heads.AllGoOnBehind r.longest r.room r.next a.gone_on.taken.lines) e a.gone_on.goes_on;
-  unfinished = a.none_whole;
-  undecided = subst (λ (n : ℕ). IsUndecided n longest_line new.held) room (subst (λ (n : ℕ). IsUndecided new.room n new.held) size a.undecided);
+  no_answer = record {
+    unfinished = a.none_whole;
+    undecided = subst (λ (n : ℕ). IsUndecided n longest_line new.held) room (subst (λ (n : ℕ). IsUndecided new.room n new.held) size a.undecided);
+  };
 }
   where
     size : new.longest ≡ longest_line
