@@ -40,8 +40,8 @@ writer_failures sink = sink.calls.failures
 abbrev pub writer_interruptions : {W : Type 0} → StdSink W → ℕ
 writer_interruptions sink = sink.calls.interruptions
 
--- a call that doesn't fail made no call that failed. One that fails made one that failed, behind which it made none, or at least 1,000 that were
--- interrupted, as far as their count goes. No call makes more interrupted ones
+-- a call that doesn't fail made no call that failed. One that fails made one that failed and no more, or at least 1,000 that were interrupted, as far
+-- as their count goes. No call makes more interrupted ones
 pub record Persists (failed : Type 0) (failures failures_now interruptions interruptions_now : ℕ) : Type 0 where
   pub none_swallowed : (failed → ⊥) → failures_now ≡ failures
   pub has_cause : failed → failures_now ≢ next_fault failures

@@ -75,6 +75,7 @@ pub fn read_all<S: Source>(alloc: Global, src: &mut S, limit: usize) -> Result<V
     ensures all { IfOk result (λ bytes. TakesBytes (S.left src.old) bytes.items (S.left src.new)) }
     ensures end { IfOk result (λ _. IfSome (S.left src.new) (λ left. left ≡ [])) }
     ensures ended { IfOk result (λ _. S.ended src.new ≡ true) }
+    ensures going { OnErr result (S.ended src.new ≡ false) }
     ensures within { IfOk result (λ bytes. length bytes.items ≤ limit) }
 
     // On an error the bytes taken are lost. One more than the limit shows that there are too many.

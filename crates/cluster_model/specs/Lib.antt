@@ -1,3 +1,4 @@
+pub mod Causes
 pub mod Chains
 pub mod Directories
 pub mod Nodes

@@ -14,7 +14,7 @@ mod values;
 // What follows from the definitions.
 mod laws;
 
-pub use expansion::expand_fault::{ExpandCause, ExpandFault};
+pub use expansion::expand_fault::{ExpandCause, ExpandFault, expand_name};
 pub use expansion::leaf_laws::{each_primitive_is_a_leaf, leaf_names_differ};
 pub use expansion::leaves::{Leaves, Span};
 pub(crate) use expansion::settings::properties_in;
@@ -23,6 +23,6 @@ pub use laws::{
     resolved_clusters_are_valid, resolved_rules_have_no_loop, resolved_rules_name_able_leaves,
 };
 pub(crate) use name_table::NameTable;
-pub use resolution::fault::{ModelCause, ModelFault};
+pub use resolution::fault::{ModelCause, ModelFault, model_name};
 pub use resolution::whole::resolve;
 pub(crate) use values::bool_at;

@@ -1,3 +1,4 @@
+pub mod Causes
 pub mod Texts
 pub mod Values
 pub mod Marks

@@ -1,3 +1,6 @@
+ghost use Rattle.std.specs.Prelude.{◌≡◌};
+ghost use Rattle.crm_parse.specs.Causes.{parse_name};
+
 use faults::Fault;
 use thiserror::Error;
 
@@ -35,6 +38,22 @@ pub enum ParseCause {
         same interval, or a primitive has a second `start`, `stop`, `promote` or `demote`. Only `$id` may be \
         repeated.")]
     RepeatedKey,
+}
+
+/// The name of a cause, as it is printed: that of its variant.
+pub fn parse_name(cause: ParseCause) -> &'static str
+    ensures { result.now ≡ parse_name cause }
+{
+    match cause {
+        ParseCause::UnknownStatement => "UnknownStatement",
+        ParseCause::Unsupported => "Unsupported",
+        ParseCause::BadScore => "BadScore",
+        ParseCause::BadTime => "BadTime",
+        ParseCause::BadValue => "BadValue",
+        ParseCause::MissingWord => "MissingWord",
+        ParseCause::ExtraWord => "ExtraWord",
+        ParseCause::RepeatedKey => "RepeatedKey",
+    }
 }
 
 /// Why there are no statements. The line is the lowest faulty one, the physical line, counted from 1, where the logical line begins, and the

@@ -49,7 +49,7 @@ mod actions;
 mod parser;
 mod promotable;
 
-pub use fault::{ParseCause, ParseFault};
+pub use fault::{ParseCause, ParseFault, parse_name};
 pub use form::{Form, OrderStep, Side};
 pub use marks::{AuditMarks, SectionMarks, audit_sections, sections};
 pub use operations::{interval_of, recurs, value_of};

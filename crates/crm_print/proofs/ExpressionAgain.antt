@@ -73,7 +73,7 @@ record Follow (before got : Expression) : Type 0 where
   again : (most : ℕ) (more : Words) → length (words ++ more) ≤ most → joiner_at more ≡ None
       → with_tests most (joiner_at (words ++ more)) before (words ++ more) ≡ Ok (got, more)
 
-stops : (most : ℕ) (before : Expression) (more : Words) → joiner_at more ≡ None → with_tests most (joiner_at more) before more ≡ Ok (before, more)
+pub stops : (most : ℕ) (before : Expression) (more : Words) → joiner_at more ≡ None → with_tests most (joiner_at more) before more ≡ Ok (before, more)
 stops zero before more j = refl
 stops (suc most) before more j = rw j refl
 

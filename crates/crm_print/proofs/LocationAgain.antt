@@ -21,21 +21,21 @@ use Rattle.crm_print.proofs.ScoreAgain.{first-none, score-no_label, score-none, 
 use Rattle.crm_print.proofs.Written.{Again, discovery_words, located_words, role_words, ruled_words, score_word}
 use Rattle.crm_parse.proofs.LocationRead.{IsPlace, place_at-ok, resource_at-ok}
 
-resource_at-again : (resource : List ℕ) (words : Words) → IsResource resource → resource_at (resource ∷ words) ≡ Ok (resource, words)
+pub resource_at-again : (resource : List ℕ) (words : Words) → IsResource resource → resource_at (resource ∷ words) ≡ Ok (resource, words)
 unfolding resource_at
 resource_at-again resource words h = rw h.read refl
 
 -- what may stand where a location has said all but its score or its rules
-record Rest (words : Words) : Type 0 where
-  role : prefixed_at (codes "role=") words ≡ (None, words)
-  discovery : prefixed_at (codes "resource-discovery=") words ≡ (None, words)
+pub record Rest (words : Words) : Type 0 where
+  pub role : prefixed_at (codes "role=") words ≡ (None, words)
+  pub discovery : prefixed_at (codes "resource-discovery=") words ≡ (None, words)
 
-discovery_at-again : (everywhere : Bool) (words : Words) → Rest words → discovery_at (discovery_words everywhere ++ words) ≡ Ok (everywhere, words)
+pub discovery_at-again : (everywhere : Bool) (words : Words) → Rest words → discovery_at (discovery_words everywhere ++ words) ≡ Ok (everywhere, words)
 unfolding discovery_at
 discovery_at-again true words h = refl
 discovery_at-again false words h = rw h.discovery refl
 
-discovery-no_role : (everywhere : Bool) (words : Words) → Rest words
+pub discovery-no_role : (everywhere : Bool) (words : Words) → Rest words
     → prefixed_at (codes "role=") (discovery_words everywhere ++ words) ≡ (None, discovery_words everywhere ++ words)
 discovery-no_role true words h = refl
 discovery-no_role false words h = h.role

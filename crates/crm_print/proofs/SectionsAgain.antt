@@ -21,7 +21,7 @@ use Rattle.crm_print.proofs.SectionCuts.{op_part, section_parts, cut-section, cu
 use Rattle.crm_print.proofs.Written.{operation_words, section_words}
 
 -- the pairs of a section
-abbrev pairs_of : SectionWord → Sections → List Kv
+abbrev pub pairs_of : SectionWord → Sections → List Kv
 pairs_of Attributes s = s.attributes
 pairs_of Params s = s.params
 pairs_of Meta s = s.meta
@@ -30,7 +30,7 @@ pairs_of Operations s = s.operations
 pairs_of Op s = []
 
 -- the sections with these pairs
-abbrev put : SectionWord → List Kv → Sections → Sections
+abbrev pub put : SectionWord → List Kv → Sections → Sections
 put Attributes pairs s = record s { attributes = pairs }
 put Params pairs s = record s { params = pairs }
 put Meta pairs s = record s { meta = pairs }

@@ -46,7 +46,7 @@ settings_pairs-words what before (word ∷ words) pairs e =
     let a = with_settings-adds what before [] (word ∷ words) pairs e in
     a.spelled ∙ ap pair_words (sym a.added)
 
-set-case : (words : Words) (begins : Bool) (read : Option (List ℕ) × Words) → begins_pair words ≡ begins → set_at words ≡ Ok read → words ≡ given_words read.0 ++ read.1
+pub set-case : (words : Words) (begins : Bool) (read : Option (List ℕ) × Words) → begins_pair words ≡ begins → set_at words ≡ Ok read → words ≡ given_words read.0 ++ read.1
 set-case words true read b e =
     let h : Ok (None, words) ≡ Ok read = rw (b, set_at) at e in
     let pair : (None, words) ≡ read = cc in

@@ -1,6 +1,6 @@
 //! Laws of how decisions came about, for every cluster, journal and list of promotion scores.
 
-ghost use Rattle.std.specs.Prelude.{◌≡◌, ◌<◌, ℕ, true, Some, List, [], ◌∷◌, length, filter, Contains, ◌↔◌};
+ghost use Rattle.std.specs.Prelude.{◌≡◌, ◌<◌, ℕ, true, false, Some, List, [], ◌∷◌, length, filter, Contains, ◌↔◌};
 ghost use Rattle.std.specs.Option.{IsSome};
 ghost use Rattle.score.specs.Total.{total_of};
 ghost use Rattle.cluster_types.specs.declared.cluster.Cluster.{Cluster as ClusterOf};
@@ -11,7 +11,7 @@ ghost use Rattle.cluster_types.specs.declared.placement.Decision.TheVariants as 
 ghost use Rattle.cluster_types.specs.declared.placement.Placed.{Placed as PlacedOf};
 ghost use Rattle.cluster_types.specs.declared.rules.Colocation.{Colocation as ColocationOf};
 ghost use Rattle.cluster_types.specs.declared.rules.Order.{Order as OrderOf};
-ghost use Rattle.cluster_types.specs.Choice.{is_chosen, total_on};
+ghost use Rattle.cluster_types.specs.Choice.{is_candidate, is_chosen, total_on};
 ghost use Rattle.cluster_types.specs.Held.{AreTargets, Held};
 ghost use Rattle.cluster_types.specs.Plans.{IsPlaced};
 ghost use Rattle.cluster_types.specs.Reasons.{IsHeldByColocation, IsHeldByOrder};
@@ -19,6 +19,7 @@ ghost use Rattle.cluster_types.specs.Tables.{Targets};
 ghost use Rattle.cluster_types.specs.Texts.{scores_text};
 ghost use Rattle.cluster_types.specs.Valid.{IsValid};
 ghost use Rattle.decision_account.specs.Accounts.{IsWhyText, is_scores_line, why_lines, why_text};
+ghost use Rattle.decision_account.specs.Better.{IsBetter};
 ghost use Rattle.decision_account.specs.Grounds.{IsTrueVerdict};
 ghost use Rattle.decision_account.specs.Holders.{held_decision, holder_of, misses_first};
 ghost use Rattle.decision_account.specs.Parts.{base_parts, part_scores, preference_parts, without_zeros};
@@ -41,6 +42,15 @@ pub fn verdicts_are_true()
         → is_chosen c events promotions table d n ≡ true → verdict_on c events promotions table d n ≡ verdict.chosen }
     ensures grounds { (c : ClusterOf) (events : List EventOf) (promotions : List PromotionOf) (table : Targets) (d : DecisionOf) (n : ℕ) → n < length c.nodes
         → IsTrueVerdict c events promotions table d n (verdict_on c events promotions table d n) }
+{}
+
+/// A node that a decision chooses is a candidate, and is better than each candidate that it doesn't choose: by total, then by load, then by place.
+pub fn the_best_are_chosen()
+    ensures candidate { (c : ClusterOf) (events : List EventOf) (promotions : List PromotionOf) (table : Targets) (d : DecisionOf) (n : ℕ)
+        → is_chosen c events promotions table d n ≡ true → is_candidate c events promotions table d n ≡ true }
+    ensures better { (c : ClusterOf) (events : List EventOf) (promotions : List PromotionOf) (table : Targets) (d : DecisionOf) (n m : ℕ)
+        → is_chosen c events promotions table d n ≡ true → is_candidate c events promotions table d m ≡ true → is_chosen c events promotions table d m ≡ false
+        → IsBetter c events promotions table d n m }
 {}
 
 /// The lines of `scores` are what is left without parts, verdicts and held lines.

@@ -4,5 +4,6 @@
 mod laws;
 
 pub use laws::{
-    holders_hold_back, parts_add_up, scores_are_left, there_is_one_account, verdicts_are_true,
+    holders_hold_back, parts_add_up, scores_are_left, the_best_are_chosen, there_is_one_account,
+    verdicts_are_true,
 };

@@ -1,48 +1,16 @@
 -- The names of the causes for which an input is refused, and the line that says so. The name of a cause is that of its variant (rules of this project).
 use Rattle.std.specs.Prelude.{ℕ, List, ◌++◌, codes, decimal}
-use Rattle.crm_parse.specs.declared.fault.ParseCause.{ParseCause}
-use Rattle.crm_parse.specs.declared.fault.ParseCause.TheVariants as parse
-use Rattle.cluster_model.specs.declared.expansion.expand_fault.ExpandCause.{ExpandCause}
-use Rattle.cluster_model.specs.declared.expansion.expand_fault.ExpandCause.TheVariants as expand
-use Rattle.cluster_model.specs.declared.resolution.fault.ModelCause.{ModelCause}
-use Rattle.cluster_model.specs.declared.resolution.fault.ModelCause.TheVariants as model
 use Rattle.input_reading.specs.declared.history_fault.StatusCause.{StatusCause}
 use Rattle.input_reading.specs.declared.history_fault.StatusCause.TheVariants as status
 use Rattle.crm_lex.specs.Causes.{lex_name}
+use Rattle.crm_parse.specs.Causes.{parse_name}
+use Rattle.cluster_model.specs.Causes.{expand_name, model_name}
 use Rattle.input_reading.specs.declared.history_fault.ResultCause.{ResultCause}
 use Rattle.input_reading.specs.declared.history_fault.ResultCause.TheVariants as result
 use Rattle.input_reading.specs.declared.words.word_cause.WordCause.{WordCause}
 use Rattle.input_reading.specs.declared.words.word_cause.WordCause.TheVariants as word
 use Rattle.input_reading.specs.declared.input.cause.InputCause.{InputCause}
 use Rattle.input_reading.specs.declared.input.cause.InputCause.TheVariants.{Words, Statements, Leaves, Cluster, Status, Results, Run}
-
-abbrev pub parse_name : ParseCause → List ℕ
-parse_name parse.UnknownStatement = codes "UnknownStatement"
-parse_name parse.Unsupported = codes "Unsupported"
-parse_name parse.BadScore = codes "BadScore"
-parse_name parse.BadTime = codes "BadTime"
-parse_name parse.BadValue = codes "BadValue"
-parse_name parse.MissingWord = codes "MissingWord"
-parse_name parse.ExtraWord = codes "ExtraWord"
-parse_name parse.RepeatedKey = codes "RepeatedKey"
-
-abbrev pub expand_name : ExpandCause → List ℕ
-expand_name expand.DuplicateName = codes "DuplicateName"
-expand_name expand.UnknownName = codes "UnknownName"
-expand_name expand.NestedTwice = codes "NestedTwice"
-expand_name expand.EmptyGroup = codes "EmptyGroup"
-expand_name expand.MemberTwice = codes "MemberTwice"
-expand_name expand.UnsupportedMeta = codes "UnsupportedMeta"
-
-abbrev pub model_name : ModelCause → List ℕ
-model_name model.UnknownName = codes "UnknownName"
-model_name model.NotPromotable = codes "NotPromotable"
-model_name model.UnsupportedOrder = codes "UnsupportedOrder"
-model_name model.TooManyNodes = codes "TooManyNodes"
-model_name model.TooManyLeaves = codes "TooManyLeaves"
-model_name model.TooManyRules = codes "TooManyRules"
-model_name model.ColocationLoop = codes "ColocationLoop"
-model_name model.OrderLoop = codes "OrderLoop"
 
 abbrev pub status_name : StatusCause → List ℕ
 status_name status.UnknownStatement = codes "UnknownStatement"

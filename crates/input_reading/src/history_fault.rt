@@ -1,3 +1,6 @@
+ghost use Rattle.std.specs.Prelude.{◌≡◌};
+ghost use Rattle.input_reading.specs.Causes.{result_name, status_name};
+
 use crate::WordCause;
 use faults::Fault;
 use thiserror::Error;
@@ -29,6 +32,20 @@ pub enum StatusCause {
     Repeated,
 }
 
+/// The name of a cause, as it is printed: that of its variant.
+pub(crate) fn status_name(cause: StatusCause) -> &'static str
+    ensures { result.now ≡ status_name cause }
+{
+    match cause {
+        StatusCause::UnknownStatement => "UnknownStatement",
+        StatusCause::MissingWord => "MissingWord",
+        StatusCause::ExtraWord => "ExtraWord",
+        StatusCause::BadValue => "BadValue",
+        StatusCause::UnknownName => "UnknownName",
+        StatusCause::Repeated => "Repeated",
+    }
+}
+
 /// Why there is no journal: the first faulty line of the status with its cause, or out of memory.
 pub type StatusFault = Fault<StatusCause>;
 
@@ -56,6 +73,20 @@ pub enum ResultCause {
     /// There are 10,000 result lines before it. This comes before the causes of the words.
     #[error("This is the 10,001st result line.")]
     TooManyResults,
+}
+
+/// The name of a cause, as it is printed: that of its variant.
+pub(crate) fn result_name(cause: ResultCause) -> &'static str
+    ensures { result.now ≡ result_name cause }
+{
+    match cause {
+        ResultCause::UnknownStatement => "UnknownStatement",
+        ResultCause::MissingWord => "MissingWord",
+        ResultCause::ExtraWord => "ExtraWord",
+        ResultCause::BadValue => "BadValue",
+        ResultCause::UnknownName => "UnknownName",
+        ResultCause::TooManyResults => "TooManyResults",
+    }
 }
 
 /// Why there are no results: the first faulty result line with its cause, or out of memory.

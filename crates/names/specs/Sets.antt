@@ -6,7 +6,7 @@ use Rattle.crm_lex.specs.Names.{is}
 use Rattle.cluster_types.specs.declared.cluster.Cluster.{Cluster}
 use Rattle.cluster_types.specs.declared.leaf.Leaf.{Leaf}
 use Rattle.cluster_types.specs.declared.node.Node.{Node}
-use Rattle.cluster_types.specs.Valid.{KeepsLimits}
+use Rattle.cluster_types.specs.Valid.{IsValid}
 use Rattle.indexmap.specs.IndexSet.{IndexSet}
 
 -- the names that a set borrows, in its order
@@ -25,6 +25,6 @@ leaf_names leaves = map (λ (leaf : Leaf). leaf.name) leaves
 
 -- the sets have the names of the nodes and of the leaves, in the order of their numbers
 pub record AreNamesOf {S T : Type 0} (nodes : IndexSet (Bor (List ℕ)) S) (leaves : IndexSet (Bor (List ℕ)) T) (c : Cluster) : Type 0 where
-  pub limits : KeepsLimits c
+  pub valid : IsValid c
   pub nodes_in_order : borrowed_names nodes ≡ node_names c.nodes
   pub leaves_in_order : borrowed_names leaves ≡ leaf_names c.leaves

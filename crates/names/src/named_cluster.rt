@@ -48,6 +48,7 @@ impl<'c> Names<'c> {
     /// The cluster.
     pub fn cluster(&self) -> &'c Cluster
         ensures value { result.now ≡ self.now }
+        ensures valid { IsValid result.now }
         ensures limits { KeepsLimits result.now }
     {
         self.cluster

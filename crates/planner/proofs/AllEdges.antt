@@ -18,7 +18,7 @@ use Rattle.planner.specs.Gates.{edges_of_joins}
 use Rattle.planner.specs.Inner.Groups.{AddsGroup}
 use Rattle.planner.specs.Joins.{joins_of}
 use Rattle.planner.specs.Inner.Places.{places_of}
-use Rattle.planner.specs.Precede.{AreEdges, most_positions}
+use Rattle.planner.specs.Precede.{AreEdges, first_gates, most_positions}
 use Rattle.planner.specs.Rooms.{Builds, IsActionWithin, rows_of_join, width_of_join}
 use Rattle.planner.specs.Inner.Serials.{most_serial, serial_room}
 use Rattle.planner.proofs.AllJoins.{JoinFits, leads_precede, whole_group}
@@ -56,14 +56,14 @@ module _ (actions : List Action) where
       let f = rooms os in
       omega arith
 
-  pub room_for_all : (c : Cluster) (base : ℕ) → length c.colocations + length c.orders ≤ 2000 → most_edges c actions ≤ 2000000000
-      → base ≤ length actions + 1027001 + 512 * length c.colocations + 512 * length c.orders → base + sum_by (serial_room actions) c.orders < 4294967296
-  room_for_all c base rules most below = let r = rooms c.orders in omega arith
+  pub room_for_all : (c : Cluster) (base : ℕ) → length c.colocations + length c.orders ≤ 2000 → length c.leaves ≤ 1000 → length c.nodes * length c.leaves ≤ 256000
+      → most_edges c actions ≤ 2000000000 → base ≤ length actions + first_gates c + 512 * length c.colocations + 512 * length c.orders → base + sum_by (serial_room actions) c.orders < 4294967296
+  room_for_all c base rules leaves cells most below = let r = rooms c.orders in omega arith
 
-  pub few_positions : (c : Cluster) (base upto : ℕ) → length c.colocations + length c.orders ≤ 2000
-      → base ≤ length actions + 1027001 + 512 * length c.colocations + 512 * length c.orders → upto ≤ base + sum_by (serial_room actions) c.orders
+  pub few_positions : (c : Cluster) (base upto : ℕ)
+      → base ≤ length actions + first_gates c + 512 * length c.colocations + 512 * length c.orders → upto ≤ base + sum_by (serial_room actions) c.orders
       → upto ≤ most_positions c actions
-  few_positions c base upto rules below room = let r = rooms c.orders in omega arith
+  few_positions c base upto below room = let r = rooms c.orders in omega arith
 
   pub few_actions : (c : Cluster) → most_edges c actions ≤ 2000000000 → length actions ≤ 2000000000
   few_actions c most = omega arith

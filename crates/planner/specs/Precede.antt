@@ -1,5 +1,5 @@
 -- Edges that say what must precede what.
-use Rattle.std.specs.Prelude.{◌≡◌, ◌↔◌, ◌+◌, ◌<◌, ◌≤◌, ℕ, Bool, true, List, Some, length, slice_get}
+use Rattle.std.specs.Prelude.{◌≡◌, ◌↔◌, ◌+◌, ◌*◌, ◌<◌, ◌≤◌, ℕ, Bool, true, List, Some, length, slice_get}
 use Rattle.cluster_types.specs.declared.cluster.Cluster.{Cluster}
 use Rattle.cluster_types.specs.declared.graph_edges.Edges.{Edges}
 use Rattle.cluster_types.specs.declared.journal.Action.{Action}
@@ -8,10 +8,15 @@ use Rattle.edges.specs.Loops.{EndsWithin}
 use Rattle.cluster_types.specs.Plans.{most_edges}
 use Rattle.cluster_types.specs.Precedence.{must_precede}
 
--- how many positions the edges between some actions may have: as many as there may be edges, and 3100000 for the gates of cells and rules (rule of this
--- project)
+-- how many gates there are for what hangs on no rule: four for each leaf on each node, three for each leaf, and one (rule of this project)
+abbrev pub first_gates : Cluster → ℕ
+first_gates c = 1 + 3 * length c.leaves + 4 * (length c.nodes * length c.leaves)
+
+-- how many positions the edges between some actions may have: as many as there may be edges, and these gates; for each colocation two more for each of 256
+-- nodes, and for each order four (rule of this project)
 abbrev pub most_positions : Cluster → List Action → ℕ
-most_positions c actions = most_edges c actions + 3100000
+most_positions c actions =
+    most_edges c actions + first_gates c + 512 * length c.colocations + 1024 * length c.orders
 
 -- the edges and their positions are no more than that
 pub record AreFewEdges (c : Cluster) (actions : List Action) (edges : Edges) : Type 0 where

@@ -16,8 +16,8 @@ pub fn node_name(cluster: &Cluster, node: usize) -> &[u8]
     }
 }
 
-/// A leaf and the node at a place, parted by a space.
-pub(crate) fn push_leaf_on(
+/// A leaf and the node at a place, parted by a space. `NoMemory` comes when memory runs out.
+pub fn push_leaf_on(
     text: &mut Vec<u8>,
     cluster: &Cluster,
     leaf: LeafId,

@@ -12,7 +12,12 @@ use faults::NoMemory;
 use score::Score;
 use std::alloc::Global;
 
-fn push_decision(text: &mut Vec<u8>, cluster: &Cluster, decision: Decision) -> Result<(), NoMemory>
+/// The line of a decision, as `place LEAF`. `NoMemory` comes when memory runs out.
+pub fn push_decision(
+    text: &mut Vec<u8>,
+    cluster: &Cluster,
+    decision: Decision,
+) -> Result<(), NoMemory>
     ensures { OnOk result (text.new.items ≡ text.old.items ++ texts.decision_line cluster.now decision) }
 {
     let word: &[u8] = match decision {
@@ -25,8 +30,8 @@ fn push_decision(text: &mut Vec<u8>, cluster: &Cluster, decision: Decision) -> R
     Ok(())
 }
 
-/// The line of the total of a leaf on a node.
-fn push_total(
+/// The line of the total of a leaf on a node, as `score LEAF NODE SCORE`. `NoMemory` comes when memory runs out.
+pub fn push_total(
     text: &mut Vec<u8>,
     cluster: &Cluster,
     leaf: LeafId,

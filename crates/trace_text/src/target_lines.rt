@@ -179,9 +179,9 @@ fn push_leaf(
     Ok(())
 }
 
-/// The target lines of all leaves, in their order.
+/// The target lines of all leaves, in their order. It asks for a cluster within the limits. `NoMemory` comes when memory runs out.
 #[tactic(auto, using(lemmas::proofs::Grown::values_more, crate::proofs::MoreLines::lines_of_lines))]
-pub(crate) fn push_targets(
+pub fn push_targets(
     text: &mut Vec<u8>,
     cluster: &Cluster,
     pins: &[Option<Pin>],

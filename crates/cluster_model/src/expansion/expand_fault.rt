@@ -1,3 +1,6 @@
+ghost use Rattle.std.specs.Prelude.{◌≡◌};
+ghost use Rattle.cluster_model.specs.Causes.{expand_name};
+
 use faults::Fault;
 use thiserror::Error;
 
@@ -24,6 +27,20 @@ pub enum ExpandCause {
     /// The child of a promotable clone is a group.
     #[error("A promotable clone has a group.")]
     UnsupportedMeta,
+}
+
+/// The name of a cause, as it is printed: that of its variant.
+pub fn expand_name(cause: ExpandCause) -> &'static str
+    ensures { result.now ≡ expand_name cause }
+{
+    match cause {
+        ExpandCause::DuplicateName => "DuplicateName",
+        ExpandCause::UnknownName => "UnknownName",
+        ExpandCause::NestedTwice => "NestedTwice",
+        ExpandCause::EmptyGroup => "EmptyGroup",
+        ExpandCause::MemberTwice => "MemberTwice",
+        ExpandCause::UnsupportedMeta => "UnsupportedMeta",
+    }
 }
 
 /// Why there are no leaves: out of memory, or a line and a cause. The line is that of the first statement that is at fault, and the cause the

@@ -1,3 +1,6 @@
+ghost use Rattle.std.specs.Prelude.{◌≡◌};
+ghost use Rattle.cluster_model.specs.Causes.{model_name};
+
 use faults::Fault;
 use thiserror::Error;
 
@@ -29,6 +32,22 @@ pub enum ModelCause {
     /// Steps wait for each other in a circle.
     #[error("With this order or group the orders have a loop; Optional ones count, Serialize ones don't.")]
     OrderLoop,
+}
+
+/// The name of a cause, as it is printed: that of its variant.
+pub fn model_name(cause: ModelCause) -> &'static str
+    ensures { result.now ≡ model_name cause }
+{
+    match cause {
+        ModelCause::UnknownName => "UnknownName",
+        ModelCause::NotPromotable => "NotPromotable",
+        ModelCause::UnsupportedOrder => "UnsupportedOrder",
+        ModelCause::TooManyNodes => "TooManyNodes",
+        ModelCause::TooManyLeaves => "TooManyLeaves",
+        ModelCause::TooManyRules => "TooManyRules",
+        ModelCause::ColocationLoop => "ColocationLoop",
+        ModelCause::OrderLoop => "OrderLoop",
+    }
 }
 
 /// Why there is no cluster: out of memory, or a line and a cause. The line is that of the first statement that is at fault, and the cause the

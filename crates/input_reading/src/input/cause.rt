@@ -1,12 +1,14 @@
-//! Why an input is refused, and the names of the causes.
+//! Why an input is refused.
 
 ghost use Rattle.std.specs.Prelude.{◌≡◌};
-ghost use Rattle.input_reading.specs.Causes.{cause_name, expand_name, model_name, parse_name, result_name, status_name, word_name};
+ghost use Rattle.input_reading.specs.Causes.{cause_name};
 
+use crate::history_fault::{result_name, status_name};
+use crate::words::word_cause::word_name;
 use crate::{ResultCause, StatusCause, WordCause};
-use cluster_model::{ExpandCause, ModelCause};
+use cluster_model::{ExpandCause, ModelCause, expand_name, model_name};
 use crm_lex::{LexCause, lex_name};
-use crm_parse::ParseCause;
+use crm_parse::{ParseCause, parse_name};
 use thiserror::Error;
 
 /// Why an input is refused, by the step of reading that finds it.
@@ -33,87 +35,6 @@ pub enum InputCause {
     /// A line of a run can't be read.
     #[error(transparent)]
     Run(WordCause),
-}
-
-fn parse_name(cause: ParseCause) -> &'static str
-    ensures { result.now ≡ parse_name cause }
-{
-    match cause {
-        ParseCause::UnknownStatement => "UnknownStatement",
-        ParseCause::Unsupported => "Unsupported",
-        ParseCause::BadScore => "BadScore",
-        ParseCause::BadTime => "BadTime",
-        ParseCause::BadValue => "BadValue",
-        ParseCause::MissingWord => "MissingWord",
-        ParseCause::ExtraWord => "ExtraWord",
-        ParseCause::RepeatedKey => "RepeatedKey",
-    }
-}
-
-fn expand_name(cause: ExpandCause) -> &'static str
-    ensures { result.now ≡ expand_name cause }
-{
-    match cause {
-        ExpandCause::DuplicateName => "DuplicateName",
-        ExpandCause::UnknownName => "UnknownName",
-        ExpandCause::NestedTwice => "NestedTwice",
-        ExpandCause::EmptyGroup => "EmptyGroup",
-        ExpandCause::MemberTwice => "MemberTwice",
-        ExpandCause::UnsupportedMeta => "UnsupportedMeta",
-    }
-}
-
-fn model_name(cause: ModelCause) -> &'static str
-    ensures { result.now ≡ model_name cause }
-{
-    match cause {
-        ModelCause::UnknownName => "UnknownName",
-        ModelCause::NotPromotable => "NotPromotable",
-        ModelCause::UnsupportedOrder => "UnsupportedOrder",
-        ModelCause::TooManyNodes => "TooManyNodes",
-        ModelCause::TooManyLeaves => "TooManyLeaves",
-        ModelCause::TooManyRules => "TooManyRules",
-        ModelCause::ColocationLoop => "ColocationLoop",
-        ModelCause::OrderLoop => "OrderLoop",
-    }
-}
-
-fn status_name(cause: StatusCause) -> &'static str
-    ensures { result.now ≡ status_name cause }
-{
-    match cause {
-        StatusCause::UnknownStatement => "UnknownStatement",
-        StatusCause::MissingWord => "MissingWord",
-        StatusCause::ExtraWord => "ExtraWord",
-        StatusCause::BadValue => "BadValue",
-        StatusCause::UnknownName => "UnknownName",
-        StatusCause::Repeated => "Repeated",
-    }
-}
-
-fn result_name(cause: ResultCause) -> &'static str
-    ensures { result.now ≡ result_name cause }
-{
-    match cause {
-        ResultCause::UnknownStatement => "UnknownStatement",
-        ResultCause::MissingWord => "MissingWord",
-        ResultCause::ExtraWord => "ExtraWord",
-        ResultCause::BadValue => "BadValue",
-        ResultCause::UnknownName => "UnknownName",
-        ResultCause::TooManyResults => "TooManyResults",
-    }
-}
-
-fn word_name(cause: WordCause) -> &'static str
-    ensures { result.now ≡ word_name cause }
-{
-    match cause {
-        WordCause::UnknownStatement => "UnknownStatement",
-        WordCause::MissingWord => "MissingWord",
-        WordCause::ExtraWord => "ExtraWord",
-        WordCause::BadValue => "BadValue",
-        WordCause::UnknownName => "UnknownName",
-    }
 }
 
 impl InputCause {

@@ -1,3 +1,6 @@
+ghost use Rattle.std.specs.Prelude.{◌≡◌};
+ghost use Rattle.input_reading.specs.Causes.{word_name};
+
 use thiserror::Error;
 
 /// Why the words of a line aren't read. Of a line the leftmost faulty word counts.
@@ -21,4 +24,17 @@ pub enum WordCause {
     /// The cluster has no node, or no resource, of this name.
     #[error("There is no node, resource, member or child of that name.")]
     UnknownName,
+}
+
+/// The name of a cause, as it is printed: that of its variant.
+pub(crate) fn word_name(cause: WordCause) -> &'static str
+    ensures { result.now ≡ word_name cause }
+{
+    match cause {
+        WordCause::UnknownStatement => "UnknownStatement",
+        WordCause::MissingWord => "MissingWord",
+        WordCause::ExtraWord => "ExtraWord",
+        WordCause::BadValue => "BadValue",
+        WordCause::UnknownName => "UnknownName",
+    }
 }

@@ -45,7 +45,7 @@ fn is_kept_by(decision: Decision, state: CellState) -> bool
 }
 
 /// Whether what runs in the cell may stay there by the decision.
-pub(crate) fn is_kept(cluster: &Cluster, states: &States, decision: Decision, node: NodeId) -> bool
+pub fn is_kept(cluster: &Cluster, states: &States, decision: Decision, node: NodeId) -> bool
     requires { length cluster.now.nodes ≤ 256 }
     ensures { result ≡ spec.is_kept_in cluster.now states.now decision node }
 {

@@ -20,13 +20,15 @@ use std::alloc::Global;
 
 /// The total of a decision on each node, and the nodes that it chooses.
 #[derive(Drop)]
-pub(crate) struct ChosenNodes {
-    pub(crate) totals: Vec<Score>,
-    pub(crate) nodes: NodeSet,
+pub struct ChosenNodes {
+    /// One for each node.
+    pub totals: Vec<Score>,
+    pub nodes: NodeSet,
 }
 
-/// What the decision chooses, with the table so far: of the nodes that it may choose the first ones, up to its cap.
-pub(crate) fn chosen_nodes(
+/// What the decision chooses, with the table so far: of the nodes that it may choose the first ones, up to its cap. It asks for a leaf of the
+/// cluster. What it gives is said of states and totals that some journal tells. Out of memory is the only other answer.
+pub fn chosen_nodes(
     alloc: Global,
     known: &Known,
     loaded: &LoadedTable,

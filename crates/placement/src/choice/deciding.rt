@@ -39,7 +39,7 @@ struct Turn {
 }
 
 /// What the decision makes of a cell that it chooses.
-fn target_by(decision: Decision) -> Target
+pub fn target_by(decision: Decision) -> Target
     ensures { result ≡ target_by decision }
 {
     match decision {

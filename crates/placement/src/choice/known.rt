@@ -16,20 +16,23 @@ use state_unpack::rights;
 
 /// A cluster in some states, with what it may do, the nodes that may run resources, and the totals before colocations.
 #[derive(Drop)]
-pub(crate) struct Known<'c> {
-    pub(crate) cluster: &'c Cluster,
-    pub(crate) states: &'c States,
-    pub(crate) scores: &'c ScoreTable,
-    pub(crate) rights: Rights,
-    pub(crate) usable: NodeSet,
-    pub(crate) ghost limits: { KeepsLimits cluster.now },
-    pub(crate) ghost told: { (es : List EventOf) (promotions : List PromotionOf)
+pub struct Known<'c> {
+    pub cluster: &'c Cluster,
+    pub states: &'c States,
+    pub scores: &'c ScoreTable,
+    /// What the cluster may do.
+    pub rights: Rights,
+    /// The nodes that may run resources.
+    pub usable: NodeSet,
+    pub ghost limits: { KeepsLimits cluster.now },
+    pub ghost told: { (es : List EventOf) (promotions : List PromotionOf)
         → states.now ≡ states_of cluster.now es promotions → rights ≡ rights_of cluster.now es },
-    pub(crate) ghost nodes: { (n : ℕ) → has usable n ≡ is_usable_by cluster.now states.now n },
+    pub ghost nodes: { (n : ℕ) → has usable n ≡ is_usable_by cluster.now states.now n },
 }
 
 impl<'c> Known<'c> {
-    pub(crate) fn new(cluster: &'c Cluster, states: &'c States, scores: &'c ScoreTable) -> Known<'c>
+    /// What decisions read of a cluster within the limits.
+    pub fn new(cluster: &'c Cluster, states: &'c States, scores: &'c ScoreTable) -> Known<'c>
         requires { KeepsLimits cluster.now }
         ensures cluster { result.cluster.now ≡ cluster.now }
         ensures states { result.states.now ≡ states.now }

@@ -14,9 +14,10 @@ use std::alloc::{AllocError, Global};
 
 /// A table, and how many leaves have a target on each node.
 #[derive(Drop)]
-pub(crate) struct LoadedTable {
-    pub(crate) table: Table,
-    pub(crate) loads: Vec<u32>,
+pub struct LoadedTable {
+    pub table: Table,
+    /// One for each node.
+    pub loads: Vec<u32>,
 }
 
 /// How many leaves have a target on the node.
@@ -60,12 +61,8 @@ fn count_if(loads: &mut Vec<u32>, node: NodeId, more: bool)
 }
 
 impl LoadedTable {
-    /// The table, which has the cells of the cluster, with its loads.
-    pub(crate) fn of(
-        alloc: Global,
-        cluster: &Cluster,
-        table: Table,
-    ) -> Result<LoadedTable, AllocError>
+    /// The table, which has the cells of the cluster, with its loads. Out of memory is the only other answer.
+    pub fn of(alloc: Global, cluster: &Cluster, table: Table) -> Result<LoadedTable, AllocError>
         requires limits { KeepsLimits cluster.now }
         requires nodes { table.nodes ≡ length cluster.now.nodes }
         requires cells { length table.targets ≡ length cluster.now.leaves * length cluster.now.nodes }
@@ -107,7 +104,7 @@ impl LoadedTable {
     }
 
     /// The same, in which the leaf has this target on each node of the set.
-    pub(crate) fn with_targets(
+    pub fn with_targets(
         self,
         cluster: &Cluster,
         leaf: LeafId,

@@ -14,7 +14,7 @@ use score::NodeSet;
 
 /// Whether what runs of the leaf may stay, as far as the cluster and its copies are asked: it runs in no more cells than it has copies (rule of this
 /// project).
-fn may_stay(known: &Known, leaf: LeafId) -> bool
+pub fn may_stay(known: &Known, leaf: LeafId) -> bool
     ensures { result ≡ spec.may_stay_in known.now.cluster.now known.now.states.now known.now.rights leaf }
 {
     known.rights.may_keep
@@ -22,7 +22,7 @@ fn may_stay(known: &Known, leaf: LeafId) -> bool
 }
 
 /// Whether the leaf has the target on the node that the decision asks for: a leaf is promoted only where it is placed.
-fn is_placed(table: &Table, decision: Decision, node: NodeId) -> bool
+pub fn is_placed(table: &Table, decision: Decision, node: NodeId) -> bool
     ensures { result ≡ choice.is_placed_for (targets_of table.now) decision node }
 {
     match decision {

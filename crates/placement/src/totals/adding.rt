@@ -19,8 +19,8 @@ fn add_terms(into: &mut Row, other: &Row)
     add_row(into, other);
 }
 
-/// A row with the terms of this one.
-pub(crate) fn copy_of(alloc: Global, row: &Row, nodes: u32) -> Result<Row, NoMemory>
+/// A row with the terms of this one. Out of memory is the only other answer.
+pub fn copy_of(alloc: Global, row: &Row, nodes: u32) -> Result<Row, NoMemory>
     requires few { nodes ≤ 256 }
     requires row { length row.now ≡ nodes }
     requires roomy { (n : ℕ) → IsRoomy (finite_at row.now n) }
@@ -33,8 +33,8 @@ pub(crate) fn copy_of(alloc: Global, row: &Row, nodes: u32) -> Result<Row, NoMem
     Ok(copy)
 }
 
-/// The terms of both rows.
-pub(crate) fn both(alloc: Global, one: &Row, other: &Row, nodes: u32) -> Result<Row, NoMemory>
+/// The terms of both rows. Out of memory is the only other answer.
+pub fn both(alloc: Global, one: &Row, other: &Row, nodes: u32) -> Result<Row, NoMemory>
     requires few { nodes ≤ 256 }
     requires one { length one.now ≡ nodes }
     requires other { length other.now ≡ nodes }

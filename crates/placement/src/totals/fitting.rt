@@ -24,8 +24,8 @@ fn has_any(set: &NodeSet, nodes: u32) -> bool
     false
 }
 
-/// Whether some node of the set has a total of 0 or more.
-pub(crate) fn leaves_a_node(
+/// Whether some node of the set has a total of 0 or more. Out of memory is the only other answer.
+pub fn leaves_a_node(
     alloc: Global,
     row: &Row,
     usable: &NodeSet,

@@ -28,7 +28,7 @@ fn rule_holds(cluster: &Cluster, rule: &RuleLocation, node: NodeId, moment: u64)
 }
 
 /// The nodes at which the rule holds at the moment.
-fn nodes_of(cluster: &Cluster, rule: &RuleLocation, moment: u64) -> NodeSet
+pub fn nodes_of(cluster: &Cluster, rule: &RuleLocation, moment: u64) -> NodeSet
     requires { length cluster.now.nodes ≤ 256 }
     ensures { (n : ℕ) → n < length cluster.now.nodes → has result n ≡ spec.rule_holds_by cluster.now moment rule.now n }
 {
@@ -155,7 +155,7 @@ fn named_nodes(cluster: &Cluster, leaf: LeafId, moment: u64) -> NodeSet
 }
 
 /// The nodes that a location must name for the leaf, and none does, at the moment.
-pub(crate) fn unnamed_nodes(cluster: &Cluster, leaf: LeafId, moment: u64) -> NodeSet
+pub fn unnamed_nodes(cluster: &Cluster, leaf: LeafId, moment: u64) -> NodeSet
     requires { IsValid cluster.now }
     ensures { (n : ℕ) → n < length cluster.now.nodes → has result n ≡ spec.is_unnamed cluster.now moment leaf n }
 {

@@ -24,7 +24,9 @@ pub fn is_active(cluster: &Cluster, states: &States, leaf: LeafId, node: NodeId)
     }
 }
 
-fn is_banned(cluster: &Cluster, states: &States, leaf: LeafId, node: NodeId) -> bool
+/// Whether its failures ban the leaf from a node of the cluster, by what is known of its cell. Where nothing is known they don't. It asks for at most 256
+/// nodes.
+pub fn is_banned(cluster: &Cluster, states: &States, leaf: LeafId, node: NodeId) -> bool
     requires { length cluster.now.nodes ≤ 256 }
     ensures { result ≡ spec.is_banned_by cluster.now states.now leaf node }
 {
@@ -35,7 +37,8 @@ fn is_banned(cluster: &Cluster, states: &States, leaf: LeafId, node: NodeId) -> 
     }
 }
 
-fn stickiness_of(cluster: &Cluster, leaf: LeafId) -> Score
+/// How much the leaf wants to stay where it is active, and 0 for a leaf that isn't there.
+pub fn stickiness_of(cluster: &Cluster, leaf: LeafId) -> Score
     ensures { result ≡ spec.stickiness_of cluster.now leaf }
 {
     match cluster.leaves.as_slice().get(leaf as usize) {

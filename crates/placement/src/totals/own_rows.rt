@@ -14,15 +14,16 @@ use std::alloc::{AllocError, Global};
 
 /// Of a cluster in some states: the rows of the own terms of all leaves, and the nodes that may run resources.
 #[derive(Drop)]
-pub(crate) struct OwnRows<'c> {
-    pub(crate) cluster: &'c Cluster,
-    pub(crate) states: &'c States,
-    pub(crate) usable: NodeSet,
+pub struct OwnRows<'c> {
+    pub cluster: &'c Cluster,
+    pub states: &'c States,
+    /// The nodes that may run resources.
+    pub usable: NodeSet,
     /// One for each leaf.
-    rows: Vec<Row>,
-    pub(crate) ghost limits: { KeepsLimits cluster.now },
-    pub(crate) ghost nodes: { (n : ℕ) → has usable n ≡ is_usable_by cluster.now states.now n },
-    pub(crate) ghost own: { AreOwnRows cluster.now states.now rows.items },
+    pub rows: Vec<Row>,
+    pub ghost limits: { KeepsLimits cluster.now },
+    pub ghost nodes: { (n : ℕ) → has usable n ≡ is_usable_by cluster.now states.now n },
+    pub ghost own: { AreOwnRows cluster.now states.now rows.items },
 }
 
 fn is_usable(cluster: &Cluster, states: &States, node: NodeId) -> bool
@@ -56,7 +57,8 @@ fn all_rows(alloc: Global, cluster: &Cluster, states: &States) -> Result<Vec<Row
 }
 
 impl<'c> OwnRows<'c> {
-    pub(crate) fn new(
+    /// The rows of a valid cluster. Out of memory is the only other answer.
+    pub fn new(
         alloc: Global,
         cluster: &'c Cluster,
         states: &'c States,
@@ -76,7 +78,7 @@ impl<'c> OwnRows<'c> {
     }
 
     /// The row of the own terms of a leaf that is there.
-    pub(crate) fn row(&self, leaf: LeafId) -> &Row
+    pub fn row(&self, leaf: LeafId) -> &Row
         requires { leaf < length self.now.cluster.now.leaves }
         ensures { IsRow (length self.now.cluster.now.nodes) (own_by self.now.cluster.now self.now.states.now leaf) result.now }
     {

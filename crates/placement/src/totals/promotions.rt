@@ -41,7 +41,7 @@ fn say(cluster: &Cluster, said: &mut Vec<Option<Score>>, promotion: &Promotion)
 }
 
 /// For each cell the first of these scores that is said of it.
-pub(crate) fn first_said(
+pub fn first_said(
     alloc: Global,
     cluster: &Cluster,
     promotions: &[Promotion],
@@ -58,7 +58,7 @@ pub(crate) fn first_said(
 }
 
 /// How much a leaf wants to be promoted on a node: what is said of it, else -1 (rule of this project).
-fn wish(cluster: &Cluster, said: &[Option<Score>], leaf: LeafId, node: NodeId) -> Score
+pub fn wish(cluster: &Cluster, said: &[Option<Score>], leaf: LeafId, node: NodeId) -> Score
     requires limits { KeepsLimits cluster.now }
     requires leaf { leaf < length cluster.now.leaves }
     requires node { node < length cluster.now.nodes }

@@ -47,7 +47,7 @@ fn listed_ties(alloc: Global, cluster: &Cluster) -> Result<Vec<Edge>, AllocError
 }
 
 /// The ties of the cluster, each behind those of its primary, where no chain of ties leads from a leaf back to it.
-pub(crate) fn ties_of(alloc: Global, cluster: &Cluster) -> Result<Vec<Edge>, AllocError>
+pub fn ties_of(alloc: Global, cluster: &Cluster) -> Result<Vec<Edge>, AllocError>
     requires { IsValid cluster.now }
     ensures ties { IfOk result (λ ties. spec.AreTies cluster.now ties.items) }
     ensures ordered { IfOk result (λ ties. HasNoLoop (length cluster.now.leaves) (spec.ties_of cluster.now) → AreEdgesInOrder ties.items) }
@@ -115,7 +115,7 @@ fn pass(ties: &[Edge], leaf: LeafId, marks: &mut Vec<bool>) -> bool
 
 /// The leaves that must be with the leaf through a chain of ties. Passes are made until one finds none: where each tie stands behind those of
 /// its primary, the second finds none.
-pub(crate) fn tied(
+pub fn tied(
     alloc: Global,
     cluster: &Cluster,
     ties: &[Edge],

@@ -131,7 +131,7 @@ fn actions_of(
 }
 
 /// All that has to be done: the fences, and leaf by leaf and node by node the probes, steps, monitors and migrations that bring the
-/// cluster to its targets (Pacemaker Administration, "Probes" and recovery; Pacemaker Explained, "Migrating Resources"). Each action is
+/// cluster to its targets (Pacemaker Explained, "Monitoring Resources for Failure", recovery and "Migrating Resources"). Each action is
 /// there once, in no order that is told.
 ///
 /// The states are those that some journal tells of the cluster, the rights those that it gives, and the pins of what was placed are of

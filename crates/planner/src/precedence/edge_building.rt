@@ -5,6 +5,7 @@ ghost use Rattle.std.specs.List.{range_with_len};
 ghost use Rattle.planner.specs.Gates.{join_edges, key_at};
 ghost use Rattle.planner.specs.Joins.{first_joins, join as spec_join};
 ghost use Rattle.planner.specs.Inner.Places.{places_of};
+ghost use Rattle.planner.specs.Precede.{first_gates};
 ghost use Rattle.planner.specs.Rooms as rooms;
 ghost use Rattle.planner.specs.Rooms.{Builds};
 
@@ -129,7 +130,7 @@ impl Building {
         requires none { self.old.list.items ≡ [] }
         requires gate { self.old.base ≡ length known.now.actions.now }
         ensures builds { OnOk result (Builds known.now.cluster.now known.now.actions.now (places_of known.now.actions.now) self.new.list.items self.new.base first_joins) }
-        ensures gates { OnOk result (self.new.base ≤ length known.now.actions.now + 1027001) }
+        ensures gates { OnOk result (self.new.base ≤ length known.now.actions.now + first_gates known.now.cluster.now) }
     {
         let probes = join(Side::Probes, Side::Gives);
         self.add(known, probes, places)?;
@@ -155,7 +156,7 @@ impl Building {
 pub(crate) fn first_edges(alloc: Global, known: &Known) -> Result<Building, AllocError>
     ensures builds { IfOk result (λ building. Builds known.now.cluster.now known.now.actions.now (places_of known.now.actions.now) building.list.items
         building.base first_joins) }
-    ensures gates { IfOk result (λ building. building.base ≤ length known.now.actions.now + 1027001) }
+    ensures gates { IfOk result (λ building. building.base ≤ length known.now.actions.now + first_gates known.now.cluster.now) }
 {
     let count = known.actions.len() as u32;
     let places = all_places(alloc, count)?;

@@ -7,7 +7,7 @@ ghost use Rattle.cluster_types.specs.Plans.{most_edges};
 ghost use Rattle.cluster_types.specs.Valid.{IsValid};
 ghost use Rattle.planner.specs.Joins.{joins_of};
 ghost use Rattle.planner.specs.Inner.Places.{places_of};
-ghost use Rattle.planner.specs.Precede.{AreEdges};
+ghost use Rattle.planner.specs.Precede.{AreEdges, first_gates};
 ghost use Rattle.planner.specs.Rooms.{Builds, IsActionWithin};
 
 use crate::precedence::edge_building::{Building, first_edges};
@@ -25,7 +25,7 @@ fn all_joins(alloc: Global, known: &Known) -> Result<Building, AllocError>
     ensures builds { IfOk result (λ building. Builds known.now.cluster.now known.now.actions.now (places_of known.now.actions.now) building.list.items
         building.base (joins_of known.now.cluster.now)) }
     ensures gates { IfOk result (λ building. building.base
-        ≤ length known.now.actions.now + 1027001 + 512 * length known.now.cluster.now.colocations + 512 * length known.now.cluster.now.orders) }
+        ≤ length known.now.actions.now + first_gates known.now.cluster.now + 512 * length known.now.cluster.now.colocations + 512 * length known.now.cluster.now.orders) }
 {
     let mut building = first_edges(alloc, known)?;
     add_colocations(&mut building, alloc, known)?;

@@ -10,13 +10,13 @@ add_serials-requires-clause-enough c =
 pub add_serials-requires-clause-room : goal.add_serials-requires-clause-room
 add_serials-requires-clause-room c =
     let known = c.args.known.now in
-    room_for_all known.actions.now known.cluster.now c.in_ok-building.building.base known.rules known.few c.in_ok-building.ensures.gates
+    room_for_all known.actions.now known.cluster.now c.in_ok-building.building.base known.rules known.leaves known.cells known.few c.in_ok-building.ensures.gates
 
 pub returns : goal.returns
 returns c =
     let known = c.args.known.now in
     whole known.cluster.now known.actions.now known.inside c.in_ok-building.building.list.items c.add_serials.new.building.list.items
     c.in_ok-building.building.base c.add_serials.new.building.base c.in_ok-building.ensures.builds c.in_ok-add_serials.ensures.adds
-    (few_positions known.actions.now known.cluster.now c.in_ok-building.building.base c.add_serials.new.building.base known.rules c.in_ok-building.ensures.gates
+    (few_positions known.actions.now known.cluster.now c.in_ok-building.building.base c.add_serials.new.building.base c.in_ok-building.ensures.gates
     c.in_ok-add_serials.ensures.room)
     _ c.from.ensures refl
