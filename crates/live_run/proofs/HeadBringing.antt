@@ -14,7 +14,8 @@ use Rattle.crm_lex.proofs.PhysicalLines.{concat-lines, few_lines}
 use Rattle.faults.specs.declared.fault.Fault.{Fault}
 use Rattle.faults.specs.declared.fault.Fault.TheVariants.{At, NoMemory}
 use Rattle.live_run.specs.Followed.{bytes_of, count_lines}
-use Rattle.live_run.specs.Heads.{AllGoOnBehind, BringsHead, CanGoOn, HeadVerdict, KeepsBytes, LineOfHead, begins_results, came_to, ends_head, goes_on_behind, has_no_words, head_behind, head_verdict, lacks_memory, line_by_size, line_by_words, line_of_head, passes_limit, progress, refused, WhileWell, stop_for, taken, too_large, verdict_by}
+use Rattle.live_run.specs.Heads.{AllGoOnBehind, CanGoOn, HeadVerdict, KeepsBytes, LineOfHead, begins_results, ends_head, goes_on_behind, has_no_words, head_behind, head_verdict, line_by_size, line_by_words, line_of_head, passes_limit, progress, refused, taken, too_large, verdict_by}
+use Rattle.live_run.specs.Inner.HeadSteps.{BringsHead, came_to, lacks_memory, WhileWell, stop_for}
 use Rattle.live_run.specs.declared.head.HeadStop.{HeadStop}
 use Rattle.live_run.specs.declared.head.HeadStop.TheVariants as stop
 use Rattle.live_run.proofs.Bringing.{handed_answer, handed_cut, long_room, longest_is, next_is, numbers_fit, room_is, some_if, stop_is}

@@ -7,7 +7,8 @@ use Rattle.cluster_io.specs.declared.line_step.LineStep.TheVariants.{Line, Faile
 use Rattle.crm_lex.specs.RawLines.{physical_lines, raw_lines}
 use Rattle.crm_lex.specs.Reading.{reads_line}
 use Rattle.live_run.specs.Followed.{bytes_of}
-use Rattle.live_run.specs.Heads.{HasHeadGoneOn, HasTaken, HeadVerdict, StillAmid, came_to, goes_on_behind, line_by_words, line_of_head, taken, verdict_by}
+use Rattle.live_run.specs.Heads.{HasHeadGoneOn, HasTaken, HeadVerdict, goes_on_behind, line_by_words, line_of_head, taken, verdict_by}
+use Rattle.live_run.specs.Inner.HeadSteps.{StillAmid, came_to}
 use Rattle.live_run.specs.declared.head.HeadStop.{HeadStop}
 use Rattle.live_run.specs.declared.head.HeadStop.TheVariants as stop
 use Rattle.live_run.specs.Inner.ReadLaws.{bytes_joined, lines_joined}

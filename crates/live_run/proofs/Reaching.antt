@@ -32,7 +32,8 @@ use Rattle.live_run.specs.declared.course.Course.TheVariants as course
 use Rattle.live_run.specs.declared.line_stop.LineStop.{LineStop}
 use Rattle.live_run.specs.declared.line_stop.LineStop.TheVariants as why
 use Rattle.live_run.specs.Ends.{AsksForMore, EndGets, CutRunGives, IsDueText, WholeRunGives, run_lines_text}
-use Rattle.live_run.specs.Reached.{AskedFor, AskedForAll, EndsCut, EndsLines, IsBrokenOff, Reaches, in_run, of_refusal, of_unexpected, results_behind}
+use Rattle.live_run.specs.Reached.{AskedFor, AskedForAll, IsBrokenOff, Reaches, in_run, of_refusal, of_unexpected, results_behind}
+use Rattle.live_run.specs.Inner.RunEnds.{EndsCut, EndsLines}
 use Rattle.live_run.specs.declared.live_end.LiveEnd.{LiveEnd}
 use Rattle.live_run.specs.declared.live_end.LiveEnd.TheVariants as end
 use Rattle.live_run.proofs.Behind.{answer_in, runs_back, says_next, last_one, line_of_last, answers_size}

@@ -1,5 +1,5 @@
 -- The head of an input: its logical lines up to the one that begins the results, or all where none does (rule of this project).
-use Rattle.std.specs.Prelude.{◌≡◌, ℕ, ◌+◌, ◌-◌, ◌^◌, ◌≤◌, Bool, true, false, if◌then◌else◌, Option, Some, None, Result, Ok, Err, List, [], ◌∷◌, ◌++◌, length, codes, option_map, IfSome}
+use Rattle.std.specs.Prelude.{◌≡◌, ℕ, ◌+◌, ◌-◌, ◌^◌, ◌≤◌, Bool, false, if◌then◌else◌, Option, None, Result, Ok, Err, List, [], ◌∷◌, ◌++◌, length, codes, option_map, IfSome}
 use Rattle.std.specs.List.{concat}
 use Rattle.crm_lex.specs.Names.{is}
 use Rattle.cluster_io.specs.NextLine.{holds_line, line_answer, IsUndecided}
@@ -76,19 +76,6 @@ AllGoOnBehind longest room n (lines ∷ more) =
 abbrev pub head_behind : List ℕ → Reading → List ℕ → HeadVerdict
 head_behind before reading left = head_verdict reading.longest before reading.room reading.next (raw_lines (reading.held ++ left))
 
--- the head where reading came to its end or stopped, with this text behind it and the reader there. Before that, and where the source or memory
--- failed, it is what is still to come
-abbrev pub came_to : Option (Result (Unit {0}) HeadStop) → List ℕ → Reading → HeadVerdict → HeadVerdict
-came_to (Some (Ok end)) text reading others = taken text reading.next reading.room
-came_to (Some (Err (stop.Refused line why))) text reading others = refused line why
-came_to (Some (Err stop.TooLarge)) text reading others = too_large
-came_to _ text reading others = others
-
--- whether it was memory that failed
-abbrev pub lacks_memory : Option (Result (Unit {0}) HeadStop) → Bool
-lacks_memory (Some (Err stop.NoMemory)) = true
-lacks_memory _ = false
-
 -- a text and the lines of a reader behind it
 pub record ReaderProgress : Type 0 where
   pub text : List ℕ
@@ -97,26 +84,10 @@ pub record ReaderProgress : Type 0 where
 abbrev pub progress : List ℕ → Reading → ReaderProgress
 progress text reading = record { text = text; reading = reading }
 
--- reading on brought this of the head that was to come, where the source tells its bytes
-abbrev pub BringsHead : Option (Result (Unit {0}) HeadStop) → ReaderProgress → ReaderProgress → Option (List ℕ) → Option (List ℕ) → Type 0
-BringsHead came old new before after = lacks_memory came ≡ false
-    → option_map (head_behind old.text old.reading) before
-    ≡ option_map (λ left. came_to came new.text new.reading (head_behind new.text new.reading left)) after
-
 -- all bytes, those of the text and those to come, are as before
 abbrev pub KeepsBytes : ReaderProgress → ReaderProgress → Option (List ℕ) → Option (List ℕ) → Type 0
 KeepsBytes old new before after =
     option_map (λ (left : List ℕ). old.text ++ (old.reading.held ++ left)) before ≡ option_map (λ (left : List ℕ). new.text ++ (new.reading.held ++ left)) after
-
--- where reading came to the end of the head, or goes on
-abbrev pub WhileWell : Option (Result (Unit {0}) HeadStop) → Type 0 → Type 0
-WhileWell (Some (Err why)) P = Unit {0}
-WhileWell _ P = P
-
--- why a line stops the reading that can't be cut into words. A line is cut without memory, so that the second case never comes
-abbrev pub stop_for : Fault LexCause → HeadStop
-stop_for (At line why) = stop.Refused line why
-stop_for NoMemory = stop.TooLarge
 
 -- the head of which no text is given: a line is refused, or goes past the limit. Nothing is said where the source or memory failed
 abbrev pub IsStopOf : HeadVerdict → HeadStop → Type 0
@@ -137,12 +108,6 @@ pub record HasHeadGoneOn (old new : Reading) (text : List ℕ) (before after : O
   pub taken : HasTaken old new text before after
   pub same_size : new.longest ≡ old.longest
   pub goes_on : IfSome after (λ left. AllGoOnBehind old.longest old.room old.next taken.lines)
-
--- reading goes on, or the source failed
-abbrev pub StillAmid : Option (Result (Unit {0}) HeadStop) → Type 0 → Type 0
-StillAmid None P = P
-StillAmid (Some (Err stop.ReadFault)) P = P
-StillAmid _ P = Unit {0}
 
 -- reading stopped amid the head: behind each line that was taken whole the head goes on, and this is the text of these lines. No further line was taken
 -- whole, and what is held gives no answer yet

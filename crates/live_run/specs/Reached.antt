@@ -17,7 +17,6 @@ use Rattle.live_run.specs.Coming.{Coming, Lines, coming_of}
 use Rattle.live_run.specs.Courses.{answers_to_come, starting}
 use Rattle.live_run.specs.Followed.{AreNear, EndsInOne, StandFirst, bytes_of, said_by}
 use Rattle.live_run.specs.declared.line_stop.LineCause.{LineCause}
-use Rattle.live_run.specs.declared.line_stop.LineStop.{LineStop}
 use Rattle.live_run.specs.declared.line_stop.LineStop.TheVariants as why
 use Rattle.input_reading.specs.declared.results.result_lines.ResultLine.{ResultLine}
 use Rattle.run_safety.specs.Followed.{EndsBetween}
@@ -178,18 +177,3 @@ module _ (c : Cluster) (journal : Journal) (reading : Reading) (left : List ℕ)
     Reaches end.WriteFault = IsCutOff
     Reaches end.NoMemory = HasNoMemory
     Reaches how = HasWritten how
-
--- what a run ends with that asks for a line which isn't read, by why it isn't: `refused LINE CAUSE` is written, or a front of it where the sink failed
-abbrev pub EndsLines : Option LineStop → LiveEnd → Option (List ℕ) → Option (List ℕ) → Type 0
-EndsLines (Some (why.Refused n cause)) end.Refused before after = Adds before (line_refusal_text n cause) after
-EndsLines (Some (why.Refused n cause)) end.WriteFault before after = AddsPrefix (line_refusal_text n cause) before after
-EndsLines (Some why.TooLarge) end.TooLarge before after = after ≡ before
-EndsLines (Some why.ReadFault) end.ReadFault before after = after ≡ before
-EndsLines None end.ReadFault before after = after ≡ before
-EndsLines stop how before after = ⊥
-
--- what a run ends with that is cut: this last line is written, or a front of it where the sink failed
-abbrev pub EndsCut : List ℕ → LiveEnd → Option (List ℕ) → Option (List ℕ) → Type 0
-EndsCut text end.Unexpected before after = Adds before text after
-EndsCut text end.WriteFault before after = AddsPrefix text before after
-EndsCut text how before after = ⊥

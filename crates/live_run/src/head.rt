@@ -8,7 +8,8 @@ ghost use Rattle.crm_lex.specs.RawLines.{physical_lines};
 ghost use Rattle.cluster_io.specs.Readings.{Reading};
 ghost use Rattle.crm_lex.specs.Reading.{kept, reads_line};
 ghost use Rattle.faults.specs.declared.fault.Fault.TheVariants as found;
-ghost use Rattle.live_run.specs.Heads.{BringsHead, CanGoOn, HasHeadGoneOn, HeadVerdict, IsAmid, IsStopOf, KeepsBytes, StillAmid, WhileWell, begins_results, came_to, head_behind, lacks_memory, line_by_words, progress, stop_for, taken, verdict_by};
+ghost use Rattle.live_run.specs.Heads.{CanGoOn, HasHeadGoneOn, HeadVerdict, IsAmid, IsStopOf, KeepsBytes, begins_results, head_behind, line_by_words, progress, taken, verdict_by};
+ghost use Rattle.live_run.specs.Inner.HeadSteps.{BringsHead, StillAmid, WhileWell, came_to, lacks_memory, stop_for};
 
 use cluster_io::{LineReader, LineStep, Source};
 use crm_lex::{LexCause, LexFault, NoMemory, WordBuf, lex_one, line_count};
