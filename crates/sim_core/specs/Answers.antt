@@ -12,18 +12,6 @@ use Rattle.input_reading.specs.Reading.{most_bytes}
 use Rattle.sim_core.specs.Replay.{IsBegun, coming_behind}
 use Rattle.sim_core.specs.Table.{Intake, nothing, whole, live, intake, takes_memory, Gets}
 
--- a status that comes with a text of its own
-abbrev pub IsOutcome : Status → Type 0
-IsOutcome Done = Unit {0}
-IsOutcome NoMemory = ⊥
-IsOutcome Usage = ⊥
-IsOutcome ReadFault = ⊥
-IsOutcome WriteFault = ⊥
-IsOutcome Refused = Unit {0}
-IsOutcome Unexpected = Unit {0}
-IsOutcome TooLarge = ⊥
-IsOutcome NotLawful = Unit {0}
-
 -- the input was read to its end, and had room
 pub record IsReadWhole (input : List ℕ) (left : Option (List ℕ)) : Type 0 where
   pub room : length input ≤ most_bytes
