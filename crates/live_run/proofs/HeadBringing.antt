@@ -1,6 +1,7 @@
 -- What one answer of a reader of lines brings of the head of an input.
-use Rattle.std.proofs.Common.{◌≡◌, ℕ, ◌+◌, ◌-◌, ◌^◌, ◌≤◌, ◌<◌, Bool, true, false, if◌then◌else◌, Option, Some, None, Result, Ok, Err, List, [], ◌∷◌, ◌++◌, length, length-append, option_map, append_assoc, refl, ap, sym, ◌∙◌, arith}
+use Rattle.std.proofs.Common.{◌≡◌, ℕ, ◌+◌, ◌-◌, ◌^◌, ◌≤◌, ◌<◌, Bool, true, false, if◌then◌else◌, Option, Some, None, Result, Ok, Err, List, [], ◌∷◌, ◌++◌, length, length-append, option_map, append_assoc, refl, ap, subst, sym, ◌∙◌, arith}
 use Rattle.std.specs.List.{concat}
+use Rattle.std.proofs.lemmas.List.Sums.{sum_by-cons}
 use Rattle.cluster_io.specs.NextLine.{reader_answer, first_line_of, line_answer}
 use Rattle.cluster_io.specs.Readings.{Reading, ReaderAnswered}
 use Rattle.cluster_io.specs.declared.line_step.LineStep.{LineStep}
@@ -99,12 +100,15 @@ pub on_more : (longest room n : ℕ) (lines : List (List (List ℕ))) (line : Li
     → next ≡ n + count_lines lines → line_of_head longest left next line ≡ goes_on_behind → AllGoOnBehind longest room n lines
     → AllGoOnBehind longest room n (lines ++ line ∷ [])
 on_more longest room n [] line left next at_room at_line says all =
-    let here : left ≡ room = omega (arith, at_room) in
-    let same : next ≡ n = omega (arith, at_line) in
+    let none : length (bytes_of []) ≡ 0 = refl in
+    let no_lines : count_lines [] ≡ 0 = refl in
+    let here : left ≡ room = omega (arith, at_room, none) in
+    let same : next ≡ n = omega (arith, at_line, no_lines) in
     (subst (λ (k : ℕ). line_of_head longest room k line ≡ goes_on_behind) same (subst (λ (k : ℕ). line_of_head longest k next line ≡ goes_on_behind) here says), tt)
 on_more longest room n (first ∷ lines) line left next at_room at_line says all =
     let size = length-append (concat first) (bytes_of lines) in
-    (all.0, on_more longest (room - length (concat first)) (n + length first) lines line left next (omega (arith, at_room, size)) (omega (arith, at_line)) says all.1)
+    let count = sum_by-cons (λ (one : List (List ℕ)). length one) first lines in
+    (all.0, on_more longest (room - length (concat first)) (n + length first) lines line left next (omega (arith, at_room, size)) (omega (arith, at_line, count)) says all.1)
 
 pub line_brings : (came : Option (Result (Unit {0}) HeadStop)) (text : List ℕ) (old new : Reading) (before after : Option (List ℕ)) → ReaderAnswered Line old new before after
     → ((others : HeadVerdict) → came_to came (text ++ new.raw) new others

@@ -1,5 +1,5 @@
 -- What a run over result lines has read and written at each of its ends.
-use Rattle.std.proofs.Common.{◌≡◌, ◌≢◌, ◌⊎◌, ◌↔◌, inl, inr, ℕ, ◌+◌, ◌-◌, Bool, true, false, Option, Some, None, List, [], ◌∷◌, ◌++◌, is_none, map, option_map, IfSome, length, append_assoc, append-nil, refl, ap, sym, subst, ◌∙◌, arith}
+use Rattle.std.proofs.Common.{◌≡◌, ◌≢◌, ◌⊎◌, ◌↔◌, inl, inr, ℕ, ◌-◌, Bool, true, false, Option, Some, None, List, [], ◌∷◌, ◌++◌, is_none, map, option_map, IfSome, length, append_assoc, append-nil, refl, ap, sym, subst, ◌∙◌, arith}
 use Rattle.std.proofs.Math.Seq.{take-length}
 use Rattle.std.proofs.lemmas.Grind.{flat_map-append}
 use Rattle.std.proofs.lemmas.List.{append_cancel_right, map-append}
@@ -16,8 +16,6 @@ use Rattle.cluster_types.specs.declared.run.RunLine.{RunLine}
 use Rattle.cluster_types.specs.declared.run.RunLine.TheVariants as line
 use Rattle.cluster_types.specs.Journals.{moment_of}
 use Rattle.cluster_types.specs.Runs.{due, IsCutRun, IsRunSoFar, IsStoppedRun, IsWholeRun}
-use Rattle.cluster_types.specs.Sources.{told}
-use Rattle.cluster_types.specs.Steps.{begins}
 use Rattle.cluster_types.specs.Texts.{run_line}
 use Rattle.crm_lex.specs.RawLines.{raw_lines}
 use Rattle.live_run.specs.Coming.{Coming, coming, no_more}
@@ -25,7 +23,6 @@ use Rattle.live_run.specs.Courses.{SourceState, answers_to_come, in_course, rest
 use Rattle.live_run.specs.Followed.{AreNear, EndsInOne, SourceFollows, HasAnswered, HasBroken, HasQuestionFailed, HasStopped, RestsBehind, StandFirst, View, answers, by_line, by_source, bytes_of, last_line, results_first, said_by, stays}
 use Rattle.live_run.specs.Saying.{is_last}
 use Rattle.live_run.specs.Writing.{line_refusal_text}
-use Rattle.cluster_io.specs.declared.sink.WriteFault.{WriteFault}
 use Rattle.live_run.proofs.Written.{prefix_first, prefix_then}
 use Rattle.live_run.specs.declared.course.Course.{Course}
 use Rattle.live_run.specs.declared.course.Course.TheVariants as course

@@ -1,5 +1,5 @@
-use Rattle.std.proofs.Common.{rules, ◌≡◌, Option, List, ℕ, Result, Some, Err, false, ap, sym, ◌∙◌}
-use Rattle.cluster_io.specs.LineReaders.{reading_of, source_of}
+use Rattle.std.proofs.Common.{rules, ◌≡◌, Some, Err, false, ap, ◌∙◌}
+use Rattle.cluster_io.specs.LineReaders.{reading_of}
 use Rattle.live_run.specs.Inner.HeadSteps.{lacks_memory}
 use Rattle.live_run.specs.declared.head.HeadStop.{HeadStop}
 use Rattle.live_run.specs.declared.head.HeadStop.TheVariants as stop
