@@ -1,4 +1,4 @@
-use Rattle.std.proofs.Common.{◌≡◌, ◌+◌, Option, Some, None, ◌∙◌, arith}
+use Rattle.std.proofs.Common.{◌≡◌, ◌+◌, Option, Some, None, ◌∙◌}
 use Rattle.simulated.specs.declared.turn.Turn.{Turn}
 use Rattle.cases.specs.Draws.{draw}
 use Rattle.simulated.specs.Inner.NodeTurns.{draws_for_node, node_turn}
