@@ -3,6 +3,7 @@ pub mod Marks
 pub mod OneReading
 pub mod Faults
 pub mod FewResults
+pub mod Told
 pub mod ValidInput
 pub mod ValidHead
 pub mod ValidTrace
