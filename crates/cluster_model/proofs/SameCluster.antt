@@ -13,7 +13,7 @@ use Rattle.cluster_model.specs.declared.resolution.directory.Directory.{Director
 use Rattle.cluster_model.specs.declared.resolution.fault.ModelCause.{ModelCause}
 use Rattle.cluster_model.specs.Colocations.{colocations_in}
 use Rattle.cluster_model.specs.Counting.{all_counted, counted_with, counts_of, nothing_counted}
-use Rattle.cluster_model.specs.Directories.{directory_of, members_from, members_in, numbered_from}
+use Rattle.cluster_model.specs.Directories.{directory_of, grouped_from, members_in, numbered_from}
 use Rattle.cluster_model.specs.FirstFaults.{first_fault}
 use Rattle.cluster_model.specs.Locations.{location_in, rule_locations_in}
 use Rattle.cluster_model.specs.Nodes.{node_in}
@@ -42,7 +42,7 @@ properties-lineless statements =
       setting-lineless (codes "batch-limit") statements,
     ) refl
 
-members-lineless : (n : ℕ) → IsLineless (members_from n)
+members-lineless : (n : ℕ) → IsLineless (grouped_from n)
 members-lineless n [] = refl
 members-lineless n (s ∷ statements) = ap (λ (more : List (List ℕ × ℕ)). map (λ member. (member, n)) (members_in s.form) ++ more) (members-lineless (n + 1) statements)
 

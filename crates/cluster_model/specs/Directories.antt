@@ -36,13 +36,13 @@ members_in (form.Group id members description params meta) = members
 members_in _ = []
 
 -- the members of the groups of statements, each with the number of its statement, counted on from one
-abbrev pub members_from : ℕ → List Statement → List (List ℕ × ℕ)
-members_from n [] = []
-members_from n (s ∷ statements) = map (λ member. (member, n)) (members_in s.form) ++ members_from (n + 1) statements
+abbrev pub grouped_from : ℕ → List Statement → List (List ℕ × ℕ)
+grouped_from n [] = []
+grouped_from n (s ∷ statements) = map (λ member. (member, n)) (members_in s.form) ++ grouped_from (n + 1) statements
 
 -- each member of a group, with the number of the statement of its group
 abbrev pub groups_of : List Statement → List (List ℕ × ℕ)
-groups_of statements = members_from 0 statements
+groups_of statements = grouped_from 0 statements
 
 abbrev pub traits_of : List (List ℕ × ℕ) → Leaf → Traits
 traits_of groups leaf = record {

@@ -21,8 +21,8 @@ module _ {V : Type 0} where
   value_at rows n = option_map (λ (row : List ℕ × V). row.1) (slice_get rows n)
 
 -- the place that a map has for a name
-abbrev pub place_in : BTreeMap (Bor (List ℕ)) ℕ → List ℕ → Option ℕ
-place_in places name = lookup (shown_rows places.entries) name
+abbrev pub place_found : BTreeMap (Bor (List ℕ)) ℕ → List ℕ → Option ℕ
+place_found places name = lookup (shown_rows places.entries) name
 
 -- a place of a name, unless it has one already
 abbrev pub or_place : Option ℕ → List ℕ → List ℕ → ℕ → Option ℕ
@@ -30,4 +30,4 @@ or_place place each name n = option_or place (if is each name then Some n else N
 
 -- the map has the place of the first row of each name
 pub record HasFirstPlaces {V : Type 0} (places : BTreeMap (Bor (List ℕ)) ℕ) (rows : List (List ℕ × V)) : Type 0 where
-  pub has : (name : List ℕ) → place_in places name ≡ first_place rows name
+  pub has : (name : List ℕ) → place_found places name ≡ first_place rows name

@@ -1,5 +1,5 @@
 ghost use Rattle.std.specs.Prelude.{◌≡◌, ◌++◌, ◌∷◌, [], List, ℕ, OnErr, OnOk};
-ghost use Rattle.cluster_model.specs.TableRows.{or_place, place_in, shown_rows, value_at};
+ghost use Rattle.cluster_model.specs.TableRows.{or_place, place_found, shown_rows, value_at};
 ghost use Rattle.cluster_model.specs.Tables.{lookup};
 
 use cluster_types::NoMemory;
@@ -39,7 +39,7 @@ fn value_at<V: Copy>(rows: &[(&[u8], V)], place: usize) -> Option<V>
 
 /// The place of a name.
 fn place_of(places: &BTreeMap<&[u8], usize>, name: &[u8]) -> Option<usize>
-    ensures { result ≡ place_in places.now name.now }
+    ensures { result ≡ place_found places.now name.now }
 {
     places.get(name).copied()
 }
@@ -50,8 +50,8 @@ fn keep_place<'n>(
     name: &'n [u8],
     place: usize,
 ) -> Result<(), NoMemory>
-    ensures ok { OnOk result ((each : List ℕ) → place_in places.new each ≡ or_place (place_in places.old each) each name.now place) }
-    ensures err { OnErr result ((each : List ℕ) → place_in places.new each ≡ place_in places.old each) }
+    ensures ok { OnOk result ((each : List ℕ) → place_found places.new each ≡ or_place (place_found places.old each) each name.now place) }
+    ensures err { OnErr result ((each : List ℕ) → place_found places.new each ≡ place_found places.old each) }
 {
     if place_of(places, name).is_none() {
         places.insert(name, place)?;

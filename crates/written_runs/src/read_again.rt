@@ -15,7 +15,8 @@ ghost use Rattle.input_reading.specs.declared.input.reading.Input.{Input as Inpu
 ghost use Rattle.input_reading.specs.declared.results.result_lines.ResultLine.{ResultLine as ResultOf};
 ghost use Rattle.input_reading.specs.Reading.{ReadsInput};
 ghost use Rattle.input_reading.specs.Written.{IsLineOf, IsNumber, ReadsAgain};
-ghost use Rattle.written_runs.specs.Fitting.{AnswersFit, AnswerFieldsFit, IntervalsFit};
+ghost use Rattle.input_reading.specs.ResultFields.{AnswerFieldsFit};
+ghost use Rattle.written_runs.specs.Fitting.{AnswersFit, IntervalsFit};
 
 /// Each line that a run of a valid cluster prints is a line of the cluster: its leaves and nodes are the cluster's, the rule that holds a leaf back has a name,
 /// and its numbers have 32 bits, as long as those of the transitions have.
@@ -45,11 +46,10 @@ pub fn texts_of_runs_read_again()
         → ReadsAgain c ((told ++ call) ++ closing) }
 {}
 
-/// What is read of a text is so: the intervals of its monitors and reports have 32 bits, its exit codes are bytes, and its answers are few.
+/// What is read of a text is so: the intervals of its monitors have 32 bits, and its answers are few. (That its exit codes and the intervals of its reports
+/// fit is a law of `input_reading`.)
 pub fn what_is_read_fits()
     ensures intervals { (text : List ℕ) (input : InputOf) → ReadsInput text input → IntervalsFit input.head.cluster }
-    ensures answers { (text : List ℕ) (input : InputOf) → ReadsInput text input
-        → AllByRecursion AnswerFieldsFit (map (λ (result : ResultOf). result.answer) input.results) }
     ensures few { (text : List ℕ) (input : InputOf) → ReadsInput text input → length (map (λ (result : ResultOf). result.answer) input.results) + 1 < 2 ^ 32 }
 {}
 

@@ -1,8 +1,9 @@
 use Rattle.std.specs.Prelude.{map}
 use Rattle.input_reading.specs.declared.results.result_lines.ResultLine.{ResultLine}
+use Rattle.input_reading.proofs.AnswersFit.{read_answers}
 use Rattle.input_reading.proofs.TextAgain.{text_again}
 use Rattle.input_reading.proofs.ValidInput.{cluster_valid}
-use Rattle.written_runs.proofs.ReadFits.{read_answers, read_few, read_intervals}
+use Rattle.written_runs.proofs.ReadFits.{read_few, read_intervals}
 use Rattle.written_runs.proofs.WrittenLines.{told_written}
 use Rattle.written_runs.proofs.read_again.runs_of_texts_read_again.Goals as goal
 

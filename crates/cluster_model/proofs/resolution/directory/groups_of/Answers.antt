@@ -1,6 +1,6 @@
 use Rattle.std.proofs.Common.{rules, ◌≡◌, ◌+◌, ◌++◌, ◌∷◌, ℕ, List, drop, map, refl, sym, ap, ◌∙◌}
 use Rattle.std.proofs.lemmas.List.{append_assoc, drop_more}
-use Rattle.cluster_model.specs.Directories.{members_from, members_in}
+use Rattle.cluster_model.specs.Directories.{grouped_from, members_in}
 use Rattle.cluster_model.proofs.resolution.directory.groups_of.Goals as goal
 
 pub loop-statement-preserved : goal.loop-statement-preserved
@@ -15,5 +15,5 @@ loop-statement-preserved c =
     let added : c.add_members.new.groups ≡ l.groups ++ members = search rules in
     let next : c.in_ok-number.number ≡ l.number + 1 = search rules in
     l.invariant
-    ∙ (ap (λ more. l.groups ++ members_from l.number more) front
-    ∙ (sym (append_assoc l.groups members (members_from (l.number + 1) rest)) ∙ rw (added, next) refl))
+    ∙ (ap (λ more. l.groups ++ grouped_from l.number more) front
+    ∙ (sym (append_assoc l.groups members (grouped_from (l.number + 1) rest)) ∙ rw (added, next) refl))
