@@ -27,3 +27,4 @@ pub mod LocationRelated
 pub mod LineRelated
 pub mod OrderIsSaid
 pub mod OrderIsRead
+mod StatementExamples
