@@ -1,5 +1,6 @@
-# Proves and builds the program; `cekpayo` reads this file where it must. It uses `top`, `program`, `me` and `is_fresh` of that script.
-# CEKPAYO_PROGRESS is how often, in seconds, a build says how far it is where standard error is no terminal.
+# Proves and builds the program; `cekpayo` reads this file where it must. It uses `top`, `program`, `me` and `is_fresh`
+# of that script. CEKPAYO_PROGRESS is how often, in seconds, a build says how far it is where standard error is no
+# terminal.
 
 # What a build takes, as measured: docs/ARCHITECTURE.md.
 readonly minutes=103 memory_of_one=5600 disk=11000 # processor minutes, and MB
@@ -27,7 +28,8 @@ count_ready() {
   (cd "$top/crates" && find ./*/out/rlib -type f -newer "$1" 2>/dev/null | cut -d/ -f2 | sort -u | wc -l)
 }
 
-# How far a build is that began when the file was touched: on a terminal in one line, in a log every few minutes in one of its own.
+# How far a build is that began when the file was touched: on a terminal in one line, in a log every few minutes in one
+# of its own.
 show_progress() {
   local all every=${CEKPAYO_PROGRESS:-180} format='%d minutes, %d of %d crates' began=$SECONDS next now
   all=$(count_crates)
@@ -74,12 +76,13 @@ end_build() {
   kill -TERM -- "-$builder" 2>/dev/null
   [ -z "$shower" ] || kill "$shower" 2>/dev/null
   wait "$builder" 2>/dev/null
+  [ ! -t 2 ] || echo >&2
   say "the build was ended; the next one goes on where it was"
   exit $((128 + $1))
 }
 
-# Holds the lock of the builds as long as this script runs; while another one builds, it waits. What it builds with inherits the lock, so
-# that no build begins beside one whose script was killed.
+# Holds the lock of the builds as long as this script runs; while another one builds, it waits. What it builds with
+# inherits the lock, so that no build begins beside one whose script was killed.
 take_lock() {
   command -v flock >/dev/null || return 0
   exec 8>"$1" || return 1

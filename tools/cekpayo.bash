@@ -33,7 +33,9 @@ _cekpayo() {
         mapfile -t COMPREPLY < <(compgen -f -- "$current")
       fi
       ;;
-    audit | world) compopt -o filenames 2>/dev/null; mapfile -t COMPREPLY < <(compgen -f -- "$current") ;;
+    world) # the number comes before the file
+      [[ ${COMP_WORDS[COMP_CWORD - 1]} == world ]] || { compopt -o filenames 2>/dev/null; mapfile -t COMPREPLY < <(compgen -f -- "$current"); } ;;
+    audit) compopt -o filenames 2>/dev/null; mapfile -t COMPREPLY < <(compgen -f -- "$current") ;;
     *) COMPREPLY=() ;;
   esac
 }

@@ -6,8 +6,9 @@ FOLDER = os.path.join(os.path.dirname(os.path.dirname(os.path.abspath(__file__))
 
 
 class Cluster:
-    """A cluster: the node on which its service runs and another, the service and what holds it, the clone that is promoted, its
-    primitive and the interval of the monitor of the promoted copy, another clone, and the attribute of ping."""
+    """A cluster: the node on which its service runs and another, the service and what holds it, the clone that is
+    promoted, its primitive and the interval of the monitor of the promoted copy, another clone, and the attribute of
+    ping."""
 
     def __init__(self, name, active, passive, service, moved, promoted=None, clone=None, ping=None, threshold=0):
         self.name, self.active, self.passive, self.service, self.moved = name, active, passive, service, moved

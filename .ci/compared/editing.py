@@ -50,7 +50,7 @@ def leave(cib, node, expected):
 
 
 def come_back(cib, node):
-    """A node that has just joined, of which nothing is known."""
+    """A node that has just joined; nothing is known of it."""
     state = state_of(cib, node)
     state.attrib.update(in_ccm="true", crmd="online", join="member", expected="member")
     for element in list(state):

@@ -1,5 +1,6 @@
-"""What the two programs answer to a CIB: the actions of the first transition, and where each resource is after it. Actions are fences,
-starts, stops, promotions, demotions and migrations; probes and recurring monitors aren't counted."""
+"""What the two programs answer to a CIB: the actions of the first transition, and where each resource is after it.
+Actions are fences, starts, stops, promotions, demotions and migrations; probes and recurring monitors aren't
+counted."""
 import os
 import subprocess
 import xml.etree.ElementTree as ElementTree

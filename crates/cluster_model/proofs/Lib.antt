@@ -14,7 +14,7 @@ pub mod LeavesValid
 pub mod ValidCluster
 pub mod SameCluster
 pub mod SameNames
-pub mod Rows
+pub mod TableRows
 pub mod LeafLaws
 pub mod NameLaws
 pub mod NodeNames

@@ -1,12 +1,7 @@
 -- The node of a location is one of the nodes.
 use Rattle.std.proofs.Common.{arith, ◌≡◌, ◌<◌, ◌+◌, ℕ, Bool, true, false, List, [], ◌∷◌, ◌++◌, length, map, is_none, cond, refl, sym, ap, ◌∙◌, inl, inr, ◌⊎◌, Contains}
-use Rattle.std.specs.Prelude.{Some, is_some}
-use Rattle.std.specs.BTreeMap.{insert_entry}
-use Rattle.std.specs.Cmp.Lexicographic.{slice_cmp}
+use Rattle.std.specs.Prelude.{Some}
 use Rattle.std.specs.List.{AllByRecursion, flat_map}
-use Rattle.std.specs.Ordering.{match_ordering, nat_cmp}
-use Rattle.std.specs.declared.cmp.Ordering.{Ordering}
-use Rattle.std.specs.declared.cmp.Ordering.TheVariants.{Less, Equal, Greater}
 use Rattle.std.specs.Option.{option_map_or}
 use Rattle.std.proofs.lemmas.Bool.{or_parts}
 use Rattle.std.proofs.lemmas.List.{length-map}
@@ -18,7 +13,7 @@ use Rattle.crm_parse.specs.declared.form.Form.TheVariants as form
 use Rattle.crm_parse.specs.declared.statement.Statement.{Statement}
 use Rattle.cluster_model.specs.declared.expansion.leaves.Leaves.{Leaves}
 use Rattle.cluster_model.specs.Settings.{nodes_in}
-use Rattle.cluster_model.specs.Tables.{lookup, with_row, with_rows}
+use Rattle.cluster_model.specs.Tables.{lookup}
 use Rattle.lemmas.proofs.Members.{head_or_rest, in_none}
 use Rattle.cluster_model.specs.declared.resolution.directory.Directory.{Directory}
 use Rattle.cluster_model.specs.Directories.{directory_of, first_named, is_unknown, is_unknown_node, node_named, nodes_of, numbered_from}
@@ -29,26 +24,6 @@ use Rattle.cluster_model.proofs.Sound.{IsSound}
 -- each name of a table stands for a number below this one
 abbrev pub AreBelow : ℕ → List (List ℕ × ℕ) → Type 0
 AreBelow n table = AllByRecursion (λ (row : List ℕ × ℕ). row.1 < n) table
-
-below-entry : (n : ℕ) (table : List (List ℕ × ℕ)) (name : List ℕ) (k : ℕ) → AreBelow n table → k < n
-    → AreBelow n (insert_entry (slice_cmp nat_cmp) table name k)
-below-entry n [] name k t r = (r, tt)
-below-entry n (row ∷ table) name k t r = on (slice_cmp nat_cmp name row.0) (below-entry n table name k t.1 r) where
-  on : (o : Ordering) → AreBelow n (insert_entry (slice_cmp nat_cmp) table name k)
-      → AreBelow n (match_ordering o ((name, k) ∷ row ∷ table) ((row.0, k) ∷ table) (row ∷ insert_entry (slice_cmp nat_cmp) table name k))
-  on Less more = (r, t)
-  on Equal more = (r, t.1)
-  on Greater more = (t.0, more)
-
-below-row : (n : ℕ) (table : List (List ℕ × ℕ)) (row : List ℕ × ℕ) → AreBelow n table → row.1 < n → AreBelow n (with_row table row)
-below-row n table row t r = on (is_some (lookup table row.0)) where
-  on : (b : Bool) → AreBelow n (cond b table (insert_entry (slice_cmp nat_cmp) table row.0 row.1))
-  on true = t
-  on false = below-entry n table row.0 row.1 t r
-
-below-rows : (n : ℕ) (table rows : List (List ℕ × ℕ)) → AreBelow n table → AreBelow n rows → AreBelow n (with_rows table rows)
-below-rows n table [] t r = t
-below-rows n table (row ∷ rows) t r = below-rows n (with_row table row) rows (below-row n table row t r.0) r.1
 
 -- numbers that are counted on from one are below the one behind them
 numbered-below : (k n : ℕ) (names : List (List ℕ)) → k + length names ≡ n → AreBelow n (numbered_from k names)
@@ -89,10 +64,8 @@ as-many-nodes statements = sym (ap length (node_names statements)) ∙ length-ma
 
 nodes-below : (statements : List Statement) → AreBelow (length (nodes_by statements)) (nodes_of statements)
 nodes-below statements =
-    let names = flat_map (λ s. nodes_in s.form) statements in
-    let n = length (nodes_by statements) in
     let many = as-many-nodes statements in
-    below-rows n [] (numbered_from 0 names) tt (numbered-below 0 n names (omega (arith, many)))
+    numbered-below 0 (length (nodes_by statements)) (flat_map (λ s. nodes_in s.form) statements) (omega (arith, many))
 
 pub node-below : (leaves : Leaves) (statements : List Statement) (name : List ℕ) → is_unknown_node (directory_of leaves statements) name ≡ false
     → node_named (directory_of leaves statements) name < length (nodes_by statements)

@@ -1,27 +1,25 @@
 -- Statements that say the same say the same cluster.
-use Rattle.std.proofs.Common.{◌≡◌, ℕ, ◌+◌, Bool, true, is_none, Option, Some, None, List, [], ◌∷◌, ◌++◌, map, codes, Result, Ok, Err, refl, sym, ap, ◌∙◌}
+use Rattle.std.proofs.Common.{◌≡◌, ℕ, ◌+◌, is_none, Option, Some, None, List, [], ◌∷◌, ◌++◌, map, codes, Ok, refl, sym, ap, ◌∙◌}
 use Rattle.std.specs.Option.{option_or}
 use Rattle.std.proofs.lemmas.List.{map-append}
 use Rattle.crm_parse.specs.declared.statement.Statement.{Statement}
 use Rattle.crm_parse.specs.Operations.{value_of}
 use Rattle.cluster_model.specs.declared.expansion.leaves.Leaves.{Leaves}
 use Rattle.cluster_model.specs.Settings.{nodes_in, properties_in}
-use Rattle.cluster_model.specs.Tables.{table_of, with_rows}
 use Rattle.cluster_types.specs.declared.cluster.Cluster.{Cluster}
 use Rattle.cluster_types.specs.declared.leaf.Leaf.{Leaf}
 use Rattle.cluster_model.specs.declared.resolution.counts.Counts.{Counts}
 use Rattle.cluster_model.specs.declared.resolution.directory.Directory.{Directory}
 use Rattle.cluster_model.specs.declared.resolution.fault.ModelCause.{ModelCause}
-use Rattle.cluster_model.specs.Checks.{cause_of}
 use Rattle.cluster_model.specs.Colocations.{colocations_in}
 use Rattle.cluster_model.specs.Counting.{all_counted, counted_with, counts_of, nothing_counted}
-use Rattle.cluster_model.specs.Directories.{directory_of, members_in, numbered_from, with_members}
+use Rattle.cluster_model.specs.Directories.{directory_of, grouped_from, members_in, numbered_from}
 use Rattle.cluster_model.specs.FirstFaults.{first_fault}
 use Rattle.cluster_model.specs.Locations.{location_in, rule_locations_in}
 use Rattle.cluster_model.specs.Nodes.{node_in}
 use Rattle.cluster_model.specs.Options.{properties_of, setting_of}
 use Rattle.cluster_model.specs.Orders.{orders_in}
-use Rattle.cluster_model.specs.Resolution.{cause_after, cause_of_loops, cluster_of, resolution_of}
+use Rattle.cluster_model.specs.Resolution.{cause_after, cluster_of, resolution_of}
 use Rattle.faults.specs.declared.fault.Fault.{Fault}
 use Rattle.faults.specs.Reading.{fault_at, unless}
 use Rattle.faults.proofs.Steps.{unless-ok}
@@ -44,14 +42,14 @@ properties-lineless statements =
       setting-lineless (codes "batch-limit") statements,
     ) refl
 
-members-lineless : (groups : List (List ℕ × ℕ)) (n : ℕ) → IsLineless (with_members groups n)
-members-lineless groups n [] = refl
-members-lineless groups n (s ∷ statements) = members-lineless (with_rows groups (map (λ member. (member, n)) (members_in s.form))) (n + 1) statements
+members-lineless : (n : ℕ) → IsLineless (grouped_from n)
+members-lineless n [] = refl
+members-lineless n (s ∷ statements) = ap (λ (more : List (List ℕ × ℕ)). map (λ member. (member, n)) (members_in s.form) ++ more) (members-lineless (n + 1) statements)
 
 directory-lineless : (leaves : Leaves) → IsLineless (directory_of leaves)
 unfolding directory_of
 directory-lineless leaves statements =
-    rw (ap (λ (names : List (List ℕ)). table_of (numbered_from 0 names)) (each-lineless nodes_in statements), members-lineless [] 0 statements) refl
+    rw (ap (λ (names : List (List ℕ)). numbered_from 0 names) (each-lineless nodes_in statements), members-lineless 0 statements) refl
 
 cluster-lineless : (d : Directory) (leaves : List Leaf) → IsLineless (cluster_of d leaves)
 unfolding cluster_of

@@ -22,7 +22,6 @@ use Rattle.cluster_model.specs.Leaves.{leaf_in, leaves_of, surroundings_of}
 use Rattle.cluster_model.specs.Metas.{meta_of, no_meta, or_meta, read_as}
 use Rattle.cluster_model.specs.Settings.{count_nodes, defaults_from, defaults_in, nodes_in, option_from, properties_in}
 use Rattle.cluster_model.specs.Spans.{ends_by, group_ends_in, numbers_of, span_in, spans_of}
-use Rattle.cluster_model.specs.Tables.{table_of}
 use Rattle.cluster_types.specs.declared.leaf.Leaf.{Leaf}
 use Rattle.faults.specs.declared.fault.Fault.{Fault}
 use Rattle.faults.specs.Reading.{fault_at}
@@ -41,7 +40,7 @@ count-lineless : IsLineless count_nodes
 count-lineless statements = ap length (each-lineless nodes_in statements)
 
 kinds-lineless : IsLineless kinds_of
-kinds-lineless statements = ap table_of (each-lineless resource_kinds_in statements)
+kinds-lineless statements = each-lineless resource_kinds_in statements
 
 abbrev cloned : List Statement → List (List ℕ × InClone)
 cloned statements = cloned_by (count_nodes statements) statements
@@ -49,12 +48,12 @@ cloned statements = cloned_by (count_nodes statements) statements
 cloned-lineless : IsLineless cloned
 cloned-lineless statements =
     ap (λ (n : ℕ). cloned_by n (cleared statements)) (count-lineless statements)
-    ∙ ap table_of (each-lineless (cloned_in (count_nodes statements)) statements)
+    ∙ each-lineless (cloned_in (count_nodes statements)) statements
 
 grouped-lineless : IsLineless (λ statements. grouped_by (cloned statements) statements)
 grouped-lineless statements =
     ap (λ (c : List (List ℕ × InClone)). grouped_by c (cleared statements)) (cloned-lineless statements)
-    ∙ ap table_of (each-lineless (grouped_in (cloned statements)) statements)
+    ∙ each-lineless (grouped_in (cloned statements)) statements
 
 -- five equal parts make equal surroundings
 made : (a b : Bool) (c d : Bool) (e f : Meta) (g h : List (List ℕ × InClone)) (i j : List (List ℕ × InGroup)) → a ≡ b → c ≡ d → e ≡ f → g ≡ h → i ≡ j
@@ -80,7 +79,7 @@ unfolding spans_of
 spans-lineless leaves statements =
     let numbers = numbers_of leaves in
     each-lineless (span_in numbers (ends_by numbers (cleared statements))) statements
-    ∙ ap (λ (e : List (List ℕ × Ends)). flat_map (λ (s : Statement). span_in numbers e s.form) statements) (ap table_of (each-lineless (group_ends_in numbers) statements))
+    ∙ ap (λ (e : List (List ℕ × Ends)). flat_map (λ (s : Statement). span_in numbers e s.form) statements) (each-lineless (group_ends_in numbers) statements)
 
 both_parts : (one other : List Leaf) (first second : List Span) → one ≡ other → first ≡ second
     → (let l : Leaves = record { leaves = one; spans = first } in l) ≡ record { leaves = other; spans = second }

@@ -10,7 +10,6 @@ use Rattle.crm_parse.specs.Statements.{says_promotable}
 use Rattle.crm_parse.specs.Values.{bool_of, count_of}
 use Rattle.cluster_model.specs.declared.expansion.clones.InClone.{InClone}
 use Rattle.cluster_model.specs.Metas.{meta_of, no_meta, read_as}
-use Rattle.cluster_model.specs.Tables.{table_of}
 
 -- the copies of what is cloned: one for each node, or fewer where clone-max says so
 abbrev pub copies_in : ℕ → List Kv → ℕ
@@ -42,4 +41,4 @@ cloned_in nodes _ = []
 
 -- each child of a clone
 abbrev pub cloned_by : ℕ → List Statement → List (List ℕ × InClone)
-cloned_by nodes statements = table_of (flat_map (λ s. cloned_in nodes s.form) statements)
+cloned_by nodes statements = flat_map (λ s. cloned_in nodes s.form) statements

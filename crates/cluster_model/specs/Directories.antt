@@ -1,6 +1,6 @@
 -- What the names in a rule stand for (crmsh manual, location, colocation and order; whom a rule names on a group or a clone is a rule of this
 -- project).
-use Rattle.std.specs.Prelude.{ℕ, ◌+◌, ◌==◌, nat_lt, ◌&&◌, ◌||◌, if◌then◌else◌, Bool, false, List, [], ◌∷◌, length, map, slice_get, is_none, Option, Some, None}
+use Rattle.std.specs.Prelude.{ℕ, ◌+◌, ◌==◌, nat_lt, ◌&&◌, ◌||◌, if◌then◌else◌, Bool, false, List, [], ◌∷◌, ◌++◌, length, map, slice_get, is_none, Option, Some, None}
 use Rattle.std.specs.List.{flat_map}
 use Rattle.std.specs.Option.{option_and_then, option_map_or}
 use Rattle.crm_parse.specs.declared.form.Form.{Form}
@@ -10,7 +10,7 @@ use Rattle.cluster_types.specs.declared.leaf.Leaf.{Leaf}
 use Rattle.cluster_model.specs.declared.expansion.leaves.Leaves.{Leaves}
 use Rattle.cluster_model.specs.declared.expansion.leaves.Span.{Span}
 use Rattle.cluster_model.specs.Settings.{nodes_in}
-use Rattle.cluster_model.specs.Tables.{lookup, table_of, with_rows}
+use Rattle.cluster_model.specs.Tables.{lookup}
 use Rattle.cluster_model.specs.declared.resolution.directory.Directory.{Directory}
 use Rattle.cluster_model.specs.declared.resolution.directory.Ends.{Ends}
 use Rattle.cluster_model.specs.declared.resolution.directory.Traits.{Traits}
@@ -22,27 +22,27 @@ numbered_from n (name ∷ names) = (name, n) ∷ numbered_from (n + 1) names
 
 -- each node with its number, in the order of the text
 abbrev pub nodes_of : List Statement → List (List ℕ × ℕ)
-nodes_of statements = table_of (numbered_from 0 (flat_map (λ s. nodes_in s.form) statements))
+nodes_of statements = numbered_from 0 (flat_map (λ s. nodes_in s.form) statements)
 
 abbrev pub span_ends : Span → Ends
 span_ends span = record { first = span.first; last = span.last }
 
 -- each resource with its first and its last leaf
 abbrev pub resources_of : List Span → List (List ℕ × Ends)
-resources_of spans = table_of (map (λ span. (span.name, span_ends span)) spans)
+resources_of spans = map (λ span. (span.name, span_ends span)) spans
 
 abbrev pub members_in : Form → List (List ℕ)
 members_in (form.Group id members description params meta) = members
 members_in _ = []
 
--- some members, and those of the groups of more statements, each with the number of its statement, counted on from one
-abbrev pub with_members : List (List ℕ × ℕ) → ℕ → List Statement → List (List ℕ × ℕ)
-with_members groups n [] = groups
-with_members groups n (s ∷ statements) = with_members (with_rows groups (map (λ member. (member, n)) (members_in s.form))) (n + 1) statements
+-- the members of the groups of statements, each with the number of its statement, counted on from one
+abbrev pub grouped_from : ℕ → List Statement → List (List ℕ × ℕ)
+grouped_from n [] = []
+grouped_from n (s ∷ statements) = map (λ member. (member, n)) (members_in s.form) ++ grouped_from (n + 1) statements
 
 -- each member of a group, with the number of the statement of its group
 abbrev pub groups_of : List Statement → List (List ℕ × ℕ)
-groups_of statements = with_members [] 0 statements
+groups_of statements = grouped_from 0 statements
 
 abbrev pub traits_of : List (List ℕ × ℕ) → Leaf → Traits
 traits_of groups leaf = record {

@@ -16,7 +16,7 @@ use Rattle.cluster_model.specs.declared.expansion.kinds.Kind.{Kind}
 use Rattle.cluster_model.specs.declared.expansion.kinds.Kind.TheVariants as kind
 use Rattle.cluster_model.specs.declared.expansion.seen.Seen.{Seen}
 use Rattle.cluster_model.specs.Settings.{nodes_in}
-use Rattle.cluster_model.specs.Tables.{lookup, table_of}
+use Rattle.cluster_model.specs.Tables.{lookup}
 
 -- the resource of a statement, with its kind
 abbrev pub resource_kinds_in : Form → List (List ℕ × Kind)
@@ -27,7 +27,7 @@ resource_kinds_in _ = []
 
 -- each resource with its kind; where an id is defined twice, the first counts
 abbrev pub kinds_of : List Statement → List (List ℕ × Kind)
-kinds_of statements = table_of (flat_map (λ s. resource_kinds_in s.form) statements)
+kinds_of statements = flat_map (λ s. resource_kinds_in s.form) statements
 
 -- the id of a resource or of a rule, which share one space of names
 abbrev pub ids_in : Form → List (List ℕ)

@@ -8,7 +8,7 @@ use Rattle.cluster_model.specs.declared.expansion.clones.InClone.{InClone}
 use Rattle.cluster_model.specs.declared.expansion.groups.InGroup.{InGroup}
 use Rattle.cluster_model.specs.declared.expansion.meta.Meta.{Meta}
 use Rattle.cluster_model.specs.Metas.{meta_of}
-use Rattle.cluster_model.specs.Tables.{lookup, table_of}
+use Rattle.cluster_model.specs.Tables.{lookup}
 
 -- what a group gives to a member; the members after the first are followers
 abbrev pub membership_of : Meta → Option InClone → Bool → InGroup
@@ -25,4 +25,4 @@ grouped_in cloned _ = []
 
 -- each member of a group
 abbrev pub grouped_by : List (List ℕ × InClone) → List Statement → List (List ℕ × InGroup)
-grouped_by cloned statements = table_of (flat_map (λ s. grouped_in cloned s.form) statements)
+grouped_by cloned statements = flat_map (λ s. grouped_in cloned s.form) statements

@@ -12,6 +12,7 @@ pub mod FirstFaults
 pub mod Resolution
 pub mod Search
 pub mod Tables
+pub mod TableRows
 pub mod Metas
 pub mod Operations
 pub mod Settings

@@ -9,7 +9,7 @@ use Rattle.crm_parse.specs.declared.statement.Statement.{Statement}
 use Rattle.cluster_types.specs.declared.leaf.Leaf.{Leaf}
 use Rattle.cluster_model.specs.declared.expansion.leaves.Span.{Span}
 use Rattle.cluster_model.specs.declared.expansion.spans.Ends.{Ends}
-use Rattle.cluster_model.specs.Tables.{lookup, table_of}
+use Rattle.cluster_model.specs.Tables.{lookup}
 
 -- the name of each leaf with its number, counted on from one
 abbrev pub numbers_from : ℕ → List Leaf → List (List ℕ × ℕ)
@@ -17,7 +17,7 @@ numbers_from n [] = []
 numbers_from n (leaf ∷ leaves) = (leaf.name, n) ∷ numbers_from (n + 1) leaves
 
 abbrev pub numbers_of : List Leaf → List (List ℕ × ℕ)
-numbers_of leaves = table_of (numbers_from 0 leaves)
+numbers_of leaves = numbers_from 0 leaves
 
 abbrev pub number : List (List ℕ × ℕ) → List ℕ → ℕ
 number numbers name = unwrap_or (lookup numbers name) 0
@@ -38,7 +38,7 @@ group_ends_in numbers _ = []
 
 -- each group with its ends
 abbrev pub ends_by : List (List ℕ × ℕ) → List Statement → List (List ℕ × Ends)
-ends_by numbers statements = table_of (flat_map (λ s. group_ends_in numbers s.form) statements)
+ends_by numbers statements = flat_map (λ s. group_ends_in numbers s.form) statements
 
 -- the ends of a group, or of a primitive, which is its own first and last leaf
 abbrev pub ends_named : List (List ℕ × ℕ) → List (List ℕ × Ends) → List ℕ → Ends

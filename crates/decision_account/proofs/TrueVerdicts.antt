@@ -114,7 +114,7 @@ module _ (c : Cluster) (es : List Event) (ps : List Promotion) (table : Targets)
       and_from (fits n) (nat_lt (ahead n) (cap_of c es d)) fit (lt-ltb (ahead n) (cap_of c es d) (omega arith))
 
   -- so each chosen one goes before a candidate that isn't
-  goes_before : (n m : ℕ) → fits n ≡ true → picked n ≡ false → picked m ≡ true → goes m n ≡ true
+  pub goes_before : (n m : ℕ) → fits n ≡ true → picked n ≡ false → picked m ≡ true → goes m n ≡ true
   goes_before n m fit unpicked is = go (goes m n) refl
     where
       other : m ≢ n

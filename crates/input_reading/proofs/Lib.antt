@@ -3,6 +3,7 @@ pub mod Marks
 pub mod OneReading
 pub mod Faults
 pub mod FewResults
+pub mod Told
 pub mod ValidInput
 pub mod ValidHead
 pub mod ValidTrace
@@ -22,3 +23,4 @@ pub mod LinesSoFar
 pub mod FirstWords
 pub mod Repeats
 pub mod StatusJournals
+pub mod AnswersFit

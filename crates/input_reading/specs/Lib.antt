@@ -15,3 +15,4 @@ pub mod Recovery
 pub mod Results
 pub mod Status
 pub mod FirstJournal
+pub mod ResultFields

@@ -1,13 +1,17 @@
 //! Laws of the definitions. Each is a function that does nothing, and whose contract is the law.
 
-ghost use Rattle.std.specs.Prelude.{◌≡◌, ◌⊎◌, ℕ, List, []};
+ghost use Rattle.std.specs.Prelude.{◌≡◌, ◌⊎◌, ℕ, List, [], map};
+ghost use Rattle.std.specs.List.{AllByRecursion};
 ghost use Rattle.cluster_types.specs.Journals.{Orderly, in_flight};
 ghost use Rattle.cluster_types.specs.Valid.{IsValid};
-ghost use Rattle.input_reading.specs.Reading.{IsFaultyText, IsReadable, IsTextRefused, ReadsInput};
+ghost use Rattle.input_reading.specs.Reading.{IsFaultyText, IsReadable, IsTextRefused, ReadsInput, most_bytes};
+ghost use Rattle.input_reading.specs.ResultFields.{AnswerFieldsFit};
 ghost use Rattle.input_reading.specs.Traces.{IsFaultyTrace, IsReadableTrace, IsTraceRefused, ReadsTrace};
 ghost use Rattle.input_reading.specs.declared.input.cause.InputCause.{InputCause as CauseOf};
 ghost use Rattle.input_reading.specs.declared.input.reading.Input.{Input as InputOf};
+ghost use Rattle.input_reading.specs.declared.input.reading.TheConstants.{MOST_BYTES};
 ghost use Rattle.input_reading.specs.declared.input.trace.Trace.{Trace as TraceOf};
+ghost use Rattle.input_reading.specs.declared.results.result_lines.ResultLine.{ResultLine as ResultOf};
 
 /// A text is read as one input, or it has one fault, and never both.
 pub fn one_reading()
@@ -32,4 +36,15 @@ pub fn what_is_read_is_valid()
     ensures cluster { (text : List ℕ) (input : InputOf) → ReadsInput text input → IsValid input.head.cluster }
     ensures orderly { (text : List ℕ) (input : InputOf) → ReadsInput text input → Orderly input.head.journal.events }
     ensures idle { (text : List ℕ) (input : InputOf) → ReadsInput text input → in_flight input.head.journal.events ≡ [] }
+{}
+
+/// The exit codes of the answers of a text that is read are bytes, and the intervals of its reports have 32 bits.
+pub fn answers_that_are_read_fit()
+    ensures { (text : List ℕ) (input : InputOf) → ReadsInput text input
+        → AllByRecursion AnswerFieldsFit (map (λ (result : ResultOf). result.answer) input.results) }
+{}
+
+/// The limit of an input is the one that the definitions name.
+pub fn the_limit_is_told()
+    ensures { MOST_BYTES ≡ most_bytes }
 {}

@@ -34,7 +34,10 @@ pub use input::cause::InputCause;
 pub use input::fault::InputFault;
 pub use input::reading::{Head, Input, MOST_BYTES, read_input, read_start};
 pub use input::trace::{Trace, read_trace};
-pub use laws::{one_reading, one_reading_of_a_trace, what_is_read_is_valid};
+pub use laws::{
+    answers_that_are_read_fit, one_reading, one_reading_of_a_trace, the_limit_is_told,
+    what_is_read_is_valid,
+};
 pub use line_laws::what_is_written_reads_again;
 pub use recovery::{Recovery, class_of};
 pub(crate) use results::answers::answer_of;

@@ -8,7 +8,8 @@ use Rattle.graph_exec.specs.Saying.{GivesNext, IsOverBy}
 use Rattle.graph_exec.specs.declared.transition.outcomes.Next.{Next}
 use Rattle.graph_exec.specs.declared.transition.outcomes.Next.TheVariants as next
 use Rattle.input_reading.specs.declared.results.result_lines.ResultLine.{ResultLine}
-use Rattle.live_run.specs.Coming.{Brings, Coming, coming_of, no_more, result_first, told_coming}
+use Rattle.live_run.specs.Coming.{Coming, coming_of, no_more, result_first}
+use Rattle.live_run.specs.Inner.ComingSteps.{Brings, told_coming}
 use Rattle.live_run.specs.Courses.{CourseAnswers, SourceState, answers_to_come, has_course_ended, in_course, is_reading, rest_of, coming_to, told_by, whole_of}
 use Rattle.live_run.specs.declared.came.Came.TheVariants as came
 use Rattle.live_run.specs.declared.course.Course.{Course}

@@ -1,5 +1,5 @@
 -- What is left behind of the answers to come, and which of the result lines was the last.
-use Rattle.std.proofs.Common.{◌≡◌, ℕ, ◌+◌, ◌-◌, Bool, Option, Some, None, List, [], ◌∷◌, ◌++◌, map, length, append_assoc, refl, ap, sym, ◌∙◌, arith}
+use Rattle.std.proofs.Common.{◌≡◌, ℕ, Bool, Option, Some, None, List, [], ◌∷◌, ◌++◌, map, length, append_assoc, refl, ap, sym, ◌∙◌, arith}
 use Rattle.cluster_types.specs.declared.cluster.Cluster.{Cluster}
 use Rattle.cluster_types.specs.declared.journal.Answer.{Answer}
 use Rattle.cluster_types.specs.declared.journal.Event.{Event}
@@ -8,7 +8,7 @@ use Rattle.cluster_types.specs.declared.run.RunLine.{RunLine}
 use Rattle.cluster_types.specs.Runs.{RunStanding as Place, RunsOn, plans, goes, completes, aborts, answers as answers_come, Runs, here, one_more}
 use Rattle.cluster_types.specs.Sources.{Says, told, used_up, untold}
 use Rattle.cluster_types.specs.Steps.{Transition, StepsOn, begins, takes, is_silent}
-use Rattle.live_run.specs.Followed.{answers, last_line}
+use Rattle.live_run.specs.Followed.{last_line}
 use Rattle.input_reading.specs.declared.results.result_lines.ResultLine.{ResultLine}
 
 abbrev pub answer_in : ResultLine → Answer

@@ -12,7 +12,8 @@ use Rattle.cluster_types.specs.declared.cluster.Cluster.{Cluster}
 use Rattle.crm_lex.specs.RawLines.{physical_lines, raw_lines}
 use Rattle.crm_lex.specs.declared.fault.LexCause.TheVariants.{LineTooLong}
 use Rattle.crm_lex.proofs.PhysicalLines.{concat-lines, few_lines}
-use Rattle.live_run.specs.Coming.{AreReady, Brings, Coming, Lines, answers_in, came_first, coming, coming_of, is_stop_last, no_more, said_came, said_first, told_coming}
+use Rattle.live_run.specs.Coming.{AreReady, Coming, Lines, coming, coming_of, no_more, said_first}
+use Rattle.live_run.specs.Inner.ComingSteps.{Brings, answers_in, came_first, is_stop_last, said_came, told_coming}
 use Rattle.live_run.specs.Saying.{SaidFits, line_says, place_behind_said, line_says_within, sized_says}
 use Rattle.live_run.specs.declared.came.Came.{Came}
 use Rattle.live_run.specs.declared.came.Came.TheVariants as came

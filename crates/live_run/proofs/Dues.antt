@@ -1,6 +1,5 @@
 -- A run gets one end and one text; and wherever it stands, its lines are how that text begins.
-use Rattle.std.proofs.Common.{◌≡◌, ℕ, Bool, true, false, Option, Some, None, List, [], ◌∷◌, ◌++◌, is_none, map, length, length-append, append_assoc, refl, ap, sym, subst, ◌∙◌, arith}
-use Rattle.std.specs.List.{flat_map}
+use Rattle.std.proofs.Common.{◌≡◌, ℕ, true, false, Option, Some, None, List, [], ◌∷◌, ◌++◌, is_none, map, length, length-append, append_assoc, refl, ap, sym, subst, ◌∙◌, arith}
 use Rattle.std.proofs.lemmas.Grind.{flat_map-append}
 use Rattle.cluster_types.specs.declared.cluster.Cluster.{Cluster}
 use Rattle.cluster_types.specs.declared.journal.Answer.{Answer}
@@ -9,7 +8,7 @@ use Rattle.cluster_types.specs.declared.journal.Journal.{Journal}
 use Rattle.cluster_types.specs.declared.journal.Promotion.{Promotion}
 use Rattle.cluster_types.specs.declared.run.RunLine.{RunLine}
 use Rattle.cluster_types.specs.declared.run.RunLine.TheVariants as line
-use Rattle.cluster_types.specs.Runs.{RunStanding, due, amid, idle, RunsOn, plans, goes, completes, aborts, answers, Runs, IsAsking, IsCutRun, IsRunSoFar, IsWholeRun}
+use Rattle.cluster_types.specs.Runs.{RunStanding, due, RunsOn, plans, goes, completes, aborts, answers, Runs, IsAsking, IsCutRun, IsRunSoFar}
 use Rattle.cluster_types.specs.Sources.{Says}
 use Rattle.cluster_types.specs.Texts.{run_line}
 use Rattle.live_run.specs.Coming.{Coming}

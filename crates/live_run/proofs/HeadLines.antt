@@ -1,5 +1,5 @@
 -- Which logical lines of an input its head has taken, line by line.
-use Rattle.std.proofs.Common.{◌≡◌, ℕ, ◌+◌, Option, Some, None, Result, Ok, Err, List, [], ◌∷◌, ◌++◌, length, option_map, append_assoc, length-append, refl, ap, subst, sym, ◌∙◌, arith}
+use Rattle.std.proofs.Common.{◌≡◌, ℕ, ◌+◌, Option, Some, None, Result, Ok, Err, List, [], ◌∷◌, ◌++◌, length, option_map, length-append, refl, ap, subst, sym, ◌∙◌, arith}
 use Rattle.std.proofs.lemmas.List.Sums.{sum_by-append}
 use Rattle.cluster_io.specs.Readings.{ReaderAnswered, Reading}
 use Rattle.cluster_io.specs.declared.line_step.LineStep.{LineStep}
@@ -7,12 +7,13 @@ use Rattle.cluster_io.specs.declared.line_step.LineStep.TheVariants.{Line, Faile
 use Rattle.crm_lex.specs.RawLines.{physical_lines, raw_lines}
 use Rattle.crm_lex.specs.Reading.{reads_line}
 use Rattle.live_run.specs.Followed.{bytes_of}
-use Rattle.live_run.specs.Heads.{HasHeadGoneOn, HasTaken, HeadVerdict, StillAmid, came_to, head_verdict, head_by_words, taken}
+use Rattle.live_run.specs.Heads.{HasHeadGoneOn, HasTaken, HeadVerdict, goes_on_behind, line_by_words, line_of_head, taken, verdict_by}
+use Rattle.live_run.specs.Inner.HeadSteps.{StillAmid, came_to}
 use Rattle.live_run.specs.declared.head.HeadStop.{HeadStop}
 use Rattle.live_run.specs.declared.head.HeadStop.TheVariants as stop
 use Rattle.live_run.specs.Inner.ReadLaws.{bytes_joined, lines_joined}
-use Rattle.live_run.proofs.Bringing.{next_is, room_is}
-use Rattle.live_run.proofs.HeadBringing.{line_then, next_stays}
+use Rattle.live_run.proofs.Bringing.{longest_is, next_is, room_is}
+use Rattle.live_run.proofs.HeadBringing.{line_on, next_stays, on_more}
 use Rattle.live_run.proofs.Stepping.{bytes_one, line_cut, unmoved, unmoved_cut}
 
 -- none yet
@@ -22,8 +23,8 @@ none_taken reading (Some left) = record { lines = []; text_is = refl; cut = refl
 
 pub none_gone : (reading : Reading) (left : Option (List ℕ)) → HasHeadGoneOn reading reading [] left left
 unfolding none_taken
-none_gone reading None = record { taken = none_taken reading None; goes_on = tt }
-none_gone reading (Some left) = record { taken = none_taken reading (Some left); goes_on = λ more. refl }
+none_gone reading None = record { taken = none_taken reading None; same_size = refl; goes_on = tt }
+none_gone reading (Some left) = record { taken = none_taken reading (Some left); same_size = refl; goes_on = tt }
 
 module _ (first old new : Reading) (text : List ℕ) (given before after : Option (List ℕ)) (t : HasTaken first old text given before) where
   -- one more is handed out
@@ -73,30 +74,40 @@ module _ (first old new : Reading) (text : List ℕ) (given : Option (List ℕ))
   -- behind one more the head goes on
   pub line_gone : (before after : Option (List ℕ)) → HasHeadGoneOn first old text given before → (a : ReaderAnswered Line old new before after)
       → (came : Option (Result (Unit {0}) HeadStop)) → came ≡ None
-      → ((others : HeadVerdict) → came_to came (text ++ new.raw) new others ≡ head_by_words (reads_line old.next new.raw) (taken (text ++ new.raw) new.next new.room) others)
+      → ((others : HeadVerdict) → came_to came (text ++ new.raw) new others ≡ verdict_by (line_by_words (reads_line old.next new.raw)) (taken (text ++ new.raw) new.next new.room) others)
       → HasHeadGoneOn first new (text ++ new.raw) given after
   unfolding line_taken
-  line_gone before None h a came none says = record { taken = line_taken first old new text given before None h.taken a; goes_on = tt }
+  line_gone before None h a came none says = record {
+    taken = line_taken first old new text given before None h.taken a;
+    same_size = longest_is old new before None a ∙ h.same_size;
+    goes_on = tt;
+  }
   line_gone None (Some left) h a came none says = let taken = a.taken in absurd (let f : ⊥ = cc in f)
   line_gone (Some bytes) (Some left) h a came none says = record {
     taken = line_taken first old new text given (Some bytes) (Some left) h.taken a;
-    goes_on = λ more.
-        ap (head_verdict first.longest [] first.room first.next) (append_assoc h.taken.lines (physical_lines new.raw ∷ []) more)
-        ∙ (h.goes_on (physical_lines new.raw ∷ more)
-        ∙ (line_then text old new (Some bytes) left a more
-        ∙ (sym (says (head_verdict new.longest (text ++ new.raw) new.room new.next more))
-        ∙ ap (λ (k : Option (Result (Unit {0}) HeadStop)). came_to k (text ++ new.raw) new (head_verdict new.longest (text ++ new.raw) new.room new.next more)) none)));
+    same_size = longest_is old new (Some bytes) (Some left) a ∙ h.same_size;
+    goes_on =
+        let size = ap length h.taken.text_is in
+        let room = h.taken.room in
+        on_more first.longest first.room first.next h.taken.lines (physical_lines new.raw) old.room old.next (omega (arith, size, room)) h.taken.number
+        (subst (λ (n : ℕ). line_of_head n old.room old.next (physical_lines new.raw) ≡ goes_on_behind) h.same_size
+        (line_on (text ++ new.raw) old new (Some bytes) left a came none says)) h.goes_on;
   }
 
   -- where the source fails, no more was taken
   pub still_gone : (before after : Option (List ℕ)) → HasHeadGoneOn first old text given before → (a : ReaderAnswered Failed old new before after)
       → HasHeadGoneOn first new text given after
   unfolding still_taken
-  still_gone before None h a = record { taken = still_taken first old new text given before None h.taken Failed a (λ e. cc); goes_on = tt }
+  still_gone before None h a = record {
+    taken = still_taken first old new text given before None h.taken Failed a (λ e. cc);
+    same_size = ap (λ (r : Reading). r.longest) a.leaves.0 ∙ h.same_size;
+    goes_on = tt;
+  }
   still_gone None (Some left) h a = let none = a.taken in absurd (let f : ⊥ = cc in f)
   still_gone (Some bytes) (Some left) h a = record {
     taken = still_taken first old new text given (Some bytes) (Some left) h.taken Failed a (λ e. cc);
-    goes_on = λ more. h.goes_on more ∙ ap (λ (r : Reading). head_verdict r.longest text r.room r.next more) (sym a.leaves.0);
+    same_size = ap (λ (r : Reading). r.longest) a.leaves.0 ∙ h.same_size;
+    goes_on = h.goes_on;
   }
 
 -- reading goes on, and then it goes on so

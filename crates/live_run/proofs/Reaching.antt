@@ -1,5 +1,5 @@
 -- What a run over result lines has read and written at each of its ends.
-use Rattle.std.proofs.Common.{◌≡◌, ◌≢◌, ◌⊎◌, ◌↔◌, inl, inr, ℕ, ◌+◌, ◌-◌, Bool, true, false, Option, Some, None, List, [], ◌∷◌, ◌++◌, is_none, map, option_map, IfSome, length, append_assoc, append-nil, refl, ap, sym, subst, ◌∙◌, arith}
+use Rattle.std.proofs.Common.{◌≡◌, ◌≢◌, ◌⊎◌, ◌↔◌, inl, inr, ℕ, ◌-◌, Bool, true, false, Option, Some, None, List, [], ◌∷◌, ◌++◌, is_none, map, option_map, IfSome, length, append_assoc, append-nil, refl, ap, sym, subst, ◌∙◌, arith}
 use Rattle.std.proofs.Math.Seq.{take-length}
 use Rattle.std.proofs.lemmas.Grind.{flat_map-append}
 use Rattle.std.proofs.lemmas.List.{append_cancel_right, map-append}
@@ -16,8 +16,6 @@ use Rattle.cluster_types.specs.declared.run.RunLine.{RunLine}
 use Rattle.cluster_types.specs.declared.run.RunLine.TheVariants as line
 use Rattle.cluster_types.specs.Journals.{moment_of}
 use Rattle.cluster_types.specs.Runs.{due, IsCutRun, IsRunSoFar, IsStoppedRun, IsWholeRun}
-use Rattle.cluster_types.specs.Sources.{told}
-use Rattle.cluster_types.specs.Steps.{begins}
 use Rattle.cluster_types.specs.Texts.{run_line}
 use Rattle.crm_lex.specs.RawLines.{raw_lines}
 use Rattle.live_run.specs.Coming.{Coming, coming, no_more}
@@ -25,14 +23,14 @@ use Rattle.live_run.specs.Courses.{SourceState, answers_to_come, in_course, rest
 use Rattle.live_run.specs.Followed.{AreNear, EndsInOne, SourceFollows, HasAnswered, HasBroken, HasQuestionFailed, HasStopped, RestsBehind, StandFirst, View, answers, by_line, by_source, bytes_of, last_line, results_first, said_by, stays}
 use Rattle.live_run.specs.Saying.{is_last}
 use Rattle.live_run.specs.Writing.{line_refusal_text}
-use Rattle.cluster_io.specs.declared.sink.WriteFault.{WriteFault}
 use Rattle.live_run.proofs.Written.{prefix_first, prefix_then}
 use Rattle.live_run.specs.declared.course.Course.{Course}
 use Rattle.live_run.specs.declared.course.Course.TheVariants as course
 use Rattle.live_run.specs.declared.line_stop.LineStop.{LineStop}
 use Rattle.live_run.specs.declared.line_stop.LineStop.TheVariants as why
 use Rattle.live_run.specs.Ends.{AsksForMore, EndGets, CutRunGives, IsDueText, WholeRunGives, run_lines_text}
-use Rattle.live_run.specs.Reached.{AskedFor, AskedForAll, EndsCut, EndsLines, IsBrokenOff, Reaches, of_cut, of_refusal, of_run, results_behind}
+use Rattle.live_run.specs.Reached.{AskedFor, AskedForAll, IsBrokenOff, Reaches, in_run, of_refusal, of_unexpected, results_behind}
+use Rattle.live_run.specs.Inner.RunEnds.{EndsCut, EndsLines}
 use Rattle.live_run.specs.declared.live_end.LiveEnd.{LiveEnd}
 use Rattle.live_run.specs.declared.live_end.LiveEnd.TheVariants as end
 use Rattle.live_run.proofs.Behind.{answer_in, runs_back, says_next, last_one, line_of_last, answers_size}
@@ -232,10 +230,7 @@ module _ (c : Cluster) (journal : Journal) (reading : Reading) where
         added = adds_then old middle new (run_lines_text c w.lines) (run_line c (line.Unexpected cut.result.line)) w.told put;
       }
       by cut end.WriteFault put = record {
-        printed = w.lines;
-        asked = record { results = cut.given ++ cut.result ∷ []; stop = None };
-        text = run_line c (line.Unexpected cut.result.line);
-        call = of_cut cut.given cut.result cut.run refl refl;
+        call = of_unexpected (record { printed = w.lines; given = cut.given; result = cut.result; run = cut.run });
         read = cut.read;
         middle = middle;
         before = w.told;
@@ -263,41 +258,53 @@ module _ (c : Cluster) (journal : Journal) (reading : Reading) where
       on (Some unread) o e cut =
           let all = same_Some (results_behind c journal reading left) (results_first h.given (coming_to t unread)) e in
           record {
-            lines = h.lines;
-            held = t.lines.reading.held;
-            unread = unread;
-            left_is = sym o;
-            cut = same_Some (raw_lines (reading.held ++ left)) (h.lines ++ raw_lines (t.lines.reading.held ++ unread)) cut;
             bytes = h.bytes;
             taken = h.read.taken;
-            parts = h.read.parts;
-            unfinished = h.unfinished;
-            undecided =
-                let room = h.read.room in
-                let left_room : t.lines.reading.room ≡ reading.room - length (bytes_of h.lines) = omega (arith, room) in
-                subst (λ (n : ℕ). IsUndecided n reading.longest t.lines.reading.held) left_room
-                (subst (λ (n : ℕ). IsUndecided t.lines.reading.room n t.lines.reading.held) h.read.same_size h.undecided);
-            given = h.given;
-            said = ap (said_by c start.lines) (sym (append-nil h.lines)) ∙ (h.read.answered []
-                ∙ ap (λ (rs : List ResultLine). record { results = rs; stop = None }) (append-nil h.given));
-            behind = (coming_to t unread).results;
-            split = ap (λ (x : Coming). x.results) all;
-            printed = w.lines;
-            journal_now = j.events;
-            run = subst (λ (x : Option (List ℕ)). IsRunSoFar c journal.promotions (is_none (results_behind c journal reading left).stop) journal.events
-                (Some (answers_to_come (results_behind c journal reading left))) w.lines j.events (rest_of (told_by t x))) (sym o) w.run;
-            none_silent =
-                let said = w.said refl in
-                let behind = answers_to_come (coming_to t unread) in
-                let taken : answers_to_come (results_behind c journal reading left) ≡ said.answers ++ behind
-                = same_Some (answers_to_come (results_behind c journal reading left)) (said.answers ++ behind)
-                (subst (λ (x : Option (List ℕ)). Some (answers_to_come (results_behind c journal reading left)) ≡ option_map (λ xs. said.answers ++ xs) (rest_of (told_by t x))) (sym o)
-                said.taken) in
-                let split : answers_to_come (results_behind c journal reading left) ≡ map answer_in h.given ++ behind
-                = ap (λ (x : Coming). answers_to_come x) all ∙ map-append answer_in h.given (coming_to t unread).results in
-                subst (λ (xs : List Answer). IsRunSoFar c journal.promotions false journal.events (Some xs) w.lines j.events (Some []))
-                (append_cancel_right said.answers (map answer_in h.given) behind (sym taken ∙ split)) said.run;
-            added = subst (λ (x : Option (List ℕ)). Adds old (run_lines_text c w.lines) x) (sym same) w.told;
+            whole = record {
+              lines = h.lines;
+              held = t.lines.reading.held;
+              unread = unread;
+              left_is = sym o;
+              parts =
+                  let given : left ≡ h.bytes ++ unread
+                  = same_Some left (h.bytes ++ unread)
+                  (subst (λ (x : Option (List ℕ)). Some left ≡ option_map (λ (rest : List ℕ). h.bytes ++ rest) x) (sym o) h.read.taken) in
+                  ap (λ (x : List ℕ). reading.held ++ x) given
+                  ∙ (sym (append_assoc reading.held h.bytes unread)
+                  ∙ (ap (λ (x : List ℕ). x ++ unread) h.read.parts ∙ append_assoc (bytes_of h.lines) t.lines.reading.held unread));
+              cut = same_Some (raw_lines (reading.held ++ left)) (h.lines ++ raw_lines (t.lines.reading.held ++ unread)) cut;
+            };
+            no_answer = record {
+              unfinished = h.unfinished;
+              undecided =
+                  let room = h.read.room in
+                  let left_room : t.lines.reading.room ≡ reading.room - length (bytes_of h.lines) = omega (arith, room) in
+                  subst (λ (n : ℕ). IsUndecided n reading.longest t.lines.reading.held) left_room
+                  (subst (λ (n : ℕ). IsUndecided t.lines.reading.room n t.lines.reading.held) h.read.same_size h.undecided);
+            };
+            ran = record {
+              given = h.given;
+              said = ap (said_by c start.lines) (sym (append-nil h.lines)) ∙ (h.read.answered []
+                  ∙ ap (λ (rs : List ResultLine). record { results = rs; stop = None }) (append-nil h.given));
+              behind = (coming_to t unread).results;
+              split = ap (λ (x : Coming). x.results) all;
+              printed = w.lines;
+              journal_now = j.events;
+              run = subst (λ (x : Option (List ℕ)). IsRunSoFar c journal.promotions (is_none (results_behind c journal reading left).stop) journal.events
+                  (Some (answers_to_come (results_behind c journal reading left))) w.lines j.events (rest_of (told_by t x))) (sym o) w.run;
+              none_silent =
+                  let said = w.said refl in
+                  let behind = answers_to_come (coming_to t unread) in
+                  let taken : answers_to_come (results_behind c journal reading left) ≡ said.answers ++ behind
+                  = same_Some (answers_to_come (results_behind c journal reading left)) (said.answers ++ behind)
+                  (subst (λ (x : Option (List ℕ)). Some (answers_to_come (results_behind c journal reading left)) ≡ option_map (λ xs. said.answers ++ xs) (rest_of (told_by t x))) (sym o)
+                  said.taken) in
+                  let split : answers_to_come (results_behind c journal reading left) ≡ map answer_in h.given ++ behind
+                  = ap (λ (x : Coming). answers_to_come x) all ∙ map-append answer_in h.given (coming_to t unread).results in
+                  subst (λ (xs : List Answer). IsRunSoFar c journal.promotions false journal.events (Some xs) w.lines j.events (Some []))
+                  (append_cancel_right said.answers (map answer_in h.given) behind (sym taken ∙ split)) said.run;
+              added = subst (λ (x : Option (List ℕ)). Adds old (run_lines_text c w.lines) x) (sym same) w.told;
+            };
           }
 
   -- a line stops the reading, so that nothing comes behind it
@@ -330,10 +337,7 @@ module _ (c : Cluster) (journal : Journal) (reading : Reading) where
     added = adds_then old middle new (run_lines_text c printed) (line_refusal_text n cause) added put;
   }
   stopped_by left after old middle new printed added given (why.Refused n cause) all stop more lines first said ends bytes taken near end.WriteFault put last = record {
-    printed = printed;
-    asked = results_behind c journal reading left;
-    text = line_refusal_text n cause;
-    call = of_refusal n cause stop more refl refl;
+    call = of_refusal (record { printed = printed; line = n; cause = cause; stop = stop; run = more });
     read = inl (record { lines = lines; first = first; said = said ∙ sym all; ends = ends; bytes = bytes; taken = taken; near = near });
     middle = middle;
     before = added;
@@ -409,10 +413,16 @@ module _ (c : Cluster) (journal : Journal) (reading : Reading) where
       let on = runs_more c journal.promotions (is_none coming.stop) (due 1 journal.events) run.before run.next (Some (answers_to_come coming)) run.middle (Some (map answer_in g.behind)) w.lines w.call
       run.steps run.stopped in
       record {
-        printed = w.lines;
-        asked = record { results = g.given; stop = None };
-        text = run_lines_text c w.call;
-        call = of_run w.call w.closing j.events g.given g.behind g.split run refl refl;
+        call = in_run (record {
+          printed = w.lines;
+          call = w.call;
+          closing = w.closing;
+          journal_now = j.events;
+          given = g.given;
+          behind = g.behind;
+          split = g.split;
+          run = run;
+        });
         read = g.read;
         middle = w.text;
         before = w.told;

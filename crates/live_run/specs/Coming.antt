@@ -1,13 +1,11 @@
 -- What is to come of result lines: their answers, up to the first line that is refused or goes past the limit (rule of this project).
-use Rattle.std.specs.Prelude.{◌≡◌, ℕ, ◌+◌, ◌-◌, ◌^◌, ◌≤◌, ◌<◌, Bool, true, false, Option, Some, None, List, [], ◌∷◌, ◌++◌, length, option_map}
+use Rattle.std.specs.Prelude.{◌≡◌, ℕ, ◌+◌, ◌-◌, ◌^◌, ◌≤◌, ◌<◌, Option, Some, None, List, [], ◌∷◌, ◌++◌, length}
 use Rattle.std.specs.List.{concat}
 use Rattle.cluster_io.specs.Readings.{Reading}
 use Rattle.cluster_types.specs.declared.cluster.Cluster.{Cluster}
 use Rattle.crm_lex.specs.RawLines.{raw_lines}
 use Rattle.input_reading.specs.declared.results.result_lines.ResultLine.{ResultLine}
-use Rattle.live_run.specs.Saying.{is_last, place_behind_said, line_says_within}
-use Rattle.live_run.specs.declared.came.Came.{Came}
-use Rattle.live_run.specs.declared.came.Came.TheVariants as came
+use Rattle.live_run.specs.Saying.{place_behind_said, line_says_within}
 use Rattle.live_run.specs.declared.line_stop.LineStop.{LineStop}
 use Rattle.live_run.specs.declared.place.Place.{Place}
 use Rattle.live_run.specs.declared.said.Said.{Said}
@@ -46,42 +44,6 @@ pub record Lines : Type 0 where
 -- what is to come of all bytes to come: those that the reader holds, and those that its source has left
 abbrev pub coming_of : Cluster → Lines → List ℕ → Coming
 coming_of c lines left = coming c lines.reading.longest lines.at lines.reading.room (raw_lines (lines.reading.held ++ left))
-
--- the same, where the source tells what it has left
-abbrev pub told_coming : Cluster → Lines → Option (List ℕ) → Option Coming
-told_coming c lines left = option_map (coming_of c lines) left
-
--- what came of reading on, and then what is still to come
-abbrev pub came_first : Option Came → Coming → Coming
-came_first (Some (came.Answer result)) others = result_first result others
-came_first (Some came.End) others = no_more None
-came_first (Some (came.Stop why)) others = no_more (Some why)
-came_first _ others = others
-
--- reading on brought this of what was to come
-abbrev pub Brings : Cluster → Option Came → Lines → Lines → Option (List ℕ) → Option (List ℕ) → Type 0
-Brings c came old new before after = told_coming c old before ≡ option_map (λ left. came_first came (coming_of c new left)) after
-
--- what came of a line with this number that says this
-abbrev pub said_came : ℕ → Said → Option Came
-said_came line said.Nothing = None
-said_came line (said.Answer given) = Some (came.Answer (record { line = line; answer = given }))
-said_came line (said.Stop why) = Some (came.Stop why)
-
--- how many answers came
-abbrev pub answers_in : Option Came → ℕ
-answers_in (Some (came.Answer result)) = 1
-answers_in _ = 0
-
--- whether lines can still be read
-abbrev pub reads_on : Option Came → Bool
-reads_on (Some (came.Stop why)) = false
-reads_on _ = true
-
--- what stops the reading of lines is a line that is refused or goes past the limit
-abbrev pub is_stop_last : Option Came → Bool
-is_stop_last (Some (came.Stop why)) = is_last why
-is_stop_last _ = true
 
 -- the numbers of some lines have their ranges: seconds below 2^40, at most 10,000 result lines, and numbers of lines below 2^32
 pub record AreReady (lines : Lines) : Type 0 where

@@ -1,9 +1,8 @@
 -- How a run over result lines ends, and what it prints, by all that is to come of them (Pacemaker Administration, "Transitions"; the rest is a rule of
 -- this project).
-use Rattle.std.specs.Prelude.{◌≡◌, ℕ, true, false, Option, Some, None, List, [], ◌∷◌, ◌++◌, is_none, map}
+use Rattle.std.specs.Prelude.{◌≡◌, ℕ, true, false, Some, None, List, [], ◌∷◌, ◌++◌, is_none, map}
 use Rattle.std.specs.List.{flat_map}
 use Rattle.cluster_types.specs.declared.cluster.Cluster.{Cluster}
-use Rattle.cluster_types.specs.declared.journal.Answer.{Answer}
 use Rattle.cluster_types.specs.declared.journal.Event.{Event}
 use Rattle.cluster_types.specs.declared.journal.Journal.{Journal}
 use Rattle.cluster_types.specs.declared.run.RunLine.{RunLine}

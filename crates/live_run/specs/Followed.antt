@@ -1,6 +1,6 @@
 -- How a source of answers that are read from lines has come from another: which logical lines it has read since, how they were answered, and how far it has
 -- read its source of bytes (rule of this project).
-use Rattle.std.specs.Prelude.{◌≡◌, ◌⊎◌, ℕ, ◌+◌, ◌<◌, ◌≤◌, Bool, true, false, if◌then◌else◌, Option, Some, None, List, [], ◌∷◌, ◌++◌, length, is_some, option_map, sum_by, IfSome}
+use Rattle.std.specs.Prelude.{◌≡◌, ◌⊎◌, ℕ, ◌+◌, ◌<◌, Bool, true, false, if◌then◌else◌, Option, Some, List, [], ◌∷◌, ◌++◌, length, is_some, option_map, sum_by, IfSome}
 use Rattle.std.specs.List.{concat, flat_map}
 use Rattle.cluster_io.specs.NextLine.{holds_line, IsUndecided}
 use Rattle.cluster_io.specs.Streams.{Bears, TakesBytes}
@@ -12,8 +12,6 @@ use Rattle.input_reading.specs.declared.results.result_lines.ResultLine.{ResultL
 use Rattle.live_run.specs.Coming.{Coming, Lines, coming}
 use Rattle.live_run.specs.Courses.{SourceState, has_course_ended, is_reading, stop_of, told_by, coming_to}
 use Rattle.live_run.specs.Saying.{is_last}
-use Rattle.live_run.specs.declared.came.Came.{Came}
-use Rattle.live_run.specs.declared.came.Came.TheVariants as came
 use Rattle.live_run.specs.declared.course.Course.{Course}
 use Rattle.live_run.specs.declared.course.Course.TheVariants as course
 use Rattle.live_run.specs.declared.line_stop.LineStop.{LineStop}
@@ -88,44 +86,6 @@ pub record IsStoppedBy (c : Cluster) (old : Lines) (before after : Option (List 
   pub bytes : List ℕ
   pub taken : TakesBytes before bytes after
   pub near : AreNear old lines bytes
-
--- lines without words were passed over
-pub record HasPassed (c : Cluster) (old new : Lines) (before after : Option (List ℕ)) : Type 0 where
-  pub lines : List (List (List ℕ))
-  pub bytes : List ℕ
-  pub read : HasRead c old new before after lines [] bytes
-  pub near : AreNear old lines bytes
-
--- an answer came
-pub record HasGiven (c : Cluster) (old new : Lines) (before after : Option (List ℕ)) (result : ResultLine) : Type 0 where
-  pub lines : List (List (List ℕ))
-  pub bytes : List ℕ
-  pub read : HasRead c old new before after lines (result ∷ []) bytes
-  pub near : AreNear old lines bytes
-  pub ends : HasLast c old lines
-
--- the end came
-pub record HasReachedEnd (c : Cluster) (old new : Lines) (before after : Option (List ℕ)) : Type 0 where
-  pub lines : List (List (List ℕ))
-  pub bytes : List ℕ
-  pub read : HasRead c old new before after lines [] bytes
-  pub all : AllIsRead new after
-
--- the source of bytes failed. No whole line is held, and what is held gives no answer yet
-pub record HasFaltered (c : Cluster) (old new : Lines) (before after : Option (List ℕ)) : Type 0 where
-  pub lines : List (List (List ℕ))
-  pub bytes : List ℕ
-  pub read : HasRead c old new before after lines [] bytes
-  pub unfinished : holds_line new.reading.held ≡ false
-  pub undecided : IsUndecided new.reading.room new.reading.longest new.reading.held
-
--- what was read until this came
-abbrev pub ReadUntil : Cluster → Option Came → Lines → Lines → Option (List ℕ) → Option (List ℕ) → Type 0
-ReadUntil c None old new before after = HasPassed c old new before after
-ReadUntil c (Some (came.Answer result)) old new before after = HasGiven c old new before after result
-ReadUntil c (Some came.End) old new before after = HasReachedEnd c old new before after
-ReadUntil c (Some (came.Stop why)) old new before after = IsStoppedBy c old before after [] why
-ReadUntil c (Some came.Fault) old new before after = HasFaltered c old new before after
 
 -- it goes on reading behind a line that says something, or all is read
 abbrev pub RestsBehind : SourceState → SourceState → Option (List ℕ) → List (List (List ℕ)) → List ℕ → Course → Type 0

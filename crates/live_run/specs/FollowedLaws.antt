@@ -1,5 +1,5 @@
 -- A source of answers that are read from lines has come from itself, and from what it came from on the way; and so has a writer of lines.
-use Rattle.std.proofs.Common.{◌≡◌, ◌≢◌, ℕ, Bool, true, false, Option, Some, None, List, [], ◌∷◌, ◌++◌, option_map, refl, ap, sym, subst, ◌∙◌, arith}
+use Rattle.std.proofs.Common.{◌≡◌, ◌≢◌, ℕ, Bool, true, false, Option, Some, None, List, [], ◌∷◌, ◌++◌, option_map, refl, ap, sym, subst, ◌∙◌}
 use Rattle.cluster_io.proofs.Bearing.{Bears-none, Bears-then}
 use Rattle.cluster_types.specs.declared.cluster.Cluster.{Cluster}
 use Rattle.graph_exec.specs.declared.transition.outcomes.Next.{Next}

@@ -1,5 +1,5 @@
 -- The head of an input: its logical lines up to the one that begins the results, or all where none does (rule of this project).
-use Rattle.std.specs.Prelude.{◌≡◌, ℕ, ◌+◌, ◌-◌, ◌^◌, ◌≤◌, Bool, true, false, if◌then◌else◌, Option, Some, None, Result, Ok, Err, List, [], ◌∷◌, ◌++◌, length, codes, option_map, IfSome}
+use Rattle.std.specs.Prelude.{◌≡◌, ℕ, ◌+◌, ◌-◌, ◌^◌, ◌≤◌, Bool, false, if◌then◌else◌, Option, None, Result, Ok, Err, List, [], ◌∷◌, ◌++◌, length, codes, option_map, IfSome}
 use Rattle.std.specs.List.{concat}
 use Rattle.crm_lex.specs.Names.{is}
 use Rattle.cluster_io.specs.NextLine.{holds_line, line_answer, IsUndecided}
@@ -28,42 +28,53 @@ abbrev pub begins_results : List (List ℕ) → Bool
 begins_results [] = false
 begins_results (word ∷ words) = is word (codes "%results")
 
--- by what was read of a line, the head ends with it or goes on behind it
-abbrev pub head_by_words : Result (List (List ℕ)) (Fault LexCause) → HeadVerdict → HeadVerdict → HeadVerdict
-head_by_words (Ok words) ends goes_on = if begins_results words then ends else goes_on
-head_by_words (Err (At line why)) ends goes_on = refused line why
-head_by_words (Err NoMemory) ends goes_on = too_large
+-- what a logical line says of the head: it ends with this line, or goes on behind it; or the line can't be cut into words, and why; or it goes past the
+-- limit of bytes
+pub data LineOfHead : Type 0 where
+  ends_head : LineOfHead
+  goes_on_behind : LineOfHead
+  has_no_words : (line : ℕ) (why : LexCause) → LineOfHead
+  passes_limit : LineOfHead
 
--- the same, by the size of the line, the number of its first physical line and its bytes
-abbrev pub head_by_size : LineStep → ℕ → List ℕ → HeadVerdict → HeadVerdict → HeadVerdict
-head_by_size step.Line n raw ends goes_on = head_by_words (reads_line n raw) ends goes_on
-head_by_size step.TooLong n raw ends goes_on = refused n LineTooLong
-head_by_size _ n raw ends goes_on = too_large
+-- what a line says, by its words. It is cut without memory, so that the last case never comes
+abbrev pub line_by_words : Result (List (List ℕ)) (Fault LexCause) → LineOfHead
+line_by_words (Ok words) = if begins_results words then ends_head else goes_on_behind
+line_by_words (Err (At line why)) = has_no_words line why
+line_by_words (Err NoMemory) = passes_limit
 
--- the head of a text and some logical lines behind it, each given by its physical lines, of which the first has this number. So many bytes of them lie
--- within the limit, and a line may have so many without line ends
+-- by its size, the number of its first physical line and its bytes
+abbrev pub line_by_size : LineStep → ℕ → List ℕ → LineOfHead
+line_by_size step.Line n raw = line_by_words (reads_line n raw)
+line_by_size step.TooLong n raw = has_no_words n LineTooLong
+line_by_size _ n raw = passes_limit
+
+-- by its physical lines, of which the first has this number. So many bytes of them lie within the limit, and a line may have so many without line ends
+abbrev pub line_of_head : ℕ → ℕ → ℕ → List (List ℕ) → LineOfHead
+line_of_head longest room n lines = line_by_size (line_answer room longest lines) n (concat lines)
+
+-- the verdict, by what a line says: the head that ends with the line, and the verdict of what is behind it
+abbrev pub verdict_by : LineOfHead → HeadVerdict → HeadVerdict → HeadVerdict
+verdict_by ends_head with_it behind = with_it
+verdict_by goes_on_behind with_it behind = behind
+verdict_by (has_no_words line why) with_it behind = refused line why
+verdict_by passes_limit with_it behind = too_large
+
+-- the head of a text and some logical lines behind it, line by line: up to the first behind which it doesn't go on
 abbrev pub head_verdict : ℕ → List ℕ → ℕ → ℕ → List (List (List ℕ)) → HeadVerdict
 head_verdict longest before room n [] = taken before n room
 head_verdict longest before room n (lines ∷ more) =
-    head_by_size (line_answer room longest lines) n (concat lines) (taken (before ++ concat lines) (n + length lines) (room - length (concat lines)))
+    verdict_by (line_of_head longest room n lines) (taken (before ++ concat lines) (n + length lines) (room - length (concat lines)))
     (head_verdict longest (before ++ concat lines) (room - length (concat lines)) (n + length lines) more)
+
+-- behind each of these lines the head goes on
+abbrev pub AllGoOnBehind : ℕ → ℕ → ℕ → List (List (List ℕ)) → Type 0
+AllGoOnBehind longest room n [] = Unit {0}
+AllGoOnBehind longest room n (lines ∷ more) =
+    (line_of_head longest room n lines ≡ goes_on_behind) × AllGoOnBehind longest (room - length (concat lines)) (n + length lines) more
 
 -- the head of a text and of all bytes to come: those that a reader holds, and those that its source has left
 abbrev pub head_behind : List ℕ → Reading → List ℕ → HeadVerdict
 head_behind before reading left = head_verdict reading.longest before reading.room reading.next (raw_lines (reading.held ++ left))
-
--- the head where reading came to its end or stopped, with this text behind it and the reader there. Before that, and where the source or memory
--- failed, it is what is still to come
-abbrev pub came_to : Option (Result (Unit {0}) HeadStop) → List ℕ → Reading → HeadVerdict → HeadVerdict
-came_to (Some (Ok end)) text reading others = taken text reading.next reading.room
-came_to (Some (Err (stop.Refused line why))) text reading others = refused line why
-came_to (Some (Err stop.TooLarge)) text reading others = too_large
-came_to _ text reading others = others
-
--- whether it was memory that failed
-abbrev pub lacks_memory : Option (Result (Unit {0}) HeadStop) → Bool
-lacks_memory (Some (Err stop.NoMemory)) = true
-lacks_memory _ = false
 
 -- a text and the lines of a reader behind it
 pub record ReaderProgress : Type 0 where
@@ -73,26 +84,10 @@ pub record ReaderProgress : Type 0 where
 abbrev pub progress : List ℕ → Reading → ReaderProgress
 progress text reading = record { text = text; reading = reading }
 
--- reading on brought this of the head that was to come, where the source tells its bytes
-abbrev pub BringsHead : Option (Result (Unit {0}) HeadStop) → ReaderProgress → ReaderProgress → Option (List ℕ) → Option (List ℕ) → Type 0
-BringsHead came old new before after = lacks_memory came ≡ false
-    → option_map (head_behind old.text old.reading) before
-    ≡ option_map (λ left. came_to came new.text new.reading (head_behind new.text new.reading left)) after
-
 -- all bytes, those of the text and those to come, are as before
 abbrev pub KeepsBytes : ReaderProgress → ReaderProgress → Option (List ℕ) → Option (List ℕ) → Type 0
 KeepsBytes old new before after =
     option_map (λ (left : List ℕ). old.text ++ (old.reading.held ++ left)) before ≡ option_map (λ (left : List ℕ). new.text ++ (new.reading.held ++ left)) after
-
--- where reading came to the end of the head, or goes on
-abbrev pub WhileWell : Option (Result (Unit {0}) HeadStop) → Type 0 → Type 0
-WhileWell (Some (Err why)) P = Unit {0}
-WhileWell _ P = P
-
--- why a line stops the reading that can't be cut into words. A line is cut without memory, so that the second case never comes
-abbrev pub stop_for : Fault LexCause → HeadStop
-stop_for (At line why) = stop.Refused line why
-stop_for NoMemory = stop.TooLarge
 
 -- the head of which no text is given: a line is refused, or goes past the limit. Nothing is said where the source or memory failed
 abbrev pub IsStopOf : HeadVerdict → HeadStop → Type 0
@@ -108,31 +103,20 @@ pub record HasTaken (old new : Reading) (text : List ℕ) (before after : Option
   pub number : new.next ≡ old.next + count_lines lines
   pub room : length text + new.room ≡ old.room
 
--- behind some lines, whatever lines follow, the head is still to come: each of them is a line behind which it goes on. A reader has this text of them
-abbrev pub GoesOnBehind : List (List (List ℕ)) → Reading → Reading → List ℕ → Type 0
-GoesOnBehind lines old new text =
-    (more : List (List (List ℕ))) → head_verdict old.longest [] old.room old.next (lines ++ more) ≡ head_verdict new.longest text new.room new.next more
-
--- the same of the lines that were taken, where the source tells its bytes
+-- behind each of the lines that were taken the head goes on, where the source tells its bytes
 pub record HasHeadGoneOn (old new : Reading) (text : List ℕ) (before after : Option (List ℕ)) : Type 0 where
   pub taken : HasTaken old new text before after
-  pub goes_on : IfSome after (λ left. GoesOnBehind taken.lines old new text)
+  pub same_size : new.longest ≡ old.longest
+  pub goes_on : IfSome after (λ left. AllGoOnBehind old.longest old.room old.next taken.lines)
 
--- reading goes on, or the source failed
-abbrev pub StillAmid : Option (Result (Unit {0}) HeadStop) → Type 0 → Type 0
-StillAmid None P = P
-StillAmid (Some (Err stop.ReadFault)) P = P
-StillAmid _ P = Unit {0}
-
--- reading stopped amid the head: behind the lines that were taken whole, of which this is the text, the head is still to come, and no further line was
--- taken whole. What is held gives no answer yet
+-- reading stopped amid the head: behind each line that was taken whole the head goes on, and this is the text of these lines. No further line was taken
+-- whole, and what is held gives no answer yet
 pub record IsAmid (old new : Reading) (before after : Option (List ℕ)) : Type 0 where
   pub text : List ℕ
   pub keeps : KeepsBytes (progress [] old) (progress text new) before after
   pub gone_on : HasHeadGoneOn old new text before after
   pub none_whole : holds_line new.held ≡ false
   pub undecided : IsUndecided new.room new.longest new.held
-  pub same_size : new.longest ≡ old.longest
 
 -- more lines can be read: of at most 1,048,576 bytes, with numbers below 2^32
 pub record CanGoOn (reading : Reading) : Type 0 where

@@ -17,7 +17,6 @@ use Rattle.live_run.specs.Coming.{Coming, Lines, coming_of}
 use Rattle.live_run.specs.Courses.{answers_to_come, starting}
 use Rattle.live_run.specs.Followed.{AreNear, EndsInOne, StandFirst, bytes_of, said_by}
 use Rattle.live_run.specs.declared.line_stop.LineCause.{LineCause}
-use Rattle.live_run.specs.declared.line_stop.LineStop.{LineStop}
 use Rattle.live_run.specs.declared.line_stop.LineStop.TheVariants as why
 use Rattle.input_reading.specs.declared.results.result_lines.ResultLine.{ResultLine}
 use Rattle.run_safety.specs.Followed.{EndsBetween}
@@ -33,6 +32,20 @@ first_result_place c journal reading = (starting c (moment_of journal.events) re
 -- what is to come of the result lines behind a head, where so many bytes are left
 abbrev pub results_behind : Cluster → Journal → Reading → List ℕ → Coming
 results_behind c journal reading left = coming_of c (first_result_place c journal reading) left
+
+-- of a text these logical lines were taken whole. Behind them some bytes are held, and the source has the others left
+pub record IsTakenWhole (text : List ℕ) (after : Option (List ℕ)) : Type 0 where
+  pub lines : List (List (List ℕ))
+  pub held : List ℕ
+  pub unread : List ℕ
+  pub left_is : after ≡ Some unread
+  pub parts : text ≡ bytes_of lines ++ (held ++ unread)
+  pub cut : raw_lines text ≡ lines ++ raw_lines (held ++ unread)
+
+-- bytes that are held give no answer yet: they hold no whole line, and none that is too long or goes past the limit
+pub record GivesNoAnswer (room longest : ℕ) (held : List ℕ) : Type 0 where
+  pub unfinished : holds_line held ≡ false
+  pub undecided : IsUndecided room longest held
 
 -- of a run over these bytes, of which the source has some left now
 module _ (c : Cluster) (journal : Journal) (reading : Reading) (left : List ℕ) (after : Option (List ℕ)) where
@@ -55,6 +68,57 @@ module _ (c : Cluster) (journal : Journal) (reading : Reading) (left : List ℕ)
     pub unstopped : asked.stop ≡ None
     pub none_left : after ≡ Some []
 
+  -- a call of the writer amid the run, behind these lines: it writes some more, and closes at most the transition. The run has taken these answers by then
+  pub record CallInRun : Type 0 where
+    pub printed : List RunLine
+    pub call : List RunLine
+    pub closing : List RunLine
+    pub journal_now : List Event
+    pub given : List ResultLine
+    pub behind : List ResultLine
+    pub split : results.results ≡ given ++ behind
+    pub run : IsStoppedRun c journal.promotions (is_none results.stop) journal.events (Some (answers_to_come results)) printed call closing journal_now
+        (Some (map (λ (r : ResultLine). r.answer) behind))
+
+  -- the call that writes `unexpected LINE` of the answer behind these, which doesn't apply
+  pub record CallOfUnexpected : Type 0 where
+    pub printed : List RunLine
+    pub given : List ResultLine
+    pub result : ResultLine
+    pub run : CutRunGives c journal results printed given result
+
+  -- the call that writes `refused LINE CAUSE`
+  pub record CallOfRefusal : Type 0 where
+    pub printed : List RunLine
+    pub line : ℕ
+    pub cause : LineCause
+    pub stop : results.stop ≡ Some (why.Refused line cause)
+    pub run : AsksForMore c journal results printed
+
+  -- one call of the writer
+  pub data WriterCall : Type 0 where
+    in_run : CallInRun → WriterCall
+    of_unexpected : CallOfUnexpected → WriterCall
+    of_refusal : CallOfRefusal → WriterCall
+
+  -- the lines that were written before it
+  abbrev pub lines_before_call : WriterCall → List RunLine
+  lines_before_call (in_run call) = call.printed
+  lines_before_call (of_unexpected call) = call.printed
+  lines_before_call (of_refusal call) = call.printed
+
+  -- what was asked for by then
+  abbrev pub asked_by_call : WriterCall → Coming
+  asked_by_call (in_run call) = record { results = call.given; stop = None }
+  asked_by_call (of_unexpected call) = record { results = call.given ++ call.result ∷ []; stop = None }
+  asked_by_call (of_refusal call) = results
+
+  -- what it writes
+  abbrev pub text_of_call : WriterCall → List ℕ
+  text_of_call (in_run call) = run_lines_text c call.call
+  text_of_call (of_unexpected call) = run_line c (line.Unexpected call.result.line)
+  text_of_call (of_refusal call) = line_refusal_text call.line call.cause
+
   -- and of what a sink held before and holds now
   module _ (old new : Option (List ℕ)) where
     -- the text that is due with this end was written
@@ -63,19 +127,8 @@ module _ (c : Cluster) (journal : Journal) (reading : Reading) (left : List ℕ)
       pub gets : EndGets c journal results how text
       pub added : Adds old text new
 
-    -- the source failed, behind all lines that were taken whole: the lines of the run were written that took the answers of these, each of them and no other,
-    -- and asks for one more. What is held behind them gives no answer yet
-    pub record IsBrokenOff : Type 0 where
-      pub lines : List (List (List ℕ))
-      pub held : List ℕ
-      pub unread : List ℕ
-      pub left_is : after ≡ Some unread
-      pub cut : raw_lines (reading.held ++ left) ≡ lines ++ raw_lines (held ++ unread)
-      pub bytes : List ℕ
-      pub taken : TakesBytes (Some left) bytes after
-      pub parts : reading.held ++ bytes ≡ bytes_of lines ++ held
-      pub unfinished : holds_line held ≡ false
-      pub undecided : IsUndecided (reading.room - length (bytes_of lines)) reading.longest held
+    -- the run took the answers of these lines, each of them and no other, and asks for one more: its lines were written
+    pub record IsRunOverLines (lines : List (List (List ℕ))) : Type 0 where
       pub given : List ResultLine
       pub said : said_by c (first_result_place c journal reading) lines ≡ record { results = given; stop = None }
       pub behind : List ResultLine
@@ -87,28 +140,23 @@ module _ (c : Cluster) (journal : Journal) (reading : Reading) (left : List ℕ)
       pub none_silent : IsRunSoFar c journal.promotions false journal.events (Some (map (λ (r : ResultLine). r.answer) given)) printed journal_now (Some [])
       pub added : Adds old (run_lines_text c printed) new
 
-    -- what is written with one call, behind these lines: some lines of the run, which has taken these answers by then; or the last line of all
-    pub data IsCall (printed : List RunLine) (asked : Coming) (text : List ℕ) : Type 0 where
-      of_run : (call closing : List RunLine) (journal_now : List Event) (given behind : List ResultLine) → results.results ≡ given ++ behind
-          → IsStoppedRun c journal.promotions (is_none results.stop) journal.events (Some (answers_to_come results)) printed call closing journal_now
-          (Some (map (λ (r : ResultLine). r.answer) behind))
-          → asked ≡ record { results = given; stop = None } → text ≡ run_lines_text c call → IsCall printed asked text
-      of_cut : (given : List ResultLine) (result : ResultLine) → CutRunGives c journal results printed given result
-          → asked ≡ record { results = given ++ result ∷ []; stop = None } → text ≡ run_line c (line.Unexpected result.line) → IsCall printed asked text
-      of_refusal : (n : ℕ) (cause : LineCause) → results.stop ≡ Some (why.Refused n cause) → AsksForMore c journal results printed
-          → asked ≡ results → text ≡ line_refusal_text n cause → IsCall printed asked text
+    -- the source failed, behind some bytes that it gave: of these and those that were held before some lines were taken whole, the others give no answer
+    -- yet, and the run went over these lines
+    pub record IsBrokenOff : Type 0 where
+      pub bytes : List ℕ
+      pub taken : TakesBytes (Some left) bytes after
+      pub whole : IsTakenWhole (reading.held ++ left) after
+      pub no_answer : GivesNoAnswer (reading.room - length (bytes_of whole.lines)) reading.longest whole.held
+      pub ran : IsRunOverLines whole.lines
 
     -- the sink failed in one call: all lines before it were written, and a front of what it writes. No line was asked for since. It is a front of the text that
     -- is due
     pub record IsCutOff : Type 0 where
-      pub printed : List RunLine
-      pub asked : Coming
-      pub text : List ℕ
-      pub call : IsCall printed asked text
-      pub read : AskedFor asked ⊎ AskedForAll asked
+      pub call : WriterCall
+      pub read : AskedFor (asked_by_call call) ⊎ AskedForAll (asked_by_call call)
       pub middle : Option (List ℕ)
-      pub before : Adds old (run_lines_text c printed) middle
-      pub front : AddsPrefix text middle new
+      pub before : Adds old (run_lines_text c (lines_before_call call)) middle
+      pub front : AddsPrefix (text_of_call call) middle new
       pub begins : (how : LiveEnd) (whole : List ℕ) → EndGets c journal results how whole → AddsPrefix whole old new
 
     -- memory ran out between two transitions: the lines up to there were written, none or ones that end with `complete K`, `aborted K` or an answer that came
@@ -129,18 +177,3 @@ module _ (c : Cluster) (journal : Journal) (reading : Reading) (left : List ℕ)
     Reaches end.WriteFault = IsCutOff
     Reaches end.NoMemory = HasNoMemory
     Reaches how = HasWritten how
-
--- what a run ends with that asks for a line which isn't read, by why it isn't: `refused LINE CAUSE` is written, or a front of it where the sink failed
-abbrev pub EndsLines : Option LineStop → LiveEnd → Option (List ℕ) → Option (List ℕ) → Type 0
-EndsLines (Some (why.Refused n cause)) end.Refused before after = Adds before (line_refusal_text n cause) after
-EndsLines (Some (why.Refused n cause)) end.WriteFault before after = AddsPrefix (line_refusal_text n cause) before after
-EndsLines (Some why.TooLarge) end.TooLarge before after = after ≡ before
-EndsLines (Some why.ReadFault) end.ReadFault before after = after ≡ before
-EndsLines None end.ReadFault before after = after ≡ before
-EndsLines stop how before after = ⊥
-
--- what a run ends with that is cut: this last line is written, or a front of it where the sink failed
-abbrev pub EndsCut : List ℕ → LiveEnd → Option (List ℕ) → Option (List ℕ) → Type 0
-EndsCut text end.Unexpected before after = Adds before text after
-EndsCut text end.WriteFault before after = AddsPrefix text before after
-EndsCut text how before after = ⊥

@@ -8,7 +8,8 @@ ghost use Rattle.crm_lex.specs.RawLines.{physical_lines};
 ghost use Rattle.cluster_io.specs.Readings.{Reading};
 ghost use Rattle.crm_lex.specs.Reading.{kept, reads_line};
 ghost use Rattle.faults.specs.declared.fault.Fault.TheVariants as found;
-ghost use Rattle.live_run.specs.Heads.{BringsHead, CanGoOn, HasHeadGoneOn, HeadVerdict, IsAmid, IsStopOf, KeepsBytes, StillAmid, WhileWell, begins_results, came_to, head_behind, lacks_memory, progress, head_by_words, stop_for, taken};
+ghost use Rattle.live_run.specs.Heads.{CanGoOn, HasHeadGoneOn, HeadVerdict, IsAmid, IsStopOf, KeepsBytes, begins_results, head_behind, line_by_words, progress, taken, verdict_by};
+ghost use Rattle.live_run.specs.Inner.HeadSteps.{BringsHead, StillAmid, WhileWell, came_to, lacks_memory, stop_for};
 
 use cluster_io::{LineReader, LineStep, Source};
 use crm_lex::{LexCause, LexFault, NoMemory, WordBuf, lex_one, line_count};
@@ -72,7 +73,7 @@ fn line_says<S: Source>(
 ) -> Option<Result<(), HeadStop>>
     requires { (reading_of reader.now).number + length (physical_lines (reading_of reader.now).raw) ≤ 2 ^ 32 }
     ensures says { (text : List ℕ) (reading : Reading) (others : HeadVerdict) → came_to result text reading others
-        ≡ head_by_words (reads_line (reading_of reader.now).number (reading_of reader.now).raw) (taken text reading.next reading.room) others }
+        ≡ verdict_by (line_by_words (reads_line (reading_of reader.now).number (reading_of reader.now).raw)) (taken text reading.next reading.room) others }
     ensures fault { result ≢ Some (Err HeadStop.ReadFault) }
     ensures memory { lacks_memory result ≡ false }
 {
@@ -97,7 +98,7 @@ fn take_line<S: Source>(
     requires numbers { (reading_of reader.now).number + length (physical_lines (reading_of reader.now).raw) ≤ 2 ^ 32 }
     requires next { head.old.next ≡ (reading_of reader.now).number }
     ensures says { lacks_memory result ≡ false → (text : List ℕ) (reading : Reading) (others : HeadVerdict) → came_to result text reading others
-        ≡ head_by_words (reads_line (reading_of reader.now).number (reading_of reader.now).raw) (taken text reading.next reading.room) others }
+        ≡ verdict_by (line_by_words (reads_line (reading_of reader.now).number (reading_of reader.now).raw)) (taken text reading.next reading.room) others }
     ensures text { lacks_memory result ≡ false → head.new.text.items ≡ head.old.text.items ++ (reading_of reader.now).raw }
     ensures next { head.new.next ≡ head.old.next + length (physical_lines (reading_of reader.now).raw) }
     ensures fault { result ≢ Some (Err HeadStop.ReadFault) }
@@ -132,7 +133,6 @@ fn step<S: Source>(
     ensures amid { result ≡ Some (Err HeadStop.ReadFault) → holds_line (reading_of reader.new).held ≡ false }
     ensures undecided { result ≡ Some (Err HeadStop.ReadFault)
         → IsUndecided (reading_of reader.new).room (reading_of reader.new).longest (reading_of reader.new).held }
-    ensures same_size { result ≡ Some (Err HeadStop.ReadFault) → (reading_of reader.new).longest ≡ (reading_of reader.old).longest }
     ensures short { result ≡ Some (Ok tt) → length (reading_of reader.new).held < 4096 }
 
     ensures bears { Bears S.counts_only_failures (result ≡ Some (Err HeadStop.ReadFault)) (S.faults (source_of reader.old)) (S.faults (source_of reader.new)) }

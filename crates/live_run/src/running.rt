@@ -13,7 +13,8 @@ ghost use Rattle.live_run.specs.declared.live_end.LiveEnd.{LiveEnd as LiveEndOf}
 ghost use Rattle.live_run.specs.Ends.{IsDueText};
 ghost use Rattle.live_run.specs.LineWriters.{writer_cluster, writer_loan, sink_of};
 ghost use Rattle.live_run.specs.Writing.{IsSameSink};
-ghost use Rattle.live_run.specs.Reached.{EndsCut, EndsLines, Reaches, results_behind};
+ghost use Rattle.live_run.specs.Reached.{Reaches, results_behind};
+ghost use Rattle.live_run.specs.Inner.RunEnds.{EndsCut, EndsLines};
 
 use crate::live_end::LiveEnd;
 use crate::{LineOutcomes, LineStop, LineWriter};

@@ -7,7 +7,7 @@ use Rattle.crm_lex.specs.RawLines.{raw_lines}
 use Rattle.faults.specs.declared.fault.Fault.{Fault}
 use Rattle.faults.specs.declared.fault.Fault.TheVariants.{At}
 use Rattle.faults.specs.Reading.{UnlessMemory}
-use Rattle.live_run.specs.Followed.{bytes_of, count_lines}
+use Rattle.live_run.specs.Followed.{bytes_of}
 use Rattle.live_run.specs.Heads as heads
 use Rattle.live_run.specs.Heads.{CanGoOn, IsStopOf, KeepsBytes, head_behind, progress, taken}
 use Rattle.live_run.specs.declared.head.HeadStop.{HeadStop}
@@ -55,33 +55,30 @@ amid : (old new : Reading) (input : List ℕ) (after : Option (List ℕ)) → ol
     → IsAmidHead input after
 amid old new input None e a = let none = a.keeps in absurd cc
 amid old new input (Some unread) e a = record {
-  lines = a.gone_on.taken.lines;
-  held = new.held;
-  unread = unread;
-  left_is = refl;
-  parts =
-      let all : Some input ≡ Some (a.text ++ (new.held ++ unread))
-      = subst (λ (r : Reading). Some ([] ++ (r.held ++ input)) ≡ Some (a.text ++ (new.held ++ unread))) e a.keeps in
-      let whole : input ≡ a.text ++ (new.held ++ unread) = cc in
-      whole ∙ ap (λ (t : List ℕ). t ++ (new.held ++ unread)) a.gone_on.taken.text_is;
-  cut =
-      let all : Some (raw_lines input) ≡ Some (a.gone_on.taken.lines ++ raw_lines (new.held ++ unread))
-      = subst (λ (r : Reading). Some (raw_lines (r.held ++ input)) ≡ Some (a.gone_on.taken.lines ++ raw_lines (new.held ++ unread))) e a.gone_on.taken.cut in
-      cc;
-  goes_on = λ more.
-      ap (λ (r : Reading). heads.head_verdict r.longest [] r.room r.next (a.gone_on.taken.lines ++ more)) (sym e)
-      ∙ (a.gone_on.goes_on more
-      ∙ (ap (λ (n : ℕ). heads.head_verdict n a.text new.room new.next more) size
-      ∙ (ap (λ (n : ℕ). heads.head_verdict longest_line a.text n new.next more) room
-      ∙ (ap (λ (n : ℕ). heads.head_verdict longest_line a.text (most_bytes - length (bytes_of a.gone_on.taken.lines)) n more) number
-      ∙ ap (λ (t : List ℕ). heads.head_verdict longest_line t (most_bytes - length (bytes_of a.gone_on.taken.lines)) (1 + count_lines a.gone_on.taken.lines) more)
-      a.gone_on.taken.text_is))));
-  unfinished = a.none_whole;
-  undecided = subst (λ (n : ℕ). IsUndecided n longest_line new.held) room (subst (λ (n : ℕ). IsUndecided new.room n new.held) size a.undecided);
+  whole = record {
+    lines = a.gone_on.taken.lines;
+    held = new.held;
+    unread = unread;
+    left_is = refl;
+    parts =
+        let all : Some input ≡ Some (a.text ++ (new.held ++ unread))
+        = subst (λ (r : Reading). Some ([] ++ (r.held ++ input)) ≡ Some (a.text ++ (new.held ++ unread))) e a.keeps in
+        let whole : input ≡ a.text ++ (new.held ++ unread) = cc in
+        whole ∙ ap (λ (t : List ℕ). t ++ (new.held ++ unread)) a.gone_on.taken.text_is;
+    cut =
+        let all : Some (raw_lines input) ≡ Some (a.gone_on.taken.lines ++ raw_lines (new.held ++ unread))
+        = subst (λ (r : Reading). Some (raw_lines (r.held ++ input)) ≡ Some (a.gone_on.taken.lines ++ raw_lines (new.held ++ unread))) e a.gone_on.taken.cut in
+        cc;
+  };
+  goes_on = subst (λ (r : Reading). heads.AllGoOnBehind r.longest r.room r.next a.gone_on.taken.lines) e a.gone_on.goes_on;
+  no_answer = record {
+    unfinished = a.none_whole;
+    undecided = subst (λ (n : ℕ). IsUndecided n longest_line new.held) room (subst (λ (n : ℕ). IsUndecided new.room n new.held) size a.undecided);
+  };
 }
   where
     size : new.longest ≡ longest_line
-    size = a.same_size ∙ ap (λ (r : Reading). r.longest) e
+    size = a.gone_on.same_size ∙ ap (λ (r : Reading). r.longest) e
 
     room : new.room ≡ most_bytes - length (bytes_of a.gone_on.taken.lines)
     room =
@@ -89,9 +86,6 @@ amid old new input (Some unread) e a = record {
         let left = a.gone_on.taken.room in
         let first : old.room ≡ most_bytes = ap (λ (r : Reading). r.room) e in
         omega (arith, text, left, first)
-
-    number : new.next ≡ 1 + count_lines a.gone_on.taken.lines
-    number = a.gone_on.taken.number ∙ ap (λ (r : Reading). r.next + count_lines a.gone_on.taken.lines) e
 
 pub stops : (old new : Reading) (before after : Option (List ℕ)) (found : HeadStop) → old ≡ fresh → IfSome before (λ left. IsStopOf (head_behind [] old left) found)
     → (found ≡ why.ReadFault → heads.IsAmid old new before after) → IfSome before (λ input. StopsBy input after (head_end_of found))

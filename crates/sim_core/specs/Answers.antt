@@ -12,29 +12,40 @@ use Rattle.input_reading.specs.Reading.{most_bytes}
 use Rattle.sim_core.specs.Replay.{IsBegun, coming_behind}
 use Rattle.sim_core.specs.Table.{Intake, nothing, whole, live, intake, takes_memory, Gets}
 
--- a status that comes with a text of its own
-abbrev pub IsOutcome : Status → Type 0
-IsOutcome Done = Unit {0}
-IsOutcome Refused = Unit {0}
-IsOutcome Unexpected = Unit {0}
-IsOutcome NotLawful = Unit {0}
-IsOutcome _ = ⊥
-
 -- the input was read to its end, and had room
 pub record IsReadWhole (input : List ℕ) (left : Option (List ℕ)) : Type 0 where
   pub room : length input ≤ most_bytes
   pub at_end : left ≡ Some []
 
+-- what each status says of an input that is read to its end, and of what is left of it
+abbrev pub WholeTaken : List ℕ → Option (List ℕ) → Status → Type 0
+WholeTaken input left Done = IsReadWhole input left
+WholeTaken input left NoMemory = Unit {0}
+WholeTaken input left Usage = IsReadWhole input left
+WholeTaken input left ReadFault = Unit {0}
+WholeTaken input left WriteFault = IsReadWhole input left
+WholeTaken input left Refused = IsReadWhole input left
+WholeTaken input left Unexpected = IsReadWhole input left
+WholeTaken input left TooLarge = most_bytes < length input
+WholeTaken input left NotLawful = IsReadWhole input left
+
+-- with a word that reads nothing no read fails, and no input is too large
+abbrev pub NothingTaken : Status → Type 0
+NothingTaken Done = Unit {0}
+NothingTaken NoMemory = Unit {0}
+NothingTaken Usage = Unit {0}
+NothingTaken ReadFault = ⊥
+NothingTaken WriteFault = Unit {0}
+NothingTaken Refused = Unit {0}
+NothingTaken Unexpected = Unit {0}
+NothingTaken TooLarge = ⊥
+NothingTaken NotLawful = Unit {0}
+
 -- what a status says of the input, and of what is left of it. Of a live word this is said together with what is written
 abbrev pub InputTaken : Intake → List ℕ → Option (List ℕ) → Status → Type 0
-InputTaken nothing input left ReadFault = ⊥
-InputTaken nothing input left TooLarge = ⊥
-InputTaken nothing input left _ = Unit {0}
-InputTaken whole input left NoMemory = Unit {0}
-InputTaken whole input left ReadFault = Unit {0}
-InputTaken whole input left TooLarge = most_bytes < length input
-InputTaken whole input left _ = IsReadWhole input left
-InputTaken live input left _ = Unit {0}
+InputTaken nothing input left status = NothingTaken status
+InputTaken whole input left status = WholeTaken input left status
+InputTaken live input left status = Unit {0}
 
 -- where the input gets these statuses with these texts
 module _ (Due : Status → List ℕ → Type 0) where
@@ -58,12 +69,15 @@ module _ (Due : Status → List ℕ → Type 0) where
 
   -- what a status says of what the sink holds before and after
   abbrev pub Written : Option (List ℕ) → Option (List ℕ) → Status → Type 0
+  Written before after Done = IsWritten Done before after
   Written before after NoMemory = (status : Status) (text : List ℕ) → Due status text → AddsPrefix text before after
-  Written before after WriteFault = IsCutShort before after
-  Written before after ReadFault = after ≡ before
-  Written before after TooLarge = after ≡ before
   Written before after Usage = ⊥
-  Written before after status = IsWritten status before after
+  Written before after ReadFault = after ≡ before
+  Written before after WriteFault = IsCutShort before after
+  Written before after Refused = IsWritten Refused before after
+  Written before after Unexpected = IsWritten Unexpected before after
+  Written before after TooLarge = after ≡ before
+  Written before after NotLawful = IsWritten NotLawful before after
 
 -- for a word with this intake, which gives an input a status and a text
 module _ (kind : Intake) (Output : List ℕ → Status → List ℕ → Type 0) where
@@ -81,12 +95,14 @@ module _ (kind : Intake) (Output : List ℕ → Status → List ℕ → Type 0) 
 -- the input of a word, where it is told: all bytes that the source has left, and none with a word that reads nothing
 abbrev pub told_input : Intake → Option (List ℕ) → Option (List ℕ)
 told_input nothing left = Some []
-told_input _ left = left
+told_input whole left = left
+told_input live left = left
 
 -- what the answer to a word with this intake says of its input
 abbrev pub SaysBy : Intake → Command → List ℕ → Option (List ℕ) → Option (List ℕ) → Option (List ℕ) → Status → Type 0
+SaysBy nothing word input left before after status = SaysOf nothing (Gets word) input left before after status
+SaysBy whole word input left before after status = SaysOf whole (Gets word) input left before after status
 SaysBy live word input left before after status = SaysLive input left before after status
-SaysBy kind word input left before after status = SaysOf kind (Gets word) input left before after status
 
 -- what the answer to a word says, where its input is told
 abbrev pub WordAnswers : Command → Option (List ℕ) → Option (List ℕ) → Option (List ℕ) → Option (List ℕ) → Status → Type 0
@@ -95,8 +111,9 @@ WordAnswers word told left before after status =
 
 -- a word that reads an input to its end before it writes gives a text of one that has room. A live word gives one of each input
 abbrev pub InputHasRoom : Intake → List ℕ → Type 0
+InputHasRoom nothing input = length input ≤ most_bytes
+InputHasRoom whole input = length input ≤ most_bytes
 InputHasRoom live input = Unit {0}
-InputHasRoom kind input = length input ≤ most_bytes
 
 -- where no count rose and the input has room, each answer but out of memory is the one that the input gets
 abbrev pub IsCompleteAnswer : Command → Option (List ℕ) → Status → Type 0
@@ -114,20 +131,29 @@ reads_some nothing = false
 reads_some whole = true
 reads_some live = true
 
--- a status with a text of its own that a word may have: one that some input gets. Of a live word each but that of an audit
+-- a word may have this status with its text: some input gets it. Of a live word it isn't said which one does
 abbrev pub MayGiveStatus : Intake → (List ℕ → Status → List ℕ → Type 0) → Status → Type 0
-MayGiveStatus live Output NotLawful = ⊥
+MayGiveStatus nothing Output status = SomeInput nothing Output status
+MayGiveStatus whole Output status = SomeInput whole Output status
 MayGiveStatus live Output status = Unit {0}
-MayGiveStatus kind Output status = SomeInput kind Output status
+
+-- a word may find that a run isn't lawful: some input gets this. A live word judges none
+abbrev pub MayJudge : Intake → (List ℕ → Status → List ℕ → Type 0) → Type 0
+MayJudge nothing Output = SomeInput nothing Output NotLawful
+MayJudge whole Output = SomeInput whole Output NotLawful
+MayJudge live Output = ⊥
 
 -- a status that a call may have whatever its source and its sink tell: those of a fault, of size and of memory, and those with a text
 abbrev pub MayAnswer : Bool → Intake → (List ℕ → Status → List ℕ → Type 0) → Status → Type 0
+MayAnswer memory kind Output Done = MayGiveStatus kind Output Done
 MayAnswer memory kind Output NoMemory = memory ≡ true
-MayAnswer memory kind Output ReadFault = reads_some kind ≡ true
-MayAnswer memory kind Output TooLarge = reads_some kind ≡ true
-MayAnswer memory kind Output WriteFault = Unit {0}
 MayAnswer memory kind Output Usage = ⊥
-MayAnswer memory kind Output status = MayGiveStatus kind Output status
+MayAnswer memory kind Output ReadFault = reads_some kind ≡ true
+MayAnswer memory kind Output WriteFault = Unit {0}
+MayAnswer memory kind Output Refused = MayGiveStatus kind Output Refused
+MayAnswer memory kind Output Unexpected = MayGiveStatus kind Output Unexpected
+MayAnswer memory kind Output TooLarge = reads_some kind ≡ true
+MayAnswer memory kind Output NotLawful = MayJudge kind Output
 
 -- a status of a word
 abbrev pub IsStatusOf : Command → Status → Type 0

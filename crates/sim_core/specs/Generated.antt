@@ -1,5 +1,6 @@
 -- What is written by the word `gen`.
 use Rattle.std.specs.Prelude.{◌≡◌, ℕ, true, Option, Some, List, map}
+use Rattle.std.specs.List.{AllByRecursion}
 use Rattle.sim_core.specs.Summary.{summary_text}
 use Rattle.cluster_types.specs.declared.cluster.Cluster.{Cluster}
 use Rattle.cluster_types.specs.declared.journal.Answer.{Answer}
@@ -7,6 +8,7 @@ use Rattle.cluster_types.specs.declared.journal.Journal.{Journal}
 use Rattle.cluster_types.specs.declared.run.Run.{Run}
 use Rattle.cluster_types.specs.Runs.{IsCutRun, IsWholeRun}
 use Rattle.cluster_types.specs.Texts.{run_lines}
+use Rattle.graph_exec.specs.Kept.{IsPassedOfPlan}
 use Rattle.input_reading.specs.declared.results.result_lines.ResultLine.{ResultLine}
 use Rattle.input_reading.specs.declared.input.reading.Input.{Input}
 
@@ -20,10 +22,11 @@ pub data IsRunOf (c : Cluster) (journal : Journal) (answers : List Answer) (run 
   cut : (given : Answer) (behind : Option (List Answer))
       → IsCutRun c journal.promotions true journal.events (Some answers) (run_lines c run) run.journal.events given behind → IsRunOf c journal answers run
 
--- the text is the summary of the run of the case of this number
+-- the text is the summary of the run of the case of this number, of which each transition is kept as it was planned
 pub record IsSummaryOf (number : ℕ) (c : Cluster) (journal : Journal) (answers : List Answer) (text : List ℕ) : Type 0 where
   pub run : Run
   pub is : IsRunOf c journal answers run
+  pub plans : AllByRecursion (IsPassedOfPlan c journal.promotions run.journal.events) run.passed
   pub printed : text ≡ summary_text c number run
 
 -- the text is the summary of the run of what the input says

@@ -2,3 +2,4 @@
 pub mod Compared
 pub mod LiveSteps
 pub mod TextLines
+pub mod Outcomes

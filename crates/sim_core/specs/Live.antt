@@ -1,15 +1,13 @@
 -- What an answer to the word `replay` says of its input, of what was read of it, and of what was written, while the one goes on with the other (rules of
 -- this project).
-use Rattle.std.specs.Prelude.{◌≡◌, ℕ, ◌+◌, ◌-◌, ◌<◌, false, Option, Some, List, [], ◌++◌, length, IfSome}
-use Rattle.cluster_io.specs.NextLine.{holds_line, IsUndecided}
+use Rattle.std.specs.Prelude.{◌≡◌, ℕ, ◌-◌, ◌<◌, Option, Some, List, [], ◌++◌, length, IfSome}
 use Rattle.cluster_io.specs.Readings.{Reading}
 use Rattle.cluster_io.specs.Streams.{Adds, AddsPrefix}
-use Rattle.crm_lex.specs.RawLines.{raw_lines}
 use Rattle.cluster_types.specs.declared.cluster.Cluster.{Cluster}
 use Rattle.cluster_types.specs.declared.journal.Journal.{Journal}
-use Rattle.live_run.specs.Followed.{bytes_of, count_lines}
+use Rattle.live_run.specs.Followed.{bytes_of}
 use Rattle.live_run.specs.Heads as heads
-use Rattle.live_run.specs.Reached.{HasNoMemory, IsBrokenOff, IsCutOff}
+use Rattle.live_run.specs.Reached.{GivesNoAnswer, HasNoMemory, IsBrokenOff, IsCutOff, IsTakenWhole}
 use Rattle.input_reading.specs.declared.input.cause.InputCause.{InputCause}
 use Rattle.input_reading.specs.declared.input.reading.Head.{Head}
 use Rattle.sim_core.specs.declared.status.Status.{Status}
@@ -18,19 +16,11 @@ use Rattle.input_reading.specs.Causes.{refusal_text}
 use Rattle.input_reading.specs.Reading.{longest_line, most_bytes}
 use Rattle.sim_core.specs.Replay.{IsBegun, IsHeadFault, IsReplayOutput, head_in}
 
--- reading stopped amid the head: of the bytes that were taken these are whole lines, each of which the head goes on behind, whatever follows. The others hold
--- no whole line and give no answer yet
+-- reading stopped amid the head: behind each of the lines that were taken whole the head goes on, and what is held gives no answer yet
 pub record IsAmidHead (input : List ℕ) (left : Option (List ℕ)) : Type 0 where
-  pub lines : List (List (List ℕ))
-  pub held : List ℕ
-  pub unread : List ℕ
-  pub left_is : left ≡ Some unread
-  pub parts : input ≡ bytes_of lines ++ (held ++ unread)
-  pub cut : raw_lines input ≡ lines ++ raw_lines (held ++ unread)
-  pub goes_on : (more : List (List (List ℕ))) → heads.head_verdict longest_line [] most_bytes 1 (lines ++ more)
-      ≡ heads.head_verdict longest_line (bytes_of lines) (most_bytes - length (bytes_of lines)) (1 + count_lines lines) more
-  pub unfinished : holds_line held ≡ false
-  pub undecided : IsUndecided (most_bytes - length (bytes_of lines)) longest_line held
+  pub whole : IsTakenWhole input left
+  pub goes_on : heads.AllGoOnBehind longest_line most_bytes 1 whole.lines
+  pub no_answer : GivesNoAnswer (most_bytes - length (bytes_of whole.lines)) longest_line whole.held
 
 -- what the sink holds before and after
 module _ (input : List ℕ) (left before after : Option (List ℕ)) where
@@ -84,10 +74,10 @@ module _ (input : List ℕ) (left before after : Option (List ℕ)) where
   abbrev pub SaysLive : Status → Type 0
   SaysLive Done = IsReplayDone
   SaysLive NoMemory = HasNoMemoryLeft
+  SaysLive Usage = ⊥
   SaysLive ReadFault = HasReadFault
   SaysLive WriteFault = HasWriteFault
   SaysLive Refused = HasWrittenReplay Refused
   SaysLive Unexpected = HasWrittenReplay Unexpected
   SaysLive TooLarge = HasWrittenReplay TooLarge
-  SaysLive Usage = ⊥
   SaysLive NotLawful = ⊥

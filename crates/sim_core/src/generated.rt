@@ -1,13 +1,16 @@
 //! The word `gen`: the run of a generated case, in numbers.
 
 ghost use Rattle.std.specs.Prelude.{◌≡◌, ◌≤◌, ◌<◌, ◌^◌, ℕ, true, Option, List, IfOk, length};
+ghost use Rattle.std.specs.List.{AllByRecursion};
 ghost use Rattle.cases.specs.Case.{case_text};
 ghost use Rattle.cluster_io.specs.Streams.{Bears};
 ghost use Rattle.cluster_types.specs.Journals.{moment_of};
 ghost use Rattle.cluster_types.specs.Safety.{IsAtRest};
 ghost use Rattle.cluster_types.specs.Valid.{IsValid};
+ghost use Rattle.graph_exec.specs.Kept.{IsPassedOfPlan};
 ghost use Rattle.input_reading.specs.Results.{most_results};
-ghost use Rattle.sim_core.specs.Answers.{IsOutcome, MayAnswer, SaysOf};
+ghost use Rattle.sim_core.specs.Answers.{MayAnswer, SaysOf};
+ghost use Rattle.sim_core.specs.Inner.Outcomes.{IsOutcome};
 ghost use Rattle.sim_core.specs.Generated.{IsRunOf, IsSummaryOf, IsSummaryText, answers_of};
 ghost use Rattle.sim_core.specs.Outputs.{IsOutput};
 ghost use Rattle.input_reading.specs.Reading.{most_bytes};
@@ -44,7 +47,8 @@ fn run_of(
     requires at_rest { IsAtRest journal.events }
     requires moment { moment_of journal.events < 2 ^ 40 }
     requires few { length results.now ≤ most_results }
-    ensures { IfOk result (λ run. IsRunOf cluster.now journal (answers_of results.now) run) }
+    ensures run { IfOk result (λ run. IsRunOf cluster.now journal (answers_of results.now) run) }
+    ensures plans { IfOk result (λ run. AllByRecursion (IsPassedOfPlan cluster.now journal.promotions run.journal.events) run.passed) }
 {
     enough_transitions_are_allowed();
     let mut answers = Script::new(answers_of(alloc, results)?);

@@ -3,7 +3,8 @@
 ghost use Rattle.std.specs.Prelude.{◌≡◌, ℕ, ◌+◌, ◌≤◌, ◌<◌, true, false, List, length, IfOk, IfSome};
 ghost use Rattle.cluster_io.specs.Streams.{Bears, TakesCount};
 ghost use Rattle.sim_core.specs.declared.status.Status.{Status as StatusOf};
-ghost use Rattle.sim_core.specs.Answers.{IsEarly, IsOutcome, MayAnswer, SaysOf};
+ghost use Rattle.sim_core.specs.Answers.{IsEarly, MayAnswer, SaysOf};
+ghost use Rattle.sim_core.specs.Inner.Outcomes.{IsOutcome};
 ghost use Rattle.input_reading.specs.Reading.{most_bytes};
 ghost use Rattle.sim_core.specs.Table.{whole};
 

@@ -1,14 +1,21 @@
 -- What is known of a simulated cluster by what comes next of it.
-use Rattle.std.proofs.Common.{◌≡◌, ℕ, ◌<◌, ◌+◌, ◌==◌, ◌&&◌, nat_lt, Bool, true, false, if◌then◌else◌, length, refl, eqb-true, arith}
+use Rattle.std.proofs.Common.{◌≡◌, ℕ, ◌<◌, ◌+◌, ◌==◌, ◌&&◌, nat_lt, Bool, true, false, if◌then◌else◌, Some, None, length, refl, arith}
 use Rattle.std.proofs.lemmas.Bool.{and_parts}
 use Rattle.std.proofs.lemmas.Bool.Decides.{nat_tests}
 use Rattle.cluster_types.specs.declared.cluster.Cluster.{Cluster}
 use Rattle.simulated.specs.declared.turn.Fate.{Fate}
+use Rattle.simulated.specs.declared.turn.Fate.TheVariants as fate
 use Rattle.simulated.specs.declared.turn.Turn.{Turn}
 use Rattle.simulated.specs.declared.turn.Turn.TheVariants as turn
-use Rattle.cases.specs.Draws.{draw}
-use Rattle.simulated.specs.Turns.{die, draws_for_end, drawn_node, fate_by, is_fault, joins_now, leaves_now, turn_of}
+use Rattle.simulated.specs.Turns.{HappensBehind, action_ends, drawn_next, fate_by, happens_behind, happens_by, is_fault, node_joins, node_leaves, turn_by, turn_of}
 use Rattle.simulated.specs.RealWorlds.{World, is_node_off, is_node_up}
+
+-- what happens, by four tests
+abbrev pub by_tests : Bool → Bool → Bool → Bool → ℕ → Fate → ℕ → HappensBehind
+by_tests zero one up off node f drawn =
+    if zero then happens_behind (if up then node_leaves node else action_ends fate.True) (drawn + 1)
+    else (if one then happens_behind (if off then node_joins node else action_ends fate.True) (drawn + 1)
+    else happens_behind (action_ends f) drawn)
 
 module _ (c : Cluster) (number : ℕ) (w : World) where
   -- a node that stands so, where a fault may be given yet
@@ -17,69 +24,76 @@ module _ (c : Cluster) (number : ℕ) (w : World) where
     pub within : node < length c.nodes
     pub is_so : so ≡ true
 
-  early_by : (low : ℕ) → low < 19 → (may : Bool) → nat_lt w.given 16 ≡ may → (if may then draw number (w.drawn + 1) 20 else 19) ≡ low → w.given < 16
-  early_by low small true t e = grind (arith, nat_tests)
-  early_by low small false t e = absurd (omega (arith, e))
+  abbrev turn_at : HappensBehind → ℕ → Turn
+  turn_at h count = turn_by h.happens (drawn_next number h.drawn count)
 
-  is_early : (low : ℕ) → low < 19 → die c number w ≡ low → w.given < 16
-  is_early low small e = early_by low small (nat_lt w.given 16) refl e
+  record IsDrawn (stands : Bool) (drawn node : ℕ) : Type 0 where
+    pub same : drawn ≡ node
+    pub is_so : stands ≡ true
+
+  left : (zero one up off : Bool) (drawn : ℕ) (f : Fate) (at count node : ℕ) → turn_at (by_tests zero one up off drawn f at) count ≡ turn.Leaves node → IsDrawn up drawn node
+  left true one true off drawn f at count node e = record { same = cc; is_so = refl }
+  left true one false off drawn f at count node e = absurd (let g : ⊥ = cc in g)
+  left false true up true drawn f at count node e = absurd (let g : ⊥ = cc in g)
+  left false true up false drawn f at count node e = absurd (let g : ⊥ = cc in g)
+  left false false up off drawn f at count node e = absurd (let g : ⊥ = cc in g)
+
+  joined : (zero one up off : Bool) (drawn : ℕ) (f : Fate) (at count node : ℕ) → turn_at (by_tests zero one up off drawn f at) count ≡ turn.Joins node → IsDrawn off drawn node
+  joined true one true off drawn f at count node e = absurd (let g : ⊥ = cc in g)
+  joined true one false off drawn f at count node e = absurd (let g : ⊥ = cc in g)
+  joined false true up true drawn f at count node e = record { same = cc; is_so = refl }
+  joined false true up false drawn f at count node e = absurd (let g : ⊥ = cc in g)
+  joined false false up off drawn f at count node e = absurd (let g : ⊥ = cc in g)
+
+  abbrev die : ℕ
+  die = drawn_next number w.drawn 20
+
+  abbrev node_drawn : ℕ
+  node_drawn = drawn_next number (w.drawn + 1) (length c.nodes)
+
+  -- what is turned by the first number, where a fault may be given or not
+  abbrev turn_where : Bool → ℕ → Turn
+  turn_where may count = turn_at (happens_by c number w (if may then Some die else None) (w.drawn + 1)) count
+
+  early_by : nat_lt w.given 16 ≡ true → w.given < 16
+  early_by t = grind (arith, nat_tests)
 
   pub leaving : (count node : ℕ) → turn_of c number w count ≡ turn.Leaves node → IsNodeSo (is_node_up (w.nodes node)) node
-  leaving count node e = on (leaves_now c number w) (joins_now c number w) refl e where
-    last : Turn
-    last = turn.Ends (draw number (w.drawn + draws_for_end c number w) count) (fate_by (die c number w))
-
-    so : leaves_now c number w ≡ true → drawn_node c number w ≡ node → IsNodeSo (is_node_up (w.nodes node)) node
-    so h same =
-        let parts = and_parts (die c number w == 0) (nat_lt (drawn_node c number w) (length c.nodes) && is_node_up (w.nodes (drawn_node c number w))) h in
-        let more = and_parts (nat_lt (drawn_node c number w) (length c.nodes)) (is_node_up (w.nodes (drawn_node c number w))) parts.1 in
-        record {
-          early = is_early 0 (omega arith) (eqb-true (die c number w) 0 parts.0);
-          within = let t = rw same at more.0 in grind (arith, nat_tests);
-          is_so = rw same at more.1;
-        }
-
-    on : (leaves joins : Bool) → leaves_now c number w ≡ leaves
-        → (if leaves then turn.Leaves (drawn_node c number w) else (if joins then turn.Joins (drawn_node c number w) else last)) ≡ turn.Leaves node
-        → IsNodeSo (is_node_up (w.nodes node)) node
-    on true joins h i = so h (let same : drawn_node c number w ≡ node = cc in same)
-    on false true h i = cc
-    on false false h i = cc
+  leaving count node e = on (nat_lt w.given 16) refl e
+    where
+      on : (may : Bool) → nat_lt w.given 16 ≡ may → turn_where may count ≡ turn.Leaves node → IsNodeSo (is_node_up (w.nodes node)) node
+      on false t i = absurd (let g : ⊥ = cc in g)
+      on true t i =
+          let d = left (die == 0) (die == 1) (nat_lt node_drawn (length c.nodes) && is_node_up (w.nodes node_drawn))
+          (nat_lt node_drawn (length c.nodes) && is_node_off (w.nodes node_drawn)) node_drawn (fate_by (Some die)) (w.drawn + 1) count node i in
+          let same = d.same in
+          let parts = and_parts (nat_lt node_drawn (length c.nodes)) (is_node_up (w.nodes node_drawn)) d.is_so in
+          record {
+            early = early_by t;
+            within = let low = rw same at parts.0 in grind (arith, nat_tests);
+            is_so = rw same at parts.1;
+          }
 
   pub joining : (count node : ℕ) → turn_of c number w count ≡ turn.Joins node → IsNodeSo (is_node_off (w.nodes node)) node
-  joining count node e = on (leaves_now c number w) (joins_now c number w) refl e where
-    last : Turn
-    last = turn.Ends (draw number (w.drawn + draws_for_end c number w) count) (fate_by (die c number w))
-
-    so : joins_now c number w ≡ true → drawn_node c number w ≡ node → IsNodeSo (is_node_off (w.nodes node)) node
-    so h same =
-        let parts = and_parts (die c number w == 1) (nat_lt (drawn_node c number w) (length c.nodes) && is_node_off (w.nodes (drawn_node c number w))) h in
-        let more = and_parts (nat_lt (drawn_node c number w) (length c.nodes)) (is_node_off (w.nodes (drawn_node c number w))) parts.1 in
-        record {
-          early = is_early 1 (omega arith) (eqb-true (die c number w) 1 parts.0);
-          within = let t = rw same at more.0 in grind (arith, nat_tests);
-          is_so = rw same at more.1;
-        }
-
-    on : (leaves joins : Bool) → joins_now c number w ≡ joins
-        → (if leaves then turn.Leaves (drawn_node c number w) else (if joins then turn.Joins (drawn_node c number w) else last)) ≡ turn.Joins node
-        → IsNodeSo (is_node_off (w.nodes node)) node
-    on true joins h i = cc
-    on false true h i = so h (let same : drawn_node c number w ≡ node = cc in same)
-    on false false h i = cc
+  joining count node e = on (nat_lt w.given 16) refl e
+    where
+      on : (may : Bool) → nat_lt w.given 16 ≡ may → turn_where may count ≡ turn.Joins node → IsNodeSo (is_node_off (w.nodes node)) node
+      on false t i = absurd (let g : ⊥ = cc in g)
+      on true t i =
+          let d = joined (die == 0) (die == 1) (nat_lt node_drawn (length c.nodes) && is_node_up (w.nodes node_drawn))
+          (nat_lt node_drawn (length c.nodes) && is_node_off (w.nodes node_drawn)) node_drawn (fate_by (Some die)) (w.drawn + 1) count node i in
+          let same = d.same in
+          let parts = and_parts (nat_lt node_drawn (length c.nodes)) (is_node_off (w.nodes node_drawn)) d.is_so in
+          record {
+            early = early_by t;
+            within = let low = rw same at parts.0 in grind (arith, nat_tests);
+            is_so = rw same at parts.1;
+          }
 
   -- an action ends with a fault only where one may be given yet
   pub ending : (count place : ℕ) (f : Fate) → turn_of c number w count ≡ turn.Ends place f → is_fault f ≡ true → w.given < 16
-  ending count place f e fault = on (leaves_now c number w) (joins_now c number w) e where
-    early : (may : Bool) → nat_lt w.given 16 ≡ may → is_fault (fate_by (if may then draw number (w.drawn + 1) 20 else 19)) ≡ true → w.given < 16
-    early true t h = grind (arith, nat_tests)
-    early false t h = cc
-
-    on : (leaves joins : Bool)
-        → (if leaves then turn.Leaves (drawn_node c number w)
-        else (if joins then turn.Joins (drawn_node c number w) else turn.Ends (draw number (w.drawn + draws_for_end c number w) count) (fate_by (die c number w))))
-        ≡ turn.Ends place f
-        → w.given < 16
-    on true joins i = cc
-    on false true i = cc
-    on false false i = let same : fate_by (die c number w) ≡ f = cc in early (nat_lt w.given 16) refl (rw (same) fault)
+  ending count place f e fault = on (nat_lt w.given 16) refl e
+    where
+      on : (may : Bool) → nat_lt w.given 16 ≡ may → turn_where may count ≡ turn.Ends place f → w.given < 16
+      on false t i = let same : fate.True ≡ f = cc in absurd (let g : ⊥ = cc in g)
+      on true t i = early_by t

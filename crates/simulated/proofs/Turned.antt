@@ -1,83 +1,133 @@
 -- What comes next is what is drawn, number by number.
-use Rattle.std.proofs.Common.{◌≡◌, ℕ, ◌+◌, ◌<◌, ◌==◌, nat_lt, Bool, true, false, if◌then◌else◌, Option, Some, None, length, refl, sym, ap, ◌∙◌, arith}
+use Rattle.std.proofs.Common.{◌≡◌, ℕ, ◌+◌, ◌<◌, ◌==◌, ◌&&◌, nat_lt, Bool, true, false, if◌then◌else◌, Option, Some, None, IfSome, length, refl, sym, ap, subst, ◌∙◌, eqb-true, arith}
 use Rattle.std.proofs.lemmas.Bool.Decides.{nat_tests}
 use Rattle.cluster_types.specs.declared.cluster.Cluster.{Cluster}
 use Rattle.simulated.specs.declared.turn.Fate.{Fate}
+use Rattle.simulated.specs.declared.turn.Fate.TheVariants as fate
 use Rattle.simulated.specs.declared.turn.Turn.{Turn}
 use Rattle.simulated.specs.declared.turn.Turn.TheVariants as turn
 use Rattle.cases.specs.Draws.{draw}
+use Rattle.simulated.specs.Inner.NodeTurns.{IsForNode, IsOfNode, draws_for_node, node_turn}
 use Rattle.simulated.specs.Kept.{RealityOf, ShowsWorld}
-use Rattle.simulated.specs.Turns.{IsOfNode, MayCome, calm, die, draws, draws_for_end, drawn_node, fate_by, is_fault, joins_now, leaves_now, node_turn, node_turn_from, turn_of, turned, with_draws}
-use Rattle.simulated.specs.RealWorlds.{World}
+use Rattle.simulated.specs.Turns.{HappensBehind, MayCome, action_ends, calm, drawn_by, fate_by, first_number, happening, happens_by, turn_by, turn_of, turned, with_draws}
+use Rattle.simulated.specs.RealWorlds.{World, is_node_off, is_node_up}
+use Rattle.simulated.proofs.NextTurn.{by_tests}
 use Rattle.simulated.proofs.Showing.{redrawn}
 
--- by two tests
-abbrev of_node : Bool → Bool → ℕ → Option Turn
-of_node leaves joins x = if leaves then Some (turn.Leaves x) else (if joins then Some (turn.Joins x) else None)
+-- what comes of a node, by four tests
+abbrev of_tests : Bool → Bool → Bool → Bool → ℕ → Option Turn
+of_tests zero one up off node = if zero && up then Some (turn.Leaves node) else (if one && off then Some (turn.Joins node) else None)
 
-abbrev of_all : Bool → Bool → ℕ → Turn → Turn
-of_all leaves joins x last = if leaves then turn.Leaves x else (if joins then turn.Joins x else last)
+record SomeHappens (t : Turn) (h : HappensBehind) (drawn : ℕ) : Type 0 where
+  pub is : (place : ℕ) → t ≡ turn_by h.happens place
+  pub drawn_is : drawn_by h.happens h.drawn ≡ drawn + 1
 
-of_some : (leaves joins : Bool) (x k : ℕ) (t last : Turn) → Some t ≡ of_node leaves joins x
-    → (t ≡ of_all leaves joins x last) × ((if leaves then 2 else (if joins then 2 else k)) ≡ 2)
-of_some true joins x k t last e = ((let same : t ≡ turn.Leaves x = cc in same), refl)
-of_some false true x k t last e = ((let same : t ≡ turn.Joins x = cc in same), refl)
-of_some false false x k t last e = cc
+some_happens : (zero one up off : Bool) (node : ℕ) (f : Fate) (drawn : ℕ) (t : Turn) → (zero ≡ true → one ≡ false) → Some t ≡ of_tests zero one up off node
+    → SomeHappens t (by_tests zero one up off node f drawn) drawn
+some_happens true one true off node f drawn t apart e = record { is = λ place. cc; drawn_is = refl }
+some_happens true true false off node f drawn t apart e = let no = apart refl in absurd (let g : ⊥ = cc in g)
+some_happens true false false off node f drawn t apart e = absurd (let g : ⊥ = cc in g)
+some_happens false true up true node f drawn t apart e = record { is = λ place. cc; drawn_is = refl }
+some_happens false true up false node f drawn t apart e = absurd (let g : ⊥ = cc in g)
+some_happens false false up off node f drawn t apart e = absurd (let g : ⊥ = cc in g)
 
-of_none : (leaves joins : Bool) (x k : ℕ) (last : Turn) → None ≡ of_node leaves joins x
-    → (last ≡ of_all leaves joins x last) × ((if leaves then 2 else (if joins then 2 else k)) ≡ k)
-of_none true joins x k last e = cc
-of_none false true x k last e = cc
-of_none false false x k last e = (refl, refl)
+-- how many numbers are drawn for a node
+abbrev drawn_for : Bool → Bool → ℕ
+drawn_for zero one = if zero then 1 else (if one then 1 else 0)
 
-abbrev by_draw : Cluster → ℕ → World → ℕ → Option Turn
-by_draw c number w at =
-    node_turn_from (die c number w) (draw number at (length c.nodes)) (nat_lt (draw number at (length c.nodes)) (length c.nodes))
-    (w.nodes (draw number at (length c.nodes)))
+record NoneHappens (zero one : Bool) (f : Fate) (h : HappensBehind) (drawn : ℕ) : Type 0 where
+  pub is : h.happens ≡ action_ends (if zero then fate.True else (if one then fate.True else f))
+  pub drawn_is : h.drawn ≡ drawn + drawn_for zero one
 
-module _ (c : Cluster) (number count : ℕ) (w : World) (d : ℕ) (same : d ≡ die c number w) where
-  abbrev once : World
+none_happens : (zero one up off : Bool) (node : ℕ) (f : Fate) (drawn : ℕ) → None ≡ of_tests zero one up off node
+    → NoneHappens zero one f (by_tests zero one up off node f drawn) drawn
+none_happens true one true off node f drawn e = absurd (let g : ⊥ = cc in g)
+none_happens true one false off node f drawn e = record { is = refl; drawn_is = refl }
+none_happens false true up true node f drawn e = absurd (let g : ⊥ = cc in g)
+none_happens false true up false node f drawn e = record { is = refl; drawn_is = refl }
+none_happens false false up off node f drawn e = record { is = refl; drawn_is = omega arith }
+
+-- a number isn't 0 and 1
+apart : (die : ℕ) → (die == 0) ≡ true → (die == 1) ≡ false
+apart die zero = rw (eqb-true die 0 zero) refl
+
+-- an action of which nothing is said ends truly
+true_fate : (die : ℕ) → (if die == 0 then fate.True else (if die == 1 then fate.True else fate_by (Some die))) ≡ fate_by (Some die)
+true_fate die = on (die == 0) (die == 1) refl refl
+  where
+    on : (zero one : Bool) → (die == 0) ≡ zero → (die == 1) ≡ one → (if zero then fate.True else (if one then fate.True else fate_by (Some die))) ≡ fate_by (Some die)
+    on true one a b = rw (eqb-true die 0 a) refl
+    on false true a b = rw (eqb-true die 1 b) refl
+    on false false a b = refl
+
+for_node_is : (die : ℕ) → drawn_for (die == 0) (die == 1) ≡ draws_for_node (Some die)
+for_node_is die = on (die == 0) (die == 1) refl refl
+  where
+    on : (zero one : Bool) → (die == 0) ≡ zero → (die == 1) ≡ one → drawn_for zero one ≡ draws_for_node (Some die)
+    on true one a b = rw (eqb-true die 0 a) refl
+    on false true a b = rw (eqb-true die 1 b) refl
+    on false false a b = let high : nat_lt die 2 ≡ false = grind (arith, nat_tests) in rw high refl
+
+one_for_node : (d : Option ℕ) → IsForNode d → draws_for_node d ≡ 1
+one_for_node None low = absurd low
+one_for_node (Some die) low = let here : nat_lt die 2 ≡ true = grind (arith, nat_tests) in rw here refl
+
+module _ (c : Cluster) (number : ℕ) (w : World) where
+  -- the simulated cluster of which one number was drawn, and has settled
+  abbrev pub once : World
   once = with_draws (calm w) 1
 
-  -- how many numbers are drawn for a node
-  abbrev pub for_node : ℕ
-  for_node = if nat_lt d 2 then 1 else 0
+  abbrev node_drawn : ℕ
+  node_drawn = draw number (w.drawn + 1 + 1) (length c.nodes)
 
-  node_is : (o : Option Turn) → o ≡ node_turn c number once d → o ≡ of_node (leaves_now c number w) (joins_now c number w) (drawn_node c number w)
-  node_is o e = e ∙ (ap (λ x. node_turn c number once x) same ∙ ap (by_draw c number w) two)
-    where
-      two : w.drawn + 1 + 1 ≡ w.drawn + 2
-      two = omega arith
+  abbrev up : Bool
+  up = nat_lt node_drawn (length c.nodes) && is_node_up (w.nodes node_drawn)
 
-  pub some_turn : (t : Turn) → Some t ≡ node_turn c number once d → t ≡ turn_of c number w count
-  some_turn t e = (of_some (leaves_now c number w) (joins_now c number w) (drawn_node c number w) 0 t (turn.Ends (draw number (w.drawn + draws_for_end c number w) count) (fate_by (die c number w))) (node_is (Some t) e)).0
+  abbrev off : Bool
+  off = nat_lt node_drawn (length c.nodes) && is_node_off (w.nodes node_drawn)
 
-  pub some_shows : (k : RealityOf) (t : Turn) → Some t ≡ node_turn c number once d → d < 2 → ShowsWorld k (with_draws once for_node) → ShowsWorld k (turned c number w)
-  some_shows k t e low s =
-      let two = (of_some (leaves_now c number w) (joins_now c number w) (drawn_node c number w) (draws_for_end c number w) t t (node_is (Some t) e)).1 in
-      let here : nat_lt d 2 ≡ true = grind (arith, nat_tests) in
-      let many : w.drawn + draws c number w ≡ w.drawn + 1 + for_node = rw (two, here) (omega arith) in
-      redrawn k (with_draws once for_node) (w.drawn + draws c number w) s many
+  some_by : (d : Option ℕ) (t : Turn) → Some t ≡ node_turn c number once d → SomeHappens t (happens_by c number w d (w.drawn + 1)) (w.drawn + 1)
+  some_by None t e = absurd (let g : ⊥ = cc in g)
+  some_by (Some die) t e = some_happens (die == 0) (die == 1) up off node_drawn (fate_by (Some die)) (w.drawn + 1) t (apart die) e
 
-  ends_draws : w.drawn + 1 + for_node + 1 ≡ w.drawn + draws_for_end c number w
-  ends_draws = rw (← same) (on (nat_lt d 2))
-    where
-      on : (t : Bool) → w.drawn + 1 + (if t then 1 else 0) + 1 ≡ w.drawn + (if t then 3 else 2)
-      on true = omega arith
-      on false = omega arith
+  record EndsBy (d : Option ℕ) (h : HappensBehind) : Type 0 where
+    pub is : h.happens ≡ action_ends (fate_by d)
+    pub drawn_is : h.drawn ≡ w.drawn + 1 + draws_for_node d
 
-  pub none_turn : (place : ℕ) (f : Fate) → None ≡ node_turn c number once d → place ≡ draw number (w.drawn + 1 + for_node + 1) count → f ≡ fate_by d
-      → turn.Ends place f ≡ turn_of c number w count
-  none_turn place f e p is =
-      let last = turn.Ends (draw number (w.drawn + draws_for_end c number w) count) (fate_by (die c number w)) in
-      let here : turn.Ends place f ≡ last = rw (p, ends_draws, is, same) refl in
-      here ∙ (of_none (leaves_now c number w) (joins_now c number w) (drawn_node c number w) 0 last (node_is None e)).0
+  none_by : (d : Option ℕ) → None ≡ node_turn c number once d → EndsBy d (happens_by c number w d (w.drawn + 1))
+  none_by None e = record { is = refl; drawn_is = omega arith }
+  none_by (Some die) e =
+      let n = none_happens (die == 0) (die == 1) up off node_drawn (fate_by (Some die)) (w.drawn + 1) e in
+      record { is = n.is ∙ ap action_ends (true_fate die); drawn_is = n.drawn_is ∙ ap (λ (k : ℕ). w.drawn + 1 + k) (for_node_is die) }
 
-  pub none_shows : (k : RealityOf) → None ≡ node_turn c number once d → ShowsWorld k (with_draws (with_draws once for_node) 1) → ShowsWorld k (turned c number w)
-  none_shows k e s =
-      let many = (of_none (leaves_now c number w) (joins_now c number w) (drawn_node c number w) (draws_for_end c number w) (turn.Leaves 0) (node_is None e)).1 in
-      let all : w.drawn + draws c number w ≡ w.drawn + 1 + for_node + 1 = rw many (sym ends_draws) in
-      redrawn k (with_draws (with_draws once for_node) 1) (w.drawn + draws c number w) s all
+  module _ (count : ℕ) (d : Option ℕ) (same : d ≡ first_number number w) where
+    some_here : (t : Turn) → Some t ≡ node_turn c number once d → SomeHappens t (happening c number w) (w.drawn + 1)
+    some_here t e = subst (λ (x : Option ℕ). SomeHappens t (happens_by c number w x (w.drawn + 1)) (w.drawn + 1)) same (some_by d t e)
+
+    pub some_turn : (t : Turn) → Some t ≡ node_turn c number once d → t ≡ turn_of c number w count
+    some_turn t e = (some_here t e).is _
+
+    pub some_shows : (k : RealityOf) (t : Turn) → Some t ≡ node_turn c number once d → IsForNode d → ShowsWorld k (with_draws once (draws_for_node d)) → ShowsWorld k (turned c number w)
+    some_shows k t e low s =
+        redrawn k (with_draws once (draws_for_node d)) (drawn_by (happening c number w).happens (happening c number w).drawn) s
+        ((some_here t e).drawn_is ∙ ap (λ (n : ℕ). w.drawn + 1 + n) (sym (one_for_node d low)))
+
+    none_here : None ≡ node_turn c number once d → EndsBy d (happening c number w)
+    none_here e = subst (λ (x : Option ℕ). EndsBy d (happens_by c number w x (w.drawn + 1))) same (none_by d e)
+
+    pub none_turn : (place : ℕ) (f : Fate) → None ≡ node_turn c number once d → place ≡ draw number (w.drawn + 1 + draws_for_node d + 1) count → f ≡ fate_by d
+        → turn.Ends place f ≡ turn_of c number w count
+    none_turn place f e p is =
+        let n = none_here e in
+        ap (λ (x : ℕ). turn.Ends x f) (p ∙ ap (λ (x : ℕ). draw number (x + 1) count) (sym n.drawn_is))
+        ∙ (ap (λ (x : Fate). turn.Ends (draw number ((happening c number w).drawn + 1) count) x) is
+        ∙ ap (λ h. turn_by h (draw number ((happening c number w).drawn + 1) count)) (sym n.is))
+
+    pub none_shows : (k : RealityOf) → None ≡ node_turn c number once d → ShowsWorld k (with_draws (with_draws once (draws_for_node d)) 1) → ShowsWorld k (turned c number w)
+    none_shows k e s =
+        let n = none_here e in
+        redrawn k (with_draws (with_draws once (draws_for_node d)) 1) (drawn_by (happening c number w).happens (happening c number w).drawn) s
+        (ap (λ h. drawn_by h (happening c number w).drawn) n.is ∙ ap (λ (x : ℕ). x + 1) n.drawn_is)
 
 -- a fault comes only early
 pub of_node_may : (count given : ℕ) (t : Turn) → IsOfNode t → given < 16 → MayCome count given t
@@ -85,14 +135,10 @@ of_node_may count given (turn.Leaves node) is early = early
 of_node_may count given (turn.Joins node) is early = early
 of_node_may count given (turn.Ends place f) is early = absurd is
 
-fault_low : (d : ℕ) → is_fault (fate_by d) ≡ true → d < 19
-fault_low d h = on (d == 2) (d == 3) (d == 4) refl refl refl h
-  where
-    on : (two three four : Bool) → (d == 2) ≡ two → (d == 3) ≡ three → (d == 4) ≡ four → is_fault (fate_by d) ≡ true → d < 19
-    on true three four a b e i = grind arith
-    on false true four a b e i = grind arith
-    on false false true a b e i = grind arith
-    on false false false a b e i = let no = rw (a, b, e) at i in cc
+pub low_early : (given : ℕ) (d : Option ℕ) → IsForNode d → IfSome d (λ die. given < 16) → given < 16
+low_early given None low early = absurd low
+low_early given (Some die) low early = early
 
-pub ends_may : (count given d place : ℕ) (f : Fate) → f ≡ fate_by d → place < count → (d < 19 → given < 16) → MayCome count given (turn.Ends place f)
-ends_may count given d place f is low early = (low, λ h. early (fault_low d (rw is at h)))
+pub ends_may : (count given : ℕ) (d : Option ℕ) (place : ℕ) (f : Fate) → f ≡ fate_by d → place < count → IfSome d (λ die. given < 16) → MayCome count given (turn.Ends place f)
+ends_may count given None place f is low early = (low, λ h. let no = rw is at h in absurd (let g : ⊥ = cc in g))
+ends_may count given (Some die) place f is low early = (low, λ h. early)

@@ -43,7 +43,7 @@ reality c nodes cells rising number state given = record {
 abbrev pub HoldsNodes : ℕ → List Standing → (ℕ → Standing) → Type 0
 HoldsNodes count kept nodes = (n : ℕ) → n < count → slice_get kept n ≡ Some (nodes n)
 
--- it stands for this simulated cluster
+-- it stands for this simulated cluster. It stands for none where a cell comes up and isn't kept as the one that does
 pub record ShowsWorld (k : RealityOf) (w : World) : Type 0 where
   pub nodes : HoldsNodes (length k.cluster.nodes) k.nodes w.nodes
   pub cells : Holds k.cluster k.cells w.cells

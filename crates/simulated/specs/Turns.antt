@@ -19,9 +19,10 @@ use Rattle.simulated.specs.RealWorlds.{Cells, World, begun, done, given_up, is_n
 abbrev pub most_faults : ℕ
 most_faults = 16
 
--- what becomes of an action by a number from 0 to 19
-abbrev pub fate_by : ℕ → Fate
-fate_by die =
+-- what becomes of an action by the first number, from 0 to 19; none where no fault may be given any more
+abbrev pub fate_by : Option ℕ → Fate
+fate_by None = fate.True
+fate_by (Some die) =
     if die == 2 then fate.DoneBadly else (if die == 3 then fate.Undone else (if die == 4 then fate.TimedOut else fate.True))
 
 abbrev pub is_fault : Fate → Bool
@@ -42,13 +43,6 @@ fenced (Cell op leaf node interval role) nodes = nodes
 fenced (MigrateTo leaf source target) nodes = nodes
 fenced (MigrateFrom leaf source target) nodes = nodes
 
--- what comes of a node that was drawn, by the first number, whether the cluster has it, and how it stands
-abbrev pub node_turn_from : ℕ → ℕ → Bool → Standing → Option Turn
-node_turn_from die node has stands =
-    if die == 0 && (has && is_node_up stands) then Some (turn.Leaves node)
-    else (if die == 1 && (has && is_node_off stands) then Some (turn.Joins node)
-    else None)
-
 -- what comes up has come up
 abbrev pub calm : World → World
 calm w = record { nodes = w.nodes; cells = λ r n. risen (w.cells r n); drawn = w.drawn; given = w.given }
@@ -57,45 +51,65 @@ calm w = record { nodes = w.nodes; cells = λ r n. risen (w.cells r n); drawn = 
 abbrev pub with_draws : World → ℕ → World
 with_draws w more = record { nodes = w.nodes; cells = w.cells; drawn = w.drawn + more; given = w.given }
 
--- what comes of the node that is drawn next, by the first number
-abbrev pub node_turn : Cluster → ℕ → World → ℕ → Option Turn
-node_turn c number w die =
-    node_turn_from die (draw number (w.drawn + 1) (length c.nodes)) (nat_lt (draw number (w.drawn + 1) (length c.nodes)) (length c.nodes))
-    (w.nodes (draw number (w.drawn + 1) (length c.nodes)))
+-- what happens, before one of the actions in flight is drawn: a node leaves or joins, or an action ends so
+pub data Happening : Type 0 where
+  node_leaves : (node : ℕ) → Happening
+  node_joins : (node : ℕ) → Happening
+  action_ends : (f : Fate) → Happening
+
+-- the same, with how many numbers were drawn by then
+pub record HappensBehind : Type 0 where
+  pub happens : Happening
+  pub drawn : ℕ
+
+abbrev pub happens_behind : Happening → ℕ → HappensBehind
+happens_behind happens drawn = record { happens = happens; drawn = drawn }
+
+-- the number that is drawn next, behind so many, below a bound
+abbrev pub drawn_next : ℕ → ℕ → ℕ → ℕ
+drawn_next number drawn bound = draw number (drawn + 1) bound
+
+-- the first number decides what comes. It is drawn in any case, and counts while a fault may be given
+abbrev pub first_number : ℕ → World → Option ℕ
+first_number number w = if nat_lt w.given most_faults then Some (drawn_next number w.drawn 20) else None
+
+-- the turn, with this place of those in flight
+abbrev pub turn_by : Happening → ℕ → Turn
+turn_by (node_leaves node) place = turn.Leaves node
+turn_by (node_joins node) place = turn.Joins node
+turn_by (action_ends f) place = turn.Ends place f
+
+-- how many numbers are drawn in all: for an action that ends one more
+abbrev pub drawn_by : Happening → ℕ → ℕ
+drawn_by (node_leaves node) drawn = drawn
+drawn_by (node_joins node) drawn = drawn
+drawn_by (action_ends f) drawn = drawn + 1
 
 module _ (c : Cluster) (number : ℕ) (w : World) where
-  -- the first number decides what comes. Once all faults were given, no fault comes
-  abbrev pub die : ℕ
-  die = if nat_lt w.given most_faults then draw number (w.drawn + 1) 20 else 19
+  -- a node is drawn next. If it is one that stands so, this happens of it; else an action ends truly
+  abbrev pub of_node : (Standing → Bool) → (ℕ → Happening) → ℕ → HappensBehind
+  of_node stands happens drawn =
+      happens_behind (if nat_lt (drawn_next number drawn (length c.nodes)) (length c.nodes) && stands (w.nodes (drawn_next number drawn (length c.nodes)))
+      then happens (drawn_next number drawn (length c.nodes)) else action_ends fate.True) (drawn + 1)
 
-  -- the node that leaves or joins, if it can
-  abbrev pub drawn_node : ℕ
-  drawn_node = draw number (w.drawn + 2) (length c.nodes)
+  -- what happens by the first number, behind so many
+  abbrev pub happens_by : Option ℕ → ℕ → HappensBehind
+  happens_by None drawn = happens_behind (action_ends fate.True) drawn
+  happens_by (Some die) drawn =
+      if die == 0 then of_node is_node_up node_leaves drawn
+      else (if die == 1 then of_node is_node_off node_joins drawn
+      else happens_behind (action_ends (fate_by (Some die))) drawn)
 
-  abbrev pub leaves_now : Bool
-  leaves_now = die == 0 && (nat_lt drawn_node (length c.nodes) && is_node_up (w.nodes drawn_node))
-
-  abbrev pub joins_now : Bool
-  joins_now = die == 1 && (nat_lt drawn_node (length c.nodes) && is_node_off (w.nodes drawn_node))
-
-  -- how many numbers are drawn for an action that ends: where the first was for a node that can't leave or join, one more
-  abbrev pub draws_for_end : ℕ
-  draws_for_end = if nat_lt die 2 then 3 else 2
+  abbrev pub happening : HappensBehind
+  happening = happens_by (first_number number w) (w.drawn + 1)
 
   -- what comes next, with so many actions in flight
   abbrev pub turn_of : ℕ → Turn
-  turn_of count =
-      if leaves_now then turn.Leaves drawn_node
-      else (if joins_now then turn.Joins drawn_node
-      else turn.Ends (draw number (w.drawn + draws_for_end) count) (fate_by die))
-
-  -- how many numbers are drawn
-  abbrev pub draws : ℕ
-  draws = if leaves_now then 2 else (if joins_now then 2 else draws_for_end)
+  turn_of count = turn_by happening.happens (drawn_next number happening.drawn count)
 
   -- the simulated cluster when it comes: what comes up has come up, and the numbers are drawn
   abbrev pub turned : World
-  turned = with_draws (calm w) draws
+  turned = record { nodes = w.nodes; cells = λ r n. risen (w.cells r n); drawn = drawn_by happening.happens happening.drawn; given = w.given }
 
 module _ (c : Cluster) (w : World) where
   -- a node has left: what runs there runs on where nodes are fenced, and has stopped where they aren't
@@ -154,9 +168,3 @@ abbrev pub MayCome : ℕ → ℕ → Turn → Type 0
 MayCome count given (turn.Leaves node) = given < most_faults
 MayCome count given (turn.Joins node) = given < most_faults
 MayCome count given (turn.Ends place f) = (place < count) × (is_fault f ≡ true → given < most_faults)
-
--- it comes of a node
-abbrev pub IsOfNode : Turn → Type 0
-IsOfNode (turn.Leaves node) = Unit {0}
-IsOfNode (turn.Joins node) = Unit {0}
-IsOfNode (turn.Ends place f) = ⊥

@@ -4,7 +4,8 @@ ghost use Rattle.std.specs.Prelude.{◌≡◌, ℕ, nat_lt, if◌then◌else◌,
 ghost use Rattle.simulated.specs.declared.real.Standing.{Standing as StandingOf};
 ghost use Rattle.simulated.specs.declared.real.Standing.TheVariants as standing;
 ghost use Rattle.simulated.specs.Kept.{HoldsNodes};
-ghost use Rattle.simulated.specs.Turns.{IsOfNode, fenced, node_turn_from, with_node};
+ghost use Rattle.simulated.specs.Inner.NodeTurns.{IsOfNode, node_turn_from};
+ghost use Rattle.simulated.specs.Turns.{fenced, with_node};
 
 use crate::real::Standing;
 use crate::turn::Turn;

@@ -1,10 +1,12 @@
 //! What comes next is drawn.
 
-ghost use Rattle.std.specs.Prelude.{◌≡◌, ◌+◌, ◌<◌, nat_lt, if◌then◌else◌, None, IfSome, length};
+ghost use Rattle.std.specs.Prelude.{◌≡◌, ◌+◌, ◌<◌, None, IfSome, length};
 ghost use Rattle.cases.specs.Draws as drawing;
 ghost use Rattle.simulated.specs.Kept.{IsOfSame, ShowsWorld};
+ghost use Rattle.simulated.specs.Inner.NodeTurns as node_turns;
+ghost use Rattle.simulated.specs.Inner.NodeTurns.{IsForNode, IsOfNode, draws_for_node};
 ghost use Rattle.simulated.specs.Turns as turns;
-ghost use Rattle.simulated.specs.Turns.{IsOfNode, MayCome, die, node_turn_from, turn_of, turned, with_draws};
+ghost use Rattle.simulated.specs.Turns.{MayCome, first_number, turn_of, turned, with_draws};
 ghost use Rattle.simulated.specs.RealWorlds.{World};
 
 use crate::nodes::node_turn;
@@ -15,29 +17,33 @@ use cluster_types::NodeId;
 /// How many faults are given at most.
 pub(crate) const MOST_FAULTS: u32 = 16;
 
-/// What becomes of an action by a number from 0 to 19.
-fn fate_by(die: u32) -> Fate
-    ensures { result ≡ turns.fate_by die }
+/// What becomes of an action by the first number, from 0 to 19.
+fn fate_by(first: Option<u32>) -> Fate
+    ensures { result ≡ turns.fate_by first }
 {
-    match die {
-        2 => Fate::DoneBadly,
-        3 => Fate::Undone,
-        4 => Fate::TimedOut,
+    match first {
+        Some(2) => Fate::DoneBadly,
+        Some(3) => Fate::Undone,
+        Some(4) => Fate::TimedOut,
         _ => Fate::True,
     }
 }
 
 impl Reality<'_> {
-    /// The first number, which decides what comes. Once all faults were given, no fault comes.
-    fn roll(&mut self) -> u32
-        ensures die { (w : World) → ShowsWorld self.old w → result ≡ die self.old.cluster self.old.number w }
+    /// The first number, which decides what comes. Once all faults were given it is drawn and doesn't count.
+    fn roll(&mut self) -> Option<u32>
+        ensures first { (w : World) → ShowsWorld self.old w → result ≡ first_number self.old.number w }
         ensures shows { (w : World) → ShowsWorld self.old w → ShowsWorld self.new (with_draws w 1) }
-        ensures early { result < 19 → self.new.given < 16 }
+        ensures early { IfSome result (λ die. self.new.given < 16) }
         ensures rising { self.new.rising ≡ self.old.rising }
         ensures same { IsOfSame self.old self.new }
     {
         let drawn = self.draw(20);
-        if self.given < MOST_FAULTS { drawn } else { 19 }
+        if self.given < MOST_FAULTS {
+            Some(drawn)
+        } else {
+            None
+        }
     }
 
     /// A node is drawn. Where the cluster has none, it isn't one of it.
@@ -54,15 +60,18 @@ impl Reality<'_> {
     }
 
     /// What comes of a node, by the first number, if anything does.
-    fn node_turn(&mut self, die: u32) -> Option<Turn>
-        ensures turn { (w : World) → ShowsWorld self.old w → result ≡ turns.node_turn self.old.cluster self.old.number w die }
-        ensures shows { (w : World) → ShowsWorld self.old w → ShowsWorld self.new (with_draws w (if nat_lt die 2 then 1 else 0)) }
+    fn node_turn(&mut self, first: Option<u32>) -> Option<Turn>
+        ensures turn { (w : World) → ShowsWorld self.old w → result ≡ node_turns.node_turn self.old.cluster self.old.number w first }
+        ensures shows { (w : World) → ShowsWorld self.old w → ShowsWorld self.new (with_draws w (draws_for_node first)) }
         ensures node { IfSome result IsOfNode }
-        ensures low { IfSome result (λ turn. die < 2) }
+        ensures low { IfSome result (λ turn. IsForNode first) }
         ensures rising { self.new.rising ≡ self.old.rising }
         ensures given { self.new.given ≡ self.old.given }
         ensures same { IsOfSame self.old self.new }
     {
+        let Some(die) = first else {
+            return None;
+        };
         if die > 1 {
             return None;
         }
@@ -80,12 +89,12 @@ impl Reality<'_> {
         ensures same { IsOfSame self.old self.new }
     {
         self.settle();
-        let die = self.roll();
-        match self.node_turn(die) {
+        let first = self.roll();
+        match self.node_turn(first) {
             Some(turn) => turn,
             None => {
                 let place = self.draw(count);
-                let fate = fate_by(die);
+                let fate = fate_by(first);
                 Turn::Ends { place, fate }
             }
         }

@@ -4,3 +4,4 @@ pub mod FewActions
 pub mod TargetLines
 pub mod StepLines
 pub mod WrittenLines
+pub mod ReadFits

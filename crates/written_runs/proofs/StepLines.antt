@@ -27,7 +27,8 @@ use Rattle.input_reading.specs.Written.{IsActionOf, IsAnswerOf, IsLineOf, IsNumb
 use Rattle.run_safety.proofs.Each.{Each, none, more}
 use Rattle.run_safety.proofs.InFlight.{among_flying, number_within}
 use Rattle.run_safety.proofs.Shapes.{Flies, all_fly}
-use Rattle.written_runs.specs.Fitting.{AnswersFit, AnswerFieldsFit, LineFits}
+use Rattle.input_reading.specs.ResultFields.{AnswerFieldsFit}
+use Rattle.written_runs.specs.Fitting.{AnswersFit, LineFits}
 use Rattle.written_runs.proofs.Each.{all_later, read_in}
 
 -- Answers that are told, and those that lines tell.

@@ -17,7 +17,8 @@ use Rattle.cluster_types.specs.Valid.{IsValid}
 use Rattle.run_safety.specs.Followed.{transition_number_at}
 use Rattle.run_safety.proofs.Counted.{few_transitions}
 use Rattle.input_reading.specs.Written.{IsActionOf, IsLineOf}
-use Rattle.written_runs.specs.Fitting.{AnswersFit, AnswerFieldsFit, IntervalsFit}
+use Rattle.input_reading.specs.ResultFields.{AnswerFieldsFit}
+use Rattle.written_runs.specs.Fitting.{AnswersFit, IntervalsFit}
 use Rattle.written_runs.proofs.FewActions.{few_planned}
 use Rattle.written_runs.proofs.PlannedActions.{needed_fits}
 use Rattle.written_runs.proofs.StepLines.{answer_fits, behind_fits, front_fits, left_fits, said_fits, step_fits, step_leaves}

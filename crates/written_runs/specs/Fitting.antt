@@ -3,21 +3,15 @@ use Rattle.std.specs.Prelude.{◌^◌, ◌<◌, Option, Some, None, List, Contai
 use Rattle.std.specs.List.{AllByRecursion}
 use Rattle.cluster_types.specs.declared.cluster.Cluster.{Cluster}
 use Rattle.cluster_types.specs.declared.journal.Answer.{Answer}
-use Rattle.cluster_types.specs.declared.journal.Answer.TheVariants as answer
 use Rattle.cluster_types.specs.declared.leaf.Leaf.{Leaf}
 use Rattle.cluster_types.specs.declared.leaf.Monitor.{Monitor as MonitorOf}
 use Rattle.cluster_types.specs.declared.run.RunLine.{RunLine}
 use Rattle.cluster_types.specs.declared.run.RunLine.TheVariants as line
+use Rattle.input_reading.specs.ResultFields.{AnswerFieldsFit}
 
 -- the interval of each monitor has 32 bits
 abbrev pub IntervalsFit : Cluster → Type 0
 IntervalsFit c = (leaf : Leaf) (m : MonitorOf) → Contains c.leaves leaf → Contains leaf.monitors m → m.interval_ms < 2 ^ 32
-
--- the exit code of an answer is a byte, and the interval of a report has 32 bits
-abbrev pub AnswerFieldsFit : Answer → Type 0
-AnswerFieldsFit (answer.End k code) = code < 256
-AnswerFieldsFit (answer.Report n r interval code) = (interval < 2 ^ 32) × (code < 256)
-AnswerFieldsFit _ = Unit {0}
 
 -- the answer that a line tells is so
 abbrev pub LineFits : RunLine → Type 0

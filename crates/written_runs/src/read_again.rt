@@ -1,6 +1,6 @@
 //! Each law is a function that does nothing, and whose contract is the law.
 
-ghost use Rattle.std.specs.Prelude.{◌<◌, ◌+◌, ◌^◌, ◌∷◌, ◌++◌, ℕ, Bool, List, [], Option, Some, length};
+ghost use Rattle.std.specs.Prelude.{◌<◌, ◌+◌, ◌^◌, ◌∷◌, ◌++◌, ℕ, Bool, List, [], Option, Some, length, map};
 ghost use Rattle.std.specs.List.{AllByRecursion};
 ghost use Rattle.cluster_types.specs.declared.cluster.Cluster.{Cluster as ClusterOf};
 ghost use Rattle.cluster_types.specs.declared.journal.Answer.{Answer as AnswerOf};
@@ -11,8 +11,12 @@ ghost use Rattle.cluster_types.specs.declared.run.RunLine.TheVariants as line;
 ghost use Rattle.cluster_types.specs.Runs.{RunStanding, due, Runs, IsCutRun, IsRunSoFar, IsStoppedRun, IsWholeRun};
 ghost use Rattle.cluster_types.specs.Valid.{IsValid};
 ghost use Rattle.run_safety.specs.Followed.{transition_number_at};
+ghost use Rattle.input_reading.specs.declared.input.reading.Input.{Input as InputOf};
+ghost use Rattle.input_reading.specs.declared.results.result_lines.ResultLine.{ResultLine as ResultOf};
+ghost use Rattle.input_reading.specs.Reading.{ReadsInput};
 ghost use Rattle.input_reading.specs.Written.{IsLineOf, IsNumber, ReadsAgain};
-ghost use Rattle.written_runs.specs.Fitting.{AnswersFit, AnswerFieldsFit, IntervalsFit};
+ghost use Rattle.input_reading.specs.ResultFields.{AnswerFieldsFit};
+ghost use Rattle.written_runs.specs.Fitting.{AnswersFit, IntervalsFit};
 
 /// Each line that a run of a valid cluster prints is a line of the cluster: its leaves and nodes are the cluster's, the rule that holds a leaf back has a name,
 /// and its numbers have 32 bits, as long as those of the transitions have.
@@ -40,4 +44,19 @@ pub fn texts_of_runs_read_again()
     ensures stopped { (c : ClusterOf) (promotions : List PromotionOf) (whole : Bool) (es left : List EventOf) (answers : List AnswerOf) (behind : Option (List AnswerOf)) (told call closing : List LineOf)
         → IsValid c → IntervalsFit c → AllByRecursion AnswerFieldsFit answers → length answers + 1 < 2 ^ 32 → IsStoppedRun c promotions whole es (Some answers) told call closing left behind
         → ReadsAgain c ((told ++ call) ++ closing) }
+{}
+
+/// What is read of a text is so: the intervals of its monitors have 32 bits, and its answers are few. (That its exit codes and the intervals of its reports
+/// fit is a law of `input_reading`.)
+pub fn what_is_read_fits()
+    ensures intervals { (text : List ℕ) (input : InputOf) → ReadsInput text input → IntervalsFit input.head.cluster }
+    ensures few { (text : List ℕ) (input : InputOf) → ReadsInput text input → length (map (λ (result : ResultOf). result.answer) input.results) + 1 < 2 ^ 32 }
+{}
+
+/// So the run of a text reads again, whatever the text.
+pub fn runs_of_texts_read_again()
+    ensures { (text : List ℕ) (input : InputOf) (whole : Bool) (left : List EventOf) (lines : List LineOf) → ReadsInput text input
+        → IsWholeRun input.head.cluster input.head.journal.promotions whole input.head.journal.events
+        (Some (map (λ (result : ResultOf). result.answer) input.results)) lines left
+        → ReadsAgain input.head.cluster lines }
 {}

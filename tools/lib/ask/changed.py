@@ -4,6 +4,7 @@ import json
 import os
 import sys
 
+from explain.tables import command
 from show.changing import Parts, brought_down, changed, differences, plan_of, removed
 from show.program import Refused, answer, has_word, prepare
 from show.summaries import lines_of, summary, together
@@ -62,8 +63,8 @@ class Comparison:
                 and self.new.without.get(name, ("",))[0] != "Stopped"]
 
     def losses(self):
-        """What only one of the two survives, of the nodes of the new configuration and of what has a place with it: the loss, the
-        resource, and the reason where it has no place with the changes."""
+        """What only one of the two survives, of the nodes of the new configuration and of what has a place with it: the
+        loss, the resource, and the reason where it has no place with the changes."""
         old, new = self.down
         for loss, down in new.items():
             yield from ((loss, resource, why) for resource, why in down.items() if resource not in old.get(loss, {}))
@@ -111,10 +112,12 @@ def accepted(name, data):
 
 
 def texts(old, new, words):
-    """The input without results, and the one with the changes; what only the state of the input has is left out, which is said."""
-    parts = Parts(old)
+    """The input without results, and the one with the changes; what only the state of the input has is left out, which
+    is said."""
     if new is None:
-        return parts.input(), edited(parts.input(), words.changes), None
+        now = Parts(old).input()
+        return now, edited(now, words.changes), None
+    parts = Parts(old)
     text, gone = changed(Parts(new), parts)
     for one in gone:
         say(f"{one} isn't in {words.config}: its status is left out")
@@ -122,8 +125,8 @@ def texts(old, new, words):
 
 
 def compare(place, old, new, words):
-    """The comparison of an input with what the changes make of it, or the status where that can't be made. What `check` takes may still
-    be refused in the state of the input, for a line of the status."""
+    """The comparison of an input with what the changes make of it, or the status where that can't be made. What `check`
+    takes may still be refused in the state of the input, for a line of the status."""
     name = name_of(words.config, words.changes)
     try:
         now, then, behind = texts(old, new, words)
@@ -139,9 +142,15 @@ def compare(place, old, new, words):
         return REFUSED
 
 
-def ask(words):
+def lacks_change(words):
+    """Whether no change is asked about, which is said."""
     if not words.changes and not words.config:
-        say("which change? `what-if --help` lists them")
+        say(f"which change? `{command()} help what-if` lists them")
+    return not words.changes and not words.config
+
+
+def ask(words):
+    if lacks_change(words):
         return WRONG
     source = Source(words.file, words)
     new = read(words.config) if words.config else None

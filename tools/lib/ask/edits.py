@@ -15,7 +15,7 @@ class NoChange(Exception):
 def inserted(text, line, column, addition):
     lines = list(text.lines)
     lines[line] = lines[line][:column] + addition.encode() + lines[line][column:]
-    return Text(b"\n".join(lines))
+    return Text.of(lines)
 
 
 def with_lines(text, lines, section):
@@ -23,7 +23,7 @@ def with_lines(text, lines, section):
     ends = [text.heads[end] for end in (STATUS, RESULTS)[section == STATUS:] if end in text.heads]
     at = ends[0] if ends else len(text.lines)
     added = [line.encode() for line in lines]
-    return Text(b"\n".join([*text.lines[:at], *added, *text.lines[at:]]))
+    return Text.of([*text.lines[:at], *added, *text.lines[at:]])
 
 
 def pair_in(statement, section, key):
@@ -41,7 +41,7 @@ def with_pair(text, statement, section, key, value):
     """The text in which a statement has this pair in a section."""
     pair = pair_in(statement, section, key)
     if pair:
-        return Text(text.with_word(pair, f"{key}={value}"))
+        return Text.of(text.lines_with_word(pair, f"{key}={value}"))
     heads = [word for word in statement.words[2:] if word.text == section]
     if heads:
         return inserted(text, heads[0].last, heads[0].end, f" {key}={value}")
@@ -81,7 +81,7 @@ def status_of(text, name):
 def with_state(text, name, state):
     found = status_of(with_status(text), name)
     if found:
-        return Text(text.with_word(found.words[2], state))
+        return Text.of(text.lines_with_word(found.words[2], state))
     return with_lines(text, [f"node {name} {state}"], STATUS)
 
 
@@ -90,14 +90,14 @@ def standby(text, name):
 
 
 def online(text, name):
-    """The node is there, and not in standby. One that joins comes with nothing on it, and of which nothing is known."""
+    """The node is there, and not in standby. One that joins comes with nothing on it, and nothing is known of it."""
     node = the_node(text, name)
     if pair_in(node, "attributes", "standby"):
         text = with_pair(text, node, "attributes", "standby", "off")
     found = status_of(with_status(text), name)
     if found is None or found.fields()[2] != "online":
         known = [one for one in text.each() if one.section == STATUS and one.kind in NOTHING_RUNS and one.fields()[1:2] == [name]]
-        text = Text(text.without(known))
+        text = Text.of(text.lines_without(known))
     return with_state(text, name, "online")
 
 
@@ -130,11 +130,12 @@ def fail(text, told):
 
 def without_id(text, name):
     """The text without the location of this id, which a new one replaces."""
-    return Text(text.without([one for one in text.defined(("location",)).values() if one.id.text == name]))
+    return Text.of(text.lines_without([one for one in text.defined(("location",)).values() if one.id.text == name]))
 
 
 def move(text, name, node):
-    """As `crm resource move` with a node does: an earlier move is taken back, and a ban from this node; one from another node stays."""
+    """As `crm resource move` with a node does: an earlier move is taken back, and a ban from this node; one from
+    another node stays."""
     the_node(text, node)
     the_resource(text, name)
     text = without_id(without_id(text, f"cli-prefer-{name}"), f"cli-ban-{name}-on-{node}")
@@ -177,7 +178,7 @@ def maintenance(text):
     for one in text.configuration:
         for word in one.words if one.kind == "property" else []:
             if word.key == "maintenance-mode":
-                return Text(text.with_word(word, "maintenance-mode=true"))
+                return Text.of(text.lines_with_word(word, "maintenance-mode=true"))
     return with_lines(text, ["property maintenance-mode=true"], CONFIGURATION)
 
 
@@ -187,7 +188,7 @@ ARGUMENTS = {"standby": ["NODE"], "online": ["NODE"], "lost": ["NODE"], "fail": 
              "ban": ["RESOURCE", "NODE"], "clear": ["RESOURCE"], "stop": ["RESOURCE"], "start": ["RESOURCE"], "maintenance": []}
 MEANINGS = {
     "standby": "the node is put in standby", "online": "the node is there, and not in standby", "lost": "the node leaves without a word",
-    "fail": "a recurring monitor ends with this exit code", "move": "as `crm resource move`", "ban": "as `crm resource ban`",
+    "fail": "a recurring monitor ends with this exit code", "move": "as `crm resource move`; a ban from another node stays", "ban": "as `crm resource ban`",
     "clear": "as `crm resource clear`", "stop": "target-role=Stopped", "start": "target-role=Started",
     "maintenance": "maintenance-mode=true",
 }

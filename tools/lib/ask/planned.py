@@ -21,7 +21,7 @@ def options(parser):
 
 
 def short(entries):
-    """The entries without those of what stays, which are told in one."""
+    """The entries, with one alone for all that stays."""
     stay = [entry.name for entry in entries if entry.what == "Stay"]
     told = [entry for entry in entries if entry.what != "Stay"]
     return told + ([together("Stay", list(dict.fromkeys(stay)))] if stay else [])
@@ -40,7 +40,8 @@ def show(plan, entries):
 
 
 class Times:
-    """How long the actions take: the longest way by timeouts, and by measured times where the input was a CIB that has them."""
+    """How long the actions take: the longest way by timeouts, and by measured times where the input was a CIB that has
+    them."""
 
     def __init__(self, source, actions):
         timeouts = Timeouts([word.text for word in one.words] for one in Text(source.data).configuration if one.words)

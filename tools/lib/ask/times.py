@@ -1,9 +1,11 @@
-"""How long a plan takes, at most by the timeouts of its operations, and by the times that they took last: the longest way through it."""
+"""How long a plan takes, at most by the timeouts of its operations, and by the times that they took last: the longest
+way through it."""
 from show.times import longest, times
 
 
 class Measured:
-    """The times that operations took last; of what wasn't measured on a node the longest elsewhere, or else its timeout."""
+    """The times that operations took last; of what wasn't measured on a node the longest elsewhere, or else its
+    timeout."""
 
     def __init__(self, found, timeouts):
         self.on, self.anywhere, self.timeouts = found, {}, timeouts

@@ -1,4 +1,5 @@
-"""`why RESOURCE`: what keeps a resource where it is: each statement, state or failure that changes its place when it is left out alone."""
+"""`why RESOURCE`: what keeps a resource where it is: each statement, state or failure that changes its place when it is
+left out alone."""
 import json
 
 from explain.differences import TRUE

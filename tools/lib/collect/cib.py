@@ -1,4 +1,5 @@
-"""Reads a CIB: its elements, the pairs of their sets, and what refers to other elements. `Notes` keeps what there is to say."""
+"""Reads a CIB: its elements, the pairs of their sets, and what refers to other elements. `Notes` keeps what there is to
+say."""
 import bz2
 import time
 import xml.etree.ElementTree as ElementTree
@@ -83,7 +84,8 @@ class Cib:
         return self.by_id.get(element.get("id-ref"), element)
 
     def sets(self, element, tag):
-        """The sets of an element, the one that goes first in front: the cluster's own, then by greater score, then by place."""
+        """The sets of an element, the one that goes first in front: the cluster's own, then by greater score, then by
+        place."""
         found = [self.meant(one) for one in element.findall(tag)]
         return sorted(found, key=lambda one: (one.get("id") != "cib-bootstrap-options", -points(one.get("score", "0"))))
 
@@ -97,8 +99,8 @@ class Cib:
         return found
 
     def counts(self, one):
-        """Whether a set counts now; nothing where that isn't known. A rule of meta attributes sees no attributes of nodes, as in
-        Pacemaker."""
+        """Whether a set counts now; nothing where that isn't known. A rule of meta attributes sees no attributes of
+        nodes, as in Pacemaker."""
         rules = [self.meant(rule) for rule in one.findall("rule")]
         if one.tag == "instance_attributes" and any(rule.find(".//expression") is not None for rule in rules):
             return None
@@ -133,7 +135,7 @@ class Cib:
         return found
 
     def all_under_rules(self, element, tag, word):
-        """The words of the sets that hold only where a rule does of which that isn't known; they are refused."""
+        """The words of the sets whose rules can't be judged; they are refused."""
         return [part for one in self.unknown_sets(element, tag) for part in self.under_rule(one, word)]
 
     def unknown_sets(self, element, tag):

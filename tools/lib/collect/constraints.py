@@ -62,7 +62,8 @@ def in_sequence(one):
 
 
 def pairs_within(cib, one, score):
-    """In a set each resource goes to the one before it (or after it, as it is ordered); if they are to be apart, to all before it."""
+    """In a set each resource goes to the one before it (or after it, as it is ordered); if they are to be apart, to all
+    before it."""
     names = [(name, one.get("role")) for name in members(cib, one)]
     if not in_sequence(one) or points(score) == 0:
         return []
@@ -105,7 +106,7 @@ def orders(cib, element):
 
 
 def chains(sets, steps):
-    """Orders that say the same as sets of which one isn't in sequence."""
+    """Orders that say the same as sets where one isn't in sequence."""
     found = [own for one, own in zip(sets, steps) if in_sequence(one) and len(own) > 1]
     for (one, own), (other, next_own) in zip(zip(sets, steps), zip(sets[1:], steps[1:])):
         firsts, thens = (own[-1:] if in_sequence(one) else own), (next_own[:1] if in_sequence(other) else next_own)

@@ -1,5 +1,5 @@
-"""The `op` lines of a node: its operations in the order of their call ids, and failures that its history no longer has. All runs of
-a recurring monitor have one call id, so of these the moments decide."""
+"""The `op` lines of a node: its operations in the order of their call ids, and failures that its history no longer has.
+All runs of a recurring monitor have one call id, so of these the moments decide."""
 import re
 
 TASKS = ("start", "stop", "promote", "demote", "monitor")
@@ -52,7 +52,7 @@ def number(text, least=0):
 
 
 def told(cib, facts, node, leaf, element):
-    """An operation of the history as the program is told of it, or nothing."""
+    """An operation of the history as the program reads it, or nothing."""
     task, what = element.get("operation", ""), f"{element.get('operation')} of {leaf} on {node}"
     status, code = element.get("op-status", "0"), number(element.get("rc-code"))
     call, moment = number(element.get("call-id"), -1), number(element.get("last-rc-change") or element.get("last-run"))
@@ -87,7 +87,8 @@ def in_flight(cib, leaf, task, what, moment):
 
 
 def migration(cib, leaf, task, what, code, moment, call):
-    """An arrival is a start; a departure leaves the resource where it was until it is stopped there; a failure is that of a probe."""
+    """An arrival is a start; a departure leaves the resource where it was until it is stopped there; a failure is that
+    of a probe."""
     if code != 0:
         cib.notes.add(f"{what} failed: written as a failed probe, since it may run there")
         return Operation(leaf, "monitor", 0, code, moment, call)
@@ -98,7 +99,7 @@ def migration(cib, leaf, task, what, code, moment, call):
 
 
 def earlier_failures(cib, facts, node, state, ended):
-    """Failures that count more than once, of which the history keeps the last alone: they come before all others."""
+    """Failures that count more than once, where the history keeps the last alone: they come before all others."""
     attributes, found = cib.transient(state), []
     for key, count in attributes.items():
         match = FAIL_COUNT.match(key)
@@ -120,7 +121,8 @@ def likely(own):
 
 
 def repeated(cib, node, failure, count, own, of_any):
-    """As many failures as are missing among the resource's own operations; for an infinity one after which the node isn't tried again."""
+    """As many failures as are missing among the resource's own operations; for an infinity one after which the node
+    isn't tried again."""
     known = [other for other in own if other.failed and (of_any or (other.task, other.interval) == (failure.task, failure.interval))]
     if count.upper() in ("INFINITY", "1000000"):
         banned = any(other.task in ("start", "stop") or other.code in HARD for other in known)

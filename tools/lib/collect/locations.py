@@ -1,4 +1,5 @@
-"""The locations of a CIB: those of sets, patterns and tags become one for each resource, and a score by attribute one for each node."""
+"""The locations of a CIB: those of sets, patterns and tags become one for each resource, and a score by attribute one
+for each node."""
 import re
 
 from .patterns import Pattern, Unsaid, Wrong
@@ -37,7 +38,8 @@ def is_plain(rule):
 
 
 def scores(cib, element, rule):
-    """What stands behind the head for each node on which a rule holds whose score is an attribute; a node without it is banned."""
+    """What stands behind the head for each node on which a rule holds whose score is an attribute; a node without it is
+    banned."""
     attribute = rule.get("score-attribute")
     try:
         holding = [one for one in cib.seen if rule_holds(rule, one.attributes, cib.moment)]
@@ -77,8 +79,8 @@ def refers(element):
 
 
 def matching(cib, pattern, refers):
-    """The resources of which a pattern holds, or doesn't hold if it begins with `!`; those that stand in others aren't asked. A
-    pattern that can't be followed stays, to be refused."""
+    """The resources that a pattern takes, or, if it begins with `!`, doesn't take; those that stand in others aren't
+    asked. A pattern that can't be followed stays, to be refused."""
     inverted = pattern.startswith("!")
     try:
         tried = Pattern(pattern[1:] if inverted else pattern)

@@ -1,5 +1,5 @@
-"""Nodes in maintenance: nothing may start there, and what runs there is left alone. The program is told so by `standby` of the node and
-`is-managed=false` of the resources."""
+"""Nodes in maintenance: nothing may start there, and what runs there is left alone. To say so, it is written as
+`standby` of the node and `is-managed=false` of the resources."""
 from .cib import is_true
 from .history import operations
 from .nodes import state_of

@@ -7,7 +7,8 @@ KINDS = {"start", "stop", "promote", "demote", "migrate_to", "migrate_from", "mo
 
 
 def measured(data):
-    """For each resource, operation and node how many milliseconds it took, of what succeeded. A monitor without an interval is a probe."""
+    """For each resource, operation and node how many milliseconds it took, of what succeeded. A monitor without an
+    interval is a probe."""
     root, found = parsed(bz2.decompress(data) if data.startswith(b"BZh") else data), {}
     for state in root.iter("node_state"):
         for element in state.iter("lrm_resource"):

@@ -1,5 +1,5 @@
-"""With --near: what the program has no word for is left out or written as what comes nearest, which makes it another cluster, like this
-one. What is a must, and no preference, stays, to be refused."""
+"""With --near: what the program has no word for is left out or written as what comes nearest, which makes it another
+cluster, like this one. What is a must, and no preference, stays, to be refused."""
 import re
 
 from .cib import is_true, points

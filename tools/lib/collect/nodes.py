@@ -32,7 +32,8 @@ def seen(cib):
 
 
 def written_attributes(cib, element, state):
-    """The attributes of the statement; those that last until the node reboots go first, and override the permanent ones."""
+    """The attributes of the statement; those that last until the node reboots go first, and override the permanent
+    ones."""
     attributes = cib.transient(state)
     if attributes.get("shutdown", "0") != "0":
         attributes["standby"] = "on"

@@ -1,6 +1,6 @@
-"""POSIX extended regular expressions, as the C library reads those of `rsc-pattern`. All ways to match are followed at once, so that no
-pattern takes more time than its length and that of the name. `Wrong` says that the C library refuses the pattern too, `Unsaid` that
-it may take it."""
+"""POSIX extended regular expressions, as the C library reads those of `rsc-pattern`. All ways to match are followed at
+once, so that no pattern takes more time than its length and that of the name. `Wrong` says that the C library refuses
+the pattern too, `Unsaid` that it may take it."""
 from .brackets import CLASSES, Unsaid, Wrong, bracket
 
 MOST_STATES, MOST_DEPTH, MOST_REPEATS = 5000, 50, 32767
@@ -107,7 +107,8 @@ class Parser:
 
 
 class Pattern:
-    """An automaton: each state has steps, which are a test and the state behind it; a step without a test takes no letter."""
+    """An automaton: each state has steps, which are a test and the state behind it; a step without a test takes no
+    letter."""
 
     def __init__(self, text):
         self.steps, self.known = [], {}

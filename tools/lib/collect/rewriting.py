@@ -1,4 +1,5 @@
-"""Rewrites what the program refuses and what has no effect in the configuration at hand. What has one is left, to be refused."""
+"""Rewrites what the program refuses and what has no effect in the configuration at hand. What has one is left, to be
+refused."""
 import re
 
 from .cib import is_true
@@ -121,7 +122,8 @@ def meta_of_operations(parts, name, notes):
 
 
 def section(part, words, configuration, notes):
-    """A section without the meta attributes that say nothing, and with those that stand for others behind it; `meta` alone stays."""
+    """A section without the meta attributes that say nothing, and with those that stand for others behind it; `meta`
+    alone stays."""
     if part[0] != "meta" or len(part) == 1:
         return part
     kept, others = [], []

@@ -1,5 +1,5 @@
-"""Rules of a CIB in crmsh's words, so that they mean here what they mean in Pacemaker. A test that can't be said is written by the names
-of the nodes for which it holds now. What isn't known to hold keeps its word, and is refused."""
+"""Rules of a CIB in crmsh's words, so that they mean here what they mean in Pacemaker. A test that can't be said is
+written by the names of the nodes for which it holds now. What isn't known to hold keeps its word, and is refused."""
 from datetime import datetime, timezone
 
 from .dates import DATE, later, seconds
@@ -94,7 +94,8 @@ class Teller:
         return head(rule) + told
 
     def told(self, rule):
-        """The tests of a rule with what joins them; nothing where they hold nowhere. One test may become several, of which one suffices."""
+        """The tests of a rule with what joins them; nothing where they hold nowhere. One test may become several; then
+        one of them suffices."""
         elements = list(flat(rule))
         is_or = is_any(rule) or len(elements) == 1
         found = []
@@ -128,7 +129,8 @@ class Teller:
         return [["#uname", "ne", one.name] for one in self.nodes if one.name not in names]
 
     def compared(self, element, is_or, holding):
-        """A test of an attribute, if it finds here what it finds in Pacemaker. A missing attribute differs there from every value."""
+        """A test of an attribute, if it finds here what it finds in Pacemaker. A missing attribute differs there from
+        every value."""
         name = element.get("attribute", "")
         widened = is_or and element.get("operation") == "ne" and not name.startswith("#")
         try:

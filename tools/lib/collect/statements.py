@@ -36,7 +36,8 @@ def settings(cib):
 
 
 def resource(cib, element):
-    """The statements of a resource and of those in it; a kind that this program doesn't have keeps its word, and is refused."""
+    """The statements of a resource and of those in it; a kind that this program doesn't have keeps its word, and is
+    refused."""
     if element.tag == "template":
         return
     if element.tag == "primitive":
@@ -62,7 +63,7 @@ def primitive(cib, element):
 
 
 def operations(cib, sources):
-    """The operations of a primitive: those of its template go first, but for those of which it has one of the same name and role."""
+    """The operations of a primitive: those of its template go first, unless it has one of the same name and role."""
     found, own = {}, {watched(one) for one in operations_of(cib, sources[0])}
     for source in reversed(sources):
         for one in operations_of(cib, source):
@@ -95,7 +96,7 @@ def own_sections(cib, sources):
 
 
 def masked(cib, word, key, value):
-    """Parameters have no effect, so a password need not be told."""
+    """Parameters have no effect, so passwords are left out."""
     if word != "params" or not SECRET.search(key):
         return value
     cib.notes.add("passwords are written as ******; parameters have no effect here")

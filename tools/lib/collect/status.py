@@ -1,4 +1,5 @@
-"""The `%status` of a CIB: states of nodes, quorum, the moment, operations, failures that count more than once, promotion scores."""
+"""The `%status` of a CIB: states of nodes, quorum, the moment, operations, failures that count more than once,
+promotion scores."""
 import re
 
 from .cib import is_true
@@ -9,7 +10,8 @@ PROMOTION = re.compile(r"(?:master|promotion)-([^:]+)(:\d+)?$")
 
 
 class Facts:
-    """What the status must know of the configuration: nodes, primitives, those that are promotable, and whether nodes are fenced."""
+    """What the status must know of the configuration: nodes, primitives, those that are promotable, and whether nodes
+    are fenced."""
 
     def __init__(self, statements):
         kinds = {}
@@ -80,7 +82,8 @@ def is_doomed(text):
 
 
 def state_with_fencing(state, member, peer, join, expected, doomed):
-    """A node that was never seen, was turned away, has left without a word or is doomed is unclean, unless it was just shot."""
+    """A node that was never seen, was turned away, has left without a word or is doomed is unclean, unless it was just
+    shot."""
     if state.get("in_ccm") is None or join == "banned":
         return "unclean"
     if expected == "down" and not doomed:

@@ -38,7 +38,8 @@ def parts(element):
 
 
 def pacemaker_finds(element, attributes):
-    """A test of an attribute in Pacemaker: strings are compared without case, and a missing attribute is less than any value."""
+    """A test of an attribute in Pacemaker: strings are compared without case, and a missing attribute is less than any
+    value."""
     kind, operation, value = parts(element)
     own = attributes.get(element.get("attribute"))
     if operation in ("defined", "not_defined"):
@@ -66,7 +67,7 @@ def decimal(text):
 
 
 def program_finds(element, attributes):
-    """The same test in this program: byte by byte, whole numbers as numbers, and false where the attribute is missing."""
+    """The same test in this program: byte by byte, whole numbers as numbers, false where the attribute is missing."""
     kind, operation, value = parts(element)
     own = attributes.get(element.get("attribute"))
     if operation in ("defined", "not_defined"):

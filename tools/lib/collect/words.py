@@ -28,7 +28,7 @@ def written_word(word):
 
 
 def parts(words):
-    """The words in groups, of which each gets a line of its own, as crmsh writes them."""
+    """The words in groups, each for a line of its own, as crmsh writes them."""
     begins = SECTIONS if words[0] in WITH_SECTIONS else ()
     groups = [[]]
     for at, word in enumerate(words):

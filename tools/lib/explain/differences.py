@@ -1,4 +1,5 @@
-"""Notes on what makes an answer another one than Pacemaker's: by what an accepted text has, each with its section of docs/PACEMAKER.md."""
+"""Notes on what makes an answer another one than Pacemaker's: by what an accepted text has, each with its section of
+docs/PACEMAKER.md."""
 from .tables import page
 from .texts import STATUS
 
@@ -13,22 +14,21 @@ class Configuration:
 
     def __init__(self, text):
         self.statements, self.has_status = text.configuration, STATUS in text.heads
-        self.above, self.nodes = {}, 0
+        self.above, self.by_kind = {}, {}
         for one in self.statements:
-            self.nodes += one.kind == "node"
-            if one.kind == "group" or one.kind in CLONES:
-                for word in members(one):
-                    self.above.setdefault(word.text, one)
+            self.by_kind.setdefault(one.kind, []).append(one)
+        for one in self.of_kind("group", *CLONES):
+            for word in members(one):
+                self.above.setdefault(word.text, one)
+        self.clones = {one.words[1].text for one in self.of_kind(*CLONES)}
 
     def of_kind(self, *kinds):
-        return [one for one in self.statements if one.kind in kinds]
+        """The statements of some kinds, in the order of the text."""
+        return sorted((one for kind in kinds for one in self.by_kind.get(kind, ())), key=lambda one: one.first)
 
     def is_cloned(self, name):
         own = self.above.get(name)
-        return own is not None and (own.kind in CLONES or self.is_cloned(own.words[1].text)) or name in self.clones()
-
-    def clones(self):
-        return {one.words[1].text for one in self.of_kind(*CLONES)}
+        return own is not None and (own.kind in CLONES or self.is_cloned(own.words[1].text)) or name in self.clones
 
 
 def members(statement):
@@ -121,7 +121,7 @@ def migrating(found):
 
 def without_stickiness(found):
     """One note for all: what may move between equal nodes."""
-    if found.nodes < 2 or any(pair_of(one, "resource-stickiness") for one in found.of_kind("rsc_defaults")):
+    if len(found.of_kind("node")) < 2 or any(pair_of(one, "resource-stickiness") for one in found.of_kind("rsc_defaults")):
         return
     for one in found.of_kind("primitive"):
         own = found.above.get(one.words[1].text)
@@ -131,7 +131,8 @@ def without_stickiness(found):
 
 
 def differences(text):
-    """Pairs of a word and a note. Of one kind the first few are said in full, and the others named with the last of them."""
+    """Pairs of a word and a note. Of one kind the first few are said in full, and the others named with the last of
+    them."""
     found = Configuration(text)
     if not found.has_status and found.statements:
         yield found.statements[-1].words[0], NO_STATUS

@@ -1,5 +1,5 @@
-"""Finds the faulty word of a refused statement. The program says the line and the cause; which word it is, it is asked about
-the text cut off behind each word: the first cut with the same answer ends in the faulty word."""
+"""Finds the faulty word of a refused statement. The program says the line and the cause; which word it is, it is asked
+about the text cut off behind each word: the first cut with the same answer ends in the faulty word."""
 import re
 
 from .texts import CONFIGURATION, RESULTS, STATUS, Word, content
@@ -7,11 +7,13 @@ from .texts import CONFIGURATION, RESULTS, STATUS, Word, content
 IN_COMMENTS = ("NotUtf8", "ControlByte")
 RESOURCES = ("primitive", "group", "clone", "ms", "master")
 GIVES_ROLE = re.compile(r"(?i):(promoted|master|promote|demote)$|^\$?role=(promoted|master)$")
+REPEATING = ("DuplicateName", "MemberTwice", "Repeated")
 WITHOUT_WORD = ("LineTooLong", "TooManyNodes", "TooManyLeaves", "TooManyRules", "TooManyResults", "ColocationLoop", "OrderLoop")
 
 
 def faulty_word(program, text, statement, refusal):
-    """The faulty word, or nothing where the statement as a whole is at fault. Of a line without a statement a byte may be."""
+    """The faulty word, or nothing where the statement as a whole is at fault. Of a line without a statement a byte may
+    be."""
     cause = refusal[1]
     if cause in WITHOUT_WORD or statement is None and cause not in IN_COMMENTS:
         return None
@@ -71,7 +73,8 @@ def faulty_head(_program, _text, statement, _refusal):
 
 
 def missing_word(program, text, statement, refusal):
-    """The place behind the last word, or, where a further word there changes nothing, the word that lacks one behind it."""
+    """The place behind the last word, or, where a further word there changes nothing, the word that lacks one behind
+    it."""
     last = statement.words[-1]
     end = Word("", last.last, last.end, last.last, last.end + 1)
     longer = list(text.lines)
@@ -137,7 +140,7 @@ def repeated_subject(_program, _text, statement, _refusal):
 
 def earlier(text, statement, word, cause):
     """The earlier statement that a second one repeats, or nothing."""
-    for other in text.statements:
+    for other in text.each() if cause in REPEATING else ():
         if statement is None or other.first >= statement.first:
             return None
         if cause == "DuplicateName" and same_space(other, statement) and other.id and other.id.text == word.text:

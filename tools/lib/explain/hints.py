@@ -1,4 +1,5 @@
-"""What to do about one refusal, beyond the sentence that its cause has: a near name, the values of a key, what to write instead."""
+"""What to do about one refusal, beyond the sentence that its cause has: a near name, the values of a key, what to write
+instead."""
 import difflib
 import functools
 import re

@@ -1,4 +1,5 @@
-"""What an input is: a text, or a CIB that `tools/collect` turns into one; and the status of a cluster that isn't there yet."""
+"""What an input is: a text, or a CIB that `tools/collect` turns into one; and the status of a cluster that isn't there
+yet."""
 import os
 import re
 import subprocess
@@ -31,7 +32,8 @@ def cut(data):
 
 
 def collected(data, file=None, quiet=False):
-    """The text that a CIB makes, with what stands behind it, or nothing where it can't be read; and the lines of what is to be said."""
+    """The text that a CIB makes, with what stands behind it, or nothing where it can't be read; and the lines of what
+    is to be said."""
     cib, behind = cut(data)
     own = file if file and not behind and os.path.isfile(file) else None
     words = [sys.executable, "-B", os.path.join(FOLDER, "collect"), *["-q"] * quiet, *(["--", own] if own else [])]

@@ -1,4 +1,5 @@
-"""Notes on an accepted text: settings that Pacemaker acts on and this program keeps without effect, and near misses of known words."""
+"""Notes on an accepted text: settings that Pacemaker acts on and this program keeps without effect, and near misses of
+known words."""
 import functools
 import re
 

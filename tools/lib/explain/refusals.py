@@ -22,6 +22,7 @@ class Finding:
             self.look(program, refusal)
         except OutOfTime:
             pass
+        self.hints = hints(text, self.statement, self.word, self.cause) if self.statement else []
 
     def look(self, program, refusal):
         """Finds the faulty word, and what else belongs to the refusal."""
@@ -31,6 +32,13 @@ class Finding:
         self.word = faulty_word(program, self.text, self.statement, refusal)
         if self.word:
             self.earlier = earlier(self.text, self.statement, self.word, self.cause)
+
+    def release(self):
+        """Keeps what is said of it alone, and no longer the text."""
+        self.text = None
+        for one in (self.statement, self.earlier, *self.loop):
+            if one:
+                one.release()
 
     def say(self, name, written):
         """Says the refusal, with the lines as they are written in the text that was given."""
@@ -49,8 +57,8 @@ class Finding:
         say(*paragraph(" ".join(self.remedies(cause)), "  "))
 
     def remedies(self, cause):
-        found = hints(self.text, self.statement, self.word, self.cause) if self.statement else []
-        return found if found and found[0].startswith("Not carried out") else [cause.remedy] + found
+        is_all = self.hints and self.hints[0].startswith("Not carried out")
+        return self.hints if is_all else [cause.remedy] + self.hints
 
     def say_json(self, name, line, cause):
         say_json(kind="refusal", file=name, line=line + 1, column=self.word.start + 1 if self.word else None, cause=self.cause,
@@ -87,13 +95,15 @@ def every_finding(program, text, refusal):
         if finding.statement and finding.statement.id:
             gone.add(finding.statement.id.text)
         text = Text(without_refused(finding))
+        finding.release()
         program.restart_clock()
         refusal = program.refusal(b"\n".join(text.lines))
     return found
 
 
 def without_refused(finding):
-    """The text without a refused line of no statement, a refused pair of settings, the refused statement, or a section whose line is refused."""
+    """The text without a refused line of no statement, a refused pair of settings, the refused statement, or a section
+    whose line is refused."""
     text, statement, word = finding.text, finding.statement, finding.word
     if statement is None:
         return b"\n".join(text.lines[:finding.line] + [b""] + text.lines[finding.line + 1:])

@@ -26,6 +26,13 @@ def tell(message):
         say(f"cekpayo: {message}")
 
 
+def say_usage(text, words):
+    """Says how a script is called. The status is 0 where its words ask for that, else 2."""
+    is_asked = words[:1] in (["-h"], ["--help"])
+    print(text.strip(), file=sys.stdout if is_asked else sys.stderr)
+    return 0 if is_asked else 2
+
+
 def say_json(**fields):
     """Says an object of what is known, in one line."""
     say(json.dumps({name: value for name, value in fields.items() if value not in (None, [])}, ensure_ascii=False))

@@ -30,7 +30,8 @@ class Word:
 
 
 class Statement:
-    """One logical line: `first` and `last` are the numbers of its lines from 0. Its words are read when they are asked for."""
+    """One logical line: `first` and `last` are the numbers of its lines from 0. Its words are read when they are asked
+    for."""
 
     __slots__ = ("first", "last", "section", "_lines", "_read")
 
@@ -51,6 +52,11 @@ class Statement:
     def open_quote(self):
         """The place of a quote that is never closed, if there is one."""
         return self._all()[1]
+
+    def release(self):
+        """Keeps its words alone, and no longer the text that they are part of."""
+        self._all()
+        self._lines = None
 
     def fields(self):
         """The texts of the words; they aren't kept, since a status has very many."""
@@ -74,15 +80,23 @@ class Statement:
 
 
 class Text:
-    """A text. Its statements are read when they are asked for, since a status has very many, and most questions are about others."""
+    """A text. Its statements are read when they are asked for, since a status has very many, and most questions are
+    about others."""
 
     def __init__(self, data):
         self.lines = data.split(b"\n")
         self._statements = self._configuration = self._heads = None
 
+    @classmethod
+    def of(cls, lines):
+        """The text of these lines, which it shares."""
+        text = cls(b"")
+        text.lines = lines
+        return text
+
     def each(self):
-        """All statements, one after another; they aren't kept."""
-        return statements(self.lines)
+        """All statements, one after another; they aren't kept, unless they were before."""
+        return statements(self.lines) if self._statements is None else iter(self._statements)
 
     @property
     def statements(self):
@@ -111,23 +125,19 @@ class Text:
 
     def statement_at(self, line):
         """The statement that the line is part of."""
-        low, high = 0, len(self.statements)
-        while low < high:
-            middle = (low + high) // 2
-            if self.statements[middle].last < line:
-                low = middle + 1
-            else:
-                high = middle
-        found = self.statements[low:low + 1]
-        return found[0] if found and found[0].first <= line else None
+        found = next((one for one in self.each() if one.last >= line), None)
+        return found if found and found.first <= line else None
 
-    def without(self, dropped):
-        """The text with the lines of some statements left empty, so that the others keep their numbers."""
+    def lines_without(self, dropped):
+        """The lines, those of some statements left empty, so that the others keep their numbers."""
         lines = list(self.lines)
         for statement in dropped:
             for line in range(statement.first, statement.last + 1):
                 lines[line] = b""
-        return b"\n".join(lines)
+        return lines
+
+    def without(self, dropped):
+        return b"\n".join(self.lines_without(dropped))
 
     def cut_behind(self, statement, word):
         """The text in which the statement ends with the word."""
@@ -137,12 +147,15 @@ class Text:
             lines[line] = b""
         return b"\n".join(lines)
 
-    def with_word(self, word, text):
-        """The text with another word in the place of one that stands on one line."""
+    def lines_with_word(self, word, text):
+        """The lines with another word in the place of one that stands on one line."""
         lines = list(self.lines)
         line = lines[word.first]
         lines[word.first] = line[:word.start] + text.encode() + line[word.end:]
-        return b"\n".join(lines)
+        return lines
+
+    def with_word(self, word, text):
+        return b"\n".join(self.lines_with_word(word, text))
 
     def defined(self, kinds):
         """The ids that statements of these kinds define, with their statements; of equal ones the first."""

@@ -1,21 +1,25 @@
-"""Asks the sources as they stand, which the kit's `rt try` compiles without their proofs. One compilation answers many questions."""
+"""Asks the sources as they stand, which the kit's `rt try` compiles without their proofs. One compilation answers many
+questions."""
 import os
 import re
+import signal
 import subprocess
+import sys
 import tempfile
 
 from .report import tell
 from .tables import FOLDER
 
 CRATE = os.path.join(os.path.dirname(FOLDER), "crates", "sim_cli")
-NAMED = "a trial of the sources as they stand, compiled anew: no proof covers its answer"
+NAMED = "a trial of the sources as they stand, compiled anew, which takes some two minutes: no proof covers its answer"
 ENDED = re.compile(r"^case=(\S+) run=ended status=(\d+) ", re.M)
 LIMITS = "a trial has 60 seconds and 1 MiB of output"
 CUT = 124
 
 
 class Trial:
-    """The answers to questions, each the words and the input: for each its status and output, or None where a limit cut it."""
+    """The answers to questions, each the words and the input: for each its status and output, or None where a limit cut
+    it."""
 
     def __init__(self, questions):
         self.questions = list(dict.fromkeys(questions))
@@ -24,13 +28,12 @@ class Trial:
             for number, (words, data) in enumerate(self.questions):
                 write(folder, f"q{number}", data)
                 write(folder, f"q{number}.args", "".join(f"{word}\n" for word in words).encode())
-            done = subprocess.run(["rt", "try", "--cases", folder], cwd=CRATE, stdin=subprocess.DEVNULL, stdout=subprocess.PIPE, stderr=subprocess.PIPE)
-        self.read(done)
+            self.read(*cases(folder))
 
-    def read(self, done):
-        self.said = done.stderr.decode("utf-8", "replace")
-        status = {name: int(number) for name, number in ENDED.findall(self.said + done.stdout.decode("utf-8", "replace"))}
-        outputs = dict(re.findall(rb"^== (q\d+)\n(.*?)(?=^== q\d+\n|\Z)", done.stdout, re.M | re.S))
+    def read(self, output, said):
+        self.said = said.decode("utf-8", "replace")
+        status = {name: int(number) for name, number in ENDED.findall(self.said + output.decode("utf-8", "replace"))}
+        outputs = dict(re.findall(rb"^== (q\d+)\n(.*?)(?=^== q\d+\n|\Z)", output, re.M | re.S))
         self.answers = {}
         for number, question in enumerate(self.questions):
             name = f"q{number}"
@@ -51,6 +54,20 @@ class Trial:
             tell(f"the trial of `{words}` was cut off: {LIMITS} ({'; '.join(own[:1])}); the built program has no such limits")
         else:
             tell(f"the sources could not be tried: {lines[-1] if lines else 'rt said nothing'}")
+
+
+def cases(folder):
+    """What `rt` writes and says of the cases in a folder. A signal that ends this process ends the trial."""
+    for number in (signal.SIGTERM, signal.SIGHUP):
+        if signal.getsignal(number) == signal.SIG_DFL:
+            signal.signal(number, lambda number, _: sys.exit(128 + number))
+    trial = subprocess.Popen(["rt", "try", "--cases", folder], cwd=CRATE, stdin=subprocess.DEVNULL, stdout=subprocess.PIPE, stderr=subprocess.PIPE)
+    try:
+        return trial.communicate()
+    except BaseException:
+        trial.terminate()
+        trial.wait()
+        raise
 
 
 def write(folder, name, data):

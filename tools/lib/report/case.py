@@ -53,7 +53,8 @@ class Case:
 
 
 def lines_of(word, data):
-    """The answer to a word. A run may end with a result that doesn't apply, or that is refused; then its last line says so."""
+    """The answer to a word. A run may end with a result that doesn't apply, or that is refused; then its last line says
+    so."""
     if word != "replay":
         return answer(word, data) or []
     return run_of(data)

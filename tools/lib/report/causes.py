@@ -1,4 +1,5 @@
-"""The cause that keeps a resource from a node, where it is certain: a failure there, or what it must be with, to the end of the chain."""
+"""The cause that keeps a resource from a node, where it is certain: a failure there, or what it must be with, to the
+end of the chain."""
 from .markup import code, joined
 from .status import PROMOTED, RUNS
 
@@ -40,7 +41,8 @@ def others_bar(case, leaves):
 
 
 class Chain:
-    """The colocations that lead from a resource to what decides where it is: each the only one that isn't met on the node that it is kept from."""
+    """The colocations that lead from a resource to what decides where it is: each the only one that isn't met on the
+    node that it is kept from."""
 
     def __init__(self, subject, steps, node, is_new):
         self.subject, self.steps, self.node, self.is_new = subject, steps, node, is_new

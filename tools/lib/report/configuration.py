@@ -1,4 +1,4 @@
-"""The configuration as `check` writes it: nodes, resources, what they are in, the rules that name them, the timeouts."""
+"""The configuration as `check` writes it: nodes, resources, what they are in, the rules that name them, timeouts."""
 from explain.differences import TRUE
 from explain.hints import SECTIONS
 from show.lines import read

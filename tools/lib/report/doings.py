@@ -14,7 +14,8 @@ def because(reason):
 
 
 class Doing:
-    """What is done with one resource: its kind for a glance, a sentence, and a word for each node that has to do with it."""
+    """What is done with one resource: its kind for a glance, a sentence, and a word for each node that has to do with
+    it."""
 
     def __init__(self, kind, sentence, cells):
         self.kind, self.sentence, self.cells = kind, sentence, cells

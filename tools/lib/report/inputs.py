@@ -1,4 +1,5 @@
-"""The input of a report: files behind each other, or standard input; what is a CIB is turned into an input by `tools/collect`."""
+"""The input of a report: files behind each other, or standard input; what is a CIB is turned into an input by
+`tools/collect`."""
 import os
 import sys
 

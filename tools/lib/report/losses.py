@@ -93,7 +93,7 @@ def section(case, losses):
     caption = tag("caption", "What the loss of each node does, once this plan is done")
     table = tag("table", caption, head, tag("tbody", *map(summary_row, losses)), class_="summary")
     whole = tag("details", tag("summary", "Each resource at each loss"), matrix(case, losses), open=len(losses) <= 6 and len(case.leaves) <= 30)
-    moment = tag("p", "This is told of the state ", tag("strong", "once this plan is done"), ", not of where everything is now.")
+    moment = tag("p", "This is said of the state ", tag("strong", "once this plan is done"), ", not of where everything is now.")
     hint = tag("p", "The node leaves without a word, and is cut off where fencing is on. Quorum stays as the status says it.", class_="hint")
     region = tag("div", table, class_="wide", tabindex="0", role="region", aria_label="Losses")
     return joined([moment, hint, region, whole])

@@ -22,7 +22,8 @@ def text(value):
 
 
 def tag(name, *children, **attributes):
-    """An element. `class_` stands for `class`, `data_node` for `data-node`; what is None or False is left out, True is a bare name."""
+    """An element. `class_` stands for `class`, `data_node` for `data-node`; what is None or False is left out, True is
+    a bare name."""
     said = "".join(f" {attribute(key)}" if value is True else f' {attribute(key)}="{text(value)}"'
                    for key, value in attributes.items() if value is not None and value is not False)
     return Markup(f"<{name}{said}>{joined(children)}</{name}>")

@@ -64,7 +64,7 @@ def report_of_change(old, new, gone, name, hide):
     before, after = Sections(old), Sections(new)
     first, *rest = after.all(hide)
     changed = change.section(old, new, before.doings, after.doings, before.losses, after.losses, gone)
-    lead = joined([overview.state(new), f" Everything below but the column \u201cAs it is\u201d is told with the change, {name}."])
+    lead = joined([overview.state(new), f" Everything below but the column \u201cAs it is\u201d is shown with the change, {name}."])
     return page(f"Change report: {name} for {old.source.name}", lead, [("change", "What the change does", changed), first, *rest])
 
 

@@ -1,4 +1,5 @@
-"""Why a resource goes where it goes, in sentences. All that the page says of it comes from `reason`, here from the totals of `scores`."""
+"""Why a resource goes where it goes, in sentences. All that the page says of it comes from `reason`, here from the
+totals of `scores`."""
 import functools
 
 from .causes import Ban, Chain, failed
@@ -163,7 +164,8 @@ def of_promotion(case, resource):
 
 
 def facts(case, resource, totals):
-    """What is known that may have a say: nodes, failures of the resource and of what must be with it, and the rules that name it."""
+    """What is known that may have a say: nodes, failures of the resource and of what must be with it, and the rules
+    that name it."""
     for node in totals:
         state = case.usable(node)
         if state:

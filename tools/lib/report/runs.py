@@ -14,7 +14,8 @@ class Transition:
 
 
 def transitions(lines):
-    """The transitions of a run, with the event that made each due, and the line that ends the run too early, if there is one."""
+    """The transitions of a run, with the event that made each due, and the line that ends the run too early, if there
+    is one."""
     found, cause, last = [], None, None
     for line in lines:
         words = line.split(" ")

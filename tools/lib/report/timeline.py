@@ -30,7 +30,8 @@ class Timeline:
             self.critical = set()  # a mark on everything would tell nothing
 
     def joined_bars(self, actions):
-        """A bar for each action. The probes of a node are one, and a monitor is told beside the start that it follows."""
+        """A bar for each action. The probes of a node share a bar, and a monitor stands beside the start that it
+        follows."""
         probes, starts, found = {}, {}, []
         for one in actions:
             begin, end, _ = self.times[one["number"]]
@@ -56,7 +57,7 @@ class Timeline:
                 and not bar.action["after"]]
 
     def before(self, bar):
-        """What a bar waits for, without what it waits for anyhow, and without probes, which are told together."""
+        """What a bar waits for, without what it waits for anyhow, and without probes, which stand together."""
         own, beyond = bar.action["after"], set()
         if len(own) > 200:
             own = sorted(own, key=lambda number: -self.times[number][1])[:200]

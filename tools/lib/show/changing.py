@@ -1,4 +1,5 @@
-"""The input that a changed configuration makes with the status of another input, the plans of both, and what a loss brings down."""
+"""The input that a changed configuration makes with the status of another input, the plans of both, and what a loss
+brings down."""
 import difflib
 
 from explain.texts import RESULTS, STATUS, Text
@@ -12,10 +13,11 @@ OF_NODE, OF_RESOURCE = ("node", "op", "cleanup", "promotion"), ("op", "cleanup",
 
 
 class Parts:
-    """A text that `check` takes, cut into its configuration and its status, which begins at the line `begin`; results are left out."""
+    """A text that `check` takes, cut into its configuration and its status, which begins at the line `begin`; results
+    are left out."""
 
     def __init__(self, data):
-        self.text = Text(data)
+        self.data, self.text = data, Text(data)
         self.end = self.text.heads.get(RESULTS, len(self.text.lines))
         self.begin = self.text.heads.get(STATUS, self.end)
         self.configuration = self.text.lines[:self.begin]
@@ -24,10 +26,11 @@ class Parts:
         return (one for one in self.text.each() if one.section == STATUS)
 
     def input(self):
-        return b"\n".join(self.text.lines[:self.end])
+        return b"\n".join(self.text.lines[:self.end]) if self.end < len(self.text.lines) else self.data
 
     def status_without(self, dropped):
-        """The lines of the status; those of some statements are empty, so that the others stay as far from its first line."""
+        """The lines of the status; those of some statements are empty, so that the others stay as far from its first
+        line."""
         lines = self.text.lines[self.begin:self.end]
         for statement in dropped:
             for line in range(statement.first, statement.last + 1):
@@ -52,7 +55,7 @@ LONG = ("score ", "place ", "promote ")  # lines of `scores` that say nothing of
 
 
 def plan_of(text):
-    """The plan for an input; its actions are told where the program has the word `graph`."""
+    """The plan for an input; its actions are known where the program has the word `graph`."""
     plan = Plan(acts=has_word("graph"))
     for word in ("scores", "graph") if plan.acts else ("scores",):
         for line in lines_of(word, text):
@@ -62,8 +65,8 @@ def plan_of(text):
 
 
 def differences(old, new, every=True):
-    """Two lists of entries in one, as `diff` would show them; of what differs, those of one resource are together. Unless every one is
-    asked for, what stays in both is left to the caller."""
+    """Two lists of entries in one, as `diff` would show them; of what differs, those of one resource are together.
+    Unless every one is asked for, what stays in both is left to the caller."""
     width = width_of([*old, *new])
     for what, first, last, begin, end in difflib.SequenceMatcher(None, old, new, False).get_opcodes():
         if what == "equal":

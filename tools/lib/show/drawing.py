@@ -1,4 +1,5 @@
-"""The action graph for Graphviz: nodes by kind, fences in red; in brief without probes and monitors, and a frame for each node."""
+"""The action graph for Graphviz: nodes by kind, fences in red; in brief without probes and monitors, and a frame for
+each node."""
 
 LOOKS = {
     "fence": 'shape=octagon color="red" fontcolor="red"',
@@ -15,7 +16,8 @@ ASIDE = ("probe", "monitor")
 
 
 def drawing(actions, every):
-    """The lines of the drawing; of two arrows behind each other the one that goes past both is left out, unless every one is asked for."""
+    """The lines of the drawing; of two arrows behind each other the one that goes past both is left out, unless every
+    one is asked for."""
     yield 'digraph "actions" {'
     yield "  node [shape=box]"
     for action in actions:
@@ -25,7 +27,7 @@ def drawing(actions, every):
 
 
 def brief_drawing(actions, every):
-    """The same without probes and monitors, whose arrows are passed on; what is done on one node stands in one frame."""
+    """The same without probes and monitors, with their arrows passed on, and a frame for what is done on one node."""
     kept = without_asides(actions)
     yield 'digraph "actions" {'
     yield "  node [shape=box margin=\"0.1,0.04\" height=0.3]"
@@ -96,7 +98,8 @@ def without_asides(actions):
 
 
 def arrows(actions, every):
-    """Pairs of an action and one among them that must come before it. Each set of what comes before an action is a number, bit by bit."""
+    """Pairs of an action and one among them that must come before it. Each set of what comes before an action is a
+    number, bit by bit."""
     before, known = {}, {action["number"] for action in actions}
     for action in actions:
         own = [number for number in action.get("after", []) if number in known]

@@ -29,6 +29,7 @@ def lines_of(files):
 def filtered(name, work):
     """Gives the lines to the work; the status is 1 where one isn't a line of the program, or a file can't be read."""
     signal.signal(signal.SIGPIPE, signal.SIG_DFL)
+    signal.signal(signal.SIGINT, signal.SIG_DFL)
     if sys.argv[1:] in (["--help"], ["-h"]):
         print(f"Usage: {command(name)} [FILE..]", "", sys.modules["__main__"].__doc__.strip(), sep="\n")
         return 0

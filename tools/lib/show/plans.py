@@ -2,7 +2,7 @@
 
 
 class Plan:
-    """One plan: of an input, of a transition of a run, or after a loss. `acts` says whether its actions are told."""
+    """One plan: of an input, of a transition of a run, or after a loss. `acts` says whether its actions are known."""
 
     def __init__(self, title="", acts=False):
         self.title, self.acts, self.end, self.cut = title, acts, "", None
@@ -14,7 +14,7 @@ class Plan:
 
     @property
     def done(self):
-        """Whether all its actions are told: of a transition, whether it is complete."""
+        """Whether all its actions are known: of a transition, whether it is complete."""
         return self.acts and (self.end == "complete" or not (self.title or self.end or self.cut))
 
     def resource(self, name):
@@ -44,7 +44,7 @@ class Plan:
 
 
     def take_action(self, action):
-        """Probes and monitors, of which there may be very many, are only counted."""
+        """Probes and monitors are only counted: there may be very many."""
         if action["action"] == "probe":
             self.probes += 1
         elif action["action"] == "monitor":

@@ -48,7 +48,7 @@ def is_fresh():
 
 @functools.lru_cache(maxsize=None)
 def path():
-    """The program: the one that CEKPAYO_PROGRAM names, an installed one, or that of the repository. No tool builds it."""
+    """The program: the one that CEKPAYO_PROGRAM names, an installed or the repository's own. No tool builds it."""
     named = os.environ.get("CEKPAYO_PROGRAM")
     if named:
         named = named if "/" in named else os.path.join(".", named)
@@ -57,7 +57,7 @@ def path():
         return INSTALLED
     if is_run(BUILT) and is_fresh():
         return BUILT
-    how = "`./cekpayo --build` builds it" if shutil.which("rt") else "the command rt of the Rattle kit that builds it is not on the PATH"
+    how = "`./cekpayo --build` builds it" if shutil.which("rt") else "the command rt of the Rattle kit that builds it is not on the PATH; tools/release makes an archive elsewhere"
     return end(f"the program is not built, or older than its sources, and {how}")
 
 

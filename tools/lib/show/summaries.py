@@ -101,7 +101,7 @@ def of_resource(plan, name, own):
 
 
 def stays(plan, name):
-    """What is said of a target that no action leads to: it may be there already, or it is only known where it is to be."""
+    """What is said of a target that no action leads to: it may be there already, or only that it is to be there."""
     if name in plan.pinned:
         return "Leave"
     return "Stay" if plan.done else "Place"
@@ -132,7 +132,7 @@ def role_on(role):
 
 
 def changes(loss):
-    """The entries of what a loss changes of the plan before it; what stays is told in one."""
+    """The entries of what a loss changes of the plan before it; all that stays is one entry."""
     stay = []
     for name in loss.order:
         now, then = dict(loss.now.targets.get(name, [])), dict(loss.targets[name])

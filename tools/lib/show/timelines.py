@@ -36,7 +36,8 @@ def rows_of_graph(lines):
 
 
 def rows_of_run(lines):
-    """A row for what begins together, and one for what ends behind it; events stand in the column of their node, or in the first one."""
+    """A row for what begins together, and one for what ends behind it; events stand in the column of their node, or in
+    the first one."""
     rows, kind, actions = [], None, {}
     for line in lines:
         if line["kind"] == "transition":

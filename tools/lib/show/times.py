@@ -1,4 +1,5 @@
-"""How long a plan takes: times as configurations write them, the timeouts of operations, and the longest way through a plan's actions."""
+"""How long a plan takes: times as configurations write them, the timeouts of operations, and the longest way through a
+plan's actions."""
 from explain.differences import FALSE
 from explain.hints import SECTIONS
 
@@ -63,7 +64,8 @@ class Timeouts:
 
 
 def times(actions, length):
-    """For each action by its number when it begins and ends at the latest, and the one before it that it waits for longest."""
+    """For each action by its number when it begins and ends at the latest, and the one before it that it waits for
+    longest."""
     found = {}
     for action in actions:
         before = [(found[number][1], number) for number in action.get("after", []) if number in found]

@@ -1,11 +1,10 @@
-ghost use Rattle.std.specs.Prelude.{◌≡◌, false, unwrap_or, codes, OnOk, IfOk};
+ghost use Rattle.std.specs.Prelude.{◌≡◌, ◌++◌, false, unwrap_or, codes, OnOk, IfOk};
 ghost use Rattle.std.specs.Option.{option_map_or, option_or};
 ghost use Rattle.crm_parse.specs.Operations.{value_of};
 ghost use Rattle.crm_parse.specs.Statements.{says_promotable};
 ghost use Rattle.crm_parse.specs.Values.{bool_of, count_of};
 ghost use Rattle.cluster_model.specs.Clones.{cloned_by, cloned_in, copies_in, in_clone, promoted_in, uncloned};
 ghost use Rattle.cluster_model.specs.Metas.{read_as};
-ghost use Rattle.cluster_model.specs.Tables.{with_rows};
 
 use crate::expansion::meta::{Meta, meta_of, no_meta};
 use crate::name_table::NameTable;
@@ -71,13 +70,12 @@ fn in_clone(nodes: u32, ms: bool, pairs: &[Kv]) -> InClone
     }
 }
 
-fn add_cloned(
-    alloc: Global,
+fn add_cloned<'n>(
     nodes: u32,
-    cloned: &mut NameTable<InClone>,
-    form: &Form,
+    cloned: &mut NameTable<'n, InClone>,
+    form: &'n Form,
 ) -> Result<(), NoMemory>
-    ensures { OnOk result (cloned.new ≡ with_rows cloned.old (cloned_in nodes form.now)) }
+    ensures { OnOk result (cloned.new ≡ cloned.old ++ cloned_in nodes form.now) }
 {
     let Form::Cloned {
         child,
@@ -88,21 +86,20 @@ fn add_cloned(
     else {
         return Ok(());
     };
-    cloned.add(alloc, child, in_clone(nodes, *ms, meta.as_slice()))
+    cloned.add(child, in_clone(nodes, *ms, meta.as_slice()))
 }
 
 /// Each child of a clone, where there are so many nodes.
-#[tactic(auto, using(crate::proofs::Rows::rows_by_items))]
-pub fn cloned_by(
+pub fn cloned_by<'n>(
     alloc: Global,
     nodes: u32,
-    statements: &[Statement],
-) -> Result<NameTable<InClone>, NoMemory>
+    statements: &'n [Statement],
+) -> Result<NameTable<'n, InClone>, NoMemory>
     ensures { IfOk result (λ cloned. cloned ≡ cloned_by nodes statements.now) }
 {
     let mut cloned = NameTable::new(alloc);
     for statement in statements {
-        add_cloned(alloc, nodes, &mut cloned, &statement.form)?;
+        add_cloned(nodes, &mut cloned, &statement.form)?;
     }
     Ok(cloned)
 }

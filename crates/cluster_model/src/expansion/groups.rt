@@ -1,6 +1,5 @@
-ghost use Rattle.std.specs.Prelude.{◌≡◌, map, OnOk, IfOk};
+ghost use Rattle.std.specs.Prelude.{◌≡◌, ◌++◌, map, OnOk, IfOk};
 ghost use Rattle.cluster_model.specs.Groups.{grouped_by, grouped_in, members_of, membership_of};
-ghost use Rattle.cluster_model.specs.Tables.{with_rows};
 
 use crate::expansion::clones::InClone;
 use crate::expansion::meta::{Meta, meta_of};
@@ -20,16 +19,15 @@ pub(crate) struct InGroup {
     pub clone: Option<InClone>,
 }
 
-fn add_followers(
-    alloc: Global,
-    grouped: &mut NameTable<InGroup>,
+fn add_followers<'n>(
+    grouped: &mut NameTable<'n, InGroup>,
     group: &InGroup,
-    members: &[Name],
+    members: &'n [Name],
 ) -> Result<(), NoMemory>
-    ensures { OnOk result (grouped.new ≡ with_rows grouped.old (map (λ member. (member, group.now)) members.now)) }
+    ensures { OnOk result (grouped.new ≡ grouped.old ++ map (λ member. (member, group.now)) members.now) }
 {
     for member in members {
-        grouped.add(alloc, member, *group)?;
+        grouped.add(member, *group)?;
     }
     Ok(())
 }
@@ -44,29 +42,27 @@ fn place(meta: &Meta, follower: bool, clone: &Option<InClone>) -> InGroup
     }
 }
 
-fn add_members(
-    alloc: Global,
-    grouped: &mut NameTable<InGroup>,
+fn add_members<'n>(
+    grouped: &mut NameTable<'n, InGroup>,
     meta: &Meta,
     clone: &Option<InClone>,
-    members: &[Name],
+    members: &'n [Name],
 ) -> Result<(), NoMemory>
-    ensures { OnOk result (grouped.new ≡ with_rows grouped.old (members_of meta.now clone.now members.now)) }
+    ensures { OnOk result (grouped.new ≡ grouped.old ++ members_of meta.now clone.now members.now) }
 {
     let [first, others @ ..] = members else {
         return Ok(());
     };
-    grouped.add(alloc, first, place(meta, false, clone))?;
-    add_followers(alloc, grouped, &place(meta, true, clone), others)
+    grouped.add(first, place(meta, false, clone))?;
+    add_followers(grouped, &place(meta, true, clone), others)
 }
 
-fn add_grouped(
-    alloc: Global,
-    cloned: &NameTable<InClone>,
-    grouped: &mut NameTable<InGroup>,
-    form: &Form,
+fn add_grouped<'n>(
+    cloned: &NameTable<'_, InClone>,
+    grouped: &mut NameTable<'n, InGroup>,
+    form: &'n Form,
 ) -> Result<(), NoMemory>
-    ensures { OnOk result (grouped.new ≡ with_rows grouped.old (grouped_in cloned.now form.now)) }
+    ensures { OnOk result (grouped.new ≡ grouped.old ++ grouped_in cloned.now form.now) }
 {
     let Form::Group {
         id,
@@ -79,21 +75,20 @@ fn add_grouped(
     };
     let meta = meta_of(meta.as_slice());
     let clone = cloned.get(id);
-    add_members(alloc, grouped, &meta, &clone, members.as_slice())
+    add_members(grouped, &meta, &clone, members.as_slice())
 }
 
 /// Each member of a group, where these are cloned.
-#[tactic(auto, using(crate::proofs::Rows::rows_by_items))]
-pub fn grouped_by(
+pub fn grouped_by<'n>(
     alloc: Global,
-    cloned: &NameTable<InClone>,
-    statements: &[Statement],
-) -> Result<NameTable<InGroup>, NoMemory>
+    cloned: &NameTable<'_, InClone>,
+    statements: &'n [Statement],
+) -> Result<NameTable<'n, InGroup>, NoMemory>
     ensures { IfOk result (λ grouped. grouped ≡ grouped_by cloned.now statements.now) }
 {
     let mut grouped = NameTable::new(alloc);
     for statement in statements {
-        add_grouped(alloc, cloned, &mut grouped, &statement.form)?;
+        add_grouped(cloned, &mut grouped, &statement.form)?;
     }
     Ok(grouped)
 }

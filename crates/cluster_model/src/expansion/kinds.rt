@@ -1,6 +1,5 @@
-ghost use Rattle.std.specs.Prelude.{◌≡◌, IfOk, OnOk};
+ghost use Rattle.std.specs.Prelude.{◌≡◌, ◌++◌, IfOk, OnOk};
 ghost use Rattle.cluster_model.specs.Faults.{is_group, resource_kinds_in, kinds_of};
-ghost use Rattle.cluster_model.specs.Tables.{with_rows};
 
 use crate::name_table::NameTable;
 use cluster_types::NoMemory;
@@ -21,25 +20,27 @@ pub fn is_group(kind: Kind) -> bool
     matches!(kind, Kind::Group)
 }
 
-fn add_kind(alloc: Global, kinds: &mut NameTable<Kind>, form: &Form) -> Result<(), NoMemory>
-    ensures { OnOk result (kinds.new ≡ with_rows kinds.old (resource_kinds_in form.now)) }
+fn add_kind<'n>(kinds: &mut NameTable<'n, Kind>, form: &'n Form) -> Result<(), NoMemory>
+    ensures { OnOk result (kinds.new ≡ kinds.old ++ resource_kinds_in form.now) }
 {
     match form {
-        Form::Primitive { id, .. } => kinds.add(alloc, id, Kind::Primitive),
-        Form::Group { id, .. } => kinds.add(alloc, id, Kind::Group),
-        Form::Cloned { id, .. } => kinds.add(alloc, id, Kind::Clone),
+        Form::Primitive { id, .. } => kinds.add(id, Kind::Primitive),
+        Form::Group { id, .. } => kinds.add(id, Kind::Group),
+        Form::Cloned { id, .. } => kinds.add(id, Kind::Clone),
         _ => Ok(()),
     }
 }
 
 /// Each resource with its kind.
-#[tactic(auto, using(crate::proofs::Rows::rows_by_items))]
-pub fn kinds_of(alloc: Global, statements: &[Statement]) -> Result<NameTable<Kind>, NoMemory>
+pub fn kinds_of<'n>(
+    alloc: Global,
+    statements: &'n [Statement],
+) -> Result<NameTable<'n, Kind>, NoMemory>
     ensures { IfOk result (λ kinds. kinds ≡ kinds_of statements.now) }
 {
     let mut kinds = NameTable::new(alloc);
     for statement in statements {
-        add_kind(alloc, &mut kinds, &statement.form)?;
+        add_kind(&mut kinds, &statement.form)?;
     }
     Ok(kinds)
 }

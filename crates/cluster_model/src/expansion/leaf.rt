@@ -36,7 +36,7 @@ fn plain_stickiness(cloned: bool) -> Score
 }
 
 /// Whether a resource is managed, where nothing is in maintenance.
-fn is_managed(surroundings: &Surroundings, meta: &Meta) -> bool
+fn is_managed(surroundings: &Surroundings<'_>, meta: &Meta) -> bool
     ensures { result ≡ (unwrap_or meta.now.managed true && not surroundings.now.maintenance) }
 {
     meta.managed.unwrap_or(true) && !surroundings.maintenance
@@ -52,7 +52,7 @@ fn fail_or(name: &[u8], ops: &[Operation], default: OnFail) -> OnFail
 /// The leaf of a primitive, with its own name and its monitors.
 #[tactic(auto, unfolding(crate::specs::Leaves::primitive_leaf))]
 fn leaf_with(
-    surroundings: &Surroundings,
+    surroundings: &Surroundings<'_>,
     name: Name,
     monitors: Listed<Monitor>,
     pairs: &[Kv],
@@ -90,7 +90,7 @@ fn leaf_with(
 
 fn leaf_of(
     alloc: Global,
-    surroundings: &Surroundings,
+    surroundings: &Surroundings<'_>,
     id: &Name,
     pairs: &[Kv],
     ops: &[Operation],
@@ -104,7 +104,7 @@ fn leaf_of(
 
 fn add_leaf(
     alloc: Global,
-    surroundings: &Surroundings,
+    surroundings: &Surroundings<'_>,
     leaves: &mut Listed<Leaf>,
     form: &Form,
 ) -> Result<(), NoMemory>
@@ -119,7 +119,7 @@ fn add_leaf(
 
 fn leaves_in(
     alloc: Global,
-    surroundings: &Surroundings,
+    surroundings: &Surroundings<'_>,
     statements: &[Statement],
 ) -> Result<Listed<Leaf>, NoMemory>
     ensures { IfOk result (λ leaves. leaves ≡ leaves_in surroundings.now statements.now) }

@@ -17,13 +17,13 @@ use crm_lex::{Name, NameSet};
 use crm_parse::{Form, Statement};
 use std::alloc::Global;
 
-fn is_unknown(kinds: &NameTable<Kind>, part: &Name) -> bool
+fn is_unknown(kinds: &NameTable<'_, Kind>, part: &Name) -> bool
     ensures { result ≡ is_none (lookup kinds.now part.now) }
 {
     kinds.get(part).is_none()
 }
 
-fn has_unknown(kinds: &NameTable<Kind>, form: &Form) -> bool
+fn has_unknown(kinds: &NameTable<'_, Kind>, form: &Form) -> bool
     ensures { result ≡ has_unknown_part kinds.now form.now }
 {
     parts_in(form).iter().any(|part| is_unknown(kinds, part))
@@ -39,7 +39,7 @@ fn may_hold(form: &Form, kind: Kind) -> bool
     }
 }
 
-fn may_hold_part(kinds: &NameTable<Kind>, form: &Form, part: &Name) -> bool
+fn may_hold_part(kinds: &NameTable<'_, Kind>, form: &Form, part: &Name) -> bool
     ensures { result ≡ option_map_or (may_contain form.now) (lookup kinds.now part.now) true }
 {
     match kinds.get(part) {
@@ -48,7 +48,7 @@ fn may_hold_part(kinds: &NameTable<Kind>, form: &Form, part: &Name) -> bool
     }
 }
 
-fn nests(kinds: &NameTable<Kind>, form: &Form) -> bool
+fn nests(kinds: &NameTable<'_, Kind>, form: &Form) -> bool
     ensures { result ≡ nests kinds.now form.now }
 {
     parts_in(form)
@@ -91,7 +91,7 @@ fn has_twice(alloc: Global, names: &NameSet, parts: &[Name]) -> Result<bool, NoM
     has_twice_after(alloc, names, &mut before, parts)
 }
 
-fn is_group_part(kinds: &NameTable<Kind>, part: &Name) -> bool
+fn is_group_part(kinds: &NameTable<'_, Kind>, part: &Name) -> bool
     ensures { result ≡ option_map_or is_group (lookup kinds.now part.now) false }
 {
     match kinds.get(part) {
@@ -100,7 +100,7 @@ fn is_group_part(kinds: &NameTable<Kind>, part: &Name) -> bool
     }
 }
 
-fn promotes_group(kinds: &NameTable<Kind>, form: &Form) -> bool
+fn promotes_group(kinds: &NameTable<'_, Kind>, form: &Form) -> bool
     ensures { result ≡ promotes_group kinds.now form.now }
 {
     match form {
@@ -117,7 +117,7 @@ fn promotes_group(kinds: &NameTable<Kind>, form: &Form) -> bool
 /// The cause of a statement that is at fault, after what was seen before it, where a part is named twice or none is.
 #[tactic(auto, unfolding(crate::specs::Faults::expand_cause_of))]
 fn cause_where(
-    kinds: &NameTable<Kind>,
+    kinds: &NameTable<'_, Kind>,
     seen: &Seen,
     form: &Form,
     twice: bool,
@@ -145,7 +145,7 @@ fn cause_where(
 /// The cause of a statement that is at fault, after what was seen before it.
 fn cause_of(
     alloc: Global,
-    kinds: &NameTable<Kind>,
+    kinds: &NameTable<'_, Kind>,
     seen: &Seen,
     form: &Form,
 ) -> Result<Option<ExpandCause>, NoMemory>
@@ -158,7 +158,7 @@ fn cause_of(
 /// The fault of the first statement that is at fault, after what was seen before them.
 fn first_fault(
     alloc: Global,
-    kinds: &NameTable<Kind>,
+    kinds: &NameTable<'_, Kind>,
     seen: &mut Seen,
     statements: &[Statement],
 ) -> Result<Option<ExpandFault>, NoMemory>

@@ -4,7 +4,6 @@ ghost use Rattle.std.specs.Prelude.{◌≡◌, ◌++◌, unwrap_or, slice_get, I
 ghost use Rattle.std.specs.Option.{option_copied, option_map_or};
 ghost use Rattle.cluster_model.specs.Spans.{ends_by, group_ends_in, ends_named, ends_of, number, number_of, numbers_of};
 ghost use Rattle.cluster_model.specs.Spans.{span_in, spans_in, spans_of};
-ghost use Rattle.cluster_model.specs.Tables.{with_rows};
 
 use crate::Span;
 use crate::name_table::NameTable;
@@ -22,25 +21,25 @@ pub(crate) struct Ends {
 }
 
 /// Each leaf with its number. More leaves than a number can tell are more than memory can hold.
-fn numbers_of(alloc: Global, leaves: &[Leaf]) -> Result<NameTable<LeafId>, NoMemory>
+fn numbers_of<'n>(alloc: Global, leaves: &'n [Leaf]) -> Result<NameTable<'n, LeafId>, NoMemory>
     ensures { IfOk result (λ numbers. numbers ≡ numbers_of leaves.now) }
 {
     let mut numbers = NameTable::new(alloc);
     let mut next: LeafId = 0;
     for leaf in leaves {
-        numbers.add(alloc, &leaf.name, next)?;
+        numbers.add(&leaf.name, next)?;
         next = next.checked_add(1).ok_or(NoMemory)?;
     }
     Ok(numbers)
 }
 
-fn number(numbers: &NameTable<LeafId>, name: &Name) -> LeafId
+fn number(numbers: &NameTable<'_, LeafId>, name: &Name) -> LeafId
     ensures { result ≡ number numbers.now name.now }
 {
     numbers.get(name).unwrap_or(0)
 }
 
-fn number_of(numbers: &NameTable<LeafId>, name: Option<&Name>) -> LeafId
+fn number_of(numbers: &NameTable<'_, LeafId>, name: Option<&Name>) -> LeafId
     ensures { result ≡ number_of numbers.now (option_copied name.entry) }
 {
     match name {
@@ -49,7 +48,7 @@ fn number_of(numbers: &NameTable<LeafId>, name: Option<&Name>) -> LeafId
     }
 }
 
-fn ends_of(numbers: &NameTable<LeafId>, members: &[Name]) -> Ends
+fn ends_of(numbers: &NameTable<'_, LeafId>, members: &[Name]) -> Ends
     ensures { result ≡ ends_of numbers.now members.now }
 {
     Ends {
@@ -58,38 +57,36 @@ fn ends_of(numbers: &NameTable<LeafId>, members: &[Name]) -> Ends
     }
 }
 
-fn add_ends(
-    alloc: Global,
-    numbers: &NameTable<LeafId>,
-    groups: &mut NameTable<Ends>,
-    form: &Form,
+fn add_ends<'n>(
+    numbers: &NameTable<'_, LeafId>,
+    groups: &mut NameTable<'n, Ends>,
+    form: &'n Form,
 ) -> Result<(), NoMemory>
-    ensures { OnOk result (groups.new ≡ with_rows groups.old (group_ends_in numbers.now form.now)) }
+    ensures { OnOk result (groups.new ≡ groups.old ++ group_ends_in numbers.now form.now) }
 {
     let Form::Group { id, members, .. } = form else {
         return Ok(());
     };
-    groups.add(alloc, id, ends_of(numbers, members.as_slice()))
+    groups.add(id, ends_of(numbers, members.as_slice()))
 }
 
 /// Each group with its ends.
-#[tactic(auto, using(crate::proofs::Rows::rows_by_items))]
-fn ends_by(
+fn ends_by<'n>(
     alloc: Global,
-    numbers: &NameTable<LeafId>,
-    statements: &[Statement],
-) -> Result<NameTable<Ends>, NoMemory>
+    numbers: &NameTable<'_, LeafId>,
+    statements: &'n [Statement],
+) -> Result<NameTable<'n, Ends>, NoMemory>
     ensures { IfOk result (λ groups. groups ≡ ends_by numbers.now statements.now) }
 {
     let mut groups = NameTable::new(alloc);
     for statement in statements {
-        add_ends(alloc, numbers, &mut groups, &statement.form)?;
+        add_ends(numbers, &mut groups, &statement.form)?;
     }
     Ok(groups)
 }
 
 /// The ends of a group, or of a primitive.
-fn ends_named(numbers: &NameTable<LeafId>, groups: &NameTable<Ends>, name: &Name) -> Ends
+fn ends_named(numbers: &NameTable<'_, LeafId>, groups: &NameTable<'_, Ends>, name: &Name) -> Ends
     ensures { result ≡ ends_named numbers.now groups.now name.now }
 {
     match groups.get(name) {
@@ -103,8 +100,8 @@ fn ends_named(numbers: &NameTable<LeafId>, groups: &NameTable<Ends>, name: &Name
 
 fn add_span(
     alloc: Global,
-    numbers: &NameTable<LeafId>,
-    groups: &NameTable<Ends>,
+    numbers: &NameTable<'_, LeafId>,
+    groups: &NameTable<'_, Ends>,
     spans: &mut Listed<Span>,
     form: &Form,
 ) -> Result<(), NoMemory>
@@ -127,8 +124,8 @@ fn add_span(
 
 fn spans_in(
     alloc: Global,
-    numbers: &NameTable<LeafId>,
-    groups: &NameTable<Ends>,
+    numbers: &NameTable<'_, LeafId>,
+    groups: &NameTable<'_, Ends>,
     statements: &[Statement],
 ) -> Result<Listed<Span>, NoMemory>
     ensures { IfOk result (λ spans. spans ≡ spans_in numbers.now groups.now statements.now) }

@@ -14,20 +14,23 @@ use std::alloc::Global;
 
 /// What stands around the primitives of a configuration.
 #[derive(Drop)]
-pub(crate) struct Surroundings {
+pub(crate) struct Surroundings<'n> {
     /// Whether nodes are fenced at all.
     pub fencing: bool,
     /// Whether no resource is managed.
     pub maintenance: bool,
     pub defaults: Meta,
     /// Each child of a clone.
-    pub cloned: NameTable<InClone>,
+    pub cloned: NameTable<'n, InClone>,
     /// Each member of a group.
-    pub grouped: NameTable<InGroup>,
+    pub grouped: NameTable<'n, InGroup>,
 }
 
 #[tactic(auto, unfolding(crate::specs::Leaves::surroundings_of))]
-pub fn surroundings_of(alloc: Global, statements: &[Statement]) -> Result<Surroundings, NoMemory>
+pub fn surroundings_of<'n>(
+    alloc: Global,
+    statements: &'n [Statement],
+) -> Result<Surroundings<'n>, NoMemory>
     ensures { IfOk result (λ surroundings. surroundings ≡ surroundings_of statements.now) }
 {
     let nodes = count_nodes(statements)?;
@@ -43,7 +46,7 @@ pub fn surroundings_of(alloc: Global, statements: &[Statement]) -> Result<Surrou
     })
 }
 
-impl Surroundings {
+impl<'n> Surroundings<'n> {
     /// The group of a primitive with its clone; a primitive outside of groups may be in a clone of its own.
     pub fn around(&self, id: &Name) -> InGroup
         ensures { result ≡ around self.now id.now }

@@ -28,7 +28,7 @@ pub(crate) struct Checked {
     pub fault: Option<ModelFault>,
 }
 
-fn has_unknown_step(directory: &Directory, steps: &[OrderStep]) -> bool
+fn has_unknown_step(directory: &Directory<'_>, steps: &[OrderStep]) -> bool
     ensures { result ≡ list_any (λ step. is_unknown directory.now step.resource) steps.now }
 {
     steps
@@ -36,14 +36,14 @@ fn has_unknown_step(directory: &Directory, steps: &[OrderStep]) -> bool
         .any(|step| directory.is_unknown(&step.resource))
 }
 
-fn has_unknown_member(directory: &Directory, members: &[Name]) -> bool
+fn has_unknown_member(directory: &Directory<'_>, members: &[Name]) -> bool
     ensures { result ≡ list_any (is_unknown directory.now) members.now }
 {
     members.iter().any(|member| directory.is_unknown(member))
 }
 
 /// Whether a rule names a resource or a node that isn't there.
-fn has_unknown(directory: &Directory, form: &Form) -> bool
+fn has_unknown(directory: &Directory<'_>, form: &Form) -> bool
     ensures { result ≡ has_unknown directory.now form.now }
 {
     match form {
@@ -62,7 +62,7 @@ fn has_unknown(directory: &Directory, form: &Form) -> bool
     }
 }
 
-fn lacks_role(directory: &Directory, leaf: LeafId, role: Role) -> bool
+fn lacks_role(directory: &Directory<'_>, leaf: LeafId, role: Role) -> bool
     ensures { result ≡ lacks_role directory.now leaf role }
 {
     match role {
@@ -71,13 +71,13 @@ fn lacks_role(directory: &Directory, leaf: LeafId, role: Role) -> bool
     }
 }
 
-fn side_lacks(directory: &Directory, side: Bearer) -> bool
+fn side_lacks(directory: &Directory<'_>, side: Bearer) -> bool
     ensures { result ≡ side_lacks directory.now side }
 {
     lacks_role(directory, side.leaf, side.role)
 }
 
-fn lacks_action(directory: &Directory, point: Point) -> bool
+fn lacks_action(directory: &Directory<'_>, point: Point) -> bool
     ensures { result ≡ lacks_action directory.now point }
 {
     match point.what {
@@ -86,7 +86,7 @@ fn lacks_action(directory: &Directory, point: Point) -> bool
     }
 }
 
-fn lacks_in_pair(directory: &Directory, before: &OrderStep, step: &OrderStep) -> bool
+fn lacks_in_pair(directory: &Directory<'_>, before: &OrderStep, step: &OrderStep) -> bool
     ensures { result ≡ lacks_in_pair directory.now (before.now, step.now) }
 {
     let first = first_point(directory, &before.resource, before.action);
@@ -94,7 +94,7 @@ fn lacks_in_pair(directory: &Directory, before: &OrderStep, step: &OrderStep) ->
     lacks_action(directory, first) || lacks_action(directory, later)
 }
 
-fn some_pair_lacks(directory: &Directory, steps: &[OrderStep]) -> bool
+fn some_pair_lacks(directory: &Directory<'_>, steps: &[OrderStep]) -> bool
     ensures { result ≡ list_any (lacks_in_pair directory.now) (successive steps.now) }
 {
     let [first, others @ ..] = steps else {
@@ -111,7 +111,7 @@ fn some_pair_lacks(directory: &Directory, steps: &[OrderStep]) -> bool
 }
 
 fn rule_lacks(
-    directory: &Directory,
+    directory: &Directory<'_>,
     leaf: LeafId,
     written: Option<RoleWord>,
     rule: &RuleForm,
@@ -122,7 +122,7 @@ fn rule_lacks(
 }
 
 fn some_rule_lacks(
-    directory: &Directory,
+    directory: &Directory<'_>,
     leaf: LeafId,
     written: Option<RoleWord>,
     rules: &[RuleForm],
@@ -135,7 +135,7 @@ fn some_rule_lacks(
 }
 
 /// Whether the statement promotes or demotes a leaf that isn't promotable.
-fn has_unpromotable(directory: &Directory, form: &Form) -> bool
+fn has_unpromotable(directory: &Directory<'_>, form: &Form) -> bool
     ensures { result ≡ has_unpromotable directory.now form.now }
 {
     match form {
@@ -219,7 +219,7 @@ fn excess_of(counts: Counts) -> Option<ModelCause>
 
 /// The cause of a statement that is at fault, where it and those before it have so much.
 #[tactic(auto, unfolding(crate::specs::Checks::cause_of))]
-fn cause_of(directory: &Directory, counts: Counts, form: &Form) -> Option<ModelCause>
+fn cause_of(directory: &Directory<'_>, counts: Counts, form: &Form) -> Option<ModelCause>
     ensures { result ≡ cause_of directory.now counts form.now }
 {
     if has_unknown(directory, form) {
@@ -234,7 +234,7 @@ fn cause_of(directory: &Directory, counts: Counts, form: &Form) -> Option<ModelC
 }
 
 /// The first statement that is at fault.
-pub fn first_fault(directory: &Directory, statements: &[Statement]) -> Result<Checked, NoMemory>
+pub fn first_fault(directory: &Directory<'_>, statements: &[Statement]) -> Result<Checked, NoMemory>
     ensures fault { IfOk result (λ found. found.fault ≡ first_fault (own_cause directory.now) [] statements.now) }
     ensures sound { IfOk result (λ found. found.sound ≡ sound_count (own_cause directory.now) [] statements.now) }
     ensures within { IfOk result (λ found. found.sound ≤ length statements.now) }

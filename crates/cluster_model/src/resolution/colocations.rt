@@ -22,7 +22,7 @@ pub(crate) struct Bearer {
 }
 
 /// The side that wants to be somewhere: of a group its first member.
-pub fn dependent_at(directory: &Directory, resource: &Name, role: Role) -> Bearer
+pub fn dependent_at(directory: &Directory<'_>, resource: &Name, role: Role) -> Bearer
     ensures { result ≡ dependent_at directory.now resource.now role }
 {
     Bearer {
@@ -32,7 +32,7 @@ pub fn dependent_at(directory: &Directory, resource: &Name, role: Role) -> Beare
 }
 
 /// The side that it wants to be with: of a group its last member.
-pub fn primary_at(directory: &Directory, resource: &Name, role: Role) -> Bearer
+pub fn primary_at(directory: &Directory<'_>, resource: &Name, role: Role) -> Bearer
     ensures { result ≡ primary_at directory.now resource.now role }
 {
     Bearer {
@@ -63,7 +63,7 @@ fn colocation_of(
 /// A member of a group must be where the member before it is.
 fn member_colocation(
     alloc: Global,
-    directory: &Directory,
+    directory: &Directory<'_>,
     id: &Name,
     before: &Name,
     member: &Name,
@@ -77,7 +77,7 @@ fn member_colocation(
 
 fn add_group(
     alloc: Global,
-    directory: &Directory,
+    directory: &Directory<'_>,
     colocations: &mut Listed<Colocation>,
     id: &Name,
     members: &[Name],
@@ -98,7 +98,7 @@ fn add_group(
 
 fn add_colocations(
     alloc: Global,
-    directory: &Directory,
+    directory: &Directory<'_>,
     colocations: &mut Listed<Colocation>,
     form: &Form,
 ) -> Result<(), NoMemory>
@@ -128,7 +128,7 @@ fn add_colocations(
 /// The colocations, in the order of the text, those of a group at its statement.
 pub fn colocations_of(
     alloc: Global,
-    directory: &Directory,
+    directory: &Directory<'_>,
     statements: &[Statement],
 ) -> Result<Listed<Colocation>, NoMemory>
     ensures { IfOk result (λ colocations. colocations ≡ colocations_of directory.now statements.now) }

@@ -1,7 +1,6 @@
 //! What the names in rules stand for.
 
-ghost use Rattle.std.specs.Prelude.{◌≡◌, map, slice_get, IfOk, OnOk};
-ghost use Rattle.cluster_model.specs.Tables.{with_rows};
+ghost use Rattle.std.specs.Prelude.{◌≡◌, ◌++◌, map, slice_get, IfOk, OnOk};
 ghost use Rattle.cluster_model.specs.Directories.{are_there, directory_of, ends_in_directory, span_ends, first_named, groups_of, is_local, is_one_group, is_unknown, is_unknown_node, joins_copies, last_named, may_promote, members_in, node_named, nodes_of, resources_of, traits_of};
 
 use crate::{Leaves, NameTable, Span};
@@ -30,21 +29,24 @@ pub(crate) struct Traits {
 
 /// Who is who in a configuration.
 #[derive(Drop)]
-pub(crate) struct Directory {
-    pub nodes: NameTable<NodeId>,
-    pub resources: NameTable<Ends>,
+pub(crate) struct Directory<'n> {
+    pub nodes: NameTable<'n, NodeId>,
+    pub resources: NameTable<'n, Ends>,
     pub leaves: Listed<Traits>,
 }
 
 /// Each node with its number. More nodes than a number can tell are more than memory can hold.
-fn nodes_of(alloc: Global, statements: &[Statement]) -> Result<NameTable<NodeId>, NoMemory>
+fn nodes_of<'n>(
+    alloc: Global,
+    statements: &'n [Statement],
+) -> Result<NameTable<'n, NodeId>, NoMemory>
     ensures { IfOk result (λ nodes. nodes ≡ nodes_of statements.now) }
 {
     let mut nodes = NameTable::new(alloc);
     let mut next: NodeId = 0;
     for statement in statements {
         if let Form::Node { name, .. } = &statement.form {
-            nodes.add(alloc, name, next)?;
+            nodes.add(name, next)?;
             next = next.checked_add(1).ok_or(NoMemory)?;
         }
     }
@@ -61,12 +63,12 @@ fn ends_of(span: &Span) -> Ends
 }
 
 /// Each resource with its ends.
-fn resources_of(alloc: Global, spans: &[Span]) -> Result<NameTable<Ends>, NoMemory>
+fn resources_of<'n>(alloc: Global, spans: &'n [Span]) -> Result<NameTable<'n, Ends>, NoMemory>
     ensures { IfOk result (λ resources. resources ≡ resources_of spans.now) }
 {
     let mut resources = NameTable::new(alloc);
     for span in spans {
-        resources.add(alloc, &span.name, ends_of(span))?;
+        resources.add(&span.name, ends_of(span))?;
     }
     Ok(resources)
 }
@@ -80,34 +82,33 @@ fn members_in(form: &Form) -> &[Name]
     }
 }
 
-fn add_members(
-    alloc: Global,
-    groups: &mut NameTable<u32>,
+fn add_members<'n>(
+    groups: &mut NameTable<'n, u32>,
     number: u32,
-    members: &[Name],
+    members: &'n [Name],
 ) -> Result<(), NoMemory>
-    ensures { OnOk result (groups.new ≡ with_rows groups.old (map (λ member. (member, number)) members.now)) }
+    ensures { OnOk result (groups.new ≡ groups.old ++ map (λ member. (member, number)) members.now) }
 {
     for member in members {
-        groups.add(alloc, member, number)?;
+        groups.add(member, number)?;
     }
     Ok(())
 }
 
 /// Each member of a group, with the number of the statement of its group.
-fn groups_of(alloc: Global, statements: &[Statement]) -> Result<NameTable<u32>, NoMemory>
+fn groups_of<'n>(alloc: Global, statements: &'n [Statement]) -> Result<NameTable<'n, u32>, NoMemory>
     ensures { IfOk result (λ groups. groups ≡ groups_of statements.now) }
 {
     let mut groups = NameTable::new(alloc);
     let mut number: u32 = 0;
     for statement in statements {
-        add_members(alloc, &mut groups, number, members_in(&statement.form))?;
+        add_members(&mut groups, number, members_in(&statement.form))?;
         number = number.checked_add(1).ok_or(NoMemory)?;
     }
     Ok(groups)
 }
 
-fn traits_of(groups: &NameTable<u32>, leaf: &Leaf) -> Traits
+fn traits_of(groups: &NameTable<'_, u32>, leaf: &Leaf) -> Traits
     ensures { result ≡ traits_of groups.now leaf.now }
 {
     Traits {
@@ -120,7 +121,7 @@ fn traits_of(groups: &NameTable<u32>, leaf: &Leaf) -> Traits
 
 fn all_traits(
     alloc: Global,
-    groups: &NameTable<u32>,
+    groups: &NameTable<'_, u32>,
     leaves: &[Leaf],
 ) -> Result<Listed<Traits>, NoMemory>
     ensures { IfOk result (λ all. all ≡ map (traits_of groups.now) leaves.now) }
@@ -133,11 +134,11 @@ fn all_traits(
 }
 
 #[tactic(auto, unfolding(crate::specs::Directories::directory_of))]
-pub fn directory_of(
+pub fn directory_of<'n>(
     alloc: Global,
-    leaves: &Leaves,
-    statements: &[Statement],
-) -> Result<Directory, NoMemory>
+    leaves: &'n Leaves,
+    statements: &'n [Statement],
+) -> Result<Directory<'n>, NoMemory>
     ensures { IfOk result (λ directory. directory ≡ directory_of leaves.now statements.now) }
 {
     let groups = groups_of(alloc, statements)?;
@@ -163,7 +164,7 @@ fn joins_copies(first: &Traits, later: &Traits) -> bool
     first.cloned && later.cloned && (later.interleave || is_one_group(first.group, later.group))
 }
 
-impl Directory {
+impl<'n> Directory<'n> {
     fn are_there(&self, ends: &Ends) -> bool
         ensures { result ≡ are_there self.now ends.now }
     {

@@ -29,7 +29,7 @@ pub fn role_written(written: Option<RoleWord>) -> Role
 
 fn add_location(
     alloc: Global,
-    directory: &Directory,
+    directory: &Directory<'_>,
     locations: &mut Listed<Location>,
     form: &Form,
 ) -> Result<(), NoMemory>
@@ -60,7 +60,7 @@ fn add_location(
 /// The locations, in the order of the text.
 pub fn locations_of(
     alloc: Global,
-    directory: &Directory,
+    directory: &Directory<'_>,
     statements: &[Statement],
 ) -> Result<Listed<Location>, NoMemory>
     ensures { IfOk result (λ locations. locations ≡ locations_of directory.now statements.now) }
@@ -74,7 +74,7 @@ pub fn locations_of(
 
 fn rule_location_of(
     alloc: Global,
-    directory: &Directory,
+    directory: &Directory<'_>,
     id: &Name,
     resource: &Name,
     written: Option<RoleWord>,
@@ -93,7 +93,7 @@ fn rule_location_of(
 
 fn add_rules(
     alloc: Global,
-    directory: &Directory,
+    directory: &Directory<'_>,
     locations: &mut Listed<RuleLocation>,
     id: &Name,
     resource: &Name,
@@ -111,7 +111,7 @@ fn add_rules(
 
 fn add_rule_locations(
     alloc: Global,
-    directory: &Directory,
+    directory: &Directory<'_>,
     locations: &mut Listed<RuleLocation>,
     form: &Form,
 ) -> Result<(), NoMemory>
@@ -134,7 +134,7 @@ fn add_rule_locations(
 /// The rules of locations, in the order of the text.
 pub fn rule_locations_of(
     alloc: Global,
-    directory: &Directory,
+    directory: &Directory<'_>,
     statements: &[Statement],
 ) -> Result<Listed<RuleLocation>, NoMemory>
     ensures { IfOk result (λ locations. locations ≡ rule_locations_of directory.now statements.now) }

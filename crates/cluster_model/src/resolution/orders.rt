@@ -48,7 +48,7 @@ pub fn is_down(action: ActionWord) -> bool
 }
 
 /// What comes first: a group has come up with its last member, and has gone down with its first.
-pub fn first_point(directory: &Directory, resource: &Name, action: ActionWord) -> Point
+pub fn first_point(directory: &Directory<'_>, resource: &Name, action: ActionWord) -> Point
     ensures { result ≡ first_point directory.now resource.now action }
 {
     let leaf = if is_down(action) {
@@ -63,7 +63,7 @@ pub fn first_point(directory: &Directory, resource: &Name, action: ActionWord) -
 }
 
 /// What comes then: a group comes up with its first member, and goes down with its last.
-pub fn then_point(directory: &Directory, resource: &Name, action: ActionWord) -> Point
+pub fn then_point(directory: &Directory<'_>, resource: &Name, action: ActionWord) -> Point
     ensures { result ≡ then_point directory.now resource.now action }
 {
     let leaf = if is_down(action) {
@@ -79,7 +79,7 @@ pub fn then_point(directory: &Directory, resource: &Name, action: ActionWord) ->
 
 fn order_of(
     alloc: Global,
-    directory: &Directory,
+    directory: &Directory<'_>,
     id: &Name,
     kind: OrderKind,
     symmetrical: bool,
@@ -103,7 +103,7 @@ fn order_of(
 /// An order of two resources.
 fn step_order(
     alloc: Global,
-    directory: &Directory,
+    directory: &Directory<'_>,
     id: &Name,
     kind: OrderKind,
     symmetrical: bool,
@@ -120,7 +120,7 @@ fn step_order(
 /// A member of a group starts after the member before it.
 fn member_order(
     alloc: Global,
-    directory: &Directory,
+    directory: &Directory<'_>,
     id: &Name,
     before: &Name,
     member: &Name,
@@ -135,7 +135,7 @@ fn member_order(
 
 fn add_steps(
     alloc: Global,
-    directory: &Directory,
+    directory: &Directory<'_>,
     orders: &mut Listed<Order>,
     id: &Name,
     kind: OrderKind,
@@ -158,7 +158,7 @@ fn add_steps(
 
 fn add_group(
     alloc: Global,
-    directory: &Directory,
+    directory: &Directory<'_>,
     orders: &mut Listed<Order>,
     id: &Name,
     members: &[Name],
@@ -179,7 +179,7 @@ fn add_group(
 
 fn add_orders(
     alloc: Global,
-    directory: &Directory,
+    directory: &Directory<'_>,
     orders: &mut Listed<Order>,
     form: &Form,
 ) -> Result<(), NoMemory>
@@ -206,7 +206,7 @@ fn add_orders(
 /// The orders, in the order of the text, those of a group at its statement.
 pub fn orders_of(
     alloc: Global,
-    directory: &Directory,
+    directory: &Directory<'_>,
     statements: &[Statement],
 ) -> Result<Listed<Order>, NoMemory>
     ensures { IfOk result (λ orders. orders ≡ orders_of directory.now statements.now) }

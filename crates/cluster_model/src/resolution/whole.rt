@@ -46,7 +46,7 @@ fn members_of(
 /// The locations and the rules of locations.
 fn places_of(
     alloc: Global,
-    directory: &Directory,
+    directory: &Directory<'_>,
     statements: &[Statement],
 ) -> Result<(Listed<Location>, Listed<RuleLocation>), NoMemory>
     ensures locations { IfOk result (λ places. places.0 ≡ locations_of directory.now statements.now) }
@@ -59,7 +59,7 @@ fn places_of(
 /// The colocations and the orders.
 fn joins_of(
     alloc: Global,
-    directory: &Directory,
+    directory: &Directory<'_>,
     statements: &[Statement],
 ) -> Result<(Listed<Colocation>, Listed<Order>), NoMemory>
     ensures colocations { IfOk result (λ joins. joins.0 ≡ colocations_of directory.now statements.now) }
@@ -73,7 +73,7 @@ fn joins_of(
 #[tactic(auto, unfolding(crate::specs::Resolution::cluster_of))]
 fn cluster_of(
     alloc: Global,
-    directory: &Directory,
+    directory: &Directory<'_>,
     leaves: &[Leaf],
     statements: &[Statement],
 ) -> Result<Cluster, NoMemory>
@@ -114,7 +114,7 @@ fn pass(
 /// The cluster of the statements, or the fault of the first that is at fault, by who is who in them.
 fn resolve_by(
     alloc: Global,
-    directory: &Directory,
+    directory: &Directory<'_>,
     leaves: &Leaves,
     statements: &[Statement],
 ) -> Result<Cluster, ModelFault>

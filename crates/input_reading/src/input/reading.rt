@@ -12,7 +12,7 @@ ghost use Rattle.input_reading.specs.FirstJournal.{status_journal};
 ghost use Rattle.input_reading.specs.Results.{most_results, results_of};
 ghost use Rattle.faults.specs.Reading.{Gives, faulting};
 ghost use Rattle.input_reading.specs.declared.input.cause.InputCause.TheVariants as cause;
-ghost use Rattle.input_reading.specs.Reading.{AreStated, configuration_of, head_of, input_of, line_behind, most_bytes, nothing_yet, start_of, with_cluster, with_results};
+ghost use Rattle.input_reading.specs.Reading.{AreStated, configuration_of, head_of, input_of, input_with, line_behind, most_bytes, nothing_yet, start_of, status_and_results, with_cluster, with_results};
 ghost use Rattle.input_reading.specs.Sections.{sections_by};
 
 use crate::input::cause::InputCause;
@@ -106,30 +106,54 @@ pub(crate) fn configuration_of(
     })
 }
 
-fn status_in(alloc: Global, cluster: &Cluster, lines: &[Line]) -> Result<Journal, InputFault>
+fn status_in(alloc: Global, names: &Names<'_>, lines: &[Line]) -> Result<Journal, InputFault>
+    ensures journal { Gives (λ journal. journal) result (faulting cause.Status (status_journal names.now lines.now)) }
+    ensures moment { IfOk result (λ journal. moment_of journal.events < 2 ^ 40) }
+{
+    read_status(alloc, names, lines).map_err(|fault| fault.map(InputCause::Status))
+}
+
+fn results_in(
+    alloc: Global,
+    names: &Names<'_>,
+    journal: &Journal,
+    lines: &[Line],
+) -> Result<Listed<ResultLine>, InputFault>
+    requires { moment_of journal.now.events < 2 ^ 40 }
+    ensures { Gives (λ results. results) result (faulting cause.Results (results_of names.now (moment_of journal.now.events) lines.now)) }
+{
+    let results = read_results(alloc, names, journal, lines).map_err(|fault| fault.map(
+        InputCause::Results,
+    ))?;
+    Ok(Listed::from(results))
+}
+
+/// What the lines of the status and the result lines tell of a cluster. Its names are made once for both.
+#[tactic(auto, unfolding(crate::specs::Reading::status_and_results))]
+fn status_and_results(
+    alloc: Global,
+    cluster: &Cluster,
+    status: &[Line],
+    results: &[Line],
+) -> Result<(Journal, Listed<ResultLine>), InputFault>
+    requires { IsValid cluster.now }
+    ensures told { Gives (λ told. told) result (status_and_results cluster.now status.now results.now) }
+    ensures moment { IfOk result (λ told. moment_of told.0.events < 2 ^ 40) }
+{
+    let names = Names::new(alloc, cluster)?;
+    let journal = status_in(alloc, &names, status)?;
+    let results = results_in(alloc, &names, &journal, results)?;
+    Ok((journal, results))
+}
+
+/// The journal that the status tells, where nothing else names what is in the cluster.
+fn status_of(alloc: Global, cluster: &Cluster, lines: &[Line]) -> Result<Journal, InputFault>
     requires { IsValid cluster.now }
     ensures journal { Gives (λ journal. journal) result (faulting cause.Status (status_journal cluster.now lines.now)) }
     ensures moment { IfOk result (λ journal. moment_of journal.events < 2 ^ 40) }
 {
     let names = Names::new(alloc, cluster)?;
-    read_status(alloc, &names, lines).map_err(|fault| fault.map(InputCause::Status))
-}
-
-fn results_in(
-    alloc: Global,
-    cluster: &Cluster,
-    journal: &Journal,
-    lines: &[Line],
-) -> Result<Listed<ResultLine>, InputFault>
-    requires valid { IsValid cluster.now }
-    requires moment { moment_of journal.now.events < 2 ^ 40 }
-    ensures { Gives (λ results. results) result (faulting cause.Results (results_of cluster.now (moment_of journal.now.events) lines.now)) }
-{
-    let names = Names::new(alloc, cluster)?;
-    let results = read_results(alloc, &names, journal, lines).map_err(|fault| fault.map(
-        InputCause::Results,
-    ))?;
-    Ok(Listed::from(results))
+    status_in(alloc, &names, lines)
 }
 
 /// The head of an input with these lines of the status.
@@ -145,7 +169,7 @@ pub(crate) fn head_of(
     ensures valid { IfOk result (λ head. IsValid head.cluster) }
     ensures moment { IfOk result (λ head. moment_of head.journal.events < 2 ^ 40) }
 {
-    let journal = status_in(alloc, &cluster, lines)?;
+    let journal = status_of(alloc, &cluster, lines)?;
     Ok(Head {
         crm,
         cluster,
@@ -153,15 +177,25 @@ pub(crate) fn head_of(
     })
 }
 
-/// An input with this head and these result lines.
-#[tactic(auto, unfolding(crate::specs::Reading::with_results))]
-fn with_results(alloc: Global, head: Head, lines: &[Line]) -> Result<Input, InputFault>
-    requires valid { IsValid head.cluster }
-    requires moment { moment_of head.journal.events < 2 ^ 40 }
-    ensures input { Gives (λ input. input) result (with_results head lines.now) }
+/// An input whose configuration says this cluster, with these lines of the status and these result lines.
+#[tactic(auto, using(crate::proofs::Told::input_told))]
+fn input_with(
+    alloc: Global,
+    crm: Crm,
+    cluster: Cluster,
+    status: &[Line],
+    results: &[Line],
+) -> Result<Input, InputFault>
+    requires { IsValid cluster }
+    ensures input { Gives (λ input. input) result (input_with crm cluster status.now results.now) }
     ensures moment { IfOk result (λ input. moment_of input.head.journal.events < 2 ^ 40) }
 {
-    let results = results_in(alloc, &head.cluster, &head.journal, lines)?;
+    let (journal, results) = status_and_results(alloc, &cluster, status, results)?;
+    let head = Head {
+        crm,
+        cluster,
+        journal,
+    };
     Ok(Input { head, results })
 }
 
@@ -181,8 +215,8 @@ fn with_cluster(alloc: Global, found: Configuration, cluster: Cluster) -> Result
     } = found;
     let lines = lines.as_slice();
     let status = lines_after(lines, marks.status_at, marks.results_at);
-    let head = head_of(alloc, crm, cluster, status)?;
-    with_results(alloc, head, lines_after(lines, marks.results_at, marks.end))
+    let results = lines_after(lines, marks.results_at, marks.end);
+    input_with(alloc, crm, cluster, status, results)
 }
 
 fn resolved(alloc: Global, crm: &Crm, leaves: &Leaves) -> Result<Cluster, InputFault>

@@ -6,7 +6,8 @@ use Rattle.cluster_io.proofs.Pieces.{Takes-then}
 use Rattle.cluster_types.specs.declared.cluster.Cluster.{Cluster}
 use Rattle.crm_lex.specs.RawLines.{raw_lines}
 use Rattle.live_run.specs.Coming.{Coming, Lines}
-use Rattle.live_run.specs.Followed.{AreNear, EndsInOne, HasLast, HasPassed, HasRead, IsStoppedBy, ReadUntil, StandFirst, bytes_of, count_said, results_first, said_by}
+use Rattle.live_run.specs.Followed.{AreNear, EndsInOne, HasLast, HasRead, IsStoppedBy, StandFirst, bytes_of, count_said, results_first, said_by}
+use Rattle.live_run.specs.Inner.ReadSteps.{HasPassed, ReadUntil}
 use Rattle.live_run.specs.declared.came.Came.{Came}
 use Rattle.live_run.specs.declared.came.Came.TheVariants as came
 use Rattle.live_run.specs.declared.line_stop.LineStop.{LineStop}

@@ -1,6 +1,6 @@
-use Rattle.std.proofs.Common.{rules, ◌≡◌, Option, List, ℕ, Result, Some, Err, false, ap, sym, ◌∙◌}
-use Rattle.cluster_io.specs.LineReaders.{reading_of, source_of}
-use Rattle.live_run.specs.Heads.{lacks_memory}
+use Rattle.std.proofs.Common.{rules, ◌≡◌, Some, Err, false, ap, ◌∙◌}
+use Rattle.cluster_io.specs.LineReaders.{reading_of}
+use Rattle.live_run.specs.Inner.HeadSteps.{lacks_memory}
 use Rattle.live_run.specs.declared.head.HeadStop.{HeadStop}
 use Rattle.live_run.specs.declared.head.HeadStop.TheVariants as stop
 use Rattle.live_run.proofs.HeadLines.{none_gone, where_failed}
@@ -46,5 +46,4 @@ returns-in-Err-clause-amid g c why =
       gone_on = where_failed _ _ fault now.gone_on _ _ so_far.gone_on;
       none_whole = now.amid fault;
       undecided = now.undecided fault;
-      same_size = now.same_size fault ∙ (so_far.can.longest ∙ sym c.requires.can.longest);
     }

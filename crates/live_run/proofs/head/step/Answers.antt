@@ -1,5 +1,5 @@
 use Rattle.std.proofs.Common.{◌≡◌, false, ap, arith}
-use Rattle.live_run.specs.Heads.{lacks_memory}
+use Rattle.live_run.specs.Inner.HeadSteps.{lacks_memory}
 use Rattle.live_run.proofs.HeadBringing.{line_brings, line_can, line_keeps, line_within, long_number, too_large_brings, too_long_brings, while_well}
 use Rattle.live_run.proofs.Bringing.{fewer_left, number_is, numbers_fit, room_is}
 use Rattle.live_run.proofs.HeadLines.{amid_line, line_gone, still_gone}

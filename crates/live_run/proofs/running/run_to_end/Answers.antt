@@ -1,4 +1,4 @@
-use Rattle.std.proofs.Common.{ap, refl}
+use Rattle.std.proofs.Common.{ap}
 use Rattle.live_run.specs.Courses.{SourceState, has_course_ended, is_reading}
 use Rattle.live_run.specs.LineSources.{outcomes_source, standing_of, view_of}
 use Rattle.live_run.specs.LineWriters.{writer_cluster, sink_of}

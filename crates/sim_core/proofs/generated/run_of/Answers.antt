@@ -2,5 +2,5 @@ use Rattle.std.proofs.Common.{Some, rules}
 use Rattle.sim_core.specs.Generated.{cut}
 use Rattle.sim_core.proofs.generated.run_of.Goals as goal
 
-pub returns-in-Err-Unexpected : goal.returns-in-Err-Unexpected
-returns-in-Err-Unexpected c = cut c.in-Err-Unexpected.field-0-1 (Some c.replay.new.outcomes.left) (search rules)
+pub returns-in-Err-Unexpected-clause-run : goal.returns-in-Err-Unexpected-clause-run
+returns-in-Err-Unexpected-clause-run c = cut c.in-Err-Unexpected.field-0-1 (Some c.replay.new.outcomes.left) (search rules)

@@ -1,7 +1,6 @@
-use Rattle.std.proofs.Common.{◌≡◌, drop}
+use Rattle.std.proofs.Common.{◌≡◌, ◌++◌, drop}
 use Rattle.cluster_model.specs.Spans.{numbers_from, numbers_of}
-use Rattle.cluster_model.specs.Tables.{with_rows}
 use Rattle.cluster_model.proofs.expansion.spans.numbers_of.Given as goal
 
 abbrev pub invariant-loop-leaf : goal.invariant-loop-leaf
-invariant-loop-leaf l = numbers_of l.leaves ≡ with_rows l.numbers (numbers_from l.next (drop l.leaf-index l.leaves))
+invariant-loop-leaf l = numbers_of l.leaves ≡ l.numbers ++ numbers_from l.next (drop l.leaf-index l.leaves)

@@ -1,6 +1,7 @@
 use Rattle.std.proofs.Common.{◌≡◌, ◌≤◌, true, None}
-use Rattle.live_run.specs.Coming.{AreReady, told_coming}
-use Rattle.live_run.specs.Followed.{HasPassed}
+use Rattle.live_run.specs.Coming.{AreReady}
+use Rattle.live_run.specs.Inner.ComingSteps.{told_coming}
+use Rattle.live_run.specs.Inner.ReadSteps.{HasPassed}
 use Rattle.live_run.specs.ResultReaders.{reader_lines, loan_in, source_in}
 use Rattle.live_run.proofs.result_reader.ResultReader.read_on.Given as goal
 
