@@ -95,3 +95,9 @@ CourseAnswers (next.Answer given) old new before after =
     × (is_reading old.course ≡ true)
 CourseAnswers next.Silent old new before after = (told_by old before ≡ told_by new after) × (has_course_ended new.course ≡ true)
 CourseAnswers next.Failed old new before after = (told_by old before ≡ told_by new after) × (has_course_ended old.course ≡ false)
+
+-- the line of the last answer, by what a question brought: it stays where no answer came
+abbrev pub LineStays : Next → ℕ → ℕ → Type 0
+LineStays (next.Answer given) before after = Unit {0}
+LineStays next.Silent before after = after ≡ before
+LineStays next.Failed before after = after ≡ before

@@ -4,7 +4,7 @@ ghost use Rattle.std.specs.Prelude.{◌≡◌, ◌+◌, ◌≤◌, ◌<◌, ◌^
 ghost use Rattle.cluster_io.specs.LineReaders.{loan_of, reading_of, source_of};
 ghost use Rattle.cluster_io.specs.Streams.{Bears, Rose};
 ghost use Rattle.live_run.specs.Coming.{AreReady};
-ghost use Rattle.live_run.specs.Courses.{CourseAnswers, faults_of, has_course_ended, is_reading, starting, stop_of, stops_last};
+ghost use Rattle.live_run.specs.Courses.{CourseAnswers, LineStays, faults_of, has_course_ended, is_reading, starting, stop_of, stops_last};
 ghost use Rattle.live_run.specs.Followed.{HasSaid};
 ghost use Rattle.live_run.specs.Heads.{CanGoOn};
 ghost use Rattle.live_run.specs.ResultReaders.{reader_lines};
@@ -145,6 +145,7 @@ impl<'c, 's, S: Source> LineOutcomes<'c, 's, S> {
         ensures answers { CourseAnswers result (standing_of self.old) (standing_of self.new)
             (S.left (outcomes_source self.old)) (S.left (outcomes_source self.new)) }
         ensures said { HasSaid S.counts_only_failures (view_of S.left S.faults self.old) (view_of S.left S.faults self.new) result }
+        ensures line { LineStays result (standing_of self.old).line (standing_of self.new).line }
         ensures asked { (standing_of self.new).lines.at.before ≤ (standing_of self.old).lines.at.before + 1 }
         ensures stop { result ≡ Next.Failed → is_some (stop_of (standing_of self.new)) ≡ true }
         ensures cause { result ≡ Next.Failed → Rose (faults_of (standing_of self.old) (S.faults (outcomes_source self.old)))
@@ -180,6 +181,7 @@ impl<'c, 's, S: Source> LineOutcomes<'c, 's, S> {
         ensures answers { CourseAnswers result (standing_of self.old) (standing_of self.new)
             (S.left (outcomes_source self.old)) (S.left (outcomes_source self.new)) }
         ensures said { HasSaid S.counts_only_failures (view_of S.left S.faults self.old) (view_of S.left S.faults self.new) result }
+        ensures line { LineStays result (standing_of self.old).line (standing_of self.new).line }
         ensures asked { (standing_of self.new).lines.at.before ≤ (standing_of self.old).lines.at.before + 1 }
         ensures stop { result ≡ Next.Failed → is_some (stop_of (standing_of self.new)) ≡ true }
         ensures over { has_course_ended (standing_of self.old).course ≡ true → has_course_ended (standing_of self.new).course ≡ true }

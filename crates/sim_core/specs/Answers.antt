@@ -173,6 +173,11 @@ abbrev pub ReadsLive : Option Command → Type 0
 ReadsLive None = ⊥
 ReadsLive (Some word) = intake word ≡ live
 
+-- the words are those of a word that reads, whole or line by line
+abbrev pub ReadsSomething : Option Command → Type 0
+ReadsSomething None = ⊥
+ReadsSomething (Some word) = reads_some (intake word) ≡ true
+
 -- the words are those of a word that reads nothing, or no form
 abbrev pub ReadsNothing : Option Command → Type 0
 ReadsNothing None = Unit {0}

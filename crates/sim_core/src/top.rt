@@ -1,7 +1,7 @@
-ghost use Rattle.std.specs.Prelude.{◌≡◌, ◌↔◌, ◌+◌, ◌<◌, false, Some, None, IfSome, length, map};
+ghost use Rattle.std.specs.Prelude.{◌≡◌, ◌↔◌, ◌+◌, ◌<◌, false, true, Some, None, IfSome, length, map};
 ghost use Rattle.std.specs.String.{string_bytes};
 ghost use Rattle.cluster_io.specs.Streams.{Bears, Rose, TakesCount};
-ghost use Rattle.sim_core.specs.Answers.{WordAnswers, IsCompleteAnswer, IsEarly, IsSafeReplay, IsStatusOf, ReadsLive, ReadsNothing, ReadsWhole};
+ghost use Rattle.sim_core.specs.Answers.{WordAnswers, IsCompleteAnswer, IsEarly, IsSafeReplay, IsStatusOf, ReadsLive, ReadsNothing, ReadsSomething, ReadsWhole, reads_some};
 ghost use Rattle.input_reading.specs.Reading.{most_bytes};
 ghost use Rattle.sim_core.specs.Table.{intake, nothing, whole};
 ghost use Rattle.sim_core.specs.Words.{command_of};
@@ -27,7 +27,7 @@ use std::alloc::Global;
 
 /// Carries out a word. The clauses are those of `run` for the words that ask for it.
 fn carry_out<S: Source, W: Sink>(alloc: Global, word: Command, src: &mut S, out: &mut W) -> Status
-    requires { S.ended src.old ≡ false }
+    requires { reads_some (intake word) ≡ true → S.ended src.old ≡ false }
     ensures answers { WordAnswers word (S.left src.old) (S.left src.new) (W.written out.old) (W.written out.new) result }
     ensures status { IsStatusOf word result }
     ensures reads_nothing { intake word ≡ nothing → src.new ≡ src.old }
@@ -54,10 +54,10 @@ fn carry_out<S: Source, W: Sink>(alloc: Global, word: Command, src: &mut S, out:
     }
 }
 
-/// Carries out what the words after the program's name ask for: reads `src`, writes to `out`, and answers how it ended. It asks
-/// for a source that hasn't ended, and never reads past its end.
+/// Carries out what the words after the program's name ask for: reads `src`, writes to `out`, and answers how it ended. Of a
+/// word that reads it asks for a source that hasn't ended, and it never reads past its end.
 pub fn run<S: Source, W: Sink>(alloc: Global, words: &[String], src: &mut S, out: &mut W) -> Status
-    requires { S.ended src.old ≡ false }
+    requires { ReadsSomething (command_of (map string_bytes words.now)) → S.ended src.old ≡ false }
 
     // Where the source tells what it reads: what the answer says of the input, of what was read and of what was written; and what it has to be.
     ensures answers { IfSome (command_of (map string_bytes words.now))

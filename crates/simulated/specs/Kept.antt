@@ -1,5 +1,5 @@
 -- What is kept of a simulated cluster, and what it stands for (rule of this project).
-use Rattle.std.specs.Prelude.{◌≡◌, ℕ, ◌+◌, ◌*◌, ◌<◌, Option, Some, List, length, slice_get}
+use Rattle.std.specs.Prelude.{◌≡◌, ◌≢◌, ℕ, ◌+◌, ◌*◌, ◌<◌, Option, Some, List, length, slice_get}
 use Rattle.cluster_types.specs.declared.cluster.Cluster.{Cluster}
 use Rattle.cluster_types.specs.Valid.{KeepsLimits}
 use Rattle.simulated.specs.declared.real.Real.{Real}
@@ -23,6 +23,10 @@ pub record RealityOf : Type 0 where
 pub record Holds (c : Cluster) (kept : List Real) (cells : Cells) : Type 0 where
   pub full : length kept ≡ length c.leaves * length c.nodes
   pub each : (r n : ℕ) → r < length c.leaves → n < length c.nodes → slice_get kept (r * length c.nodes + n) ≡ Some (cells r n)
+
+-- no cell comes up
+abbrev pub NoneRises : Cluster → List Real → Type 0
+NoneRises c kept = (r n : ℕ) → r < length c.leaves → n < length c.nodes → slice_get kept (r * length c.nodes + n) ≢ Some real.Rising
 
 -- only this cell comes up
 abbrev pub IsAlone : Cluster → Option (ℕ × ℕ) → Cells → Type 0

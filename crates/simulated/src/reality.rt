@@ -3,7 +3,7 @@
 ghost use Rattle.std.specs.Prelude.{◌≡◌, ◌*◌, ◌+◌, ◌<◌, None, length};
 ghost use Rattle.cluster_types.specs.Valid.{KeepsLimits};
 ghost use Rattle.cases.specs.Draws as drawing;
-ghost use Rattle.simulated.specs.Kept.{IsOfSame, ShowsWorld, reality};
+ghost use Rattle.simulated.specs.Kept.{IsOfSame, NoneRises, ShowsWorld, reality};
 ghost use Rattle.simulated.specs.Turns.{after_begin, calm, with_draws};
 ghost use Rattle.simulated.specs.RealWorlds as worlds;
 ghost use Rattle.simulated.specs.RealWorlds.{World};
@@ -43,7 +43,7 @@ impl<'c> Model for Reality<'c> {
 }
 
 impl<'c> Reality<'c> {
-    /// A simulated cluster of a number, of which nothing was drawn yet.
+    /// A simulated cluster of a number, of which nothing was drawn yet. No cell may come up in it: `rising` tells none.
     pub fn new(
         cluster: &'c Cluster,
         nodes: Vec<Standing>,
@@ -53,6 +53,7 @@ impl<'c> Reality<'c> {
         requires limits { KeepsLimits cluster.now }
         requires nodes { length nodes.items ≡ length cluster.now.nodes }
         requires cells { length cells.items ≡ length cluster.now.leaves * length cluster.now.nodes }
+        requires settled { NoneRises cluster.now cells.items }
         ensures { result ≡ reality cluster.now nodes.items cells.items None number (drawing.state_after number 0) 0 }
     {
         Reality {
