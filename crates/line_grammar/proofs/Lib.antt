@@ -1,0 +1,4 @@
+pub mod NumbersSaid
+pub mod NamesSaid
+pub mod PlacesSaid
+pub mod ResultRelated

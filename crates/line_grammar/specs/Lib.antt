@@ -1,0 +1,2 @@
+pub mod WordValues
+pub mod ResultForms

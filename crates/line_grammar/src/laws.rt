@@ -1,0 +1,28 @@
+//! A line is read just when its words say what is read, by a form of its kind.
+
+ghost use Rattle.std.specs.Prelude.{◌≡◌, ◌↔◌, ℕ, List, Ok, Err};
+ghost use Rattle.cluster_types.specs.declared.cluster.Cluster.{Cluster as ClusterOf};
+ghost use Rattle.cluster_types.specs.declared.journal.Answer.{Answer as AnswerOf};
+ghost use Rattle.input_reading.specs.Results.{answer_of};
+ghost use Rattle.input_reading.specs.declared.words.word_cause.WordCause.{WordCause as CauseOf};
+ghost use Rattle.line_grammar.specs.ResultForms.{ResultSays};
+
+/// The words of a result line are read as an answer, at a moment, just when they say it.
+pub fn result_lines_are_read_as_they_say()
+    ensures { (c : ClusterOf) (moment : ℕ) (words : List (List ℕ)) (given : AnswerOf)
+        → (answer_of c moment words ≡ Ok given) ↔ ResultSays c moment words given }
+{}
+
+/// The words of a result line say one answer and no other, so no two answers have the same words.
+pub fn a_result_line_says_one_answer()
+    ensures { (c : ClusterOf) (moment : ℕ) (words : List (List ℕ)) (one other : AnswerOf) → ResultSays c moment words one
+        → ResultSays c moment words other → one ≡ other }
+{}
+
+/// A result line is refused just when its words say no answer.
+pub fn result_lines_that_say_nothing_are_refused()
+    ensures refused { (c : ClusterOf) (moment : ℕ) (words : List (List ℕ)) → ((given : AnswerOf) → ResultSays c moment words given → ⊥)
+        → (cause : CauseOf) × (answer_of c moment words ≡ Err cause) }
+    ensures nothing { (c : ClusterOf) (moment : ℕ) (words : List (List ℕ)) (cause : CauseOf) (given : AnswerOf)
+        → answer_of c moment words ≡ Err cause → ResultSays c moment words given → ⊥ }
+{}
