@@ -93,3 +93,13 @@ pub ask : {P A B : Type 0} (b : Bool) (x : A) (rest : Result A WordCause) (next 
     → (b ≡ true → next x ≡ Ok y → P) → ((rest >>= next) ≡ Ok y → P) → P
 ask true x rest next y e here more = here refl e
 ask false x rest next y e here more = more e
+
+-- two steps that are passed
+pub bind-both : {A B : Type 0} (read : Result A WordCause) (next : A → Result B WordCause) (x : A) (y : B) → read ≡ Ok x → next x ≡ Ok y → (read >>= next) ≡ Ok y
+bind-both read next x y e h = rw e h
+
+-- a question decides, or the next one is asked
+pub choose : {P A B : Type 0} (b : Bool) (x rest : A) (next : A → Result B WordCause) (y : B) → next (cond b x rest) ≡ Ok y → (b ≡ true → next x ≡ Ok y → P)
+    → (next rest ≡ Ok y → P) → P
+choose true x rest next y e here more = here refl e
+choose false x rest next y e here more = more e

@@ -1,2 +1,3 @@
 pub mod WordValues
 pub mod ResultForms
+pub mod RunForms

@@ -4,6 +4,7 @@
 mod laws;
 
 pub use laws::{
-    a_result_line_says_one_answer, result_lines_are_read_as_they_say,
-    result_lines_that_say_nothing_are_refused,
+    a_result_line_says_one_answer, a_run_line_says_one_thing, result_lines_are_read_as_they_say,
+    result_lines_that_say_nothing_are_refused, run_lines_are_read_as_they_say,
+    run_lines_that_say_nothing_are_refused,
 };
