@@ -6,3 +6,6 @@ pub mod TablesSaid
 pub mod RunWords
 pub mod ActionRelated
 pub mod RunRelated
+pub mod StatusWords
+pub mod StatusRelated
+pub mod StatusIsRead

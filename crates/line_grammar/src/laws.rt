@@ -7,8 +7,10 @@ ghost use Rattle.input_reading.specs.Results.{answer_of};
 ghost use Rattle.input_reading.specs.declared.words.word_cause.WordCause.{WordCause as CauseOf};
 ghost use Rattle.cluster_types.specs.declared.run.RunLine.{RunLine as RunLineOf};
 ghost use Rattle.input_reading.specs.RunReading.{line_of_words};
+ghost use Rattle.input_reading.specs.Status.{told_of};
 ghost use Rattle.line_grammar.specs.ResultForms.{ResultSays};
 ghost use Rattle.line_grammar.specs.RunForms.{RunSays};
+ghost use Rattle.line_grammar.specs.StatusForms.{IsReadAs, StatusFact, StatusSays};
 
 /// The words of a result line are read as an answer, at a moment, just when they say it.
 pub fn result_lines_are_read_as_they_say()
@@ -46,4 +48,22 @@ pub fn run_lines_that_say_nothing_are_refused()
         → (cause : CauseOf) × (line_of_words c words ≡ Err cause) }
     ensures nothing { (c : ClusterOf) (words : List (List ℕ)) (cause : CauseOf) (line : RunLineOf)
         → line_of_words c words ≡ Err cause → RunSays c words line → ⊥ }
+{}
+
+/// The words of a line of a status are read as a fact just when they say it.
+pub fn status_lines_are_read_as_they_say()
+    ensures { (c : ClusterOf) (words : List (List ℕ)) (fact : StatusFact) → IsReadAs c words fact ↔ StatusSays c words fact }
+{}
+
+/// The words of a line of a status say one fact and no other, so no two facts have the same words.
+pub fn a_status_line_says_one_fact()
+    ensures { (c : ClusterOf) (words : List (List ℕ)) (one other : StatusFact) → StatusSays c words one → StatusSays c words other → one ≡ other }
+{}
+
+/// A line of a status is refused just when its words say no fact.
+pub fn status_lines_that_say_nothing_are_refused()
+    ensures refused { (c : ClusterOf) (words : List (List ℕ)) → ((fact : StatusFact) → StatusSays c words fact → ⊥)
+        → (cause : CauseOf) × (told_of c words ≡ Err cause) }
+    ensures nothing { (c : ClusterOf) (words : List (List ℕ)) (cause : CauseOf) (fact : StatusFact)
+        → told_of c words ≡ Err cause → StatusSays c words fact → ⊥ }
 {}
