@@ -9,3 +9,4 @@ pub mod RunRelated
 pub mod StatusWords
 pub mod StatusRelated
 pub mod StatusIsRead
+pub mod LineExamples
