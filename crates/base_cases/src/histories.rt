@@ -463,7 +463,7 @@ fn faults_print_their_line(rt: HostRuntime) {
         cause: ResultCause::TooManyResults,
     };
     let shown = format!(in rt.alloc(); "{fault}").expect(&rt, "memory");
-    assert!(rt; shown.as_str() == "line 7: TooManyResults");
+    assert!(rt; shown.as_str() == "line 7: This is the 10,001st result line.");
     let fault = StatusFault::NoMemory;
     let shown = format!(in rt.alloc(); "{fault}").expect(&rt, "memory");
     assert!(rt; shown.as_str() == "out of memory");

@@ -416,6 +416,8 @@ fn faults_print_their_line(rt: HostRuntime) {
         line: 7,
         cause: LexCause::OpenQuote,
     };
-    assert!(rt; is_shown(&rt, rt.alloc(), fault, "line 7: OpenQuote"));
+    let shown =
+        "line 7: A quote is opened and not closed on its line; a line goes on only when it ends in a backslash.";
+    assert!(rt; is_shown(&rt, rt.alloc(), fault, shown));
     assert!(rt; is_shown(&rt, rt.alloc(), LexFault::NoMemory, "out of memory"));
 }

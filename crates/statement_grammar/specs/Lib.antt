@@ -1,0 +1,12 @@
+pub mod Grammar
+pub mod Scores
+pub mod Orders
+pub mod Colocations
+pub mod Parts
+pub mod Resources
+pub mod Nodes
+pub mod Properties
+pub mod Primitives
+pub mod RuleTests
+pub mod Locations
+pub mod Lines
