@@ -1,7 +1,6 @@
 -- An action that begins is read just when the words say it.
-use Rattle.std.proofs.Common.{◌≡◌, ℕ, Bool, true, false, List, [], ◌∷◌, drop, Option, Some, Result, Ok, Err, refl, sym, ap, ◌∙◌, subst}
+use Rattle.std.proofs.Common.{◌≡◌, ℕ, true, List, [], ◌∷◌, drop, Some, Ok, refl, sym, ap, ◌∙◌, subst}
 use Rattle.std.specs.Prelude.{codes}
-use Rattle.std.specs.Option.{ok_or, option_map}
 use Rattle.crm_lex.specs.Names.{is}
 use Rattle.crm_parse.proofs.Binds.{is-true}
 use Rattle.cluster_types.specs.declared.cluster.Cluster.{Cluster}
@@ -9,7 +8,7 @@ use Rattle.cluster_types.specs.declared.journal.Action.{Action}
 use Rattle.cluster_types.specs.declared.journal.Action.TheVariants.{Fence, Probe, Cell, MigrateTo, MigrateFrom}
 use Rattle.cluster_types.specs.declared.leaf.Leaf.{Leaf}
 use Rattle.cluster_types.specs.declared.leaf.Op.{Op}
-use Rattle.cluster_types.specs.declared.leaf.Op.TheVariants.{Start, Stop, Promote, Demote, Monitor}
+use Rattle.cluster_types.specs.declared.leaf.Op.TheVariants.{Start, Stop, Promote, Demote}
 use Rattle.cluster_types.specs.declared.leaf.Role.TheVariants as role
 use Rattle.cluster_types.specs.declared.node.Node.{Node}
 use Rattle.cluster_types.specs.Answering.{monitor_action}

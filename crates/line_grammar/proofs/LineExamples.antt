@@ -1,5 +1,5 @@
 -- Lines of every form say what they should, and lines that nearly have a form say nothing.
-use Rattle.std.proofs.Common.{◌≡◌, ℕ, pos, true, false, List, [], ◌∷◌, Some, Ok, Err, refl}
+use Rattle.std.proofs.Common.{pos, true, false, [], ◌∷◌, refl}
 use Rattle.std.specs.Prelude.{codes}
 use Rattle.cluster_types.specs.declared.cluster.Cluster.{Cluster}
 use Rattle.cluster_types.specs.declared.journal.Action.TheVariants.{Cell, Fence, MigrateFrom, MigrateTo, Probe}

@@ -1,8 +1,8 @@
 -- A line of a run is read just when its words say what is read.
-use Rattle.std.proofs.Common.{◌≡◌, ℕ, Bool, true, false, cond, List, [], ◌∷◌, drop, Some, Result, Ok, Err, refl, sym, ap, ◌∙◌, subst}
+use Rattle.std.proofs.Common.{◌≡◌, ℕ, Bool, true, false, cond, List, [], ◌∷◌, drop, Result, Ok, Err, refl, sym, ap, ◌∙◌, subst}
 use Rattle.std.specs.Prelude.{codes}
 use Rattle.std.specs.Option.{ok_or}
-use Rattle.crm_lex.specs.Names.{is, is_name}
+use Rattle.crm_lex.specs.Names.{is}
 use Rattle.crm_parse.proofs.Binds.{is-true}
 use Rattle.cluster_types.specs.declared.cluster.Cluster.{Cluster}
 use Rattle.cluster_types.specs.declared.journal.Answer.{Answer}
@@ -10,7 +10,6 @@ use Rattle.cluster_types.specs.declared.placement.NoReason.{NoReason}
 use Rattle.cluster_types.specs.declared.placement.NoReason.TheVariants.{Held}
 use Rattle.cluster_types.specs.declared.run.RunLine.{RunLine}
 use Rattle.cluster_types.specs.declared.run.RunLine.TheVariants as line
-use Rattle.faults.specs.Reading.{◌>>=◌}
 use Rattle.faults.proofs.Steps.{bind-ok}
 use Rattle.input_reading.specs.declared.words.word_cause.WordCause.{WordCause}
 use Rattle.input_reading.specs.declared.words.word_cause.WordCause.TheVariants.{BadValue}
@@ -23,7 +22,7 @@ use Rattle.line_grammar.specs.RunForms.{RunSays, SaysReason, aborted_form, answe
 use Rattle.line_grammar.specs.WordValues.{WritesCount}
 use Rattle.line_grammar.proofs.ActionRelated.{begin-read, begin-said, leaf-found, node-found}
 use Rattle.line_grammar.proofs.NumbersSaid.{count-read}
-use Rattle.line_grammar.proofs.PlacesSaid.{IsAt, begins-with, by-form, choose, count-at, end-here, leaf-at, node-at, ok-one, ok_or-some, onto, word-here}
+use Rattle.line_grammar.proofs.PlacesSaid.{begins-with, by-form, choose, count-at, end-here, leaf-at, node-at, ok-one, ok_or-some, onto, word-here}
 use Rattle.line_grammar.proofs.ResultRelated.{result-read, result-said}
 use Rattle.line_grammar.proofs.RunWords.{id-at, pin-at, pin-read, reason-said, target-at, target-read}
 

@@ -1,5 +1,5 @@
 -- The words of pins, targets and reasons are read just as they say them.
-use Rattle.std.proofs.Common.{◌≡◌, ℕ, suc, Bool, true, false, cond, List, [], ◌∷◌, drop, Option, Some, None, Result, Ok, Err, refl, sym, subst}
+use Rattle.std.proofs.Common.{◌≡◌, ℕ, suc, Bool, true, false, cond, List, [], ◌∷◌, drop, Some, Result, Ok, Err, refl, subst}
 use Rattle.std.specs.Prelude.{codes}
 use Rattle.crm_lex.specs.Names.{is, is_name}
 use Rattle.cluster_types.specs.declared.placement.NoReason.{NoReason}
@@ -8,7 +8,6 @@ use Rattle.cluster_types.specs.declared.placement.Pin.{Pin}
 use Rattle.cluster_types.specs.declared.placement.Pin.TheVariants.{Unmanaged, Blocked}
 use Rattle.cluster_types.specs.declared.placement.Target.{Target}
 use Rattle.cluster_types.specs.declared.placement.Target.TheVariants as target
-use Rattle.faults.specs.Reading.{◌>>=◌}
 use Rattle.faults.proofs.Steps.{bind-ok}
 use Rattle.input_reading.specs.declared.words.word_cause.WordCause.{WordCause}
 use Rattle.input_reading.specs.declared.words.word_cause.WordCause.TheVariants.{BadValue}

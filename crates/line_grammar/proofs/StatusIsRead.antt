@@ -1,17 +1,16 @@
 -- What says a fact is read as it, and what else follows from both.
-use Rattle.std.proofs.Common.{◌≡◌, ℕ, ◌==◌, ◌≤◌, Bool, true, false, cond, List, [], ◌∷◌, Option, Some, None, Result, Ok, Err, refl, sym, ap, ◌∙◌, subst, arith}
+use Rattle.std.proofs.Common.{◌≡◌, ℕ, ◌==◌, true, false, List, [], ◌∷◌, Result, Ok, Err, refl, sym, ◌∙◌, subst, arith}
 use Rattle.std.specs.Prelude.{codes}
 use Rattle.std.proofs.lemmas.Bool.Decides.{nat_tests}
 use Rattle.cluster_types.specs.declared.cluster.Cluster.{Cluster}
 use Rattle.cluster_types.specs.declared.journal.Action.{Action}
 use Rattle.cluster_types.specs.declared.journal.Event.TheVariants.{Ended}
 use Rattle.cluster_types.specs.declared.journal.Outcome.{Outcome}
-use Rattle.cluster_types.specs.declared.leaf.Op.TheVariants.{Start, Stop, Promote, Demote, Monitor}
-use Rattle.cluster_types.specs.Journals.{NodeWord, unsaid}
+use Rattle.cluster_types.specs.Journals.{NodeWord}
 use Rattle.input_reading.specs.declared.words.word_cause.WordCause.{WordCause}
 use Rattle.input_reading.specs.Places.{WordsOfLine, leaf_at, node_at, seconds_at, yes_at}
 use Rattle.input_reading.specs.Status.{cleanup_line, interval_at, node_line, now_line, op_at, op_line, outcome_at, promotable_at, promotion_line, quorum_line, score_at, state_at, status_word, told_of}
-use Rattle.line_grammar.specs.StatusForms.{ActionEnded, IsReadAs, SaysOutcome, SaysState, StatusFact, StatusSays, Tells, TellsBy, ToldBy, a_demote, a_monitor, a_probe, a_promote, a_start, a_stop, cleanup_form, node_form, now_form, op_form, promotion_form, quorum_said, says_offline, says_online, says_unclean, the_moment, the_node, the_past, the_promotion, the_quorum}
+use Rattle.line_grammar.specs.StatusForms.{ActionEnded, IsReadAs, SaysOutcome, SaysState, StatusFact, StatusSays, Tells, ToldBy, a_demote, a_monitor, a_probe, a_promote, a_start, a_stop, cleanup_form, node_form, now_form, op_form, promotion_form, quorum_said, says_offline, says_online, says_unclean, the_node, the_past}
 use Rattle.line_grammar.specs.WordValues.{NamesNode}
 use Rattle.line_grammar.proofs.ActionRelated.{leaf-found, node-found}
 use Rattle.line_grammar.proofs.NumbersSaid.{number-read, whether-read}

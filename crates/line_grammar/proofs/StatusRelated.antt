@@ -1,18 +1,14 @@
 -- A line of a status is read just when its words say what is read.
-use Rattle.std.proofs.Common.{◌≡◌, ℕ, suc, ◌==◌, Bool, true, false, cond, List, [], ◌∷◌, drop, Option, Some, None, Result, Ok, Err, refl, sym, ap, ◌∙◌, subst, arith}
+use Rattle.std.proofs.Common.{◌≡◌, ℕ, suc, ◌==◌, Bool, true, false, cond, List, [], ◌∷◌, drop, Some, None, Result, Ok, Err, refl, sym, ap, ◌∙◌, subst, arith}
 use Rattle.std.specs.Prelude.{codes}
 use Rattle.std.specs.Option.{ok_or}
-use Rattle.std.proofs.lemmas.Bool.{false≢true}
 use Rattle.std.proofs.lemmas.Bool.Decides.{nat_tests}
 use Rattle.crm_lex.specs.Names.{is}
 use Rattle.score.specs.ScoreText.{read_score}
 use Rattle.cluster_types.specs.declared.cluster.Cluster.{Cluster}
-use Rattle.cluster_types.specs.declared.journal.Action.{Action}
 use Rattle.cluster_types.specs.declared.journal.Event.TheVariants.{Cleanup, Ended}
 use Rattle.cluster_types.specs.declared.leaf.Op.{Op}
-use Rattle.cluster_types.specs.declared.leaf.Op.TheVariants.{Start, Stop, Promote, Demote, Monitor}
 use Rattle.cluster_types.specs.Fields.{is_promotable}
-use Rattle.cluster_types.specs.Journals.{NodeWord, online, offline, unclean, unsaid}
 use Rattle.faults.specs.Reading.{◌>>=◌}
 use Rattle.faults.proofs.Steps.{bind-ok}
 use Rattle.input_reading.specs.declared.words.word_cause.WordCause.{WordCause}
@@ -20,12 +16,10 @@ use Rattle.input_reading.specs.declared.words.word_cause.WordCause.TheVariants.{
 use Rattle.input_reading.specs.FirstJournal.{word_as}
 use Rattle.input_reading.specs.OpWords.{operation_named}
 use Rattle.input_reading.specs.Places.{WordsOfLine, leaf_at, line_end_at, node_at, seconds_at, word_at, yes_at}
-use Rattle.input_reading.specs.Status.{cleanup_line, fitting, history_action, interval_as, interval_at, may_have, node_line, node_word, now_line, op_at, op_line, outcome_at, outcome_of, promotable, promotable_at, promotion_line, quorum_line, score_at, state_at, status_word, told_as, told_of}
-use Rattle.line_grammar.specs.StatusForms.{IsReadAs, SaysOutcome, SaysState, StatusFact, StatusSays, Tells, ToldBy, cleanup_form, node_form, now_form, op_form, promotion_form, quorum_said, says_offline, says_online, says_unclean, the_moment, the_node, the_past, the_promotion, the_quorum, a_demote, a_monitor, a_probe, a_promote, a_start, a_stop, ActionEnded}
-use Rattle.line_grammar.proofs.ActionRelated.{leaf-found, node-found}
-use Rattle.line_grammar.proofs.NumbersSaid.{number-read, whether-read}
+use Rattle.input_reading.specs.Status.{cleanup_line, history_action, interval_as, interval_at, may_have, node_line, node_word, now_line, op_at, op_line, outcome_at, outcome_of, promotable_at, promotion_line, quorum_line, score_at, state_at, status_word, told_as, told_of}
+use Rattle.line_grammar.specs.StatusForms.{IsReadAs, SaysOutcome, SaysState, StatusFact, StatusSays, Tells, ToldBy, cleanup_form, node_form, now_form, op_form, promotion_form, quorum_said, the_moment, the_node, the_past, the_promotion, the_quorum}
 use Rattle.line_grammar.proofs.PlacesSaid.{IsAt, ask, begins-with, end-here, leaf-at, node-at, ok-one, ok_or-some, onto, seconds-at, table-at, whether-at, word-here}
-use Rattle.line_grammar.proofs.StatusWords.{InTable, ended-said, only-moment, only-node, only-past, only-promotion, only-quorum, outcome-read, outcome-said, state-said}
+use Rattle.line_grammar.proofs.StatusWords.{InTable, ended-said, only-moment, only-node, only-past, only-promotion, only-quorum, outcome-said, state-said}
 use Rattle.line_grammar.proofs.TablesSaid.{IsOperation, operation-said}
 
 module _ (c : Cluster) where

@@ -1,9 +1,9 @@
 -- The words of states, operations and outcomes are read just as they say them, and what is told is one fact.
-use Rattle.std.proofs.Common.{◌≡◌, ℕ, ◌≤◌, ◌==◌, Bool, true, false, cond, List, [], ◌∷◌, drop, Option, Some, None, Result, Ok, Err, refl, sym, ap, ◌∙◌, subst, arith}
+use Rattle.std.proofs.Common.{◌≡◌, ℕ, ◌≤◌, ◌==◌, Bool, true, false, List, Option, Some, None, refl, sym, ap, ◌∙◌, subst, arith}
 use Rattle.std.specs.Prelude.{codes}
 use Rattle.std.specs.Char.{is_ascii_digit}
 use Rattle.std.specs.List.{list_all}
-use Rattle.std.specs.Option.{ok_or, option_map}
+use Rattle.std.specs.Option.{option_map}
 use Rattle.std.proofs.lemmas.Bool.{eqb-true, false_from_ne_true, false≢true}
 use Rattle.std.proofs.lemmas.Bool.Decides.{nat_tests}
 use Rattle.crm_lex.specs.Names.{is}
@@ -14,14 +14,14 @@ use Rattle.cluster_types.specs.declared.journal.Outcome.{Outcome}
 use Rattle.cluster_types.specs.declared.journal.Outcome.TheVariants.{Code, TimedOut}
 use Rattle.cluster_types.specs.declared.journal.Promotion.{Promotion}
 use Rattle.cluster_types.specs.declared.leaf.Op.{Op}
-use Rattle.cluster_types.specs.declared.leaf.Op.TheVariants.{Start, Stop, Promote, Demote, Monitor}
-use Rattle.cluster_types.specs.Journals.{NodeWord, online, offline, unclean, unsaid}
+use Rattle.cluster_types.specs.declared.leaf.Op.TheVariants.{Monitor}
+use Rattle.cluster_types.specs.Journals.{NodeWord, unsaid}
 use Rattle.faults.specs.Digits.{number_up_to}
 use Rattle.input_reading.specs.FirstJournal.{word_as}
 use Rattle.input_reading.specs.Numbers.{read_exit_code}
 use Rattle.input_reading.specs.Status.{history_action, interval_as, may_have, node_word, outcome_of}
 use Rattle.line_grammar.specs.StatusForms.{ActionEnded, SaysOutcome, SaysState, StatusFact, TellsBy, WritesZero, a_demote, a_monitor, a_probe, a_promote, a_start, a_stop, exited, says_offline, says_online, says_unclean, the_moment, the_node, the_past, the_promotion, the_quorum, was_killed}
-use Rattle.line_grammar.specs.WordValues.{WritesCode, WritesNumber}
+use Rattle.line_grammar.specs.WordValues.{WritesNumber}
 use Rattle.line_grammar.proofs.NumbersSaid.{number-read, number-said}
 use Rattle.line_grammar.proofs.TablesSaid.{IsOperation, ask-some, demote_named, mapped-some, monitor_named, promote_named, says-it, start_named, stop_named}
 
