@@ -1,0 +1,4 @@
+pub mod WordValues
+pub mod ResultForms
+pub mod RunForms
+pub mod StatusForms

@@ -1,0 +1,91 @@
+-- The forms of the lines of a status: the words of a line, and what they say (Pacemaker Explained, operation history; the lines are a rule of this
+-- project).
+use Rattle.std.specs.Prelude.{◌≡◌, ℕ, ℤ, Bool, true, List, [], ◌∷◌, codes, Option, Some, Result, Ok}
+use Rattle.score.specs.ScoreText.{read_score}
+use Rattle.cluster_types.specs.declared.cluster.Cluster.{Cluster}
+use Rattle.cluster_types.specs.declared.journal.Action.{Action}
+use Rattle.cluster_types.specs.declared.journal.Action.TheVariants.{Probe, Cell}
+use Rattle.cluster_types.specs.declared.journal.Event.{Event}
+use Rattle.cluster_types.specs.declared.journal.Event.TheVariants.{Cleanup, Ended}
+use Rattle.cluster_types.specs.declared.journal.Outcome.{Outcome}
+use Rattle.cluster_types.specs.declared.journal.Outcome.TheVariants.{Code, TimedOut}
+use Rattle.cluster_types.specs.declared.journal.Promotion.{Promotion}
+use Rattle.cluster_types.specs.declared.leaf.Op.TheVariants.{Start, Stop, Promote, Demote}
+use Rattle.cluster_types.specs.declared.leaf.Role.TheVariants.{Started}
+use Rattle.cluster_types.specs.Answering.{monitor_action}
+use Rattle.cluster_types.specs.Fields.{is_promotable}
+use Rattle.cluster_types.specs.Journals.{NodeWord, online, offline, unclean, unsaid}
+use Rattle.input_reading.specs.FirstJournal.{now_in, past_in, promotion_in, quorum_in, word_as, word_in}
+use Rattle.input_reading.specs.Status.{told_of}
+use Rattle.line_grammar.specs.WordValues.{NamesLeaf, NamesNode, SaysWhether, WritesCode, WritesCount, WritesNumber, WritesSeconds}
+
+-- what one line says: the moment, quorum, the word on a node, what happened, or a promotion score
+pub data StatusFact : Type 0 where
+  the_moment : ℕ → StatusFact
+  the_quorum : Bool → StatusFact
+  the_node : ℕ → NodeWord → StatusFact
+  the_past : Event → StatusFact
+  the_promotion : Promotion → StatusFact
+
+pub data SaysState : List ℕ → NodeWord → Type 0 where
+  says_online : SaysState (codes "online") online
+  says_offline : SaysState (codes "offline") offline
+  says_unclean : SaysState (codes "unclean") unclean
+
+-- the milliseconds of what doesn't recur
+abbrev pub WritesZero : List ℕ → Type 0
+WritesZero word = WritesNumber 0 0 word 0
+
+-- the name and the milliseconds of an operation say which action of the cell ended: of a monitor a probe, where they are 0. Only a promotable leaf is
+-- promoted and demoted
+pub data ActionEnded (c : Cluster) (leaf node : ℕ) : List ℕ → List ℕ → Action → Type 0 where
+  a_start : (ms : List ℕ) → WritesZero ms → ActionEnded c leaf node (codes "start") ms (Cell Start leaf node 0 Started)
+  a_stop : (ms : List ℕ) → WritesZero ms → ActionEnded c leaf node (codes "stop") ms (Cell Stop leaf node 0 Started)
+  a_promote : (ms : List ℕ) → is_promotable c leaf ≡ true → WritesZero ms → ActionEnded c leaf node (codes "promote") ms (Cell Promote leaf node 0 Started)
+  a_demote : (ms : List ℕ) → is_promotable c leaf ≡ true → WritesZero ms → ActionEnded c leaf node (codes "demote") ms (Cell Demote leaf node 0 Started)
+  a_probe : (ms : List ℕ) → WritesZero ms → ActionEnded c leaf node (codes "monitor") ms (Probe leaf node)
+  a_monitor : (ms : List ℕ) (interval : ℕ) → WritesCount ms interval → ActionEnded c leaf node (codes "monitor") ms (monitor_action c leaf node interval)
+
+-- an exit code, or that the operation was killed after its time
+pub data SaysOutcome : List ℕ → Outcome → Type 0 where
+  was_killed : SaysOutcome (codes "timeout") TimedOut
+  exited : (word : List ℕ) (code : ℕ) → WritesCode word code → SaysOutcome word (Code code)
+
+-- what the words of a line of a status say of a cluster
+pub data StatusSays (c : Cluster) : List (List ℕ) → StatusFact → Type 0 where
+  now_form : (number : List ℕ) (seconds : ℕ) → WritesSeconds number seconds → StatusSays c (codes "now" ∷ number ∷ []) (the_moment seconds)
+  quorum_said : (word : List ℕ) (now : Bool) → SaysWhether word now → StatusSays c (codes "quorum" ∷ word ∷ []) (the_quorum now)
+  node_form : (name word : List ℕ) (node : ℕ) (state : NodeWord) → NamesNode c name node → SaysState word state
+      → StatusSays c (codes "node" ∷ name ∷ word ∷ []) (the_node node state)
+  op_form : (name leaf_name op ms code number : List ℕ) (node leaf : ℕ) (action : Action) (outcome : Outcome) (moment : ℕ)
+      → NamesNode c name node → NamesLeaf c leaf_name leaf → ActionEnded c leaf node op ms action → SaysOutcome code outcome → WritesSeconds number moment
+      → StatusSays c (codes "op" ∷ name ∷ leaf_name ∷ op ∷ ms ∷ code ∷ number ∷ []) (the_past (Ended 0 action outcome moment))
+  cleanup_form : (name leaf_name : List ℕ) (node leaf : ℕ) → NamesNode c name node → NamesLeaf c leaf_name leaf
+      → StatusSays c (codes "cleanup" ∷ name ∷ leaf_name ∷ []) (the_past (Cleanup leaf node))
+  promotion_form : (name leaf_name word : List ℕ) (node leaf : ℕ) (score : ℤ) → NamesNode c name node → NamesLeaf c leaf_name leaf
+      → is_promotable c leaf ≡ true → read_score word ≡ Some score
+      → StatusSays c (codes "promotion" ∷ name ∷ leaf_name ∷ word ∷ []) (the_promotion (record { leaf = leaf; node = node; score = score }))
+
+-- what is told is this fact, by what the first journal takes from it
+abbrev pub TellsBy : Option ℕ → Option Bool → (ℕ → NodeWord) → Option Event → Option Promotion → StatusFact → Type 0
+TellsBy now quorum state past promotion (the_moment seconds) = now ≡ Some seconds
+TellsBy now quorum state past promotion (the_quorum has_it) = quorum ≡ Some has_it
+TellsBy now quorum state past promotion (the_node node word) = (state node ≡ word) × (word ≡ unsaid → ⊥)
+TellsBy now quorum state past promotion (the_past event) = past ≡ Some event
+TellsBy now quorum state past promotion (the_promotion score) = promotion ≡ Some score
+
+-- what a reader gives
+abbrev pub ReadBy : {A B E : Type 0} → (A → Result B E) → Type 0
+ReadBy {B = B} read = B
+
+abbrev pub ToldBy : Cluster → Type 0
+ToldBy c = ReadBy (told_of c)
+
+abbrev pub Tells : (c : Cluster) → ToldBy c → StatusFact → Type 0
+Tells c told = TellsBy (now_in told) (quorum_in told) (λ node. word_as (word_in node told)) (past_in told) (promotion_in told)
+
+-- the words of a line are read as this fact
+pub record IsReadAs (c : Cluster) (words : List (List ℕ)) (fact : StatusFact) : Type 0 where
+  pub told : ToldBy c
+  pub read : told_of c words ≡ Ok told
+  pub tells : Tells c told fact
