@@ -1,8 +1,9 @@
 -- In which order the places of the leaves are decided (Pacemaker Explained, "priority" and colocation; the keys are a rule of this project).
-use Rattle.std.specs.Prelude.{◌≡◌, ◌≢◌, ℕ, suc, zero, nat_lt, ◌==◌, ◌&&◌, ◌||◌, Bool, true, false, not, if◌then◌else◌, ℤ, int_lt, List, [], ◌∷◌, ◌++◌, length, map, filter, fold}
+use Rattle.std.specs.Prelude.{◌≡◌, ◌≢◌, ℕ, suc, zero, nat_lt, ◌==◌, ◌&&◌, ◌||◌, Bool, true, false, not, if◌then◌else◌, ℤ, int_lt, List, [], ◌∷◌, ◌++◌, length, map, filter, fold, Contains}
 use Rattle.std.specs.List.{list_any, list_all, flat_map, range_with_len}
 use Rattle.std.specs.Int.{int_max}
 use Rattle.std.specs.Ordering.{int_eq}
+use Rattle.edges.specs.Chains.{Chain, HaveNoRing}
 use Rattle.score.specs.Total.{minus_infinity}
 use Rattle.cluster_types.specs.declared.cluster.Cluster.{Cluster}
 use Rattle.cluster_types.specs.declared.journal.Event.{Event}
@@ -80,14 +81,23 @@ needs c d e = not (is_place d) && is_same_decision e (Place (leaf_of d)) || list
 abbrev pub all_decisions : Cluster → List Decision
 all_decisions c = flat_map (λ r. Place r ∷ Promote r ∷ []) (range_with_len 0 (length c.leaves))
 
--- the same through a chain of needs among some decisions, at most this long
+-- the one decision needs the other, which is among these
+pub record IsNeedLink (c : Cluster) (among : List Decision) (d e : Decision) : Type 0 where
+  pub there : Contains among e
+  pub needed : needs c d e ≡ true
+
+-- the needs have no loop: no chain of them leads from a decision back to it
+abbrev pub NeedsHaveNoLoop : Cluster → Type 0
+NeedsHaveNoLoop c = HaveNoRing (IsNeedLink c (all_decisions c))
+
+-- the one decision needs the other through a chain of needs among these
+abbrev pub NeedsByChain : Cluster → List Decision → Decision → Decision → Type 0
+NeedsByChain c among d e = Chain (IsNeedLink c among) d e
+
+-- the same, computed, over chains of so many needs at most. As many as there are decisions are enough (`needs_are_computed` of crate `loops`)
 abbrev pub needs_through : Cluster → List Decision → ℕ → Decision → Decision → Bool
 needs_through c among zero d e = false
 needs_through c among (suc most) d e = list_any (λ f. needs c d f && (is_same_decision f e || needs_through c among most f e)) among
-
--- the needs have no loop
-abbrev pub NeedsHaveNoLoop : Cluster → Type 0
-NeedsHaveNoLoop c = (d : Decision) → needs_through c (all_decisions c) (length (all_decisions c)) d d ≡ false
 
 module _ (c : Cluster) (es : List Event) where
   -- a leaf that isn't pinned is placed, and promoted where it is promotable
@@ -115,7 +125,7 @@ module _ (c : Cluster) (es : List Event) (promotions : List Promotion) where
     usable = greatest_of (totals_where (λ n. is_usable c n es) d);
   }
 
-  -- the greatest key among the decision and all that need it. A chain of needs is no longer than there are decisions
+  -- the greatest key among the decision and all that need it through a chain of needs
   abbrev pub effective_key : Decision → Key
   effective_key d =
       fold greater_key (key_of d) (map key_of (filter (λ e. needs_through c (decisions c es) (length (decisions c es)) e d) (decisions c es)))

@@ -1,7 +1,7 @@
 -- The order in which actions are numbered (rule of this project).
 use Rattle.std.specs.Prelude.{◌≡◌, ◌≢◌, ◌↔◌, ℕ, suc, zero, ◌+◌, ◌*◌, nat_lt, ◌==◌, ◌&&◌, ◌||◌, Bool, true, false, not, if◌then◌else◌, List, [], ◌∷◌, ◌++◌, length, map, filter, fold, max, Contains, AllPairs}
-use Rattle.std.specs.List.{list_any, flat_map, range_with_len}
-use Rattle.edges.specs.Chains.{IsLinked, IsLongestChain}
+use Rattle.std.specs.List.{flat_map, range_with_len}
+use Rattle.edges.specs.Chains.{HaveNoRing, IsLinked, IsLongestChain}
 use Rattle.cluster_types.specs.declared.cluster.Cluster.{Cluster}
 use Rattle.cluster_types.specs.declared.journal.Action.{Action}
 use Rattle.cluster_types.specs.declared.journal.Action.TheVariants.{Fence, Probe, Cell, MigrateTo, MigrateFrom}
@@ -77,13 +77,9 @@ chain_within c (suc most) s =
 abbrev pub rank : Cluster → StepOf → ℕ
 rank c s = chain_within c (4 * length c.leaves) s
 
--- the links have no loop: no step is reached from itself
-abbrev pub reaches : Cluster → ℕ → StepOf → StepOf → Bool
-reaches c zero s t = false
-reaches c (suc most) s t = list_any (λ l. is_same_step l.before s && (is_same_step l.after t || reaches c most l.after t)) (links c)
-
+-- the links have no loop: no chain of them leads from a step back to it
 abbrev pub StepsHaveNoLoop : Cluster → Type 0
-StepsHaveNoLoop c = (s : StepOf) → reaches c (4 * length c.leaves) s s ≡ false
+StepsHaveNoLoop c = HaveNoRing (IsStepLink c)
 
 -- what is done at about the same time, in the order in which it is done
 pub data NumberPhase : Type 0 where

@@ -5,6 +5,7 @@ use Rattle.std.specs.List.{list_any, flat_map, range_with_len}
 use Rattle.std.specs.Option.{option_map_or}
 use Rattle.std.specs.Ordering.{int_eq}
 use Rattle.date_rules.specs.Rule.{holds}
+use Rattle.edges.specs.Chains.{Chain, IsLinked}
 use Rattle.score.specs.Total.{infinity, minus_infinity, total_of}
 use Rattle.cluster_types.specs.declared.cluster.Cluster.{Cluster}
 use Rattle.cluster_types.specs.declared.journal.Event.{Event}
@@ -51,12 +52,20 @@ module _ (c : Cluster) where
       int_eq col.score infinity && is_started col.dependent_role && is_started col.primary_role
       && not (is_cloned c col.dependent) && not (is_cloned c col.primary)
 
-  -- s must be with r through a chain of ties, at most this long
+  -- a tie has s with r
+  abbrev pub IsTieLink : ℕ → ℕ → Type 0
+  IsTieLink s r = IsLinked (λ (col : Colocation). col.dependent) (λ (col : Colocation). col.primary) (filter is_tie c.colocations) s r
+
+  -- s must be with r through a chain of ties
+  abbrev pub IsTied : ℕ → ℕ → Type 0
+  IsTied s r = Chain IsTieLink s r
+
+  -- the same, computed, over chains of so many ties at most. As many as there are leaves are enough (`ties_are_computed` of crate `loops`)
   abbrev pub is_tied : ℕ → ℕ → ℕ → Bool
   is_tied zero s r = false
   is_tied (suc most) s r = list_any (λ col. is_tie col && col.dependent == s && (col.primary == r || is_tied most col.primary r)) c.colocations
 
-  -- the leaves that must be with r, in their order. A chain of ties needs no more of them than there are leaves
+  -- the leaves that must be with r through a chain of ties, in their order
   abbrev pub lenders : ℕ → List ℕ
   lenders r = filter (λ s. is_tied (length c.leaves) s r) (range_with_len 0 (length c.leaves))
 

@@ -1,3 +1,4 @@
+pub mod Chained
 pub mod Needs
 pub mod NeedLoops
 pub mod LinkEdges
@@ -11,4 +12,4 @@ pub mod ChainWays
 pub mod OneRanking
 pub mod RankLists
 pub mod RankChains
-pub mod Rings
+pub mod ComputedChains

@@ -3,17 +3,21 @@ use Rattle.std.proofs.Common.{arith, ◌≡◌, ◌≢◌, ◌<◌, ◌*◌, ◌
 use Rattle.std.specs.List.{flat_map, range_with_len}
 use Rattle.std.proofs.lemmas.List.Elements.{Contains-append_cases}
 use Rattle.edges.specs.declared.edge.Edge.{Edge}
-use Rattle.edges.specs.Loops.{EndsWithin, HasLoop, HasNoLoop as NoLoopOfEdges}
-use Rattle.edges.proofs.Relations.{EdgeFor, FollowsItself, StandsFor, WayFor, leads_of, nothing_follows_itself, one_follows_itself}
+use Rattle.edges.specs.Chains.{Chain, linked}
+use Rattle.edges.specs.Loops.{EndsWithin, HasLoop, HasNoLoop as NoLoopOfEdges, RiseSomehow}
+use Rattle.edges.proofs.Heights.{rise_somehow}
+use Rattle.edges.proofs.Paths.{loop_or_none}
+use Rattle.edges.proofs.Relations.{FollowsItself, StandsFor, WayFor, one_follows_itself}
 use Rattle.cluster_types.specs.declared.cluster.Cluster.{Cluster}
 use Rattle.cluster_types.specs.declared.leaf.Op.{Op}
 use Rattle.cluster_types.specs.declared.leaf.Op.TheVariants.{Start, Stop, Promote, Demote, Monitor}
 use Rattle.cluster_types.specs.declared.rules.Order.{Order}
-use Rattle.cluster_types.specs.Numbers.{StepsHaveNoLoop, Link, StepOf, inverse_links, is_same_step, leaf_links, link, links, order_links, reaches}
+use Rattle.cluster_types.specs.Numbers.{IsStepLink, StepsHaveNoLoop, Link, StepOf, inverse_links, is_same_step, leaf_links, link, links, order_links}
 use Rattle.cluster_types.specs.Precedence.{inverse, is_serialize, is_up, takers}
 use Rattle.loops.specs.Inner.Edges.{counts_link, link_edge, step_edges, step_position}
-use Rattle.loops.specs.FirstLoops.{AllOrder, OrdersSteps, StepsHaveLoop}
+use Rattle.loops.specs.FirstLoops.{AllOrder, OrdersSteps, StepsHaveLoop, reaches}
 use Rattle.lemmas.proofs.Members.{head_or_rest, in_map, in_none, of_filter, of_flat, of_map, of_range}
+use Rattle.loops.proofs.Chained.{chain_of, no_ring}
 use Rattle.loops.proofs.StepPlaces.{Stands, inverse_changes, position_is, position_within, same_spot, same_step, spot, step_itself, steps_alike}
 
 -- both steps of the link are of leaves that are there
@@ -89,6 +93,12 @@ module _ (c : Cluster) (o : Order) (ordered : OrdersSteps c o) where
       | inr t ↦ of_symmetrical o.symmetrical l t
     ]
 
+-- what is found over so many links is a chain of links
+pub links_chain : (c : Cluster) (most : ℕ) (s t : StepOf) → reaches c most s t ≡ true → Chain (IsStepLink c) s t
+links_chain c =
+    chain_of (λ (l : Link) s. is_same_step l.before s) (λ (l : Link). l.after) is_same_step (links c) (reaches c) (λ _ _. refl) (λ _ _ _. refl)
+    (IsStepLink c) same_step (λ s l h same. let one : IsStepLink c l.before l.after = linked l h in rw (same_step l.before s same) at one)
+
 module _ (c : Cluster) (ordered : AllOrder c) where
   pub links_stand : (l : Link) → Contains (links c) l → BothStand (length c.leaves) l
   links_stand l h =
@@ -102,17 +112,6 @@ module _ (c : Cluster) (ordered : AllOrder c) where
             let f = of_flat order_links c.orders l other in
             of_order c f.source (ordered f.source f.among) l f.gives
       ]
-
-  edge_for : (l : Link) (s : StepOf) → Contains (links c) l → is_same_step l.before s ≡ true
-      → EdgeFor (λ (l : Link). l.after) (step_edges c) (spot (length c.leaves)) l s
-  edge_for l s h same =
-      let b = links_stand l h in
-      record {
-        edge = link_edge l;
-        among = in_map link_edge (links c) l h;
-        from = position_is (length c.leaves) l.before b.first ∙ ap (spot (length c.leaves)) (same_step l.before s same);
-        to = position_is (length c.leaves) l.after b.later;
-      }
 
   way_for : (e : Edge) (s : StepOf) → Contains (step_edges c) e → e.before ≡ spot (length c.leaves) s
       → WayFor (λ (l : Link) s. is_same_step l.before s) (λ (l : Link). l.after) (links c) (spot (length c.leaves)) e s
@@ -142,31 +141,38 @@ module _ (c : Cluster) (ordered : AllOrder c) where
       → is_same_step l.after t ≡ (spot (length c.leaves) l.after == spot (length c.leaves) t)
   alike l t h = let b = links_stand l h in steps_alike (length c.leaves) l.after t b.later
 
-  pub steps_free : NoLoopOfEdges (4 * length c.leaves) (step_edges c) → StepsHaveNoLoop c
-  steps_free free s =
-      nothing_follows_itself (λ (l : Link) s. is_same_step l.before s) (λ (l : Link). l.after) is_same_step (links c) (reaches c)
+  pub bounded_loop : HasLoop (4 * length c.leaves) (step_edges c) → FollowsItself (reaches c) (4 * length c.leaves)
+  bounded_loop l =
+      one_follows_itself (λ (l : Link) s. is_same_step l.before s) (λ (l : Link). l.after) is_same_step (links c) (reaches c)
       (λ _ _. refl) (λ _ _ _. refl)
-      (step_edges c) (spot (length c.leaves)) alike edge_for (4 * length c.leaves) free s
+      (step_edges c) (spot (length c.leaves)) alike way_for stands (4 * length c.leaves) l
 
   pub steps_loop : HasLoop (4 * length c.leaves) (step_edges c) → StepsHaveLoop c
   steps_loop l =
-      let one : FollowsItself (reaches c) (4 * length c.leaves)
-      = one_follows_itself (λ (l : Link) s. is_same_step l.before s) (λ (l : Link). l.after) is_same_step (links c) (reaches c)
-      (λ _ _. refl) (λ _ _ _. refl)
-      (step_edges c) (spot (length c.leaves)) alike way_for stands (4 * length c.leaves) l in
-      record { step = one.thing; reached = one.follows }
-
-  pub loop_of_steps : StepsHaveLoop c → HasLoop (4 * length c.leaves) (step_edges c)
-  loop_of_steps l =
-      record {
-        at = spot (length c.leaves) l.step;
-        leads = leads_of (λ (l : Link) s. is_same_step l.before s) (λ (l : Link). l.after) is_same_step (links c) (reaches c)
-            (λ _ _. refl) (λ _ _ _. refl)
-            (step_edges c) (spot (length c.leaves)) alike edge_for (4 * length c.leaves) l.step l.step l.reached;
-      }
+      let one = bounded_loop l in
+      record { step = one.thing; ring = links_chain c (4 * length c.leaves) one.thing one.thing one.follows }
 
   pub steps_within : EndsWithin (4 * length c.leaves) (step_edges c)
   steps_within e h =
       let m = of_map link_edge (links c) e h in
       let b = links_stand m.source m.among in
       rw (← m.gives) (position_within (length c.leaves) m.source.before b.first, position_within (length c.leaves) m.source.after b.later)
+
+  -- a height of the edges rises along each link
+  link_rises : (rising : RiseSomehow (step_edges c)) (s t : StepOf) → IsStepLink c s t
+      → rising.height (spot (length c.leaves) s) < rising.height (spot (length c.leaves) t)
+  link_rises rising _ _ (linked l h) =
+      let b = links_stand l h in
+      let up = rising.rises (link_edge l) (in_map link_edge (links c) l h) in
+      rw (position_is (length c.leaves) l.after b.later) at (rw (position_is (length c.leaves) l.before b.first) at up)
+
+  pub steps_free : NoLoopOfEdges (4 * length c.leaves) (step_edges c) → StepsHaveNoLoop c
+  steps_free free =
+      let rising : RiseSomehow (step_edges c) = rise_somehow (4 * length c.leaves) (step_edges c) steps_within free in
+      no_ring (IsStepLink c) (λ s. rising.height (spot (length c.leaves) s)) (link_rises rising)
+
+  pub loop_of_steps : StepsHaveLoop c → HasLoop (4 * length c.leaves) (step_edges c)
+  loop_of_steps l = elim (loop_or_none (4 * length c.leaves) (step_edges c) steps_within) [
+    | inl loop ↦ loop
+    | inr none ↦ absurd (steps_free none l.step l.ring)
+  ]

@@ -3,6 +3,7 @@ use Rattle.std.proofs.Common.{arith, ◌≡◌, ◌≤◌, ◌+◌, ◌*◌, ◌
 use Rattle.std.proofs.lemmas.List.Folds.{Any-from_list_any}
 use Rattle.std.proofs.Math.Seq.{take-length}
 use Rattle.std.proofs.lemmas.List.{append-nil}
+use Rattle.std.specs.Prelude.{◌↔◌}
 use Rattle.std.proofs.lemmas.Bool.{both_ways, false_from_ne_true}
 use Rattle.std.proofs.lemmas.Bool.Decides.{nat_tests}
 use Rattle.lemmas.proofs.Booleans.{later, same_test, sooner}
@@ -15,13 +16,13 @@ use Rattle.cluster_types.specs.declared.placement.Decision.{Decision}
 use Rattle.cluster_types.specs.declared.rules.Colocation.{Colocation}
 use Rattle.cluster_types.specs.declared.rules.Order.{Order}
 use Rattle.cluster_types.specs.Decisions.{NeedsHaveNoLoop, all_decisions, is_same_decision, needs, needs_through}
-use Rattle.cluster_types.specs.Numbers.{StepsHaveNoLoop, Link, StepOf, is_same_step, links, reaches}
+use Rattle.cluster_types.specs.Numbers.{StepsHaveNoLoop, Link, StepOf, is_same_step, links}
 use Rattle.loops.specs.Inner.Edges.{colocation_edge, leaf_edges, need_edges, step_edges}
-use Rattle.loops.specs.FirstLoops.{AllJoin, AllOrder, IsFirstColocation, IsFirstOrder, NeedsHaveLoop, StepsHaveLoop, has_need_loop, has_step_loop, is_closed_by, with_colocations, with_first_orders}
+use Rattle.loops.specs.FirstLoops.{AllJoin, AllOrder, IsFirstColocation, IsFirstOrder, NeedsHaveLoop, StepsHaveLoop, has_need_loop, has_step_loop, is_closed_by, reaches, with_colocations, with_first_orders}
 use Rattle.lemmas.proofs.Members.{in_none}
 use Rattle.loops.proofs.FirstOrders.{first_ordered, own_free}
-use Rattle.loops.proofs.LinkLoops.{loop_of_steps, steps_free, steps_loop}
-use Rattle.loops.proofs.NeedLoops.{first_joined, leaves_free, loop_of_needs, needs_free, needs_loop}
+use Rattle.loops.proofs.LinkLoops.{bounded_loop as bounded_steps, links_chain, loop_of_steps, steps_free, steps_loop}
+use Rattle.loops.proofs.NeedLoops.{bounded_loop as bounded_needs, first_joined, leaves_free, loop_of_needs, needs_chain, needs_free, needs_loop}
 use Rattle.loops.proofs.Needs.{same_decision}
 use Rattle.loops.proofs.OneFirst.{all_colocations, all_orders_loop, needs_apart, needs_stay, steps_apart, steps_stay}
 use Rattle.loops.proofs.StepPlaces.{same_step}
@@ -46,15 +47,19 @@ module _ (c : Cluster) where
   pub loop_of_need : has_need_loop c ≡ true → NeedsHaveLoop c
   loop_of_need h = on (Any-from_list_any (λ d. needs_through c (all_decisions c) (length (all_decisions c)) d d) (all_decisions c) h) where
     on : Any (λ d. needs_through c (all_decisions c) (length (all_decisions c)) d d ≡ true) (all_decisions c) → NeedsHaveLoop c
-    on (k, d, lt, at, h) = record { decision = d; needed = h }
+    on (k, d, lt, at, h) = record { decision = d; ring = needs_chain c (all_decisions c) (length (all_decisions c)) d d h }
 
-  pub need_of_loop : NeedsHaveLoop c → has_need_loop c ≡ true
-  need_of_loop l =
-      passes_by (λ d. needs_through c (all_decisions c) (length (all_decisions c)) d d) (all_decisions c) l.decision
-      (end_among c (all_decisions c) (length (all_decisions c)) l.decision l.decision l.needed) l.needed
+  pub need_of_loop : AllJoin c → NeedsHaveLoop c → has_need_loop c ≡ true
+  need_of_loop joined l =
+      let one = bounded_needs c joined (loop_of_needs c joined l) in
+      passes_by (λ d. needs_through c (all_decisions c) (length (all_decisions c)) d d) (all_decisions c) one.thing
+      (end_among c (all_decisions c) (length (all_decisions c)) one.thing one.thing one.follows) one.follows
 
-  pub need_of_none : has_need_loop c ≡ false → NeedsHaveNoLoop c
-  need_of_none h d = false_from_ne_true _ (λ needed. both_ways _ h (need_of_loop (record { decision = d; needed = needed })))
+  pub need_of_none : AllJoin c → has_need_loop c ≡ false → NeedsHaveNoLoop c
+  need_of_none joined h d ring = both_ways _ h (need_of_loop joined (record { decision = d; ring = ring }))
+
+  pub needs_tested : AllJoin c → has_need_loop c ≡ false ↔ NeedsHaveNoLoop c
+  needs_tested joined = (need_of_none joined, λ free. false_from_ne_true _ (λ h. let l = loop_of_need h in free l.decision l.ring))
 
 -- the first link of a chain from a step
 record Begins (c : Cluster) (s : StepOf) : Type 0 where
@@ -72,15 +77,19 @@ module _ (c : Cluster) where
   pub loop_of_step : has_step_loop c ≡ true → StepsHaveLoop c
   loop_of_step h = on (Any-from_list_any (λ l. reaches c (4 * length c.leaves) l.before l.before) (links c) h) where
     on : Any (λ l. reaches c (4 * length c.leaves) l.before l.before ≡ true) (links c) → StepsHaveLoop c
-    on (k, l, lt, at, h) = record { step = l.before; reached = h }
+    on (k, l, lt, at, h) = record { step = l.before; ring = links_chain c (4 * length c.leaves) l.before l.before h }
 
-  pub step_of_loop : StepsHaveLoop c → has_step_loop c ≡ true
-  step_of_loop l =
-      let b = begins (4 * length c.leaves) l.step l.step l.reached in
-      passes_by (λ l. reaches c (4 * length c.leaves) l.before l.before) (links c) b.way b.among (rw b.from l.reached)
+  pub step_of_loop : AllOrder c → StepsHaveLoop c → has_step_loop c ≡ true
+  step_of_loop ordered l =
+      let one = bounded_steps c ordered (loop_of_steps c ordered l) in
+      let b = begins (4 * length c.leaves) one.thing one.thing one.follows in
+      passes_by (λ l. reaches c (4 * length c.leaves) l.before l.before) (links c) b.way b.among (rw b.from one.follows)
 
-  pub step_of_none : has_step_loop c ≡ false → StepsHaveNoLoop c
-  step_of_none h s = false_from_ne_true _ (λ reached. both_ways _ h (step_of_loop (record { step = s; reached = reached })))
+  pub step_of_none : AllOrder c → has_step_loop c ≡ false → StepsHaveNoLoop c
+  step_of_none ordered h s ring = both_ways _ h (step_of_loop ordered (record { step = s; ring = ring }))
+
+  pub steps_tested : AllOrder c → has_step_loop c ≡ false ↔ StepsHaveNoLoop c
+  steps_tested ordered = (step_of_none ordered, λ free. false_from_ne_true _ (λ h. let l = loop_of_step h in free l.step l.ring))
 
 -- a cluster with the first so many colocations of another
 module _ (c d : Cluster) (joined : AllJoin c) (count : ℕ) (few : count ≤ length c.colocations) (leaves : d.leaves ≡ c.leaves)
@@ -114,7 +123,7 @@ module _ (c d : Cluster) (joined : AllJoin c) (count : ℕ) (few : count ≤ len
       false_from_ne_true _ (λ h. needs_apart c (all_colocations c joined (needs_stay c joined count (length c.colocations) few (first_needs (loop_of_need d h)))) free)
   needs_closed (Some place) closes =
       same_test (has_need_loop d) (nat_lt place count) (λ h. early h (nat_lt place count) refl)
-      (λ h. need_of_loop d (needs_of_first (needs_stay c joined (place + 1) count (grind (arith, nat_tests)) closes.closed)))
+      (λ h. need_of_loop d all_joined (needs_of_first (needs_stay c joined (place + 1) count (grind (arith, nat_tests)) closes.closed)))
     where
       early : has_need_loop d ≡ true → (b : Bool) → nat_lt place count ≡ b → nat_lt place count ≡ true
       early h true e = e
@@ -154,7 +163,7 @@ module _ (c d : Cluster) (ordered : AllOrder c) (count : ℕ) (few : count ≤ l
       false_from_ne_true _ (λ h. steps_apart c (all_orders_loop c ordered (steps_stay c ordered count (length c.orders) few (first_steps (loop_of_step d h)))) free)
   steps_closed (Some place) closes =
       same_test (has_step_loop d) (nat_lt place count) (λ h. early h (nat_lt place count) refl)
-      (λ h. step_of_loop d (steps_of_first (steps_stay c ordered (place + 1) count (grind (arith, nat_tests)) closes.closed)))
+      (λ h. step_of_loop d all_ordered (steps_of_first (steps_stay c ordered (place + 1) count (grind (arith, nat_tests)) closes.closed)))
     where
       early : has_step_loop d ≡ true → (b : Bool) → nat_lt place count ≡ b → nat_lt place count ≡ true
       early h true e = e
@@ -164,7 +173,7 @@ module _ (c d : Cluster) (ordered : AllOrder c) (count : ℕ) (few : count ≤ l
 
 -- without rules there is no loop
 
-pub no_needs : (c : Cluster) → c.colocations ≡ [] → NeedsHaveNoLoop c
+no_needs : (c : Cluster) → c.colocations ≡ [] → NeedsHaveNoLoop c
 no_needs c e =
     let joined : AllJoin c = λ col h. absurd (in_none col (rw e at h)) in
     let own = leaf_edges (length c.leaves) in
@@ -172,9 +181,15 @@ no_needs c e =
     needs_free c joined
     (subst (λ (es : List Edge). NoLoopOfEdges (2 * length c.leaves) es) (sym same) (leaves_free (2 * length c.leaves) (length own) (length c.leaves)))
 
-pub no_steps : (c : Cluster) → c.orders ≡ [] → StepsHaveNoLoop c
+no_steps : (c : Cluster) → c.orders ≡ [] → StepsHaveNoLoop c
 no_steps c e =
     let ordered : AllOrder c = λ o h. absurd (in_none o (rw e at h)) in
     let same : step_edges c ≡ step_edges (with_first_orders c 0) = ap (λ (os : List Order). step_edges record c { orders = os }) e in
     steps_free c ordered
     (subst (λ (es : List Edge). NoLoopOfEdges (4 * length c.leaves) es) (sym same) (own_free c (4 * length c.leaves)))
+
+pub no_need_found : (c : Cluster) → c.colocations ≡ [] → has_need_loop c ≡ false
+no_need_found c e = false_from_ne_true _ (λ h. let l = loop_of_need c h in no_needs c e l.decision l.ring)
+
+pub no_step_found : (c : Cluster) → c.orders ≡ [] → has_step_loop c ≡ false
+no_step_found c e = false_from_ne_true _ (λ h. let l = loop_of_step c h in no_steps c e l.step l.ring)

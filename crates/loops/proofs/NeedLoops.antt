@@ -1,5 +1,5 @@
 -- Loops of needs are loops of their edges.
-use Rattle.std.proofs.Common.{arith, ◌≡◌, ◌<◌, ◌≤◌, ◌+◌, ◌-◌, ◌*◌, ℕ, map, length, take, refl, sym, ap, inl, inr, Contains}
+use Rattle.std.proofs.Common.{arith, ◌≡◌, ◌<◌, ◌≤◌, ◌+◌, ◌-◌, ◌*◌, ℕ, true, List, map, length, take, refl, sym, ap, inl, inr, Contains}
 use Rattle.std.specs.List.{range_with_len}
 use Rattle.std.proofs.Math.Seq.{take-append-add}
 use Rattle.std.proofs.lemmas.Bool.{cases_lt}
@@ -7,19 +7,30 @@ use Rattle.std.proofs.lemmas.List.{length-append, length-map, take-append-le, ta
 use Rattle.std.proofs.lemmas.List.Elements.{Contains-append_cases}
 use Rattle.std.proofs.lemmas.List.FromFn.{length-map-range_with_len}
 use Rattle.edges.specs.declared.edge.Edge.{Edge}
-use Rattle.edges.specs.Loops.{ClosesFirst, EndsWithin, HasLoop, HasNoLoop}
+use Rattle.edges.specs.Chains.{Chain}
+use Rattle.edges.specs.Loops.{ClosesFirst, EndsWithin, HasLoop, HasNoLoop, RiseSomehow}
 use Rattle.edges.proofs.Endings.{one_way}
-use Rattle.edges.proofs.Paths.{none_where_rising}
-use Rattle.edges.proofs.Relations.{FollowsItself, StandsFor, leads_of, nothing_follows_itself, one_follows_itself}
+use Rattle.edges.proofs.Heights.{rise_somehow}
+use Rattle.edges.proofs.Paths.{loop_or_none, none_where_rising}
+use Rattle.edges.proofs.Relations.{FollowsItself, StandsFor, one_follows_itself}
 use Rattle.cluster_types.specs.declared.cluster.Cluster.{Cluster}
 use Rattle.cluster_types.specs.declared.leaf.Role.{Role}
 use Rattle.cluster_types.specs.declared.leaf.Role.TheVariants.{Started, Promoted}
+use Rattle.cluster_types.specs.declared.placement.Decision.{Decision}
 use Rattle.cluster_types.specs.declared.placement.Decision.TheVariants.{Promote}
-use Rattle.cluster_types.specs.Decisions.{NeedsHaveNoLoop, all_decisions, decision_of, is_same_decision, needs, needs_through}
+use Rattle.cluster_types.specs.Decisions.{IsNeedLink, NeedsHaveNoLoop, all_decisions, decision_of, is_same_decision, needs, needs_through}
 use Rattle.loops.specs.Inner.Edges.{colocation_edge, decision_position, leaf_edge, leaf_edges, need_edges}
 use Rattle.loops.specs.FirstLoops.{AllJoin, ClosesNeeds, NeedsHaveLoop, with_colocations}
 use Rattle.lemmas.proofs.Members.{of_map, of_range, contains_first}
-use Rattle.loops.proofs.Needs.{alike, count_of_decisions, edge_for, way_for}
+use Rattle.loops.proofs.Chained.{chain_of, no_ring}
+use Rattle.loops.proofs.Needs.{alike, count_of_decisions, edge_for, same_decision, way_for}
+
+-- what is found over so many needs is a chain of needs
+pub needs_chain : (c : Cluster) (among : List Decision) (most : ℕ) (d e : Decision) → needs_through c among most d e ≡ true
+    → Chain (IsNeedLink c among) d e
+needs_chain c among =
+    chain_of (λ w s. needs c s w) (λ d. d) is_same_decision among (needs_through c among) (λ _ _. refl) (λ _ _ _. refl) (IsNeedLink c among) same_decision
+    (λ d e there needed. record { there = there; needed = needed })
 
 module _ (c : Cluster) (joined : AllJoin c) where
   stands : (e : Edge) → Contains (need_edges c) e → StandsFor decision_position e.before
@@ -32,32 +43,18 @@ module _ (c : Cluster) (joined : AllJoin c) where
         record { thing = decision_of m.source.dependent m.source.dependent_role; here = sym (ap (λ (x : Edge). x.before) m.gives) }
   ]
 
-  pub needs_free : HasNoLoop (2 * length c.leaves) (need_edges c) → NeedsHaveNoLoop c
-  needs_free free d =
+  pub bounded_loop : HasLoop (2 * length c.leaves) (need_edges c) → FollowsItself (needs_through c (all_decisions c)) (length (all_decisions c))
+  bounded_loop l =
       let n = count_of_decisions c in
-      let f : HasNoLoop (length (all_decisions c)) (need_edges c) = rw n free in
-      nothing_follows_itself (λ w s. needs c s w) (λ d. d) is_same_decision (all_decisions c) (needs_through c (all_decisions c))
+      let f : HasLoop (length (all_decisions c)) (need_edges c) = rw n l in
+      one_follows_itself (λ w s. needs c s w) (λ d. d) is_same_decision (all_decisions c) (needs_through c (all_decisions c))
       (λ _ _. refl) (λ _ _ _. refl)
-      (need_edges c) decision_position (λ w t _. alike w t) (edge_for c joined) (length (all_decisions c)) f d
+      (need_edges c) decision_position (λ w t _. alike w t) (way_for c joined) stands (length (all_decisions c)) f
 
   pub needs_loop : HasLoop (2 * length c.leaves) (need_edges c) → NeedsHaveLoop c
   needs_loop l =
-      let n = count_of_decisions c in
-      let f : HasLoop (length (all_decisions c)) (need_edges c) = rw n l in
-      let one : FollowsItself (needs_through c (all_decisions c)) (length (all_decisions c))
-      = one_follows_itself (λ w s. needs c s w) (λ d. d) is_same_decision (all_decisions c) (needs_through c (all_decisions c))
-      (λ _ _. refl) (λ _ _ _. refl)
-      (need_edges c) decision_position (λ w t _. alike w t) (way_for c joined) stands (length (all_decisions c)) f in
-      record { decision = one.thing; needed = one.follows }
-
-  pub loop_of_needs : NeedsHaveLoop c → HasLoop (2 * length c.leaves) (need_edges c)
-  loop_of_needs l =
-      let n = count_of_decisions c in
-      let led
-      = leads_of (λ w s. needs c s w) (λ d. d) is_same_decision (all_decisions c) (needs_through c (all_decisions c))
-      (λ _ _. refl) (λ _ _ _. refl)
-      (need_edges c) decision_position (λ w t _. alike w t) (edge_for c joined) (length (all_decisions c)) l.decision l.decision l.needed in
-      record { at = decision_position l.decision; leads = rw (← n) led }
+      let one = bounded_loop l in
+      record { decision = one.thing; ring = needs_chain c (all_decisions c) (length (all_decisions c)) one.thing one.thing one.follows }
 
   role_within : (r : ℕ) (role : Role) (n : ℕ) → r < n → decision_position (decision_of r role) < 2 * n
   role_within r Started n lt = omega arith
@@ -77,6 +74,32 @@ module _ (c : Cluster) (joined : AllJoin c) where
           role_within m.source.primary m.source.primary_role (length c.leaves) j.primary,
         )
   ]
+
+  -- a height of the edges rises along each need
+  pub need_rises : (rising : RiseSomehow (need_edges c)) (d e : Decision) → IsNeedLink c (all_decisions c) d e
+      → rising.height (decision_position d) < rising.height (decision_position e)
+  need_rises rising d e n =
+      let one = edge_for c joined e d n.there n.needed in
+      let up = rising.rises one.edge one.among in
+      rw one.to at (rw one.from at up)
+
+  pub needs_free : HasNoLoop (2 * length c.leaves) (need_edges c) → NeedsHaveNoLoop c
+  needs_free free =
+      let rising : RiseSomehow (need_edges c) = rise_somehow (2 * length c.leaves) (need_edges c) needs_within free in
+      no_ring (IsNeedLink c (all_decisions c)) (λ d. rising.height (decision_position d)) (need_rises rising)
+
+  pub loop_of_needs : NeedsHaveLoop c → HasLoop (2 * length c.leaves) (need_edges c)
+  loop_of_needs l = elim (loop_or_none (2 * length c.leaves) (need_edges c) needs_within) [
+    | inl loop ↦ loop
+    | inr none ↦ absurd (needs_free none l.decision l.ring)
+  ]
+
+  pub rising_needs : NeedsHaveNoLoop c → RiseSomehow (need_edges c)
+  rising_needs free =
+      rise_somehow (2 * length c.leaves) (need_edges c) needs_within (elim (loop_or_none (2 * length c.leaves) (need_edges c) needs_within) [
+        | inl loop ↦ let l : NeedsHaveLoop c = needs_loop loop in absurd (free l.decision l.ring)
+        | inr none ↦ none
+      ])
 
 -- the leaves alone have no loop: each of their edges leads to a higher position
 leaves_rise : (k n : ℕ) (e : Edge) → Contains (take k (map leaf_edge (range_with_len 0 n))) e → e.before < e.after

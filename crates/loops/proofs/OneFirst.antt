@@ -2,7 +2,7 @@
 use Rattle.std.proofs.Common.{arith, ◌≡◌, ◌<◌, ◌≤◌, ◌+◌, ◌*◌, ℕ, List, ◌++◌, length, take, Option, Some, None, refl, ap, subst, inl, inr, Contains}
 use Rattle.std.specs.List.{flat_map, range_with_len}
 use Rattle.std.proofs.Math.Seq.{take-length}
-use Rattle.std.proofs.lemmas.Bool.{both_ways, cases_order}
+use Rattle.std.proofs.lemmas.Bool.{cases_order}
 use Rattle.std.proofs.lemmas.List.Elements.{Contains-append_cases, Contains-append_left, Contains-append_right}
 use Rattle.edges.specs.declared.edge.Edge.{Edge}
 use Rattle.edges.specs.Loops.{HasLoop}
@@ -20,10 +20,10 @@ use Rattle.lemmas.proofs.Members.{contains_shorter, in_filter, in_flat, in_map, 
 use Rattle.loops.proofs.NeedLoops.{first_edges, first_joined, loop_of_needs, needs_loop}
 
 pub needs_apart : (c : Cluster) → NeedsHaveLoop c → NeedsHaveNoLoop c → ⊥
-needs_apart c l free = both_ways _ (free l.decision) l.needed
+needs_apart c l free = free l.decision l.ring
 
 pub steps_apart : (c : Cluster) → StepsHaveLoop c → StepsHaveNoLoop c → ⊥
-steps_apart c l free = both_ways _ (free l.step) l.reached
+steps_apart c l free = free l.step l.ring
 
 module _ (c : Cluster) (joined : AllJoin c) where
   -- more colocations keep a loop

@@ -1,13 +1,14 @@
 -- The first rule with which the rules of a cluster have a loop (rule of this project).
-use Rattle.std.specs.Prelude.{◌≡◌, ◌≢◌, ◌<◌, ◌+◌, ◌*◌, ℕ, nat_lt, Bool, true, false, Option, Some, None, length, take, Contains}
+use Rattle.std.specs.Prelude.{◌≢◌, ◌<◌, ◌+◌, ◌*◌, ◌&&◌, ◌||◌, ℕ, suc, zero, nat_lt, Bool, false, Option, Some, None, length, take, Contains}
 use Rattle.std.specs.List.{list_any}
+use Rattle.edges.specs.Chains.{Chain}
 use Rattle.cluster_types.specs.declared.cluster.Cluster.{Cluster}
 use Rattle.cluster_types.specs.declared.leaf.Op.TheVariants.{Monitor}
 use Rattle.cluster_types.specs.declared.placement.Decision.{Decision}
 use Rattle.cluster_types.specs.declared.rules.Colocation.{Colocation}
 use Rattle.cluster_types.specs.declared.rules.Order.{Order}
-use Rattle.cluster_types.specs.Decisions.{NeedsHaveNoLoop, all_decisions, needs, needs_through}
-use Rattle.cluster_types.specs.Numbers.{StepsHaveNoLoop, StepOf, links, reaches}
+use Rattle.cluster_types.specs.Decisions.{IsNeedLink, NeedsHaveNoLoop, all_decisions, needs_through}
+use Rattle.cluster_types.specs.Numbers.{IsStepLink, StepsHaveNoLoop, StepOf, is_same_step, links}
 
 -- both leaves of the colocation are there
 pub record JoinsLeaves (c : Cluster) (col : Colocation) : Type 0 where
@@ -35,28 +36,29 @@ with_colocations c count = record c { colocations = take count c.colocations }
 abbrev pub with_first_orders : Cluster → ℕ → Cluster
 with_first_orders c count = record c { orders = take count c.orders }
 
--- the one decision needs the other, which is one of those that there may be
-pub record IsNeedLink (c : Cluster) (d e : Decision) : Type 0 where
-  pub among : Contains (all_decisions c) e
-  pub needed : needs c d e ≡ true
+-- a chain of needs leads from some decision back to it
+pub record NeedsHaveLoop (c : Cluster) : Type 0 where
+  pub decision : Decision
+  pub ring : Chain (IsNeedLink c (all_decisions c)) decision decision
 
--- some decision needs itself
+-- a chain of links leads from some step back to it
+pub record StepsHaveLoop (c : Cluster) : Type 0 where
+  pub step : StepOf
+  pub ring : Chain (IsStepLink c) step step
+
+-- the same two, computed: no chain has to have more needs than there are decisions, or more links than there are steps
+-- (`loops_are_computed`)
+
 abbrev pub has_need_loop : Cluster → Bool
 has_need_loop c = list_any (λ d. needs_through c (all_decisions c) (length (all_decisions c)) d d) (all_decisions c)
 
--- some step is reached from itself: a step with which a link begins
+-- a chain of at most so many links leads from the one step to the other
+abbrev pub reaches : Cluster → ℕ → StepOf → StepOf → Bool
+reaches c zero s t = false
+reaches c (suc most) s t = list_any (λ l. is_same_step l.before s && (is_same_step l.after t || reaches c most l.after t)) (links c)
+
 abbrev pub has_step_loop : Cluster → Bool
 has_step_loop c = list_any (λ l. reaches c (4 * length c.leaves) l.before l.before) (links c)
-
--- some decision needs itself
-pub record NeedsHaveLoop (c : Cluster) : Type 0 where
-  pub decision : Decision
-  pub needed : needs_through c (all_decisions c) (length (all_decisions c)) decision decision ≡ true
-
--- some step is reached from itself
-pub record StepsHaveLoop (c : Cluster) : Type 0 where
-  pub step : StepOf
-  pub reached : reaches c (4 * length c.leaves) step step ≡ true
 
 -- the needs have no loop with the colocations before this place, and with the one at it they have one
 pub record ClosesNeeds (c : Cluster) (place : ℕ) : Type 0 where

@@ -1,8 +1,9 @@
 -- In the table after all decisions no leaf that isn't pinned is with what it must be apart from.
-use Rattle.std.proofs.Common.{arith, ◌≡◌, ◌<◌, ◌&&◌, ◌||◌, not, ℕ, suc, zero, Bool, true, false, List, length, inl, inr, refl, Contains}
+use Rattle.std.proofs.Common.{◌≡◌, ◌<◌, ◌&&◌, ◌||◌, not, ℕ, Bool, true, false, List, length, inl, inr, Contains}
 use Rattle.std.proofs.lemmas.Bool.{and_from, or_right}
 use Rattle.lemmas.proofs.Booleans.{sooner}
 use Rattle.lemmas.proofs.Searches.{passes_by, each_passes}
+use Rattle.edges.specs.Chains.{one_link}
 use Rattle.loops.proofs.Needs.{decision_there, is_itself}
 use Rattle.loops.proofs.FromValid.{valid_join}
 use Rattle.cluster_types.specs.declared.cluster.Cluster.{Cluster}
@@ -14,12 +15,11 @@ use Rattle.cluster_types.specs.declared.placement.Decision.{Decision}
 use Rattle.cluster_types.specs.declared.placement.Decision.TheVariants.{Place}
 use Rattle.cluster_types.specs.declared.rules.Colocation.{Colocation}
 use Rattle.cluster_types.specs.Choice.{after_decisions, is_candidate, is_chosen, is_dependent, is_primary, is_separation}
-use Rattle.cluster_types.specs.Decisions.{all_decisions, decision_of, is_place, is_same_decision, makes_need, leaf_of, needs, needs_through}
+use Rattle.cluster_types.specs.Decisions.{all_decisions, decision_of, is_place, is_same_decision, makes_need, leaf_of, needs}
 use Rattle.cluster_types.specs.Pins.{pinned_targets}
 use Rattle.cluster_types.specs.Tables.{Targets, holds_role}
 use Rattle.cluster_types.specs.Valid.{IsValid}
 use Rattle.plan_laws.proofs.CameFrom.{BothHeld, Met, at_once, first_there, met, second_there}
-use Rattle.plan_laws.proofs.MadeOnes.{never_both}
 use Rattle.plan_laws.proofs.OneStep.{Fits, fits}
 
 -- what the test for one separation says
@@ -41,7 +41,7 @@ not_with_dependent false d h q k t e f g = cc
 pub other_decisions : (c : Cluster) → IsValid c → (col : Colocation) → Contains c.colocations col
     → decision_of col.dependent col.dependent_role ≡ decision_of col.primary col.primary_role → ⊥
 other_decisions c valid col present same =
-    never_both (needs_through c (all_decisions c) (length (all_decisions c)) d d) (looped (length (all_decisions c)) some) (valid.needs d)
+    valid.needs d (one_link d d (record { there = among; needed = wants }))
   where
     d : Decision
     d = decision_of col.dependent col.dependent_role
@@ -58,15 +58,6 @@ other_decisions c valid col present same =
         or_right (not (is_place d) && is_same_decision d (Place (leaf_of d))) _
         (passes_by (makes_need d d) c.colocations col present
         (and_from (is_same_decision d (decision_of col.dependent col.dependent_role)) _ (is_itself d) (rw (← same) (is_itself d))))
-
-    some : 0 < length (all_decisions c)
-    some = let (k, lt, at) = among in omega arith
-
-    looped : (n : ℕ) → 0 < n → needs_through c (all_decisions c) n d d ≡ true
-    looped zero h = absurd (let f : ⊥ = omega arith in f)
-    looped (suc n) h =
-        passes_by (λ f. needs c d f && (is_same_decision f d || needs_through c (all_decisions c) n f d)) (all_decisions c) d among
-        (and_from (needs c d d) _ wants (rw (is_itself d) refl))
 
 module _ (c : Cluster) (es : List Event) (ps : List Promotion) where
   chosen_apart : (at : Targets) (d : Decision) (n : ℕ) (col : Colocation) → Contains c.colocations col → is_chosen c es ps at d n ≡ true

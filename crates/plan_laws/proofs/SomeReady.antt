@@ -1,23 +1,21 @@
 -- As the needs of a valid cluster have no loop, some decision is ready where one isn't made. So in the end each is made.
-use Rattle.std.proofs.Common.{arith, ◌≡◌, ◌<◌, ◌≤◌, ◌+◌, ◌*◌, ◌&&◌, ◌||◌, not, ℕ, suc, zero, Bool, true, false, List, [], ◌∷◌, ◌++◌, ◌⊎◌, inl, inr, refl, ◌∙◌, length, Contains}
+use Rattle.std.proofs.Common.{arith, ◌≡◌, ◌<◌, ◌≤◌, ◌+◌, ◌&&◌, ◌||◌, not, ℕ, suc, zero, Bool, true, false, List, [], ◌∷◌, ◌++◌, ◌⊎◌, inl, inr, refl, ◌∙◌, Contains}
 use Rattle.std.specs.List.{list_all, sum_by}
 use Rattle.std.proofs.lemmas.List.Sums.{get_or-le-sum_by}
-use Rattle.edges.specs.Loops.{HasNoLoop, RiseSomehow}
-use Rattle.edges.proofs.Heights.{rise_somehow}
-use Rattle.edges.proofs.Paths.{loop_or_none}
+use Rattle.edges.specs.Loops.{RiseSomehow}
 use Rattle.edges.proofs.Relations.{EdgeFor}
 use Rattle.loops.specs.Inner.Edges.{decision_position, need_edges}
-use Rattle.loops.specs.FirstLoops.{AllJoin, NeedsHaveLoop}
+use Rattle.loops.specs.FirstLoops.{AllJoin}
 use Rattle.loops.proofs.FromValid.{valid_join}
 use Rattle.lemmas.proofs.Members.{at_head, in_rest}
-use Rattle.loops.proofs.NeedLoops.{needs_loop, needs_within}
+use Rattle.loops.proofs.NeedLoops.{rising_needs}
 use Rattle.loops.proofs.Needs.{decision_there, edge_for, is_itself}
 use Rattle.lemmas.proofs.Searches.{passes_by}
 use Rattle.cluster_types.specs.declared.cluster.Cluster.{Cluster}
 use Rattle.cluster_types.specs.declared.journal.Event.{Event}
 use Rattle.cluster_types.specs.declared.journal.Promotion.{Promotion}
 use Rattle.cluster_types.specs.declared.placement.Decision.{Decision}
-use Rattle.cluster_types.specs.Decisions.{Decides, all_decisions, all_made, decisions, is_among, is_decision, is_ready, is_same_decision, needs, needs_through, one_more}
+use Rattle.cluster_types.specs.Decisions.{Decides, all_decisions, all_made, decisions, is_among, is_decision, is_ready, is_same_decision, needs, one_more}
 use Rattle.cluster_types.specs.Valid.{IsValid}
 use Rattle.plan_laws.proofs.MadeOnes.{Known, known, never_both, there}
 
@@ -48,16 +46,8 @@ module _ (c : Cluster) (valid : IsValid c) where
   joined : AllJoin c
   joined = valid_join c valid.colocations
 
-  free : HasNoLoop (2 * length c.leaves) (need_edges c)
-  free = elim (loop_or_none (2 * length c.leaves) (need_edges c) (needs_within c joined)) [
-    | inl loop ↦
-        let l : NeedsHaveLoop c = needs_loop c joined loop in
-        absurd (never_both (needs_through c (all_decisions c) (length (all_decisions c)) l.decision l.decision) l.needed (valid.needs l.decision))
-    | inr none ↦ none
-  ]
-
   pub rising : RiseSomehow (need_edges c)
-  rising = rise_somehow (2 * length c.leaves) (need_edges c) (needs_within c joined) free
+  rising = rising_needs c joined valid.needs
 
   -- what is needed stands higher
   abbrev pub height : Decision → ℕ
