@@ -5,6 +5,7 @@ pub mod Sound
 pub mod Outcome
 pub mod Roles
 pub mod ResolvedRoles
+pub mod Loopless
 pub mod Limits
 pub mod Closing
 pub mod NodePlaces

@@ -5,10 +5,8 @@ use Rattle.std.specs.Option.{option_or}
 use Rattle.faults.proofs.Steps.{unless-ok}
 use Rattle.cluster_types.specs.declared.cluster.Cluster.{Cluster}
 use Rattle.cluster_types.specs.declared.leaf.Leaf.{Leaf}
-use Rattle.cluster_types.specs.Decisions.{NeedsHaveNoLoop}
-use Rattle.cluster_types.specs.Numbers.{StepsHaveNoLoop}
 use Rattle.loops.specs.FirstLoops.{has_need_loop, has_step_loop}
-use Rattle.loops.proofs.LoopTests.{need_of_none, no_needs, no_steps, step_of_none}
+use Rattle.loops.proofs.LoopTests.{no_need_found, no_step_found}
 use Rattle.crm_parse.specs.declared.statement.Statement.{Statement}
 use Rattle.cluster_model.specs.declared.expansion.leaves.Leaves.{Leaves}
 use Rattle.cluster_model.specs.declared.resolution.directory.Directory.{Directory}
@@ -38,20 +36,21 @@ pub none-own : (d : Directory) (leaves : List Leaf) (statements : List Statement
     → first_fault (own_cause d) [] statements ≡ None
 none-own d leaves statements c h = second-none _ _ (sym (split (own_cause d) (loop_cause d leaves) [] statements) ∙ h.no_fault)
 
+-- the tests find no loop
 pub record IsLoopless (c : Cluster) : Type 0 where
-  pub needs : NeedsHaveNoLoop c
-  pub steps : StepsHaveNoLoop c
+  pub needs : has_need_loop c ≡ false
+  pub steps : has_step_loop c ≡ false
 
 none-looped : (c : Cluster) → cause_of_loops c ≡ None → IsLoopless c
 none-looped c h = on (has_need_loop c) (has_step_loop c) refl refl h where
   on : (a b : Bool) → has_need_loop c ≡ a → has_step_loop c ≡ b → cond a (Some ColocationLoop) (cond b (Some OrderLoop) None) ≡ None → IsLoopless c
   on true b e f h = absurd cc
   on false true e f h = absurd cc
-  on false false e f h = record { needs = need_of_none c e; steps = step_of_none c f }
+  on false false e f h = record { needs = e; steps = f }
 
 without-rules : (d : Directory) (leaves : List Leaf) → IsLoopless (cluster_of d leaves [])
 unfolding cluster_of
-without-rules d leaves = record { needs = no_needs (cluster_of d leaves []) refl; steps = no_steps (cluster_of d leaves []) refl }
+without-rules d leaves = record { needs = no_need_found (cluster_of d leaves []) refl; steps = no_step_found (cluster_of d leaves []) refl }
 
 second-none-cause : (one other : Option ModelCause) → option_or one other ≡ None → other ≡ None
 second-none-cause None other h = h

@@ -35,7 +35,7 @@ use Rattle.cluster_model.proofs.EachOf.{of_all, pairs_map}
 use Rattle.cluster_model.proofs.LeavesValid.{leaves-valid}
 use Rattle.cluster_model.proofs.Limits.{limits_kept}
 use Rattle.cluster_model.proofs.NodePlaces.{location-node, node_names}
-use Rattle.cluster_model.proofs.Outcome.{resolved-loopless}
+use Rattle.cluster_model.proofs.Loopless.{needs_without_loop, steps_without_loop}
 use Rattle.cluster_model.proofs.ReadNames.{AreRead, NamedColocation, NamedLocation, NamedNode, NamedOrder, NamedRule, colocations-named, locations-named, nodes-named, orders-named, rules-named}
 use Rattle.cluster_model.proofs.ResolvedRoles.{colocations, is-clean, locations, orders, rule_locations, sound}
 
@@ -142,21 +142,19 @@ module _ (statements : List Statement) (leaves : Leaves) (c : Cluster) (read : A
       }
 
   pub statements-valid : IsValid c
-  statements-valid =
-      let loopless = resolved-loopless leaves statements c r in
-      record {
-        limits = limits_kept statements leaves c e r;
-        nodes = node-valid;
-        leaves = leaf-valid;
-        locations = location-valid;
-        rule_locations = rule-valid;
-        colocations = colocation-valid;
-        orders = order-valid;
-        node_names = subst (AllPairs (λ (one other : Node). one.name ≢ other.name)) (sym nodes-are) (nodes-apart statements expanded.none);
-        leaf_names = subst (AllPairs (λ (one other : Leaf). one.name ≢ other.name)) (sym leaves-are) (names_differ statements expanded.none);
-        needs = loopless.needs;
-        steps = loopless.steps;
-      }
+  statements-valid = record {
+    limits = limits_kept statements leaves c e r;
+    nodes = node-valid;
+    leaves = leaf-valid;
+    locations = location-valid;
+    rule_locations = rule-valid;
+    colocations = colocation-valid;
+    orders = order-valid;
+    node_names = subst (AllPairs (λ (one other : Node). one.name ≢ other.name)) (sym nodes-are) (nodes-apart statements expanded.none);
+    leaf_names = subst (AllPairs (λ (one other : Leaf). one.name ≢ other.name)) (sym leaves-are) (names_differ statements expanded.none);
+    needs = needs_without_loop leaves statements c r;
+    steps = steps_without_loop leaves statements c r;
+  }
 
 -- the cluster that some lines resolve to is valid
 pub resolved_valid : (lines : List Line) (crm : Crm) (leaves : Leaves) (c : Cluster) → statements_of lines ≡ Ok crm → expansion_of crm.statements ≡ Ok leaves
