@@ -18,7 +18,7 @@ use Rattle.cluster_types.specs.Answering.{end_event, is_number_of, monitor_actio
 use Rattle.cluster_types.specs.Journals.{is_on, moment_of}
 use Rattle.cluster_types.specs.declared.cluster.Cluster.{Cluster}
 use Rattle.cluster_types.specs.Safety.{is_answered, is_gone, without_gone}
-use Rattle.cluster_types.specs.Steps.{Transition, Goes, IsWaiting, here, one_more, StepsOn, begins, takes, is_silent, ended, answer_events, begins_number, flying, aborts, has_aborted, has_begun, journal, silent_code}
+use Rattle.cluster_types.specs.Steps.{Transition, Goes, IsWaiting, here, one_more, StepsOn, begins, takes, is_silent, ended, answer_events, begins_number, in_flight_by_number, aborts, has_aborted, has_begun, journal, silent_code}
 use Rattle.cluster_types.proofs.StepLaws.{split, map_all, joined_all, not_begun, begins_nothing}
 
 -- Events without those at their end that are gone.
@@ -83,11 +83,11 @@ timeout-brings m (Some p) = one (Ended p.0 p.1 TimedOut m) refl refl
 timeout-brings m None = nothing
 
 answer-brings : (t : Transition) (since : List Event) (given : Answer) → Brings (answer_events t since given)
-answer-brings t since (answer.End k code) = code-brings (moment_of (journal t since)) code (find (is_number_of k) (flying t since))
-answer-brings t since (answer.Timeout k) = timeout-brings (moment_of (journal t since)) (find (is_number_of k) (flying t since))
+answer-brings t since (answer.End k code) = code-brings (moment_of (journal t since)) code (find (is_number_of k) (in_flight_by_number t since))
+answer-brings t since (answer.Timeout k) = timeout-brings (moment_of (journal t since)) (find (is_number_of k) (in_flight_by_number t since))
 answer-brings t since (answer.Lost n) =
-    brings (map (end_event t.cluster (journal t since) (flying t since) Gone) (filter (λ (p : ℕ × Action). is_on n p.1) (flying t since))) (Lost n)
-    (map_all is_gone (end_event t.cluster (journal t since) (flying t since) Gone) (λ p. refl) (filter (λ (p : ℕ × Action). is_on n p.1) (flying t since)))
+    brings (map (end_event t.cluster (journal t since) (in_flight_by_number t since) Gone) (filter (λ (p : ℕ × Action). is_on n p.1) (in_flight_by_number t since))) (Lost n)
+    (map_all is_gone (end_event t.cluster (journal t since) (in_flight_by_number t since) Gone) (λ p. refl) (filter (λ (p : ℕ × Action). is_on n p.1) (in_flight_by_number t since)))
     refl refl (λ h. refl)
 answer-brings t since (answer.Up n) = one (Up n) refl refl
 answer-brings t since (answer.Quorum now) = one (Quorum now) refl refl
@@ -203,7 +203,7 @@ module _ (t : Transition) (since : List Event) (keeps : Keeps t since) where
     gone_aborts = gone_or_aborted t since keeps (Begin k a ∷ []) (λ h. cc);
   }
   step-keeps whole _ rest left (takes _ _ given said taken) = bring-keeps taken.waiting (answer_events t since given) (answer-brings t since given)
-  step-keeps whole _ rest left (is_silent _ _ k a said ends) = bring-keeps ends.waiting (ended t since k (Code (silent_code a))) (code-brings (moment_of (journal t since)) (silent_code a) (find (is_number_of k) (flying t since)))
+  step-keeps whole _ rest left (is_silent _ _ k a said ends) = bring-keeps ends.waiting (ended t since k (Code (silent_code a))) (code-brings (moment_of (journal t since)) (silent_code a) (find (is_number_of k) (in_flight_by_number t since)))
 
 pub keeps-on : (t : Transition) (whole : Bool) (since later : List Event) (rest left : Option (List Answer)) → Goes t whole since rest later left
     → Keeps t since → Keeps t later

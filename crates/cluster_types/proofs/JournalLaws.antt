@@ -10,10 +10,10 @@ use Rattle.cluster_types.specs.declared.journal.Event.{Event}
 use Rattle.cluster_types.specs.declared.journal.Event.TheVariants.{Up, Down, Lost, Quorum, Wait, Cleanup, Begin, Ended}
 use Rattle.cluster_types.proofs.Booleans.{clash}
 use Rattle.cluster_types.proofs.StepLaws.{begins_nothing}
-use Rattle.cluster_types.specs.Journals.{NodeWord, online, offline, unclean, unsaid, NodeSign, joined, in_flight, sign_of, last_sign, wants_node, Orderly, is_reported, leaving, first_events}
+use Rattle.cluster_types.specs.Journals.{NodeWord, online, offline, unclean, unsaid, NodeSign, joined, in_flight_by_begin, sign_of, last_sign, wants_node, Orderly, is_reported, leaving, first_events}
 
 -- events that begin nothing leave nothing in flight
-pub nothing_begun : (es : List Event) → list_all begins_nothing es ≡ true → in_flight es ≡ []
+pub nothing_begun : (es : List Event) → list_all begins_nothing es ≡ true → in_flight_by_begin es ≡ []
 nothing_begun [] h = refl
 nothing_begun (Begin k a ∷ es) h = cc
 nothing_begun (Up n ∷ es) h = nothing_begun es h
@@ -57,7 +57,7 @@ reports_begin_nothing nodes (e ∷ es) h = cc
 
 -- the first journal has nothing in flight
 pub nothing-in-flight : (c : Cluster) (history : List Event) (words : List NodeWord) (quorum : Bool) (now : ℕ)
-    → list_all (is_reported (length c.nodes)) history ≡ true → in_flight (first_events c history words quorum now) ≡ []
+    → list_all (is_reported (length c.nodes)) history ≡ true → in_flight_by_begin (first_events c history words quorum now) ≡ []
 nothing-in-flight c history words quorum now h =
     let joins = map Up (range_with_len 0 (length c.nodes)) in
     let leaves = flat_map (leaving c) (enumerate_from 0 words) in

@@ -12,7 +12,7 @@ use Rattle.cluster_types.specs.declared.leaf.Role.TheVariants as role
 use Rattle.cluster_types.specs.declared.run.Passed.{Passed}
 use Rattle.cluster_types.specs.declared.run.PassedEnd.TheVariants.{Complete}
 use Rattle.cluster_types.specs.declared.run.RunLine.TheVariants as line
-use Rattle.cluster_types.specs.Journals.{in_flight}
+use Rattle.cluster_types.specs.Journals.{in_flight_by_begin}
 use Rattle.cluster_types.specs.Safety.{without_gone}
 use Rattle.cluster_types.specs.Steps.{Transition, answer_events, resting}
 use Rattle.cluster_types.specs.Texts.{all_passed_lines, between, event_lines}
@@ -21,7 +21,7 @@ use Rattle.cluster_types.proofs.SmallRuns.{transition}
 
 -- Actions are in flight in the order in which they began, and not of their numbers.
 
-began_later : in_flight (Begin 1 (Probe 0 0) ∷ Begin 2 (Probe 1 0) ∷ Ended 2 (Probe 1 0) (Code 7) 0 ∷ Begin 4 (step Start 1 0) ∷ Ended 1 (Probe 0 0) (Code 7) 0 ∷ Begin 3 (step Start 0 0) ∷ [])
+began_later : in_flight_by_begin (Begin 1 (Probe 0 0) ∷ Begin 2 (Probe 1 0) ∷ Ended 2 (Probe 1 0) (Code 7) 0 ∷ Begin 4 (step Start 1 0) ∷ Ended 1 (Probe 0 0) (Code 7) 0 ∷ Begin 3 (step Start 0 0) ∷ [])
     ≡ (4, step Start 1 0) ∷ (3, step Start 0 0) ∷ []
 began_later = refl
 

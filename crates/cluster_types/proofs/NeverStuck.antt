@@ -11,7 +11,7 @@ use Rattle.cluster_types.specs.declared.journal.Event.TheVariants.{Ended}
 use Rattle.cluster_types.specs.declared.journal.Outcome.TheVariants.{Code, TimedOut, Gone}
 use Rattle.cluster_types.specs.Journals.{ends_number}
 use Rattle.cluster_types.specs.Safety.{is_gone}
-use Rattle.cluster_types.specs.Steps.{Transition, aborts, all_succeeded, flight, has_aborted, has_begun, has_ended, has_room, has_succeeded, is_in_flight_number, is_settled, is_success, may_begin, numbers, succeeds_number}
+use Rattle.cluster_types.specs.Steps.{Transition, aborts, all_succeeded, numbers_in_flight, has_aborted, has_begun, has_ended, has_room, has_succeeded, is_number_in_flight, is_settled, is_success, may_begin, numbers, succeeds_number}
 
 left_out : (b : Bool) (x : ℕ) (xs : List ℕ) → cond b (x ∷ xs) xs ≡ [] → (not b ≡ true) × (xs ≡ [])
 left_out true x xs h = cc
@@ -43,12 +43,12 @@ succeeded-of_ended c k (x ∷ xs) h g e =
 
 module _ (t : Transition) (events : List Event) (upward : (j k : ℕ) → t.precedes j k ≡ true → j < k)
     (unaborted : has_aborted t events ≡ false) (none_gone : list_any is_gone events ≡ false)
-    (idle : flight t events ≡ []) (settled : is_settled t events ≡ true) where
+    (idle : numbers_in_flight t events ≡ []) (settled : is_settled t events ≡ true) where
   -- with nothing in flight there is room
   room : has_room t events ≡ true
   room = of_limit t.cluster.properties.batch_limit (t.cluster.properties.batch_limit == 0) refl
     where
-      of_limit : (limit : ℕ) (none : Bool) → (limit == 0) ≡ none → limit == 0 || nat_lt (length (flight t events)) limit ≡ true
+      of_limit : (limit : ℕ) (none : Bool) → (limit == 0) ≡ none → limit == 0 || nat_lt (length (numbers_in_flight t events)) limit ≡ true
       of_limit limit true e = rw e refl
       of_limit limit false e = rw idle (grind arith)
 
@@ -68,7 +68,7 @@ module _ (t : Transition) (events : List Event) (upward : (j k : ℕ) → t.prec
   done k low high begun =
       succeeded-of_ended t.cluster k events unaborted none_gone
       (unless (has_begun t events k) (has_ended t events k) begun
-      (none_in_range (is_in_flight_number t events) 1 (length t.actions) k (omega arith) (omega arith) idle))
+      (none_in_range (is_number_in_flight t events) 1 (length t.actions) k (omega arith) (omega arith) idle))
 
   up_to : (bound k : ℕ) → 0 < k → k < bound → k ≤ length t.actions → has_succeeded t events k ≡ true
   up_to zero k low below high = absurd (let f : ⊥ = omega arith in f)

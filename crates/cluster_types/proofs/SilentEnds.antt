@@ -9,7 +9,7 @@ use Rattle.cluster_types.specs.declared.journal.Action.{Action}
 use Rattle.cluster_types.specs.declared.journal.Event.{Event}
 use Rattle.cluster_types.specs.declared.journal.Outcome.TheVariants.{Code}
 use Rattle.cluster_types.specs.Answering.{end_event, is_number_of}
-use Rattle.cluster_types.specs.Steps.{Transition, EndsSilently, ended, flying, is_in_flight_number, journal, numbered, silent_code, silent_end}
+use Rattle.cluster_types.specs.Steps.{Transition, EndsSilently, ended, in_flight_by_number, is_number_in_flight, journal, numbered, silent_code, silent_end}
 
 module _ (actions : List Action) (in_flight : ℕ → Bool) where
   abbrev with_action : ℕ → List (ℕ × Action)
@@ -49,8 +49,8 @@ module _ (t : Transition) (since : List Event) (k : ℕ) (a : Action) where
       ≡ silent_end t.cluster (journal t since) flight
   of_first flight rest e = let f : (k == k) ≡ true = grind arith in rw e (rw f refl)
 
-  pub silent_end-is : EndsSilently t since k a → ended t since k (Code (silent_code a)) ≡ silent_end t.cluster (journal t since) (flying t since)
+  pub silent_end-is : EndsSilently t since k a → ended t since k (Code (silent_code a)) ≡ silent_end t.cluster (journal t since) (in_flight_by_number t since)
   silent_end-is ends =
       let within = number_within t.actions k a ends.action in
-      let first = first_is t.actions (is_in_flight_number t since) k a 1 (length t.actions) ends.action ends.in_flight ends.lowest (omega (arith, within.0)) within.1 in
-      of_first (flying t since) first.0 first.1
+      let first = first_is t.actions (is_number_in_flight t since) k a 1 (length t.actions) ends.action ends.in_flight ends.lowest (omega (arith, within.0)) within.1 in
+      of_first (in_flight_by_number t since) first.0 first.1

@@ -12,7 +12,7 @@ use Rattle.cluster_types.specs.declared.journal.Event.TheVariants.{Begin}
 use Rattle.cluster_types.specs.declared.journal.Promotion.{Promotion}
 use Rattle.cluster_types.specs.declared.placement.Placed.{Placed}
 use Rattle.cluster_types.specs.Graphs.{GraphOf}
-use Rattle.cluster_types.specs.Journals.{in_flight, ends_number}
+use Rattle.cluster_types.specs.Journals.{in_flight_by_begin, ends_number}
 use Rattle.cluster_types.specs.Plans.{CarriesOut, transition_of, transition_on}
 use Rattle.cluster_types.specs.Sources.{untold}
 use Rattle.cluster_types.specs.Steps.{Transition, StepsOn, begins, takes, is_silent, Goes, here, one_more}
@@ -45,12 +45,12 @@ pub carries-out : (c : Cluster) (es : List Event) (promotions : List Promotion) 
 carries-out c es promotions placed g out = ap (with_precedes c es g.actions) (fun_ext (λ j. fun_ext (λ k. out.pairs j k)))
 
 -- what has ended stays ended
-pub none-in_flight : (es since : List Event) → in_flight es ≡ [] → in_flight (es ++ since) ≡ in_flight since
+pub none-in_flight : (es since : List Event) → in_flight_by_begin es ≡ [] → in_flight_by_begin (es ++ since) ≡ in_flight_by_begin since
 none-in_flight [] since h = refl
 none-in_flight (Begin k a ∷ es) since h = by_end (list_any (ends_number k) es) refl h (none-in_flight es since)
   where
-    by_end : (b : Bool) → list_any (ends_number k) es ≡ b → (if b then in_flight es else (k, a) ∷ in_flight es) ≡ []
-        → (in_flight es ≡ [] → in_flight (es ++ since) ≡ in_flight since) → in_flight (Begin k a ∷ (es ++ since)) ≡ in_flight since
+    by_end : (b : Bool) → list_any (ends_number k) es ≡ b → (if b then in_flight_by_begin es else (k, a) ∷ in_flight_by_begin es) ≡ []
+        → (in_flight_by_begin es ≡ [] → in_flight_by_begin (es ++ since) ≡ in_flight_by_begin since) → in_flight_by_begin (Begin k a ∷ (es ++ since)) ≡ in_flight_by_begin since
     by_end true e h f = rw (list_any-append (ends_number k) es since) (rw e (f h))
     by_end false e h f = cc
 none-in_flight (e ∷ es) since h = none-in_flight es since h

@@ -16,7 +16,7 @@ use Rattle.cluster_types.specs.declared.journal.Outcome.TheVariants.{Gone}
 use Rattle.cluster_types.specs.Answering.{end_event, is_number_of}
 use Rattle.cluster_types.specs.Journals.{is_on, moment_of}
 use Rattle.cluster_types.specs.Safety.{AtEachBegin, PredecessorsFirst}
-use Rattle.cluster_types.specs.Steps.{Transition, Begins, Goes, here, one_more, StepsOn, begins, takes, is_silent, action_at, ended, answer_events, flying, journal, has_aborted, has_begun, has_room, has_succeeded, may_begin, numbers}
+use Rattle.cluster_types.specs.Steps.{Transition, Begins, Goes, here, one_more, StepsOn, begins, takes, is_silent, action_at, ended, answer_events, in_flight_by_number, journal, has_aborted, has_begun, has_room, has_succeeded, may_begin, numbers}
 
 -- an event of a joined list stands in the one or in the other
 pub split : (R : Type 0) (xs ys before after : List Event) (e : Event) → xs ++ ys ≡ before ++ e ∷ after
@@ -69,14 +69,14 @@ flat_all p f h (k ∷ ks) = joined_all p (f k) (flat_map f ks) (h k) (flat_all p
 
 module _ (t : Transition) (since : List Event) where
   end-begins_nothing : (k : ℕ) (o : Outcome) → list_all begins_nothing (ended t since k o) ≡ true
-  end-begins_nothing k o = ended-begins_nothing (moment_of (journal t since)) o (find (is_number_of k) (flying t since))
+  end-begins_nothing k o = ended-begins_nothing (moment_of (journal t since)) o (find (is_number_of k) (in_flight_by_number t since))
 
   answer-begins_nothing : (given : Answer) → list_all begins_nothing (answer_events t since given) ≡ true
   answer-begins_nothing (answer.End k code) = end-begins_nothing k _
   answer-begins_nothing (answer.Timeout k) = end-begins_nothing k _
   answer-begins_nothing (answer.Lost n) =
-      joined_all begins_nothing (map (end_event t.cluster (journal t since) (flying t since) Gone) (filter (λ (p : ℕ × Action). is_on n p.1) (flying t since))) _
-      (map_all begins_nothing (end_event t.cluster (journal t since) (flying t since) Gone) (λ p. refl) (filter (λ (p : ℕ × Action). is_on n p.1) (flying t since))) refl
+      joined_all begins_nothing (map (end_event t.cluster (journal t since) (in_flight_by_number t since) Gone) (filter (λ (p : ℕ × Action). is_on n p.1) (in_flight_by_number t since))) _
+      (map_all begins_nothing (end_event t.cluster (journal t since) (in_flight_by_number t since) Gone) (λ p. refl) (filter (λ (p : ℕ × Action). is_on n p.1) (in_flight_by_number t since))) refl
   answer-begins_nothing (answer.Up n) = refl
   answer-begins_nothing (answer.Quorum now) = refl
   answer-begins_nothing (answer.Wait seconds) = refl

@@ -54,13 +54,13 @@ abbrev pub is_number_of : ℕ → ℕ × Action → Bool
 is_number_of k p = p.0 == k
 
 -- after a journal, with these actions in flight, by their numbers
-module _ (c : Cluster) (es : List Event) (flight : List (ℕ × Action)) where
-  abbrev pub is_flying : ℕ → Bool
-  is_flying k = list_any (is_number_of k) flight
+module _ (c : Cluster) (es : List Event) (in_flight : List (ℕ × Action)) where
+  abbrev pub is_in_flight : ℕ → Bool
+  is_in_flight k = list_any (is_number_of k) in_flight
 
   -- nothing of the cell is in flight, and no migration to it
   abbrev pub is_quiet_cell : ℕ → ℕ → Bool
-  is_quiet_cell r n = not (list_any (λ (p : ℕ × Action). is_of_cell r n p.1 || is_sent_to r n p.1) flight)
+  is_quiet_cell r n = not (list_any (λ (p : ℕ × Action). is_of_cell r n p.1 || is_sent_to r n p.1) in_flight)
 
   -- the report says something new: the node is online, the leaf may run there, the code is bad and not ignored, and the cell is quiet
   abbrev pub tells_news : ℕ → ℕ → ℕ → ℕ → Bool
@@ -70,8 +70,8 @@ module _ (c : Cluster) (es : List Event) (flight : List (ℕ × Action)) where
 
   -- the answer applies, when so many from outside were taken
   abbrev pub applies_after : ℕ → Answer → Bool
-  applies_after taken (answer.End k code) = is_flying k
-  applies_after taken (answer.Timeout k) = is_flying k
+  applies_after taken (answer.End k code) = is_in_flight k
+  applies_after taken (answer.Timeout k) = is_in_flight k
   applies_after taken (answer.Lost n) = nat_lt taken most_from_outside && nat_lt n (length c.nodes) && is_joined_sign (last_sign n es)
   applies_after taken (answer.Up n) = nat_lt taken most_from_outside && nat_lt n (length c.nodes) && is_offline_state (node_state c n es)
   applies_after taken (answer.Quorum now) = nat_lt taken most_from_outside
@@ -83,13 +83,13 @@ module _ (c : Cluster) (es : List Event) (flight : List (ℕ × Action)) where
   end_event o p = Ended p.0 p.1 o (moment_of es)
 
   abbrev pub end_events : ℕ → Outcome → List Event
-  end_events k o = option_map_or (λ p. end_event o p ∷ []) (find (is_number_of k) flight) []
+  end_events k o = option_map_or (λ p. end_event o p ∷ []) (find (is_number_of k) in_flight) []
 
   -- what an answer adds to the journal. At a loss each action of a cell on the node is gone, in the order of their numbers; fences stay in flight
   abbrev pub added_by : Answer → List Event
   added_by (answer.End k code) = end_events k (Code code)
   added_by (answer.Timeout k) = end_events k TimedOut
-  added_by (answer.Lost n) = map (end_event Gone) (filter (λ (p : ℕ × Action). is_on n p.1) flight) ++ Lost n ∷ []
+  added_by (answer.Lost n) = map (end_event Gone) (filter (λ (p : ℕ × Action). is_on n p.1) in_flight) ++ Lost n ∷ []
   added_by (answer.Up n) = Up n ∷ []
   added_by (answer.Quorum now) = Quorum now ∷ []
   added_by (answer.Wait seconds) = Wait seconds ∷ []

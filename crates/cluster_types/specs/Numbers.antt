@@ -1,5 +1,5 @@
 -- The order in which actions are numbered (rule of this project).
-use Rattle.std.specs.Prelude.{◌≡◌, ◌≢◌, ◌↔◌, ℕ, suc, zero, ◌+◌, ◌*◌, nat_lt, ◌==◌, ◌&&◌, ◌||◌, Bool, true, false, not, if◌then◌else◌, List, [], ◌∷◌, ◌++◌, length, map, filter, fold, max, Contains, AllPairs}
+use Rattle.std.specs.Prelude.{◌≡◌, ◌≢◌, ◌↔◌, ℕ, suc, zero, ◌+◌, ◌*◌, nat_lt, ◌==◌, ◌&&◌, ◌||◌, Bool, true, not, if◌then◌else◌, List, [], ◌∷◌, ◌++◌, length, map, filter, fold, max, Contains, AllPairs}
 use Rattle.std.specs.List.{flat_map, range_with_len}
 use Rattle.edges.specs.Chains.{HaveNoRing, IsLinked, IsLongestChain}
 use Rattle.cluster_types.specs.declared.cluster.Cluster.{Cluster}

@@ -24,7 +24,7 @@ use Rattle.cluster_types.specs.declared.journal.Promotion.{Promotion}
 use Rattle.cluster_types.specs.CellStates.{cell_state}
 use Rattle.cluster_types.specs.Choice.{is_separation}
 use Rattle.cluster_types.specs.Fields.{copies, promoted_copies}
-use Rattle.cluster_types.specs.Journals.{Orderly, in_flight}
+use Rattle.cluster_types.specs.Journals.{Orderly, in_flight_by_begin}
 use Rattle.cluster_types.specs.May.{may, may_promoted}
 use Rattle.cluster_types.specs.NodeStates.{is_online, node_state}
 use Rattle.cluster_types.specs.Pins.{is_pinned}
@@ -32,7 +32,7 @@ use Rattle.cluster_types.specs.Plans.{IsPlan}
 use Rattle.cluster_types.specs.Precedence.{CellOf, gives_role, op_cell}
 use Rattle.cluster_types.specs.Rights.{is_to_be_fenced}
 use Rattle.cluster_types.specs.Runs.{RunStanding, Runs, due, amid, idle}
-use Rattle.cluster_types.specs.Steps.{Transition, HasEnded, IsWaiting, action_at, all_succeeded, begins_number, flight, has_aborted, has_succeeded, is_settled, journal, succeeds_number}
+use Rattle.cluster_types.specs.Steps.{Transition, HasEnded, IsWaiting, action_at, all_succeeded, begins_number, numbers_in_flight, has_aborted, has_succeeded, is_settled, journal, succeeds_number}
 use Rattle.cluster_types.specs.Tables.{Targets, is_promoted_target, is_somewhere, targets_of}
 
 -- at each begin among the events this holds, of the events before it and the action with its number
@@ -125,7 +125,7 @@ module _ (t : Transition) where
     pub begins_once : (k : ℕ) → count_by (begins_number k) events ≤ 1
     pub begins_its_own : AtEachBegin (λ before k a. action_at t k ≡ Some a) events
     pub none_after_abort : AtEachBegin (λ before k a. has_aborted t before ≡ false) events
-    pub never_stuck : has_aborted t events ≡ false → flight t events ≡ [] → is_settled t events ≡ true → all_succeeded t events ≡ true
+    pub never_stuck : has_aborted t events ≡ false → numbers_in_flight t events ≡ [] → is_settled t events ≡ true → all_succeeded t events ≡ true
 
   -- all that holds at every moment of a transition
   pub record IsSafe (events : List Event) : Type 0 where
@@ -153,7 +153,7 @@ module _ (t : Transition) where
 
 -- the journal is in order, and nothing is in flight
 abbrev pub IsAtRest : List Event → Type 0
-IsAtRest es = Orderly es × (in_flight es ≡ [])
+IsAtRest es = Orderly es × (in_flight_by_begin es ≡ [])
 
 -- what holds where a run stands: between transitions it is at rest; amid one the journal is in order, the transition is safe, and once it ends unaborted it
 -- has ended in the targets of its plan

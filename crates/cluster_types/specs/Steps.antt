@@ -35,7 +35,7 @@ silent_code _ = success
 
 -- what is added when nothing more is said: of the actions in flight, in the order of their numbers, the first ends with its silent code
 abbrev pub silent_end : Cluster → List Event → List (ℕ × Action) → List Event
-silent_end c es flight = option_map_or (λ (p : ℕ × Action). end_event c es flight (Code (silent_code p.1)) p ∷ []) (slice_get flight 0) []
+silent_end c es in_flight = option_map_or (λ (p : ℕ × Action). end_event c es in_flight (Code (silent_code p.1)) p ∷ []) (slice_get in_flight 0) []
 
 -- the outcome is a success: an expected exit code, or one that is ignored
 abbrev pub is_success : Cluster → Action → Outcome → Bool
@@ -106,16 +106,16 @@ module _ (t : Transition) where
     has_aborted = list_any (aborts t.cluster) since
 
     -- the action of this number is in flight
-    abbrev pub is_in_flight_number : ℕ → Bool
-    is_in_flight_number k = has_begun k && not (has_ended k)
+    abbrev pub is_number_in_flight : ℕ → Bool
+    is_number_in_flight k = has_begun k && not (has_ended k)
 
     -- the numbers in flight, ascending
-    abbrev pub flight : List ℕ
-    flight = filter is_in_flight_number numbers
+    abbrev pub numbers_in_flight : List ℕ
+    numbers_in_flight = filter is_number_in_flight numbers
 
     -- fewer actions than the batch limit are in flight (Pacemaker Explained, "batch-limit"); 0 is no limit (rule of this project)
     abbrev pub has_room : Bool
-    has_room = t.cluster.properties.batch_limit == 0 || nat_lt (length flight) t.cluster.properties.batch_limit
+    has_room = t.cluster.properties.batch_limit == 0 || nat_lt (length numbers_in_flight) t.cluster.properties.batch_limit
 
     -- the action of this number may begin
     abbrev pub may_begin : ℕ → Bool
@@ -127,9 +127,10 @@ module _ (t : Transition) where
     abbrev pub is_settled : Bool
     is_settled = not (list_any may_begin numbers)
 
-    -- what is in flight, in the order of their numbers
-    abbrev pub flying : List (ℕ × Action)
-    flying = flat_map (λ k. option_map_or (λ a. (k, a) ∷ []) (action_at k) []) flight
+    -- what is in flight, by number: each number in flight with its action. The same actions are in flight by begin
+    -- (`both_say_what_is_in_flight` of crate `run_safety`)
+    abbrev pub in_flight_by_number : List (ℕ × Action)
+    in_flight_by_number = flat_map (λ k. option_map_or (λ a. (k, a) ∷ []) (action_at k) []) numbers_in_flight
 
     -- how many answers from outside were taken
     abbrev pub outside : ℕ
@@ -137,15 +138,15 @@ module _ (t : Transition) where
 
     -- the answer applies now (rule of this project)
     abbrev pub Applies : Answer → Type 0
-    Applies given = applies_after t.cluster journal flying outside given ≡ true
+    Applies given = applies_after t.cluster journal in_flight_by_number outside given ≡ true
 
     -- the action of this number ends so, now
     abbrev pub ended : ℕ → Outcome → List Event
-    ended k o = end_events t.cluster journal flying k o
+    ended k o = end_events t.cluster journal in_flight_by_number k o
 
     -- what an answer adds to the journal (rule of this project)
     abbrev pub answer_events : Answer → List Event
-    answer_events given = added_by t.cluster journal flying given
+    answer_events given = added_by t.cluster journal in_flight_by_number given
 
     -- of the actions that may begin, the one of lowest number begins
     pub record Begins (k : ℕ) (a : Action) : Type 0 where
@@ -156,7 +157,7 @@ module _ (t : Transition) where
     -- the transition waits for an answer: none may begin, and something is in flight
     pub record IsWaiting : Type 0 where
       pub settled : is_settled ≡ true
-      pub busy : 0 < length flight
+      pub busy : 0 < length numbers_in_flight
 
     -- an answer is taken: the transition waits for one, and it applies
     pub record TakesAnswer (given : Answer) : Type 0 where
@@ -167,13 +168,13 @@ module _ (t : Transition) where
     pub record EndsSilently (k : ℕ) (a : Action) : Type 0 where
       pub waiting : IsWaiting
       pub action : action_at k ≡ Some a
-      pub in_flight : is_in_flight_number k ≡ true
-      pub lowest : (j : ℕ) → is_in_flight_number j ≡ true → k ≤ j
+      pub in_flight : is_number_in_flight k ≡ true
+      pub lowest : (j : ℕ) → is_number_in_flight j ≡ true → k ≤ j
 
     -- the transition has ended: none may begin, and nothing is in flight
     pub record HasEnded : Type 0 where
       pub settled : is_settled ≡ true
-      pub idle : flight ≡ []
+      pub idle : numbers_in_flight ≡ []
 
     -- each action has succeeded
     abbrev pub all_succeeded : Bool

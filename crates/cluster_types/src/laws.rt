@@ -10,14 +10,14 @@ ghost use Rattle.cluster_types.specs.Numbers.{AreNumbered};
 ghost use Rattle.cluster_types.specs.Precedence.{must_precede};
 ghost use Rattle.cluster_types.specs.Precedes.{Precedes};
 ghost use Rattle.cluster_types.specs.Safety.{IsEager, PredecessorsFirst};
-ghost use Rattle.cluster_types.specs.Steps.{Applies, EndsSilently, Goes, Transition, ended, answer_events, flying, journal, resting, silent_code, silent_end};
+ghost use Rattle.cluster_types.specs.Steps.{Applies, EndsSilently, Goes, Transition, ended, answer_events, in_flight_by_number, journal, resting, silent_code, silent_end};
 ghost use Rattle.cluster_types.specs.declared.journal.Outcome.TheVariants as outcome;
 ghost use Rattle.cluster_types.specs.Tables.{Targets, is_somewhere, load_of, with_cell};
 ghost use Rattle.cluster_types.specs.Failures.{is_fail_stopped};
 ghost use Rattle.cluster_types.specs.NodeStates.{node_state};
 ghost use Rattle.cluster_types.specs.Unpacked.{cell_at, states_of};
 ghost use Rattle.cluster_types.specs.declared.placement.Target.{Target as TargetOf};
-ghost use Rattle.cluster_types.specs.Journals.{NodeWord, Orderly, first_events, in_flight, is_reported, moment_of};
+ghost use Rattle.cluster_types.specs.Journals.{NodeWord, Orderly, first_events, in_flight_by_begin, is_reported, moment_of};
 ghost use Rattle.cluster_types.specs.Graphs.{GraphOf, IsBefore, IsGraph, LeadUpward, is_before};
 ghost use Rattle.edges.specs.Loops.{EndsWithin};
 ghost use Rattle.cluster_types.specs.May.{closes, closes_promoted, is_left_promoted, may, may_promoted, opens, opens_promoted};
@@ -47,7 +47,7 @@ pub fn promoted_may_run()
 /// The first journal has nothing in flight, whatever the status tells.
 pub fn first_journal_has_nothing_in_flight()
     ensures { (c : Cluster) (history : List Event) (words : List NodeWord) (quorum : Bool) (now : ℕ)
-        → list_all (is_reported (length c.nodes)) history ≡ true → in_flight (first_events c history words quorum now) ≡ [] }
+        → list_all (is_reported (length c.nodes)) history ≡ true → in_flight_by_begin (first_events c history words quorum now) ≡ [] }
 {}
 
 /// The first journal is in order: whatever the status tells of a node, the node has joined before it.
@@ -149,5 +149,5 @@ pub fn moments_stay_below_their_limit()
 /// When nothing more is said, it is the first in flight that ends.
 pub fn silent_ends_are_of_the_first_in_flight()
     ensures { (t : Transition) (since : List Event) (k : ℕ) (a : Action) → EndsSilently t since k a
-        → ended t since k (outcome.Code (silent_code a)) ≡ silent_end t.cluster (journal t since) (flying t since) }
+        → ended t since k (outcome.Code (silent_code a)) ≡ silent_end t.cluster (journal t since) (in_flight_by_number t since) }
 {}

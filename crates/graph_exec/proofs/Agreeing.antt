@@ -16,8 +16,8 @@ use Rattle.cluster_types.specs.declared.journal.Event.{Event}
 use Rattle.cluster_types.specs.declared.journal.Event.TheVariants.{Up, Down, Lost, Quorum, Wait, Cleanup, Begin, Ended}
 use Rattle.cluster_types.specs.Answering.{applies_after, is_number_of}
 use Rattle.cluster_types.specs.declared.journal.Outcome.TheVariants.{Code}
-use Rattle.cluster_types.specs.Journals.{IsFlight, ends_number, in_flight}
-use Rattle.cluster_types.specs.Steps.{Transition, action_at, begins_number, ended, flight, flying, has_begun, is_from_outside, is_in_flight_number, numbers, outside, silent_code}
+use Rattle.cluster_types.specs.Journals.{AreInFlightByNumber, ends_number, in_flight_by_begin}
+use Rattle.cluster_types.specs.Steps.{Transition, action_at, begins_number, ended, numbers_in_flight, in_flight_by_number, has_begun, is_from_outside, is_number_in_flight, numbers, outside, silent_code}
 use Rattle.cluster_types.proofs.SilentEnds.{silent_end-is}
 use Rattle.cluster_types.proofs.SourceLaws.{none-in_flight}
 use Rattle.run_safety.proofs.AtRest.{flown_always}
@@ -42,16 +42,16 @@ named_next false ps k p h = on (is_number_of k p) where
   on true = refl
   on false = h
 
-named : (k : ℕ) (es : List Event) → list_any (begins_number k) es ≡ true → list_any (ends_number k) es ≡ false → list_any (is_number_of k) (in_flight es) ≡ true
+named : (k : ℕ) (es : List Event) → list_any (begins_number k) es ≡ true → list_any (ends_number k) es ≡ false → list_any (is_number_of k) (in_flight_by_begin es) ≡ true
 named k [] h n = cc
 named k (Begin j a ∷ es) h n = on (j == k) refl h (named k es) where
   on : (b : Bool) → (j == k) ≡ b → (b || list_any (begins_number k) es) ≡ true
-      → (list_any (begins_number k) es ≡ true → list_any (ends_number k) es ≡ false → list_any (is_number_of k) (in_flight es) ≡ true)
-      → list_any (is_number_of k) (if list_any (ends_number j) es then in_flight es else (j, a) ∷ in_flight es) ≡ true
+      → (list_any (begins_number k) es ≡ true → list_any (ends_number k) es ≡ false → list_any (is_number_of k) (in_flight_by_begin es) ≡ true)
+      → list_any (is_number_of k) (if list_any (ends_number j) es then in_flight_by_begin es else (j, a) ∷ in_flight_by_begin es) ≡ true
   on true e h next =
       let open_still : list_any (ends_number j) es ≡ false = subst (λ z. list_any (ends_number z) es ≡ false) (sym (eqb-true j k e)) n in
       rw open_still (rw e refl)
-  on false e h next = named_next (list_any (ends_number j) es) (in_flight es) k (j, a) (next h n)
+  on false e h next = named_next (list_any (ends_number j) es) (in_flight_by_begin es) k (j, a) (next h n)
 named k (Up m ∷ es) h n = named k es h n
 named k (Down m ∷ es) h n = named k es h n
 named k (Lost m ∷ es) h n = named k es h n
@@ -83,11 +83,11 @@ module _ (t : Transition) (since : List Event) where
         at_head p ps (k, a) (pair_is p k a same action)
     on false e h next = in_rest p ps (k, a) (next h)
 
-  shown_flies : (k : ℕ) (a : Action) → Flies t since (k, a) → Contains (flying t since) (k, a)
+  shown_flies : (k : ℕ) (a : Action) → Flies t since (k, a) → Contains (in_flight_by_number t since) (k, a)
   shown_flies k a f =
       let within = number_within t.actions k a f.action in
-      in_flat (λ k. option_map_or (λ a. (k, a) ∷ []) (action_at t k) []) (flight t since) k (k, a)
-      (in_filter (is_in_flight_number t since) (numbers t) k (in_range 1 (length t.actions) k (omega (arith, within.0)) (omega (arith, within.1))) f.in_flight)
+      in_flat (λ k. option_map_or (λ a. (k, a) ∷ []) (action_at t k) []) (numbers_in_flight t since) k (k, a)
+      (in_filter (is_number_in_flight t since) (numbers t) k (in_range 1 (length t.actions) k (omega (arith, within.0)) (omega (arith, within.1))) f.in_flight)
       (rw f.action (at_head (k, a) [] (k, a) refl))
 
 -- numbers with their actions, ascending
@@ -101,25 +101,25 @@ in_order actions ks h i j d lt within =
     let l = length-map ks (with_action actions) in
     rw (get_or-map (with_action actions) ks i 0 d (omega arith), get_or-map (with_action actions) ks j 0 d (omega arith)) (h i j 0 lt (omega arith))
 
-module _ (r : Running) (u : IsUnderWay r) (idle : in_flight r.planned_at ≡ []) where
-  all_flown : Each (Flies (going r) r.since) (in_flight r.since)
+module _ (r : Running) (u : IsUnderWay r) (idle : in_flight_by_begin r.planned_at ≡ []) where
+  all_flown : Each (Flies (going r) r.since) (in_flight_by_begin r.since)
   all_flown = (flown_always (going r) true None None r.since u.steps).all
 
-  pub flight_is : IsFlight (r.planned_at ++ r.since) (flying (going r) r.since)
+  pub flight_is : AreInFlightByNumber (r.planned_at ++ r.since) (in_flight_by_number (going r) r.since)
   flight_is = record {
-    members = λ k a. subst (λ fs. Contains (flying (going r) r.since) (k, a) ↔ Contains fs (k, a)) (sym (none-in_flight r.planned_at r.since idle))
-        (to k a, λ h. shown_flies (going r) r.since k a (each_member (Flies (going r) r.since) (in_flight r.since) (k, a) all_flown h));
-    ascending = rw (flying_is r) (in_order r.graph.actions (flight (going r) r.since) (AllPairs-filter (λ x y. x < y) (is_in_flight_number (going r) r.since) (numbers (going r)) (ranged (length r.graph.actions) 1)));
+    members = λ k a. subst (λ fs. Contains (in_flight_by_number (going r) r.since) (k, a) ↔ Contains fs (k, a)) (sym (none-in_flight r.planned_at r.since idle))
+        (to k a, λ h. shown_flies (going r) r.since k a (each_member (Flies (going r) r.since) (in_flight_by_begin r.since) (k, a) all_flown h));
+    ascending = rw (flying_is r) (in_order r.graph.actions (numbers_in_flight (going r) r.since) (AllPairs-filter (λ x y. x < y) (is_number_in_flight (going r) r.since) (numbers (going r)) (ranged (length r.graph.actions) 1)));
   } where
-    to : (k : ℕ) (a : Action) → Contains (flying (going r) r.since) (k, a) → Contains (in_flight r.since) (k, a)
+    to : (k : ℕ) (a : Action) → Contains (in_flight_by_number (going r) r.since) (k, a) → Contains (in_flight_by_begin r.since) (k, a)
     to k a h =
-        let f = each_member (Flies (going r) r.since) (flying (going r) r.since) (k, a) (all_fly (going r) r.since) h in
-        of_number (going r) r.since k a f.action (in_flight r.since) all_flown
+        let f = each_member (Flies (going r) r.since) (in_flight_by_number (going r) r.since) (k, a) (all_fly (going r) r.since) h in
+        of_number (going r) r.since k a f.action (in_flight_by_begin r.since) all_flown
         (named k r.since (sooner (has_begun (going r) r.since k) _ f.in_flight) (not-true _ (later (has_begun (going r) r.since k) _ f.in_flight)))
 
-module _ (old new : Running) (before after : Cluster → List Event → ℕ → Type 0) (shown : List (ℕ × Action)) (is : shown ≡ flying (going old) old.since)
+module _ (old new : Running) (before after : Cluster → List Event → ℕ → Type 0) (shown : List (ℕ × Action)) (is : shown ≡ in_flight_by_number (going old) old.since)
     (u : IsUnderWay old) (was : Accords before old) where
-  pub seen : IsFlight (old.planned_at ++ old.since) shown
+  pub seen : AreInFlightByNumber (old.planned_at ++ old.since) shown
   seen = rw is (flight_is old u was.idle)
 
   accords_later : (events : List Event) → new ≡ running.later old events

@@ -10,12 +10,12 @@ use Rattle.cluster_types.specs.declared.journal.Action.TheVariants.{Fence}
 use Rattle.cluster_types.specs.declared.journal.Event.{Event}
 use Rattle.cluster_types.specs.Graphs.{is_before}
 use Rattle.cluster_types.specs.Steps as steps
-use Rattle.cluster_types.specs.Steps.{Begins, numbers, may_begin, is_settled, has_begun, has_succeeded, has_aborted, has_room, flight, flying, is_in_flight_number, aborts}
+use Rattle.cluster_types.specs.Steps.{Begins, numbers, may_begin, is_settled, has_begun, has_succeeded, has_aborted, has_room, numbers_in_flight, in_flight_by_number, is_number_in_flight, aborts}
 use Rattle.listed.specs.Sets.{is_member, members}
 use Rattle.graph_exec.specs.Ready.{inputs_have_succeeded, startable}
-use Rattle.graph_exec.specs.Flights.{FlightOf, pairs, paired}
+use Rattle.graph_exec.specs.Flights.{InFlightOf, pairs_in_flight, paired}
 use Rattle.graph_exec.specs.Logs.{LogOf}
-use Rattle.graph_exec.specs.Running.{Running, FlightFollows, going, running}
+use Rattle.graph_exec.specs.Running.{Running, InFlightFollows, going, running}
 use Rattle.graph_exec.proofs.FirstOf.{IsFirst, first_is, none_passes, never}
 use Rattle.graph_exec.proofs.Pairs.{among, numbered_is, of_numbers, pairs_many}
 
@@ -60,7 +60,7 @@ found_so p (x ∷ es) o e = on (p x) refl e (found_so p es o) where
   on true is e rest = ap is_some e
   on false is e rest = rest e
 
-module _ (log : LogOf) (f : FlightOf) (h : FlightFollows log f) where
+module _ (log : LogOf) (f : InFlightOf) (h : InFlightFollows log f) where
   abbrev r : Running
   r = running log f
 
@@ -68,12 +68,12 @@ module _ (log : LogOf) (f : FlightOf) (h : FlightFollows log f) where
   count = length f.progress.graph.actions
 
   -- the actions in flight are those of the transition
-  pub same_flight : members f.flying ≡ flight (going r) r.since
+  pub same_flight : members f.flying ≡ numbers_in_flight (going r) r.since
   same_flight =
       ap (λ m. filter (is_member f.flying) (range_with_len 1 m)) h.flight_size
-      ∙ filter-alike (is_member f.flying) (is_in_flight_number (going r) r.since) 1 count (λ k low high. (h.each k low (omega arith)).flying)
+      ∙ filter-alike (is_member f.flying) (is_number_in_flight (going r) r.since) 1 count (λ k low high. (h.each k low (omega arith)).flying)
 
-  pub same_pairs : pairs f ≡ flying (going r) r.since
+  pub same_pairs : pairs_in_flight f ≡ in_flight_by_number (going r) r.since
   same_pairs = ap (flat_map (paired f.progress.graph.actions)) same_flight
 
   free : (k : ℕ) → inputs_have_succeeded f.progress.graph f.progress.succeeded k
@@ -146,7 +146,7 @@ module _ (log : LogOf) (f : FlightOf) (h : FlightFollows log f) where
       on j w may = first.least j w.0 w.1 (later is_open (test j) (sym (allowed j w.0 (omega (arith, w.1))) ∙ may))
 
   -- as many as are in flight are counted
-  pub counted_flight : length (pairs f) ≡ length (flight (going r) r.since)
+  pub counted_flight : length (pairs_in_flight f) ≡ length (numbers_in_flight (going r) r.since)
   counted_flight = pairs_many f (record { flags = h.flight_size }) ∙ ap length same_flight
 
   -- after an event that aborts none may begin, and none when as many are in flight as may be

@@ -10,14 +10,14 @@ use Rattle.cluster_types.specs.declared.journal.Event.TheVariants.{Begin}
 use Rattle.cluster_types.specs.Steps as steps
 use Rattle.listed.specs.Sets.{is_member}
 use Rattle.graph_exec.specs.Ready.{startable}
-use Rattle.graph_exec.specs.Flights.{FlightOf, with_begun}
+use Rattle.graph_exec.specs.Flights.{InFlightOf, with_begun}
 use Rattle.graph_exec.specs.Logs.{LogOf}
-use Rattle.graph_exec.specs.Running.{Running, FlightFollows, going, running}
+use Rattle.graph_exec.specs.Running.{Running, InFlightFollows, going, running}
 use Rattle.graph_exec.proofs.Beginning as beginning
 use Rattle.graph_exec.proofs.Beginning.{one}
 use Rattle.graph_exec.proofs.OneMore.{Adds, set_one}
 
-module _ (log : LogOf) (f : FlightOf) (h : FlightFollows log f) (k : ℕ) (at : slice_get (startable f.progress) 0 ≡ Some k) where
+module _ (log : LogOf) (f : InFlightOf) (h : InFlightFollows log f) (k : ℕ) (at : slice_get (startable f.progress) 0 ≡ Some k) where
   abbrev r : Running
   r = running log f
 

@@ -9,7 +9,7 @@ use Rattle.cluster_types.specs.declared.journal.Event.TheVariants.{Begin}
 use Rattle.cluster_types.specs.Sources.{Says, untold}
 use Rattle.cluster_types.specs.declared.journal.Outcome.TheVariants.{Code}
 use Rattle.cluster_types.specs.Answering.{is_number_of}
-use Rattle.cluster_types.specs.Steps.{Transition, StepsOn, begins, takes, is_silent, Goes, here, one_more, HasEnded, IsWaiting, ended, answer_events, flight, flying, is_settled, silent_code}
+use Rattle.cluster_types.specs.Steps.{Transition, StepsOn, begins, takes, is_silent, Goes, here, one_more, HasEnded, IsWaiting, ended, answer_events, numbers_in_flight, in_flight_by_number, is_settled, silent_code}
 use Rattle.run_safety.proofs.InFlight.{among_flying}
 use Rattle.run_safety.proofs.Printed.{answer_line, end_line}
 use Rattle.graph_exec.specs.declared.transition.ends.WatchedEnd.{WatchedEnd}
@@ -161,8 +161,8 @@ no_fault how.SourceFault d e = absurd d
 no_fault how.Stopped d e = absurd d
 
 -- where none may begin, the transition has ended when nothing is in flight; else it waits
-module _ (r : Running) (settled : is_settled (going r) r.since ≡ true) (shown : List (ℕ × Action)) (is : shown ≡ flying (going r) r.since) where
-  as_many : length shown ≡ length (flight (going r) r.since)
+module _ (r : Running) (settled : is_settled (going r) r.since ≡ true) (shown : List (ℕ × Action)) (is : shown ≡ in_flight_by_number (going r) r.since) where
+  as_many : length shown ≡ length (numbers_in_flight (going r) r.since)
   as_many = ap length is ∙ many_flying r
 
   pub has_ended_now : length shown ≡ 0 → HasEnded (going r) r.since

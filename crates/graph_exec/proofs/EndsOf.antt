@@ -13,22 +13,22 @@ use Rattle.cluster_types.specs.declared.journal.Event.TheVariants.{Ended}
 use Rattle.cluster_types.specs.declared.journal.Outcome.{Outcome}
 use Rattle.cluster_types.specs.Answering.{is_number_of}
 use Rattle.cluster_types.specs.Journals.{moment_of}
-use Rattle.cluster_types.specs.Steps.{is_success, is_from_outside, ended, flying, has_begun, has_ended, has_succeeded}
+use Rattle.cluster_types.specs.Steps.{is_success, is_from_outside, ended, in_flight_by_number, has_begun, has_ended, has_succeeded}
 use Rattle.listed.specs.Sets.{is_member}
-use Rattle.graph_exec.specs.Flights.{FlightOf, pairs, with_ended}
+use Rattle.graph_exec.specs.Flights.{InFlightOf, pairs_in_flight, with_ended}
 use Rattle.graph_exec.specs.Logs.{LogOf}
-use Rattle.graph_exec.specs.Running.{Running, FlightFollows, going, running}
+use Rattle.graph_exec.specs.Running.{Running, InFlightFollows, going, running}
 use Rattle.graph_exec.proofs.Beginning.{one, same_pairs}
 use Rattle.graph_exec.proofs.Flying.{ended_of}
 use Rattle.graph_exec.proofs.OneMore.{Adds, set_one, unset_one}
 use Rattle.graph_exec.proofs.Pairs.{action_of, is_flying, not_flying}
 
-module _ (log : LogOf) (f : FlightOf) (h : FlightFollows log f) where
+module _ (log : LogOf) (f : InFlightOf) (h : InFlightFollows log f) where
   abbrev r : Running
   r = running log f
 
-  module _ (k : ℕ) (flies : list_any (is_number_of k) (flying (going r) r.since) ≡ true) where
-    flies_here : list_any (is_number_of k) (pairs f) ≡ true
+  module _ (k : ℕ) (flies : list_any (is_number_of k) (in_flight_by_number (going r) r.since) ≡ true) where
+    flies_here : list_any (is_number_of k) (pairs_in_flight f) ≡ true
     flies_here = ap (list_any (is_number_of k)) (same_pairs log f h) ∙ flies
 
     pub low : 0 < k

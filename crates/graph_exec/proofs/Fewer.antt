@@ -17,7 +17,7 @@ use Rattle.cluster_types.specs.declared.journal.Outcome.{Outcome}
 use Rattle.cluster_types.specs.declared.journal.Outcome.TheVariants.{Code, TimedOut}
 use Rattle.cluster_types.specs.Answering.{applies_after, is_number_of, monitor_action, most_from_outside}
 use Rattle.cluster_types.specs.Journals.{ends_number, moment_of}
-use Rattle.cluster_types.specs.Steps.{Begins, EndsSilently, begins_number, ended, answer_events, flight, flying, has_begun, has_ended, is_from_outside, is_in_flight_number, numbers, outside, silent_code}
+use Rattle.cluster_types.specs.Steps.{Begins, EndsSilently, begins_number, ended, answer_events, numbers_in_flight, in_flight_by_number, has_begun, has_ended, is_from_outside, is_number_in_flight, numbers, outside, silent_code}
 use Rattle.cluster_types.proofs.StepLaws.{not_begun}
 use Rattle.run_safety.proofs.InFlight.{number_within}
 use Rattle.graph_exec.specs.Inner.Rounds.{begins_left, ends_left, asks_left}
@@ -71,13 +71,13 @@ module _ (r : Running) (es : List Event) where
   one_told few some = let e = ends_fewer in let o = outside_more in omega arith
 
 module _ (r : Running) where
-  module _ (k : ℕ) (low : 0 < k) (high : k ≤ length r.graph.actions) (up : is_in_flight_number (going r) r.since k ≡ true) (outcome : Outcome) where
+  module _ (k : ℕ) (low : 0 < k) (high : k ≤ length r.graph.actions) (up : is_number_in_flight (going r) r.since k ≡ true) (outcome : Outcome) where
     pub ended_is : ended (going r) r.since k outcome ≡ Ended k (action_of r.graph.actions k) outcome (moment_of (r.planned_at ++ r.since)) ∷ []
     ended_is = ended_of r k flies outcome where
-      flies : list_any (is_number_of k) (flying (going r) r.since) ≡ true
+      flies : list_any (is_number_of k) (in_flight_by_number (going r) r.since) ≡ true
       flies =
-          ap (list_any (is_number_of k)) (flying_is r) ∙ any_number r.graph.actions k (flight (going r) r.since)
-          ∙ among (is_in_flight_number (going r) r.since) k 1 (length r.graph.actions) (omega arith) (omega arith) ∙ up
+          ap (list_any (is_number_of k)) (flying_is r) ∙ any_number r.graph.actions k (numbers_in_flight (going r) r.since)
+          ∙ among (is_number_in_flight (going r) r.since) k 1 (length r.graph.actions) (omega arith) (omega arith) ∙ up
 
     pub end_leaves : asks_left (running.later r (ended (going r) r.since k outcome)) < asks_left r
     end_leaves =
@@ -89,24 +89,24 @@ module _ (r : Running) where
   record IsUp (k : ℕ) : Type 0 where
     pub low : 0 < k
     pub high : k ≤ length r.graph.actions
-    pub up : is_in_flight_number (going r) r.since k ≡ true
+    pub up : is_number_in_flight (going r) r.since k ≡ true
 
-  up_of : (k : ℕ) → list_any (is_number_of k) (flying (going r) r.since) ≡ true → IsUp k
+  up_of : (k : ℕ) → list_any (is_number_of k) (in_flight_by_number (going r) r.since) ≡ true → IsUp k
   up_of k flies = on (cases_lt 0 k) (cases_lt (length r.graph.actions) k) where
-    there : list_any (λ j. j == k) (flight (going r) r.since) ≡ true
-    there = sym (ap (list_any (is_number_of k)) (flying_is r) ∙ any_number r.graph.actions k (flight (going r) r.since)) ∙ flies
+    there : list_any (λ j. j == k) (numbers_in_flight (going r) r.since) ≡ true
+    there = sym (ap (list_any (is_number_of k)) (flying_is r) ∙ any_number r.graph.actions k (numbers_in_flight (going r) r.since)) ∙ flies
 
     on : (0 < k) ⊎ (k ≤ 0) → (length r.graph.actions < k) ⊎ (k ≤ length r.graph.actions) → IsUp k
     on (inl low) (inr high) = record {
       low = low;
       high = high;
-      up = sym (among (is_in_flight_number (going r) r.since) k 1 (length r.graph.actions) (omega arith) (omega arith)) ∙ there;
+      up = sym (among (is_number_in_flight (going r) r.since) k 1 (length r.graph.actions) (omega arith) (omega arith)) ∙ there;
     }
-    on (inl low) (inl past) = let n = none_above (is_in_flight_number (going r) r.since) k 1 (length r.graph.actions) (omega arith) in let t = there in cc
+    on (inl low) (inl past) = let n = none_above (is_number_in_flight (going r) r.since) k 1 (length r.graph.actions) (omega arith) in let t = there in cc
     on (inr none) past =
         let z : k ≡ 0 = omega arith in
-        let n = number_none (is_in_flight_number (going r) r.since) (length r.graph.actions) in
-        let t : list_any (λ j. j == 0) (flight (going r) r.since) ≡ true = rw z at there in
+        let n = number_none (is_number_in_flight (going r) r.since) (length r.graph.actions) in
+        let t : list_any (λ j. j == 0) (numbers_in_flight (going r) r.since) ≡ true = rw z at there in
         cc
 
   outside_one : (e : Event) → is_from_outside e ≡ true → 0 < count_by is_from_outside (e ∷ [])
@@ -118,7 +118,7 @@ module _ (r : Running) where
   few_of : (rest : Bool) → nat_lt (outside (going r) r.since) most_from_outside && rest ≡ true → outside (going r) r.since < most_from_outside
   few_of rest h = ltb-true _ _ (sooner (nat_lt (outside (going r) r.since) most_from_outside) rest h)
 
-  pub take_leaves : (given : Answer) → applies_after r.cluster (r.planned_at ++ r.since) (flying (going r) r.since) (outside (going r) r.since) given ≡ true
+  pub take_leaves : (given : Answer) → applies_after r.cluster (r.planned_at ++ r.since) (in_flight_by_number (going r) r.since) (outside (going r) r.since) given ≡ true
       → asks_left (running.later r (answer_events (going r) r.since given)) < asks_left r
   take_leaves (answer.End k code) h = let u = up_of k h in end_leaves k u.low u.high u.up (Code code)
   take_leaves (answer.Timeout k) h = let u = up_of k h in end_leaves k u.low u.high u.up TimedOut

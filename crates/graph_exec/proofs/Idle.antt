@@ -6,29 +6,29 @@ use Rattle.cluster_types.specs.declared.journal.Action.{Action}
 use Rattle.cluster_types.specs.declared.journal.Answer.{Answer}
 use Rattle.cluster_types.specs.declared.journal.Event.{Event}
 use Rattle.cluster_types.specs.Answering.{added_by, applies_after}
-use Rattle.cluster_types.specs.Steps.{Transition, action_at, answer_events, flying, is_from_outside, is_in_flight_number, journal, numbers, outside, resting}
+use Rattle.cluster_types.specs.Steps.{Transition, action_at, answer_events, in_flight_by_number, is_from_outside, is_number_in_flight, journal, numbers, outside, resting}
 use Rattle.graph_exec.specs.Logs.{JournalOf}
 use Rattle.graph_exec.specs.Resting.{IsRefusedResting, IsResting, TookResting, resting_at}
 use Rattle.graph_exec.specs.Running.{Running, going, known_of, later}
 
-none_flying : (t : Transition) (since : List Event) → t.actions ≡ [] → flying t since ≡ []
+none_flying : (t : Transition) (since : List Event) → t.actions ≡ [] → in_flight_by_number t since ≡ []
 none_flying t since e =
     let none : numbers t ≡ [] = ap (λ (actions : List Action). range_with_len 1 (length actions)) e in
-    ap (λ (ks : List ℕ). flat_map (λ k. option_map_or (λ a. (k, a) ∷ []) (action_at t k) []) (filter (is_in_flight_number t since) ks)) none
+    ap (λ (ks : List ℕ). flat_map (λ k. option_map_or (λ a. (k, a) ∷ []) (action_at t k) []) (filter (is_number_in_flight t since) ks)) none
 
 module _ (r : Running) (is : IsResting r) where
-  pub flies_none : flying (going r) r.since ≡ []
+  pub flies_none : in_flight_by_number (going r) r.since ≡ []
   flies_none = none_flying (going r) r.since is.nothing_to_do
 
-  pub resting_applies : (given : Answer) → applies_after r.cluster (journal (going r) r.since) (flying (going r) r.since) (outside (going r) r.since) given
+  pub resting_applies : (given : Answer) → applies_after r.cluster (journal (going r) r.since) (in_flight_by_number (going r) r.since) (outside (going r) r.since) given
       ≡ applies_after r.cluster (r.planned_at ++ []) [] 0 given
   resting_applies given =
-      ap (λ (since : List Event). applies_after r.cluster (r.planned_at ++ since) (flying (going r) since) (count_by is_from_outside since) given) is.nothing_new
+      ap (λ (since : List Event). applies_after r.cluster (r.planned_at ++ since) (in_flight_by_number (going r) since) (count_by is_from_outside since) given) is.nothing_new
       ∙ ap (λ (flight : List (ℕ × Action)). applies_after r.cluster (r.planned_at ++ []) flight 0 given) (none_flying (going r) [] is.nothing_to_do)
 
   pub resting_adds : (given : Answer) → answer_events (going r) r.since given ≡ answer_events (resting r.cluster r.planned_at) [] given
   resting_adds given =
-      ap (λ (since : List Event). added_by r.cluster (r.planned_at ++ since) (flying (going r) since) given) is.nothing_new
+      ap (λ (since : List Event). added_by r.cluster (r.planned_at ++ since) (in_flight_by_number (going r) since) given) is.nothing_new
       ∙ ap (λ (flight : List (ℕ × Action)). added_by r.cluster (r.planned_at ++ []) flight given) (none_flying (going r) [] is.nothing_to_do)
 
   abbrev rests_with : List Event → JournalOf
@@ -36,7 +36,7 @@ module _ (r : Running) (is : IsResting r) where
 
   -- an answer that doesn't apply leaves the journal as it is
   pub refuses : (given : Answer) (b : Bool)
-      → b ≡ applies_after r.cluster (journal (going r) r.since) (flying (going r) r.since) (outside (going r) r.since) given → b ≡ false
+      → b ≡ applies_after r.cluster (journal (going r) r.since) (in_flight_by_number (going r) r.since) (outside (going r) r.since) given → b ≡ false
       → (j : JournalOf) → j ≡ rests_with (r.planned_at ++ r.since) → IsRefusedResting (resting_at r) j given
   refuses given b says so j left = record {
     refused = λ applies. let e = resting_applies given in let f : ⊥ = cc in f;
@@ -45,7 +45,7 @@ module _ (r : Running) (is : IsResting r) where
 
   -- one that applies is entered
   pub takes_resting : (given : Answer) (b : Bool)
-      → b ≡ applies_after r.cluster (journal (going r) r.since) (flying (going r) r.since) (outside (going r) r.since) given → b ≡ true
+      → b ≡ applies_after r.cluster (journal (going r) r.since) (in_flight_by_number (going r) r.since) (outside (going r) r.since) given → b ≡ true
       → (now : Running) → now ≡ later r (answer_events (going r) r.since given)
       → (j : JournalOf) → j ≡ known_of now → TookResting (resting_at r) j given
   takes_resting given b says so now goes j left = record {

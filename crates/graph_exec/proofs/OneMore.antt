@@ -10,9 +10,9 @@ use Rattle.cluster_types.specs.Journals.{ends_number}
 use Rattle.cluster_types.specs.Steps.{begins_number, succeeds_number, has_begun, has_ended, has_succeeded}
 use Rattle.listed.specs.Sets.{is_member}
 use Rattle.run_safety.proofs.Preceded.{success_ends}
-use Rattle.graph_exec.specs.Flights.{FlightOf}
+use Rattle.graph_exec.specs.Flights.{InFlightOf}
 use Rattle.graph_exec.specs.Logs.{LogOf, logged}
-use Rattle.graph_exec.specs.Running.{IsNumberKept, FlightFollows, going, running, events_to_come}
+use Rattle.graph_exec.specs.Running.{IsNumberKept, InFlightFollows, going, running, events_to_come}
 
 -- what is in flight after: what was or begins, and doesn't end
 flies_on : (begun ended begins ends : Bool) → (ended ≡ true → begun ≡ true) → (begins ≡ true → begun ≡ false)
@@ -26,7 +26,7 @@ flies_on false true begins ends f g = let h = f refl in cc
 flies_on false false begins ends f g = refl
 
 -- what one event changes of the flags, as the event says
-pub record Adds (log : LogOf) (f after : FlightOf) (e : Event) : Type 0 where
+pub record Adds (log : LogOf) (f after : InFlightOf) (e : Event) : Type 0 where
   pub same : after.progress.graph ≡ f.progress.graph
   pub begun_size : length after.progress.begun ≡ length f.progress.begun
   pub succeeded_size : length after.progress.succeeded ≡ length f.progress.succeeded
@@ -41,7 +41,7 @@ pub record Adds (log : LogOf) (f after : FlightOf) (e : Event) : Type 0 where
   pub from_one : begins_number 0 e ≡ false
   pub fewer : events_to_come (logged log e) after + 1 ≤ events_to_come log f
 
-module _ (log : LogOf) (f after : FlightOf) (e : Event) (h : FlightFollows log f) (a : Adds log f after e) where
+module _ (log : LogOf) (f after : InFlightOf) (e : Event) (h : InFlightFollows log f) (a : Adds log f after e) where
   module _ (j : ℕ) (low : 0 < j) (high : j ≤ length f.progress.graph.actions) where
     old : IsNumberKept log f j
     old = h.each j low high
@@ -76,7 +76,7 @@ module _ (log : LogOf) (f after : FlightOf) (e : Event) (h : FlightFollows log f
           (λ now. rw ended_now (or_right (has_ended (going (running log f)) log.since j) (ends_number j e) (success_ends log.cluster j e now)));
     }
 
-  pub follows_more : FlightFollows (logged log e) after
+  pub follows_more : InFlightFollows (logged log e) after
   follows_more = record {
     begun_size = a.begun_size ∙ h.begun_size ∙ ap (λ g. length g.actions) (sym a.same);
     succeeded_size = a.succeeded_size ∙ h.succeeded_size ∙ ap (λ g. length g.actions) (sym a.same);

@@ -9,13 +9,13 @@ use Rattle.cluster_types.specs.Answering.{most_from_outside}
 use Rattle.cluster_types.specs.Journals.{ends_number}
 use Rattle.cluster_types.specs.Steps.{begins_number, succeeds_number, is_from_outside}
 use Rattle.listed.specs.Sets.{is_member}
-use Rattle.graph_exec.specs.Flights.{FlightOf}
+use Rattle.graph_exec.specs.Flights.{InFlightOf}
 use Rattle.graph_exec.specs.Logs.{LogOf}
-use Rattle.graph_exec.specs.Running.{FlightFollows}
+use Rattle.graph_exec.specs.Running.{InFlightFollows}
 use Rattle.graph_exec.proofs.Beginning.{one}
 use Rattle.graph_exec.proofs.OneMore.{Adds}
 
-module _ (log : LogOf) (f : FlightOf) (h : FlightFollows log f) (event : Event) (outer : is_from_outside event ≡ true) (few : count_by is_from_outside log.since < most_from_outside) where
+module _ (log : LogOf) (f : InFlightOf) (h : InFlightFollows log f) (event : Event) (outer : is_from_outside event ≡ true) (few : count_by is_from_outside log.since < most_from_outside) where
   begins_none : (j : ℕ) (e : Event) → is_from_outside e ≡ true → begins_number j e ≡ false
   begins_none j (Begin k a) o = cc
   begins_none j (Ended k a outcome moment) o = refl

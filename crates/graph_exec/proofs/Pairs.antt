@@ -11,7 +11,7 @@ use Rattle.cluster_types.specs.declared.journal.Action.TheVariants.{Fence}
 use Rattle.cluster_types.specs.Answering.{is_number_of}
 use Rattle.cluster_types.specs.Steps.{numbered}
 use Rattle.listed.specs.Sets.{is_member, members}
-use Rattle.graph_exec.specs.Flights.{FlightOf, IsFlightFlags, paired, pairs}
+use Rattle.graph_exec.specs.Flights.{InFlightOf, HasFlagOfEach, paired, pairs_in_flight}
 
 -- the action of a number that is there
 abbrev pub action_of : List Action → ℕ → Action
@@ -110,28 +110,28 @@ passes_not_yet p xs i x at fails before =
     = take_more xs i x (slice_get_within xs i x at) ∙ ap (λ y. take i xs ++ y ∷ []) (get_or_from_slice_get xs i x x at) in
     rw more (any-more p (take i xs) x ∙ rw (before, fails) refl)
 
-module _ (f : FlightOf) (flight : IsFlightFlags f) where
+module _ (f : InFlightOf) (flight : HasFlagOfEach f) where
   abbrev actions : List Action
   actions = f.progress.graph.actions
 
-  pub pairs_are : pairs f ≡ map (with_action actions) (members f.flying)
+  pub pairs_are : pairs_in_flight f ≡ map (with_action actions) (members f.flying)
   pairs_are = let s = flight.flags in flat_is actions (is_member f.flying) 1 (length f.flying) (omega arith) (omega arith)
 
-  pub pairs_many : length (pairs f) ≡ length (members f.flying)
+  pub pairs_many : length (pairs_in_flight f) ≡ length (members f.flying)
   pairs_many = ap length pairs_are ∙ length-map (members f.flying) (with_action actions)
 
-  any_pairs : (k : ℕ) → list_any (is_number_of k) (pairs f) ≡ list_any (λ j. j == k) (members f.flying)
+  any_pairs : (k : ℕ) → list_any (is_number_of k) (pairs_in_flight f) ≡ list_any (λ j. j == k) (members f.flying)
   any_pairs k = ap (list_any (is_number_of k)) pairs_are ∙ any_number actions k (members f.flying)
 
-  pub is_flying : (k : ℕ) → 0 < k → k ≤ length f.flying → list_any (is_number_of k) (pairs f) ≡ is_member f.flying k
+  pub is_flying : (k : ℕ) → 0 < k → k ≤ length f.flying → list_any (is_number_of k) (pairs_in_flight f) ≡ is_member f.flying k
   is_flying k low high = any_pairs k ∙ among (is_member f.flying) k 1 (length f.flying) (omega arith) (omega arith)
 
-  pub not_flying : (k : ℕ) → (k ≡ 0) ⊎ (length f.flying < k) → list_any (is_number_of k) (pairs f) ≡ false
+  pub not_flying : (k : ℕ) → (k ≡ 0) ⊎ (length f.flying < k) → list_any (is_number_of k) (pairs_in_flight f) ≡ false
   not_flying k (inl e) = any_pairs k ∙ rw e (number_none (is_member f.flying) (length f.flying))
   not_flying k (inr more) = any_pairs k ∙ none_above (is_member f.flying) k 1 (length f.flying) (omega arith)
 
   -- the member at a place, with its action
-  pub pair_at : (place k : ℕ) → slice_get (members f.flying) place ≡ Some k → slice_get (pairs f) place ≡ Some (with_action actions k)
+  pub pair_at : (place k : ℕ) → slice_get (members f.flying) place ≡ Some k → slice_get (pairs_in_flight f) place ≡ Some (with_action actions k)
   pair_at place k at =
       ap (λ (ps : List (ℕ × Action)). slice_get ps place) pairs_are ∙ slice_get-map (with_action actions) (members f.flying) place
       ∙ ap (option_map (with_action actions)) at

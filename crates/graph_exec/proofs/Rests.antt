@@ -8,7 +8,7 @@ use Rattle.cluster_types.specs.declared.journal.Answer.{Answer}
 use Rattle.cluster_types.specs.declared.journal.Event.{Event}
 use Rattle.cluster_types.specs.declared.placement.Placed.{Placed}
 use Rattle.cluster_types.specs.Answering.{added_by, applies_after}
-use Rattle.cluster_types.specs.Journals.{IsFlight, in_flight}
+use Rattle.cluster_types.specs.Journals.{AreInFlightByNumber, in_flight_by_begin}
 use Rattle.cluster_types.specs.Safety.{IsAtRest}
 use Rattle.cluster_types.specs.Steps.{Applies, answer_events, is_from_outside, resting}
 use Rattle.graph_exec.specs.Logs.{JournalOf}
@@ -18,14 +18,14 @@ use Rattle.graph_exec.specs.Saying.{AgreesOn}
 use Rattle.graph_exec.specs.Transitions.{Accords}
 use Rattle.graph_exec.specs.Inner.Turns.{HasPlannedGraph}
 
-pub none_in_flight : (es : List Event) (flight : List (ℕ × Action)) → in_flight es ≡ [] → flight ≡ [] → IsFlight es flight
+pub none_in_flight : (es : List Event) (flight : List (ℕ × Action)) → in_flight_by_begin es ≡ [] → flight ≡ [] → AreInFlightByNumber es flight
 none_in_flight es flight idle none = rw none (record {
   members = λ k a. (λ h. absurd (in_none (k, a) h), λ h. absurd (in_none (k, a) (rw idle at h)));
   ascending = λ i j d less within. absurd (let f : ⊥ = omega arith in f);
 })
 
 module _ (agrees : Cluster → List Event → ℕ → Type 0) where
-  pub accords_first : (r : Running) → in_flight r.planned_at ≡ [] → r.since ≡ [] → agrees r.cluster r.planned_at 0 → Accords agrees r
+  pub accords_first : (r : Running) → in_flight_by_begin r.planned_at ≡ [] → r.since ≡ [] → agrees r.cluster r.planned_at 0 → Accords agrees r
   accords_first r idle fresh h = record {
     idle = idle;
     agrees_now = subst (λ (since : List Event). agrees r.cluster (r.planned_at ++ since) (count_by is_from_outside since)) (sym fresh)

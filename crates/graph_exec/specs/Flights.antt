@@ -9,7 +9,7 @@ use Rattle.listed.specs.Sets.{members}
 use Rattle.graph_exec.specs.Ready.{Progress}
 
 -- which actions have begun and succeeded, and which are in flight
-pub record FlightOf : Type 0 where
+pub record InFlightOf : Type 0 where
   pub progress : Progress
   pub flying : List Bool
 
@@ -18,18 +18,18 @@ abbrev pub paired : List Action → ℕ → List (ℕ × Action)
 paired actions k = option_map_or (λ a. (k, a) ∷ []) (numbered actions k) []
 
 -- the actions in flight, in the order of their numbers
-abbrev pub pairs : FlightOf → List (ℕ × Action)
-pairs f = flat_map (paired f.progress.graph.actions) (members f.flying)
+abbrev pub pairs_in_flight : InFlightOf → List (ℕ × Action)
+pairs_in_flight f = flat_map (paired f.progress.graph.actions) (members f.flying)
 
 -- an action begins
-abbrev pub with_begun : FlightOf → ℕ → FlightOf
+abbrev pub with_begun : InFlightOf → ℕ → InFlightOf
 with_begun f k = record {
   progress = record { graph = f.progress.graph; begun = slice_set f.progress.begun (k - 1) true; succeeded = f.progress.succeeded };
   flying = slice_set f.flying (k - 1) true;
 }
 
 -- an action ends, with success or without
-abbrev pub with_ended : FlightOf → ℕ → Bool → FlightOf
+abbrev pub with_ended : InFlightOf → ℕ → Bool → InFlightOf
 with_ended f k success = record {
   progress = record {
     graph = f.progress.graph;
@@ -39,7 +39,7 @@ with_ended f k success = record {
   flying = slice_set f.flying (k - 1) false;
 }
 
-pub record IsFlightFlags (f : FlightOf) : Type 0 where
+pub record HasFlagOfEach (f : InFlightOf) : Type 0 where
   pub flags : length f.flying ≡ length f.progress.graph.actions
 
 -- the action is of the cell, or a migration to it

@@ -13,9 +13,9 @@ use Rattle.cluster_types.specs.Graphs.{GraphOf, IsGraph}
 use Rattle.cluster_types.specs.Journals.{is_on}
 use Rattle.cluster_types.specs.Plans.{transition_on}
 use Rattle.cluster_types.specs.Steps as steps
-use Rattle.cluster_types.specs.Steps.{Transition, Goes, Begins, TakesAnswer, EndsSilently, ended, silent_code, is_settled, has_begun, has_ended, has_succeeded, is_in_flight_number, outside, answer_events, flying}
+use Rattle.cluster_types.specs.Steps.{Transition, Goes, Begins, TakesAnswer, EndsSilently, ended, silent_code, is_settled, has_begun, has_ended, has_succeeded, is_number_in_flight, outside, answer_events, in_flight_by_number}
 use Rattle.listed.specs.Sets.{is_member}
-use Rattle.graph_exec.specs.Flights.{FlightOf}
+use Rattle.graph_exec.specs.Flights.{InFlightOf}
 use Rattle.graph_exec.specs.Logs.{JournalOf, LogOf}
 
 -- the cluster, the graph that is carried out, the journal when it was planned with the promotion scores of the status, and the events since
@@ -26,7 +26,7 @@ pub record Running : Type 0 where
   pub since : List Event
   pub promotions : List Promotion
 
-abbrev pub running : LogOf → FlightOf → Running
+abbrev pub running : LogOf → InFlightOf → Running
 running log f = record {
   cluster = log.cluster;
   graph = f.progress.graph;
@@ -50,7 +50,7 @@ known_of r = record { cluster = r.cluster; events = r.planned_at ++ r.since; pro
 -- what the loss of a node ends: each action in flight of a cell on it, in the order of their numbers
 abbrev pub all_gone : Running → ℕ → List Event
 all_gone r n =
-    map (end_event r.cluster (r.planned_at ++ r.since) (flying (going r) r.since) Gone) (filter (λ (p : ℕ × Action). is_on n p.1) (flying (going r) r.since))
+    map (end_event r.cluster (r.planned_at ++ r.since) (in_flight_by_number (going r) r.since) Gone) (filter (λ (p : ℕ × Action). is_on n p.1) (in_flight_by_number (going r) r.since))
 
 -- what holds at every moment: the graph has no loop, and the events since the plan are steps of the transition, whatever answers there were
 pub record IsUnderWay (r : Running) : Type 0 where
@@ -80,7 +80,7 @@ pub record Took (old new : Running) (given : Answer) : Type 0 where
 
 -- the answer doesn't apply, and nothing changes
 pub record IsAnswerRefused (old new : Running) (given : Answer) : Type 0 where
-  pub refused : applies_after old.cluster (old.planned_at ++ old.since) (flying (going old) old.since) (outside (going old) old.since) given ≡ false
+  pub refused : applies_after old.cluster (old.planned_at ++ old.since) (in_flight_by_number (going old) old.since) (outside (going old) old.since) given ≡ false
   pub same : new ≡ old
 
 -- nothing more is said, and the first action in flight ends, as if this had been answered
@@ -92,20 +92,20 @@ pub record EndedSilently (old new : Running) (given : Answer) : Type 0 where
   pub given_is : given ≡ answer.End number (silent_code action)
 
 -- what is kept of one number is what the events say of it
-pub record IsNumberKept (log : LogOf) (f : FlightOf) (k : ℕ) : Type 0 where
+pub record IsNumberKept (log : LogOf) (f : InFlightOf) (k : ℕ) : Type 0 where
   pub begun : is_member f.progress.begun k ≡ has_begun (going (running log f)) log.since k
   pub succeeded : is_member f.progress.succeeded k ≡ has_succeeded (going (running log f)) log.since k
-  pub flying : is_member f.flying k ≡ is_in_flight_number (going (running log f)) log.since k
+  pub flying : is_member f.flying k ≡ is_number_in_flight (going (running log f)) log.since k
   pub ended : has_ended (going (running log f)) log.since k ≡ true → has_begun (going (running log f)) log.since k ≡ true
   pub over : has_succeeded (going (running log f)) log.since k ≡ true → has_ended (going (running log f)) log.since k ≡ true
 
 -- how many events may come: two of each action that hasn't begun, one of each in flight, and the answers from outside
-abbrev pub events_to_come : LogOf → FlightOf → ℕ
+abbrev pub events_to_come : LogOf → InFlightOf → ℕ
 events_to_come log f =
     2 * count_by not f.progress.begun + count_by (λ b. b) f.flying + (most_from_outside - count_by steps.is_from_outside log.since)
 
 -- there is room for all of them
-pub record FlightFollows (log : LogOf) (f : FlightOf) : Type 0 where
+pub record InFlightFollows (log : LogOf) (f : InFlightOf) : Type 0 where
   pub begun_size : length f.progress.begun ≡ length f.progress.graph.actions
   pub succeeded_size : length f.progress.succeeded ≡ length f.progress.graph.actions
   pub flight_size : length f.flying ≡ length f.progress.graph.actions

@@ -11,7 +11,7 @@ use Rattle.cluster_types.specs.declared.journal.Event.{Event}
 use Rattle.cluster_types.specs.declared.journal.Event.TheVariants.{Up, Down, Lost, Quorum, Wait, Cleanup, Ended}
 use Rattle.cluster_types.specs.declared.journal.Promotion.{Promotion}
 use Rattle.cluster_types.specs.Journals as journals
-use Rattle.cluster_types.specs.Journals.{NodeWord, Orderly, first_events, in_flight, is_reported, leaving, moment_of, seconds_of}
+use Rattle.cluster_types.specs.Journals.{NodeWord, Orderly, first_events, in_flight_by_begin, is_reported, leaving, moment_of, seconds_of}
 use Rattle.cluster_types.proofs.JournalLaws.{in-order, nothing-in-flight}
 use Rattle.input_reading.specs.declared.status.told.Told.{Told}
 use Rattle.input_reading.specs.declared.status.told.Told.TheVariants as told
@@ -99,7 +99,7 @@ moment_is_now c history words quorum now h =
 pub journal_in_order : (c : Cluster) (lines : List Told) → list_all (is_known (length c.nodes)) lines ≡ true → Orderly (events_of c lines)
 journal_in_order c lines h = in-order c (history_of lines) (map (word_of lines) (range_with_len 0 (length c.nodes))) (quorum_of lines) (now_of lines) (history_reported (length c.nodes) lines h)
 
-pub journal_is_idle : (c : Cluster) (lines : List Told) → list_all (is_known (length c.nodes)) lines ≡ true → in_flight (events_of c lines) ≡ []
+pub journal_is_idle : (c : Cluster) (lines : List Told) → list_all (is_known (length c.nodes)) lines ≡ true → in_flight_by_begin (events_of c lines) ≡ []
 journal_is_idle c lines h = nothing-in-flight c (history_of lines) (map (word_of lines) (range_with_len 0 (length c.nodes))) (quorum_of lines) (now_of lines) (history_reported (length c.nodes) lines h)
 
 pub journal_moment : (c : Cluster) (lines : List Told) → list_all (is_known (length c.nodes)) lines ≡ true → moment_of (events_of c lines) < 2 ^ 40

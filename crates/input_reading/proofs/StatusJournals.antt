@@ -16,7 +16,7 @@ use Rattle.cluster_types.specs.declared.leaf.Op.TheVariants.{Start, Stop, Promot
 use Rattle.cluster_types.specs.declared.leaf.Role.{Role}
 use Rattle.cluster_types.specs.Fields.{monitors}
 use Rattle.cluster_types.specs.Answering.{role_of_interval}
-use Rattle.cluster_types.specs.Journals.{Orderly, in_flight, is_reported}
+use Rattle.cluster_types.specs.Journals.{Orderly, in_flight_by_begin, is_reported}
 use Rattle.faults.specs.Reading.{◌>>=◌, faulting, on_line}
 use Rattle.input_reading.specs.Places.{WordsOfLine, line_end_at, leaf_at, node_at, seconds_at, word_at, yes_at}
 use Rattle.input_reading.proofs.Bounds.{node_known, seconds_small}
@@ -127,7 +127,7 @@ pub journal_orderly : (c : Cluster) (lines : List Line) (journal : Journal) → 
 journal_orderly c lines journal =
     by_lines c Orderly lines journal (IfOk-weaker (journals.with_status_lines c [] lines) _ _ (journal_in_order c) (lines_known c lines))
 
-pub journal_idle : (c : Cluster) (lines : List Line) (journal : Journal) → status_journal c lines ≡ Ok journal → in_flight journal.events ≡ []
+pub journal_idle : (c : Cluster) (lines : List Line) (journal : Journal) → status_journal c lines ≡ Ok journal → in_flight_by_begin journal.events ≡ []
 journal_idle c lines journal =
-    by_lines c (λ es. in_flight es ≡ []) lines journal
+    by_lines c (λ es. in_flight_by_begin es ≡ []) lines journal
     (IfOk-weaker (journals.with_status_lines c [] lines) _ _ (journal_is_idle c) (lines_known c lines))

@@ -13,7 +13,7 @@ use Rattle.cluster_model.specs.Expansion.{expansion_of}
 use Rattle.cluster_model.specs.Resolution.{resolution_of}
 use Rattle.cluster_model.proofs.ValidCluster.{resolved_valid}
 use Rattle.cluster_types.specs.declared.cluster.Cluster.{Cluster}
-use Rattle.cluster_types.specs.Journals.{Orderly, in_flight, moment_of}
+use Rattle.cluster_types.specs.Journals.{Orderly, in_flight_by_begin, moment_of}
 use Rattle.cluster_types.specs.Valid.{IsValid}
 use Rattle.input_reading.specs.FirstJournal.{status_journal}
 use Rattle.input_reading.specs.Results.{most_results, results_of}
@@ -149,7 +149,7 @@ module _ (text : List ℕ) (input : Input) (r : ReadsInput text input) where
   pub results_few : length input.results ≤ 10000
   results_few = made.few
 
-  pub journal_rests : in_flight input.head.journal.events ≡ []
+  pub journal_rests : in_flight_by_begin input.head.journal.events ≡ []
   journal_rests = journal_idle steps.cluster made.lines input.head.journal made.journal
 
 -- what a call that read a text returned
@@ -162,8 +162,8 @@ module _ (text : List ℕ) (given : Result Input (Fault InputCause)) where
   ordered_given h = by_result (λ (r : Result Input (Fault InputCause)). Gives (λ (input : Input). input) r (input_of text) → IfOk r (λ input. Orderly input.head.journal.events))
       (λ input read. journal_ordered text input read) (λ fault read. tt) given h
 
-  pub idle_given : Gives (λ (input : Input). input) given (input_of text) → IfOk given (λ input. in_flight input.head.journal.events ≡ [])
-  idle_given h = by_result (λ (r : Result Input (Fault InputCause)). Gives (λ (input : Input). input) r (input_of text) → IfOk r (λ input. in_flight input.head.journal.events ≡ []))
+  pub idle_given : Gives (λ (input : Input). input) given (input_of text) → IfOk given (λ input. in_flight_by_begin input.head.journal.events ≡ [])
+  idle_given h = by_result (λ (r : Result Input (Fault InputCause)). Gives (λ (input : Input). input) r (input_of text) → IfOk r (λ input. in_flight_by_begin input.head.journal.events ≡ []))
       (λ input read. journal_rests text input read) (λ fault read. tt) given h
 
   pub few_given : Gives (λ (input : Input). input) given (input_of text) → IfOk given (λ input. length input.results ≤ most_results)

@@ -2,7 +2,7 @@
 
 ghost use Rattle.std.specs.Prelude.{◌≡◌, ◌⊎◌, ℕ, List, [], map};
 ghost use Rattle.std.specs.List.{AllByRecursion};
-ghost use Rattle.cluster_types.specs.Journals.{Orderly, in_flight};
+ghost use Rattle.cluster_types.specs.Journals.{Orderly, in_flight_by_begin};
 ghost use Rattle.cluster_types.specs.Valid.{IsValid};
 ghost use Rattle.input_reading.specs.Reading.{IsFaultyText, IsReadable, IsTextRefused, ReadsInput, most_bytes};
 ghost use Rattle.input_reading.specs.ResultFields.{AnswerFieldsFit};
@@ -35,7 +35,7 @@ pub fn one_reading_of_a_trace()
 pub fn what_is_read_is_valid()
     ensures cluster { (text : List ℕ) (input : InputOf) → ReadsInput text input → IsValid input.head.cluster }
     ensures orderly { (text : List ℕ) (input : InputOf) → ReadsInput text input → Orderly input.head.journal.events }
-    ensures idle { (text : List ℕ) (input : InputOf) → ReadsInput text input → in_flight input.head.journal.events ≡ [] }
+    ensures idle { (text : List ℕ) (input : InputOf) → ReadsInput text input → in_flight_by_begin input.head.journal.events ≡ [] }
 {}
 
 /// The exit codes of the answers of a text that is read are bytes, and the intervals of its reports have 32 bits.

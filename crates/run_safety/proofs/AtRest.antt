@@ -11,8 +11,8 @@ use Rattle.cluster_types.specs.declared.journal.Event.{Event}
 use Rattle.cluster_types.specs.declared.journal.Event.TheVariants.{Lost}
 use Rattle.cluster_types.specs.declared.journal.Outcome.TheVariants.{Gone}
 use Rattle.cluster_types.specs.Answering.{end_event}
-use Rattle.cluster_types.specs.Journals.{ends_number, in_flight, is_on}
-use Rattle.cluster_types.specs.Steps.{Transition, Goes, here, one_more, flight, flying, has_begun, is_in_flight_number, journal, numbers}
+use Rattle.cluster_types.specs.Journals.{ends_number, in_flight_by_begin, is_on}
+use Rattle.cluster_types.specs.Steps.{Transition, Goes, here, one_more, numbers_in_flight, in_flight_by_number, has_begun, is_number_in_flight, journal, numbers}
 use Rattle.cluster_types.proofs.SourceLaws.{none-in_flight}
 use Rattle.run_safety.proofs.Each.{Each, more, none}
 use Rattle.run_safety.proofs.Flown.{Flown, begin_flown, silent_flown}
@@ -24,12 +24,12 @@ use Rattle.run_safety.proofs.Truths.{refuse}
 module _ (t : Transition) where
   -- what ends with its node had begun
   gone_begun : (since : List Event) (n k : ℕ) (ps : List (ℕ × Action)) → Each (Flies t since) ps
-      → list_any (ends_number k) (map (end_event t.cluster (journal t since) (flying t since) Gone) (filter (λ (p : ℕ × Action). is_on n p.1) ps)) ≡ true → has_begun t since k ≡ true
+      → list_any (ends_number k) (map (end_event t.cluster (journal t since) (in_flight_by_number t since) Gone) (filter (λ (p : ℕ × Action). is_on n p.1) ps)) ≡ true → has_begun t since k ≡ true
   gone_begun since n k _ none h = cc
   gone_begun since n k _ (more p ps f rest) h = by (is_on n p.1) h (gone_begun since n k ps rest)
     where
-      by : (b : Bool) → list_any (ends_number k) (map (end_event t.cluster (journal t since) (flying t since) Gone) (cond b (p ∷ filter (λ (p : ℕ × Action). is_on n p.1) ps) (filter (λ (p : ℕ × Action). is_on n p.1) ps))) ≡ true
-          → (list_any (ends_number k) (map (end_event t.cluster (journal t since) (flying t since) Gone) (filter (λ (p : ℕ × Action). is_on n p.1) ps)) ≡ true → has_begun t since k ≡ true)
+      by : (b : Bool) → list_any (ends_number k) (map (end_event t.cluster (journal t since) (in_flight_by_number t since) Gone) (cond b (p ∷ filter (λ (p : ℕ × Action). is_on n p.1) ps) (filter (λ (p : ℕ × Action). is_on n p.1) ps))) ≡ true
+          → (list_any (ends_number k) (map (end_event t.cluster (journal t since) (in_flight_by_number t since) Gone) (filter (λ (p : ℕ × Action). is_on n p.1) ps)) ≡ true → has_begun t since k ≡ true)
           → has_begun t since k ≡ true
       by true h others = either (p.0 == k) _ h (λ e. subst (λ z. has_begun t since z ≡ true) (eqb-true p.0 k e) (sooner (has_begun t since p.0) _ f.in_flight)) others
       by false h others = others h
@@ -44,7 +44,7 @@ module _ (t : Transition) where
       silent_flown t since _ flown refl (λ j low e. either (0 == j) false e (λ same. absurd (let zero : 0 ≡ j = eqb-true 0 j same in let f : ⊥ = omega (arith, zero, low) in f)) (λ f. cc))
   add_flown since _ flown (lost n h) =
       silent_flown t since _ flown (gone_begins_nothing t since n) (λ j low e.
-      either _ _ (rw (list_any-append (ends_number j) (gone_with t since n) (Lost n ∷ [])) at e) (gone_begun since n j (flying t since) (all_fly t since)) (λ f. cc))
+      either _ _ (rw (list_any-append (ends_number j) (gone_with t since n) (Lost n ∷ [])) at e) (gone_begun since n j (in_flight_by_number t since) (all_fly t since)) (λ f. cc))
   add_flown since _ flown (up n) = silent_flown t since _ flown refl (λ j low e. cc)
   add_flown since _ flown (quorum now) = silent_flown t since _ flown refl (λ j low e. cc)
   add_flown since _ flown (wait seconds) = silent_flown t since _ flown refl (λ j low e. cc)
@@ -67,13 +67,13 @@ module _ (t : Transition) where
       by false f e rest =
           either (x == k) _ g (λ same. refuse (p x) f (subst (λ z. p z ≡ true) (sym (eqb-true x k same)) h)) (λ other. rest other e)
 
-  idle_flown : (since : List Event) → flight t since ≡ [] → (ps : List (ℕ × Action)) → Each (Flies t since) ps → ps ≡ []
+  idle_flown : (since : List Event) → numbers_in_flight t since ≡ [] → (ps : List (ℕ × Action)) → Each (Flies t since) ps → ps ≡ []
   idle_flown since idle _ none = refl
   idle_flown since idle _ (more p ps f rest) =
       let within = number_within t.actions p.0 p.1 f.action in
-      absurd (passes_none (is_in_flight_number t since) p.0 f.in_flight (numbers t) (some_in_range (λ j. j == p.0) 1 (length t.actions) p.0 (omega (arith, within.0)) (omega (arith, within.1)) (number_itself p.0)) idle)
+      absurd (passes_none (is_number_in_flight t since) p.0 f.in_flight (numbers t) (some_in_range (λ j. j == p.0) 1 (length t.actions) p.0 (omega (arith, within.0)) (omega (arith, within.1)) (number_itself p.0)) idle)
 
-  pub nothing_left : (whole : Bool) (rest left : Option (List Answer)) (later : List Event) → in_flight t.planned_at ≡ [] → Goes t whole [] rest later left
-      → flight t later ≡ [] → in_flight (journal t later) ≡ []
+  pub nothing_left : (whole : Bool) (rest left : Option (List Answer)) (later : List Event) → in_flight_by_begin t.planned_at ≡ [] → Goes t whole [] rest later left
+      → numbers_in_flight t later ≡ [] → in_flight_by_begin (journal t later) ≡ []
   nothing_left whole rest left after before goes idle =
-      none-in_flight t.planned_at after before ∙ idle_flown after idle (in_flight after) (flown_always whole rest left after goes).all
+      none-in_flight t.planned_at after before ∙ idle_flown after idle (in_flight_by_begin after) (flown_always whole rest left after goes).all

@@ -17,7 +17,7 @@ use Rattle.cluster_types.specs.declared.leaf.Role.TheVariants as role
 use Rattle.cluster_types.specs.Answering.{monitor_action, role_of_interval}
 use Rattle.cluster_types.specs.Fields.{monitors}
 use Rattle.cluster_types.specs.Outcomes.{is_bad, is_ignored}
-use Rattle.cluster_types.specs.Steps.{Transition, Begins, Goes, here, one_more, aborts, action_at, has_aborted, is_in_flight_number, is_success}
+use Rattle.cluster_types.specs.Steps.{Transition, Begins, Goes, here, one_more, aborts, action_at, has_aborted, is_number_in_flight, is_success}
 use Rattle.run_safety.proofs.InOrder.{aborted_before}
 use Rattle.run_safety.proofs.Shapes.{Adds, nothing, begun as begins, over, reported, lost, up, quorum, wait, isnt_gone, step_adds, gone_with}
 use Rattle.run_safety.proofs.Truths.{refuse}
@@ -27,7 +27,7 @@ module _ (t : Transition) where
   pub data Calm : List Event → Type 0 where
     none : Calm []
     begun : (since : List Event) (k : ℕ) (a : Action) → Calm since → Begins t since k a → Calm (since ++ Begin k a ∷ [])
-    done : (since : List Event) (k moment : ℕ) (a : Action) (o : Outcome) → Calm since → action_at t k ≡ Some a → is_in_flight_number t since k ≡ true
+    done : (since : List Event) (k moment : ℕ) (a : Action) (o : Outcome) → Calm since → action_at t k ≡ Some a → is_number_in_flight t since k ≡ true
         → is_success t.cluster a o ≡ true → Calm (since ++ Ended k a o moment ∷ [])
     waited : (since : List Event) (seconds : ℕ) → Calm since → Calm (since ++ Wait seconds ∷ [])
 

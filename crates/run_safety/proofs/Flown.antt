@@ -7,7 +7,7 @@ use Rattle.lemmas.proofs.Booleans.{sooner, later, either, number_itself}
 use Rattle.cluster_types.specs.declared.journal.Action.{Action}
 use Rattle.cluster_types.specs.declared.journal.Event.{Event}
 use Rattle.cluster_types.specs.declared.journal.Event.TheVariants.{Up, Down, Lost, Quorum, Wait, Cleanup, Begin, Ended}
-use Rattle.cluster_types.specs.Journals.{ends_number, in_flight}
+use Rattle.cluster_types.specs.Journals.{ends_number, in_flight_by_begin}
 use Rattle.cluster_types.specs.Steps.{Transition, Begins, begins_number, has_begun, has_ended}
 use Rattle.cluster_types.proofs.StepLaws.{begins_nothing, not_begun}
 use Rattle.cluster_types.proofs.JournalLaws.{nothing_begun}
@@ -16,12 +16,12 @@ use Rattle.run_safety.proofs.InFlight.{number_within}
 use Rattle.run_safety.proofs.Shapes.{Flies}
 
 -- one begin more is in flight
-begin_flies : (es : List Event) (k : ℕ) (a : Action) → in_flight (es ++ Begin k a ∷ []) ≡ in_flight es ++ (k, a) ∷ []
+begin_flies : (es : List Event) (k : ℕ) (a : Action) → in_flight_by_begin (es ++ Begin k a ∷ []) ≡ in_flight_by_begin es ++ (k, a) ∷ []
 begin_flies [] k a = refl
 begin_flies (Begin j b ∷ es) k a = by (list_any (ends_number j) es) refl (begin_flies es k a)
   where
-    by : (x : Bool) → list_any (ends_number j) es ≡ x → in_flight (es ++ Begin k a ∷ []) ≡ in_flight es ++ (k, a) ∷ []
-        → in_flight (Begin j b ∷ (es ++ Begin k a ∷ [])) ≡ in_flight (Begin j b ∷ es) ++ (k, a) ∷ []
+    by : (x : Bool) → list_any (ends_number j) es ≡ x → in_flight_by_begin (es ++ Begin k a ∷ []) ≡ in_flight_by_begin es ++ (k, a) ∷ []
+        → in_flight_by_begin (Begin j b ∷ (es ++ Begin k a ∷ [])) ≡ in_flight_by_begin (Begin j b ∷ es) ++ (k, a) ∷ []
     by true e rest = rw (list_any-append (ends_number j) es (Begin k a ∷ []), e) rest
     by false e rest = rw (list_any-append (ends_number j) es (Begin k a ∷ []), e) (ap (λ xs. (j, b) ∷ xs) rest)
 begin_flies (Up n ∷ es) k a = begin_flies es k a
@@ -35,16 +35,16 @@ begin_flies (Ended j b o m ∷ es) k a = begin_flies es k a
 -- what is in flight after events that begin nothing was in flight, and doesn't end by them
 module _ (P : ℕ × Action → Type 0) (Q : ℕ × Action → Type 0) (ys : List Event) (silent : list_all begins_nothing ys ≡ true)
     (kept : (p : ℕ × Action) → P p → list_any (ends_number p.0) ys ≡ false → Q p) where
-  still_flying : (es : List Event) → Each P (in_flight es) → Each Q (in_flight (es ++ ys))
+  still_flying : (es : List Event) → Each P (in_flight_by_begin es) → Each Q (in_flight_by_begin (es ++ ys))
   still_flying [] h = subst (Each Q) (sym (nothing_begun ys silent)) none
   still_flying (Begin j b ∷ es) h = by (list_any (ends_number j) es) refl h (still_flying es) (list_any (ends_number j) ys) refl
     where
-      first : Each P ((j, b) ∷ in_flight es) → P (j, b) × Each P (in_flight es)
+      first : Each P ((j, b) ∷ in_flight_by_begin es) → P (j, b) × Each P (in_flight_by_begin es)
       first (more _ _ p rest) = (p, rest)
 
-      by : (x : Bool) → list_any (ends_number j) es ≡ x → Each P (if x then in_flight es else (j, b) ∷ in_flight es)
-          → (Each P (in_flight es) → Each Q (in_flight (es ++ ys))) → (y : Bool) → list_any (ends_number j) ys ≡ y
-          → Each Q (in_flight (Begin j b ∷ (es ++ ys)))
+      by : (x : Bool) → list_any (ends_number j) es ≡ x → Each P (if x then in_flight_by_begin es else (j, b) ∷ in_flight_by_begin es)
+          → (Each P (in_flight_by_begin es) → Each Q (in_flight_by_begin (es ++ ys))) → (y : Bool) → list_any (ends_number j) ys ≡ y
+          → Each Q (in_flight_by_begin (Begin j b ∷ (es ++ ys)))
       by true e h rest y f = rw (list_any-append (ends_number j) es ys, e) (rest h)
       by false e h rest true f = rw (list_any-append (ends_number j) es ys, e, f) (rest (first h).1)
       by false e h rest false f = rw (list_any-append (ends_number j) es ys, e, f) (more (j, b) _ (kept (j, b) (first h).0 f) (rest (first h).1))
@@ -59,7 +59,7 @@ module _ (P : ℕ × Action → Type 0) (Q : ℕ × Action → Type 0) (ys : Lis
 module _ (t : Transition) where
   -- of some events of the transition: what is in flight has a number that is, and what has ended had begun
   pub record Flown (since : List Event) : Type 0 where
-    pub all : Each (Flies t since) (in_flight since)
+    pub all : Each (Flies t since) (in_flight_by_begin since)
     pub begun_first : (k : ℕ) → 0 < k → has_ended t since k ≡ true → has_begun t since k ≡ true
 
   module _ (since ys : List Event) (flown : Flown since) where
@@ -80,7 +80,7 @@ module _ (t : Transition) where
 
   pub begin_flown : (since : List Event) (k : ℕ) (a : Action) → Flown since → Begins t since k a → Flown (since ++ Begin k a ∷ [])
   begin_flown since k a flown begins = record {
-    all = subst (Each (Flies t (since ++ Begin k a ∷ []))) (sym (begin_flies since k a)) (with_one_more (in_flight since) flown.all);
+    all = subst (Each (Flies t (since ++ Begin k a ∷ []))) (sym (begin_flies since k a)) (with_one_more (in_flight_by_begin since) flown.all);
     begun_first = λ j low h. kept_begun since (Begin k a ∷ []) flown j (flown.begun_first j low (ended_before j h));
   }
     where

@@ -13,7 +13,7 @@ use Rattle.cluster_types.specs.declared.journal.Event.{Event}
 use Rattle.cluster_types.specs.declared.journal.Outcome.TheVariants.{Gone}
 use Rattle.cluster_types.specs.Answering.{end_event}
 use Rattle.cluster_types.specs.Journals.{is_on, ends_number}
-use Rattle.cluster_types.specs.Steps.{Transition, action_at, begins_number, flying, has_begun, has_ended, is_in_flight_number, journal, numbered, numbers}
+use Rattle.cluster_types.specs.Steps.{Transition, action_at, begins_number, in_flight_by_number, has_begun, has_ended, is_number_in_flight, journal, numbered, numbers}
 use Rattle.run_safety.proofs.Shapes.{gone_with}
 
 -- what is in flight, and didn't begin just now, was in flight, and doesn't end just now
@@ -24,8 +24,8 @@ parted true false false true f h = cc
 parted true false true d f h = cc
 parted false false c d f h = cc
 
-pub was_in_flight : (t : Transition) (since ys : List Event) (k : ℕ) → list_any (begins_number k) ys ≡ false → is_in_flight_number t (since ++ ys) k ≡ true
-    → (is_in_flight_number t since k ≡ true) × (list_any (ends_number k) ys ≡ false)
+pub was_in_flight : (t : Transition) (since ys : List Event) (k : ℕ) → list_any (begins_number k) ys ≡ false → is_number_in_flight t (since ++ ys) k ≡ true
+    → (is_number_in_flight t since k ≡ true) × (list_any (ends_number k) ys ≡ false)
 was_in_flight t since ys k f h =
     parted (has_begun t since k) (list_any (begins_number k) ys) (has_ended t since k) (list_any (ends_number k) ys) f
     (rw (list_any-append (begins_number k) since ys, list_any-append (ends_number k) since ys) at h)
@@ -45,29 +45,29 @@ number_within actions k a h = by (k == 0) refl h
 -- An action in flight on a node that is lost ends with it.
 
 module _ (t : Transition) (since : List Event) (k : ℕ) (a : Action) (test : ℕ × Action → Bool) (here : test (k, a) ≡ true) (is : action_at t k ≡ Some a)
-    (flies : is_in_flight_number t since k ≡ true) where
+    (flies : is_number_in_flight t since k ≡ true) where
   abbrev pairs : ℕ → List (ℕ × Action)
   pairs j = option_map_or (λ a. (j, a) ∷ []) (action_at t j) []
 
-  among : (ks : List ℕ) → list_any (λ j. j == k) ks ≡ true → list_any test (flat_map pairs (filter (is_in_flight_number t since) ks)) ≡ true
+  among : (ks : List ℕ) → list_any (λ j. j == k) ks ≡ true → list_any test (flat_map pairs (filter (is_number_in_flight t since) ks)) ≡ true
   among [] h = cc
   among (j ∷ ks) h = by (j == k) refl h (among ks)
     where
-      first : j ≡ k → list_any test (flat_map pairs (filter (is_in_flight_number t since) (j ∷ ks))) ≡ true
+      first : j ≡ k → list_any test (flat_map pairs (filter (is_number_in_flight t since) (j ∷ ks))) ≡ true
       first e = rw e (rw flies (rw is (rw here refl)))
 
-      more : (b : Bool) → list_any test (flat_map pairs (filter (is_in_flight_number t since) ks)) ≡ true
-          → list_any test (flat_map pairs (cond b (j ∷ filter (is_in_flight_number t since) ks) (filter (is_in_flight_number t since) ks))) ≡ true
-      more true h = list_any-append test (pairs j) (flat_map pairs (filter (is_in_flight_number t since) ks)) ∙ or_right _ _ h
+      more : (b : Bool) → list_any test (flat_map pairs (filter (is_number_in_flight t since) ks)) ≡ true
+          → list_any test (flat_map pairs (cond b (j ∷ filter (is_number_in_flight t since) ks) (filter (is_number_in_flight t since) ks))) ≡ true
+      more true h = list_any-append test (pairs j) (flat_map pairs (filter (is_number_in_flight t since) ks)) ∙ or_right _ _ h
       more false h = h
 
       by : (b : Bool) → (j == k) ≡ b → b || list_any (λ j. j == k) ks ≡ true
-          → (list_any (λ j. j == k) ks ≡ true → list_any test (flat_map pairs (filter (is_in_flight_number t since) ks)) ≡ true)
-          → list_any test (flat_map pairs (filter (is_in_flight_number t since) (j ∷ ks))) ≡ true
+          → (list_any (λ j. j == k) ks ≡ true → list_any test (flat_map pairs (filter (is_number_in_flight t since) ks)) ≡ true)
+          → list_any test (flat_map pairs (filter (is_number_in_flight t since) (j ∷ ks))) ≡ true
       by true e h rest = first (eqb-true j k e)
-      by false e h rest = more (is_in_flight_number t since j) (rest h)
+      by false e h rest = more (is_number_in_flight t since j) (rest h)
 
-  pub among_flying : list_any test (flying t since) ≡ true
+  pub among_flying : list_any test (in_flight_by_number t since) ≡ true
   among_flying =
       let within = number_within t.actions k a is in
       among (numbers t) (some_in_range (λ j. j == k) 1 (length t.actions) k (omega (arith, within.0)) (omega (arith, within.1)) (number_itself k))
@@ -85,8 +85,8 @@ ends_among k n end is (p ∷ ps) h = by (is_on n p.1) (p.0 == k) refl h (ends_am
     by false true e h rest = rest h
     by false false e h rest = rest h
 
-pub ends_with_node : (t : Transition) (since : List Event) (k n : ℕ) (a : Action) → action_at t k ≡ Some a → is_in_flight_number t since k ≡ true → is_on n a ≡ true
+pub ends_with_node : (t : Transition) (since : List Event) (k n : ℕ) (a : Action) → action_at t k ≡ Some a → is_number_in_flight t since k ≡ true → is_on n a ≡ true
     → list_any (ends_number k) (gone_with t since n) ≡ true
 ends_with_node t since k n a is flies on =
-    ends_among k n (end_event t.cluster (journal t since) (flying t since) Gone) (λ p. refl) (flying t since)
+    ends_among k n (end_event t.cluster (journal t since) (in_flight_by_number t since) Gone) (λ p. refl) (in_flight_by_number t since)
     (among_flying t since k a (λ (p : ℕ × Action). p.0 == k && is_on n p.1) (rw (number_itself k) on) is flies)

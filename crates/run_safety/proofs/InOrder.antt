@@ -14,7 +14,7 @@ use Rattle.cluster_types.specs.declared.journal.Outcome.TheVariants.{Gone}
 use Rattle.cluster_types.specs.Answering.{end_event}
 use Rattle.cluster_types.specs.Journals.{joined, Orderly, is_on, last_sign, sign_of, wants_node, was_fenced}
 use Rattle.cluster_types.specs.NodeStates.{is_online}
-use Rattle.cluster_types.specs.Steps.{Transition, aborts, action_at, begins_number, flying, has_aborted, is_in_flight_number, journal}
+use Rattle.cluster_types.specs.Steps.{Transition, aborts, action_at, begins_number, in_flight_by_number, has_aborted, is_number_in_flight, journal}
 use Rattle.cluster_types.proofs.StepLaws.{split}
 use Rattle.cluster_types.proofs.EagerLaws.{at_only}
 use Rattle.run_safety.proofs.Each.{Each, none, more}
@@ -71,7 +71,7 @@ aborted_before t since ys h = or_parts (has_aborted t since) (list_any (aborts t
 module _ (t : Transition) (keeps : KeepsToNodes t) (since : List Event) (stands : Stands t since) where
   -- one event that finds its node there, and leaves all nodes there that are asked for
   stands_one : (e : Event) → ((n : ℕ) → wants_node n e ≡ true → last_sign n (journal t since) ≡ Some joined)
-      → ((k n : ℕ) (a : Action) → action_at t k ≡ Some a → is_in_flight_number t (since ++ e ∷ []) k ≡ true → is_on n a ≡ true → last_sign n (journal t since) ≡ Some joined)
+      → ((k n : ℕ) (a : Action) → action_at t k ≡ Some a → is_number_in_flight t (since ++ e ∷ []) k ≡ true → is_on n a ≡ true → last_sign n (journal t since) ≡ Some joined)
       → ((n : ℕ) → is_online t.cluster n t.planned_at ≡ true → is_kept n (sign_of n e) ≡ true)
       → Stands t (since ++ e ∷ [])
   stands_one e wanted flown kept =
@@ -97,7 +97,7 @@ module _ (t : Transition) (keeps : KeepsToNodes t) (since : List Event) (stands 
   begin_stands k a is unaborted =
       stands_one (Begin k a) (λ n w. stands.steady unaborted n (keeps.online k n a is w)) flown (λ n on. refl)
     where
-      flown : (j n : ℕ) (b : Action) → action_at t j ≡ Some b → is_in_flight_number t (since ++ Begin k a ∷ []) j ≡ true → is_on n b ≡ true
+      flown : (j n : ℕ) (b : Action) → action_at t j ≡ Some b → is_number_in_flight t (since ++ Begin k a ∷ []) j ≡ true → is_on n b ≡ true
           → last_sign n (journal t since) ≡ Some joined
       flown j n b ib flies on = stands.steady unaborted n (keeps.online j n b ib (on_wants j n b on))
 
@@ -111,16 +111,16 @@ module _ (t : Transition) (keeps : KeepsToNodes t) (since : List Event) (stands 
   -- a loss: first ends what was in flight there, and then the node is gone
   pub gone_flies : (n : ℕ) (ps : List (ℕ × Action)) → Each (Flies t since) ps
       → Each (λ e. ((m : ℕ) → sign_of m e ≡ None) × ((m : ℕ) → wants_node m e ≡ true → last_sign m (journal t since) ≡ Some joined)
-      × ((k : ℕ) → begins_number k e ≡ false)) (map (end_event t.cluster (journal t since) (flying t since) Gone) (filter (λ (p : ℕ × Action). is_on n p.1) ps))
+      × ((k : ℕ) → begins_number k e ≡ false)) (map (end_event t.cluster (journal t since) (in_flight_by_number t since) Gone) (filter (λ (p : ℕ × Action). is_on n p.1) ps))
   gone_flies n _ none = none
   gone_flies n _ (more p ps f rest) = by (is_on n p.1) (gone_flies n ps rest)
     where
       Fits : Event → Type 0
       Fits e = ((m : ℕ) → sign_of m e ≡ None) × ((m : ℕ) → wants_node m e ≡ true → last_sign m (journal t since) ≡ Some joined) × ((k : ℕ) → begins_number k e ≡ false)
 
-      by : (b : Bool) → Each Fits (map (end_event t.cluster (journal t since) (flying t since) Gone) (filter (λ (p : ℕ × Action). is_on n p.1) ps))
-          → Each Fits (map (end_event t.cluster (journal t since) (flying t since) Gone) (cond b (p ∷ filter (λ (p : ℕ × Action). is_on n p.1) ps) (filter (λ (p : ℕ × Action). is_on n p.1) ps)))
+      by : (b : Bool) → Each Fits (map (end_event t.cluster (journal t since) (in_flight_by_number t since) Gone) (filter (λ (p : ℕ × Action). is_on n p.1) ps))
+          → Each Fits (map (end_event t.cluster (journal t since) (in_flight_by_number t since) Gone) (cond b (p ∷ filter (λ (p : ℕ × Action). is_on n p.1) ps) (filter (λ (p : ℕ × Action). is_on n p.1) ps)))
       by true after =
-          more (end_event t.cluster (journal t since) (flying t since) Gone p) _
+          more (end_event t.cluster (journal t since) (in_flight_by_number t since) Gone p) _
           ((λ m. gone_shows_nothing p.0 m _ p.1), (λ m w. stands.there p.0 m p.1 f.action f.in_flight w), (λ k. refl)) after
       by false after = after

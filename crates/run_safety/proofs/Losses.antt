@@ -14,7 +14,7 @@ use Rattle.cluster_types.specs.declared.journal.Outcome.TheVariants.{Code, Gone}
 use Rattle.cluster_types.specs.Answering.{end_event, monitor_action, tells_news}
 use Rattle.cluster_types.specs.Journals.{joined, Orderly, ends_number, is_on, last_sign, sign_of, wants_node}
 use Rattle.cluster_types.specs.NodeStates.{is_online}
-use Rattle.cluster_types.specs.Steps.{Transition, Goes, here, one_more, aborts, action_at, begins_number, flying, has_aborted, is_in_flight_number, journal}
+use Rattle.cluster_types.specs.Steps.{Transition, Goes, here, one_more, aborts, action_at, begins_number, in_flight_by_number, has_aborted, is_number_in_flight, journal}
 use Rattle.cluster_types.proofs.StepLaws.{split, not_aborted, begins_nothing, joined_all, map_all}
 use Rattle.cluster_types.proofs.EagerLaws.{at_only}
 use Rattle.run_safety.proofs.Each.{Each, each_at, each_end, each_map, none_passes}
@@ -31,7 +31,7 @@ module _ (t : Transition) (since : List Event) where
 
   module _ (keeps : KeepsToNodes t) (stands : Stands t since) (n : ℕ) where
     ends : Each Ends (gone_with t since n)
-    ends = gone_flies t keeps since stands n (flying t since) (all_fly t since)
+    ends = gone_flies t keeps since stands n (in_flight_by_number t since) (all_fly t since)
 
     nothing_begun : (k : ℕ) → list_any (begins_number k) (gone_with t since n ++ Lost n ∷ []) ≡ false
     nothing_begun k =
@@ -50,11 +50,11 @@ module _ (t : Transition) (since : List Event) where
         absurd (let f : ⊥ = cc in f))))
 
     -- what is still in flight is on another node
-    elsewhere : (k m : ℕ) (a : Action) → action_at t k ≡ Some a → is_in_flight_number t (since ++ (gone_with t since n ++ Lost n ∷ [])) k ≡ true → is_on m a ≡ true
+    elsewhere : (k m : ℕ) (a : Action) → action_at t k ≡ Some a → is_number_in_flight t (since ++ (gone_with t since n ++ Lost n ∷ [])) k ≡ true → is_on m a ≡ true
         → last_sign m (journal t since ++ (gone_with t since n ++ Lost n ∷ [])) ≡ Some joined
     elsewhere k m a is flies on = by (n == m) refl
       where
-        was : (is_in_flight_number t since k ≡ true) × (list_any (ends_number k) (gone_with t since n ++ Lost n ∷ []) ≡ false)
+        was : (is_number_in_flight t since k ≡ true) × (list_any (ends_number k) (gone_with t since n ++ Lost n ∷ []) ≡ false)
         was = was_in_flight t since (gone_with t since n ++ Lost n ∷ []) k (nothing_begun k) flies
 
         by : (b : Bool) → (n == m) ≡ b → last_sign m (journal t since ++ (gone_with t since n ++ Lost n ∷ [])) ≡ Some joined
@@ -86,10 +86,10 @@ module _ (t : Transition) (since : List Event) where
 pub gone_begins_nothing : (t : Transition) (since : List Event) (n : ℕ) → list_all begins_nothing (gone_with t since n ++ Lost n ∷ []) ≡ true
 gone_begins_nothing t since n =
     joined_all begins_nothing (gone_with t since n) (Lost n ∷ [])
-    (map_all begins_nothing (end_event t.cluster (journal t since) (flying t since) Gone) (λ p. refl) (filter (λ (p : ℕ × Action). is_on n p.1) (flying t since))) refl
+    (map_all begins_nothing (end_event t.cluster (journal t since) (in_flight_by_number t since) Gone) (λ p. refl) (filter (λ (p : ℕ × Action). is_on n p.1) (in_flight_by_number t since))) refl
 
 module _ (t : Transition) (keeps : KeepsToNodes t) where
-  news_online : (since : List Event) (r n interval code : ℕ) → tells_news t.cluster (journal t since) (flying t since) n r interval code ≡ true
+  news_online : (since : List Event) (r n interval code : ℕ) → tells_news t.cluster (journal t since) (in_flight_by_number t since) n r interval code ≡ true
       → is_online t.cluster n (journal t since) ≡ true
   news_online since r n interval code h = later _ _ (sooner _ _ (sooner _ _ (sooner _ _ (sooner _ _ h))))
 

@@ -16,7 +16,7 @@ use Rattle.cluster_types.specs.declared.run.RunLine.{RunLine}
 use Rattle.cluster_types.specs.Answering.{is_number_of, most_from_outside}
 use Rattle.cluster_types.specs.Journals.{is_on, moment_of, seconds_of}
 use Rattle.cluster_types.specs.Runs.{RunStanding, RunsOn, plans, goes, completes, aborts, answers, Runs, journal_at}
-use Rattle.cluster_types.specs.Steps.{Transition, StepsOn, begins, takes, is_silent, Applies, answer_events, flying, journal, outside, resting, silent_code}
+use Rattle.cluster_types.specs.Steps.{Transition, StepsOn, begins, takes, is_silent, Applies, answer_events, in_flight_by_number, journal, outside, resting, silent_code}
 use Rattle.lemmas.proofs.Booleans.{later}
 use Rattle.run_safety.proofs.Along.{along}
 
@@ -32,11 +32,11 @@ module _ (t : Transition) (since : List Event) where
   -- what was said adds no seconds, or so many that the moment stays in its bound
   pub answer_seconds : (given : Answer) → Applies t since given → moment_of (journal t since) < 2 ^ 40 → moment_of (journal t since) + sum_by seconds_of (answer_events t since given) < 2 ^ 40
   answer_seconds (answer.End k code) applies low =
-      let e = no_seconds (moment_of (journal t since)) (Code code) (find (is_number_of k) (flying t since)) in omega (arith, e, low)
+      let e = no_seconds (moment_of (journal t since)) (Code code) (find (is_number_of k) (in_flight_by_number t since)) in omega (arith, e, low)
   answer_seconds (answer.Timeout k) applies low =
-      let e = no_seconds (moment_of (journal t since)) TimedOut (find (is_number_of k) (flying t since)) in omega (arith, e, low)
+      let e = no_seconds (moment_of (journal t since)) TimedOut (find (is_number_of k) (in_flight_by_number t since)) in omega (arith, e, low)
   answer_seconds (answer.Lost n) applies low =
-      let e = gone_seconds (moment_of (journal t since)) n (filter (λ (p : ℕ × Action). is_on n p.1) (flying t since)) in omega (arith, e, low)
+      let e = gone_seconds (moment_of (journal t since)) n (filter (λ (p : ℕ × Action). is_on n p.1) (in_flight_by_number t since)) in omega (arith, e, low)
   answer_seconds (answer.Up n) applies low = omega (arith, low)
   answer_seconds (answer.Quorum now) applies low = omega (arith, low)
   answer_seconds (answer.Wait seconds) applies low =
@@ -48,7 +48,7 @@ module _ (t : Transition) (since : List Event) where
   step_seconds whole _ rest _ (begins _ k a begin) low = omega (arith, low)
   step_seconds whole _ rest left (takes _ _ given said taken) low = answer_seconds given taken.applies low
   step_seconds whole _ rest left (is_silent _ _ k a said ends) low =
-      let e = no_seconds (moment_of (journal t since)) (Code (silent_code a)) (find (is_number_of k) (flying t since)) in omega (arith, e, low)
+      let e = no_seconds (moment_of (journal t since)) (Code (silent_code a)) (find (is_number_of k) (in_flight_by_number t since)) in omega (arith, e, low)
 
 joined_moment : (xs ys : List Event) → moment_of xs + sum_by seconds_of ys < 2 ^ 40 → moment_of (xs ++ ys) < 2 ^ 40
 joined_moment xs ys h = subst (λ z. z < 2 ^ 40) (sym (sum_by-append seconds_of xs ys)) h

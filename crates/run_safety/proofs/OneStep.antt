@@ -8,7 +8,7 @@ use Rattle.cluster_types.specs.declared.journal.Event.{Event}
 use Rattle.cluster_types.specs.declared.journal.Event.TheVariants.{Begin}
 use Rattle.cluster_types.specs.declared.journal.Outcome.TheVariants.{Code}
 use Rattle.cluster_types.specs.Sources.{Says}
-use Rattle.cluster_types.specs.Steps.{Transition, Begins, StepsOn, begins, takes, is_silent, HasEnded, IsWaiting, EndsSilently, action_at, ended, answer_events, flight, has_aborted, has_begun, has_room, is_settled, may_begin, numbers, silent_code}
+use Rattle.cluster_types.specs.Steps.{Transition, Begins, StepsOn, begins, takes, is_silent, HasEnded, IsWaiting, EndsSilently, action_at, ended, answer_events, numbers_in_flight, has_aborted, has_begun, has_room, is_settled, may_begin, numbers, silent_code}
 use Rattle.lemmas.proofs.Booleans.{sooner}
 use Rattle.std.proofs.lemmas.Bool.{not-true}
 use Rattle.run_safety.specs.Followed.{AreAnswersTold}
@@ -41,7 +41,7 @@ module _ (t : Transition) (since : List Event) where
 
   -- a transition that has ended doesn't wait
   pub ended_waits : {R : Type 0} → HasEnded t since → IsWaiting t since → R
-  ended_waits over waiting = absurd (let e = over.idle in let f : 0 < length (flight t since) = waiting.busy in let g : 0 < 0 = subst (λ z. 0 < length z) e f in let h : ⊥ = omega (arith, g) in h)
+  ended_waits over waiting = absurd (let e = over.idle in let f : 0 < length (numbers_in_flight t since) = waiting.busy in let g : 0 < 0 = subst (λ z. 0 < length z) e f in let h : ⊥ = omega (arith, g) in h)
 
   -- nor does it go a step
   pub ended_goes : {R : Type 0} (whole : Bool) (events : List Event) (rest left : Option (List Answer)) → HasEnded t since → StepsOn t whole since rest events left → R

@@ -9,7 +9,7 @@ use Rattle.cluster_types.specs.declared.cluster.Cluster.{Cluster}
 use Rattle.cluster_types.specs.declared.journal.Event.{Event}
 use Rattle.cluster_types.specs.declared.journal.Event.TheVariants.{Wait, Begin, Ended}
 use Rattle.cluster_types.specs.Journals.{ends_number}
-use Rattle.cluster_types.specs.Steps.{Transition, begins_number, has_begun, has_ended, has_succeeded, is_in_flight_number, succeeds_number}
+use Rattle.cluster_types.specs.Steps.{Transition, begins_number, has_begun, has_ended, has_succeeded, is_number_in_flight, succeeds_number}
 use Rattle.cluster_types.proofs.StepLaws.{has_preceded}
 use Rattle.run_safety.proofs.Calm.{Calm, none, begun, done, waited}
 use Rattle.run_safety.proofs.Truths.{refuse}
@@ -53,5 +53,5 @@ module _ (t : Transition) where
   preceded _ k j (waited since s calm) h low high before =
       any_split (begins_number k) since (Wait s) h (λ g. any_first (succeeds_number t.cluster j) since _ (preceded since k j calm g low high before)) (λ g. cc)
 
-  pub in_flight_not_done : (since : List Event) (k : ℕ) → is_in_flight_number t since k ≡ true → has_succeeded t since k ≡ true → {R : Type 0} → R
+  pub in_flight_not_done : (since : List Event) (k : ℕ) → is_number_in_flight t since k ≡ true → has_succeeded t since k ≡ true → {R : Type 0} → R
   in_flight_not_done since k flies h = refuse (has_ended t since k) (not-true _ (later (has_begun t since k) _ flies)) (succeeded_ended since k h)

@@ -14,7 +14,7 @@ use Rattle.cluster_types.specs.declared.journal.Outcome.TheVariants.{Code, Timed
 use Rattle.cluster_types.specs.declared.run.RunLine.TheVariants as line
 use Rattle.cluster_types.specs.Answering.{end_event, is_number_of}
 use Rattle.cluster_types.specs.Journals.{is_on, moment_of}
-use Rattle.cluster_types.specs.Steps.{Transition, Applies, ended, answer_events, flying, journal}
+use Rattle.cluster_types.specs.Steps.{Transition, Applies, ended, answer_events, in_flight_by_number, journal}
 use Rattle.cluster_types.specs.Texts.{event_lines}
 use Rattle.run_safety.proofs.InFlight.{number_within}
 use Rattle.run_safety.proofs.Each.{Each, none, more}
@@ -51,19 +51,19 @@ gone_lines m n [] = refl
 gone_lines m n (p ∷ ps) = ap (λ z. z ++ flat_map event_lines (map (λ (p : ℕ × Action). Ended p.0 p.1 Gone m) ps ++ Lost n ∷ [])) (gone_line p.0 m p.1) ∙ gone_lines m n ps
 
 module _ (t : Transition) (since : List Event) where
-  pub end_line : (k code : ℕ) → list_any (is_number_of k) (flying t since) ≡ true → flat_map event_lines (ended t since k (Code code)) ≡ line.Taken (answer.End k code) ∷ []
+  pub end_line : (k code : ℕ) → list_any (is_number_of k) (in_flight_by_number t since) ≡ true → flat_map event_lines (ended t since k (Code code)) ≡ line.Taken (answer.End k code) ∷ []
   end_line k code h =
-      found_one (Flies t since) (is_number_of k) _ (flying t since) (all_fly t since) h (λ p e f same.
+      found_one (Flies t since) (is_number_of k) _ (in_flight_by_number t since) (all_fly t since) h (λ p e f same.
       let within = number_within t.actions p.0 p.1 f.action in
       let low : 0 < p.0 = omega (arith, within.0) in
-      ap (λ (z : Option (ℕ × Action)). flat_map event_lines (option_map_or (λ p. end_event t.cluster (journal t since) (flying t since) (Code code) p ∷ []) z [])) e
+      ap (λ (z : Option (ℕ × Action)). flat_map event_lines (option_map_or (λ p. end_event t.cluster (journal t since) (in_flight_by_number t since) (Code code) p ∷ []) z [])) e
       ∙ ap (λ z. z ++ []) (code_line p.0 (moment_of (journal t since)) code p.1 low)
       ∙ ap (λ z. line.Taken (answer.End z code) ∷ []) (eqb-true p.0 k same))
 
-  timeout_line : (k : ℕ) → list_any (is_number_of k) (flying t since) ≡ true → flat_map event_lines (ended t since k TimedOut) ≡ line.Taken (answer.Timeout k) ∷ []
+  timeout_line : (k : ℕ) → list_any (is_number_of k) (in_flight_by_number t since) ≡ true → flat_map event_lines (ended t since k TimedOut) ≡ line.Taken (answer.Timeout k) ∷ []
   timeout_line k h =
-      found_one (Flies t since) (is_number_of k) _ (flying t since) (all_fly t since) h (λ p e f same.
-      ap (λ (z : Option (ℕ × Action)). flat_map event_lines (option_map_or (λ p. end_event t.cluster (journal t since) (flying t since) TimedOut p ∷ []) z [])) e
+      found_one (Flies t since) (is_number_of k) _ (in_flight_by_number t since) (all_fly t since) h (λ p e f same.
+      ap (λ (z : Option (ℕ × Action)). flat_map event_lines (option_map_or (λ p. end_event t.cluster (journal t since) (in_flight_by_number t since) TimedOut p ∷ []) z [])) e
       ∙ timed p.0 (moment_of (journal t since)) p.1 (let within = number_within t.actions p.0 p.1 f.action in omega (arith, within.0))
       ∙ ap (λ z. line.Taken (answer.Timeout z) ∷ []) (eqb-true p.0 k same))
     where
@@ -74,7 +74,7 @@ module _ (t : Transition) (since : List Event) where
   pub answer_line : (given : Answer) → Applies t since given → flat_map event_lines (answer_events t since given) ≡ line.Taken given ∷ []
   answer_line (answer.End k code) h = end_line k code h
   answer_line (answer.Timeout k) h = timeout_line k h
-  answer_line (answer.Lost n) h = gone_lines (moment_of (journal t since)) n (filter (λ (p : ℕ × Action). is_on n p.1) (flying t since))
+  answer_line (answer.Lost n) h = gone_lines (moment_of (journal t since)) n (filter (λ (p : ℕ × Action). is_on n p.1) (in_flight_by_number t since))
   answer_line (answer.Up n) h = refl
   answer_line (answer.Quorum true) h = refl
   answer_line (answer.Quorum false) h = refl

@@ -7,7 +7,7 @@ use Rattle.cluster_types.specs.declared.journal.Answer.{Answer}
 use Rattle.cluster_types.specs.declared.journal.Event.{Event}
 use Rattle.cluster_types.specs.declared.journal.Promotion.{Promotion}
 use Rattle.cluster_types.specs.declared.run.RunLine.{RunLine}
-use Rattle.cluster_types.specs.Journals.{Orderly, in_flight}
+use Rattle.cluster_types.specs.Journals.{Orderly, in_flight_by_begin}
 use Rattle.cluster_types.specs.Runs.{RunStanding, due, amid, idle, RunsOn, plans, goes, completes, aborts, answers, Runs, IsBetween, journal_at}
 use Rattle.cluster_types.specs.Safety.{IsAtRest, IsSafeAt, IsSafeRun}
 use Rattle.cluster_types.specs.Steps.{Goes, here as none_yet, action_at, answer_events, resting}
@@ -25,9 +25,9 @@ no_action c es k a is = let within = number_within [] k a is in let f : ⊥ = om
 module _ (c : Cluster) (promotions : List Promotion) (whole : Bool) where
   -- between two transitions nothing is in flight; amid one it went on from a plan for such a journal
   abbrev Rests : RunStanding → Type 0
-  Rests (due k es) = in_flight es ≡ []
-  Rests (amid k t since) = (in_flight t.planned_at ≡ []) × Goes t whole [] None since None
-  Rests (idle k es) = in_flight es ≡ []
+  Rests (due k es) = in_flight_by_begin es ≡ []
+  Rests (amid k t since) = (in_flight_by_begin t.planned_at ≡ []) × Goes t whole [] None since None
+  Rests (idle k es) = in_flight_by_begin es ≡ []
 
   one_rests : (at next : RunStanding) (rest left : Option (List Answer)) (lines : List RunLine) → RunsOn c promotions whole at rest lines next left → Rests at → Rests next
   one_rests _ _ rest _ _ (plans k es _ placed actions plan) at = (at, none_yet [] None)
@@ -40,12 +40,12 @@ module _ (c : Cluster) (promotions : List Promotion) (whole : Bool) where
       none-in_flight es (answer_events t [] given) at
       ∙ nothing_begun (answer_events t [] given) (silent t [] (answer_events t [] given) (λ k a begins. no_action c es k a begins.action) (answer_adds t [] given applies))
 
-  pub none_flies : (first : List Event) (at : RunStanding) (rest left : Option (List Answer)) (lines : List RunLine) → in_flight first ≡ []
-      → Runs c promotions whole (due 1 first) rest lines at left → IsBetween c promotions whole at → in_flight (journal_at at) ≡ []
+  pub none_flies : (first : List Event) (at : RunStanding) (rest left : Option (List Answer)) (lines : List RunLine) → in_flight_by_begin first ≡ []
+      → Runs c promotions whole (due 1 first) rest lines at left → IsBetween c promotions whole at → in_flight_by_begin (journal_at at) ≡ []
   none_flies first at rest left lines none runs = by at
       (along c promotions whole (λ p _ _. Rests p) (λ p q middle behind before more step h. one_rests p q middle behind more step h) (due 1 first) at rest left [] lines runs none)
     where
-      by : (at : RunStanding) → Rests at → IsBetween c promotions whole at → in_flight (journal_at at) ≡ []
+      by : (at : RunStanding) → Rests at → IsBetween c promotions whole at → in_flight_by_begin (journal_at at) ≡ []
       by (due k es) h between = h
       by (amid k t since) h between = absurd between
       by (idle k es) h between = h

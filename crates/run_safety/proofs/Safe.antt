@@ -10,10 +10,10 @@ use Rattle.cluster_types.specs.declared.leaf.Op.TheVariants as op
 use Rattle.cluster_types.specs.declared.leaf.Role.{Role}
 use Rattle.cluster_types.specs.declared.placement.Placed.{Placed}
 use Rattle.cluster_types.specs.Fields.{copies, is_cloned, promoted_copies}
-use Rattle.cluster_types.specs.Journals.{Orderly, in_flight}
+use Rattle.cluster_types.specs.Journals.{Orderly, in_flight_by_begin}
 use Rattle.cluster_types.specs.May.{may, may_promoted}
 use Rattle.cluster_types.specs.Safety.{EndsInTargets, IsSafe, MigrationsAlone, NoForbiddenNeighbour, NoSecondCopy, NoSecondPromotion, count_of_others}
-use Rattle.cluster_types.specs.Steps.{Transition, Goes, HasEnded, flight, has_aborted, journal}
+use Rattle.cluster_types.specs.Steps.{Transition, Goes, HasEnded, numbers_in_flight, has_aborted, journal}
 use Rattle.cluster_types.specs.Tables.{Targets, targets_of}
 use Rattle.cluster_types.proofs.SafetyLaws.{eager}
 use Rattle.cluster_types.proofs.StepLaws.{begins-its_own, predecessors-first}
@@ -46,7 +46,7 @@ module _ (promotions : List Promotion) (placed : Placed) (t : Transition) (of : 
   pub stays_in_order : Orderly (journal t later)
   stays_in_order = (stands_always t (keeps_to_nodes t targets carries sound) whole rest left later of.at_rest.0 goes).orderly
 
-  pub leaves_nothing : flight t later ≡ [] → in_flight (journal t later) ≡ []
+  pub leaves_nothing : numbers_in_flight t later ≡ [] → in_flight_by_begin (journal t later) ≡ []
   leaves_nothing idle = nothing_left t whole rest left later of.at_rest.1 goes idle
 
   pub adds_no_copy : NoSecondCopy t later

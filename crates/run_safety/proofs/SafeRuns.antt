@@ -12,7 +12,7 @@ use Rattle.cluster_types.specs.declared.run.RunLine.{RunLine}
 use Rattle.cluster_types.specs.Plans.{IsPlan, transition_of}
 use Rattle.cluster_types.specs.Runs.{RunStanding, due, amid, idle, RunsOn, plans, goes, completes, aborts, answers, Runs, here, one_more}
 use Rattle.cluster_types.specs.Safety.{IsAtRest, IsSafeAt, IsSafeRun}
-use Rattle.cluster_types.specs.Steps.{Transition, Begins, Goes, StepsOn, here as none_yet, action_at, answer_events, flight, journal, resting, Applies}
+use Rattle.cluster_types.specs.Steps.{Transition, Begins, Goes, StepsOn, here as none_yet, action_at, answer_events, numbers_in_flight, journal, resting, Applies}
 use Rattle.cluster_types.specs.Valid.{IsValid}
 use Rattle.cluster_types.proofs.SourceLaws.{goes-more, none-in_flight, step-untold}
 use Rattle.cluster_types.proofs.StepLaws.{begins_nothing}
@@ -45,7 +45,7 @@ module _ (c : Cluster) (promotions : List Promotion) (whole : Bool) (valid : IsV
   StandsAt (amid k t since) = IsUnderWay t since
   StandsAt (idle k es) = IsAtRest es
 
-  rests : (t : Transition) (since : List Event) → IsUnderWay t since → flight t since ≡ [] → IsAtRest (journal t since)
+  rests : (t : Transition) (since : List Event) → IsUnderWay t since → numbers_in_flight t since ≡ [] → IsAtRest (journal t since)
   rests _ _ (planned es placed actions at plan since so_far) none =
       let t = transition_of c es actions in
       let of = of_plan c es promotions placed actions valid at plan in (

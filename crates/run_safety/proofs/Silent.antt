@@ -18,7 +18,7 @@ use Rattle.cluster_types.specs.Answering.{end_event, is_number_of}
 use Rattle.cluster_types.specs.Journals.{moment_of}
 use Rattle.cluster_types.specs.Outcomes.{is_code_among}
 use Rattle.cluster_types.specs.Runs.{due, IsWholeRun, RunStanding, IsOver, idle, amid}
-use Rattle.cluster_types.specs.Steps.{Transition, StepsOn, begins, takes, is_silent, aborts, action_at, ended, expected_codes, flying, journal, silent_code}
+use Rattle.cluster_types.specs.Steps.{Transition, StepsOn, begins, takes, is_silent, aborts, action_at, ended, expected_codes, in_flight_by_number, journal, silent_code}
 use Rattle.run_safety.proofs.Each.{found}
 use Rattle.run_safety.proofs.Shapes.{Flies, all_fly}
 use Rattle.run_safety.specs.Followed.{AreAnswersTold, IsHeard, is_begin, is_taken}
@@ -42,15 +42,15 @@ unaborted c k m a b e = subst (λ z. aborts c (Ended k z (Code (silent_code a)) 
 
 module _ (t : Transition) (since : List Event) where
   pub silent_aborts_nothing : (k : ℕ) (a : Action) → action_at t k ≡ Some a → list_any (aborts t.cluster) (ended t since k (Code (silent_code a))) ≡ false
-  silent_aborts_nothing k a is = by (find (is_number_of k) (flying t since)) refl
+  silent_aborts_nothing k a is = by (find (is_number_of k) (in_flight_by_number t since)) refl
     where
       same : (p : ℕ × Action) → action_at t p.0 ≡ Some p.1 → (p.0 == k) ≡ true → a ≡ p.1
       same p h e = let g : action_at t k ≡ Some p.1 = subst (λ z. action_at t z ≡ Some p.1) (eqb-true p.0 k e) h in let f : Some a ≡ Some p.1 = sym is ∙ g in cc
 
-      by : (p : Option (ℕ × Action)) → find (is_number_of k) (flying t since) ≡ p
-          → list_any (aborts t.cluster) (option_map_or (λ p. end_event t.cluster (journal t since) (flying t since) (Code (silent_code a)) p ∷ []) p []) ≡ false
+      by : (p : Option (ℕ × Action)) → find (is_number_of k) (in_flight_by_number t since) ≡ p
+          → list_any (aborts t.cluster) (option_map_or (λ p. end_event t.cluster (journal t since) (in_flight_by_number t since) (Code (silent_code a)) p ∷ []) p []) ≡ false
       by None e = refl
-      by (Some p) e = found (Flies t since) (is_number_of k) _ (flying t since) p (all_fly t since) e (λ f number. rw (unaborted t.cluster p.0 (moment_of (journal t since)) a p.1 (same p f.action number)) refl)
+      by (Some p) e = found (Flies t since) (is_number_of k) _ (in_flight_by_number t since) p (all_fly t since) e (λ f number. rw (unaborted t.cluster p.0 (moment_of (journal t since)) a p.1 (same p f.action number)) refl)
 
   pub step_heard : (events : List Event) (rest left : Option (List Answer)) → AreAnswersTold rest → StepsOn t false since rest events left → IsHeard t false since rest events left
   step_heard _ rest _ told (begins _ k a begin) = is_begin k a begin refl refl

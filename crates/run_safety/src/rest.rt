@@ -5,7 +5,7 @@ ghost use Rattle.cluster_types.specs.declared.journal.Answer.{Answer as AnswerOf
 ghost use Rattle.cluster_types.specs.declared.journal.Event.{Event as EventOf};
 ghost use Rattle.cluster_types.specs.declared.journal.Promotion.{Promotion as PromotionOf};
 ghost use Rattle.cluster_types.specs.declared.placement.Placed.{Placed as PlacedOf};
-ghost use Rattle.cluster_types.specs.Journals.{Orderly, in_flight};
+ghost use Rattle.cluster_types.specs.Journals.{Orderly, in_flight_by_begin};
 ghost use Rattle.cluster_types.specs.Steps.{Goes, HasEnded, Transition, journal};
 ghost use Rattle.run_safety.specs.OfPlans.{IsOfPlan};
 
@@ -18,5 +18,5 @@ pub fn transitions_stay_in_order()
 /// Once a transition has ended, complete or aborted, nothing of it is left under way: what comes next is planned with nothing in flight.
 pub fn nothing_stays_in_flight()
     ensures { (promotions : List PromotionOf) (placed : PlacedOf) (t : Transition) (whole : Bool) (rest left : Option (List AnswerOf)) (later : List EventOf)
-        → IsOfPlan promotions placed t → Goes t whole [] rest later left → HasEnded t later → in_flight (journal t later) ≡ [] }
+        → IsOfPlan promotions placed t → Goes t whole [] rest later left → HasEnded t later → in_flight_by_begin (journal t later) ≡ [] }
 {}

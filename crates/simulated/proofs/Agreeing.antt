@@ -13,9 +13,9 @@ use Rattle.cluster_types.specs.declared.journal.Answer.TheVariants as answer
 use Rattle.cluster_types.specs.declared.journal.Event.{Event}
 use Rattle.cluster_types.specs.declared.journal.Event.TheVariants.{Begin}
 use Rattle.cluster_types.specs.Answering.{added_by, applies_after}
-use Rattle.cluster_types.specs.Journals.{IsFlight}
+use Rattle.cluster_types.specs.Journals.{AreInFlightByNumber}
 use Rattle.cluster_types.specs.Steps.{is_from_outside}
-use Rattle.graph_exec.specs.Flights.{FlightOf, paired, pairs}
+use Rattle.graph_exec.specs.Flights.{InFlightOf, paired, pairs_in_flight}
 use Rattle.graph_exec.specs.Saying.{AgreesOn, AgreesSilent}
 use Rattle.listed.specs.Sets.{members}
 use Rattle.simulated.specs.declared.turn.Fate.{Fate}
@@ -32,7 +32,7 @@ use Rattle.simulated.specs.Moments.{RunsWithin}
 use Rattle.simulated.specs.Worlds.{Agrees, IsOfOne, WorldOf}
 
 -- each action in flight has a number
-pub all_numbers : (f : FlightOf) → AreNumbers (pairs f)
+pub all_numbers : (f : InFlightOf) → AreNumbers (pairs_in_flight f)
 all_numbers f p there =
     let found = of_flat (paired f.progress.graph.actions) (members f.flying) p there in on found.source (found.source == 0) refl found.gives
   where
@@ -107,7 +107,7 @@ module _ (k : WorldOf) (c : Cluster) (es : List Event) (taken : ℕ) (a : Agrees
       (subst (λ d. ShowsWorld new.reality (after_begin d a.world action)) a.of_cluster (shows a.world a.shows)) a.few
 
   -- what comes next, with these actions in flight
-  module _ (flight : List (ℕ × Action)) (is : IsFlight es flight) (numbers : AreNumbers flight) (count : ℕ) (count_is : count ≡ length flight) (some : 0 < count)
+  module _ (flight : List (ℕ × Action)) (is : AreInFlightByNumber es flight) (numbers : AreNumbers flight) (count : ℕ) (count_is : count ≡ length flight) (some : 0 < count)
       (mid : RealityOf) (turns : IsOfSame k.reality mid) (came : Turn)
       (drawn : (w : World) → ShowsWorld k.reality w → came ≡ turn_of k.reality.cluster k.reality.number w count)
       (shown : (w : World) → ShowsWorld k.reality w → ShowsWorld mid (turned k.reality.cluster k.reality.number w)) where

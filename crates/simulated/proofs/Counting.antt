@@ -11,7 +11,7 @@ use Rattle.cluster_types.specs.declared.journal.Event.TheVariants.{Ended, Lost}
 use Rattle.cluster_types.specs.declared.journal.Outcome.{Outcome}
 use Rattle.cluster_types.specs.declared.journal.Outcome.TheVariants.{Code, TimedOut, Gone}
 use Rattle.cluster_types.specs.Answering.{added_by, end_event}
-use Rattle.cluster_types.specs.Journals.{IsFlight, is_on, moment_of}
+use Rattle.cluster_types.specs.Journals.{AreInFlightByNumber, is_on, moment_of}
 use Rattle.cluster_types.specs.Steps.{is_from_outside}
 use Rattle.simulated.specs.declared.turn.Fate.{Fate}
 use Rattle.simulated.specs.declared.turn.Fate.TheVariants as fate
@@ -49,7 +49,7 @@ module _ (c : Cluster) (es : List Event) (flight : List (ℕ × Action)) where
   ended_none : (place k : ℕ) (a : Action) (o : Outcome) → 0 < k → count_by is_from_outside (Ended k a o (moment_of es) ∷ []) ≡ 0
   ended_none place k a o some = let no : (k == 0) ≡ false = grind arith in count-is is_from_outside (Ended k a o (moment_of es)) [] false no
 
-  pub none_ended : (w : World) (place k : ℕ) (a : Action) (f : Fate) → 0 < k → IsFlight es flight → slice_get flight place ≡ Some (k, a)
+  pub none_ended : (w : World) (place k : ℕ) (a : Action) (f : Fate) → 0 < k → AreInFlightByNumber es flight → slice_get flight place ≡ Some (k, a)
       → count_by is_from_outside (added_by c es flight (answer_by_fate c w f k a)) ≡ 0
   none_ended w place k a fate.True some is at =
       ap (count_by is_from_outside) (one_end c es flight place k a (Code (true_code c a w.cells)) is at) ∙ ended_none place k a (Code (true_code c a w.cells)) some

@@ -11,7 +11,7 @@ use Rattle.cluster_types.specs.declared.journal.Event.{Event}
 use Rattle.cluster_types.specs.declared.journal.Event.TheVariants.{Up, Lost, Begin}
 use Rattle.cluster_types.specs.declared.journal.Outcome.{Outcome}
 use Rattle.cluster_types.specs.declared.journal.Outcome.TheVariants.{Code, TimedOut, Gone}
-use Rattle.cluster_types.specs.Answering.{added_by, applies_after, end_event, is_flying, is_number_of}
+use Rattle.cluster_types.specs.Answering.{added_by, applies_after, end_event, is_in_flight, is_number_of}
 use Rattle.cluster_types.specs.Journals.{is_on}
 use Rattle.cluster_types.specs.Safety.{is_gone}
 
@@ -39,8 +39,8 @@ begins_one _ = false
 module _ (c : Cluster) (es : List Event) (flight : List (ℕ × Action)) where
   -- what is said to end is in flight
   abbrev pub IsOfFlight : Answer → Type 0
-  IsOfFlight (answer.End k code) = is_flying c es flight k ≡ true
-  IsOfFlight (answer.Timeout k) = is_flying c es flight k ≡ true
+  IsOfFlight (answer.End k code) = is_in_flight c es flight k ≡ true
+  IsOfFlight (answer.Timeout k) = is_in_flight c es flight k ≡ true
   IsOfFlight _ = ⊤
 
   pub of_flight : (taken : ℕ) (given : Answer) → applies_after c es flight taken given ≡ true → IsOfFlight given

@@ -17,7 +17,7 @@ use Rattle.cluster_types.specs.Answering.{added_by, end_event, is_number_of, mon
 use Rattle.cluster_types.specs.Journals.{is_on, moment_of}
 use Rattle.cluster_types.specs.Runs.{RunStanding, due, RunsOn, plans, goes, completes, aborts, answers, Runs, journal_at}
 use Rattle.cluster_types.specs.Safety.{is_gone}
-use Rattle.cluster_types.specs.Steps.{StepsOn, begins, takes, is_silent, Transition, ended, answer_events, flying, journal, resting, silent_code}
+use Rattle.cluster_types.specs.Steps.{StepsOn, begins, takes, is_silent, Transition, ended, answer_events, in_flight_by_number, journal, resting, silent_code}
 use Rattle.run_safety.specs.Followed.{IsFront}
 use Rattle.run_safety.proofs.Along.{along, journals_grow}
 use Rattle.simulated.specs.Lives.{Lives, begins_here, starts, leaves, joins, ends}
@@ -189,9 +189,9 @@ module _ (c : Cluster) (es : List Event) (flight : List (ℕ × Action)) where
 
 step_here : (t : Transition) (whole : Bool) (since events : List Event) (rest left : Option (List Answer)) → StepsOn t whole since rest events left → EndsHere events
 step_here t whole since _ rest _ (begins _ k a begin) = with_one [] (Begin k a) refl
-step_here t whole since _ rest left (takes _ _ given said taken) = answer_here t.cluster (journal t since) (flying t since) given
+step_here t whole since _ rest left (takes _ _ given said taken) = answer_here t.cluster (journal t since) (in_flight_by_number t since) given
 step_here t whole since _ rest left (is_silent _ _ k a said over) =
-    code_here t.cluster (journal t since) (flying t since) (silent_code a) (find (is_number_of k) (flying t since))
+    code_here t.cluster (journal t since) (in_flight_by_number t since) (silent_code a) (find (is_number_of k) (in_flight_by_number t since))
 
 module _ (first : List Event) where
   still : (xs events : List Event) → EndsHere events → IsMoment first xs → IsMoment first (xs ++ events)
@@ -208,7 +208,7 @@ module _ (first : List Event) where
     keeps _ _ rest _ _ (completes k t since _ ended unaborted) moment = moment
     keeps _ _ rest _ _ (aborts k t since _ ended aborted) moment = moment
     keeps _ _ rest left _ (answers k es _ _ given said applies) moment =
-        let t = resting c es in still es (answer_events t [] given) (answer_here c (journal t []) (flying t []) given) moment
+        let t = resting c es in still es (answer_events t [] given) (answer_here c (journal t []) (in_flight_by_number t []) given) moment
 
     moments : (at : RunStanding) (rest left : Option (List Answer)) (lines : List RunLine) → Runs c promotions whole (due 1 first) rest lines at left
         → IsMoment first (journal_at at)

@@ -9,7 +9,7 @@ use Rattle.cluster_types.specs.declared.journal.Journal.{Journal}
 use Rattle.cluster_types.specs.declared.journal.Promotion.{Promotion}
 use Rattle.cluster_types.specs.declared.run.Run.{Run}
 use Rattle.cluster_types.specs.declared.run.RunLine.{RunLine}
-use Rattle.cluster_types.specs.Journals.{in_flight}
+use Rattle.cluster_types.specs.Journals.{in_flight_by_begin}
 use Rattle.cluster_types.specs.Plans.{transition_of}
 use Rattle.cluster_types.specs.Runs.{RunStanding, due, amid, idle, RunsOn, plans, answers, Runs, here, one_more, IsBetween, journal_at}
 use Rattle.cluster_types.specs.Steps.{answer_events, resting}
@@ -26,7 +26,7 @@ use Rattle.simulated.proofs.OneLife.{from_first, stands_one}
 use Rattle.simulated.proofs.Together.{no_answer, together}
 use Rattle.simulated.proofs.Transitions.{next_number, passed_counted, runs_counted}
 
-module _ (c : Cluster) (promotions : List Promotion) (number : ℕ) (first : List Event) (none : in_flight first ≡ []) where
+module _ (c : Cluster) (promotions : List Promotion) (number : ℕ) (first : List Event) (none : in_flight_by_begin first ≡ []) where
   -- a run has come here
   record HasCome (at : RunStanding) (rest : Option (List Answer)) : Type 0 where
     from : Option (List Answer)
@@ -39,7 +39,7 @@ module _ (c : Cluster) (promotions : List Promotion) (number : ℕ) (first : Lis
     is : IsAtEnd ended at
     few : next_number c at ≤ most_transitions + 1
 
-  rests : (at : RunStanding) (rest : Option (List Answer)) → HasCome at rest → IsBetween c promotions true at → in_flight (journal_at at) ≡ []
+  rests : (at : RunStanding) (rest : Option (List Answer)) → HasCome at rest → IsBetween c promotions true at → in_flight_by_begin (journal_at at) ≡ []
   rests at rest come = none_flies c promotions true first at come.from rest come.lines none come.runs
 
   further : (at next : RunStanding) (rest left : Option (List Answer)) (lines : List RunLine) → HasCome at rest → RunsOn c promotions true at rest lines next left → HasCome next left
@@ -99,7 +99,7 @@ same_ending _ _ _ _ e (over k es) (more_due others) = absurd (let f : ⊥ = cc i
 same_ending _ _ _ _ e (more_due es) (over j others) = absurd (let f : ⊥ = cc in f)
 same_ending _ _ _ _ e (more_due es) (more_due others) = refl
 
-module _ (c : Cluster) (journal : Journal) (number : ℕ) (none : in_flight journal.events ≡ []) where
+module _ (c : Cluster) (journal : Journal) (number : ℕ) (none : in_flight_by_begin journal.events ≡ []) where
   last_of : (run : Run) (is_over : Bool) (w : World) (lived : IsLived c journal number run is_over w) → IsLast c journal.promotions number journal.events none lived.at
   last_of run is_over w lived =
       let counted = runs_counted c journal.promotions true (due 1 journal.events) lived.at None None (run_lines c run) lived.goes.steps in

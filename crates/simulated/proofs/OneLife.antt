@@ -11,7 +11,7 @@ use Rattle.cluster_types.specs.declared.journal.Answer.TheVariants as answer
 use Rattle.cluster_types.specs.declared.journal.Event.{Event}
 use Rattle.cluster_types.specs.declared.journal.Event.TheVariants.{Begin}
 use Rattle.cluster_types.specs.Answering.{added_by}
-use Rattle.cluster_types.specs.Journals.{IsFlight, in_flight}
+use Rattle.cluster_types.specs.Journals.{AreInFlightByNumber, in_flight_by_begin}
 use Rattle.run_safety.specs.Followed.{IsFront}
 use Rattle.simulated.specs.declared.turn.Turn.{Turn}
 use Rattle.simulated.specs.declared.turn.Turn.TheVariants as turn
@@ -22,12 +22,12 @@ use Rattle.simulated.proofs.Applying.{ends_apply}
 use Rattle.simulated.specs.LivesOn.{LivesOn, StepOfLife, action_begins, answer_by, next_answer, next_world, no_step, one_step, turn_comes, world_by}
 use Rattle.simulated.proofs.FirstEvents.{AreFirst, IsOfFlight, answer_begins_none, answer_first, begins_one, of_flight, one_front, some_first}
 
-flight_one : (es : List Event) (f g : List (ℕ × Action)) → IsFlight es f → IsFlight es g → f ≡ g
+flight_one : (es : List Event) (f g : List (ℕ × Action)) → AreInFlightByNumber es f → AreInFlightByNumber es g → f ≡ g
 flight_one es f g one two =
     same_list (λ (x y : ℕ × Action). x.0 < y.0) (λ x y less more. omega (arith, less, more)) f g one.ascending two.ascending
     (λ p h. (two.members p.0 p.1).1 ((one.members p.0 p.1).0 h)) (λ p h. (one.members p.0 p.1).1 ((two.members p.0 p.1).0 h))
 
-none_flies : {R : Type 0} (es : List Event) (flight : List (ℕ × Action)) → in_flight es ≡ [] → IsFlight es flight → 0 < length flight → R
+none_flies : {R : Type 0} (es : List Event) (flight : List (ℕ × Action)) → in_flight_by_begin es ≡ [] → AreInFlightByNumber es flight → 0 < length flight → R
 none_flies es [] none is busy = absurd (let f : ⊥ = omega arith in f)
 none_flies es (p ∷ ps) none is busy = absurd (in_none p (rw none at ((is.members p.0 p.1).0 (at_head p ps p refl))))
 
@@ -89,7 +89,7 @@ module _ (c : Cluster) (number : ℕ) where
         (turn_comes flight given i busy e) (turn_comes other said also some d)
 
     -- while nothing is in flight only an action begins
-    pub no_turn : {R : Type 0} (events : List Event) (next : World) → in_flight es ≡ [] → begins_one events ≡ false → StepOfLife c number es w events next → R
+    pub no_turn : {R : Type 0} (events : List Event) (next : World) → in_flight_by_begin es ≡ [] → begins_one events ≡ false → StepOfLife c number es w events next → R
     no_turn _ _ none h (action_begins k a) = absurd (let f : ⊥ = cc in f)
     no_turn _ _ none h (turn_comes flight given is busy e) = none_flies es flight none is busy
 
@@ -109,7 +109,7 @@ module _ (c : Cluster) (number : ℕ) where
   -- a life goes step by step
   module _ (first : List Event) where
     turned_so : (es : List Event) (w after : World) (flight : List (ℕ × Action)) (next : Turn) (given : Answer) → LivesOn c number first (first_world c first) es w
-        → IsFlight es flight → 0 < length flight → turn_of c number w (length flight) ≡ next → answer_by c number w flight next ≡ Some given
+        → AreInFlightByNumber es flight → 0 < length flight → turn_of c number w (length flight) ≡ next → answer_by c number w flight next ≡ Some given
         → world_by c number w flight next ≡ after → LivesOn c number first (first_world c first) (es ++ added_by c es flight given) after
     turned_so es w after flight next given life is busy e said stands =
         more_steps first es (added_by c es flight given) (first_world c first) w after life

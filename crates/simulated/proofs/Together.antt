@@ -14,10 +14,10 @@ use Rattle.cluster_types.specs.declared.journal.Promotion.{Promotion}
 use Rattle.cluster_types.specs.declared.run.RunLine.{RunLine}
 use Rattle.cluster_types.specs.declared.run.RunLine.TheVariants as line
 use Rattle.cluster_types.specs.Answering.{added_by, is_number_of}
-use Rattle.cluster_types.specs.Journals.{in_flight}
+use Rattle.cluster_types.specs.Journals.{in_flight_by_begin}
 use Rattle.cluster_types.specs.Plans.{transition_of}
 use Rattle.cluster_types.specs.Runs.{RunStanding, amid, RunsOn, plans, goes, completes, aborts, answers, IsBetween, journal_at}
-use Rattle.cluster_types.specs.Steps.{Transition, Applies, Begins, StepsOn, begins, takes, is_silent, IsWaiting, answer_events, flying, has_aborted, journal, outside, resting, silent_code}
+use Rattle.cluster_types.specs.Steps.{Transition, Applies, Begins, StepsOn, begins, takes, is_silent, IsWaiting, answer_events, in_flight_by_number, has_aborted, journal, outside, resting, silent_code}
 use Rattle.cluster_types.specs.Tables.{targets_of}
 use Rattle.cluster_types.specs.Texts.{event_lines, target_lines}
 use Rattle.run_safety.proofs.InFlight.{among_flying}
@@ -34,19 +34,19 @@ use Rattle.simulated.proofs.OneLife.{grown, no_turn, step_first, step_one, too_l
 -- what a step of a transition adds: an action begins, or an answer that is given, or that silence stands for, is taken
 data IsStep (t : Transition) (since : List Event) : List Event → Type 0 where
   a_begin : (k : ℕ) (a : Action) → Begins t since k a → IsStep t since (Begin k a ∷ [])
-  an_answer : (given : Answer) → IsWaiting t since → AreFirst (added_by t.cluster (journal t since) (flying t since) given)
-      → IsStep t since (added_by t.cluster (journal t since) (flying t since) given)
+  an_answer : (given : Answer) → IsWaiting t since → AreFirst (added_by t.cluster (journal t since) (in_flight_by_number t since) given)
+      → IsStep t since (added_by t.cluster (journal t since) (in_flight_by_number t since) given)
 
 module _ (t : Transition) (since : List Event) where
   taken_first : (given : Answer) → Applies t since given → AreFirst (answer_events t since given)
-  taken_first given applies = answer_first t.cluster (journal t since) (flying t since) given (of_flight t.cluster (journal t since) (flying t since) (outside t since) given applies)
+  taken_first given applies = answer_first t.cluster (journal t since) (in_flight_by_number t since) given (of_flight t.cluster (journal t since) (in_flight_by_number t since) (outside t since) given applies)
 
   is_step : (whole : Bool) (events : List Event) (rest left : Option (List Answer)) → StepsOn t whole since rest events left → IsStep t since events
   is_step whole _ rest _ (begins _ k a begin) = a_begin k a begin
   is_step whole _ rest left (takes _ _ given said taken) = an_answer given taken.waiting (taken_first given taken.applies)
   is_step whole _ rest left (is_silent _ _ k a said over) =
       an_answer (answer.End k (silent_code a)) over.waiting
-      (answer_first t.cluster (journal t since) (flying t since) (answer.End k (silent_code a)) (among_flying t since k a (is_number_of k) (number_itself k) over.action over.in_flight))
+      (answer_first t.cluster (journal t since) (in_flight_by_number t since) (answer.End k (silent_code a)) (among_flying t since k a (is_number_of k) (number_itself k) over.action over.in_flight))
 
   step_is_first : (events : List Event) → IsStep t since events → AreFirst events
   step_is_first _ (a_begin k a begin) = λ more. refl
@@ -78,17 +78,17 @@ module _ (c : Cluster) (number : ℕ) where
   both_steps t since _ _ es w next after (a_begin k a one) (an_answer given waiting first) s d = unsettled t since k a one waiting.settled
   both_steps t since _ _ es w next after (an_answer given waiting first) (a_begin k a two) s d = unsettled t since k a two waiting.settled
   both_steps t since _ _ es w next after (an_answer given waiting first) (an_answer other also second) s d =
-      turn_one c number es w (answer_events t since given) (answer_events t since other) next after (answer_begins_none t.cluster (journal t since) (flying t since) given)
-      (answer_begins_none t.cluster (journal t since) (flying t since) other) s d
+      turn_one c number es w (answer_events t since given) (answer_events t since other) next after (answer_begins_none t.cluster (journal t since) (in_flight_by_number t since) given)
+      (answer_begins_none t.cluster (journal t since) (in_flight_by_number t since) other) s d
 
   -- while nothing is to be done and nothing is in flight, no answer comes
-  pub no_answer : {R : Type 0} (es later : List Event) (w last : World) (given : Answer) → in_flight es ≡ [] → Applies (resting c es) [] given
+  pub no_answer : {R : Type 0} (es later : List Event) (w last : World) (given : Answer) → in_flight_by_begin es ≡ [] → Applies (resting c es) [] given
       → IsFront (es ++ answer_events (resting c es) [] given) later → LivesOn c number es w later last → R
   no_answer es later w last given none applies grows life =
       let t = resting c es in
       let events = answer_events t [] given in
       let by = lives_by es events grows.more later w last (taken_first t [] given applies) grows.joined life in
-      no_turn c number es w events by.next none (answer_begins_none c (journal t []) (flying t []) given) by.step
+      no_turn c number es w events by.next none (answer_begins_none c (journal t []) (in_flight_by_number t []) given) by.step
 
   -- where two runs stand after a step each: at one place, with one world, from which both go on
   pub record AreTogether (next after : RunStanding) (lines others : List RunLine) (here there : List Event) (last final : World) : Type 0 where
@@ -102,7 +102,7 @@ module _ (c : Cluster) (number : ℕ) where
     pub together : (at next after : RunStanding) (lines others : List RunLine) (rest other left right : Option (List Answer))
         → RunsOn c promotions true at rest lines next left → RunsOn c promotions true at other others after right
         → IsFront (journal_at next) here → IsFront (journal_at after) there → LivesOn c number (journal_at at) w here last → LivesOn c number (journal_at at) w there final
-        → (IsBetween c promotions true at → in_flight (journal_at at) ≡ []) → AreTogether next after lines others here there last final
+        → (IsBetween c promotions true at → in_flight_by_begin (journal_at at) ≡ []) → AreTogether next after lines others here there last final
     together _ _ _ _ _ rest other _ _ (plans k es _ p a one) (plans _ _ _ q b two) grows also life second rests = record {
       lines_same = ap (λ z. line.Transition k ∷ target_lines c z (targets_of p.table) p.none) (one_plan.pins es p q a b one two)
           ∙ ap (λ z. line.Transition k ∷ target_lines c q.pins (targets_of z) p.none) (one_plan.tables es p q a b one two)

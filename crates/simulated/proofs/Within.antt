@@ -18,7 +18,7 @@ use Rattle.cluster_types.specs.Answering.{added_by, end_event, end_events, is_nu
 use Rattle.cluster_types.specs.Cells.{is_same_cell}
 use Rattle.cluster_types.specs.CellStates.{last_outcome}
 use Rattle.cluster_types.specs.Fields.{is_promotable}
-use Rattle.cluster_types.specs.Journals.{IsFlight, joined, was_fenced, was_lost, is_on, last_sign, moment_of, sign_of}
+use Rattle.cluster_types.specs.Journals.{AreInFlightByNumber, joined, was_fenced, was_lost, is_on, last_sign, moment_of, sign_of}
 use Rattle.cluster_types.specs.May.{closes, closes_promoted, is_left_promoted, may, may_promoted, opens, opens_promoted}
 use Rattle.cluster_types.proofs.MayLaws.{may-last, may-promoted, promoted-last}
 use Rattle.cluster_types.proofs.LastSigns.{signed}
@@ -138,7 +138,7 @@ module _ (c : Cluster) where
   }
 
   -- what the end of an action adds
-  pub one_end : (es : List Event) (flight : List (ℕ × Action)) (place k : ℕ) (a : Action) (o : Outcome) → IsFlight es flight
+  pub one_end : (es : List Event) (flight : List (ℕ × Action)) (place k : ℕ) (a : Action) (o : Outcome) → AreInFlightByNumber es flight
       → slice_get flight place ≡ Some (k, a) → end_events c es flight k o ≡ Ended k a o (moment_of es) ∷ []
   one_end es flight place k a o is at = rw (found_first flight place k a is.ascending at) refl
 
@@ -303,7 +303,7 @@ module _ (c : Cluster) where
         → IsWorldWithin c (es ++ Up node ∷ []) (after_joining c (turned c number w) node)
     within_joins es node count within e = within_joined (turned c number w) es node (joining c number w count node e).early (within_turned number w es within)
 
-    within_ends : (es : List Event) (flight : List (ℕ × Action)) (count place : ℕ) (f : Fate) (k : ℕ) (a : Action) → IsWorldWithin c es w → IsFlight es flight
+    within_ends : (es : List Event) (flight : List (ℕ × Action)) (count place : ℕ) (f : Fate) (k : ℕ) (a : Action) → IsWorldWithin c es w → AreInFlightByNumber es flight
         → turn_of c number w count ≡ turn.Ends place f → slice_get flight place ≡ Some (k, a)
         → IsWorldWithin c (es ++ added_by c es flight (answer_by_fate c (turned c number w) f k a)) (after_end c (turned c number w) f a)
     within_ends es flight count place f k a within is e at = on f (ending c number w count place f e)

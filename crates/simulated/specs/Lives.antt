@@ -6,7 +6,7 @@ use Rattle.cluster_types.specs.declared.journal.Answer.TheVariants as answer
 use Rattle.cluster_types.specs.declared.journal.Event.{Event}
 use Rattle.cluster_types.specs.declared.journal.Event.TheVariants.{Begin}
 use Rattle.cluster_types.specs.Answering.{added_by}
-use Rattle.cluster_types.specs.Journals.{IsFlight, last_sign}
+use Rattle.cluster_types.specs.Journals.{AreInFlightByNumber, last_sign}
 use Rattle.cluster_types.specs.declared.leaf.Op.TheVariants as op
 use Rattle.cluster_types.specs.Fields.{copies}
 use Rattle.cluster_types.specs.May.{may, may_promoted}
@@ -24,14 +24,14 @@ pub data Lives (c : Cluster) (number : ℕ) (first : List Event) : List Event �
   begins_here : Lives c number first first (first_world c first)
   starts : (es : List Event) (w : World) (k : ℕ) (a : Action) → Lives c number first es w
       → Lives c number first (es ++ Begin k a ∷ []) (after_begin c w a)
-  leaves : (es : List Event) (w : World) (flight : List (ℕ × Action)) (node : ℕ) → Lives c number first es w → IsFlight es flight → 0 < length flight
+  leaves : (es : List Event) (w : World) (flight : List (ℕ × Action)) (node : ℕ) → Lives c number first es w → AreInFlightByNumber es flight → 0 < length flight
       → turn_of c number w (length flight) ≡ turn.Leaves node
       → Lives c number first (es ++ added_by c es flight (answer.Lost node)) (after_leaving c (turned c number w) node)
-  joins : (es : List Event) (w : World) (flight : List (ℕ × Action)) (node : ℕ) → Lives c number first es w → IsFlight es flight → 0 < length flight
+  joins : (es : List Event) (w : World) (flight : List (ℕ × Action)) (node : ℕ) → Lives c number first es w → AreInFlightByNumber es flight → 0 < length flight
       → turn_of c number w (length flight) ≡ turn.Joins node
       → Lives c number first (es ++ added_by c es flight (answer.Up node)) (after_joining c (turned c number w) node)
   ends : (es : List Event) (w : World) (flight : List (ℕ × Action)) (place : ℕ) (f : Fate) (k : ℕ) (a : Action) → Lives c number first es w
-      → IsFlight es flight → turn_of c number w (length flight) ≡ turn.Ends place f → slice_get flight place ≡ Some (k, a)
+      → AreInFlightByNumber es flight → turn_of c number w (length flight) ≡ turn.Ends place f → slice_get flight place ≡ Some (k, a)
       → Lives c number first (es ++ added_by c es flight (answer_by_fate c (turned c number w) f k a)) (after_end c (turned c number w) f a)
 
 -- what runs is among what may run by a journal: each node stands as the journal shows, what is there may run there, and what is promoted may be promoted;

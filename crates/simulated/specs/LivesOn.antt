@@ -8,7 +8,7 @@ use Rattle.cluster_types.specs.declared.journal.Answer.TheVariants as answer
 use Rattle.cluster_types.specs.declared.journal.Event.{Event}
 use Rattle.cluster_types.specs.declared.journal.Event.TheVariants.{Begin}
 use Rattle.cluster_types.specs.Answering.{added_by}
-use Rattle.cluster_types.specs.Journals.{IsFlight}
+use Rattle.cluster_types.specs.Journals.{AreInFlightByNumber}
 use Rattle.simulated.specs.declared.turn.Turn.{Turn}
 use Rattle.simulated.specs.declared.turn.Turn.TheVariants as turn
 use Rattle.simulated.specs.Turns.{after_begin, after_end, after_joining, after_leaving, answer_by_fate, turn_of, turned}
@@ -40,7 +40,7 @@ module _ (c : Cluster) (number : ℕ) where
   -- comes
   pub data StepOfLife (es : List Event) (w : World) : List Event → World → Type 0 where
     action_begins : (k : ℕ) (a : Action) → StepOfLife es w (Begin k a ∷ []) (after_begin c w a)
-    turn_comes : (flight : List (ℕ × Action)) (given : Answer) → IsFlight es flight → 0 < length flight → next_answer w flight ≡ Some given
+    turn_comes : (flight : List (ℕ × Action)) (given : Answer) → AreInFlightByNumber es flight → 0 < length flight → next_answer w flight ≡ Some given
         → StepOfLife es w (added_by c es flight given) (next_world w flight)
 
   -- step by step, from a journal and how it stands then to a later journal

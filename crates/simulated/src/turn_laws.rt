@@ -7,7 +7,7 @@ ghost use Rattle.cluster_types.specs.declared.journal.Answer.TheVariants as answ
 ghost use Rattle.cluster_types.specs.declared.journal.Event.{Event as EventOf};
 ghost use Rattle.cluster_types.specs.Answering.{applies_after};
 ghost use Rattle.cluster_types.specs.Safety.{NoSecondCopy};
-ghost use Rattle.cluster_types.specs.Journals.{IsFlight};
+ghost use Rattle.cluster_types.specs.Journals.{AreInFlightByNumber};
 ghost use Rattle.cluster_types.specs.Steps.{Transition};
 ghost use Rattle.simulated.specs.declared.turn.Fate.{Fate as FateOf};
 ghost use Rattle.simulated.specs.declared.turn.Turn.TheVariants as turn;

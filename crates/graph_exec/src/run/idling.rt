@@ -1,7 +1,7 @@
 //! An answer that comes while nothing is to be done.
 
 ghost use Rattle.std.specs.Prelude.{◌≡◌, ◌+◌, [], true, IfOk, IfErr};
-ghost use Rattle.cluster_types.specs.Journals.{in_flight};
+ghost use Rattle.cluster_types.specs.Journals.{in_flight_by_begin};
 ghost use Rattle.cluster_types.specs.Runs.{due, idle};
 ghost use Rattle.graph_exec.specs.Inner.Keeping.{IsAnswered, IsUnanswered, idle_word, watched_end};
 ghost use Rattle.graph_exec.specs.Lasting.{SourceLasts, WatcherLasts};
@@ -28,7 +28,7 @@ pub(crate) fn ask_idle<'c, S: Outcomes>(
     journal: KnownJournal<'c>,
     outcomes: &mut S,
 ) -> Result<Taken<'c>, RunEnd>
-    requires resting { in_flight journal.events ≡ [] }
+    requires resting { in_flight_by_begin journal.events ≡ [] }
     ensures answered { IfOk result (IsAnswered (S.whole outcomes.old) journal.entry (S.rest outcomes.old) (S.rest outcomes.new)) }
     ensures unanswered { IfErr result
         (IsUnanswered (S.whole outcomes.old) journal.entry (S.rest outcomes.old) (S.rest outcomes.new) (S.over outcomes.old)) }
@@ -70,7 +70,7 @@ pub(crate) fn take_idle<'c, S: Outcomes, V: Watcher>(
     watcher: &mut V,
     number: u32,
 ) -> Result<KnownJournal<'c>, Ended>
-    requires resting { in_flight journal.events ≡ [] }
+    requires resting { in_flight_by_begin journal.events ≡ [] }
     ensures goes_on { IfOk result (CameTo
         (setting journal.entry.cluster journal.entry.promotions (S.whole outcomes.old) (S.steady outcomes.old) (V.names watcher.old))
         (idle number journal.entry.events)

@@ -5,7 +5,7 @@ ghost use Rattle.cluster_types.specs.Answering as answering;
 ghost use Rattle.cluster_types.specs.Journals as journals;
 ghost use Rattle.cluster_types.specs.May.{may};
 ghost use Rattle.cluster_types.specs.NodeStates.{is_online, node_state};
-ghost use Rattle.cluster_types.specs.Steps.{flying, journal, outside};
+ghost use Rattle.cluster_types.specs.Steps.{in_flight_by_number, journal, outside};
 ghost use Rattle.graph_exec.specs.Running.{going};
 
 use crate::transition::course::Course;
@@ -94,7 +94,7 @@ impl<'c> Course<'c> {
     /// Whether a failed monitor of the cell says something new: the leaf may run on the node, which is online, the code is
     /// bad and not ignored, and nothing of the cell is in flight.
     fn tells_news(&self, node: NodeId, leaf: LeafId, interval_ms: u32, code: u8) -> bool
-        ensures { result ≡ answering.tells_news self.now.cluster (journal (going self.now) self.now.since) (flying (going self.now) self.now.since) node leaf interval_ms code }
+        ensures { result ≡ answering.tells_news self.now.cluster (journal (going self.now) self.now.since) (in_flight_by_number (going self.now) self.now.since) node leaf interval_ms code }
     {
         let action = self.monitor_action(leaf, node, interval_ms);
         let outcome = Outcome::Code(code);
@@ -107,7 +107,7 @@ impl<'c> Course<'c> {
 
     /// Whether the answer applies now.
     pub(crate) fn applies(&self, answer: Answer) -> bool
-        ensures { result ≡ answering.applies_after self.now.cluster (journal (going self.now) self.now.since) (flying (going self.now) self.now.since)
+        ensures { result ≡ answering.applies_after self.now.cluster (journal (going self.now) self.now.since) (in_flight_by_number (going self.now) self.now.since)
             (outside (going self.now) self.now.since) answer }
     {
         match answer {

@@ -1,8 +1,8 @@
 //! What is kept of a transition that is carried out.
 
 ghost use Rattle.std.specs.Prelude.{◌≡◌, ◌<◌, ◌≤◌, ◌+◌, ◌++◌, [], true, false, IfOk, IfErr, IfSome, IfNone, find};
-ghost use Rattle.cluster_types.specs.Steps.{aborts, flying, has_begun, has_room};
-ghost use Rattle.graph_exec.specs.Flights.{pairs};
+ghost use Rattle.cluster_types.specs.Steps.{aborts, in_flight_by_number, has_begun, has_room};
+ghost use Rattle.graph_exec.specs.Flights.{pairs_in_flight};
 ghost use Rattle.graph_exec.specs.Running.{BeginsNow, IsRunSettled, going};
 
 use crate::transition::flight::InFlight;
@@ -22,13 +22,13 @@ pub(crate) struct Course<'c> {
 }
 
 impl<'c> Model for Course<'c> {
-    ghost use Rattle.graph_exec.specs.Running.{Running, FlightFollows, running};
+    ghost use Rattle.graph_exec.specs.Running.{Running, InFlightFollows, running};
 
     ghost Value = { Running };
 
     ghost view = { λ e. running e.log e.flight };
 
-    ghost invariant = { λ e. FlightFollows e.log e.flight };
+    ghost invariant = { λ e. InFlightFollows e.log e.flight };
 }
 
 /// Out of memory. What was handed in is handed back as it was.
@@ -78,7 +78,7 @@ impl<'c> Course<'c> {
 
     /// Lends the actions in flight.
     pub fn flight(&self) -> &InFlight
-        ensures pairs { pairs result.now ≡ flying (going self.now) self.now.since }
+        ensures pairs { pairs_in_flight result.now ≡ in_flight_by_number (going self.now) self.now.since }
         ensures graph { result.now.progress.graph ≡ self.now.graph }
         ensures from_one { has_begun (going self.now) self.now.since 0 ≡ false }
     {

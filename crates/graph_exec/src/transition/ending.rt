@@ -4,7 +4,7 @@ ghost use Rattle.std.specs.Prelude.{◌≡◌, ◌<◌, ◌+◌, ◌^◌, ◌++�
 ghost use Rattle.cluster_types.specs.declared.journal.Event.TheVariants.{Lost};
 ghost use Rattle.cluster_types.specs.Answering as answering;
 ghost use Rattle.cluster_types.specs.Journals as journals;
-ghost use Rattle.cluster_types.specs.Steps.{ended, flying, outside};
+ghost use Rattle.cluster_types.specs.Steps.{ended, in_flight_by_number, outside};
 ghost use Rattle.cluster_types.specs.Steps as steps;
 ghost use Rattle.graph_exec.specs.Running.{all_gone, going, later};
 
@@ -15,7 +15,7 @@ use cluster_types::{Event, NodeId, Outcome};
 impl<'c> Course<'c> {
     /// The action in flight of this number ends so.
     pub(crate) fn end(&mut self, number: u32, outcome: Outcome)
-        requires { answering.is_flying self.old.cluster (self.old.planned_at ++ self.old.since) (flying (going self.old) self.old.since) number ≡ true }
+        requires { answering.is_in_flight self.old.cluster (self.old.planned_at ++ self.old.since) (in_flight_by_number (going self.old) self.old.since) number ≡ true }
         ensures { self.new ≡ later self.old (ended (going self.old) self.old.since number outcome) }
     {
         let action = self.flight.graph().action(number);

@@ -2,10 +2,10 @@
 
 ghost use Rattle.std.specs.Prelude.{◌≡◌, ◌<◌, ◌+◌, ◌^◌, ◌++◌, [], true, IfOk, IfErr, OnOk, OnErr, IfSome, IfNone, find};
 ghost use Rattle.cluster_types.specs.Journals.{moment_of};
-ghost use Rattle.cluster_types.specs.Steps.{HasEnded, IsWaiting, aborts, flying};
+ghost use Rattle.cluster_types.specs.Steps.{HasEnded, IsWaiting, aborts, in_flight_by_number};
 ghost use Rattle.cluster_types.specs.Valid.{KeepsLimits};
 ghost use Rattle.state_unpack.specs.CellsKept.{has_few_monitors};
-ghost use Rattle.graph_exec.specs.Flights.{pairs};
+ghost use Rattle.graph_exec.specs.Flights.{pairs_in_flight};
 ghost use Rattle.graph_exec.specs.Promises.{KeepsPromises};
 ghost use Rattle.graph_exec.specs.Running.{BeginsNow, EndedSilently, IsAnswerRefused, IsRunSettled, IsUnderWay, Took, going};
 ghost use Rattle.graph_exec.specs.Transitions.{EndsAs, HasGoneToEnd};
@@ -97,7 +97,7 @@ impl<'c> Executor<'c> {
 
     /// Lends the actions in flight. Whatever was answered so far, the promises of a transition are kept.
     pub fn flight(&self) -> &InFlight
-        ensures pairs { pairs result.now ≡ flying (going self.now) self.now.since }
+        ensures pairs { pairs_in_flight result.now ≡ in_flight_by_number (going self.now) self.now.since }
         ensures promises { KeepsPromises self.now }
     {
         self.course.flight()

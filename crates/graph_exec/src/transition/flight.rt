@@ -5,7 +5,7 @@ ghost use Rattle.std.specs.List.{list_any};
 ghost use Rattle.cluster_types.specs.Answering.{is_number_of};
 ghost use Rattle.listed.specs.Sets.{is_member};
 ghost use Rattle.graph_exec.specs.Ready.{none_begun, startable};
-ghost use Rattle.graph_exec.specs.Flights.{is_about, is_busy, pairs, with_begun, with_ended};
+ghost use Rattle.graph_exec.specs.Flights.{is_about, is_busy, pairs_in_flight, with_begun, with_ended};
 
 use crate::transition::waiting::Waiting;
 use cluster_types::{Action, Graph, LeafId, NodeId};
@@ -21,13 +21,13 @@ pub struct InFlight {
 }
 
 impl Model for InFlight {
-    ghost use Rattle.graph_exec.specs.Flights.{FlightOf, IsFlightFlags};
+    ghost use Rattle.graph_exec.specs.Flights.{InFlightOf, HasFlagOfEach};
 
-    ghost Value = { FlightOf };
+    ghost Value = { InFlightOf };
 
     ghost view = { λ f. record { progress = f.waiting; flying = f.flying } };
 
-    ghost invariant = { λ f. IsFlightFlags (record { progress = f.waiting; flying = f.flying }) };
+    ghost invariant = { λ f. HasFlagOfEach (record { progress = f.waiting; flying = f.flying }) };
 }
 
 /// Whether the action is of the cell, or a migration to it.
@@ -52,15 +52,15 @@ impl InFlight {
 
     /// How many actions are in flight.
     pub fn count(&self) -> u32
-        ensures { result ≡ length (pairs self.now) }
+        ensures { result ≡ length (pairs_in_flight self.now) }
     {
         self.flying.count()
     }
 
     /// The action in flight at this place in the order of their numbers, from 0, with its number.
     pub fn at(&self, place: u32) -> (u32, Action)
-        requires { place < length (pairs self.now) }
-        ensures { slice_get (pairs self.now) place ≡ Some result }
+        requires { place < length (pairs_in_flight self.now) }
+        ensures { slice_get (pairs_in_flight self.now) place ≡ Some result }
     {
         let number = self.flying.nth(place);
         (number, self.waiting.graph().action(number))
@@ -68,7 +68,7 @@ impl InFlight {
 
     /// Whether the action of this number is in flight.
     pub fn contains(&self, number: u32) -> bool
-        ensures { result ≡ list_any (is_number_of number) (pairs self.now) }
+        ensures { result ≡ list_any (is_number_of number) (pairs_in_flight self.now) }
     {
         if number > self.flying.most() {
             return false;
@@ -81,7 +81,7 @@ impl InFlight {
 
     /// Whether something of the cell is in flight, or a migration to it.
     pub(crate) fn is_busy(&self, leaf: LeafId, node: NodeId) -> bool
-        ensures { result ≡ is_busy (pairs self.now) leaf node }
+        ensures { result ≡ is_busy (pairs_in_flight self.now) leaf node }
     {
         for place in 0..self.count() {
             let (_, action) = self.at(place);

@@ -6,8 +6,8 @@ ghost use Rattle.cluster_types.specs.declared.cluster.Cluster.{Cluster as Cluste
 ghost use Rattle.cluster_types.specs.declared.journal.Answer.{Answer as AnswerOf};
 ghost use Rattle.cluster_types.specs.declared.journal.Event.{Event as EventOf};
 ghost use Rattle.cluster_types.specs.declared.journal.Event.TheVariants.{Begin};
-ghost use Rattle.cluster_types.specs.Journals.{IsFlight};
-ghost use Rattle.graph_exec.specs.Flights.{pairs};
+ghost use Rattle.cluster_types.specs.Journals.{AreInFlightByNumber};
+ghost use Rattle.graph_exec.specs.Flights.{pairs_in_flight};
 ghost use Rattle.graph_exec.specs.declared.transition.outcomes.Next.{Next as NextOf};
 ghost use Rattle.graph_exec.specs.declared.transition.outcomes.Next.TheVariants as says;
 ghost use Rattle.graph_exec.specs.Saying.{AgreesAfter, GivesNext, IsFitting, IsOverBy};
@@ -79,10 +79,10 @@ pub trait Outcomes {
         ensures careful { careful self.new ≡ careful self.old }
         ensures steady { steady self.new ≡ steady self.old }
         ensures over { IsOverBy (steady self.old) (over self.old) (over self.new) result }
-        ensures agrees { (c : ClusterOf) (es : List EventOf) (taken : ℕ) → agrees self.old c es taken → IsFlight es (pairs flight.now)
-            → AgreesAfter (agrees self.new) c es taken (pairs flight.now) result }
+        ensures agrees { (c : ClusterOf) (es : List EventOf) (taken : ℕ) → agrees self.old c es taken → AreInFlightByNumber es (pairs_in_flight flight.now)
+            → AgreesAfter (agrees self.new) c es taken (pairs_in_flight flight.now) result }
         ensures fitting { (c : ClusterOf) (es : List EventOf) (taken : ℕ) → careful self.old ≡ true → agrees self.old c es taken
-            → IsFlight es (pairs flight.now) → IsFitting c es taken (pairs flight.now) result }
+            → AreInFlightByNumber es (pairs_in_flight flight.now) → IsFitting c es taken (pairs_in_flight flight.now) result }
         ensures said { said self.old self.new result };
 
     /// It agrees before the first answer from outside with each journal with which it agrees after some.

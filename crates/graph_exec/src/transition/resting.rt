@@ -1,7 +1,7 @@
 //! A cluster of which nothing is to be done.
 
 ghost use Rattle.std.specs.Prelude.{◌≡◌, [], IfOk, IfErr};
-ghost use Rattle.graph_exec.specs.Flights.{pairs};
+ghost use Rattle.graph_exec.specs.Flights.{pairs_in_flight};
 ghost use Rattle.graph_exec.specs.Resting.{IsRefusedResting, TookResting};
 
 use crate::transition::course::Course;
@@ -64,7 +64,7 @@ impl<'c> Resting<'c> {
 
     /// Lends the actions in flight, of which there is none.
     pub fn flight(&self) -> &InFlight
-        ensures { pairs result.now ≡ [] }
+        ensures { pairs_in_flight result.now ≡ [] }
     {
         self.course.flight()
     }

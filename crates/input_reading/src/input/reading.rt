@@ -2,7 +2,7 @@
 
 ghost use Rattle.std.specs.Prelude.{◌≡◌, ◌<◌, ◌≤◌, ◌^◌, IfOk, Ok, [], length};
 ghost use Rattle.cluster_model.specs.Expansion.{expansion_of};
-ghost use Rattle.cluster_types.specs.Journals.{Orderly, in_flight, moment_of};
+ghost use Rattle.cluster_types.specs.Journals.{Orderly, in_flight_by_begin, moment_of};
 ghost use Rattle.cluster_types.specs.Safety.{IsAtRest};
 ghost use Rattle.cluster_types.specs.Valid.{IsValid};
 ghost use Rattle.cluster_model.specs.Resolution.{resolution_of};
@@ -302,7 +302,7 @@ pub fn read_input(alloc: Global, text: Vec<u8>) -> Result<Input, InputFault>
     ensures read { Gives (λ input. input) result (input_of text.items) }
     ensures valid { IfOk result (λ input. IsValid input.head.cluster) }
     ensures orderly { IfOk result (λ input. Orderly input.head.journal.events) }
-    ensures idle { IfOk result (λ input. in_flight input.head.journal.events ≡ []) }
+    ensures idle { IfOk result (λ input. in_flight_by_begin input.head.journal.events ≡ []) }
     ensures moment { IfOk result (λ input. moment_of input.head.journal.events < 2 ^ 40) }
     ensures few { IfOk result (λ input. length input.results ≤ most_results) }
 {

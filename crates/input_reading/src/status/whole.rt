@@ -3,7 +3,7 @@
 ghost use Rattle.std.specs.Prelude.{◌≡◌, ◌<◌, ◌^◌, ◌++◌, ◌∷◌, AllPairs, [], false, length, true, IfOk, Ok};
 ghost use Rattle.std.specs.List.{list_all};
 ghost use Rattle.cluster_types.specs.declared.journal.Promotion.{Promotion as PromotionOf};
-ghost use Rattle.cluster_types.specs.Journals.{Orderly, in_flight, moment_of};
+ghost use Rattle.cluster_types.specs.Journals.{Orderly, in_flight_by_begin, moment_of};
 ghost use Rattle.faults.specs.Reading.{Gives};
 ghost use Rattle.input_reading.specs.FirstJournal.{all_differ, is_known, is_repeated, is_promotion_of_same_cell, journal_of, status_journal, with_status_line, with_status_lines};
 
@@ -70,7 +70,7 @@ fn told_journal(alloc: Global, names: &Names<'_>, told: &[Told]) -> Result<Journ
     requires once { all_differ told.now ≡ true }
     ensures read { Gives (λ journal. journal) result (Ok (journal_of names.now told.now)) }
     ensures orderly { IfOk result (λ journal. Orderly journal.events) }
-    ensures idle { IfOk result (λ journal. in_flight journal.events ≡ []) }
+    ensures idle { IfOk result (λ journal. in_flight_by_begin journal.events ≡ []) }
     ensures moment { IfOk result (λ journal. moment_of journal.events < 2 ^ 40) }
     ensures once { IfOk result (λ journal. AllPairs (λ (one other : PromotionOf). is_promotion_of_same_cell one other ≡ false) journal.promotions) }
 {
@@ -94,7 +94,7 @@ fn told_journal(alloc: Global, names: &Names<'_>, told: &[Told]) -> Result<Journ
 pub fn read_status(alloc: Global, names: &Names<'_>, lines: &[Line]) -> Result<Journal, StatusFault>
     ensures read { Gives (λ journal. journal) result (status_journal names.now lines.now) }
     ensures orderly { IfOk result (λ journal. Orderly journal.events) }
-    ensures idle { IfOk result (λ journal. in_flight journal.events ≡ []) }
+    ensures idle { IfOk result (λ journal. in_flight_by_begin journal.events ≡ []) }
     ensures moment { IfOk result (λ journal. moment_of journal.events < 2 ^ 40) }
     ensures once { IfOk result (λ journal. AllPairs (λ (one other : PromotionOf). is_promotion_of_same_cell one other ≡ false) journal.promotions) }
 {

@@ -1,6 +1,6 @@
 use Rattle.std.proofs.Common.{◌<◌, Some, None, refl, ◌∙◌, arith}
 use Rattle.cluster_types.specs.Sources.{untold}
-use Rattle.graph_exec.specs.Flights.{pairs}
+use Rattle.graph_exec.specs.Flights.{pairs_in_flight}
 use Rattle.simulated.proofs.Agreeing.{all_numbers, ended_agrees, ended_applies, joined_agrees, joined_applies, left_agrees, left_applies}
 use Rattle.simulated.proofs.world.WorldOutcomes.next.Goals as goal
 
@@ -21,7 +21,7 @@ returns-in-Leaves-clause-agrees c = λ d es taken a is.
       same = record { cluster = c.leave.ensures.same.cluster ∙ c.turn.ensures.same.cluster; number = c.leave.ensures.same.number ∙ c.turn.ensures.same.number };
       since_stays = refl;
     })
-    (pairs flight) is (all_numbers flight) c.count-count.result c.count-count.ensures some c.turn.new.self c.turn.ensures.same c.turn.result c.turn.ensures.turn
+    (pairs_in_flight flight) is (all_numbers flight) c.count-count.result c.count-count.ensures some c.turn.new.self c.turn.ensures.same c.turn.result c.turn.ensures.turn
     c.turn.ensures.shows c.in-Leaves.node c.in-Leaves.is c.leave.ensures.shows)
 
 pub returns-in-Leaves-clause-fitting : goal.returns-in-Leaves-clause-fitting
@@ -35,7 +35,7 @@ returns-in-Leaves-clause-fitting c = λ d es taken careful a is.
       same = record { cluster = c.leave.ensures.same.cluster ∙ c.turn.ensures.same.cluster; number = c.leave.ensures.same.number ∙ c.turn.ensures.same.number };
       since_stays = refl;
     })
-    (pairs flight) is (all_numbers flight) c.count-count.result c.count-count.ensures some c.turn.new.self c.turn.ensures.same c.turn.result c.turn.ensures.turn
+    (pairs_in_flight flight) is (all_numbers flight) c.count-count.result c.count-count.ensures some c.turn.new.self c.turn.ensures.same c.turn.result c.turn.ensures.turn
     c.turn.ensures.shows c.in-Leaves.node c.in-Leaves.is)
 
 pub returns-in-Joins-clause-gives : goal.returns-in-Joins-clause-gives
@@ -52,7 +52,7 @@ returns-in-Joins-clause-agrees c = λ d es taken a is.
       same = record { cluster = c.join.ensures.same.cluster ∙ c.turn.ensures.same.cluster; number = c.join.ensures.same.number ∙ c.turn.ensures.same.number };
       since_stays = refl;
     })
-    (pairs flight) is (all_numbers flight) c.count-count.result c.count-count.ensures some c.turn.new.self c.turn.ensures.same c.turn.result c.turn.ensures.turn
+    (pairs_in_flight flight) is (all_numbers flight) c.count-count.result c.count-count.ensures some c.turn.new.self c.turn.ensures.same c.turn.result c.turn.ensures.turn
     c.turn.ensures.shows c.in-Joins.node c.in-Joins.is c.join.ensures.shows)
 
 pub returns-in-Joins-clause-fitting : goal.returns-in-Joins-clause-fitting
@@ -66,7 +66,7 @@ returns-in-Joins-clause-fitting c = λ d es taken careful a is.
       same = record { cluster = c.join.ensures.same.cluster ∙ c.turn.ensures.same.cluster; number = c.join.ensures.same.number ∙ c.turn.ensures.same.number };
       since_stays = refl;
     })
-    (pairs flight) is (all_numbers flight) c.count-count.result c.count-count.ensures some c.turn.new.self c.turn.ensures.same c.turn.result c.turn.ensures.turn
+    (pairs_in_flight flight) is (all_numbers flight) c.count-count.result c.count-count.ensures some c.turn.new.self c.turn.ensures.same c.turn.result c.turn.ensures.turn
     c.turn.ensures.shows c.in-Joins.node c.in-Joins.is)
 
 pub returns-in-Ends-clause-gives : goal.returns-in-Ends-clause-gives
@@ -82,7 +82,7 @@ returns-in-Ends-clause-agrees c = λ d es taken a is.
       same = record { cluster = c.end.ensures.same.cluster ∙ c.turn.ensures.same.cluster; number = c.end.ensures.same.number ∙ c.turn.ensures.same.number };
       since_stays = refl;
     })
-    (pairs flight) is (all_numbers flight) c.count-count.result c.count-count.ensures some c.turn.new.self c.turn.ensures.same c.turn.result c.turn.ensures.turn
+    (pairs_in_flight flight) is (all_numbers flight) c.count-count.result c.count-count.ensures some c.turn.new.self c.turn.ensures.same c.turn.result c.turn.ensures.turn
     c.turn.ensures.shows c.in-Ends.place c.in-Ends.fate c.at-number.result.0 c.at-number.result.1 c.in-Ends.is c.at-number.ensures c.end.result c.end.ensures.answer c.end.ensures.shows
 
 pub returns-in-Ends-clause-fitting : goal.returns-in-Ends-clause-fitting
@@ -95,5 +95,5 @@ returns-in-Ends-clause-fitting c = λ d es taken careful a is.
       same = record { cluster = c.end.ensures.same.cluster ∙ c.turn.ensures.same.cluster; number = c.end.ensures.same.number ∙ c.turn.ensures.same.number };
       since_stays = refl;
     })
-    (pairs flight) is (all_numbers flight) c.count-count.result c.count-count.ensures some c.turn.new.self c.turn.ensures.same c.turn.result c.turn.ensures.turn
+    (pairs_in_flight flight) is (all_numbers flight) c.count-count.result c.count-count.ensures some c.turn.new.self c.turn.ensures.same c.turn.result c.turn.ensures.turn
     c.turn.ensures.shows c.in-Ends.place c.in-Ends.fate c.at-number.result.0 c.at-number.result.1 c.in-Ends.is c.at-number.ensures c.end.result c.end.ensures.answer
