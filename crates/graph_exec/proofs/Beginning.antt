@@ -17,7 +17,8 @@ use Rattle.graph_exec.specs.Flights.{InFlightOf, pairs_in_flight, paired}
 use Rattle.graph_exec.specs.Logs.{LogOf}
 use Rattle.graph_exec.specs.Running.{Running, InFlightFollows, going, running}
 use Rattle.graph_exec.proofs.FirstOf.{IsFirst, first_is, none_passes, never}
-use Rattle.graph_exec.proofs.Pairs.{among, numbered_is, of_numbers, pairs_many}
+use Rattle.run_safety.proofs.ByNumber.{numbered_is}
+use Rattle.graph_exec.proofs.Pairs.{among, of_numbers, pairs_many}
 
 abbrev pub one : Bool → ℕ
 one b = cond b 1 0

@@ -21,7 +21,8 @@ use Rattle.graph_exec.specs.Running.{Running, InFlightFollows, going, running}
 use Rattle.graph_exec.proofs.Beginning.{one, same_pairs}
 use Rattle.graph_exec.proofs.Flying.{ended_of}
 use Rattle.graph_exec.proofs.OneMore.{Adds, set_one, unset_one}
-use Rattle.graph_exec.proofs.Pairs.{action_of, is_flying, not_flying}
+use Rattle.run_safety.proofs.ByNumber.{action_of}
+use Rattle.graph_exec.proofs.Pairs.{is_flying, not_flying}
 
 module _ (log : LogOf) (f : InFlightOf) (h : InFlightFollows log f) where
   abbrev r : Running

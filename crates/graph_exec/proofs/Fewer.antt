@@ -24,7 +24,8 @@ use Rattle.graph_exec.specs.Inner.Rounds.{begins_left, ends_left, asks_left}
 use Rattle.graph_exec.specs.Running.{Running, all_gone, going}
 use Rattle.graph_exec.specs.Running as running
 use Rattle.graph_exec.proofs.Flying.{ended_of, flying_is}
-use Rattle.graph_exec.proofs.Pairs.{action_of, any_number, among, none_above, number_none}
+use Rattle.run_safety.proofs.ByNumber.{action_of}
+use Rattle.graph_exec.proofs.Pairs.{any_number, among, none_above, number_none}
 
 not_before : (p : Event → Bool) (xs ys : List Event) → not (list_any p (xs ++ ys)) ≡ true → not (list_any p xs) ≡ true
 not_before p xs ys h =

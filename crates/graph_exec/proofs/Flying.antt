@@ -18,7 +18,8 @@ use Rattle.cluster_types.specs.Answering.{is_number_of, end_event}
 use Rattle.cluster_types.specs.Journals.{ends_number, moment_of}
 use Rattle.cluster_types.specs.Steps.{begins_number, ended, numbers_in_flight, in_flight_by_number, has_begun, has_ended, is_number_in_flight}
 use Rattle.graph_exec.specs.Running.{Running, going}
-use Rattle.graph_exec.proofs.Pairs.{action_of, with_action, flat_is, found_of, of_members}
+use Rattle.run_safety.proofs.ByNumber.{action_of, with_action, flat_is}
+use Rattle.graph_exec.proofs.Pairs.{found_of, of_members}
 
 -- a list of numbers without the one at a place
 module _ (p q : ℕ → Bool) (k : ℕ) (gone : q k ≡ false) (others : (j : ℕ) → j ≢ k → q j ≡ p j) where

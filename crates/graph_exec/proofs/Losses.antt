@@ -14,7 +14,7 @@ use Rattle.cluster_types.specs.Answering.{end_event}
 use Rattle.cluster_types.specs.Journals.{is_on, moment_of, seconds_of}
 use Rattle.cluster_types.specs.Steps.{ended, numbers_in_flight, in_flight_by_number, is_from_outside, is_number_in_flight, outside}
 use Rattle.graph_exec.specs.Running.{Running, all_gone, going, later}
-use Rattle.graph_exec.proofs.Pairs.{action_of, with_action}
+use Rattle.run_safety.proofs.ByNumber.{action_of, with_action}
 use Rattle.graph_exec.proofs.Flying.{StandsAt, event, flying_is, gone_is, rest_same}
 
 -- the ends of those of these numbers that are on the node

@@ -1,42 +1,16 @@
 -- The actions in flight with their numbers, by the flags of the numbers.
-use Rattle.std.proofs.Common.{arith, ◌≡◌, ◌<◌, ◌≤◌, ◌+◌, ◌-◌, ◌==◌, ◌||◌, ℕ, suc, zero, Bool, true, false, cond, List, [], ◌∷◌, ◌++◌, Some, length, map, filter, find, take, slice_index_or, slice_get, refl, ap, ◌∙◌, ◌≢◌, ◌⊎◌, inl, inr}
-use Rattle.std.specs.List.{flat_map, list_any, range_with_len}
+use Rattle.std.proofs.Common.{arith, ◌≡◌, ◌<◌, ◌≤◌, ◌+◌, ◌-◌, ◌==◌, ◌||◌, ℕ, suc, zero, Bool, true, false, cond, List, [], ◌∷◌, ◌++◌, Some, length, map, filter, find, take, slice_get, refl, ap, ◌∙◌, ◌≢◌, ◌⊎◌, inl, inr}
+use Rattle.std.specs.List.{list_any, range_with_len}
 use Rattle.std.proofs.lemmas.Bool.{cases_eq, ne_eqb, eq-eqb, eqb-true}
 use Rattle.std.proofs.lemmas.List.{length-map, take_more}
-use Rattle.std.proofs.lemmas.Option.{slice_get-get_or, slice_get-map, slice_get_within, get_or_from_slice_get}
+use Rattle.std.proofs.lemmas.Option.{slice_get-map, slice_get_within, get_or_from_slice_get}
 use Rattle.std.specs.Prelude.{option_map}
 use Rattle.lemmas.proofs.Searches.{any-more}
 use Rattle.cluster_types.specs.declared.journal.Action.{Action}
-use Rattle.cluster_types.specs.declared.journal.Action.TheVariants.{Fence}
 use Rattle.cluster_types.specs.Answering.{is_number_of}
-use Rattle.cluster_types.specs.Steps.{numbered}
 use Rattle.listed.specs.Sets.{is_member, members}
-use Rattle.graph_exec.specs.Flights.{InFlightOf, HasFlagOfEach, paired, pairs_in_flight}
-
--- the action of a number that is there
-abbrev pub action_of : List Action → ℕ → Action
-action_of actions k = slice_index_or actions (k - 1) (Fence 0)
-
-abbrev pub with_action : List Action → ℕ → ℕ × Action
-with_action actions k = (k, action_of actions k)
-
-pub numbered_is : (actions : List Action) (k : ℕ) → 0 < k → k ≤ length actions → numbered actions k ≡ Some (action_of actions k)
-numbered_is actions k low high = rw (ne_eqb k 0 (λ e. let f : ⊥ = omega arith in f)) (slice_get-get_or actions (k - 1) (Fence 0) (omega arith))
-
-paired_is : (actions : List Action) (k : ℕ) → 0 < k → k ≤ length actions → paired actions k ≡ with_action actions k ∷ []
-paired_is actions k low high = rw (numbered_is actions k low high) refl
-
-flat_on : (actions : List Action) (k : ℕ) (ks : List ℕ) (b : Bool) → 0 < k → k ≤ length actions
-    → flat_map (paired actions) ks ≡ map (with_action actions) ks
-    → flat_map (paired actions) (cond b (k ∷ ks) ks) ≡ map (with_action actions) (cond b (k ∷ ks) ks)
-flat_on actions k ks true low high rest = rw (paired_is actions k low high, rest) refl
-flat_on actions k ks false low high rest = rest
-
-pub flat_is : (actions : List Action) (p : ℕ → Bool) (a n : ℕ) → 0 < a → a + n ≤ length actions + 1
-    → flat_map (paired actions) (filter p (range_with_len a n)) ≡ map (with_action actions) (filter p (range_with_len a n))
-flat_is actions p a zero low high = refl
-flat_is actions p a (suc n) low high =
-    flat_on actions a (filter p (range_with_len (a + 1) n)) (p a) low (omega arith) (flat_is actions p (a + 1) n (omega arith) (omega arith))
+use Rattle.run_safety.proofs.ByNumber.{with_action, flat_is}
+use Rattle.graph_exec.specs.Flights.{InFlightOf, HasFlagOfEach, pairs_in_flight}
 
 -- which numbers are among those that pass a test
 none_below : (p : ℕ → Bool) (k a n : ℕ) → k < a → list_any (λ j. j == k) (filter p (range_with_len a n)) ≡ false

@@ -7,7 +7,7 @@ use Rattle.cluster_types.specs.Steps.{EndsSilently, IsWaiting, has_begun, has_en
 use Rattle.graph_exec.specs.Running.{Running, going}
 use Rattle.graph_exec.proofs.FirstOf.{IsFirst, first_is}
 use Rattle.graph_exec.proofs.Flying.{StandsAt}
-use Rattle.graph_exec.proofs.Pairs.{numbered_is}
+use Rattle.run_safety.proofs.ByNumber.{numbered_is}
 
 module _ (r : Running) (from_one : has_begun (going r) r.since 0 ≡ false) (waits : IsWaiting (going r) r.since) (k : ℕ) (a : Action) (s : StandsAt r 0 k a) where
   first : IsFirst (is_number_in_flight (going r) r.since) 1 (length r.graph.actions) k

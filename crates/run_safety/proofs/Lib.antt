@@ -9,6 +9,7 @@ pub mod InOrder
 pub mod Losses
 pub mod Flown
 pub mod AtRest
+pub mod ByNumber
 pub mod Calm
 pub mod Preceded
 pub mod Turning

@@ -48,7 +48,7 @@ pub use promises::{
     migrations_have_their_leaf_alone, no_forbidden_neighbour, no_second_copy, no_second_promotion,
     transitions_are_safe,
 };
-pub use rest::{nothing_stays_in_flight, transitions_stay_in_order};
+pub use rest::{both_say_what_is_in_flight, nothing_stays_in_flight, transitions_stay_in_order};
 pub use run_ends::{
     cut_runs_are_unique, journals_grow, runs_begin_the_cut_run, runs_begin_the_whole_run,
     whole_runs_are_not_cut, whole_runs_are_unique,

@@ -5,8 +5,8 @@ ghost use Rattle.cluster_types.specs.declared.journal.Answer.{Answer as AnswerOf
 ghost use Rattle.cluster_types.specs.declared.journal.Event.{Event as EventOf};
 ghost use Rattle.cluster_types.specs.declared.journal.Promotion.{Promotion as PromotionOf};
 ghost use Rattle.cluster_types.specs.declared.placement.Placed.{Placed as PlacedOf};
-ghost use Rattle.cluster_types.specs.Journals.{Orderly, in_flight_by_begin};
-ghost use Rattle.cluster_types.specs.Steps.{Goes, HasEnded, Transition, journal};
+ghost use Rattle.cluster_types.specs.Journals.{AreInFlightByNumber, Orderly, in_flight_by_begin};
+ghost use Rattle.cluster_types.specs.Steps.{Goes, HasEnded, Transition, in_flight_by_number, journal};
 ghost use Rattle.run_safety.specs.OfPlans.{IsOfPlan};
 
 /// Whatever is answered, and in whatever order, the journal stays in order, also after an abort: nothing is begun or ends on a node that isn't there.
@@ -19,4 +19,10 @@ pub fn transitions_stay_in_order()
 pub fn nothing_stays_in_flight()
     ensures { (promotions : List PromotionOf) (placed : PlacedOf) (t : Transition) (whole : Bool) (rest left : Option (List AnswerOf)) (later : List EventOf)
         → IsOfPlan promotions placed t → Goes t whole [] rest later left → HasEnded t later → in_flight_by_begin (journal t later) ≡ [] }
+{}
+
+/// What is in flight in a transition is the same by number as by begin: the same actions with the same numbers.
+pub fn both_say_what_is_in_flight()
+    ensures { (t : Transition) (whole : Bool) (rest left : Option (List AnswerOf)) (since : List EventOf)
+        → in_flight_by_begin t.planned_at ≡ [] → Goes t whole [] rest since left → AreInFlightByNumber (journal t since) (in_flight_by_number t since) }
 {}

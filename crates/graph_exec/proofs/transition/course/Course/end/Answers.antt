@@ -2,7 +2,7 @@ use Rattle.std.proofs.Common.{◌≡◌, ◌-◌, refl}
 use Rattle.std.proofs.lemmas.Option.{get_or_from_slice_get}
 use Rattle.cluster_types.specs.declared.journal.Action.TheVariants.{Fence}
 use Rattle.graph_exec.proofs.EndsOf.{low, high, has_run, not_yet, end_room, end_adds, ended_is}
-use Rattle.graph_exec.proofs.Pairs.{action_of}
+use Rattle.run_safety.proofs.ByNumber.{action_of}
 use Rattle.graph_exec.proofs.OneMore.{follows_more}
 use Rattle.graph_exec.proofs.transition.course.Course.end.Goals as goal
 
