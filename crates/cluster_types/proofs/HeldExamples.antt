@@ -10,9 +10,9 @@ use Rattle.cluster_types.specs.declared.placement.Target.TheVariants as target
 use Rattle.cluster_types.specs.declared.rules.Order.{Order}
 use Rattle.cluster_types.specs.Held.{OrderMayHold, Held, by_order, KeepsTarget, AreTargets}
 use Rattle.cluster_types.specs.Reasons.{HasReason, IsHeldByOrder}
-use Rattle.cluster_types.specs.Tables.{Targets, holds_role, no_targets}
+use Rattle.cluster_types.specs.Tables.{Targets, holds_role}
 use Rattle.cluster_types.proofs.Few.{below_two}
-use Rattle.cluster_types.proofs.SmallClusters.{plain_leaf, two_nodes, location, colocation, start_order, online}
+use Rattle.cluster_types.proofs.SmallClusters.{plain_leaf, two_nodes, location, colocation, start_order, online, no_targets}
 use Rattle.cluster_types.proofs.SmallRuns.{table_by}
 
 -- b starts after a, which must be with b, and which no node may have

@@ -9,9 +9,8 @@ use Rattle.cluster_types.specs.declared.placement.Decision.TheVariants.{Place}
 use Rattle.cluster_types.specs.declared.placement.Target.TheVariants as target
 use Rattle.cluster_types.specs.Choice.{total_on, is_chosen, after_decisions}
 use Rattle.cluster_types.specs.Decisions.{is_ready}
-use Rattle.cluster_types.specs.Tables.{no_targets}
 use Rattle.cluster_types.specs.Terms.{lenders}
-use Rattle.cluster_types.proofs.SmallClusters.{plain_leaf, two_nodes, location, colocation, start_order, did, probed, online}
+use Rattle.cluster_types.proofs.SmallClusters.{plain_leaf, two_nodes, location, colocation, start_order, did, probed, online, no_targets}
 
 abbrev vip : Leaf
 vip = plain_leaf (codes "vip")

@@ -20,9 +20,9 @@ use Rattle.cluster_types.specs.Decisions.{is_made_before, key_of}
 use Rattle.cluster_types.specs.Pins.{pinned_targets}
 use Rattle.cluster_types.specs.Reasons.{plain_reason}
 use Rattle.cluster_types.specs.Rights.{may_keep_by}
-use Rattle.cluster_types.specs.Tables.{Targets, no_targets}
+use Rattle.cluster_types.specs.Tables.{Targets}
 use Rattle.cluster_types.specs.Terms.{base}
-use Rattle.cluster_types.proofs.SmallClusters.{plain_leaf, plain_options, two_nodes, location, colocation, start_order, did, probed, online, step}
+use Rattle.cluster_types.proofs.SmallClusters.{plain_leaf, plain_options, two_nodes, location, colocation, start_order, did, probed, online, step, no_targets}
 use Rattle.cluster_types.proofs.SmallRuns.{predecessors}
 
 abbrev vip : Leaf

@@ -22,8 +22,8 @@ use Rattle.cluster_types.specs.Needed.{Cycled, by_copies, can_cycle, is_monitor_
 use Rattle.cluster_types.specs.Outcomes.{is_bad}
 use Rattle.cluster_types.specs.Reasons.{plain_reason}
 use Rattle.cluster_types.specs.Steps.{aborts, is_success}
-use Rattle.cluster_types.specs.Tables.{Targets, no_targets}
-use Rattle.cluster_types.proofs.SmallClusters.{plain_leaf, plain_options, two_nodes, start_order, did, probed, online, step}
+use Rattle.cluster_types.specs.Tables.{Targets}
+use Rattle.cluster_types.proofs.SmallClusters.{plain_leaf, plain_options, two_nodes, start_order, did, probed, online, step, no_targets}
 use Rattle.cluster_types.proofs.SmallRuns.{predecessors}
 
 abbrev one : Cluster

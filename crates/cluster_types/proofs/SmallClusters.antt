@@ -16,10 +16,12 @@ use Rattle.cluster_types.specs.declared.leaf.OnFail.TheVariants as on_fail
 use Rattle.cluster_types.specs.declared.leaf.Role.TheVariants as role
 use Rattle.cluster_types.specs.declared.leaf.TargetRole.TheVariants as target_role
 use Rattle.cluster_types.specs.declared.node.Node.{Node}
+use Rattle.cluster_types.specs.declared.placement.Target.TheVariants.{Nowhere}
 use Rattle.cluster_types.specs.declared.rules.Colocation.{Colocation}
 use Rattle.cluster_types.specs.declared.rules.Location.{Location}
 use Rattle.cluster_types.specs.declared.rules.Order.{Order}
 use Rattle.cluster_types.specs.declared.rules.OrderKind.TheVariants as kind
+use Rattle.cluster_types.specs.Tables.{Targets}
 
 abbrev pub node : List ℕ → Node
 node name = record { name = name; standby = false; attributes = [] }
@@ -111,3 +113,7 @@ online history now = Up 0 ∷ Up 1 ∷ [] ++ history ++ Quorum true ∷ Wait now
 
 abbrev pub step : Op → ℕ → ℕ → Action
 step o r n = Cell o r n 0 role.Started
+
+-- where nothing goes
+abbrev pub no_targets : Targets
+no_targets r n = Nowhere

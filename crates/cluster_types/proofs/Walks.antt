@@ -15,7 +15,7 @@ use Rattle.cluster_types.specs.declared.graph_edges.Edges.{Edges}
 use Rattle.cluster_types.specs.Graphs.{GraphOf, IsGraph, LeadUpward, LeadsByGates, direct, through, is_before, is_action_number}
 use Rattle.edges.specs.Loops.{EndsWithin}
 use Rattle.listed.specs.Flags.{is_marked}
-use Rattle.cluster_types.specs.Walks.{AreMarked, joins}
+use Rattle.cluster_types.specs.Inner.Walks.{AreMarked, joins}
 use Rattle.cluster_types.proofs.Paths.{before-from_computed, before-computed}
 
 none_marked : (n x : ℕ) → is_marked (replicate n false) x ≡ false

@@ -1,3 +1,4 @@
+pub mod Inner
 pub mod Each
 pub mod Fields
 pub mod Cells
@@ -28,7 +29,6 @@ pub mod Answering
 pub mod Steps
 pub mod Texts
 pub mod Graphs
-pub mod Walks
 pub mod Unpacked
 pub mod Plans
 pub mod Runs

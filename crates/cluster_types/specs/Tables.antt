@@ -14,10 +14,6 @@ use Rattle.cluster_types.specs.declared.rules.Order.{Order}
 abbrev pub Targets : Type 0
 Targets = ℕ → ℕ → Target
 
--- where nothing goes
-abbrev pub no_targets : Targets
-no_targets r n = target.Nowhere
-
 -- what a table keeps, leaf by leaf and node by node. A cell that it doesn't have has no target
 abbrev pub targets_of : Table → Targets
 targets_of table r n = if nat_lt n table.nodes then unwrap_or (slice_get table.targets (r * table.nodes + n)) target.Nowhere else target.Nowhere

@@ -4,7 +4,7 @@ ghost use Rattle.std.specs.Prelude.{◌≡◌, ◌≤◌, ◌<◌, ◌-◌, ◌|
 ghost use Rattle.std.specs.List.{list_any, range_with_len};
 ghost use Rattle.cluster_types.specs.Graphs.{LeadUpward, is_before};
 ghost use Rattle.edges.specs.Loops.{EndsWithin};
-ghost use Rattle.cluster_types.specs.Walks.{AreMarked, joins};
+ghost use Rattle.cluster_types.specs.Inner.Walks.{AreMarked, joins};
 ghost use Rattle.listed.specs.Flags.{is_marked};
 
 use crate::graph::Graph;

@@ -6,8 +6,9 @@ use Rattle.std.proofs.lemmas.List.Sums.{fold-append}
 use Rattle.std.proofs.lemmas.Map.Keys.{apart_from_distinct}
 use Rattle.edges.specs.declared.edge.Edge.{Edge}
 use Rattle.edges.specs.Loops.{EndsWithin, HasNoLoop}
-use Rattle.edges.specs.Clearing.{is_in_list, sources_of}
-use Rattle.edges.specs.Longest.{AreCleared, IsBackward, above, longest}
+use Rattle.edges.specs.Sources.{is_in_list, sources_of}
+use Rattle.edges.specs.Inner.Clearing.{AreCleared, IsBackward}
+use Rattle.edges.specs.Longest.{above, longest}
 use Rattle.edges.proofs.Endings.{one_way}
 use Rattle.edges.proofs.Entering.{Enters, enters_of}
 use Rattle.edges.proofs.Longest.{above_alike, longest_are_heights, longest_bounded}

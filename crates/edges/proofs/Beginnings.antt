@@ -8,7 +8,8 @@ use Rattle.std.proofs.Math.Bool.{and-true}
 use Rattle.lemmas.proofs.Booleans.{sooner, later}
 use Rattle.lemmas.proofs.Counts.{count_none, count_agree}
 use Rattle.edges.specs.declared.edge.Edge.{Edge}
-use Rattle.edges.specs.Clearing.{Clears, is_in_list, edges_from}
+use Rattle.edges.specs.Inner.Clearing.{Clears, edges_from}
+use Rattle.edges.specs.Sources.{is_in_list}
 use Rattle.edges.proofs.Members.{equal_laws, has_at, none_all}
 
 -- a range has the numbers from its first on

@@ -2,7 +2,7 @@
 use Rattle.std.proofs.Common.{◌≡◌, ◌+◌, ◌==◌, ◌&&◌, ◌||◌, not, ℕ, Bool, false, List, count_by}
 use Rattle.lemmas.proofs.Counts.{beyond_by_more}
 use Rattle.edges.specs.declared.edge.Edge.{Edge}
-use Rattle.edges.specs.Clearing.{sources_of}
+use Rattle.edges.specs.Sources.{sources_of}
 
 abbrev pub beyond : ℕ → (ℕ → Bool) → Edge → Bool
 beyond x taken e = x == e.before && not (taken e.after)

@@ -13,8 +13,8 @@ use Rattle.lemmas.proofs.Counts.{count_some}
 use Rattle.edges.specs.declared.edge.Edge.{Edge}
 use Rattle.edges.specs.Chains.{linked, link_then, one_link}
 use Rattle.edges.specs.Loops.{Leads, leads_within, EndsWithin, HasLoop, HasNoLoop}
-use Rattle.edges.specs.Clearing.{Clears, is_in_list, edges_beyond}
-use Rattle.edges.specs.Longest.{AreCleared, IsBackward}
+use Rattle.edges.specs.Inner.Clearing.{Clears, edges_beyond, AreCleared, IsBackward}
+use Rattle.edges.specs.Sources.{is_in_list}
 use Rattle.edges.proofs.Beginnings.{of_range}
 use Rattle.edges.proofs.Counts.{beyond}
 use Rattle.edges.proofs.Leading.{leads-from_computed}

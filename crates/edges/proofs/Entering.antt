@@ -3,7 +3,7 @@ use Rattle.std.proofs.Common.{arith, ◌≡◌, ◌==◌, ℕ, Bool, true, false
 use Rattle.std.proofs.lemmas.Bool.{eqb-true}
 use Rattle.lemmas.proofs.Members.{at_head, head_or_rest, in_none, in_rest}
 use Rattle.edges.specs.declared.edge.Edge.{Edge}
-use Rattle.edges.specs.Clearing.{sources_of}
+use Rattle.edges.specs.Sources.{sources_of}
 
 -- an edge leads from s to x
 pub record Enters (edges : List Edge) (x s : ℕ) : Type 0 where

@@ -9,7 +9,7 @@ use Rattle.lemmas.proofs.Counts.{count_one_more}
 use Rattle.edges.specs.declared.edge.Edge.{Edge}
 use Rattle.edges.specs.Chains.{linked, link_then, one_link}
 use Rattle.edges.specs.Loops.{EndsWithin, HasNoLoop, Leads, leads_within, RiseSomehow}
-use Rattle.edges.specs.Clearing.{is_in_list}
+use Rattle.edges.specs.Sources.{is_in_list}
 use Rattle.edges.proofs.Endings.{begins_within}
 use Rattle.edges.proofs.Leading.{leads_directly, leads-from_computed, of_step}
 use Rattle.edges.proofs.Members.{none_all}

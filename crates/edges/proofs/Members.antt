@@ -6,7 +6,7 @@ use Rattle.std.proofs.lemmas.Bool.{eqb-false}
 use Rattle.std.proofs.lemmas.List.{length-take, get_or-take}
 use Rattle.std.proofs.lemmas.List.Folds.{list_any-append, list_any_at}
 use Rattle.std.proofs.lemmas.Map.Keys.{apart_from_distinct}
-use Rattle.edges.specs.Clearing.{is_in_list}
+use Rattle.edges.specs.Sources.{is_in_list}
 
 pub equal_laws : IsEquivalence ◌==◌
 equal_laws = nat_eq_equiv

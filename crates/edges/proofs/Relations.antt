@@ -1,14 +1,12 @@
 -- What follows one another in some relation, computed over steps, follows along edges between the positions of the things related.
-use Rattle.std.proofs.Common.{◌≡◌, ◌==◌, ◌&&◌, ◌||◌, ℕ, suc, zero, Bool, true, false, List, refl, sym, ◌∙◌, Contains, Any}
+use Rattle.std.proofs.Common.{◌≡◌, ◌==◌, ◌&&◌, ◌||◌, ℕ, suc, zero, Bool, true, false, List, sym, ◌∙◌, Contains}
 use Rattle.std.specs.List.{list_any}
-use Rattle.std.proofs.lemmas.Bool.{both_ways, and_from}
-use Rattle.std.proofs.lemmas.List.Folds.{Any-from_list_any}
-use Rattle.lemmas.proofs.Booleans.{sooner, later}
+use Rattle.std.proofs.lemmas.Bool.{and_from}
 use Rattle.lemmas.proofs.Searches.{passes_by}
 use Rattle.edges.specs.declared.edge.Edge.{Edge}
-use Rattle.edges.specs.Loops.{HasLoop, HasNoLoop, leads_within}
+use Rattle.edges.specs.Loops.{HasLoop, leads_within}
 use Rattle.edges.proofs.Booleans.{onward}
-use Rattle.edges.proofs.Leading.{Step, of_step, step_of}
+use Rattle.edges.proofs.Leading.{Step, step_of}
 
 -- an edge for a way from s
 pub record EdgeFor {A W : Type 0} (target : W → A) (edges : List Edge) (pos : A → ℕ) (w : W) (s : A) : Type 0 where
@@ -42,26 +40,6 @@ module _ {A W : Type 0} (starts : W → A → Bool) (target : W → A) (same : A
   abbrev way_by : ℕ → A → A → W → Bool
   way_by n s t w = starts w s && (same (target w) t || F n (target w) t)
 
-  lead_by : (n : ℕ) (s t : A) → ((w : W) → Contains ways w → starts w s ≡ true → EdgeFor target edges pos w s)
-      → ((u : A) → F n u t ≡ true → leads_within n edges (pos u) (pos t) ≡ true)
-      → Any (λ w. way_by n s t w ≡ true) ways → leads_within (suc n) edges (pos s) (pos t) ≡ true
-  lead_by n s t edge_for next (k, w, lt, at, h) =
-      let e : EdgeFor target edges pos w s = edge_for w (k, lt, at) (sooner (starts w s) _ h) in
-      let on : (pos (target w) == pos t) || F n (target w) t ≡ true = rw (alike w t (k, lt, at)) at (later (starts w s) _ h) in
-      of_step n edges (pos s) (pos t) (record {
-        edge = e.edge;
-        among = e.among;
-        from = e.from;
-        on = rw e.to (onward (pos (target w) == pos t) (F n (target w) t) _ (next (target w)) on);
-      })
-
-  -- where each way has an edge, what follows is led to
-  pub leads_of : ((w : W) (s : A) → Contains ways w → starts w s ≡ true → EdgeFor target edges pos w s) → (n : ℕ) (s t : A) → F n s t ≡ true
-      → leads_within n edges (pos s) (pos t) ≡ true
-  leads_of edge_for zero s t h = absurd (both_ways (F zero s t) (none s t) h)
-  leads_of edge_for (suc n) s t h =
-      lead_by n s t (λ w. edge_for w s) (λ u. leads_of edge_for n u t) (Any-from_list_any (way_by n s t) ways (sym (more n s t) ∙ h))
-
   -- where each edge has a way, what is led to follows
   pub of_leads : ((e : Edge) (s : A) → Contains edges e → e.before ≡ pos s → WayFor starts target ways pos e s) → (n : ℕ) (s t : A)
       → leads_within n edges (pos s) (pos t) ≡ true → F n s t ≡ true
@@ -74,15 +52,7 @@ module _ {A W : Type 0} (starts : W → A → Bool) (target : W → A) (same : A
       = onward (pos (target w.way) == pos t) _ _ (of_leads way_for n (target w.way) t) on in
       more n s t ∙ passes_by (way_by n s t) ways w.way w.among (and_from (starts w.way s) _ w.begins (rw (alike w.way t w.among) then))
 
-  -- so edges have no loop when nothing follows itself, and only then
-
-  pub nothing_follows_itself : ((w : W) (s : A) → Contains ways w → starts w s ≡ true → EdgeFor target edges pos w s) → (positions : ℕ)
-      → HasNoLoop positions edges
-      → (s : A) → F positions s s ≡ false
-  nothing_follows_itself edge_for positions free s = on (F positions s s) refl where
-    on : (b : Bool) → F positions s s ≡ b → F positions s s ≡ false
-    on true h = absurd (both_ways _ (free (pos s)) (leads_of edge_for positions s s h))
-    on false h = h
+  -- so where edges have a loop something follows itself
 
   at_loop : ((e : Edge) (s : A) → Contains edges e → e.before ≡ pos s → WayFor starts target ways pos e s) → (n x : ℕ)
       → leads_within n edges x x ≡ true

@@ -6,7 +6,8 @@ use Rattle.std.proofs.lemmas.List.{length-take, get_or-take}
 use Rattle.edges.specs.declared.edge.Edge.{Edge}
 use Rattle.edges.specs.Chains.{linked, link_then, one_link}
 use Rattle.edges.specs.Loops.{Leads}
-use Rattle.edges.specs.Clearing.{is_in_list, LeadsBack}
+use Rattle.edges.specs.Sources.{is_in_list}
+use Rattle.edges.specs.Inner.Clearing.{LeadsBack}
 use Rattle.edges.proofs.Members.{StandsAt, place_of, has_take, not_before}
 
 module _ (edges : List Edge) (order : List ℕ) (back : LeadsBack edges order) where

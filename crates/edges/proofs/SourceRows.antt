@@ -8,7 +8,7 @@ use Rattle.std.proofs.lemmas.List.Sums.{count_by-le-length, count_by_more_yes, c
 use Rattle.lemmas.proofs.Ranges.{filter-more}
 use Rattle.edges.specs.declared.edge.Edge.{Edge}
 use Rattle.edges.specs.Loops.{EndsWithin}
-use Rattle.edges.specs.Clearing.{edges_from}
+use Rattle.edges.specs.Inner.Clearing.{edges_from}
 
 pub ends_at : (positions : ℕ) (edges : List Edge) (i : ℕ) (d : Edge) → EndsWithin positions edges → i < length edges
     → ((slice_index_or edges i d).before < positions) × ((slice_index_or edges i d).after < positions)

@@ -1,5 +1,6 @@
+pub mod Inner
 pub mod Chains
 pub mod Loops
-pub mod Clearing
+pub mod Sources
 pub mod Longest
 pub mod Rows

@@ -1,8 +1,7 @@
 ghost use Rattle.std.specs.Prelude.{◌≡◌, ◌↔◌, ◌≤◌, ◌<◌, ◌-◌, ◌++◌, ◌∷◌, ◌==◌, [], ℕ, List, true, false, if◌then◌else◌, IfOk, OnOk, count_by, slice_index_or, slice_set};
 ghost use Rattle.edges.specs.declared.edge.Edge.{Edge};
 ghost use Rattle.edges.specs.Loops.{EndsWithin, HasNoLoop, HasLoop};
-ghost use Rattle.edges.specs.Clearing.{Clears, cleared_then, less_one};
-ghost use Rattle.edges.specs.Longest.{AreCleared};
+ghost use Rattle.edges.specs.Inner.Clearing.{Clears, cleared_then, less_one, AreCleared};
 
 use crate::edge::Edge;
 use crate::sources::{leaving, sources, unused};

@@ -1,7 +1,8 @@
 ghost use Rattle.std.specs.Prelude.{◌≡◌, ◌<◌, ◌==◌, [], ℕ, IfOk, length, filter, slice_index_or};
 ghost use Rattle.std.specs.List.{range_with_len};
 ghost use Rattle.edges.specs.Loops.{EndsWithin};
-ghost use Rattle.edges.specs.Clearing.{edges_from, sources_of};
+ghost use Rattle.edges.specs.Inner.Clearing.{edges_from};
+ghost use Rattle.edges.specs.Sources.{sources_of};
 
 use crate::edge::Edge;
 use listed::{Listed, empty_lists};

@@ -14,7 +14,7 @@ use Rattle.graph_exec.specs.Ready.{inputs_have_succeeded, startable}
 use Rattle.lemmas.proofs.Booleans.{unless, sooner, later}
 use Rattle.lemmas.proofs.Counts.{count_none, count_some}
 use Rattle.lemmas.proofs.Ranges.{all_in_range, filter-alike}
-use Rattle.edges.specs.Clearing.{is_in_list}
+use Rattle.edges.specs.Sources.{is_in_list}
 use Rattle.graph_exec.proofs.Beyond.{beyond}
 
 -- a way goes on by an edge from a gate

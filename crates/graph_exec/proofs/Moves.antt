@@ -14,7 +14,7 @@ use Rattle.graph_exec.specs.Ready.{startable}
 use Rattle.std.proofs.Math.Bool.{and-true, or-false}
 use Rattle.lemmas.proofs.Booleans.{sooner, later}
 use Rattle.lemmas.proofs.Counts.{count_agree}
-use Rattle.edges.specs.Clearing.{is_in_list}
+use Rattle.edges.specs.Sources.{is_in_list}
 use Rattle.edges.proofs.Members.{equal_laws, has_push, has_at}
 use Rattle.edges.proofs.Beginnings.{in_range, of_range, has_filter, distinct_filter}
 use Rattle.graph_exec.proofs.Free.{are_startable}

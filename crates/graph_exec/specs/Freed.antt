@@ -4,7 +4,7 @@ use Rattle.std.specs.Prelude.{◌≡◌, ◌<◌, ◌≤◌, ◌+◌, ℕ, ◌==
 use Rattle.std.specs.List.{IsDistinct}
 use Rattle.edges.specs.declared.edge.Edge.{Edge}
 use Rattle.cluster_types.specs.Graphs.{GraphOf, IsGraph}
-use Rattle.edges.specs.Clearing.{is_in_list}
+use Rattle.edges.specs.Sources.{is_in_list}
 use Rattle.edges.specs.Rows.{AreRows}
 
 -- how many edges lead to a position from others than these

@@ -6,8 +6,6 @@ use Rattle.cluster_types.specs.declared.leaf.Op.{Op}
 use Rattle.cluster_types.specs.declared.leaf.Op.TheVariants.{Start, Stop, Promote, Demote, Monitor}
 use Rattle.cluster_types.specs.Numbers.{Link, StepOf, is_same_step, links, rank}
 use Rattle.cluster_types.specs.Precedence.{is_migrating}
-use Rattle.loops.specs.declared.place.Phase.{Phase}
-use Rattle.loops.specs.declared.place.Phase.TheVariants as phase
 
 -- the links into a step
 abbrev pub links_into : Cluster → StepOf → List Link
@@ -32,14 +30,3 @@ AreRanks c ranks = (s : StepOf) → rank_in ranks s.what s.leaf ≡ rank c s
 -- the flags say which leaves migrate, by the actions
 abbrev pub AreMigrating : List Action → List Bool → Type 0
 AreMigrating actions flags = (r : ℕ) → slice_index_or flags r false ≡ is_migrating actions r
-
--- the phases in their order
-abbrev pub phase_number : Phase → ℕ
-phase_number phase.Fences = 0
-phase_number phase.Probes = 1
-phase_number phase.Stops = 2
-phase_number phase.Sends = 3
-phase_number phase.TakingsIn = 4
-phase_number phase.SourceStops = 5
-phase_number phase.Starts = 6
-phase_number phase.Monitors = 7

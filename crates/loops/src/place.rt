@@ -2,7 +2,7 @@
 
 ghost use Rattle.std.specs.Prelude.{◌≡◌};
 ghost use Rattle.cluster_types.specs.Numbers.{place};
-ghost use Rattle.loops.specs.Ranks.{phase_number};
+ghost use Rattle.loops.specs.Inner.Phases.{phase_number};
 
 use cluster_types::{LeafId, NodeId};
 use std::marker::Model;

@@ -7,7 +7,7 @@ use Rattle.lemmas.proofs.Booleans.{sooner}
 use Rattle.edges.specs.declared.edge.Edge.{Edge}
 use Rattle.cluster_types.specs.Graphs.{LeadUpward, LeadsByGates, direct, through}
 use Rattle.edges.specs.Loops.{EndsWithin}
-use Rattle.cluster_types.specs.Walks.{joins}
+use Rattle.cluster_types.specs.Inner.Walks.{joins}
 use Rattle.cluster_types.proofs.Walks.{by_edge, joined}
 use Rattle.trace_text.specs.Inner.Backward.{IsOnTheWay, LeadsToFound}
 

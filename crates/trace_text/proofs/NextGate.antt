@@ -8,7 +8,7 @@ use Rattle.lemmas.proofs.Booleans.{sooner, later}
 use Rattle.edges.specs.declared.edge.Edge.{Edge}
 use Rattle.cluster_types.specs.Graphs.{LeadUpward}
 use Rattle.edges.specs.Loops.{EndsWithin}
-use Rattle.cluster_types.specs.Walks.{joins}
+use Rattle.cluster_types.specs.Inner.Walks.{joins}
 use Rattle.listed.specs.Sets.{is_member, members}
 use Rattle.trace_text.specs.declared.found.Found.{Found}
 use Rattle.trace_text.specs.Inner.Backward.{IsOnTheWay}

@@ -3,7 +3,7 @@ ghost use Rattle.std.specs.List.{list_any};
 ghost use Rattle.edges.specs.declared.edge.Edge.{Edge as EdgeOf};
 ghost use Rattle.cluster_types.specs.Graphs.{LeadUpward, LeadsByGates};
 ghost use Rattle.edges.specs.Loops.{EndsWithin};
-ghost use Rattle.cluster_types.specs.Walks.{joins};
+ghost use Rattle.cluster_types.specs.Inner.Walks.{joins};
 ghost use Rattle.listed.specs.Sets.{members};
 ghost use Rattle.trace_text.specs.Inner.Arriving.{AreLinked};
 ghost use Rattle.trace_text.specs.Inner.Found.{PositionsHaveRoom, SameSizes, is_found};

@@ -1,7 +1,7 @@
 use Rattle.std.proofs.Common.{◌≡◌, ◌||◌, ℕ, length, take}
 use Rattle.std.specs.List.{list_any}
 use Rattle.listed.specs.Flags.{is_marked}
-use Rattle.cluster_types.specs.Walks.{joins}
+use Rattle.cluster_types.specs.Inner.Walks.{joins}
 use Rattle.cluster_types.proofs.befores.mark_sources.Given as goal
 
 abbrev pub invariant-loop-edge : goal.invariant-loop-edge

@@ -2,7 +2,7 @@ use Rattle.std.proofs.Common.{rules, arith, ◌≡◌, ◌||◌, ◌-◌, ◌+�
 use Rattle.std.specs.List.{list_any}
 use Rattle.std.proofs.lemmas.List.{length-replicate}
 use Rattle.listed.specs.Flags.{is_marked}
-use Rattle.cluster_types.specs.Walks.{AreMarked, joins}
+use Rattle.cluster_types.specs.Inner.Walks.{AreMarked, joins}
 use Rattle.cluster_types.proofs.Walks.{at_first, ends_in, is_at, nothing_marked, one_gate_more}
 use Rattle.cluster_types.proofs.befores.walked.Goals as goal
 

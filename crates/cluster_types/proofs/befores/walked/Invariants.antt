@@ -1,5 +1,5 @@
 use Rattle.std.proofs.Common.{◌≡◌, ◌≤◌, length}
-use Rattle.cluster_types.specs.Walks.{AreMarked}
+use Rattle.cluster_types.specs.Inner.Walks.{AreMarked}
 use Rattle.cluster_types.proofs.befores.walked.Given as goal
 
 abbrev pub invariant-loop-lowest : goal.invariant-loop-lowest

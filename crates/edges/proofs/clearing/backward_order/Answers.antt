@@ -1,6 +1,6 @@
 use Rattle.std.proofs.Common.{arith, ◌≡◌, ◌<◌, ◌+◌, [], slice_index_or, length, ◌∙◌}
 use Rattle.std.proofs.lemmas.List.{get_or_read}
-use Rattle.edges.specs.Clearing.{sources_of}
+use Rattle.edges.specs.Sources.{sources_of}
 use Rattle.edges.proofs.Endings.{cleared_once_stuck, few_cleared}
 use Rattle.edges.proofs.Members.{has_at}
 use Rattle.edges.proofs.Steps.{taken_next, enough_next}

@@ -1,5 +1,5 @@
 use Rattle.std.proofs.Common.{◌-◌, []}
-use Rattle.edges.specs.Clearing.{Clears}
+use Rattle.edges.specs.Inner.Clearing.{Clears}
 use Rattle.edges.proofs.clearing.backward_order.Given as goal
 
 abbrev pub invariant-loop-taken : goal.invariant-loop-taken

@@ -1,7 +1,7 @@
 use Rattle.std.proofs.Common.{arith, ◌≡◌, ◌<◌, ◌-◌, [], slice_index_or, ◌∙◌, suc}
 use Rattle.std.proofs.lemmas.List.{get_or_read}
-use Rattle.edges.specs.Clearing.{sources_of}
-use Rattle.edges.specs.Longest.{IsBackward}
+use Rattle.edges.specs.Sources.{sources_of}
+use Rattle.edges.specs.Inner.Clearing.{IsBackward}
 use Rattle.edges.proofs.BackwardSteps.{AreMeasured, all_measured, backward_of_free, measured_from, measured_more, next_length, position_within, sources_within}
 use Rattle.edges.proofs.measuring.longest_ways.Goals as goal
 

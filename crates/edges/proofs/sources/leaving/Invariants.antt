@@ -1,5 +1,5 @@
 use Rattle.std.proofs.Common.{◌≡◌, ◌<◌, ℕ, length, slice_index_or, take}
-use Rattle.edges.specs.Clearing.{edges_from}
+use Rattle.edges.specs.Inner.Clearing.{edges_from}
 use Rattle.edges.proofs.sources.leaving.Given as goal
 
 abbrev pub invariant-loop-edge : goal.invariant-loop-edge

@@ -1,5 +1,5 @@
 use Rattle.std.proofs.Common.{◌≡◌, ◌<◌, [], ℕ, length, slice_index_or, take}
-use Rattle.edges.specs.Clearing.{sources_of}
+use Rattle.edges.specs.Sources.{sources_of}
 use Rattle.edges.proofs.sources.sources.Given as goal
 
 abbrev pub invariant-loop-edge : goal.invariant-loop-edge

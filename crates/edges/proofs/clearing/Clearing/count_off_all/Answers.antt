@@ -1,6 +1,6 @@
 use Rattle.std.proofs.Common.{arith, ◌≡◌, ◌≤◌, ◌+◌, ◌==◌, ◌∷◌, [], ℕ, count_by, drop, slice_index_or}
 use Rattle.std.proofs.lemmas.List.{drop_more, drop_all}
-use Rattle.edges.specs.Clearing.{Clears}
+use Rattle.edges.specs.Inner.Clearing.{Clears}
 use Rattle.edges.proofs.Steps.{counted_off, enough_off}
 use Rattle.edges.proofs.clearing.Clearing.count_off_all.Goals as goal
 

@@ -1,6 +1,6 @@
 use Rattle.std.proofs.Common.{◌≤◌, ◌==◌, ℕ, List, count_by, slice_index_or, drop}
 use Rattle.edges.specs.declared.edge.Edge.{Edge}
-use Rattle.edges.specs.Clearing.{Clears}
+use Rattle.edges.specs.Inner.Clearing.{Clears}
 use Rattle.edges.proofs.clearing.Clearing.count_off_all.Given as goal
 
 abbrev pub invariant-loop-source : goal.invariant-loop-source

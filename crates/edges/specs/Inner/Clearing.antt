@@ -1,15 +1,9 @@
 -- How positions are cleared: a position is clear once each edge from it leads to one that was taken (rule of this project).
-use Rattle.std.specs.Prelude.{◌≡◌, ◌<◌, ◌≤◌, ◌+◌, ◌-◌, ℕ, ◌==◌, ◌&&◌, Bool, true, not, if◌then◌else◌, List, [], ◌∷◌, ◌++◌, length, take, map, filter, count_by, slice_index_or, slice_set, Contains}
-use Rattle.std.specs.List.{IsDistinct, list_any}
+use Rattle.std.specs.Prelude.{◌≡◌, ◌<◌, ◌≤◌, ◌+◌, ◌-◌, ℕ, ◌==◌, ◌&&◌, true, not, if◌then◌else◌, List, [], ◌∷◌, ◌++◌, length, take, count_by, slice_index_or, slice_set, Contains}
+use Rattle.std.specs.List.{IsDistinct}
 use Rattle.edges.specs.declared.edge.Edge.{Edge}
-
--- the position stands in the list
-abbrev pub is_in_list : List ℕ → ℕ → Bool
-is_in_list xs x = list_any (◌==◌ x) xs
-
--- where the edges into a position begin
-abbrev pub sources_of : List Edge → ℕ → List ℕ
-sources_of edges y = map (λ e. e.before) (filter (λ e. e.after == y) edges)
+use Rattle.edges.specs.Loops.{HasLoop, HasNoLoop}
+use Rattle.edges.specs.Sources.{is_in_list}
 
 -- how many edges lead from a position
 abbrev pub edges_from : List Edge → ℕ → ℕ
@@ -43,3 +37,17 @@ pub record Clears (positions : ℕ) (edges : List Edge) (taken : ℕ) (pending w
       → slice_index_or waiting x 0 ≡ edges_beyond edges (take taken cleared) x + count_by (◌==◌ x) pending
   pub ready : (x : ℕ) → x < positions → is_in_list cleared x ≡ (slice_index_or waiting x 0 == 0)
   pub back : LeadsBack edges cleared
+
+-- all positions, each once, each behind those to which its edges lead
+pub record IsBackward (positions : ℕ) (edges : List Edge) (order : List ℕ) : Type 0 where
+  pub size : length order ≡ positions
+  pub distinct : IsDistinct ◌==◌ order
+  pub below : (x : ℕ) → is_in_list order x ≡ true → x < positions
+  pub all : (x : ℕ) → x < positions → is_in_list order x ≡ true
+  pub back : LeadsBack edges order
+
+-- as many positions as can be taken so: all of them when there is no loop, and only then
+pub record AreCleared (positions : ℕ) (edges : List Edge) (taken : List ℕ) : Type 0 where
+  pub some : length taken < positions → HasLoop positions edges
+  pub none : positions ≤ length taken → HasNoLoop positions edges
+  pub all : positions ≤ length taken → IsBackward positions edges taken
