@@ -4,7 +4,7 @@ use Rattle.std.proofs.Math.Seq.{take-add}
 use Rattle.std.proofs.lemmas.List.{take_at, drop_at, take-append-le, length-take-le}
 use borrow.Rule.Slice.PartMut.{put_mid, post_of}
 use Rattle.cluster_io.specs.Streams.{ReadsBytes}
-use Rattle.cluster_io.specs.Windows.{Received, reached}
+use Rattle.cluster_io.specs.Inner.Reads.{Received, reached}
 use Rattle.cluster_io.specs.declared.source.ReadStep.{ReadStep}
 use Rattle.cluster_io.specs.declared.source.ReadStep.TheVariants as read
 

@@ -1,3 +1,4 @@
+pub mod Inner
 pub mod HeldLines
 pub mod LineReaders
 pub mod Memory

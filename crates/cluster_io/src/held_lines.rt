@@ -1,7 +1,8 @@
 ghost use Rattle.std.specs.Prelude.{◌≡◌, ℕ, ◌+◌, ◌*◌, ◌^◌, ◌≤◌, ◌<◌, None, Some, true, false, [], length, IfOk, IfSome};
 ghost use Rattle.cluster_io.specs.Streams.{Bears};
 ghost use Rattle.cluster_io.specs.NextLine.{holds_line};
-ghost use Rattle.cluster_io.specs.HeldLines.{MayGiveFound, GivesFound, Stops, Turned};
+ghost use Rattle.cluster_io.specs.HeldLines.{Stops};
+ghost use Rattle.cluster_io.specs.Inner.Turned.{MayGiveFound, GivesFound, Turned};
 
 use crate::line_scan::{Bounds, Found, Scan, last_line, look};
 use crate::window::Window;

@@ -1,6 +1,6 @@
 ghost use Rattle.std.specs.Prelude.{◌≡◌, ◌≢◌, ℕ, ◌+◌, ◌≤◌, ◌<◌, true, false, [], length, take, drop, IfOk, IfSome};
 ghost use Rattle.cluster_io.specs.Streams.{Bears, is_end};
-ghost use Rattle.cluster_io.specs.Windows.{Received, reached};
+ghost use Rattle.cluster_io.specs.Inner.Reads.{Received, reached};
 
 use crate::{NoMemory, ReadStep, Source};
 use std::alloc::Global;

@@ -7,7 +7,7 @@ use Rattle.faults.specs.Reading.{unless, Gives}
 use Rattle.crm_lex.specs.RawLines.{physical_lines, content, begins_comment, ends_in_backslash}
 use Rattle.crm_lex.specs.Words.{is_quote, place_behind, is_open, words_of}
 use Rattle.crm_lex.specs.LogicalLines.{with_joint, line_text, content_length, byte_faults, faults}
-use Rattle.crm_lex.specs.Parts.{is_quote_or_backslash, is_plain_text, is_plain_line}
+use Rattle.crm_lex.specs.Inner.Parts.{is_quote_or_backslash, is_plain_text, is_plain_line}
 use Rattle.crm_lex.specs.Reading.{first_lex_fault, reads_line}
 use Rattle.faults.specs.declared.fault.Fault.{Fault}
 use Rattle.crm_lex.specs.declared.fault.LexCause.{LexCause}

@@ -5,7 +5,7 @@ use Rattle.std.specs.List.{slice_split, onto_first}
 use Rattle.std.proofs.lemmas.Bool.{or_parts, cases_lt, true≢false, false≢true, true_from_ne_false}
 use Rattle.crm_lex.specs.RawLines.{is_blank}
 use Rattle.crm_lex.specs.Words.{first_byte, is_quote, escapes, mark_if, piece_at, place_after, pieces, is_gap, has_pieces, letters, words_of}
-use Rattle.crm_lex.specs.Parts.{first_letters, later_words, word_on, words_behind, ends_plain, ends_word, PlainBetween}
+use Rattle.crm_lex.specs.Inner.Parts.{first_letters, later_words, word_on, words_behind, ends_plain, ends_word, PlainBetween}
 use Rattle.crm_lex.specs.declared.quoting.Place.{Place}
 use Rattle.crm_lex.specs.declared.quoting.Place.TheVariants.{Outside, Double, Escaped, Single}
 use Rattle.crm_lex.specs.declared.quoting.Piece.{Piece}

@@ -1,7 +1,7 @@
+pub mod Inner
 pub mod Names
 pub mod RawLines
 pub mod Words
-pub mod Parts
 pub mod LogicalLines
 pub mod Reading
 pub mod WordRoom

@@ -1,7 +1,7 @@
 ghost use Rattle.std.specs.Prelude.{◌≡◌, ◌+◌, ◌<◌, ◌≤◌, ◌^◌, ◌++◌, ◌∷◌, [], Some, None, take, drop, length, vec_len, vec_capacity};
 ghost use Rattle.crm_lex.specs.RawLines.{physical_lines, raw_lines, begins_comment as begins_with_comment};
 ghost use Rattle.crm_lex.specs.LogicalLines as spec;
-ghost use Rattle.crm_lex.specs.Parts as parts;
+ghost use Rattle.crm_lex.specs.Inner.Parts as parts;
 ghost use Rattle.crm_lex.specs.Reading.{first_lex_fault};
 
 use crate::physical::{

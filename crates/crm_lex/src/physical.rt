@@ -3,7 +3,7 @@ ghost use Rattle.std.specs.List.{list_any};
 ghost use Rattle.std.specs.Str.{is_utf8};
 ghost use Rattle.crm_lex.specs.RawLines as raw;
 ghost use Rattle.crm_lex.specs.LogicalLines as spec;
-ghost use Rattle.crm_lex.specs.Parts as parts;
+ghost use Rattle.crm_lex.specs.Inner.Parts as parts;
 ghost use Rattle.crm_lex.specs.Reading.{first_lex_fault};
 ghost use Rattle.faults.specs.declared.fault.Fault.TheVariants as fault;
 

@@ -1,7 +1,7 @@
 ghost use Rattle.std.specs.Prelude.{◌≡◌, ◌+◌, ◌<◌, ◌≤◌, ◌^◌, ◌++◌, ◌∷◌, [], true, false, length, drop, slice_index, OnOk, IfOk, IfErr, vec_capacity};
 ghost use Rattle.crm_lex.specs.RawLines.{is_blank, physical_lines};
 ghost use Rattle.crm_lex.specs.Words.{words_of};
-ghost use Rattle.crm_lex.specs.Parts.{is_plain_line};
+ghost use Rattle.crm_lex.specs.Inner.Parts.{is_plain_line};
 ghost use Rattle.faults.specs.declared.fault.Fault.TheVariants as no;
 ghost use Rattle.faults.specs.Reading.{Gives};
 ghost use Rattle.crm_lex.specs.Reading.{reads, reads_line, row};

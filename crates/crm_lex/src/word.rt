@@ -2,8 +2,8 @@ ghost use Rattle.std.specs.Prelude.{◌≡◌, ◌+◌, ◌-◌, ◌<◌, ◌≤
 ghost use Rattle.crm_lex.specs.RawLines as raw;
 ghost use Rattle.crm_lex.specs.Words as spec;
 ghost use Rattle.crm_lex.specs.Words.{words_of};
-ghost use Rattle.crm_lex.specs.Parts as parts;
-ghost use Rattle.crm_lex.specs.Parts.{PlainBetween, word_on};
+ghost use Rattle.crm_lex.specs.Inner.Parts as parts;
+ghost use Rattle.crm_lex.specs.Inner.Parts.{PlainBetween, word_on};
 ghost use Rattle.crm_lex.specs.declared.quoting.Place.TheVariants.{Outside};
 
 use crate::quoting::{Piece, Place, is_blank, is_quote};

@@ -1,5 +1,5 @@
 use Rattle.std.proofs.Common.{◌≡◌, false, sym, ap, ◌∙◌, arith}
-use Rattle.crm_lex.specs.Parts.{is_plain_line}
+use Rattle.crm_lex.specs.Inner.Parts.{is_plain_line}
 use Rattle.crm_lex.proofs.PlainLines.{two_lines}
 use Rattle.crm_lex.proofs.logical.is_plain.Goals as goal
 

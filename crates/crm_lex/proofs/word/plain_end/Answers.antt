@@ -1,5 +1,5 @@
 use Rattle.std.proofs.Common.{◌≡◌, length, sym, subst, arith}
-use Rattle.crm_lex.specs.Parts.{PlainBetween}
+use Rattle.crm_lex.specs.Inner.Parts.{PlainBetween}
 use Rattle.crm_lex.proofs.Words.{plain_here, plain_more}
 use Rattle.crm_lex.proofs.word.plain_end.Goals as goal
 

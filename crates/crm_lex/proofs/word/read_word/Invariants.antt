@@ -1,5 +1,5 @@
 use Rattle.std.proofs.Common.{◌≡◌, ◌+◌, ◌-◌, ◌≤◌, ◌++◌, length, drop, vec_len, vec_capacity}
-use Rattle.crm_lex.specs.Parts.{word_on, words_behind}
+use Rattle.crm_lex.specs.Inner.Parts.{word_on, words_behind}
 use Rattle.crm_lex.specs.declared.quoting.Place.TheVariants.{Outside}
 use Rattle.crm_lex.proofs.word.read_word.Given as goal
 

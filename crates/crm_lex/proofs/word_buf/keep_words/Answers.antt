@@ -1,7 +1,7 @@
 use Rattle.std.proofs.Common.{◌≡◌, [], ◌∷◌, ◌++◌, length, take, drop, sym, ap, ◌∙◌, append-nil, arith}
 use Rattle.std.proofs.lemmas.List.{drop_all, take_all}
 use Rattle.crm_lex.specs.Words.{words_of}
-use Rattle.crm_lex.specs.Parts.{word_on}
+use Rattle.crm_lex.specs.Inner.Parts.{word_on}
 use Rattle.crm_lex.specs.WordRoom.{words_at}
 use Rattle.crm_lex.specs.declared.quoting.Place.TheVariants.{Outside}
 use Rattle.crm_lex.proofs.WordRoom.{keep_word, length-words_at}
