@@ -35,14 +35,14 @@ pub measured_from : (positions : ℕ) (edges : List Edge) (order ways : List ℕ
 measured_from positions edges order ways left k e m = rw e at m
 
 -- without a loop all positions can be taken
-pub backward_of_free : (positions : ℕ) (edges : List Edge) (order : List ℕ) → HasNoLoop positions edges
+pub backward_of_free : (positions : ℕ) (edges : List Edge) (order : List ℕ) → HasNoLoop edges
     → AreCleared positions edges order → IsBackward positions edges order
 backward_of_free positions edges order free c = elim (cases_lt (length order) positions) [
-  | inl lt ↦ absurd (one_way positions edges (c.some lt) free)
+  | inl lt ↦ absurd (one_way edges (c.some lt) free)
   | inr le ↦ c.all le
 ]
 
-module _ (positions : ℕ) (edges : List Edge) (ends : EndsWithin positions edges) (free : HasNoLoop positions edges)
+module _ (positions : ℕ) (edges : List Edge) (ends : EndsWithin positions edges) (free : HasNoLoop edges)
     (order : List ℕ) (b : IsBackward positions edges order) where
   pub position_within : (j : ℕ) → j < positions → slice_index_or order j 0 < positions
   position_within j lt = let s = b.size in b.below (slice_index_or order j 0) (has_at order j (omega arith))

@@ -12,12 +12,11 @@ use Rattle.lemmas.proofs.Booleans.{sooner, later}
 use Rattle.lemmas.proofs.Counts.{count_some}
 use Rattle.edges.specs.declared.edge.Edge.{Edge}
 use Rattle.edges.specs.Chains.{linked, link_then, one_link}
-use Rattle.edges.specs.Loops.{Leads, leads_within, EndsWithin, HasLoop, HasNoLoop}
+use Rattle.edges.specs.Loops.{Leads, EndsWithin, HasLoop, HasNoLoop}
 use Rattle.edges.specs.Inner.Clearing.{Clears, edges_beyond, AreCleared, IsBackward}
 use Rattle.edges.specs.Sources.{is_in_list}
 use Rattle.edges.proofs.Beginnings.{of_range}
 use Rattle.edges.proofs.Counts.{beyond}
-use Rattle.edges.proofs.Leading.{leads-from_computed}
 use Rattle.edges.proofs.Members.{equal_laws, none_all}
 use Rattle.edges.proofs.Rising.{no_loop}
 use Rattle.edges.proofs.Walks.{GoesOn, loop_of_set}
@@ -33,8 +32,8 @@ distinct_range n = IsDistinct-from_apart ◌==◌ (range_with_len 0 n) (λ i j d
     let h = get_or-range_with_len 0 n j d (omega arith) in
     ne_eqb _ _ (λ e. let f : ⊥ = omega arith in f))
 
-pub one_way : (positions : ℕ) (edges : List Edge) → HasLoop positions edges → HasNoLoop positions edges → ⊥
-one_way positions edges l n = both_ways _ (n l.at) l.leads
+pub one_way : (edges : List Edge) → HasLoop edges → HasNoLoop edges → ⊥
+one_way edges l n = n l.at l.leads
 
 module _ (positions : ℕ) (edges : List Edge) (ends : EndsWithin positions edges) (taken : ℕ) (waiting cleared : List ℕ)
     (c : Clears positions edges taken [] waiting cleared) where
@@ -71,13 +70,8 @@ module _ (positions : ℕ) (edges : List Edge) (ends : EndsWithin positions edge
     back = c.back;
   }
 
-  pub free_once_taken : positions ≤ taken → HasNoLoop positions edges
-  free_once_taken all x = on (leads_within positions edges x x) refl where
-    on : (b : Bool) → leads_within positions edges x x ≡ b → leads_within positions edges x x ≡ false
-    on true h =
-        let led : Leads edges x x = leads-from_computed positions edges x x h in
-        absurd (no_loop edges cleared c.back c.distinct x (all_cleared all x (begins_within positions edges ends x x led)) led)
-    on false h = h
+  pub free_once_taken : positions ≤ taken → HasNoLoop edges
+  free_once_taken all x led = no_loop edges cleared c.back c.distinct x (all_cleared all x (begins_within positions edges ends x x led)) led
 
   -- none that is clear is left to take
   record Stays (x : ℕ) : Type 0 where
@@ -111,7 +105,7 @@ module _ (positions : ℕ) (edges : List Edge) (ends : EndsWithin positions edge
         on_from x (Any-from_list_any (beyond x (is_in_list (take taken cleared))) edges
         (count_some (beyond x (is_in_list (take taken cleared))) edges (some_beyond x s)))
 
-    one_stays : Any (λ x. not (is_in_list cleared x) ≡ true) (range_with_len 0 positions) → HasLoop positions edges
+    one_stays : Any (λ x. not (is_in_list cleared x) ≡ true) (range_with_len 0 positions) → HasLoop edges
     one_stays (k, x, lt, at, h) =
         loop_of_set positions edges Stays (λ x s. s.within) goes_on x (record {
           within = let l = length-range_with_len 0 positions in let g = get_or-range_with_len 0 positions k x (omega arith) in omega arith;
@@ -132,9 +126,9 @@ module _ (positions : ℕ) (edges : List Edge) (ends : EndsWithin positions edge
           absurd (both_ways _ none
           (list_any_at (λ x. not (is_in_list cleared x)) (range_with_len 0 positions) x 0 (omega arith) (rw (at, g) refl)))
 
-    pub loop_once_stuck : length cleared < positions → HasLoop positions edges
+    pub loop_once_stuck : length cleared < positions → HasLoop edges
     loop_once_stuck few = on (list_any (λ x. not (is_in_list cleared x)) (range_with_len 0 positions)) refl where
-      on : (b : Bool) → list_any (λ x. not (is_in_list cleared x)) (range_with_len 0 positions) ≡ b → HasLoop positions edges
+      on : (b : Bool) → list_any (λ x. not (is_in_list cleared x)) (range_with_len 0 positions) ≡ b → HasLoop edges
       on true h = one_stays (Any-from_list_any (λ x. not (is_in_list cleared x)) (range_with_len 0 positions) h)
       on false h =
           let n = length-le_from_is_member equal_laws (range_with_len 0 positions) cleared (distinct_range positions) (has_each h) in

@@ -1,7 +1,7 @@
 -- Edges without a loop rise in some height: how many positions lead to each.
 use Rattle.std.proofs.Common.{arith, ◌≡◌, ◌<◌, ◌≤◌, ◌+◌, ◌==◌, ◌||◌, ℕ, suc, zero, Bool, true, false, List, [], ◌∷◌, length, count_by, slice_index_or, refl, ◌∙◌, Contains}
 use Rattle.std.specs.List.{IsDistinct, range_with_len}
-use Rattle.std.proofs.lemmas.Bool.{eqb-true, or_right}
+use Rattle.std.proofs.lemmas.Bool.{eqb-true, false_from_ne_true, or_right}
 use Rattle.std.proofs.lemmas.List.FromFn.{length-range_with_len, get_or-range_with_len}
 use Rattle.std.proofs.lemmas.Map.Keys.{IsDistinct-cons}
 use Rattle.std.proofs.lemmas.Map.Steps.{length-le_from_distinct_below}
@@ -13,7 +13,6 @@ use Rattle.edges.specs.Sources.{is_in_list}
 use Rattle.edges.proofs.Endings.{begins_within}
 use Rattle.edges.proofs.Leading.{leads_directly, leads-from_computed, of_step}
 use Rattle.edges.proofs.Members.{none_all}
-use Rattle.edges.proofs.Paths.{no_path}
 use Rattle.edges.proofs.Walks.{alone}
 
 pub joined : (edges : List Edge) (x y z : ℕ) → Leads edges x y → Leads edges y z → Leads edges x z
@@ -28,14 +27,14 @@ record Met (positions : ℕ) (edges : List Edge) (seen : List ℕ) (x : ℕ) : T
   pub below : (y : ℕ) → is_in_list (x ∷ seen) y ≡ true → y < positions
   pub led : (y : ℕ) → is_in_list seen y ≡ true → Leads edges y x
 
-module _ (positions : ℕ) (edges : List Edge) (ends : EndsWithin positions edges) (free : HasNoLoop positions edges) where
+module _ (positions : ℕ) (edges : List Edge) (ends : EndsWithin positions edges) (free : HasNoLoop edges) where
   module _ (seen : List ℕ) (e : Edge) (c : Contains edges e) (m : Met positions edges seen e.before) where
     led_on : (y : ℕ) (same : Bool) → (y == e.before) ≡ same → same || is_in_list seen y ≡ true → Leads edges y e.after
     led_on y true at h = let back : y ≡ e.before = eqb-true y e.before at in rw back (one_link _ _ (linked e c))
     led_on y false at h = joined edges y e.before e.after (m.led y h) (one_link _ _ (linked e c))
 
     new_on : (b : Bool) → is_in_list (e.before ∷ seen) e.after ≡ b → is_in_list (e.before ∷ seen) e.after ≡ false
-    new_on true h = absurd (no_path positions edges ends free e.after (led_on e.after (e.after == e.before) refl h))
+    new_on true h = absurd (free e.after (led_on e.after (e.after == e.before) refl h))
     new_on false h = h
 
     below_on : (y : ℕ) (same : Bool) → (y == e.after) ≡ same → same || is_in_list (e.before ∷ seen) y ≡ true → y < positions
@@ -90,7 +89,7 @@ module _ (positions : ℕ) (edges : List Edge) (ends : EndsWithin positions edge
       let at : slice_index_or (range_with_len 0 positions) e.before e.before ≡ e.before
       = get_or-range_with_len 0 positions e.before e.before w.0 ∙ omega arith in
       count_one_more (λ y. leads_within positions edges y e.before) (λ y. leads_within positions edges y e.after) (reaches_further e c)
-      (range_with_len 0 positions) e.before e.before (omega arith) at (free e.before) (leads_computed e.before e.after (one_link _ _ (linked e c)))
+      (range_with_len 0 positions) e.before e.before (omega arith) at (false_from_ne_true _ (λ h. free e.before (leads-from_computed positions edges e.before e.before h))) (leads_computed e.before e.after (one_link _ _ (linked e c)))
 
   pub rise_somehow : RiseSomehow edges
   rise_somehow = record { height = height; rises = rises }

@@ -83,7 +83,7 @@ module _ (edges : List Edge) (g : ℕ → ℕ) (up : (e : Edge) → Contains edg
       let l = lower x s (enters_of edges x s c) in
       reached h are n s (omega arith))
 
-module _ (positions : ℕ) (edges : List Edge) (ends : EndsWithin positions edges) (free : HasNoLoop positions edges) where
+module _ (positions : ℕ) (edges : List Edge) (ends : EndsWithin positions edges) (free : HasNoLoop edges) where
   bounded : (x : ℕ) → height positions edges ends free x ≤ positions
   bounded x =
       let c = count_by-le-length (λ y. leads_within positions edges y x) (range_with_len 0 positions) in

@@ -6,10 +6,10 @@ use Rattle.std.proofs.lemmas.List.Folds.{Any-from_list_any, list_any_at}
 use Rattle.std.proofs.lemmas.List.FromFn.{length-range_with_len, get_or-range_with_len}
 use Rattle.edges.specs.declared.edge.Edge.{Edge}
 use Rattle.edges.specs.Chains.{linked, link_then, one_link}
-use Rattle.edges.specs.Loops.{EndsWithin, HasLoop, HasNoLoop, Leads, leads_within}
-use Rattle.edges.proofs.Endings.{begins_within, one_way}
+use Rattle.edges.specs.Loops.{EndsWithin, HasLoop, HasNoLoop, HasShortLoop, Leads, leads_within}
+use Rattle.edges.proofs.Endings.{begins_within}
 use Rattle.edges.proofs.Leading.{leads-from_computed}
-use Rattle.edges.proofs.Walks.{GoesOn, loop_of_set}
+use Rattle.edges.proofs.Walks.{GoesOn, loop_of_short, short_loop_of_set}
 
 -- from each position on such a way an edge leads to one on it
 
@@ -28,20 +28,8 @@ module _ (positions : ℕ) (edges : List Edge) (ends : EndsWithin positions edge
   goes_toward : (y : ℕ) → Toward edges x y → GoesOn edges (Toward edges x) y
   goes_toward _ (leads_there y l) = on_way y x l refl
 
-  pub loop_of_path : HasLoop positions edges
-  loop_of_path = loop_of_set positions edges (Toward edges x) toward_within goes_toward x (leads_there x led)
-
-pub path_of_loop : (positions : ℕ) (edges : List Edge) → (l : HasLoop positions edges) → Leads edges l.at l.at
-path_of_loop positions edges l = leads-from_computed positions edges l.at l.at l.leads
-
-pub no_path : (positions : ℕ) (edges : List Edge) → EndsWithin positions edges → HasNoLoop positions edges → (x : ℕ) → Leads edges x x → ⊥
-no_path positions edges ends none x led = one_way positions edges (loop_of_path positions edges ends x led) none
-
-pub none_of_no_path : (positions : ℕ) (edges : List Edge) → ((x : ℕ) → Leads edges x x → ⊥) → HasNoLoop positions edges
-none_of_no_path positions edges none x = on (leads_within positions edges x x) refl where
-  on : (b : Bool) → leads_within positions edges x x ≡ b → leads_within positions edges x x ≡ false
-  on true h = absurd (none x (leads-from_computed positions edges x x h))
-  on false h = h
+  pub loop_of_path : HasShortLoop positions edges
+  loop_of_path = short_loop_of_set positions edges (Toward edges x) toward_within goes_toward x (leads_there x led)
 
 -- one of both
 
@@ -50,26 +38,24 @@ within_of_loop : (positions : ℕ) (edges : List Edge) → EndsWithin positions 
 within_of_loop positions edges ends x h = begins_within positions edges ends x x (leads-from_computed positions edges x x h)
 
 found : (positions : ℕ) (edges : List Edge) → Any (λ x. leads_within positions edges x x ≡ true) (range_with_len 0 positions)
-    → HasLoop positions edges
-found positions edges (k, x, lt, at, h) = record { at = x; leads = h }
+    → HasLoop edges
+found positions edges (k, x, lt, at, h) = loop_of_short positions edges (record { at = x; leads = h })
 
 not_found : (positions : ℕ) (edges : List Edge) → EndsWithin positions edges
     → list_any (λ x. leads_within positions edges x x) (range_with_len 0 positions) ≡ false
-    → HasNoLoop positions edges
-not_found positions edges ends none x = on (leads_within positions edges x x) refl where
-  on : (b : Bool) → leads_within positions edges x x ≡ b → leads_within positions edges x x ≡ false
-  on true h =
-      let w = within_of_loop positions edges ends x h in
-      let l = length-range_with_len 0 positions in
-      let at : slice_index_or (range_with_len 0 positions) x 0 ≡ x = get_or-range_with_len 0 positions x 0 w ∙ omega arith in
-      absurd (both_ways _ none
-      (list_any_at (λ x. leads_within positions edges x x) (range_with_len 0 positions) x 0 (omega arith) (rw at h)))
-  on false h = h
+    → HasNoLoop edges
+not_found positions edges ends none x led =
+    let s : HasShortLoop positions edges = loop_of_path positions edges ends x led in
+    let w = within_of_loop positions edges ends s.at s.leads in
+    let l = length-range_with_len 0 positions in
+    let at : slice_index_or (range_with_len 0 positions) s.at 0 ≡ s.at = get_or-range_with_len 0 positions s.at 0 w ∙ omega arith in
+    absurd (both_ways _ none
+    (list_any_at (λ x. leads_within positions edges x x) (range_with_len 0 positions) s.at 0 (omega arith) (rw at s.leads)))
 
-pub loop_or_none : (positions : ℕ) (edges : List Edge) → EndsWithin positions edges → HasLoop positions edges ⊎ HasNoLoop positions edges
+pub loop_or_none : (positions : ℕ) (edges : List Edge) → EndsWithin positions edges → HasLoop edges ⊎ HasNoLoop edges
 loop_or_none positions edges ends = on (list_any (λ x. leads_within positions edges x x) (range_with_len 0 positions)) refl where
   on : (b : Bool) → list_any (λ x. leads_within positions edges x x) (range_with_len 0 positions) ≡ b
-      → HasLoop positions edges ⊎ HasNoLoop positions edges
+      → HasLoop edges ⊎ HasNoLoop edges
   on true h = inl (found positions edges (Any-from_list_any (λ x. leads_within positions edges x x) (range_with_len 0 positions) h))
   on false h = inr (not_found positions edges ends h)
 
@@ -82,8 +68,8 @@ module _ (edges : List Edge) (height : ℕ → ℕ) (rises : (e : Edge) → Cont
       let others : height e.after < height y = paths_rise e.after y rest in
       omega arith
 
-pub none_where_rising : (positions : ℕ) (edges : List Edge) (height : ℕ → ℕ)
-    → ((e : Edge) → Contains edges e → height e.before < height e.after) → HasNoLoop positions edges
-none_where_rising positions edges height rises = none_of_no_path positions edges (λ x led.
+pub none_where_rising : (edges : List Edge) (height : ℕ → ℕ)
+    → ((e : Edge) → Contains edges e → height e.before < height e.after) → HasNoLoop edges
+none_where_rising edges height rises x led =
     let up : height x < height x = paths_rise edges height rises x x led in
-    absurd (let f : ⊥ = omega arith in f))
+    let f : ⊥ = omega arith in f

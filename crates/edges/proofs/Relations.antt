@@ -4,7 +4,7 @@ use Rattle.std.specs.List.{list_any}
 use Rattle.std.proofs.lemmas.Bool.{and_from}
 use Rattle.lemmas.proofs.Searches.{passes_by}
 use Rattle.edges.specs.declared.edge.Edge.{Edge}
-use Rattle.edges.specs.Loops.{HasLoop, leads_within}
+use Rattle.edges.specs.Loops.{HasShortLoop, leads_within}
 use Rattle.edges.proofs.Booleans.{onward}
 use Rattle.edges.proofs.Leading.{Step, step_of}
 
@@ -72,5 +72,5 @@ module _ {A W : Type 0} (starts : W → A → Bool) (target : W → A) (same : A
 
   pub one_follows_itself : ((e : Edge) (s : A) → Contains edges e → e.before ≡ pos s → WayFor starts target ways pos e s)
       → ((e : Edge) → Contains edges e → StandsFor pos e.before)
-      → (positions : ℕ) → HasLoop positions edges → FollowsItself F positions
+      → (positions : ℕ) → HasShortLoop positions edges → FollowsItself F positions
   one_follows_itself way_for each positions l = at_loop way_for positions l.at l.leads (first_at positions l.at l.leads each)

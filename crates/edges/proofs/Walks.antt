@@ -5,9 +5,9 @@ use Rattle.std.proofs.lemmas.Bool.{eqb-true}
 use Rattle.std.proofs.lemmas.Map.Keys.{IsDistinct-cons}
 use Rattle.std.proofs.lemmas.Map.Steps.{length-le_from_distinct_below}
 use Rattle.edges.specs.declared.edge.Edge.{Edge}
-use Rattle.edges.specs.Loops.{HasLoop, leads_within}
+use Rattle.edges.specs.Loops.{HasLoop, HasShortLoop, leads_within}
 use Rattle.edges.specs.Sources.{is_in_list}
-use Rattle.edges.proofs.Leading.{leads_directly, leads_further, leads_longer}
+use Rattle.edges.proofs.Leading.{leads-from_computed, leads_directly, leads_further, leads_longer}
 use Rattle.edges.proofs.Members.{none_all}
 
 -- an edge leads from the position to one of the set
@@ -29,7 +29,7 @@ short positions edges seen x w = length-le_from_distinct_below (x ∷ seen) posi
 module _ (positions : ℕ) (edges : List Edge) (seen : List ℕ) (x : ℕ) (w : Walked positions edges seen x) (e : Edge)
     (c : Contains edges e) (from : e.before ≡ x) where
   -- the edge leads back to where the way has been
-  closes_on : (same : Bool) → (e.after == x) ≡ same → same || is_in_list seen e.after ≡ true → HasLoop positions edges
+  closes_on : (same : Bool) → (e.after == x) ≡ same → same || is_in_list seen e.after ≡ true → HasShortLoop positions edges
   closes_on true at h =
       let back : e.after ≡ x = grind arith in
       let le = short positions edges seen x w in
@@ -60,6 +60,9 @@ module _ (positions : ℕ) (edges : List Edge) (seen : List ℕ) (x : ℕ) (w : 
     below_on y true at h = let back : y ≡ e.after = grind arith in rw back lt
     below_on y false at h = w.below y h
 
+pub loop_of_short : (most : ℕ) (edges : List Edge) → HasShortLoop most edges → HasLoop edges
+loop_of_short most edges l = record { at = l.at; leads = leads-from_computed most edges l.at l.at l.leads }
+
 pub alone : (x : ℕ) → IsDistinct ◌==◌ (x ∷ [])
 unfolding IsDistinct
 alone x = (tt, tt)
@@ -67,12 +70,12 @@ alone x = (tt, tt)
 module _ (positions : ℕ) (edges : List Edge) (S : ℕ → Type 0) (within : (x : ℕ) → S x → x < positions)
     (next : (x : ℕ) → S x → GoesOn edges S x) where
   walk_on : (x : ℕ) (seen : List ℕ) → Walked positions edges seen x → (n : GoesOn edges S x) → (b : Bool) → is_in_list (x ∷ seen) n.edge.after ≡ b
-      → (S n.edge.after → Walked positions edges (x ∷ seen) n.edge.after → HasLoop positions edges) → HasLoop positions edges
+      → (S n.edge.after → Walked positions edges (x ∷ seen) n.edge.after → HasShortLoop positions edges) → HasShortLoop positions edges
   walk_on x seen w n true h further = closes_on positions edges seen x w n.edge n.among n.from (n.edge.after == x) refl h
   walk_on x seen w n false h further = further n.to (goes_on positions edges seen x w n.edge n.among n.from (within n.edge.after n.to) h)
 
   walk : (fuel : ℕ) (x : ℕ) (seen : List ℕ) → S x → Walked positions edges seen x → positions < fuel + suc (length seen)
-      → HasLoop positions edges
+      → HasShortLoop positions edges
   walk zero x seen s w more = let le = short positions edges seen x w in absurd (let f : ⊥ = omega arith in f)
   walk (suc fuel) x seen s w more =
       let n = next x s in
@@ -82,9 +85,12 @@ module _ (positions : ℕ) (edges : List Edge) (S : ℕ → Type 0) (within : (x
   begun_below x y s true at h = let e : y ≡ x = eqb-true y x at in rw e (within x s)
   begun_below x y s false at h = cc
 
-  pub loop_of_set : (x : ℕ) → S x → HasLoop positions edges
-  loop_of_set x s = walk positions x [] s (record {
+  pub short_loop_of_set : (x : ℕ) → S x → HasShortLoop positions edges
+  short_loop_of_set x s = walk positions x [] s (record {
     distinct = alone x;
     below = λ y. begun_below x y s (y == x) refl;
     led = λ y h. cc;
   }) (omega arith)
+
+  pub loop_of_set : (x : ℕ) → S x → HasLoop edges
+  loop_of_set x s = loop_of_short positions edges (short_loop_of_set x s)

@@ -2,7 +2,7 @@
 use Rattle.std.specs.Prelude.{◌≡◌, ◌<◌, ◌+◌, ℕ, suc, zero, ◌==◌, ◌&&◌, ◌||◌, Bool, true, false, List, Option, Some, None, length, take, Contains}
 use Rattle.std.specs.List.{list_any}
 use Rattle.edges.specs.declared.edge.Edge.{Edge}
-use Rattle.edges.specs.Chains.{Chain, IsLinked}
+use Rattle.edges.specs.Chains.{Chain, HaveNoRing, IsLinked}
 
 -- the edges lead from a position to another, one after the other
 abbrev pub Leads : List Edge → ℕ → ℕ → Type 0
@@ -17,19 +17,19 @@ leads_within (suc most) edges x y = list_any (λ e. e.before == x && (e.after ==
 abbrev pub EndsWithin : ℕ → List Edge → Type 0
 EndsWithin positions edges = (e : Edge) → Contains edges e → (e.before < positions) × (e.after < positions)
 
--- no edges lead from a position back to it. No loop needs more edges than there are positions
-abbrev pub HasNoLoop : ℕ → List Edge → Type 0
-HasNoLoop positions edges = (x : ℕ) → leads_within positions edges x x ≡ false
+-- no edges lead from a position back to it
+abbrev pub HasNoLoop : List Edge → Type 0
+HasNoLoop edges = HaveNoRing (IsLinked (λ (e : Edge). e.before) (λ (e : Edge). e.after) edges)
 
 -- from some position edges lead back to it
-pub record HasLoop (positions : ℕ) (edges : List Edge) : Type 0 where
-  pub at : ℕ
-  pub leads : leads_within positions edges at at ≡ true
-
--- the same without a bound
-pub record HasPathBack (edges : List Edge) : Type 0 where
+pub record HasLoop (edges : List Edge) : Type 0 where
   pub at : ℕ
   pub leads : Leads edges at at
+
+-- the same, computed, over at most so many edges
+pub record HasShortLoop (most : ℕ) (edges : List Edge) : Type 0 where
+  pub at : ℕ
+  pub leads : leads_within most edges at at ≡ true
 
 -- some height of the positions rises along each edge
 pub record RiseSomehow (edges : List Edge) : Type 0 where
@@ -37,12 +37,12 @@ pub record RiseSomehow (edges : List Edge) : Type 0 where
   pub rises : (e : Edge) → Contains edges e → height e.before < height e.after
 
 -- the edges before this place have no loop, and with the edge at it they have one
-pub record ClosesFirst (positions : ℕ) (edges : List Edge) (place : ℕ) : Type 0 where
+pub record ClosesFirst (edges : List Edge) (place : ℕ) : Type 0 where
   pub within : place < length edges
-  pub before : HasNoLoop positions (take place edges)
-  pub closed : HasLoop positions (take (place + 1) edges)
+  pub before : HasNoLoop (take place edges)
+  pub closed : HasLoop (take (place + 1) edges)
 
 -- where the first loop is closed, and None where there is no loop
-abbrev pub IsFirstLoop : ℕ → List Edge → Option ℕ → Type 0
-IsFirstLoop positions edges None = HasNoLoop positions edges
-IsFirstLoop positions edges (Some place) = ClosesFirst positions edges place
+abbrev pub IsFirstLoop : List Edge → Option ℕ → Type 0
+IsFirstLoop edges None = HasNoLoop edges
+IsFirstLoop edges (Some place) = ClosesFirst edges place

@@ -79,8 +79,8 @@ pub fn backward_order(alloc: Global, positions: u32, edges: &[Edge]) -> Result<V
 /// Both ends of each edge are positions. The time is linear in the positions and the edges.
 pub fn is_loop_free(alloc: Global, positions: u32, edges: &[Edge]) -> Result<bool, AllocError>
     requires { EndsWithin positions edges.now }
-    ensures free { IfOk result (λ free. free ≡ true ↔ HasNoLoop positions edges.now) }
-    ensures loops { IfOk result (λ free. free ≡ false ↔ HasLoop positions edges.now) }
+    ensures free { IfOk result (λ free. free ≡ true ↔ HasNoLoop edges.now) }
+    ensures loops { IfOk result (λ free. free ≡ false ↔ HasLoop edges.now) }
 {
     let order = backward_order(alloc, positions, edges)?;
     Ok(order.len() >= positions as usize)

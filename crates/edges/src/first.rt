@@ -14,7 +14,7 @@ pub fn first_loop(
     edges: &[Edge],
 ) -> Result<Option<usize>, AllocError>
     requires { EndsWithin positions edges.now }
-    ensures { IfOk result (λ place. IsFirstLoop positions edges.now place) }
+    ensures { IfOk result (λ place. IsFirstLoop edges.now place) }
 {
     if is_loop_free(alloc, positions, edges)? {
         return Ok(None);

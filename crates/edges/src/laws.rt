@@ -3,45 +3,45 @@
 ghost use Rattle.std.specs.Prelude.{◌≡◌, ◌↔◌, true, ◌⊎◌, ℕ, List, Option, Contains};
 ghost use Rattle.edges.specs.declared.edge.Edge.{Edge};
 ghost use Rattle.edges.specs.Longest.{AreHeights, longest};
-ghost use Rattle.edges.specs.Loops.{EndsWithin, HasLoop, HasNoLoop, HasPathBack, IsFirstLoop, Leads, RiseSomehow, leads_within};
+ghost use Rattle.edges.specs.Loops.{EndsWithin, HasLoop, HasNoLoop, HasShortLoop, IsFirstLoop, Leads, RiseSomehow, leads_within};
 
-/// A loop is a way from a position back to it, however long: none needs more edges than there are positions.
-pub fn loops_are_paths()
-    ensures { (positions : ℕ) (edges : List Edge) → EndsWithin positions edges → HasLoop positions edges ↔ HasPathBack edges }
+/// Where edges have a loop, however long, some loop has no more edges than there are positions.
+pub fn loops_are_short()
+    ensures { (positions : ℕ) (edges : List Edge) → EndsWithin positions edges → HasLoop edges ↔ HasShortLoop positions edges }
 {}
 
 /// Edges have no loop when some height rises along each of them, and only then.
 pub fn edges_without_a_loop_rise()
-    ensures { (positions : ℕ) (edges : List Edge) → EndsWithin positions edges → HasNoLoop positions edges ↔ RiseSomehow edges }
+    ensures { (positions : ℕ) (edges : List Edge) → EndsWithin positions edges → HasNoLoop edges ↔ RiseSomehow edges }
 {}
 
 /// Edges have a loop, or they have none, and never both.
 pub fn loops_or_none()
-    ensures one { (positions : ℕ) (edges : List Edge) → EndsWithin positions edges → HasLoop positions edges ⊎ HasNoLoop positions edges }
-    ensures no_more { (positions : ℕ) (edges : List Edge) → HasLoop positions edges → HasNoLoop positions edges → ⊥ }
+    ensures one { (positions : ℕ) (edges : List Edge) → EndsWithin positions edges → HasLoop edges ⊎ HasNoLoop edges }
+    ensures no_more { (edges : List Edge) → HasLoop edges → HasNoLoop edges → ⊥ }
 {}
 
 /// Without a loop no way needs more edges than there are positions.
 pub fn ways_are_short()
-    ensures { (positions : ℕ) (edges : List Edge) → EndsWithin positions edges → HasNoLoop positions edges
+    ensures { (positions : ℕ) (edges : List Edge) → EndsWithin positions edges → HasNoLoop edges
         → (x y : ℕ) → Leads edges x y ↔ (leads_within positions edges x y ≡ true) }
 {}
 
 /// A list with all edges of one that has a loop has a loop, whatever their order, and however often each stands there.
 pub fn loops_stay()
-    ensures { (positions : ℕ) (edges more : List Edge) → ((e : Edge) → Contains edges e → Contains more e)
-        → HasLoop positions edges → HasLoop positions more }
+    ensures { (edges more : List Edge) → ((e : Edge) → Contains edges e → Contains more e)
+        → HasLoop edges → HasLoop more }
 {}
 
 /// Edges have one first loop at most.
 pub fn first_loop_is_unique()
-    ensures { (positions : ℕ) (edges : List Edge) (a b : Option ℕ) → IsFirstLoop positions edges a → IsFirstLoop positions edges b → a ≡ b }
+    ensures { (edges : List Edge) (a b : Option ℕ) → IsFirstLoop edges a → IsFirstLoop edges b → a ≡ b }
 {}
 
 /// Without a loop the longest way to a position is one edge longer than the longest of those to where the edges into it begin, and no other lengths
 /// are so.
 pub fn longest_ways_are_unique()
-    ensures made { (positions : ℕ) (edges : List Edge) → EndsWithin positions edges → HasNoLoop positions edges → AreHeights edges (longest positions edges) }
-    ensures one { (positions : ℕ) (edges : List Edge) → EndsWithin positions edges → HasNoLoop positions edges
+    ensures made { (positions : ℕ) (edges : List Edge) → EndsWithin positions edges → HasNoLoop edges → AreHeights edges (longest positions edges) }
+    ensures one { (positions : ℕ) (edges : List Edge) → EndsWithin positions edges → HasNoLoop edges
         → (height : ℕ → ℕ) → AreHeights edges height → (x : ℕ) → height x ≡ longest positions edges x }
 {}

@@ -26,7 +26,7 @@ fn above(ways: &[u32], places: &[u32]) -> u32
 pub fn longest_ways(alloc: Global, positions: u32, edges: &[Edge]) -> Result<Vec<u32>, AllocError>
     requires few { positions ≤ 1000000000 }
     requires ends { EndsWithin positions edges.now }
-    requires free { HasNoLoop positions edges.now }
+    requires free { HasNoLoop edges.now }
     ensures size { IfOk result (λ ways. length ways.items ≡ positions) }
     ensures longest { IfOk result (λ ways. (x : ℕ) → x < positions → slice_index_or ways.items x 0 ≡ longest.longest positions edges.now x) }
 {
@@ -53,10 +53,10 @@ pub fn longest_ways_if_free(
 ) -> Result<Vec<u32>, AllocError>
     requires few { positions ≤ 1000000000 }
     requires within { EndsWithin positions edges.now }
-    ensures size { IfOk result (λ ways. HasNoLoop positions edges.now → length ways.items ≡ positions) }
-    ensures longest { IfOk result (λ ways. HasNoLoop positions edges.now
+    ensures size { IfOk result (λ ways. HasNoLoop edges.now → length ways.items ≡ positions) }
+    ensures longest { IfOk result (λ ways. HasNoLoop edges.now
         → (x : ℕ) → x < positions → slice_index_or ways.items x 0 ≡ longest.longest positions edges.now x) }
-    ensures looped { IfOk result (λ ways. HasLoop positions edges.now → ways.items ≡ []) }
+    ensures looped { IfOk result (λ ways. HasLoop edges.now → ways.items ≡ []) }
 {
     if !is_loop_free(alloc, positions, edges)? {
         return Ok(Vec::new(alloc));

@@ -15,7 +15,7 @@ use Rattle.loops.proofs.StepPlaces.{position_is, spot, steps_alike}
 
 module _ (c : Cluster) (ordered : AllOrder c) where
   -- without a loop of links there is none of edges
-  pub edges_free : StepsHaveNoLoop c → NoLoopOfEdges (4 * length c.leaves) (step_edges c)
+  pub edges_free : StepsHaveNoLoop c → NoLoopOfEdges (step_edges c)
   edges_free free = elim (loop_or_none (4 * length c.leaves) (step_edges c) (steps_within c ordered)) [
     | inl l ↦ absurd (steps_apart c (steps_loop c ordered l) free)
     | inr none ↦ none

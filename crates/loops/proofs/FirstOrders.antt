@@ -1,17 +1,17 @@
 -- The order whose edges the first loop's edge is among.
-use Rattle.std.proofs.Common.{arith, ◌≡◌, ◌<◌, ◌≤◌, ◌+◌, ◌*◌, not, nat_lt, ℕ, zero, suc, Bool, true, false, cond, List, [], ◌∷◌, ◌++◌, length, take, drop, slice_index_or, position, Option, Some, None, refl, sym, ◌∙◌, ap, inl, inr, Contains}
+use Rattle.std.proofs.Common.{arith, ◌≡◌, ◌<◌, ◌≤◌, ◌+◌, not, nat_lt, ℕ, zero, suc, Bool, true, false, cond, List, [], ◌∷◌, ◌++◌, length, take, drop, slice_index_or, position, Option, Some, None, refl, sym, ◌∙◌, ap, inl, inr, Contains}
 use Rattle.std.specs.List.{flat_map, position_or_len, range_with_len}
 use Rattle.std.proofs.Math.Seq.{take-append_seam, take-length}
-use Rattle.std.proofs.lemmas.Bool.{both_ways, lt-ltb, ltb-true, ltb-false}
+use Rattle.std.proofs.lemmas.Bool.{lt-ltb, ltb-true, ltb-false}
 use Rattle.std.proofs.lemmas.Grind.{flat_map-append}
 use Rattle.std.proofs.lemmas.List.{append_assoc, take-append-drop}
 use Rattle.std.proofs.lemmas.List.Elements.{Contains-append_cases}
 use Rattle.std.proofs.lemmas.List.FromFn.{get_or-map-range_with_len, length-map-range_with_len}
 use Rattle.std.proofs.lemmas.List.Quantifiers.{position-Some}
 use Rattle.edges.specs.declared.edge.Edge.{Edge}
-use Rattle.edges.specs.Loops.{ClosesFirst, HasLoop, HasNoLoop as NoLoopOfEdges, leads_within}
+use Rattle.edges.specs.Loops.{ClosesFirst, HasLoop, HasNoLoop as NoLoopOfEdges}
 use Rattle.edges.proofs.Endings.{one_way}
-use Rattle.edges.proofs.Fronts.{leads_with_more, loop_with_more}
+use Rattle.edges.proofs.Fronts.{free_with_fewer, loop_with_more}
 use Rattle.edges.proofs.Paths.{none_where_rising}
 use Rattle.cluster_types.specs.declared.cluster.Cluster.{Cluster}
 use Rattle.cluster_types.specs.declared.leaf.Op.TheVariants.{Start, Stop, Promote, Demote}
@@ -47,15 +47,6 @@ none_passes p xs k d none lt h =
     on true e n = cc
     on false e n = cc
 
--- edges among others that have no loop have none
-free_with_fewer : (positions : ℕ) (edges more : List Edge) → ((e : Edge) → Contains edges e → Contains more e)
-    → NoLoopOfEdges positions more
-    → NoLoopOfEdges positions edges
-free_with_fewer positions edges more has_all free x = on (leads_within positions edges x x) refl where
-  on : (b : Bool) → leads_within positions edges x x ≡ b → leads_within positions edges x x ≡ false
-  on true h = absurd (both_ways _ (free x) (leads_with_more edges more has_all positions x x h))
-  on false h = h
-
 -- the edges within a leaf rise
 rises_in_leaf : (r : ℕ) (l : Link) → Contains (leaf_links r) l → step_position l.before < step_position l.after
 rises_in_leaf r l h = elim (head_or_rest (link Demote r Stop r) (link Start r Promote r ∷ []) l h) [
@@ -78,8 +69,8 @@ module _ (c : Cluster) where
       ] in
       rw (← m.gives) up
 
-  pub own_free : (positions : ℕ) → NoLoopOfEdges positions (step_edges (with_first_orders c 0))
-  own_free positions = none_where_rising positions (step_edges (with_first_orders c 0)) (λ x. x) own_rise
+  pub own_free : NoLoopOfEdges (step_edges (with_first_orders c 0))
+  own_free = none_where_rising (step_edges (with_first_orders c 0)) (λ x. x) own_rise
 
   -- the edges of the first orders, and then those of the others
   and_others : (k : ℕ) → step_edges c ≡ step_edges (with_first_orders c k) ++ edges_of c (flat_map order_links (drop k c.orders))
@@ -99,19 +90,19 @@ module _ (c : Cluster) where
   all_orders : step_edges (with_first_orders c (length c.orders)) ≡ step_edges c
   all_orders = ap (λ (os : List Order). step_edges record c { orders = os }) (take-length c.orders)
 
-  free_before : (positions place k : ℕ) → length (step_edges (with_first_orders c k)) ≤ place
-      → NoLoopOfEdges positions (take place (step_edges c))
-      → NoLoopOfEdges positions (step_edges (with_first_orders c k))
-  free_before positions place k le free =
-      free_with_fewer positions (step_edges (with_first_orders c k)) (take place (step_edges c))
+  free_before : (place k : ℕ) → length (step_edges (with_first_orders c k)) ≤ place
+      → NoLoopOfEdges (take place (step_edges c))
+      → NoLoopOfEdges (step_edges (with_first_orders c k))
+  free_before place k le free =
+      free_with_fewer (step_edges (with_first_orders c k)) (take place (step_edges c))
       (λ e h. contains_shorter _ place (step_edges c) e le (rw (← front k) at h)) free
 
-  loop_behind : (positions place k : ℕ) → place < length (step_edges (with_first_orders c k))
-      → HasLoop positions (take (place + 1) (step_edges c))
-      → HasLoop positions (step_edges (with_first_orders c k))
-  loop_behind positions place k lt l =
+  loop_behind : (place k : ℕ) → place < length (step_edges (with_first_orders c k))
+      → HasLoop (take (place + 1) (step_edges c))
+      → HasLoop (step_edges (with_first_orders c k))
+  loop_behind place k lt l =
       rw (front k) at (loop_with_more (take (place + 1) (step_edges c)) (take (length (step_edges (with_first_orders c k))) (step_edges c))
-      (λ e h. contains_shorter (place + 1) _ (step_edges c) e (omega arith) h) positions l)
+      (λ e h. contains_shorter (place + 1) _ (step_edges c) e (omega arith) h) l)
 
   end_at : (k : ℕ) → k < length c.orders
       → slice_index_or (order_ends c) k 0
@@ -128,14 +119,14 @@ module _ (c : Cluster) (ordered : AllOrder c) where
   ends_size = length-map-range_with_len (λ k. length (step_edges (with_first_orders c (k + 1)))) 0 (length c.orders)
 
   -- the orders before the first that passes have no loop
-  free_until : (positions place k : ℕ) → NoLoopOfEdges positions (take place (step_edges c))
-      → ((j : ℕ) → j < k → length (step_edges (with_first_orders c (j + 1))) ≤ place) → NoLoopOfEdges positions (step_edges (with_first_orders c k))
-  free_until positions place zero free h = own_free c positions
-  free_until positions place (suc k) free h =
+  free_until : (place k : ℕ) → NoLoopOfEdges (take place (step_edges c))
+      → ((j : ℕ) → j < k → length (step_edges (with_first_orders c (j + 1))) ≤ place) → NoLoopOfEdges (step_edges (with_first_orders c k))
+  free_until place zero free h = own_free c
+  free_until place (suc k) free h =
       let e : k + 1 ≡ suc k = omega arith in
-      free_before c positions place (suc k) (rw e at (h k (omega arith))) free
+      free_before c place (suc k) (rw e at (h k (omega arith))) free
 
-  pub closes_steps : (place k : ℕ) → ClosesFirst (4 * length c.leaves) (step_edges c) place
+  pub closes_steps : (place k : ℕ) → ClosesFirst (step_edges c) place
       → position (λ end. nat_lt place end) (order_ends c) ≡ Some k
       → ClosesSteps c k
   closes_steps place k f is =
@@ -147,22 +138,22 @@ module _ (c : Cluster) (ordered : AllOrder c) where
       = λ j less. rw (end_at c j (omega arith)) at (ltb-false _ _ (p.2 j less)) in
       record {
         within = lt;
-        before = steps_free (with_first_orders c k) (first_ordered k) (free_until (4 * length c.leaves) place k f.before until);
+        before = steps_free (with_first_orders c k) (first_ordered k) (free_until place k f.before until);
         closed = steps_loop (with_first_orders c (k + 1)) (first_ordered (k + 1))
-            (loop_behind c (4 * length c.leaves) place (k + 1) behind f.closed);
+            (loop_behind c place (k + 1) behind f.closed);
       }
 
   -- an order that closes a loop is found
-  pub never_missed : (place : ℕ) → ClosesFirst (4 * length c.leaves) (step_edges c) place
+  pub never_missed : (place : ℕ) → ClosesFirst (step_edges c) place
       → position (λ end. nat_lt place end) (order_ends c) ≡ None
       → ⊥
   never_missed place f none = on (length c.orders) refl where
     on : (m : ℕ) → length c.orders ≡ m → ⊥
     on zero e =
         let own : step_edges (with_first_orders c 0) ≡ step_edges c = rw e at (all_orders c) in
-        let free : NoLoopOfEdges (4 * length c.leaves) (step_edges c) = rw own at (own_free c (4 * length c.leaves)) in
-        one_way (4 * length c.leaves) (step_edges c)
-        (loop_with_more (take (place + 1) (step_edges c)) (step_edges c) (contains_first (place + 1) (step_edges c)) (4 * length c.leaves)
+        let free : NoLoopOfEdges (step_edges c) = rw own at (own_free c) in
+        one_way (step_edges c)
+        (loop_with_more (take (place + 1) (step_edges c)) (step_edges c) (contains_first (place + 1) (step_edges c))
         f.closed) free
     on (suc j) e =
         let last : j + 1 ≡ length c.orders = omega arith in
@@ -174,7 +165,7 @@ module _ (c : Cluster) (ordered : AllOrder c) where
         none_passes (λ end. nat_lt place end) (order_ends c) j 0 none
         (omega arith) (lt-ltb _ _ (omega arith))
 
-  pub first_order : (place : ℕ) → (found : Option ℕ) → ClosesFirst (4 * length c.leaves) (step_edges c) place
+  pub first_order : (place : ℕ) → (found : Option ℕ) → ClosesFirst (step_edges c) place
       → found ≡ position (λ end. nat_lt place end) (order_ends c)
       → IsFirstOrder c found
   first_order place None f is = absurd (never_missed place f (sym is))

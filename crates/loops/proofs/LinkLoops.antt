@@ -6,7 +6,7 @@ use Rattle.edges.specs.declared.edge.Edge.{Edge}
 use Rattle.edges.specs.Chains.{Chain, linked}
 use Rattle.edges.specs.Loops.{EndsWithin, HasLoop, HasNoLoop as NoLoopOfEdges, RiseSomehow}
 use Rattle.edges.proofs.Heights.{rise_somehow}
-use Rattle.edges.proofs.Paths.{loop_or_none}
+use Rattle.edges.proofs.Paths.{loop_of_path, loop_or_none}
 use Rattle.edges.proofs.Relations.{FollowsItself, StandsFor, WayFor, one_follows_itself}
 use Rattle.cluster_types.specs.declared.cluster.Cluster.{Cluster}
 use Rattle.cluster_types.specs.declared.leaf.Op.{Op}
@@ -141,22 +141,23 @@ module _ (c : Cluster) (ordered : AllOrder c) where
       → is_same_step l.after t ≡ (spot (length c.leaves) l.after == spot (length c.leaves) t)
   alike l t h = let b = links_stand l h in steps_alike (length c.leaves) l.after t b.later
 
-  pub bounded_loop : HasLoop (4 * length c.leaves) (step_edges c) → FollowsItself (reaches c) (4 * length c.leaves)
-  bounded_loop l =
-      one_follows_itself (λ (l : Link) s. is_same_step l.before s) (λ (l : Link). l.after) is_same_step (links c) (reaches c)
-      (λ _ _. refl) (λ _ _ _. refl)
-      (step_edges c) (spot (length c.leaves)) alike way_for stands (4 * length c.leaves) l
-
-  pub steps_loop : HasLoop (4 * length c.leaves) (step_edges c) → StepsHaveLoop c
-  steps_loop l =
-      let one = bounded_loop l in
-      record { step = one.thing; ring = links_chain c (4 * length c.leaves) one.thing one.thing one.follows }
-
   pub steps_within : EndsWithin (4 * length c.leaves) (step_edges c)
   steps_within e h =
       let m = of_map link_edge (links c) e h in
       let b = links_stand m.source m.among in
       rw (← m.gives) (position_within (length c.leaves) m.source.before b.first, position_within (length c.leaves) m.source.after b.later)
+
+  pub bounded_loop : HasLoop (step_edges c) → FollowsItself (reaches c) (4 * length c.leaves)
+  bounded_loop l =
+      one_follows_itself (λ (l : Link) s. is_same_step l.before s) (λ (l : Link). l.after) is_same_step (links c) (reaches c)
+      (λ _ _. refl) (λ _ _ _. refl)
+      (step_edges c) (spot (length c.leaves)) alike way_for stands (4 * length c.leaves)
+      (loop_of_path (4 * length c.leaves) (step_edges c) steps_within l.at l.leads)
+
+  pub steps_loop : HasLoop (step_edges c) → StepsHaveLoop c
+  steps_loop l =
+      let one = bounded_loop l in
+      record { step = one.thing; ring = links_chain c (4 * length c.leaves) one.thing one.thing one.follows }
 
   -- a height of the edges rises along each link
   link_rises : (rising : RiseSomehow (step_edges c)) (s t : StepOf) → IsStepLink c s t
@@ -166,12 +167,12 @@ module _ (c : Cluster) (ordered : AllOrder c) where
       let up = rising.rises (link_edge l) (in_map link_edge (links c) l h) in
       rw (position_is (length c.leaves) l.after b.later) at (rw (position_is (length c.leaves) l.before b.first) at up)
 
-  pub steps_free : NoLoopOfEdges (4 * length c.leaves) (step_edges c) → StepsHaveNoLoop c
+  pub steps_free : NoLoopOfEdges (step_edges c) → StepsHaveNoLoop c
   steps_free free =
       let rising : RiseSomehow (step_edges c) = rise_somehow (4 * length c.leaves) (step_edges c) steps_within free in
       no_ring (IsStepLink c) (λ s. rising.height (spot (length c.leaves) s)) (link_rises rising)
 
-  pub loop_of_steps : StepsHaveLoop c → HasLoop (4 * length c.leaves) (step_edges c)
+  pub loop_of_steps : StepsHaveLoop c → HasLoop (step_edges c)
   loop_of_steps l = elim (loop_or_none (4 * length c.leaves) (step_edges c) steps_within) [
     | inl loop ↦ loop
     | inr none ↦ absurd (steps_free none l.step l.ring)

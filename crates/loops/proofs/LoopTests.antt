@@ -106,17 +106,13 @@ module _ (c d : Cluster) (joined : AllJoin c) (count : ℕ) (few : count ≤ len
 
   first_needs : NeedsHaveLoop d → NeedsHaveLoop (with_colocations c count)
   first_needs l =
-      let looped : HasLoop (2 * length c.leaves) (need_edges (with_colocations c count)) =
-      subst (λ (n : ℕ). HasLoop n (need_edges (with_colocations c count))) (ap (λ (ls : List Leaf). 2 * length ls) leaves)
-      (subst (λ (es : List Edge). HasLoop (2 * length d.leaves) es) same_needs (loop_of_needs d all_joined l)) in
+      let looped : HasLoop (need_edges (with_colocations c count)) = subst HasLoop same_needs (loop_of_needs d all_joined l) in
       needs_loop (with_colocations c count) (first_joined c joined count) looped
 
   needs_of_first : NeedsHaveLoop (with_colocations c count) → NeedsHaveLoop d
   needs_of_first l =
-      let looped : HasLoop (2 * length c.leaves) (need_edges (with_colocations c count)) = loop_of_needs (with_colocations c count) (first_joined c joined count) l in
-      needs_loop d all_joined
-      (subst (λ (n : ℕ). HasLoop n (need_edges d)) (sym (ap (λ (ls : List Leaf). 2 * length ls) leaves))
-      (subst (λ (es : List Edge). HasLoop (2 * length c.leaves) es) (sym same_needs) looped))
+      let looped : HasLoop (need_edges (with_colocations c count)) = loop_of_needs (with_colocations c count) (first_joined c joined count) l in
+      needs_loop d all_joined (subst HasLoop (sym same_needs) looped)
 
   pub needs_closed : (place : Option ℕ) → IsFirstColocation c place → has_need_loop d ≡ is_closed_by place count
   needs_closed None free =
@@ -146,17 +142,13 @@ module _ (c d : Cluster) (ordered : AllOrder c) (count : ℕ) (few : count ≤ l
 
   first_steps : StepsHaveLoop d → StepsHaveLoop (with_first_orders c count)
   first_steps l =
-      let looped : HasLoop (4 * length c.leaves) (step_edges (with_first_orders c count)) =
-      subst (λ (n : ℕ). HasLoop n (step_edges (with_first_orders c count))) (ap (λ (ls : List Leaf). 4 * length ls) leaves)
-      (subst (λ (es : List Edge). HasLoop (4 * length d.leaves) es) same_steps (loop_of_steps d all_ordered l)) in
+      let looped : HasLoop (step_edges (with_first_orders c count)) = subst HasLoop same_steps (loop_of_steps d all_ordered l) in
       steps_loop (with_first_orders c count) (first_ordered c ordered count) looped
 
   steps_of_first : StepsHaveLoop (with_first_orders c count) → StepsHaveLoop d
   steps_of_first l =
-      let looped : HasLoop (4 * length c.leaves) (step_edges (with_first_orders c count)) = loop_of_steps (with_first_orders c count) (first_ordered c ordered count) l in
-      steps_loop d all_ordered
-      (subst (λ (n : ℕ). HasLoop n (step_edges d)) (sym (ap (λ (ls : List Leaf). 4 * length ls) leaves))
-      (subst (λ (es : List Edge). HasLoop (4 * length c.leaves) es) (sym same_steps) looped))
+      let looped : HasLoop (step_edges (with_first_orders c count)) = loop_of_steps (with_first_orders c count) (first_ordered c ordered count) l in
+      steps_loop d all_ordered (subst HasLoop (sym same_steps) looped)
 
   pub steps_closed : (place : Option ℕ) → IsFirstOrder c place → has_step_loop d ≡ is_closed_by place count
   steps_closed None free =
@@ -179,14 +171,14 @@ no_needs c e =
     let own = leaf_edges (length c.leaves) in
     let same : need_edges c ≡ take (length own) own = ap (λ (cs : List Colocation). own ++ map colocation_edge cs) e ∙ append-nil own ∙ sym (take-length own) in
     needs_free c joined
-    (subst (λ (es : List Edge). NoLoopOfEdges (2 * length c.leaves) es) (sym same) (leaves_free (2 * length c.leaves) (length own) (length c.leaves)))
+    (subst (λ (es : List Edge). NoLoopOfEdges es) (sym same) (leaves_free (length own) (length c.leaves)))
 
 no_steps : (c : Cluster) → c.orders ≡ [] → StepsHaveNoLoop c
 no_steps c e =
     let ordered : AllOrder c = λ o h. absurd (in_none o (rw e at h)) in
     let same : step_edges c ≡ step_edges (with_first_orders c 0) = ap (λ (os : List Order). step_edges record c { orders = os }) e in
     steps_free c ordered
-    (subst (λ (es : List Edge). NoLoopOfEdges (4 * length c.leaves) es) (sym same) (own_free c (4 * length c.leaves)))
+    (subst (λ (es : List Edge). NoLoopOfEdges es) (sym same) (own_free c))
 
 pub no_need_found : (c : Cluster) → c.colocations ≡ [] → has_need_loop c ≡ false
 no_need_found c e = false_from_ne_true _ (λ h. let l = loop_of_need c h in no_needs c e l.decision l.ring)

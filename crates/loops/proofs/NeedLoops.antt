@@ -8,10 +8,10 @@ use Rattle.std.proofs.lemmas.List.Elements.{Contains-append_cases}
 use Rattle.std.proofs.lemmas.List.FromFn.{length-map-range_with_len}
 use Rattle.edges.specs.declared.edge.Edge.{Edge}
 use Rattle.edges.specs.Chains.{Chain}
-use Rattle.edges.specs.Loops.{ClosesFirst, EndsWithin, HasLoop, HasNoLoop, RiseSomehow}
+use Rattle.edges.specs.Loops.{ClosesFirst, EndsWithin, HasLoop, HasNoLoop, HasShortLoop, RiseSomehow}
 use Rattle.edges.proofs.Endings.{one_way}
 use Rattle.edges.proofs.Heights.{rise_somehow}
-use Rattle.edges.proofs.Paths.{loop_or_none, none_where_rising}
+use Rattle.edges.proofs.Paths.{loop_of_path, loop_or_none, none_where_rising}
 use Rattle.edges.proofs.Relations.{FollowsItself, StandsFor, one_follows_itself}
 use Rattle.cluster_types.specs.declared.cluster.Cluster.{Cluster}
 use Rattle.cluster_types.specs.declared.leaf.Role.{Role}
@@ -43,19 +43,6 @@ module _ (c : Cluster) (joined : AllJoin c) where
         record { thing = decision_of m.source.dependent m.source.dependent_role; here = sym (ap (λ (x : Edge). x.before) m.gives) }
   ]
 
-  pub bounded_loop : HasLoop (2 * length c.leaves) (need_edges c) → FollowsItself (needs_through c (all_decisions c)) (length (all_decisions c))
-  bounded_loop l =
-      let n = count_of_decisions c in
-      let f : HasLoop (length (all_decisions c)) (need_edges c) = rw n l in
-      one_follows_itself (λ w s. needs c s w) (λ d. d) is_same_decision (all_decisions c) (needs_through c (all_decisions c))
-      (λ _ _. refl) (λ _ _ _. refl)
-      (need_edges c) decision_position (λ w t _. alike w t) (way_for c joined) stands (length (all_decisions c)) f
-
-  pub needs_loop : HasLoop (2 * length c.leaves) (need_edges c) → NeedsHaveLoop c
-  needs_loop l =
-      let one = bounded_loop l in
-      record { decision = one.thing; ring = needs_chain c (all_decisions c) (length (all_decisions c)) one.thing one.thing one.follows }
-
   role_within : (r : ℕ) (role : Role) (n : ℕ) → r < n → decision_position (decision_of r role) < 2 * n
   role_within r Started n lt = omega arith
   role_within r Promoted n lt = omega arith
@@ -75,6 +62,19 @@ module _ (c : Cluster) (joined : AllJoin c) where
         )
   ]
 
+  pub bounded_loop : HasLoop (need_edges c) → FollowsItself (needs_through c (all_decisions c)) (length (all_decisions c))
+  bounded_loop l =
+      let n = count_of_decisions c in
+      let f : HasShortLoop (length (all_decisions c)) (need_edges c) = rw n (loop_of_path (2 * length c.leaves) (need_edges c) needs_within l.at l.leads) in
+      one_follows_itself (λ w s. needs c s w) (λ d. d) is_same_decision (all_decisions c) (needs_through c (all_decisions c))
+      (λ _ _. refl) (λ _ _ _. refl)
+      (need_edges c) decision_position (λ w t _. alike w t) (way_for c joined) stands (length (all_decisions c)) f
+
+  pub needs_loop : HasLoop (need_edges c) → NeedsHaveLoop c
+  needs_loop l =
+      let one = bounded_loop l in
+      record { decision = one.thing; ring = needs_chain c (all_decisions c) (length (all_decisions c)) one.thing one.thing one.follows }
+
   -- a height of the edges rises along each need
   pub need_rises : (rising : RiseSomehow (need_edges c)) (d e : Decision) → IsNeedLink c (all_decisions c) d e
       → rising.height (decision_position d) < rising.height (decision_position e)
@@ -83,12 +83,12 @@ module _ (c : Cluster) (joined : AllJoin c) where
       let up = rising.rises one.edge one.among in
       rw one.to at (rw one.from at up)
 
-  pub needs_free : HasNoLoop (2 * length c.leaves) (need_edges c) → NeedsHaveNoLoop c
+  pub needs_free : HasNoLoop (need_edges c) → NeedsHaveNoLoop c
   needs_free free =
       let rising : RiseSomehow (need_edges c) = rise_somehow (2 * length c.leaves) (need_edges c) needs_within free in
       no_ring (IsNeedLink c (all_decisions c)) (λ d. rising.height (decision_position d)) (need_rises rising)
 
-  pub loop_of_needs : NeedsHaveLoop c → HasLoop (2 * length c.leaves) (need_edges c)
+  pub loop_of_needs : NeedsHaveLoop c → HasLoop (need_edges c)
   loop_of_needs l = elim (loop_or_none (2 * length c.leaves) (need_edges c) needs_within) [
     | inl loop ↦ loop
     | inr none ↦ absurd (needs_free none l.decision l.ring)
@@ -107,8 +107,8 @@ leaves_rise k n e h =
     let m = of_map leaf_edge (range_with_len 0 n) e (contains_first k (map leaf_edge (range_with_len 0 n)) e h) in
     rw (← m.gives) (omega arith)
 
-pub leaves_free : (positions k n : ℕ) → HasNoLoop positions (take k (map leaf_edge (range_with_len 0 n)))
-leaves_free positions k n = none_where_rising positions (take k (map leaf_edge (range_with_len 0 n))) (λ x. x) (leaves_rise k n)
+pub leaves_free : (k n : ℕ) → HasNoLoop (take k (map leaf_edge (range_with_len 0 n)))
+leaves_free k n = none_where_rising (take k (map leaf_edge (range_with_len 0 n))) (λ x. x) (leaves_rise k n)
 
 module _ (c : Cluster) (joined : AllJoin c) where
   -- fewer edges than leaves are edges of leaves
@@ -130,16 +130,16 @@ module _ (c : Cluster) (joined : AllJoin c) where
       let j = joined col (contains_first k c.colocations col h) in
       record { dependent = j.dependent; primary = j.primary }
 
-  pub behind_leaves : (place : ℕ) → ClosesFirst (2 * length c.leaves) (need_edges c) place → length c.leaves ≤ place
+  pub behind_leaves : (place : ℕ) → ClosesFirst (need_edges c) place → length c.leaves ≤ place
   behind_leaves place f = elim (cases_lt place (length c.leaves)) [
     | inl lt ↦
-        let free : HasNoLoop (2 * length c.leaves) (take (place + 1) (need_edges c))
-        = rw (few (place + 1) (omega arith)) (leaves_free (2 * length c.leaves) (place + 1) (length c.leaves)) in
-        absurd (one_way (2 * length c.leaves) (take (place + 1) (need_edges c)) f.closed free)
+        let free : HasNoLoop (take (place + 1) (need_edges c))
+        = rw (few (place + 1) (omega arith)) (leaves_free (place + 1) (length c.leaves)) in
+        absurd (one_way (take (place + 1) (need_edges c)) f.closed free)
     | inr ge ↦ ge
   ]
 
-  pub closes_needs : (place : ℕ) → ClosesFirst (2 * length c.leaves) (need_edges c) place → ClosesNeeds c (place - length c.leaves)
+  pub closes_needs : (place : ℕ) → ClosesFirst (need_edges c) place → ClosesNeeds c (place - length c.leaves)
   closes_needs place f =
       let ge = behind_leaves place f in
       on (place - length c.leaves) (omega arith)
@@ -151,9 +151,9 @@ module _ (c : Cluster) (joined : AllJoin c) where
           let l = length-map-range_with_len leaf_edge 0 (length c.leaves) in
           let m = length-map c.colocations colocation_edge in
           let one : place + 1 ≡ length c.leaves + (k + 1) = omega arith in
-          let before : HasNoLoop (2 * length c.leaves) (need_edges (with_colocations c k))
+          let before : HasNoLoop (need_edges (with_colocations c k))
           = rw (first_edges k) at (rw e at f.before) in
-          let closed : HasLoop (2 * length c.leaves) (need_edges (with_colocations c (k + 1)))
+          let closed : HasLoop (need_edges (with_colocations c (k + 1)))
           = rw (first_edges (k + 1)) at (rw one at f.closed) in
           record {
             within = omega arith;

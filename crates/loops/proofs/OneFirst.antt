@@ -1,5 +1,5 @@
 -- There is one first rule with which rules have a loop.
-use Rattle.std.proofs.Common.{arith, ◌≡◌, ◌<◌, ◌≤◌, ◌+◌, ◌*◌, ℕ, List, ◌++◌, length, take, Option, Some, None, refl, ap, subst, inl, inr, Contains}
+use Rattle.std.proofs.Common.{arith, ◌≡◌, ◌<◌, ◌≤◌, ◌+◌, ℕ, List, ◌++◌, length, take, Option, Some, None, refl, ap, subst, inl, inr, Contains}
 use Rattle.std.specs.List.{flat_map, range_with_len}
 use Rattle.std.proofs.Math.Seq.{take-length}
 use Rattle.std.proofs.lemmas.Bool.{cases_order}
@@ -31,12 +31,12 @@ module _ (c : Cluster) (joined : AllJoin c) where
   needs_stay j k le l =
       let fewer : List Edge = take (length c.leaves + j) (need_edges c) in
       let more : List Edge = take (length c.leaves + k) (need_edges c) in
-      let before : HasLoop (2 * length c.leaves) (take (length c.leaves + j) (need_edges c))
+      let before : HasLoop (take (length c.leaves + j) (need_edges c))
       = rw (first_edges c joined j) (loop_of_needs (with_colocations c j) (first_joined c joined j) l) in
-      let after : HasLoop (2 * length c.leaves) (need_edges (with_colocations c k))
+      let after : HasLoop (need_edges (with_colocations c k))
       = rw (first_edges c joined k) at (loop_with_more fewer more
       (λ e h. contains_shorter (length c.leaves + j) (length c.leaves + k) (need_edges c) e (omega arith) h)
-      (2 * length c.leaves) before) in
+      before) in
       needs_loop (with_colocations c k) (first_joined c joined k) after
 
   pub all_colocations : NeedsHaveLoop (with_colocations c (length c.colocations)) → NeedsHaveLoop c
@@ -82,7 +82,7 @@ module _ (c : Cluster) (ordered : AllOrder c) where
   pub steps_stay : (j k : ℕ) → j ≤ k → StepsHaveLoop (with_first_orders c j) → StepsHaveLoop (with_first_orders c k)
   steps_stay j k le l =
       steps_loop (with_first_orders c k) (first_ordered c ordered k)
-      (loop_with_more (step_edges (with_first_orders c j)) (step_edges (with_first_orders c k)) (more_edges c j k le) (4 * length c.leaves)
+      (loop_with_more (step_edges (with_first_orders c j)) (step_edges (with_first_orders c k)) (more_edges c j k le)
       (loop_of_steps (with_first_orders c j) (first_ordered c ordered j) l))
 
   pub all_orders_loop : StepsHaveLoop (with_first_orders c (length c.orders)) → StepsHaveLoop c

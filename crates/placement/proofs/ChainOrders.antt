@@ -24,7 +24,7 @@ module _ (h : ℕ → ℕ) (edges : List Edge) (sorted : IsNonDecreasingBy (λ (
           let at : h (get_or edges i d).after ≡ h (get_or edges j d).before = ap h same in
           absurd (let f : ⊥ = omega (arith, up, at, rise) in f)
 
-module _ (positions : ℕ) (old new : List Edge) (heights : List ℕ) (within : EndsWithin positions old) (free : HasNoLoop positions old) where
+module _ (positions : ℕ) (old new : List Edge) (heights : List ℕ) (within : EndsWithin positions old) (free : HasNoLoop old) where
   pub put-in-order : ((x : ℕ) → x < positions → get_or heights x 0 ≡ longest positions old x) → IsPermutation old new
       → IsNonDecreasingBy (λ (e : Edge). get_or heights e.after 0) new → AreEdgesInOrder new
   put-in-order high same sorted = in-order (λ x. get_or heights x 0) new sorted (λ e among.

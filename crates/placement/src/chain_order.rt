@@ -27,7 +27,7 @@ pub(crate) fn put_in_order(
     requires few { positions ≤ 2000 }
     requires within { EndsWithin positions edges.old.items }
     ensures same { OnOk result (IsPermutation edges.old.items edges.new.items) }
-    ensures ordered { OnOk result (HasNoLoop positions edges.old.items → AreEdgesInOrder edges.new.items) }
+    ensures ordered { OnOk result (HasNoLoop edges.old.items → AreEdgesInOrder edges.new.items) }
 {
     let heights = longest_ways_if_free(alloc, positions, edges)?;
     sort_by_height(edges, &heights)

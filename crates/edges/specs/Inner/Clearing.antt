@@ -48,6 +48,6 @@ pub record IsBackward (positions : ℕ) (edges : List Edge) (order : List ℕ) :
 
 -- as many positions as can be taken so: all of them when there is no loop, and only then
 pub record AreCleared (positions : ℕ) (edges : List Edge) (taken : List ℕ) : Type 0 where
-  pub some : length taken < positions → HasLoop positions edges
-  pub none : positions ≤ length taken → HasNoLoop positions edges
+  pub some : length taken < positions → HasLoop edges
+  pub none : positions ≤ length taken → HasNoLoop edges
   pub all : positions ≤ length taken → IsBackward positions edges taken

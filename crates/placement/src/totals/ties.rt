@@ -50,7 +50,7 @@ fn listed_ties(alloc: Global, cluster: &Cluster) -> Result<Vec<Edge>, AllocError
 pub fn ties_of(alloc: Global, cluster: &Cluster) -> Result<Vec<Edge>, AllocError>
     requires { IsValid cluster.now }
     ensures ties { IfOk result (λ ties. spec.AreTies cluster.now ties.items) }
-    ensures ordered { IfOk result (λ ties. HasNoLoop (length cluster.now.leaves) (spec.ties_of cluster.now) → AreEdgesInOrder ties.items) }
+    ensures ordered { IfOk result (λ ties. HasNoLoop (spec.ties_of cluster.now) → AreEdgesInOrder ties.items) }
 {
     let mut ties = listed_ties(alloc, cluster)?;
     let ordering = put_in_order(alloc, cluster.leaves.len() as u32, &mut ties);

@@ -6,11 +6,11 @@ use Rattle.edges.proofs.first.first_loop.Goals as goal
 
 pub loop-free-init : goal.loop-free-init
 loop-free-init c =
-    let l : HasLoop c.args.positions c.args.edges.now = c.in_ok-is_loop_free.ensures.loops.0 c.if-branch.false in
+    let l : HasLoop c.args.edges.now = c.in_ok-is_loop_free.ensures.loops.0 c.if-branch.false in
     record {
-      apart = some_edge c.args.positions c.args.edges.now l;
+      apart = some_edge c.args.edges.now l;
       within = omega arith;
-      none = none_without_edges c.args.positions;
+      none = none_without_edges;
       some = rw (take_all (length c.args.edges.now) c.args.edges.now (omega arith)) l;
     }
 

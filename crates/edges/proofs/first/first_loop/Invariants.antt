@@ -6,8 +6,8 @@ abbrev pub invariant-loop-free : goal.invariant-loop-free
 invariant-loop-free l = record {
   apart : l.free < l.looped;
   within : l.looped ≤ length l.edges;
-  none : HasNoLoop l.positions (take l.free l.edges);
-  some : HasLoop l.positions (take l.looped l.edges);
+  none : HasNoLoop (take l.free l.edges);
+  some : HasLoop (take l.looped l.edges);
 }
 
 abbrev pub decreases-loop-free : goal.decreases-loop-free

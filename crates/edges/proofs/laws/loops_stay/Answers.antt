@@ -2,4 +2,4 @@ use Rattle.edges.proofs.Fronts.{loop_with_more}
 use Rattle.edges.proofs.laws.loops_stay.Goals as goal
 
 pub returns : goal.returns
-returns c = λ positions edges more has_all. loop_with_more edges more has_all positions
+returns c = λ edges more has_all. loop_with_more edges more has_all

@@ -13,14 +13,14 @@ first_loop-requires c =
 pub returns-in-None : goal.returns-in-None
 returns-in-None c =
     let edges : c.as_slice.result.now ≡ step_edges c.args.cluster.now = c.as_slice.ensures.value ∙ c.requires.edges in
-    let free : HasNoLoop (4 * length c.args.cluster.now.leaves) (step_edges c.args.cluster.now)
-    = rw edges at (rw c.len.ensures at (rw c.in-None.is at c.in_ok-first.ensures)) in
+    let free : HasNoLoop (step_edges c.args.cluster.now)
+    = rw edges at (rw c.in-None.is at c.in_ok-first.ensures) in
     steps_free c.args.cluster.now c.requires.ordered free
 
 pub returns-in-Some : goal.returns-in-Some
 returns-in-Some c =
     let edges : c.as_slice.result.now ≡ step_edges c.args.cluster.now = c.as_slice.ensures.value ∙ c.requires.edges in
-    let first : ClosesFirst (4 * length c.args.cluster.now.leaves) (step_edges c.args.cluster.now) c.in-Some.place
-    = rw edges at (rw c.len.ensures at (rw c.in-Some.is at c.in_ok-first.ensures)) in
+    let first : ClosesFirst (step_edges c.args.cluster.now) c.in-Some.place
+    = rw edges at (rw c.in-Some.is at c.in_ok-first.ensures) in
     first_order c.args.cluster.now c.requires.ordered c.in-Some.place c.rule_at.result first
     (rw (c.as_slice-in-Some.ensures.value ∙ c.requires.ends) at c.rule_at.ensures)

@@ -18,7 +18,7 @@ longest_ways-requires-clause-ends c =
 pub longest_ways-requires-clause-free : goal.longest_ways-requires-clause-free
 longest_ways-requires-clause-free c =
     let edges : c.as_slice.result.now ≡ step_edges c.args.cluster.now = c.as_slice.ensures.value ∙ c.in_ok-edges.ensures in
-    rw edges (rw c.len.ensures (edges_free c.args.cluster.now (valid_order c.args.cluster.now c.requires.orders) c.requires.steps))
+    rw edges (edges_free c.args.cluster.now (valid_order c.args.cluster.now c.requires.orders) c.requires.steps)
 
 pub returns : goal.returns
 returns c =

@@ -16,8 +16,8 @@ returns-clause-ordered c =
     let old = c.args.edges.now.items in
     let new = c.sort_by_height.new.edges.items in
     let heights = c.in_ok-heights.heights.items in
-    let high : HasNoLoop positions old → (x : ℕ) → x < positions → slice_index_or heights x 0 ≡ longest positions old x
-    = subst (λ (es : List Edge). HasNoLoop positions es → (x : ℕ) → x < positions → slice_index_or heights x 0 ≡ longest positions es x)
+    let high : HasNoLoop old → (x : ℕ) → x < positions → slice_index_or heights x 0 ≡ longest positions old x
+    = subst (λ (es : List Edge). HasNoLoop es → (x : ℕ) → x < positions → slice_index_or heights x 0 ≡ longest positions es x)
     c.deref.ensures.value c.in_ok-heights.ensures.longest in
     on_both c.sort_by_height.result
     (λ same sorted free. put-in-order positions old new heights c.requires.within free (high free) same

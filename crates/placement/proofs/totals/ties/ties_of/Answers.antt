@@ -30,9 +30,8 @@ returns-clause-ties c =
 pub returns-clause-ordered : goal.returns-clause-ordered
 returns-clause-ordered c =
     let listed : c.in_ok-ties.ties.items ≡ spec.ties_of c.args.cluster.now = search rules in
-    when_done (λ ts. HasNoLoop (length c.args.cluster.now.leaves) (spec.ties_of c.args.cluster.now) → AreEdgesInOrder ts.items)
+    when_done (λ ts. HasNoLoop (spec.ties_of c.args.cluster.now) → AreEdgesInOrder ts.items)
     c.put_in_order-ordering.new.edges c.put_in_order-ordering.result c.done.result
     (on_ok_weaker c.put_in_order-ordering.result
-    (λ ordered free. ordered (subst (λ (n : ℕ). HasNoLoop n c.in_ok-ties.ties.items) (sym c.len.ensures)
-    (subst (λ (ts : List Edge). HasNoLoop (length c.args.cluster.now.leaves) ts) (sym listed) free))) c.put_in_order-ordering.ensures.ordered)
+    (λ ordered free. ordered (subst HasNoLoop (sym listed) free)) c.put_in_order-ordering.ensures.ordered)
     c.done.ensures
