@@ -4,7 +4,7 @@ use Rattle.cluster_io.specs.Streams.{Rose}
 use Rattle.sim_core.specs.declared.status.Status.{Status}
 use Rattle.sim_core.specs.declared.status.Status.TheVariants.{Done, NoMemory, Usage, ReadFault, WriteFault, Refused, Unexpected, TooLarge, NotLawful}
 use Rattle.sim_core.specs.declared.words.Command.{Command}
-use Rattle.sim_core.specs.declared.words.Command.TheVariants.{Check, Scores, Graph, Survive, Audit, Replay, Gen, World, Help, Version}
+use Rattle.sim_core.specs.declared.words.Command.TheVariants.{Check, Scores, Why, Graph, Survive, Audit, Replay, Gen, World, Help, Version}
 use Rattle.sim_core.specs.Answers.{WordAnswers, InputHasRoom, IsCompleteAnswer, IsStatusDue, IsWritten, SaysBy, SaysOf, InputTaken, Written, told_input}
 use Rattle.sim_core.specs.Live.{SaysLive, HasWrittenReplay}
 use Rattle.input_reading.specs.Reading.{most_bytes}
@@ -66,6 +66,7 @@ module _ (input : List ℕ) (left before after : Option (List ℕ)) (status : St
   word_due : (word : Command) → InputHasRoom (intake word) input → SaysBy (intake word) word input left before after status → IsStatusDue (Gets word input) status
   word_due Check room says = whole_due Check room says
   word_due Scores room says = whole_due Scores room says
+  word_due Why room says = whole_due Why room says
   word_due Graph room says = whole_due Graph room says
   word_due Survive room says = whole_due Survive room says
   word_due Audit room says = whole_due Audit room says

@@ -5,7 +5,7 @@ use Rattle.input_reading.specs.declared.input.reading.Input.{Input}
 use Rattle.sim_core.specs.declared.status.Status.{Status}
 use Rattle.sim_core.specs.declared.status.Status.TheVariants.{Done, Refused}
 use Rattle.sim_core.specs.declared.words.Command.{Command}
-use Rattle.sim_core.specs.declared.words.Command.TheVariants.{Check, Scores, Graph, Survive, Audit, Replay, Gen, World, Help, Version}
+use Rattle.sim_core.specs.declared.words.Command.TheVariants.{Check, Scores, Why, Graph, Survive, Audit, Replay, Gen, World, Help, Version}
 use Rattle.sim_core.specs.Check.{IsCheckText}
 use Rattle.sim_core.specs.Generated.{IsSummaryText}
 use Rattle.sim_core.specs.Graph.{IsGraphText}
@@ -13,6 +13,7 @@ use Rattle.sim_core.specs.Outputs.{IsOutput, IsRefusalText, IsTextOf}
 use Rattle.sim_core.specs.Scores.{IsScoresText}
 use Rattle.sim_core.specs.Survive.{IsSurviveText}
 use Rattle.sim_core.specs.Table.{Gets}
+use Rattle.sim_core.specs.Why.{IsWhyOf}
 use Rattle.sim_core.specs.World.{IsWorldOf}
 use Rattle.input_reading.proofs.OneReading.{not_both}
 use Rattle.sim_core.proofs.OneAudit.{AreExcluded, one_audit}
@@ -37,6 +38,7 @@ module _ (one_end : OneEnd) (excluded : AreExcluded) where
   pub one_status : (word : Command) (input text more : List ℕ) (status other : Status) → Gets word input status text → Gets word input other more → status ≡ other
   one_status Check input text more status other a b = one_output IsCheckText input text more status other a b
   one_status Scores input text more status other a b = one_output IsScoresText input text more status other a b
+  one_status Why input text more status other a b = one_output IsWhyOf input text more status other a b
   one_status Graph input text more status other a b = one_output IsGraphText input text more status other a b
   one_status Survive input text more status other a b = one_output IsSurviveText input text more status other a b
   one_status Audit input text more status other a b = one_audit excluded input text more status other a b

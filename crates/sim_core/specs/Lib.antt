@@ -4,6 +4,7 @@ pub mod Outputs
 pub mod Audit
 pub mod Check
 pub mod Scores
+pub mod Why
 pub mod Graph
 pub mod Survive
 pub mod Generated

@@ -4,7 +4,7 @@ use Rattle.cases.specs.Case.{case_text}
 use Rattle.sim_core.specs.declared.help.TheConstants.{HELP, VERSION}
 use Rattle.sim_core.specs.declared.status.Status.{Status}
 use Rattle.sim_core.specs.declared.words.Command.{Command}
-use Rattle.sim_core.specs.declared.words.Command.TheVariants.{Check, Scores, Graph, Survive, Audit, Replay, Gen, World, Help, Version}
+use Rattle.sim_core.specs.declared.words.Command.TheVariants.{Check, Scores, Why, Graph, Survive, Audit, Replay, Gen, World, Help, Version}
 use Rattle.sim_core.specs.Audit.{IsAuditOutput}
 use Rattle.sim_core.specs.Check.{IsCheckText}
 use Rattle.sim_core.specs.Generated.{IsSummaryText}
@@ -14,6 +14,7 @@ use Rattle.sim_core.specs.OwnText.{IsOwnText}
 use Rattle.sim_core.specs.Replay.{IsReplayOutput}
 use Rattle.sim_core.specs.Scores.{IsScoresText}
 use Rattle.sim_core.specs.Survive.{IsSurviveText}
+use Rattle.sim_core.specs.Why.{IsWhyOf}
 use Rattle.sim_core.specs.World.{IsWorldOf}
 
 -- what a word reads: nothing, an input to its end before it writes, or line by line while it writes
@@ -25,6 +26,7 @@ pub data Intake : Type 0 where
 abbrev pub intake : Command → Intake
 intake Check = whole
 intake Scores = whole
+intake Why = whole
 intake Graph = whole
 intake Survive = whole
 intake Audit = whole
@@ -38,6 +40,7 @@ intake Version = nothing
 abbrev pub takes_memory : Command → Bool
 takes_memory Check = true
 takes_memory Scores = true
+takes_memory Why = true
 takes_memory Graph = true
 takes_memory Survive = true
 takes_memory Audit = true
@@ -51,6 +54,7 @@ takes_memory Version = false
 abbrev pub Gets : Command → List ℕ → Status → List ℕ → Type 0
 Gets Check input status text = IsOutput IsCheckText input status text
 Gets Scores input status text = IsOutput IsScoresText input status text
+Gets Why input status text = IsOutput IsWhyOf input status text
 Gets Graph input status text = IsOutput IsGraphText input status text
 Gets Survive input status text = IsOutput IsSurviveText input status text
 Gets Audit input status text = IsAuditOutput input status text

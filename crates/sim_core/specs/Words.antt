@@ -3,18 +3,19 @@ use Rattle.std.specs.Prelude.{ℕ, nat_lt, ◌==◌, ◌&&◌, if◌then◌else�
 use Rattle.std.specs.Str.{bytes_eq}
 use Rattle.faults.specs.Digits.{number_up_to}
 use Rattle.sim_core.specs.declared.words.Command.{Command}
-use Rattle.sim_core.specs.declared.words.Command.TheVariants.{Check, Scores, Graph, Survive, Audit, Replay, Gen, World, Help, Version}
+use Rattle.sim_core.specs.declared.words.Command.TheVariants.{Check, Scores, Why, Graph, Survive, Audit, Replay, Gen, World, Help, Version}
 
 abbrev pub word_command : List ℕ → Option Command
 word_command word =
     if bytes_eq word (codes "check") then Some Check
     else (if bytes_eq word (codes "scores") then Some Scores
+    else (if bytes_eq word (codes "why") then Some Why
     else (if bytes_eq word (codes "graph") then Some Graph
     else (if bytes_eq word (codes "survive") then Some Survive
     else (if bytes_eq word (codes "audit") then Some Audit
     else (if bytes_eq word (codes "replay") then Some Replay
     else (if bytes_eq word (codes "--help") then Some Help
-    else (if bytes_eq word (codes "--version") then Some Version else None)))))))
+    else (if bytes_eq word (codes "--version") then Some Version else None))))))))
 
 -- the number of a case or of a simulated cluster: without a leading zero, and of 32 bits
 abbrev pub case_number : List ℕ → Option ℕ

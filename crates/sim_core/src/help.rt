@@ -13,6 +13,9 @@ Usage: cekpayo WORD < INPUT > OUTPUT
              `# nodes N leaves N rules N`
   scores     reads as check does, and writes the total of each resource on each
              node, its targets, or the reason why it has none
+  why        reads as check does, and writes what scores does, and of each
+             decision and node what was counted for it, by which statement,
+             and why it was chosen or not; then which rule held back what
   graph      reads as check does, and writes the actions that bring the cluster
              to its targets, and what must precede each
   survive    reads as check does, and writes where everything goes when a node

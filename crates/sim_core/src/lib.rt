@@ -42,6 +42,7 @@ mod status;
 mod summary;
 mod text_word;
 mod top;
+mod why;
 mod words;
 mod world;
 

@@ -19,6 +19,7 @@ use crate::own_text::tell;
 use crate::scores::ScoresWord;
 use crate::status::Status;
 use crate::text_word::Reading;
+use crate::why::WhyWord;
 use crate::words::{Command, command_of};
 use crate::world::WorldWord;
 use cluster_io::{Sink, Source};
@@ -43,6 +44,7 @@ fn carry_out<S: Source, W: Sink>(alloc: Global, word: Command, src: &mut S, out:
     match word {
         Command::Check => with_input(alloc, &Reading(CheckWord), src, out),
         Command::Scores => with_input(alloc, &Reading(ScoresWord), src, out),
+        Command::Why => with_input(alloc, &Reading(WhyWord), src, out),
         Command::Graph => with_input(alloc, &Reading(GraphWord), src, out),
         Command::Survive => with_input(alloc, &Reading(SurviveWord), src, out),
         Command::Audit => with_input(alloc, &AuditWord, src, out),

@@ -9,6 +9,7 @@ use faults::number_up_to;
 pub enum Command {
     Check,
     Scores,
+    Why,
     Graph,
     Survive,
     Audit,
@@ -27,6 +28,7 @@ fn one_word(word: &str) -> Option<Command>
     match word {
         "check" => Some(Command::Check),
         "scores" => Some(Command::Scores),
+        "why" => Some(Command::Why),
         "graph" => Some(Command::Graph),
         "survive" => Some(Command::Survive),
         "audit" => Some(Command::Audit),

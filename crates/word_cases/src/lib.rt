@@ -30,6 +30,10 @@ mod replay_starts;
 #[cfg(test)]
 mod scores;
 #[cfg(test)]
+mod why;
+#[cfg(test)]
+mod why_together;
+#[cfg(test)]
 mod words;
 #[cfg(test)]
 mod worlds;

@@ -15,6 +15,9 @@ returns-in-Gen-clause-status g c = rw c.in-Gen.is c.with_case.ensures.status
 pub returns-in-Scores-clause-status : goal.returns-in-Scores-clause-status
 returns-in-Scores-clause-status g c = rw c.in-Scores.is c.with_input-in-Scores.ensures.status
 
+pub returns-in-Why-clause-status : goal.returns-in-Why-clause-status
+returns-in-Why-clause-status g c = rw c.in-Why.is c.with_input-in-Why.ensures.status
+
 pub returns-in-Graph-clause-status : goal.returns-in-Graph-clause-status
 returns-in-Graph-clause-status g c = rw c.in-Graph.is c.with_input-in-Graph.ensures.status
 

@@ -1,0 +1,11 @@
+pub mod FirstOnes
+pub mod SourceRows
+pub mod ToldTexts
+pub mod OwnTexts
+pub mod SideTexts
+pub mod PartsOfStates
+pub mod AccountLines
+pub mod VerdictsRead
+pub mod NodeTexts
+pub mod WholeTexts
+pub mod DecidedLeaves

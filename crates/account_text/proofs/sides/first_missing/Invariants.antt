@@ -1,0 +1,7 @@
+use Rattle.std.proofs.Common.{◌≡◌, None, take}
+use Rattle.cluster_types.specs.Tables.{targets_of}
+use Rattle.account_text.specs.Sides as spec
+use Rattle.account_text.proofs.sides.first_missing.Given as goal
+
+abbrev pub invariant-loop-rule : goal.invariant-loop-rule
+invariant-loop-rule l = spec.first_missing (targets_of l.table) l.decision l.node (take l.rule-index l.sides) ≡ None

@@ -1,0 +1,11 @@
+pub mod Lent
+pub mod Told
+pub mod Sources
+pub mod Joining
+pub mod Sides
+pub mod Judged
+pub mod HeldTexts
+pub mod Asked
+pub mod Journal
+pub mod Accounted
+pub mod Reading

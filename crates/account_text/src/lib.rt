@@ -1,0 +1,31 @@
+//! The text of how decisions came about.
+#![tactic(auto)]
+
+// The printed lines of parts and verdicts.
+mod lent;
+mod part_lines;
+mod verdict_lines;
+
+// What gives each leaf its own terms, and which leaves lend to it.
+mod joining;
+mod leaf_sources;
+mod sources;
+
+// The lines of the terms of a decision on a node.
+mod base_parts;
+mod own_parts;
+mod sides;
+
+// Why a node is chosen or not.
+mod asked;
+mod judging;
+mod last_chosen;
+
+// What is held back.
+mod held_cells;
+
+// All of it, by what is read once.
+mod account;
+mod read;
+
+pub use account::why_text;
