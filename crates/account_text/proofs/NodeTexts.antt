@@ -16,8 +16,8 @@ use Rattle.cluster_types.specs.Unpacked.{states_of}
 use Rattle.decision_account.specs.Accounts.{node_lines, verdict_text, why_text}
 use Rattle.decision_account.specs.Parts.{base_parts, preference_parts}
 use Rattle.decision_account.specs.Verdicts.{last_chosen, verdict_on}
-use Rattle.placement.specs.Inner.Reads.{may_stay_in}
-use Rattle.placement.specs.Inner.Steps.{Chooses, Tell}
+use Rattle.placement.specs.Reads.{may_stay_in}
+use Rattle.placement.specs.Steps.{Chooses, Tell}
 use Rattle.account_text.specs.declared.asked.Asked.{Asked}
 use Rattle.account_text.specs.Asked.{verdict_asked}
 use Rattle.account_text.specs.Judged.{last_of, verdict_in}

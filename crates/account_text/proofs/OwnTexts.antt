@@ -9,7 +9,7 @@ use Rattle.cluster_types.specs.declared.rules.Location.{Location}
 use Rattle.cluster_types.specs.declared.rules.RuleLocation.{RuleLocation}
 use Rattle.score.specs.NodeSet.{has}
 use Rattle.decision_account.specs.Parts.{from_location, part_of}
-use Rattle.placement.specs.Inner.Locations.{rule_holds_by}
+use Rattle.placement.specs.Locations.{rule_holds_by}
 use Rattle.account_text.specs.declared.leaf_sources.LeafSources.{LeafSources}
 use Rattle.account_text.specs.declared.leaf_sources.Ruled.{Ruled}
 use Rattle.account_text.specs.Sources.{AreLocated, AreRuled, HoldsAt, IsSourceOf}

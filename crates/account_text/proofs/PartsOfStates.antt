@@ -20,7 +20,7 @@ use Rattle.cluster_types.specs.Unpacked.{states_of}
 use Rattle.cluster_types.proofs.StatesKept.{cell_kept}
 use Rattle.decision_account.specs.Parts.{Origin, ScorePart, base_parts, from_ban, from_opt_in, from_stickiness, lender_of, location_parts, own_parts, part_of}
 use Rattle.placement.specs.OwnRows.{is_active_by, is_banned_by, stickiness_of}
-use Rattle.placement.specs.Inner.Locations.{is_unnamed}
+use Rattle.placement.specs.Locations.{is_unnamed}
 use Rattle.placement.proofs.JoinedOfStates.{all-joins}
 use Rattle.placement.proofs.OwnOfStates.{active-is}
 use Rattle.account_text.specs.Told.{base_parts_by, own_part_where, own_parts_by}

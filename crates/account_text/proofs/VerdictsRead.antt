@@ -26,8 +26,8 @@ use Rattle.cluster_types.specs.Unpacked.{states_of}
 use Rattle.decision_account.specs.Verdicts as verdict
 use Rattle.decision_account.specs.Verdicts.{Verdict, is_last_chosen, joined_apart, last_chosen, missing_primary, outdone, passed_by, refusal, verdict_on}
 use Rattle.decision_account.proofs.TrueVerdicts.{found}
-use Rattle.placement.specs.Inner.Reads.{is_permitted_in, may_stay_in}
-use Rattle.placement.specs.Inner.Usable.{is_usable_by}
+use Rattle.placement.specs.Reads.{is_permitted_in, may_stay_in}
+use Rattle.placement.specs.Usable.{is_usable_by}
 use Rattle.placement.proofs.OwnOfStates.{from-zero, usable-is}
 use Rattle.placement.proofs.ReadOfStates.{open-is}
 use Rattle.account_text.specs.Judged.{goes_ahead, is_last_of, last_of, load_listed, passed_in, refusal_by_table, refusal_in, total_listed, verdict_in}

@@ -9,7 +9,7 @@ use Rattle.cluster_types.specs.Plans.{IsPlaced}
 use Rattle.cluster_types.specs.Unpacked.{states_of}
 use Rattle.placement.specs.declared.totals.table.ScoreTable.{ScoreTable}
 use Rattle.placement.specs.Scores.{scores_of}
-use Rattle.placement.specs.Inner.Steps.{Tell}
+use Rattle.placement.specs.Steps.{Tell}
 
 -- the states and the totals
 pub record HaveJournal (c : Cluster) (states : States) (scores : ScoreTable) : Type 0 where

@@ -1,8 +1,8 @@
 -- What is read beside the table is that of the cluster in its states.
 use Rattle.std.specs.Prelude.{◌≡◌}
 use Rattle.cluster_types.specs.Valid.{IsValid}
-use Rattle.placement.specs.Inner.Promotions.{AreSaid}
-use Rattle.placement.specs.Inner.Ties.{AreTies}
+use Rattle.placement.specs.Promotions.{AreSaid}
+use Rattle.placement.specs.Ties.{AreTies}
 use Rattle.account_text.specs.declared.read.Read.{Read}
 use Rattle.account_text.specs.Journal.{HaveJournal}
 

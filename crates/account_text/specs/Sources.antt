@@ -5,7 +5,7 @@ use Rattle.score.specs.NodeSet.{has}
 use Rattle.cluster_types.specs.declared.cluster.Cluster.{Cluster}
 use Rattle.cluster_types.specs.declared.rules.Location.{Location}
 use Rattle.cluster_types.specs.declared.rules.RuleLocation.{RuleLocation}
-use Rattle.placement.specs.Inner.Locations.{is_unnamed, rule_holds_by}
+use Rattle.placement.specs.Locations.{is_unnamed, rule_holds_by}
 use Rattle.account_text.specs.declared.leaf_sources.LeafSources.{LeafSources}
 use Rattle.account_text.specs.declared.leaf_sources.Ruled.{Ruled}
 

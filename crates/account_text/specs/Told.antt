@@ -15,7 +15,7 @@ use Rattle.decision_account.specs.Accounts.{part_text}
 use Rattle.decision_account.specs.Parts.{Origin, ScorePart, from_ban, from_location, from_opt_in, from_promotion, from_stickiness, lender_of, part_of, without_zeros}
 use Rattle.placement.specs.OwnRows.{is_active_by, is_banned_by, stickiness_of}
 use Rattle.placement.specs.Inner.LendingRows.{all_joined}
-use Rattle.placement.specs.Inner.Locations.{is_unnamed, rule_holds_by}
+use Rattle.placement.specs.Locations.{is_unnamed, rule_holds_by}
 use Rattle.account_text.specs.declared.leaf_sources.Ruled.{Ruled}
 
 -- the lines of those of these parts that aren't 0

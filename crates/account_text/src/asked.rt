@@ -3,9 +3,9 @@ ghost use Rattle.cluster_types.specs.declared.journal.Event.{Event as EventOf};
 ghost use Rattle.cluster_types.specs.declared.journal.Promotion.{Promotion as PromotionOf};
 ghost use Rattle.cluster_types.specs.Decisions.{leaf_of};
 ghost use Rattle.cluster_types.specs.Tables.{targets_of};
-ghost use Rattle.placement.specs.Inner.Loads.{IsLoaded};
-ghost use Rattle.placement.specs.Inner.Reads.{may_stay_in};
-ghost use Rattle.placement.specs.Inner.Steps.{Chooses, Tell};
+ghost use Rattle.placement.specs.Loads.{IsLoaded};
+ghost use Rattle.placement.specs.Reads.{may_stay_in};
+ghost use Rattle.placement.specs.Steps.{Chooses, Tell};
 ghost use Rattle.account_text.specs.Judged.{last_of};
 ghost use Rattle.account_text.specs.Sides.{AreColocationsOf};
 

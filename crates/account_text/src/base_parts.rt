@@ -5,7 +5,7 @@ ghost use Rattle.std.specs.List.{flat_map};
 ghost use Rattle.cluster_types.specs.declared.journal.Promotion.{Promotion as PromotionOf};
 ghost use Rattle.cluster_types.specs.Valid.{IsValid};
 ghost use Rattle.placement.specs.Inner.LendingRows.{all_joined};
-ghost use Rattle.placement.specs.Inner.Promotions.{AreSaid};
+ghost use Rattle.placement.specs.Promotions.{AreSaid};
 ghost use Rattle.decision_account.specs.Parts as parts;
 ghost use Rattle.account_text.specs.Told as spec;
 

@@ -2,7 +2,7 @@
 
 ghost use Rattle.std.specs.Prelude.{◌≡◌, ◌<◌, ◌&&◌, ◌||◌, length, option_map};
 ghost use Rattle.cluster_types.specs.Tables.{targets_of};
-ghost use Rattle.placement.specs.Inner.Reads.{is_kept_in};
+ghost use Rattle.placement.specs.Reads.{is_kept_in};
 ghost use Rattle.account_text.specs.Asked as spec;
 ghost use Rattle.account_text.specs.Judged as judged;
 ghost use Rattle.account_text.specs.Lent as lent;

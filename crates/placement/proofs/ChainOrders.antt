@@ -8,7 +8,7 @@ use Rattle.edges.specs.declared.edge.Edge.{Edge}
 use Rattle.edges.specs.Loops.{EndsWithin, HasNoLoop}
 use Rattle.edges.specs.Longest.{longest}
 use Rattle.edges.proofs.Longest.{heights_rise, longest_are_heights}
-use Rattle.placement.specs.Inner.ChainOrder.{AreEdgesInOrder}
+use Rattle.placement.specs.ChainOrder.{AreEdgesInOrder}
 
 module _ (h : ℕ → ℕ) (edges : List Edge) (sorted : IsNonDecreasingBy (λ (e : Edge). h e.after) edges) where
   pub in-order : ((e : Edge) → Contains edges e → h e.before < h e.after) → AreEdgesInOrder edges

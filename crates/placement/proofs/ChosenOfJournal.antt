@@ -27,8 +27,8 @@ use Rattle.placement.specs.Scores.{scores_of}
 use Rattle.placement.proofs.OwnOfStates.{from-zero}
 use Rattle.placement.proofs.TableOfStates.{total-is}
 use Rattle.placement.specs.Inner.Picks.{ArePicked}
-use Rattle.placement.specs.Inner.Reads.{is_candidate_in, total_in}
-use Rattle.placement.specs.Inner.Steps.{Chooses}
+use Rattle.placement.specs.Reads.{is_candidate_in, total_in}
+use Rattle.placement.specs.Steps.{Chooses}
 use Rattle.placement.proofs.ReadOfStates.{open-is}
 
 -- a node goes before another by total, load and number, and not the other way round

@@ -3,7 +3,7 @@ use Rattle.std.proofs.Common.{◌≡◌, ◌≢◌, ◌⊎◌, inl, inr, ℕ, �
 use Rattle.std.proofs.Math.Bool.{and-false, and-true}
 use Rattle.std.proofs.lemmas.Bool.{cases_eq, cases_lt, le-ltb, lt-ltb, ne_eqb}
 use Rattle.score.specs.Row.{Tally}
-use Rattle.placement.specs.Inner.Rows.{IsRow, more_where}
+use Rattle.placement.specs.Rows.{IsRow, more_where}
 use Rattle.placement.proofs.TermRows.{row-same}
 
 glue-first : (ts : List ℤ) (term : ℤ) (a b d : Bool) → a ≡ d → b ≡ false

@@ -4,7 +4,7 @@ use Rattle.std.proofs.lemmas.List.{length-map, length-append}
 use Rattle.std.proofs.lemmas.List.Elements.{filter-append}
 use Rattle.std.proofs.lemmas.List.Sums.{length-filter, count_by-le-length}
 use Rattle.score.specs.Row.{is_finite}
-use Rattle.placement.specs.Inner.Rows.{few, more_where}
+use Rattle.placement.specs.Rows.{few, more_where}
 
 -- some of these terms are finite, at most all
 pub few-kept : {X : Type 0} (f : X → ℤ) (p : X → Bool) (xs : List X) → few (map f (filter p xs)) ≤ count_by p xs

@@ -12,8 +12,8 @@ use Rattle.cluster_types.specs.declared.cluster.Cluster.{Cluster}
 use Rattle.cluster_types.specs.declared.leaf.Role.{Role}
 use Rattle.cluster_types.specs.declared.rules.Location.{Location}
 use Rattle.cluster_types.specs.declared.rules.RuleLocation.{RuleLocation}
-use Rattle.placement.specs.Inner.Locations.{located, ruled, scores_given, rule_holds_by}
-use Rattle.placement.specs.Inner.Rows.{each_of, few, IsRow, more_where}
+use Rattle.placement.specs.Locations.{located, ruled, scores_given, rule_holds_by}
+use Rattle.placement.specs.Rows.{each_of, few, IsRow, more_where}
 use Rattle.placement.proofs.FewTerms.{few-kept, few-append}
 use Rattle.placement.proofs.Tests.{swap}
 

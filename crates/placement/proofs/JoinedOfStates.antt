@@ -13,7 +13,7 @@ use Rattle.cluster_types.specs.Terms.{is_tied, leaves_a_node, lenders, own_terms
 use Rattle.cluster_types.specs.Unpacked.{states_of}
 use Rattle.placement.specs.Inner.LendingRows.{leaves_a_node_by, with_lender_by}
 use Rattle.placement.specs.OwnRows.{terms_by}
-use Rattle.placement.specs.Inner.Usable.{is_usable_by}
+use Rattle.placement.specs.Usable.{is_usable_by}
 use Rattle.placement.proofs.OwnOfStates.{from-zero, own-is, usable-is}
 
 -- all numbers of a list are below a bound

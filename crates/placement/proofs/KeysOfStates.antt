@@ -17,7 +17,7 @@ use Rattle.cluster_types.specs.Terms.{base}
 use Rattle.cluster_types.specs.Unpacked.{states_of}
 use Rattle.cluster_types.proofs.StatesKept.{cell_kept}
 use Rattle.placement.specs.Scores.{score_in, scores_of}
-use Rattle.placement.specs.Inner.Usable.{is_usable_by}
+use Rattle.placement.specs.Usable.{is_usable_by}
 use Rattle.placement.proofs.OwnOfStates.{usable-is}
 use Rattle.placement.proofs.TableOfStates.{total-is}
 use Rattle.placement.specs.Inner.DecisionLists.{is_active_by_cell, compared_key, totals_where_by}

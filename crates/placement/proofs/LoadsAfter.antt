@@ -11,7 +11,7 @@ use Rattle.cluster_types.specs.declared.placement.Target.{Target}
 use Rattle.cluster_types.specs.Tables.{is_somewhere, load_of, targets_of, with_cell}
 use Rattle.cluster_types.proofs.Loads.{load_grows, loads_stay, other_loads_stay}
 use Rattle.plan_laws.proofs.TablesWithin.{whole}
-use Rattle.placement.specs.Inner.Loads.{IsLoaded}
+use Rattle.placement.specs.Loads.{IsLoaded}
 
 module _ (c : Cluster) (old : Table) (loads : List ℕ) (is : IsLoaded c old loads) where
   pub loads-fit : length loads ≡ length c.nodes

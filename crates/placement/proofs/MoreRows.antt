@@ -7,7 +7,7 @@ use Rattle.score.specs.Row.{Tally}
 use Rattle.cluster_types.specs.declared.cluster.Cluster.{Cluster}
 use Rattle.cluster_types.specs.declared.states.States.{States}
 use Rattle.placement.specs.OwnRows.{own_by}
-use Rattle.placement.specs.Inner.Rows.{IsRow}
+use Rattle.placement.specs.Rows.{IsRow}
 
 module _ {X : Type 0} (P : ℕ → X → Type 0) where
   -- what holds of each element by its place holds with one element more

@@ -5,7 +5,7 @@ use Rattle.std.proofs.Math.Bool.{or_assoc}
 use Rattle.cluster_types.specs.declared.cluster.Cluster.{Cluster}
 use Rattle.cluster_types.specs.declared.rules.Location.{Location}
 use Rattle.cluster_types.specs.declared.rules.RuleLocation.{RuleLocation}
-use Rattle.placement.specs.Inner.Locations.{is_named, is_named_by_rule, rule_holds_by}
+use Rattle.placement.specs.Locations.{is_named, is_named_by_rule, rule_holds_by}
 
 turned : (new old before : Bool) → (new || (old || before)) ≡ (old || (before || new))
 turned true true before = refl

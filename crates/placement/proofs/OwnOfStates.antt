@@ -18,7 +18,7 @@ use Rattle.cluster_types.specs.Terms.{is_active, is_started, location_scores, op
 use Rattle.cluster_types.specs.Unpacked.{states_of}
 use Rattle.cluster_types.proofs.StatesKept.{cell_kept, node_kept}
 use Rattle.placement.specs.OwnRows.{is_active_by, is_banned_by, own_by, stickiness_of}
-use Rattle.placement.specs.Inner.Usable.{is_usable_by}
+use Rattle.placement.specs.Usable.{is_usable_by}
 
 -- 0 or more is not below 0
 pub from-zero : (z : ℤ) → not (is_negative z) ≡ int_le (pos 0) z

@@ -3,7 +3,7 @@ use Rattle.std.proofs.Common.{◌≡◌, ℕ, ◌<◌, ◌≤◌, ℤ, ◌+ℤ�
 use Rattle.std.specs.List.{range_with_len}
 use Rattle.std.proofs.lemmas.Int.{ints}
 use Rattle.score.specs.Row.{IsSumInRange, Tally, score_tally_of, Stands, finite_at, together}
-use Rattle.placement.specs.Inner.Rows.{each_of, few, IsRow}
+use Rattle.placement.specs.Rows.{each_of, few, IsRow}
 use Rattle.placement.proofs.FewTerms.{few-append}
 use Rattle.placement.proofs.TermRows.{row-length}
 

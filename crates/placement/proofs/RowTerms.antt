@@ -7,7 +7,7 @@ use Rattle.cluster_types.specs.declared.rules.Colocation.{Colocation}
 use Rattle.cluster_types.specs.Choice.{is_dependent, is_mandatory, is_separation}
 use Rattle.cluster_types.specs.Tables.{Targets, holds_role}
 use Rattle.placement.specs.Tests.{counts}
-use Rattle.placement.specs.Inner.Rows.{few, IsRow, more_where}
+use Rattle.placement.specs.Rows.{few, IsRow, more_where}
 use Rattle.placement.proofs.EachNode.{each-more}
 use Rattle.placement.proofs.FewTerms.{few-kept}
 use Rattle.placement.proofs.Given.{taken, kept-more}

@@ -8,7 +8,7 @@ use Rattle.std.proofs.lemmas.List.FromFn.{get_or-map-range_with_len, length-map-
 use Rattle.lemmas.proofs.Ranges.{map-same, map-set-range}
 use Rattle.score.specs.Total.{IsScore}
 use Rattle.score.specs.Row.{Tally, score_tally_of, Stands, is_finite, finite_part, finite_at, with_term}
-use Rattle.placement.specs.Inner.Rows.{each_of, few, IsRow, IsRoomy, more_where}
+use Rattle.placement.specs.Rows.{each_of, few, IsRow, IsRoomy, more_where}
 
 -- the same terms below the number of nodes
 pub row-same : (nodes : ℕ) (f g : ℕ → List ℤ) (row : List Tally) → ((n : ℕ) → n < nodes → f n ≡ g n) → IsRow nodes f row → IsRow nodes g row

@@ -9,7 +9,7 @@ use Rattle.cluster_types.specs.declared.cluster.Cluster.{Cluster}
 use Rattle.cluster_types.specs.Terms.{is_tie}
 use Rattle.cluster_types.specs.Valid.{IsValid}
 use Rattle.cluster_types.proofs.RuleLeaves.{role_leaf}
-use Rattle.placement.specs.Inner.Ties.{AreTies, tie_of, ties_of}
+use Rattle.placement.specs.Ties.{AreTies, tie_of, ties_of}
 
 pub end-at-leaves : (c : Cluster) → IsValid c → EndsWithin (length c.leaves) (ties_of c)
 end-at-leaves c valid tie among =

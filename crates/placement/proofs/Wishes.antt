@@ -1,7 +1,7 @@
 -- How much a leaf wants to be promoted, put into a row node by node.
 use Rattle.std.proofs.Common.{◌≡◌, inl, inr, ℕ, ◌+◌, ◌<◌, ◌≤◌, ◌==◌, ℤ, true, false, ◌&&◌, if◌then◌else◌, nat_lt, List, [], ◌∷◌, ◌++◌, refl, sym, ap, subst, append-nil, arith}
 use Rattle.std.proofs.lemmas.Bool.{cases_eq, cases_lt, le-ltb, lt-ltb, ne_eqb}
-use Rattle.placement.specs.Inner.Rows.{more_where}
+use Rattle.placement.specs.Rows.{more_where}
 
 module _ (first : ℕ → List ℤ) (wish : ℕ → ℤ) where
   -- with the wishes of the nodes below one

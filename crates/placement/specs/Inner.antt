@@ -1,6 +1,5 @@
 -- What no public clause rests on: what the code of this crate keeps and counts on the way, for its proofs alone.
 pub mod Allowed
-pub mod ChainOrder
 pub mod Chosen
 pub mod Counted
 pub mod DecisionLists
@@ -10,17 +9,9 @@ pub mod Flags
 pub mod Lending
 pub mod LendingRows
 pub mod Links
-pub mod Loads
-pub mod Locations
 pub mod Picks
 pub mod Pins
-pub mod Promotions
 pub mod Queueing
-pub mod Reads
 pub mod Reasoning
-pub mod Rows
-pub mod Steps
 pub mod Taking
-pub mod Ties
 pub mod Turns
-pub mod Usable

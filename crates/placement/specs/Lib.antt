@@ -1,4 +1,13 @@
+pub mod ChainOrder
 pub mod Inner
+pub mod Loads
+pub mod Locations
 pub mod OwnRows
+pub mod Promotions
+pub mod Reads
+pub mod Rows
 pub mod Scores
+pub mod Steps
 pub mod Tests
+pub mod Ties
+pub mod Usable

@@ -11,8 +11,8 @@ use Rattle.cluster_types.specs.declared.rules.RuleLocation.{RuleLocation}
 use Rattle.cluster_types.specs.declared.states.Cell.{Cell}
 use Rattle.cluster_types.specs.declared.states.States.{States}
 use Rattle.cluster_types.specs.Terms.{is_active, is_started}
-use Rattle.placement.specs.Inner.Locations.{scores_given, is_unnamed}
-use Rattle.placement.specs.Inner.Rows.{IsRow, more_where}
+use Rattle.placement.specs.Locations.{scores_given, is_unnamed}
+use Rattle.placement.specs.Rows.{IsRow, more_where}
 
 -- how much the leaf wants to stay
 abbrev pub stickiness_of : Cluster → ℕ → ℤ

@@ -12,7 +12,7 @@ use Rattle.score.specs.Total.{total_of}
 use Rattle.placement.specs.declared.totals.table.ScoreTable.{ScoreTable}
 use Rattle.placement.specs.Inner.LendingRows.{all_joined}
 use Rattle.placement.specs.OwnRows.{terms_by}
-use Rattle.placement.specs.Inner.Promotions.{wished_by}
+use Rattle.placement.specs.Promotions.{wished_by}
 
 -- a list of all cells, leaf by leaf, node by node
 abbrev pub cells_of : {X : Type 0} → Cluster → (ℕ → ℕ → X) → List X

@@ -3,7 +3,7 @@
 ghost use Rattle.std.specs.Prelude.{◌≤◌, OnOk, slice_index_or};
 ghost use Rattle.std.specs.List.Sorted.{IsNonDecreasingBy, IsPermutation};
 ghost use Rattle.edges.specs.Loops.{EndsWithin, HasNoLoop};
-ghost use Rattle.placement.specs.Inner.ChainOrder.{AreEdgesInOrder};
+ghost use Rattle.placement.specs.ChainOrder.{AreEdgesInOrder};
 
 use edges::{Edge, longest_ways_if_free};
 use listed::number_at;

@@ -2,7 +2,7 @@
 
 ghost use Rattle.std.specs.Prelude.{◌≡◌, ◌≤◌, length};
 ghost use Rattle.cluster_types.specs.Choice as choice;
-ghost use Rattle.placement.specs.Inner.Reads as spec;
+ghost use Rattle.placement.specs.Reads as spec;
 
 use crate::is_active;
 use cluster_types::{CellState, Cluster, Decision, LeafId, NodeId, States, cell_place};

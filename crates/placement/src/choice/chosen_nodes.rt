@@ -5,8 +5,8 @@ ghost use Rattle.cluster_types.specs.declared.journal.Event.{Event as EventOf};
 ghost use Rattle.cluster_types.specs.declared.journal.Promotion.{Promotion as PromotionOf};
 ghost use Rattle.cluster_types.specs.Decisions.{leaf_of};
 ghost use Rattle.cluster_types.specs.Tables.{targets_of};
-ghost use Rattle.placement.specs.Inner.Loads.{IsLoaded};
-ghost use Rattle.placement.specs.Inner.Steps.{Chooses, Tell};
+ghost use Rattle.placement.specs.Loads.{IsLoaded};
+ghost use Rattle.placement.specs.Steps.{Chooses, Tell};
 
 use crate::choice::candidate_nodes::candidate_nodes;
 use crate::choice::caps::cap_of;

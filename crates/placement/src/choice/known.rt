@@ -7,7 +7,7 @@ ghost use Rattle.cluster_types.specs.Rights.{rights_of};
 ghost use Rattle.cluster_types.specs.Unpacked.{states_of};
 ghost use Rattle.cluster_types.specs.Valid.{KeepsLimits};
 ghost use Rattle.score.specs.NodeSet.{has};
-ghost use Rattle.placement.specs.Inner.Usable.{is_usable_by};
+ghost use Rattle.placement.specs.Usable.{is_usable_by};
 
 use crate::{ScoreTable, usable_nodes};
 use cluster_types::{Cluster, Rights, States};

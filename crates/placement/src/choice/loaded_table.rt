@@ -6,7 +6,7 @@ ghost use Rattle.cluster_types.specs.Tables as tables;
 ghost use Rattle.cluster_types.specs.Tables.{targets_of};
 ghost use Rattle.cluster_types.specs.Valid.{KeepsLimits};
 ghost use Rattle.score.specs.NodeSet.{has};
-ghost use Rattle.placement.specs.Inner.Loads.{IsLoaded};
+ghost use Rattle.placement.specs.Loads.{IsLoaded};
 
 use cluster_types::{Cluster, LeafId, NodeId, Role, Table, Target};
 use score::NodeSet;

@@ -4,8 +4,8 @@ ghost use Rattle.std.specs.Prelude.{◌≡◌, ◌&&◌, ◌||◌, ◌<◌, ℕ,
 ghost use Rattle.cluster_types.specs.Choice as choice;
 ghost use Rattle.cluster_types.specs.Tables.{targets_of};
 ghost use Rattle.score.specs.NodeSet.{has};
-ghost use Rattle.placement.specs.Inner.Reads as spec;
-ghost use Rattle.placement.specs.Inner.Usable.{is_usable_by};
+ghost use Rattle.placement.specs.Reads as spec;
+ghost use Rattle.placement.specs.Usable.{is_usable_by};
 
 use crate::choice::cells::{active_count, is_kept};
 use crate::choice::known::Known;

@@ -9,7 +9,7 @@ ghost use Rattle.placement.specs.Tests.{counts};
 ghost use Rattle.score.specs.Row.{finite_at};
 ghost use Rattle.placement.specs.Inner.Counted.{counted_scores};
 ghost use Rattle.score.specs.Total.{total_of};
-ghost use Rattle.placement.specs.Inner.Rows.{IsRow, IsRoomy, more_where};
+ghost use Rattle.placement.specs.Rows.{IsRow, IsRoomy, more_where};
 
 use crate::{counts, put_if, totals_of};
 use cluster_types::{Cluster, Colocation, Decision, NoMemory, NodeId, Table};

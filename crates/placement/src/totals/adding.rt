@@ -2,7 +2,7 @@
 
 ghost use Rattle.std.specs.Prelude.{◌≡◌, ◌<◌, ◌≤◌, ◌+ℤ◌, ◌++◌, ℕ, ℤ, List, length, IfOk};
 ghost use Rattle.score.specs.Row.{IsSumInRange, finite_at};
-ghost use Rattle.placement.specs.Inner.Rows.{IsRow, IsRoomy};
+ghost use Rattle.placement.specs.Rows.{IsRow, IsRoomy};
 
 use score::{NoMemory, Row, add_row};
 use std::alloc::Global;

@@ -5,7 +5,7 @@ ghost use Rattle.std.specs.Int.{is_negative};
 ghost use Rattle.std.specs.List.{list_any, range_with_len};
 ghost use Rattle.score.specs.NodeSet.{has};
 ghost use Rattle.score.specs.Total.{total_of};
-ghost use Rattle.placement.specs.Inner.Rows.{IsRow};
+ghost use Rattle.placement.specs.Rows.{IsRow};
 
 use crate::totals::row_totals::totals_of;
 use score::{NodeSet, Row, candidates};

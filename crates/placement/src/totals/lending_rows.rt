@@ -4,8 +4,8 @@ ghost use Rattle.std.specs.Prelude.{◌≡◌, ◌<◌, length, IfOk};
 ghost use Rattle.cluster_types.specs.Valid.{IsValid};
 ghost use Rattle.placement.specs.Inner.LendingRows as spec;
 ghost use Rattle.placement.specs.OwnRows.{terms_by};
-ghost use Rattle.placement.specs.Inner.Rows.{IsRow};
-ghost use Rattle.placement.specs.Inner.Ties.{AreTies, tied_within};
+ghost use Rattle.placement.specs.Rows.{IsRow};
+ghost use Rattle.placement.specs.Ties.{AreTies, tied_within};
 
 use crate::totals::adding::{both, copy_of};
 use crate::totals::fitting::leaves_a_node;

@@ -4,8 +4,8 @@ ghost use Rattle.std.specs.Prelude.{◌≡◌, ◌&&◌, ◌||◌, ◌==◌, ◌
 ghost use Rattle.cluster_types.specs.Valid.{IsValid};
 ghost use Rattle.score.specs.NodeSet.{has};
 ghost use Rattle.score.specs.Row.{finite_at};
-ghost use Rattle.placement.specs.Inner.Locations as spec;
-ghost use Rattle.placement.specs.Inner.Rows.{IsRow, IsRoomy, more_where};
+ghost use Rattle.placement.specs.Locations as spec;
+ghost use Rattle.placement.specs.Rows.{IsRow, IsRoomy, more_where};
 
 use crate::totals::putting::{put_each, put_if};
 use cluster_types::{Cluster, LeafId, Location, NodeId, Role, RuleLocation};

@@ -4,7 +4,7 @@ ghost use Rattle.std.specs.Prelude.{◌≡◌, ◌+◌, ◌*◌, ◌<◌, ◌≤
 ghost use Rattle.cluster_types.specs.Valid.{IsValid};
 ghost use Rattle.score.specs.NodeSet.{has};
 ghost use Rattle.placement.specs.OwnRows as spec;
-ghost use Rattle.placement.specs.Inner.Rows.{IsRow};
+ghost use Rattle.placement.specs.Rows.{IsRow};
 
 use crate::totals::locations::{given_row, unnamed_nodes};
 use crate::totals::putting::put_each;

@@ -4,8 +4,8 @@ ghost use Rattle.std.specs.Prelude.{◌≡◌, ◌<◌, ◌≤◌, ◌++◌, ◌
 ghost use Rattle.cluster_types.specs.declared.journal.Promotion.{Promotion as PromotionOf};
 ghost use Rattle.cluster_types.specs.Valid.{IsValid, KeepsLimits};
 ghost use Rattle.cluster_types.specs.Terms.{promotion_score};
-ghost use Rattle.placement.specs.Inner.Promotions as spec;
-ghost use Rattle.placement.specs.Inner.Rows.{IsRow};
+ghost use Rattle.placement.specs.Promotions as spec;
+ghost use Rattle.placement.specs.Rows.{IsRow};
 
 use crate::totals::locations::given_row;
 use crate::totals::putting::put_if;

@@ -3,7 +3,7 @@
 ghost use Rattle.std.specs.Prelude.{◌≡◌, ◌≢◌, ◌&&◌, ◌==◌, ◌<◌, ◌≤◌, ℕ, ℤ, List, length};
 ghost use Rattle.score.specs.NodeSet.{has};
 ghost use Rattle.score.specs.Row.{finite_at};
-ghost use Rattle.placement.specs.Inner.Rows.{IsRow, IsRoomy, more_where};
+ghost use Rattle.placement.specs.Rows.{IsRow, IsRoomy, more_where};
 
 use cluster_types::NodeId;
 use score::{NodeSet, Row, Score};

@@ -3,7 +3,7 @@
 ghost use Rattle.std.specs.Prelude.{◌≡◌, ◌≤◌, ℕ, ℤ, List, length, map, IfOk};
 ghost use Rattle.std.specs.List.{range_with_len};
 ghost use Rattle.score.specs.Total.{total_of};
-ghost use Rattle.placement.specs.Inner.Rows.{IsRow};
+ghost use Rattle.placement.specs.Rows.{IsRow};
 
 use score::{Row, Score, totals};
 use std::alloc::{AllocError, Global};

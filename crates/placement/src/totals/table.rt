@@ -6,9 +6,9 @@ ghost use Rattle.cluster_types.specs.declared.journal.Event.{Event};
 ghost use Rattle.cluster_types.specs.declared.journal.Promotion.{Promotion as PromotionOf};
 ghost use Rattle.cluster_types.specs.Unpacked.{states_of};
 ghost use Rattle.cluster_types.specs.Valid.{IsValid};
-ghost use Rattle.placement.specs.Inner.Promotions.{AreSaid};
+ghost use Rattle.placement.specs.Promotions.{AreSaid};
 ghost use Rattle.placement.specs.Scores as spec;
-ghost use Rattle.placement.specs.Inner.Ties.{AreTies};
+ghost use Rattle.placement.specs.Ties.{AreTies};
 
 use crate::totals::lending_rows::lent_row;
 use crate::totals::own_rows::OwnRows;

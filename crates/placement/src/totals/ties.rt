@@ -8,8 +8,8 @@ ghost use Rattle.cluster_types.specs.Valid.{IsValid};
 ghost use Rattle.listed.specs.Flags.{is_marked};
 ghost use Rattle.edges.specs.declared.edge.Edge.{Edge as EdgeOf};
 ghost use Rattle.edges.specs.Loops.{HasNoLoop};
-ghost use Rattle.placement.specs.Inner.ChainOrder.{AreEdgesInOrder};
-ghost use Rattle.placement.specs.Inner.Ties as spec;
+ghost use Rattle.placement.specs.ChainOrder.{AreEdgesInOrder};
+ghost use Rattle.placement.specs.Ties as spec;
 
 use crate::chain_order::put_in_order;
 use cluster_types::{Cluster, Colocation, LeafId, Role};

@@ -6,7 +6,7 @@ use Rattle.cluster_types.specs.Choice.{total_on}
 use Rattle.cluster_types.specs.Tables.{targets_of}
 use Rattle.cluster_types.specs.Texts.{decision_line}
 use Rattle.decision_account.specs.Accounts.{node_lines, why_text}
-use Rattle.placement.specs.Inner.Reads.{may_stay_in}
+use Rattle.placement.specs.Reads.{may_stay_in}
 use Rattle.account_text.specs.Judged.{last_of}
 use Rattle.account_text.specs.Sources.{lent_values}
 use Rattle.account_text.proofs.AccountLines.{decision_text}

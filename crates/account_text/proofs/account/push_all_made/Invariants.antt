@@ -2,8 +2,8 @@ use Rattle.std.proofs.Common.{List, take}
 use Rattle.cluster_types.specs.declared.journal.Event.{Event}
 use Rattle.cluster_types.specs.declared.journal.Promotion.{Promotion}
 use Rattle.cluster_types.specs.Tables.{targets_of}
-use Rattle.placement.specs.Inner.Loads.{IsLoaded}
-use Rattle.placement.specs.Inner.Steps.{Tell}
+use Rattle.placement.specs.Loads.{IsLoaded}
+use Rattle.placement.specs.Steps.{Tell}
 use Rattle.account_text.specs.Accounted.{AreAccounted, decisions_made}
 use Rattle.account_text.proofs.account.push_all_made.Given as goal
 

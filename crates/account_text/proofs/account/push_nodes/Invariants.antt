@@ -4,7 +4,7 @@ use Rattle.cluster_types.specs.declared.journal.Event.{Event}
 use Rattle.cluster_types.specs.declared.journal.Promotion.{Promotion}
 use Rattle.cluster_types.specs.Tables.{targets_of}
 use Rattle.decision_account.specs.Accounts.{node_lines, why_text}
-use Rattle.placement.specs.Inner.Steps.{Tell}
+use Rattle.placement.specs.Steps.{Tell}
 use Rattle.account_text.proofs.account.push_nodes.Given as goal
 
 abbrev pub invariant-loop-node : goal.invariant-loop-node

@@ -8,7 +8,7 @@ use Rattle.cluster_types.specs.Tables.{targets_of}
 use Rattle.cluster_types.specs.Texts.{run_line, target_lines}
 use Rattle.cluster_types.specs.Unpacked.{states_of}
 use Rattle.decision_account.specs.Accounts.{account_lines, why_text}
-use Rattle.placement.specs.Inner.Steps.{Tell}
+use Rattle.placement.specs.Steps.{Tell}
 use Rattle.placement.specs.Scores.{scores_of}
 use Rattle.account_text.specs.Accounted.{decisions_made}
 use Rattle.account_text.specs.HeldTexts.{leaf_text}

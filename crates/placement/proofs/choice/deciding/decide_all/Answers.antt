@@ -4,8 +4,8 @@ use Rattle.cluster_types.specs.Plans.{with_totals}
 use Rattle.cluster_types.specs.Tables.{targets_of}
 use Rattle.cluster_types.specs.Unpacked.{states_of}
 use Rattle.placement.specs.Scores.{scores_of}
-use Rattle.placement.specs.Inner.Loads.{IsLoaded}
-use Rattle.placement.specs.Inner.Steps.{Tell}
+use Rattle.placement.specs.Loads.{IsLoaded}
+use Rattle.placement.specs.Steps.{Tell}
 use Rattle.placement.proofs.choice.deciding.decide_all.Goals as goal
 
 pub decide_each-requires-clause-loaded : goal.decide_each-requires-clause-loaded

@@ -2,7 +2,7 @@ use Rattle.std.proofs.Common.{rules, length, map, sym, ap, subst, ◌∙◌}
 use Rattle.std.specs.List.{range_with_len}
 use Rattle.cluster_types.specs.Choice.{preference}
 use Rattle.cluster_types.specs.Tables.{targets_of}
-use Rattle.placement.specs.Inner.Rows.{IsRow}
+use Rattle.placement.specs.Rows.{IsRow}
 use Rattle.placement.proofs.TermRows.{row-length}
 use Rattle.placement.specs.Inner.Counted.{counted_scores}
 use Rattle.placement.proofs.colocations.preferring.preferences.Goals as goal

@@ -1,7 +1,7 @@
 use Rattle.std.proofs.Common.{◌&&◌, ℕ, Bool, nat_lt, refl, sym, subst, ◌∙◌, arith}
 use Rattle.cluster_types.specs.Tables.{targets_of}
 use Rattle.placement.specs.Tests.{counts}
-use Rattle.placement.specs.Inner.Rows.{IsRoomy, more_where}
+use Rattle.placement.specs.Rows.{IsRoomy, more_where}
 use Rattle.placement.proofs.EachNode.{each-all, each-none}
 use Rattle.placement.proofs.RowTerms.{one-node}
 use Rattle.placement.proofs.colocations.preferring.put_where_counted.Goals as goal

@@ -2,7 +2,7 @@ use Rattle.std.proofs.Common.{◌≡◌, ◌≤◌, ◌&&◌, ℕ, ℤ, List, le
 use Rattle.cluster_types.specs.Tables.{targets_of}
 use Rattle.placement.specs.Tests.{counts}
 use Rattle.score.specs.Row.{finite_at}
-use Rattle.placement.specs.Inner.Rows.{IsRow, more_where}
+use Rattle.placement.specs.Rows.{IsRow, more_where}
 use Rattle.placement.proofs.colocations.preferring.put_where_counted.Given as goal
 
 abbrev pub invariant-loop-node : goal.invariant-loop-node

@@ -4,7 +4,7 @@ use Rattle.std.proofs.lemmas.List.{take_all}
 use Rattle.std.proofs.lemmas.List.Elements.{Contains-get_or}
 use Rattle.std.specs.List.{Contains}
 use Rattle.score.specs.NodeSet.{has}
-use Rattle.placement.specs.Inner.Locations.{is_named}
+use Rattle.placement.specs.Locations.{is_named}
 use Rattle.placement.proofs.Named.{named-more}
 use Rattle.placement.proofs.totals.locations.name_located.Goals as goal
 

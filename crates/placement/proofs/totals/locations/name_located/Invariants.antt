@@ -1,6 +1,6 @@
 use Rattle.std.proofs.Common.{◌≡◌, ◌||◌, ℕ, take}
 use Rattle.score.specs.NodeSet.{has}
-use Rattle.placement.specs.Inner.Locations.{is_named}
+use Rattle.placement.specs.Locations.{is_named}
 use Rattle.placement.proofs.totals.locations.name_located.Given as goal
 
 abbrev pub invariant-loop-rule : goal.invariant-loop-rule

@@ -1,7 +1,7 @@
 use Rattle.std.proofs.Common.{◌≡◌, ◌&&◌, ◌||◌, ◌==◌, ◌∙◌, take, sym, ap, arith}
 use Rattle.std.proofs.Math.Bool.{or-false}
 use Rattle.std.proofs.lemmas.List.{take_all}
-use Rattle.placement.specs.Inner.Locations.{is_named, is_named_by_rule, rule_holds_by}
+use Rattle.placement.specs.Locations.{is_named, is_named_by_rule, rule_holds_by}
 use Rattle.placement.proofs.Named.{ruled-more}
 use Rattle.placement.proofs.totals.locations.named_nodes.Goals as goal
 

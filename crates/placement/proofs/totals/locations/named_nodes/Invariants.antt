@@ -1,6 +1,6 @@
 use Rattle.std.proofs.Common.{◌≡◌, ◌||◌, ◌<◌, ℕ, length, take}
 use Rattle.score.specs.NodeSet.{has}
-use Rattle.placement.specs.Inner.Locations.{is_named, is_named_by_rule}
+use Rattle.placement.specs.Locations.{is_named, is_named_by_rule}
 use Rattle.placement.proofs.totals.locations.named_nodes.Given as goal
 
 abbrev pub invariant-loop-rule : goal.invariant-loop-rule

@@ -1,6 +1,6 @@
 use Rattle.std.proofs.Common.{rules, ◌≡◌, ◌==◌, ◌&&◌, ◌||◌, true, ap, ◌∙◌, sym, arith}
 use Rattle.score.specs.NodeSet.{has}
-use Rattle.placement.specs.Inner.Locations.{rule_holds_by}
+use Rattle.placement.specs.Locations.{rule_holds_by}
 use Rattle.placement.proofs.totals.locations.with_rule.Goals as goal
 
 pub of-requires-clause-passes : goal.of-requires-clause-passes

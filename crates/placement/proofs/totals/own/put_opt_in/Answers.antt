@@ -2,7 +2,7 @@ use Rattle.std.proofs.Common.{length, refl, sym, ◌∙◌, arith}
 use Rattle.score.specs.Total.{minus_infinity}
 use Rattle.score.specs.NodeSet.{has}
 use Rattle.placement.specs.OwnRows.{banned_by}
-use Rattle.placement.specs.Inner.Locations.{is_unnamed}
+use Rattle.placement.specs.Locations.{is_unnamed}
 use Rattle.placement.proofs.EachNode.{put-each}
 use Rattle.placement.proofs.OwnTerms.{few-banned, small-own}
 use Rattle.placement.proofs.TermRows.{row-length, row-room}

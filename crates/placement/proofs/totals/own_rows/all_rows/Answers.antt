@@ -1,6 +1,6 @@
 use Rattle.std.proofs.Common.{rules, ◌≡◌, ◌++◌, ◌∷◌, [], length, arith}
 use Rattle.placement.specs.OwnRows.{own_by}
-use Rattle.placement.specs.Inner.Rows.{IsRow}
+use Rattle.placement.specs.Rows.{IsRow}
 use Rattle.placement.proofs.MoreRows.{each-more}
 use Rattle.placement.proofs.totals.own_rows.all_rows.Goals as goal
 

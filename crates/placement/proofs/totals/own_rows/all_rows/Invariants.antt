@@ -1,7 +1,7 @@
 use Rattle.std.proofs.Common.{◌≡◌, ◌≤◌, ℕ, List, Some, length, slice_get, vec_capacity}
 use Rattle.score.specs.Row.{Tally}
 use Rattle.placement.specs.OwnRows.{own_by}
-use Rattle.placement.specs.Inner.Rows.{IsRow}
+use Rattle.placement.specs.Rows.{IsRow}
 use Rattle.placement.proofs.totals.own_rows.all_rows.Given as goal
 
 abbrev pub invariant-loop-leaf : goal.invariant-loop-leaf

@@ -1,6 +1,6 @@
 use Rattle.std.proofs.Common.{◌≡◌, ◌+◌, ◌++◌, ◌∷◌, [], suc, take, sym, ap, subst, ◌∙◌, arith}
 use Rattle.std.proofs.Math.Seq.{take-suc}
-use Rattle.placement.specs.Inner.Promotions.{AreSaid}
+use Rattle.placement.specs.Promotions.{AreSaid}
 use Rattle.placement.proofs.totals.promotions.first_said.Goals as goal
 
 pub loop-promotion-preserved : goal.loop-promotion-preserved

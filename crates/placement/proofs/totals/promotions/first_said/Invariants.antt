@@ -1,5 +1,5 @@
 use Rattle.std.proofs.Common.{take}
-use Rattle.placement.specs.Inner.Promotions.{AreSaid}
+use Rattle.placement.specs.Promotions.{AreSaid}
 use Rattle.placement.proofs.totals.promotions.first_said.Given as goal
 
 abbrev pub invariant-loop-promotion : goal.invariant-loop-promotion

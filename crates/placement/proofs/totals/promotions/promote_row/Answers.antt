@@ -1,7 +1,7 @@
 use Rattle.std.proofs.Common.{rules, ◌+◌, length, sym, subst, ◌∙◌, arith}
 use Rattle.cluster_types.specs.Terms.{is_promoted, promotion_score}
-use Rattle.placement.specs.Inner.Locations.{scores_given}
-use Rattle.placement.specs.Inner.Rows.{IsRow, IsRoomy}
+use Rattle.placement.specs.Locations.{scores_given}
+use Rattle.placement.specs.Rows.{IsRow, IsRoomy}
 use Rattle.placement.proofs.Given.{few-given}
 use Rattle.placement.proofs.OwnTerms.{small-own}
 use Rattle.placement.proofs.TermRows.{row-length, row-room, row-same}

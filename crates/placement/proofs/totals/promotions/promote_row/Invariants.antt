@@ -2,9 +2,9 @@ use Rattle.std.proofs.Common.{◌≡◌, ◌≤◌, ◌++◌, ◌∷◌, [], if�
 use Rattle.cluster_types.specs.declared.journal.Promotion.{Promotion}
 use Rattle.cluster_types.specs.Terms.{is_promoted, promotion_score}
 use Rattle.score.specs.Row.{finite_at}
-use Rattle.placement.specs.Inner.Locations.{scores_given}
-use Rattle.placement.specs.Inner.Promotions.{AreSaid}
-use Rattle.placement.specs.Inner.Rows.{IsRow, IsRoomy}
+use Rattle.placement.specs.Locations.{scores_given}
+use Rattle.placement.specs.Promotions.{AreSaid}
+use Rattle.placement.specs.Rows.{IsRow, IsRoomy}
 use Rattle.placement.proofs.totals.promotions.promote_row.Given as goal
 
 abbrev pub invariant-loop-node : goal.invariant-loop-node

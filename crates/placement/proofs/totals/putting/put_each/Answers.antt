@@ -1,6 +1,6 @@
 use Rattle.std.proofs.Common.{◌∙◌, ◌&&◌, ◌==◌, sym, refl, ap, arith, nat_lt, subst}
 use Rattle.score.specs.NodeSet.{has}
-use Rattle.placement.specs.Inner.Rows.{IsRoomy, more_where}
+use Rattle.placement.specs.Rows.{IsRoomy, more_where}
 use Rattle.placement.proofs.EachNode.{each-more, each-none, each-all}
 use Rattle.placement.proofs.TermRows.{row-same}
 use Rattle.placement.proofs.totals.putting.put_each.Goals as goal

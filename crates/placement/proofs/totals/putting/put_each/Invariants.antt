@@ -1,7 +1,7 @@
 use Rattle.std.proofs.Common.{◌≡◌, ◌≤◌, ◌&&◌, ℕ, ℤ, List, length, nat_lt}
 use Rattle.score.specs.NodeSet.{has}
 use Rattle.score.specs.Row.{finite_at}
-use Rattle.placement.specs.Inner.Rows.{IsRow, more_where}
+use Rattle.placement.specs.Rows.{IsRow, more_where}
 use Rattle.placement.proofs.totals.putting.put_each.Given as goal
 
 abbrev pub invariant-loop-node : goal.invariant-loop-node

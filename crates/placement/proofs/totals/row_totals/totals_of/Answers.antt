@@ -4,7 +4,7 @@ use Rattle.std.proofs.Math.Seq.{take-append_seam}
 use Rattle.std.proofs.lemmas.List.FromFn.{length-map-range_with_len}
 use Rattle.std.proofs.lemmas.Simd.{map-map}
 use Rattle.score.specs.Total.{total_of}
-use Rattle.placement.specs.Inner.Rows.{each_of}
+use Rattle.placement.specs.Rows.{each_of}
 use Rattle.placement.proofs.totals.row_totals.totals_of.Goals as goal
 
 pub returns-clause-totals : goal.returns-clause-totals

@@ -1,7 +1,7 @@
 use Rattle.std.proofs.Common.{rules, ◌++◌, ℕ, ℤ, List, ap, sym, subst, ◌∙◌, length, map}
 use Rattle.std.specs.List.{range_with_len}
 use Rattle.lemmas.proofs.Ranges.{flat_map-more}
-use Rattle.placement.specs.Inner.Promotions.{AreSaid}
+use Rattle.placement.specs.Promotions.{AreSaid}
 use Rattle.placement.specs.Scores.{promote_by}
 use Rattle.placement.proofs.totals.table.promote_totals.Goals as goal
 

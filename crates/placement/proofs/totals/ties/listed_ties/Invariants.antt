@@ -1,6 +1,6 @@
 use Rattle.std.proofs.Common.{◌≡◌, filter, map, take}
 use Rattle.cluster_types.specs.Terms.{is_tie}
-use Rattle.placement.specs.Inner.Ties.{tie_of}
+use Rattle.placement.specs.Ties.{tie_of}
 use Rattle.placement.proofs.totals.ties.listed_ties.Given as goal
 
 abbrev pub invariant-loop-rule : goal.invariant-loop-rule

@@ -4,8 +4,8 @@ use Rattle.faults.specs.Carry.{IsDone}
 use Rattle.edges.specs.declared.edge.Edge.{Edge}
 use Rattle.edges.specs.Loops.{EndsWithin, HasNoLoop}
 use Rattle.std.specs.List.Sorted.{IsPermutation}
-use Rattle.placement.specs.Inner.Ties as spec
-use Rattle.placement.specs.Inner.ChainOrder.{AreEdgesInOrder}
+use Rattle.placement.specs.Ties as spec
+use Rattle.placement.specs.ChainOrder.{AreEdgesInOrder}
 use Rattle.placement.proofs.TieSides.{end-at-leaves, in-any-order}
 use Rattle.placement.proofs.totals.ties.ties_of.Goals as goal
 

@@ -1,7 +1,7 @@
 use Rattle.std.proofs.Common.{◌≡◌, ℕ, ◌==◌, ◌&&◌, nat_lt, if◌then◌else◌}
 use Rattle.cluster_types.specs.Tables.{targets_of}
 use Rattle.score.specs.NodeSet.{has}
-use Rattle.placement.specs.Inner.Loads.{IsLoaded}
+use Rattle.placement.specs.Loads.{IsLoaded}
 use Rattle.placement.proofs.choice.loaded_table.LoadedTable.with_targets.Given as goal
 
 abbrev pub invariant-loop-node : goal.invariant-loop-node

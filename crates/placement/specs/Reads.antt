@@ -19,7 +19,7 @@ use Rattle.cluster_types.specs.Tables.{Targets}
 use Rattle.placement.specs.declared.totals.table.ScoreTable.{ScoreTable}
 use Rattle.placement.specs.OwnRows.{is_active_by}
 use Rattle.placement.specs.Scores.{score_in}
-use Rattle.placement.specs.Inner.Usable.{is_usable_by}
+use Rattle.placement.specs.Usable.{is_usable_by}
 
 -- on how many nodes a leaf is promoted at most
 abbrev pub promote_cap_of : Cluster → ℕ → ℕ

@@ -4,7 +4,7 @@ use Rattle.std.specs.Option.{option_map, option_map_or}
 use Rattle.cluster_types.specs.declared.cluster.Cluster.{Cluster}
 use Rattle.cluster_types.specs.declared.journal.Promotion.{Promotion}
 use Rattle.cluster_types.specs.Terms.{is_promoted, promotion_score}
-use Rattle.placement.specs.Inner.Locations.{scores_given}
+use Rattle.placement.specs.Locations.{scores_given}
 
 -- the first of these scores that is said of the leaf on the node
 abbrev pub score_said_of : List Promotion → ℕ → ℕ → Option ℤ
