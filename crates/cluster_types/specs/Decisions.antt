@@ -110,7 +110,7 @@ module _ (c : Cluster) (es : List Event) where
   abbrev pub is_decision : Decision → Bool
   is_decision d = is_among decisions d
 
-  -- the decision can be made now: it hasn't been, and each that it needs has been
+  -- the decision can be made now: it hasn't been, and each that it needs has been. A pinned leaf has no decision, so none waits for it
   abbrev pub is_ready : List Decision → Decision → Bool
   is_ready made d = is_decision d && not (is_among made d) && list_all (λ e. implies (needs c d e) (is_among made e)) decisions
 

@@ -42,6 +42,7 @@ module _ (c : Cluster) (r : ℕ) where
   abbrev pub priority : ℤ
   priority = of_leaf (λ leaf. leaf.priority) (pos 0)
 
+  -- migration-threshold in points; 0 is none
   abbrev pub threshold : ℤ
   threshold = of_leaf (λ leaf. leaf.threshold) (pos 0)
 

@@ -36,17 +36,19 @@ module _ (c : Cluster) (es : List Event) (table : Targets) where
     pub within : n < length c.nodes
     pub chosen : holds_role table col.dependent col.dependent_role n ≡ true
 
-  -- no target of the first of an order, in its role and in scope, is outside the set; and none of the primary of a colocation on the node
+  -- each target that the first of the order has, in its role and in scope, is in the set (so too where it has none)
   abbrev pub LacksFirst : (Decision → ℕ → Type 0) → Order → ℕ → Type 0
   LacksFirst set o n =
       (m : ℕ) → m < length c.nodes → is_in_scope o n m ≡ true → holds_role table o.first (role_by o.first_op) m ≡ true
       → set (decision_of o.first (role_by o.first_op)) m
 
+  -- the primary has no target in its role on the node, or that one is in the set
   abbrev pub LacksPrimary : (Decision → ℕ → Type 0) → Colocation → ℕ → Type 0
   LacksPrimary set col n = holds_role table col.primary col.primary_role n ≡ true → set (decision_of col.primary col.primary_role) n
 
-  -- the chosen cells that are held back, by three rules and nothing else: a then is held where its first has no target in scope that isn't, a dependent
-  -- where its primary has none on the node, and a promote where the place of its leaf is held
+  -- the chosen cells that are held back, by three rules and nothing else: a then where each target of its first, in the order's role and in scope, is held,
+  -- or there is none; a dependent where its primary has no target in its role on the node, or that one is held; and a promote where the place of its leaf
+  -- is held
   pub data Held : Decision → ℕ → Type 0 where
     by_order : (o : Order) (n : ℕ) → OrderMayHold o n
         → ((m : ℕ) → m < length c.nodes → is_in_scope o n m ≡ true → holds_role table o.first (role_by o.first_op) m ≡ true

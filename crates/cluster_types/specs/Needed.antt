@@ -28,7 +28,8 @@ use Rattle.cluster_types.specs.Terms.{active_count}
 use Rattle.cluster_types.specs.Tables.{Targets, holds_role, is_in_scope, is_somewhere}
 use Rattle.cluster_types.specs.Precedence.{is_up, role_by}
 
--- the steps that bring a cell from its state to its target. A cycled cell is stopped and started again on the way
+-- the steps that bring a cell from its state to its target. A cycled cell is stopped and started again on the way. The others need none: an Off or Unprobed
+-- cell without a target, one that is Away (it has no target), and one that is Blocked (its leaf is pinned)
 abbrev pub steps_of : CellState → Target → Bool → List Op
 steps_of cell.Unprobed target.Started cycled = op.Start ∷ []
 steps_of cell.Unprobed target.Promoted cycled = op.Start ∷ op.Promote ∷ []
@@ -51,7 +52,7 @@ runs cell.On = true
 runs cell.Promoted = true
 runs _ = false
 
--- an action of the first that takes its role away or gives it anew, by the order's word for it
+-- by the order's word for its first: the step takes away the role that the word gives, or gives it anew
 abbrev pub disturbs : Op → Op → Bool
 disturbs op.Start op.Start = true
 disturbs op.Start op.Stop = true
@@ -114,7 +115,7 @@ module _ (c : Cluster) (es : List Event) (targets : Targets) where
       (is_pinned c es r ≡ false) × (is_monitor_for m.role (targets r n) ≡ true)
       × ((is_running r n m.interval_ms es ≡ false) ⊎ GetsAny r n)
 
-  -- what has to be done, before live migration
+  -- what has to be done, before live migration. What is no monitor has interval 0 and role Started (see Action)
   pub data FirstSet : Action → Type 0 where
     fence : (n : ℕ) → n < length c.nodes → is_to_be_fenced c n es ≡ true → FirstSet (Fence n)
     probe : (r n : ℕ) → r < length c.leaves → n < length c.nodes → is_unprobed_state (cell_state c r n es) ≡ true → FirstSet (Probe r n)
@@ -126,13 +127,14 @@ module _ (c : Cluster) (es : List Event) (targets : Targets) where
   abbrev pub IsDisturbed : ℕ → Type 0
   IsDisturbed r = (n : ℕ) × (n < length c.nodes) × GetsAny r n
 
-  -- an order leaves a migration of r be: it isn't one of r's, r is its first by a start, or the other leaf gets no step
+  -- an order leaves a migration of r be: r isn't in it; r is its first by a start, and it isn't Serialize; or the other leaf gets no step. An order of r
+  -- with itself is judged by its first alone
   abbrev pub IsHarmlessOrder : ℕ → Order → Type 0
   IsHarmlessOrder r o =
       (o.first ≡ r → ((o.kind ≢ kind.Serialize) × (o.first_op ≡ op.Start)) ⊎ (¬ IsDisturbed o.then_leaf))
       × (o.then_leaf ≡ r → o.first ≢ r → ¬ IsDisturbed o.first)
 
-  -- a separation likewise
+  -- a colocation leaves it be: it is no separation, r isn't in it, or the other leaf gets no step
   abbrev pub IsHarmlessColocation : ℕ → Colocation → Type 0
   IsHarmlessColocation r col =
       is_separation col ≡ true → (col.dependent ≡ r → ¬ IsDisturbed col.primary) × (col.primary ≡ r → ¬ IsDisturbed col.dependent)

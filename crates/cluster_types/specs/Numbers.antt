@@ -73,7 +73,7 @@ chain_within c zero s = 0
 chain_within c (suc most) s =
     fold max 0 (map (λ l. chain_within c most l.before + 1) (filter (λ l. is_same_step l.after s) (links c)))
 
--- the same, computed: where the links have no loop, no chain is longer than there are steps (`rank_is_computed` of crate `loops`)
+-- the same, computed: where the links have no loop, no chain is longer than there are steps: four a leaf at most (`rank_is_computed` of crate `loops`)
 abbrev pub rank : Cluster → StepOf → ℕ
 rank c s = chain_within c (4 * length c.leaves) s
 

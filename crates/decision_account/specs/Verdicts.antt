@@ -12,18 +12,29 @@ use Rattle.cluster_types.specs.Each.{implies}
 use Rattle.cluster_types.specs.NodeStates.{is_usable}
 use Rattle.cluster_types.specs.Tables.{Targets, holds_role, load_of}
 
--- what is said of a node. Of the last three each names the last node that is chosen
+-- what is said of a node
 pub data Verdict : Type 0 where
+  -- it is chosen
   chosen : Verdict
+  -- it isn't online, or is in standby
   unusable : Verdict
+  -- the cluster may neither start the leaf there nor keep it (a ban or a location of -INFINITY is below)
   forbidden : Verdict
+  -- its total is below 0
   below : Verdict
+  -- the primary of this mandatory colocation doesn't hold its role there
   without : Colocation → Verdict
+  -- the other side of this separation holds its role there
   beside : Colocation → Verdict
+  -- the leaf that is to be promoted isn't placed there
   unplaced : Verdict
+  -- the decision chooses no node at all
   capped : Verdict
+  -- the worst node that is chosen, this one, has a greater total
   less : ℕ → Verdict
+  -- as great a total, and fewer leaves with a target
   fuller : ℕ → Verdict
+  -- both equal, and it comes earlier
   later : ℕ → Verdict
 
 module _ (table : Targets) (d : Decision) (n : ℕ) where
@@ -35,10 +46,11 @@ module _ (table : Targets) (d : Decision) (n : ℕ) where
   abbrev pub joins_apart : Colocation → Bool
   joins_apart col = is_separation col && (would_join_primary table d n col || would_join_dependent table d n col)
 
--- the first such colocations
+-- the first colocation of which the decision misses the primary
 abbrev pub missing_primary : Cluster → Targets → Decision → ℕ → Option Colocation
 missing_primary c table d n = find (misses_primary table d n) c.colocations
 
+-- the first separation whose sides it would join
 abbrev pub joined_apart : Cluster → Targets → Decision → ℕ → Option Colocation
 joined_apart c table d n = find (joins_apart table d n) c.colocations
 
@@ -52,7 +64,7 @@ module _ (c : Cluster) (es : List Event) (promotions : List Promotion) (table : 
       else option_or (option_map without (missing_primary c table d n))
       (option_or (option_map beside (joined_apart c table d n)) (if is_placed_for table d n then None else Some unplaced))))
 
-  -- the node is chosen, and each other one that is goes before it
+  -- the node is the worst that is chosen: each other chosen one is better
   abbrev pub is_last_chosen : ℕ → Bool
   is_last_chosen n =
       is_chosen c es promotions table d n

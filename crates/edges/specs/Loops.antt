@@ -8,7 +8,7 @@ use Rattle.edges.specs.Chains.{Chain, HaveNoRing, IsLinked}
 abbrev pub Leads : List Edge → ℕ → ℕ → Type 0
 Leads edges x y = Chain (IsLinked (λ (e : Edge). e.before) (λ (e : Edge). e.after) edges) x y
 
--- the same, computed, over at most so many edges
+-- the same, computed, over at most so many edges. Where no loop is, as many as there are positions are enough (`ways_are_short`)
 abbrev pub leads_within : ℕ → List Edge → ℕ → ℕ → Bool
 leads_within zero edges x y = false
 leads_within (suc most) edges x y = list_any (λ e. e.before == x && (e.after == y || leads_within most edges e.after y)) edges
@@ -26,7 +26,7 @@ pub record HasLoop (edges : List Edge) : Type 0 where
   pub at : ℕ
   pub leads : Leads edges at at
 
--- the same, computed, over at most so many edges
+-- the same, of at most so many edges (`loops_are_short`)
 pub record HasShortLoop (most : ℕ) (edges : List Edge) : Type 0 where
   pub at : ℕ
   pub leads : leads_within most edges at at ≡ true

@@ -46,9 +46,7 @@ pub record StepsHaveLoop (c : Cluster) : Type 0 where
   pub step : StepOf
   pub ring : Chain (IsStepLink c) step step
 
--- the same two, computed: no chain has to have more needs than there are decisions, or more links than there are steps
--- (`loops_are_computed`)
-
+-- some decision needs itself, computed: no chain has to have more needs than there are decisions (`loops_are_computed`)
 abbrev pub has_need_loop : Cluster → Bool
 has_need_loop c = list_any (λ d. needs_through c (all_decisions c) (length (all_decisions c)) d d) (all_decisions c)
 
@@ -57,6 +55,7 @@ abbrev pub reaches : Cluster → ℕ → StepOf → StepOf → Bool
 reaches c zero s t = false
 reaches c (suc most) s t = list_any (λ l. is_same_step l.before s && (is_same_step l.after t || reaches c most l.after t)) (links c)
 
+-- some step leads back to itself, computed: no chain has to have more links than there are steps, four a leaf (`loops_are_computed`)
 abbrev pub has_step_loop : Cluster → Bool
 has_step_loop c = list_any (λ l. reaches c (4 * length c.leaves) l.before l.before) (links c)
 
