@@ -114,8 +114,8 @@ module _ (c : Cluster) (es : List Event) (promotions : List Promotion) (table : 
       && is_placed_for table d n
 
   -- node n is better than node m: a greater total, then fewer leaves with a target there so far, then the earlier node
-  abbrev pub is_chosen_before : Decision → ℕ → ℕ → Bool
-  is_chosen_before d n m =
+  abbrev pub is_better : Decision → ℕ → ℕ → Bool
+  is_better d n m =
       int_lt (total_on d m) (total_on d n)
       || int_eq (total_on d n) (total_on d m)
       && (nat_lt (load_of c table n) (load_of c table m) || load_of c table n == load_of c table m && nat_lt n m)
@@ -124,7 +124,7 @@ module _ (c : Cluster) (es : List Event) (promotions : List Promotion) (table : 
   abbrev pub is_chosen : Decision → ℕ → Bool
   is_chosen d n =
       is_candidate d n
-      && nat_lt (count_by (λ m. is_candidate d m && is_chosen_before d m n) (range_with_len 0 (length c.nodes))) (cap_of c es d)
+      && nat_lt (count_by (λ m. is_candidate d m && is_better d m n) (range_with_len 0 (length c.nodes))) (cap_of c es d)
 
 -- what a decision makes of a chosen cell
 abbrev pub target_by : Decision → Target

@@ -58,9 +58,9 @@ abbrev pub closes : Cluster → ℕ → ℕ → Event → Bool
 closes c r n e = takes_out c.properties.fencing n e || closes_cell r n e && not (shows_nothing c e)
 
 -- the leaf may run on the node: some event opens the cell, and no later event closes it
-abbrev pub may : Cluster → ℕ → ℕ → List Event → Bool
-may c r n [] = false
-may c r n (e ∷ es) = opens c r n e && list_all (λ later. not (closes c r n later)) es || may c r n es
+abbrev pub may_be_running : Cluster → ℕ → ℕ → List Event → Bool
+may_be_running c r n [] = false
+may_be_running c r n (e ∷ es) = opens c r n e && list_all (λ later. not (closes c r n later)) es || may_be_running c r n es
 
 -- from this event on the leaf may be promoted on the node: the node joined; a promote began or ended, however it ended; or a probe or a
 -- monitor found it promoted
@@ -95,5 +95,5 @@ is_left_promoted c r n (e ∷ es) =
     opens_promoted c r n e && list_all (λ later. not (closes_promoted c r n later)) es || is_left_promoted c r n es
 
 -- the leaf may be promoted on the node; only a promotable leaf may
-abbrev pub may_promoted : Cluster → ℕ → ℕ → List Event → Bool
-may_promoted c r n es = is_promotable c r && is_left_promoted c r n es
+abbrev pub may_be_promoted : Cluster → ℕ → ℕ → List Event → Bool
+may_be_promoted c r n es = is_promotable c r && is_left_promoted c r n es

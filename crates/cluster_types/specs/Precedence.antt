@@ -33,15 +33,15 @@ is_same_op op.Monitor op.Monitor = true
 is_same_op _ _ = false
 
 -- a word of an order that gives a role
-abbrev pub is_up : Op → Bool
-is_up op.Start = true
-is_up op.Promote = true
-is_up _ = false
+abbrev pub is_giving : Op → Bool
+is_giving op.Start = true
+is_giving op.Promote = true
+is_giving _ = false
 
 -- the role that such a word gives. For any other word, of which nobody asks, it says Started
-abbrev pub role_by : Op → Role
-role_by op.Promote = role.Promoted
-role_by _ = role.Started
+abbrev pub role_given : Op → Role
+role_given op.Promote = role.Promoted
+role_given _ = role.Started
 
 -- the word of what undoes it
 abbrev pub inverse : Op → Op
@@ -180,7 +180,7 @@ is_taken_back actions o x y =
 
 abbrev pub is_inverse_pair : List Action → Order → Action → Action → Bool
 is_inverse_pair actions o x y =
-    if is_up o.first_op && is_up o.then_op then is_taken_back actions o x y
+    if is_giving o.first_op && is_giving o.then_op then is_taken_back actions o x y
     else is_ordered_pair actions o (inverse o.then_op) o.then_leaf (inverse o.first_op) o.first x y
 
 abbrev pub is_mandatory_order : OrderKind → Bool

@@ -110,12 +110,12 @@ module _ (c : Cluster) (es : List Event) where
   terms_of leaves n = flat_map (λ r. own_terms r n) leaves
 
   -- with the terms of these leaves some usable node is left
-  abbrev pub leaves_a_node : List ℕ → Bool
-  leaves_a_node leaves = list_any (λ n. is_usable c n es && int_le (pos 0) (total_of (terms_of leaves n))) (range_with_len 0 (length c.nodes))
+  abbrev pub has_node_left : List ℕ → Bool
+  has_node_left leaves = list_any (λ n. is_usable c n es && int_le (pos 0) (total_of (terms_of leaves n))) (range_with_len 0 (length c.nodes))
 
   -- one more lender joins, unless no usable node would be left
   abbrev pub with_lender : List ℕ → ℕ → List ℕ
-  with_lender joined s = if leaves_a_node (joined ++ s ∷ []) then joined ++ s ∷ [] else joined
+  with_lender joined s = if has_node_left (joined ++ s ∷ []) then joined ++ s ∷ [] else joined
 
   -- the leaf with the lenders that join it, tried in their order
   abbrev pub with_lenders : ℕ → List ℕ

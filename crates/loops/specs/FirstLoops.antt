@@ -29,8 +29,8 @@ abbrev pub AllOrder : Cluster → Type 0
 AllOrder c = (o : Order) → Contains c.orders o → OrdersSteps c o
 
 -- the cluster with so many of its colocations, the first ones
-abbrev pub with_colocations : Cluster → ℕ → Cluster
-with_colocations c count = record c { colocations = take count c.colocations }
+abbrev pub with_first_colocations : Cluster → ℕ → Cluster
+with_first_colocations c count = record c { colocations = take count c.colocations }
 
 -- the cluster with so many of its orders, the first ones
 abbrev pub with_first_orders : Cluster → ℕ → Cluster
@@ -39,12 +39,12 @@ with_first_orders c count = record c { orders = take count c.orders }
 -- a chain of needs leads from some decision back to it
 pub record NeedsHaveLoop (c : Cluster) : Type 0 where
   pub decision : Decision
-  pub ring : Chain (IsNeedLink c (all_decisions c)) decision decision
+  pub loop : Chain (IsNeedLink c (all_decisions c)) decision decision
 
 -- a chain of links leads from some step back to it
 pub record StepsHaveLoop (c : Cluster) : Type 0 where
   pub step : StepOf
-  pub ring : Chain (IsStepLink c) step step
+  pub loop : Chain (IsStepLink c) step step
 
 -- some decision needs itself, computed: no chain has to have more needs than there are decisions (`loops_are_computed`)
 abbrev pub has_need_loop : Cluster → Bool
@@ -62,8 +62,8 @@ has_step_loop c = list_any (λ l. reaches c (4 * length c.leaves) l.before l.bef
 -- the needs have no loop with the colocations before this place, and with the one at it they have one
 pub record ClosesNeeds (c : Cluster) (place : ℕ) : Type 0 where
   pub within : place < length c.colocations
-  pub before : NeedsHaveNoLoop (with_colocations c place)
-  pub closed : NeedsHaveLoop (with_colocations c (place + 1))
+  pub before : NeedsHaveNoLoop (with_first_colocations c place)
+  pub closed : NeedsHaveLoop (with_first_colocations c (place + 1))
 
 -- the links have no loop with the orders before this place, and with the one at it they have one
 pub record ClosesSteps (c : Cluster) (place : ℕ) : Type 0 where
