@@ -20,3 +20,8 @@ pub mod OperationRoom
 pub mod FewMonitors
 pub mod ReadForms
 pub mod SameForms
+pub mod Affixes
+pub mod PairsAgain
+pub mod LackedBytes
+pub mod SectionPairs
+pub mod Grammar

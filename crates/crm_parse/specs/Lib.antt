@@ -21,3 +21,5 @@ pub mod Statements
 pub mod Named
 pub mod Monitors
 pub mod ReadForms
+pub mod WordTexts
+pub mod Grammar
