@@ -28,4 +28,5 @@ pub mod LocationRelated
 pub mod LineRelated
 pub mod OrderIsSaid
 pub mod OrderIsRead
+pub mod ConfigurationRelated
 mod StatementExamples

@@ -25,3 +25,10 @@ pub mod PairsAgain
 pub mod LackedBytes
 pub mod SectionPairs
 pub mod Grammar
+pub mod FaultsStay
+pub mod LabelsStay
+pub mod TestsStay
+pub mod RulesStay
+pub mod SectionsStay
+pub mod LinesStay
+pub mod FirstFaultFound

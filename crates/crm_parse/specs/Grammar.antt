@@ -11,3 +11,4 @@ pub mod PrimitiveForm
 pub mod RuleTests
 pub mod LocationForms
 pub mod Lines
+pub mod Configurations

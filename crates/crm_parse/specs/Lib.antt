@@ -23,3 +23,4 @@ pub mod Monitors
 pub mod ReadForms
 pub mod WordTexts
 pub mod Grammar
+pub mod FirstFaults

@@ -1,13 +1,17 @@
 //! A line is read as a statement just when its words say that statement.
 
-ghost use Rattle.std.specs.Prelude.{◌≡◌, ◌↔◌, ℕ, Bool, List, Ok, Err};
+ghost use Rattle.std.specs.Prelude.{◌≡◌, ◌≢◌, ◌↔◌, ℕ, Bool, List, [], Ok, Err};
+ghost use Rattle.std.specs.List.{AllByRecursion};
 ghost use Rattle.crm_parse.specs.declared.draft.OrderDraft.{OrderDraft as OrderOf};
 ghost use Rattle.crm_parse.specs.declared.draft.Draft.{Draft as StatementOf};
 ghost use Rattle.crm_parse.specs.declared.draft.DraftStatement.{DraftStatement as DraftOf};
 ghost use Rattle.crm_parse.specs.declared.fault.ParseCause.{ParseCause as CauseOf};
+ghost use Rattle.crm_parse.specs.declared.fault.ParseCause.TheVariants.{MissingWord};
 ghost use Rattle.crm_parse.specs.declared.form.Form.{Form as FormOf};
 ghost use Rattle.crm_parse.specs.declared.words.SettingsWord.{SettingsWord as SettingsOf};
+ghost use Rattle.crm_lex.specs.declared.line.Line.{Line as LineOf};
 ghost use Rattle.crm_parse.specs.Colocation.{colocation_at};
+ghost use Rattle.crm_parse.specs.FirstFaults.{FirstFault, LacksEnabled, StaysRefused};
 ghost use Rattle.crm_parse.specs.Groups.{clone_at, group_at};
 ghost use Rattle.crm_parse.specs.Location.{location_at};
 ghost use Rattle.crm_parse.specs.Node.{node_statement_at};
@@ -16,6 +20,7 @@ ghost use Rattle.crm_parse.specs.Primitive.{primitive_at};
 ghost use Rattle.crm_parse.specs.Settings.{settings_at};
 ghost use Rattle.crm_parse.specs.Statements.{draft_of};
 ghost use Rattle.crm_parse.specs.Grammar.ColocationForm.{ColocationSays};
+ghost use Rattle.crm_parse.specs.Grammar.Configurations.{ConfigurationSays};
 ghost use Rattle.crm_parse.specs.Grammar.Lines.{LineSays};
 ghost use Rattle.crm_parse.specs.Grammar.LocationForms.{LocationSays};
 ghost use Rattle.crm_parse.specs.Grammar.NodeForm.{NodeSays};
@@ -83,4 +88,23 @@ pub fn locations_are_read_as_they_say()
 pub fn settings_are_read_as_they_say()
     ensures { (what : SettingsOf) (before : List DraftOf) (words : List (List ℕ)) (form : FormOf)
         → (settings_at what before words ≡ Ok form) ↔ SettingsSay what before words form }
+{}
+
+/// The lines of a text say the statements of one configuration and no other.
+pub fn a_text_says_one_configuration()
+    ensures { (lines : List LineOf) (one other : List DraftOf) → ConfigurationSays lines one → ConfigurationSays lines other → one ≡ other }
+{}
+
+/// A fault stays: words that are refused for another cause than a missing word are refused for it whatever words stand behind. Two are named
+/// apart: a line without words, and words behind that say whether an operation is enabled, since a monitor that is switched off needs no room.
+pub fn a_fault_stays_whatever_stands_behind()
+    ensures { (before : List DraftOf) (words : List (List ℕ)) (cause : CauseOf) → words ≢ [] → cause ≢ MissingWord
+        → draft_of before words ≡ Err cause → StaysRefused before words cause }
+{}
+
+/// A line that is refused for another cause than a missing word has a first faulty word: the words before it begin a line, and with it they
+/// are refused for this cause, whatever stands behind. Lines that say whether an operation is enabled are named apart.
+pub fn a_refused_line_has_a_first_faulty_word()
+    ensures { (before : List DraftOf) (words : List (List ℕ)) (cause : CauseOf) → words ≢ [] → cause ≢ MissingWord
+        → AllByRecursion LacksEnabled words → draft_of before words ≡ Err cause → FirstFault before words cause }
 {}

@@ -1,5 +1,5 @@
 -- The expression of a rule is read just when the words say it.
-use Rattle.std.proofs.Common.{arith, ◌≡◌, ◌≢◌, ◌≤◌, zero, suc, ℕ, Bool, true, false, cond, List, [], ◌∷◌, ◌++◌, length, map, Option, Some, None, Ok, refl, sym, ap, ◌∙◌, subst, append_assoc, append-nil}
+use Rattle.std.proofs.Common.{arith, ◌<◌, ◌≡◌, ◌≢◌, ◌≤◌, zero, suc, ℕ, Bool, true, false, cond, List, [], ◌∷◌, ◌++◌, length, map, Option, Some, None, Ok, refl, sym, ap, ◌∙◌, subst, append_assoc, append-nil}
 use Rattle.std.specs.Prelude.{codes}
 use Rattle.std.specs.List.{flat_map}
 use Rattle.std.proofs.lemmas.List.{length-append}
@@ -105,6 +105,18 @@ joined-said all before (word ∷ words) got j e =
     let (taken, alike, rest) = bind-ok (joined_alike before.joined all) _ got e in
     let start : Expression = record { joined = Some all; tests = before.tests; words = before.words ++ word ∷ [] } in
     joined-case all before word words got (joiner-is word all j) alike (one-said start words got rest)
+
+joined-long : (joiner : List ℕ) (part : Words) (one : KeptTest) → JoinedTestSays joiner part one → 1 ≤ length part
+joined-long joiner ws o (joined_test words kept test s) = omega arith
+
+-- it takes its words
+pub joined-shorter : (all : Bool) (before : Expression) (words : Words) (got : Expression × Words) → joiner_at words ≡ Some all → with_joined before all words ≡ Ok got
+    → length got.1 < length words
+joined-shorter all before words got j e =
+    let o = joined-said all before words got j e in
+    let long = joined-long (joiner_text all) o.part o.one o.said in
+    let same : length words ≡ length (o.part ++ got.1) = ap (λ (ws : Words). length ws) o.whole in
+    omega (arith, same, long, length-append o.part got.1)
 
 -- all that follow
 record MoreSaid (all : Bool) (before : Expression) (words : Words) (got : Expression × Words) : Type 0 where

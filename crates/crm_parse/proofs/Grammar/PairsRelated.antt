@@ -1,5 +1,5 @@
 -- Pairs that are read are those that the words say, and the other way round.
-use Rattle.std.proofs.Common.{◌≡◌, ◌≢◌, inl, inr, ℕ, Bool, true, false, not, cond, eqb, ◌==◌, ◌&&◌, List, [], ◌∷◌, ◌++◌, length, Option, Some, None, Ok, Err, refl, sym, ap, ◌∙◌, subst, append_assoc, append-nil, arith}
+use Rattle.std.proofs.Common.{◌≡◌, ◌≢◌, inl, inr, ℕ, Bool, true, false, not, ◌==◌, ◌&&◌, List, [], ◌∷◌, ◌++◌, length, Ok, refl, sym, ap, ◌∙◌, subst, append_assoc, append-nil, arith}
 use Rattle.std.specs.Prelude.{codes}
 use Rattle.std.specs.List.{AllByRecursion, list_any}
 use Rattle.std.proofs.lemmas.Bool.{ne_eqb, or_from, or_parts, false≢true}
@@ -7,14 +7,13 @@ use Rattle.crm_lex.specs.Names.{is}
 use Rattle.crm_parse.specs.declared.fault.ParseCause.TheVariants.{RepeatedKey, Unsupported}
 use Rattle.crm_parse.specs.declared.pair.Kv.{Kv}
 use Rattle.crm_parse.specs.declared.place.Place.{Place}
-use Rattle.crm_parse.specs.Keys.{accepts, stray}
+use Rattle.crm_parse.specs.Keys.{accepts}
 use Rattle.crm_parse.specs.Pairs.{is_same_key, kv_of, pair_of, repeats, with_pair, with_pairs, with_section}
 use Rattle.crm_parse.specs.Reading.{Words}
-use Rattle.crm_parse.specs.Texts.{cut_at}
 use Rattle.faults.proofs.Steps.{bind-ok}
 use Rattle.crm_parse.proofs.Binds.{is-same, is-true, unless-ok}
 use Rattle.crm_parse.proofs.PairLists.{pair_words}
-use Rattle.crm_parse.proofs.PairWords.{cut_at-some, pair_word, pair_of-parts}
+use Rattle.crm_parse.proofs.PairWords.{pair_word, pair_of-parts}
 use Rattle.crm_parse.proofs.PairsAgain.{cut_at-again, pair_word-differs}
 use Rattle.crm_parse.specs.Grammar.Phrases.{EachSays, no_word, one_word}
 use Rattle.crm_parse.specs.Grammar.Parts.{EachTwo, MayStandBoth, PairSays, a_pair}

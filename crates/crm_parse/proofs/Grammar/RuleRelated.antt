@@ -1,5 +1,5 @@
 -- The rules of a location are read just when the words say them.
-use Rattle.std.proofs.Common.{arith, ◌≡◌, ◌≤◌, zero, suc, ℕ, ℤ, true, List, [], ◌∷◌, ◌++◌, length, Option, Some, None, Ok, refl, sym, ap, ◌∙◌, subst, append_assoc, append-nil}
+use Rattle.std.proofs.Common.{arith, ◌<◌, ◌≡◌, ◌≤◌, zero, suc, ℕ, ℤ, true, List, [], ◌∷◌, ◌++◌, length, Option, Some, None, Ok, refl, sym, ap, ◌∙◌, subst, append_assoc, append-nil}
 use Rattle.std.specs.Prelude.{codes, is_some}
 use Rattle.std.proofs.lemmas.List.{length-append}
 use Rattle.crm_lex.specs.Names.{is, is_name}
@@ -140,6 +140,14 @@ with_rule-said before words got e =
       said = r.said;
       long = omega arith;
     })
+
+-- it takes its words
+pub rule-shorter : (before : List RuleForm) (words : Words) (got : List RuleForm × Words) → with_rule before words ≡ Ok got → length got.1 < length words
+rule-shorter before words got e =
+    let o = with_rule-said before words got e in
+    let same : length words ≡ length (o.part ++ got.1) = ap (λ (ws : Words). length ws) o.whole in
+    let long = o.long in
+    omega (arith, same, long, length-append o.part got.1)
 
 -- all of them
 pub record RulesAreSaid (before : List RuleForm) (words : Words) (all : List RuleForm) : Type 0 where
