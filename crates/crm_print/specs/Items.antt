@@ -11,7 +11,7 @@ use Rattle.crm_parse.specs.declared.pair.Operation.{Operation}
 use Rattle.crm_parse.specs.declared.rule_form.RuleForm.{RuleForm}
 use Rattle.crm_parse.specs.declared.words.RoleWord.{RoleWord}
 use Rattle.crm_parse.specs.declared.words.RoleWord.TheVariants as role
-use Rattle.crm_print.specs.WordTexts.{action_word_text, bool_text, clone_word, kind_text, role_text, settings_text}
+use Rattle.crm_parse.specs.WordTexts.{action_word_text, bool_text, clone_word, kind_text, role_text, settings_text}
 use Rattle.crm_print.specs.Quoting.{Item}
 
 -- a word alone
