@@ -26,7 +26,7 @@ module _ (owner : Owner) where
   pub cut-section : (word : List ℕ) (section : SectionWord) (kvs : List Kv) (tail : Words) (parts : List Part) → section_of owner word ≡ Some section
       → takes_name (Some section) ≡ false → cut_into_sections owner false tail ≡ ([], parts) → cut_into_sections owner false (section_words word kvs ++ tail) ≡ ([], section_parts section kvs ++ parts)
   cut-section word section [] tail parts s n e = e
-  cut-section word section (kv ∷ kvs) tail parts s n e = rw (s, n, cut-pairs (kv ∷ kvs) tail parts e) refl
+  cut-section word section (kv ∷ kvs) tail parts s n e = rw (s, n, cut-pairs owner (kv ∷ kvs) tail parts e) refl
 
   -- the last section
   pub cut-last : (word : List ℕ) (section : SectionWord) (kvs : List Kv) → section_of owner word ≡ Some section → takes_name (Some section) ≡ false
@@ -36,4 +36,4 @@ module _ (owner : Owner) where
   -- operations, whose names are words of their own
   pub cut-operations : (ops : List Operation) → section_of owner (codes "op") ≡ Some Op → cut_into_sections owner false (flat_map operation_words ops) ≡ ([], map op_part ops)
   cut-operations [] s = refl
-  cut-operations (op ∷ ops) s = rw (s, cut-pairs op.pairs (flat_map operation_words ops) (map op_part ops) (cut-operations ops s)) refl
+  cut-operations (op ∷ ops) s = rw (s, cut-pairs owner op.pairs (flat_map operation_words ops) (map op_part ops) (cut-operations ops s)) refl
