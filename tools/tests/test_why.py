@@ -40,7 +40,7 @@ b goes to n1.
   n1: chosen, with 0.
   n2: not chosen, with 0: group g, line 6: a isn't there.
 """
-PROMOTED = """k is a ms, line 8. In it: c.
+PROMOTED = """k is an ms, line 8. In it: c.
 
 c goes to n1 and n2, promoted on n1.
 Where it runs:

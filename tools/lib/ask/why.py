@@ -56,7 +56,7 @@ class Answer:
             yield from self.of_change()
             return
         if self.statement.kind != "primitive":
-            yield f"{self.words.resource} is a {self.statement.kind}, line {self.statement.first + 1}. In it: {', '.join(self.inside)}."
+            yield f"{self.words.resource} is {'an' if self.statement.kind == 'ms' else 'a'} {self.statement.kind}, line {self.statement.first + 1}. In it: {', '.join(self.inside)}."
             yield ""
         teller = Teller(self.configured, self.known, self.words.all)
         for at, account in enumerate(self.accounts.values()):
