@@ -1,11 +1,10 @@
-"""Tries `why`: the word of the program, and what the script tells of one resource by it, also where the program is
-older and doesn't have the word."""
+"""Tries `why`: the word of the program, and what the script tells of one resource by it."""
 import json
 import os
 import pty
 import subprocess
 
-from expecting import ENVIRONMENT, PROGRAM, WRAPPER, expect, own, tool
+from expecting import ENVIRONMENT, WRAPPER, expect, own, tool
 
 HEAD = """node n1
 node n2 attributes \\
@@ -95,9 +94,8 @@ FAILURES = [
 NO_FAILURES = [FAILED.format(90) + "cleanup n1 a\nop n1 a start 0 0 1772366395\n", "op n2 a monitor 0 7 1772366390\n", "op n1 a monitor 10000 190 1772366390\n"]
 
 
-def run(*words, data=INPUT, program=PROGRAM, folder=None):
-    done = subprocess.run([WRAPPER, *words], input=data.encode(), env=dict(ENVIRONMENT, CEKPAYO_PROGRAM=program), cwd=folder, stdout=subprocess.PIPE,
-                          stderr=subprocess.PIPE)
+def run(*words, data=INPUT, folder=None):
+    done = subprocess.run([WRAPPER, *words], input=data.encode(), env=ENVIRONMENT, cwd=folder, stdout=subprocess.PIPE, stderr=subprocess.PIPE)
     return done.returncode, done.stdout.decode(), done.stderr.decode()
 
 
@@ -138,23 +136,18 @@ LEFT_OUT = [
 ]
 
 
-def try_changes(older):
-    """What would change the place is told behind the account, and alone by a program that doesn't tell accounts."""
+def try_changes():
+    """What would change the place is told behind the account."""
     for old, new, line in LEFT_OUT:
         data = INPUT.replace(old, new, 1)
         status, output, _ = run("-q", "why", "a", "--change", data=data)
         told, _, change = output.partition("\nWhat would change that, each left out alone:\n")
         expect(f"why --change: {new}", status == 0 and told == run("-q", "why", "a", data=data)[1] and f"  {line}\n" in change, output)
-        status, output, said = run("-q", "why", "a", data=data, program=older)
-        expect(f"why by an older program: {new}", status == 0 and output.startswith("a: ") and output.partition("\n")[2] == change, output)
-        expect("why by an older program: what is said", said.count("\n") == 1 and "has no word `why`" in said, said)
     data = INPUT.replace("location l g 5: n1\n", "")
     expect("nothing would change it", "no rule, state or failure changes that" in run("why", "a", "--change", data=data)[1])
-    status, output, said = run("why", data=data, program=older)
-    expect("the word of an older program", (status, output) == (2, "") and "has no word `why`" in said, said)
 
 
-def try_json(older):
+def try_json():
     found = json.loads(run("-q", "--json", "why", "g", "--change")[1])
     a, b = found["primitives"]
     expect("why --json", [found["kind"], found["resource"], a["targets"], b["resource"]] == ["why", "g", [{"node": "n1", "role": "started"}], "b"], str(found))
@@ -165,8 +158,6 @@ def try_json(older):
     expect("why --json: what changes it", found["now"] == "a on n1; b on n1" and isinstance(found["changed"], list), str(found))
     failed = json.loads(run("-q", "why", "--json", "a", data=INPUT.replace("stickiness=3", "stickiness=3 failure-timeout=1min") + FAILED.format(90))[1])["failures"]
     expect("why --json: failures", [(one["count"], one["counts"], one["until"], one["last"]["line"]) for one in failed] == [(1, True, 1772366450, 19)], str(failed))
-    older = json.loads(run("-q", "--json", "why", "a", program=older)[1])
-    expect("why --json by an older program", older["now"] == "on n1" and "primitives" not in older, str(older))
 
 
 def try_words(folder):
@@ -223,21 +214,11 @@ def try_colours():
         expect(f"no colours with {environment}", b"\x1b" not in on_terminal(**environment))
 
 
-def older_program(folder):
-    """A stand-in for a program that doesn't have the word."""
-    path = os.path.join(folder, "older")
-    with open(path, "w", encoding="utf-8") as file:
-        file.write(f'#!/bin/sh\n[ "$1" != why ] || exit 2\nexec "{PROGRAM}" "$@"\n')
-    os.chmod(path, 0o755)
-    return path
-
-
 def try_all(folder):
-    older = older_program(folder)
     try_nodes()
     try_failures()
-    try_changes(older)
-    try_json(older)
+    try_changes()
+    try_json()
     try_words(folder)
     try_filters()
     try_colours()

@@ -1,12 +1,12 @@
 """`why NAME`: what decided where a resource goes, as the program's word `why` tells it; and with --change what would
-change that. Of a program without this word the latter is told alone."""
+change that."""
 import json
 
 from explain.faulty import RESOURCES
 from explain.report import tell
 from explain.texts import Text
 from show.colours import coloured
-from show.program import answer, has_word, prepare
+from show.program import answer, prepare
 from why.accounts import accounts
 from why.configured import Configured, Known
 from why.failures import failures
@@ -16,7 +16,6 @@ from why.sentences import Teller
 from .sources import Source
 
 REFUSED, WRONG = 5, 2
-OLDER = "why: this program is older and has no word `why`: not told is what decided, but what changes the place"
 NOTHING = "  no rule, state or failure changes that when it alone is left out"
 
 
@@ -32,29 +31,22 @@ class Answer:
     def __init__(self, words, source):
         self.words, self.data, self.text = words, source.data, Text(source.data)
         self.statement = self.text.defined(RESOURCES).get(words.resource)
-        self.is_told = has_word("why")
-        self.found = list(tries(self.text)) if self.statement and (words.change or not self.is_told) else []
+        self.found = list(tries(self.text)) if self.statement and words.change else []
 
     def questions(self):
-        asked = ["check"] + ["why"] * self.is_told + ["scores"] * bool(self.found)
+        asked = ["check", "why"] + ["scores"] * bool(self.found)
         return [(word, self.data) for word in asked] + [("scores", without) for _, without in self.found]
 
     def work_out(self):
         self.configured = Configured(self.text)
         self.inside = self.configured.inside(self.words.resource)
-        self.accounts, names = {}, self.inside
-        if self.is_told:
-            self.accounts = accounts(answer("why", self.data), self.inside)
-            names = list(dict.fromkeys(self.inside + [lender for one in self.accounts.values() for lender in one.lenders]))
+        self.accounts = accounts(answer("why", self.data), self.inside)
+        names = list(dict.fromkeys(self.inside + [lender for one in self.accounts.values() for lender in one.lenders]))
         self.known = Known(self.text, names)
         self.failures = failures(self.configured, self.known, names)
-        self.changed = changes(self.data, self.found, self.inside) if self.words.change or not self.is_told else None
+        self.changed = changes(self.data, self.found, self.inside) if self.words.change else None
 
     def lines(self):
-        if not self.is_told:
-            yield f"{self.words.resource}: {self.changed[0]}"
-            yield from self.of_change()
-            return
         if self.statement.kind != "primitive":
             yield f"{self.words.resource} is {'an' if self.statement.kind == 'ms' else 'a'} {self.statement.kind}, line {self.statement.first + 1}. In it: {', '.join(self.inside)}."
             yield ""
@@ -68,18 +60,12 @@ class Answer:
             yield from (("    " if at else "  ") + said for at, said in enumerate(one.sentences()))
         if self.changed:
             yield from ["", "What would change that, each left out alone:"]
-            yield from self.of_change()
-
-    def of_change(self):
-        yield from (f"  {what}: {then}" for what, then in self.changed[1])
-        if not self.changed[1]:
-            yield NOTHING
+            yield from [f"  {what}: {then}" for what, then in self.changed[1]] or [NOTHING]
 
     def fields(self):
         found = {"kind": "why", "resource": self.words.resource}
-        if self.is_told:
-            found["primitives"] = [self.of_account(one) for one in self.accounts.values()]
-            found["failures"] = [one.fields() for one in self.failures]
+        found["primitives"] = [self.of_account(one) for one in self.accounts.values()]
+        found["failures"] = [one.fields() for one in self.failures]
         if self.changed:
             found.update(now=self.changed[0], changed=[{"with": what, "then": then} for what, then in self.changed[1]])
         return found
@@ -107,8 +93,6 @@ def ask(words):
     prepare(told.questions())
     if not source.is_accepted():
         return REFUSED
-    if not told.is_told:
-        tell(OLDER)
     told.work_out()
     if words.json:
         found = dict(told.fields(), file=words.file) if len(words.files) > 1 else told.fields()
