@@ -17,7 +17,7 @@ use Rattle.cluster_types.specs.Tables.{Targets}
 use Rattle.decision_account.specs.Verdicts.{Verdict, beside, below, capped, chosen, forbidden, fuller, later, less, unplaced, unusable, without}
 use Rattle.placement.specs.Reads.{is_kept_in}
 use Rattle.placement.specs.Usable.{is_usable_by}
-use Rattle.account_text.specs.Sides.{first_joined, first_missing}
+use Rattle.account_text.specs.Inner.Sides.{first_joined, first_missing}
 
 -- the total and the load of a node in their lists
 abbrev pub total_listed : List ℤ → ℕ → ℤ

@@ -3,7 +3,7 @@ use Rattle.std.specs.Prelude.{ℕ, Option}
 use Rattle.std.specs.Option.{option_map_or}
 use Rattle.cluster_types.specs.Tables.{targets_of}
 use Rattle.decision_account.specs.Verdicts.{Verdict, capped}
-use Rattle.account_text.specs.Judged.{passed_in, refusal_in, verdict_in}
+use Rattle.account_text.specs.Inner.Judged.{passed_in, refusal_in, verdict_in}
 use Rattle.account_text.specs.declared.asked.Asked.{Asked}
 
 abbrev pub refusal_asked : Asked → ℕ → Option Verdict
