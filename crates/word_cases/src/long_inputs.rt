@@ -1,6 +1,6 @@
 //! Long inputs, which repeat a text.
 
-use crate::table::assert_written;
+use crate::outcome::assert_written;
 use sim_core::Status;
 use std::alloc::Global;
 use std::process::Abort;

@@ -107,3 +107,15 @@ pub fn assert_outcome(rt: &impl Abort, alloc: Global, call: &Call<'_>, status: S
     let made = outcome_of(rt, alloc, call);
     assert!(rt; made.is(status, text.as_bytes()), "{text}");
 }
+
+/// The input gets this status and this text.
+pub fn assert_written(
+    rt: &impl Abort,
+    alloc: Global,
+    word: &str,
+    input: &[u8],
+    status: Status,
+    text: &str,
+) {
+    assert_outcome(rt, alloc, &easy(&[word], input), status, text);
+}

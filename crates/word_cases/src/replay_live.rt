@@ -1,14 +1,13 @@
 //! The word `replay` over sources and sinks that fail or don't, and over long inputs: what is written while the input is read.
 
 use crate::long_inputs::{LongRow, assert_each_long, repeated};
-use crate::outcome::{Call, EASY, Pace, SLOW, assert_outcome, outcome_of};
-use crate::table::{assert_whole_or_between, assert_written};
+use crate::outcome::{Call, EASY, Pace, SLOW, assert_outcome, assert_written, outcome_of};
 use sim_core::Status;
 use std::alloc::Global;
 use std::process::Abort;
 
 /// Two nodes that are online, and a resource of which nothing is known.
-const HEAD: &str = "\
+pub const HEAD: &str = "\
 node n1
 node n2
 primitive vip IPaddr2
@@ -40,7 +39,7 @@ begin 2 probe vip n2
 ";
 
 /// A node is lost while nothing is to be done.
-const LOSS: &str = "\
+pub const LOSS: &str = "\
 node n1
 node n2
 primitive vip IPaddr2
@@ -56,7 +55,7 @@ op n1 vip monitor 0 7 900
 lost n2
 ";
 
-const LOSS_RUN: &str = "\
+pub const LOSS_RUN: &str = "\
 transition 1
 target vip n2 started
 complete 1
@@ -249,10 +248,4 @@ const BYTES: &[LongRow] = &[
 #[test]
 fn the_most_bytes_and_one_more(rt: HostRuntime) {
     assert_each_long(&rt, rt.alloc(), "replay", BYTES);
-}
-
-// With each allocation refused in turn, by `rt try --test --fail-alloc N`, this passes too, but for those that the test itself makes.
-#[test]
-fn memory_suffices_or_is_refused_to_replay(rt: HostRuntime) {
-    assert_whole_or_between(&rt, rt.alloc(), (LOSS, LOSS_RUN), "lost n2");
 }

@@ -1,7 +1,6 @@
 //! The words of the command line.
 
-use crate::outcome::{Call, Pace, assert_outcome, easy, outcome_of};
-use crate::table::assert_written;
+use crate::outcome::{Call, Pace, assert_outcome, assert_written, easy, outcome_of};
 use sim_core::{HELP, Status, VERSION};
 use std::alloc::Global;
 use std::process::Abort;
@@ -9,7 +8,9 @@ use std::process::Abort;
 const INPUT: &[u8] = b"node n1\n";
 
 /// The words that read a whole input, or its head first.
-const READING: &[&str] = &["check", "scores", "graph", "survive", "audit", "replay"];
+const READING: &[&str] = &[
+    "check", "scores", "why", "graph", "survive", "audit", "replay",
+];
 
 /// The word writes this text, over a source whose first call fails.
 fn assert_reads_nothing(rt: &impl Abort, alloc: Global, word: &str, text: &str) {
