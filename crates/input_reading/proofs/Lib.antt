@@ -24,3 +24,15 @@ pub mod FirstWords
 pub mod Repeats
 pub mod StatusJournals
 pub mod AnswersFit
+pub mod NumbersSaid
+pub mod NamesSaid
+pub mod PlacesSaid
+pub mod ResultRelated
+pub mod TablesSaid
+pub mod RunWords
+pub mod ActionRelated
+pub mod RunRelated
+pub mod StatusWords
+pub mod StatusRelated
+pub mod StatusIsRead
+pub mod LineExamples

@@ -50,7 +50,7 @@ fn result_of<W: Words>(
         Ok(answer) => Ok(answer),
         Err(cause) => Err(ResultFault::At {
             line,
-            cause: cause.into(),
+            cause: ResultCause::Form(cause),
         }),
     }
 }

@@ -32,7 +32,7 @@ fn told_on(names: &Names<'_>, told: &ToldLines, line: &Line) -> Result<Told, Sta
         Ok(one) => Ok(one),
         Err(cause) => Err(StatusFault::At {
             line: line.line,
-            cause: cause.into(),
+            cause: StatusCause::Form(cause),
         }),
     }
 }
