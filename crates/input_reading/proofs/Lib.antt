@@ -3,7 +3,7 @@ pub mod Marks
 pub mod OneReading
 pub mod Faults
 pub mod FewResults
-pub mod Told
+pub mod ToldInput
 pub mod ValidInput
 pub mod ValidHead
 pub mod ValidTrace
@@ -36,3 +36,7 @@ pub mod StatusWords
 pub mod StatusRelated
 pub mod StatusIsRead
 pub mod LineExamples
+pub mod LinesInTurn
+pub mod StatusSaid
+pub mod ResultsSaid
+pub mod RunSaid

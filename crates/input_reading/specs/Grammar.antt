@@ -3,3 +3,4 @@ pub mod WordValues
 pub mod ResultForms
 pub mod RunForms
 pub mod StatusForms
+pub mod LinesSaid

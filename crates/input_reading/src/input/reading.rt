@@ -178,7 +178,7 @@ pub(crate) fn head_of(
 }
 
 /// An input whose configuration says this cluster, with these lines of the status and these result lines.
-#[tactic(auto, using(crate::proofs::Told::input_told))]
+#[tactic(auto, using(crate::proofs::ToldInput::input_told))]
 fn input_with(
     alloc: Global,
     crm: Crm,
