@@ -40,3 +40,4 @@ pub mod LinesInTurn
 pub mod StatusSaid
 pub mod ResultsSaid
 pub mod RunSaid
+pub mod TextsSaid

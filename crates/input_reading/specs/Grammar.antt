@@ -4,3 +4,4 @@ pub mod ResultForms
 pub mod RunForms
 pub mod StatusForms
 pub mod LinesSaid
+pub mod TextsSaid

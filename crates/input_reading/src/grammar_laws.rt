@@ -1,12 +1,21 @@
-//! A line is read just when its words say what is read, by a form of its kind.
+//! A line is read just when its words say what is read, by a form of its kind; and so are all lines of a section.
 
 ghost use Rattle.std.specs.Prelude.{◌≡◌, ◌↔◌, ℕ, List, Ok, Err};
 ghost use Rattle.cluster_types.specs.declared.cluster.Cluster.{Cluster as ClusterOf};
 ghost use Rattle.cluster_types.specs.declared.journal.Answer.{Answer as AnswerOf};
-ghost use Rattle.input_reading.specs.Results.{answer_of};
+ghost use Rattle.cluster_types.specs.declared.journal.Journal.{Journal as JournalOf};
+ghost use Rattle.crm_lex.specs.declared.line.Line.{Line as LineOf};
+ghost use Rattle.faults.specs.declared.fault.Fault.TheVariants.{At};
+ghost use Rattle.input_reading.specs.declared.history_fault.ResultCause.{ResultCause as ResultCauseOf};
+ghost use Rattle.input_reading.specs.declared.history_fault.StatusCause.{StatusCause as StatusCauseOf};
+ghost use Rattle.input_reading.specs.declared.results.result_lines.ResultLine.{ResultLine as ResultLineOf};
+ghost use Rattle.input_reading.specs.declared.run.text.RunTextLine.{RunTextLine as RunTextLineOf};
+ghost use Rattle.input_reading.specs.FirstJournal.{status_journal};
+ghost use Rattle.input_reading.specs.Grammar.LinesSaid.{AreResultsRefused, IsRunRefused, IsStatusRefused, ResultsAreSaid, RunIsSaid, StatusIsSaid};
+ghost use Rattle.input_reading.specs.Results.{answer_of, results_of};
 ghost use Rattle.input_reading.specs.declared.words.word_cause.WordCause.{WordCause as CauseOf};
 ghost use Rattle.cluster_types.specs.declared.run.RunLine.{RunLine as RunLineOf};
-ghost use Rattle.input_reading.specs.RunReading.{line_of_words};
+ghost use Rattle.input_reading.specs.RunReading.{line_of_words, read_run_lines};
 ghost use Rattle.input_reading.specs.Status.{told_of};
 ghost use Rattle.input_reading.specs.Grammar.ResultForms.{ResultSays};
 ghost use Rattle.input_reading.specs.Grammar.RunForms.{RunSays};
@@ -67,4 +76,32 @@ pub fn status_lines_that_say_nothing_are_refused()
         → (cause : CauseOf) × (told_of c words ≡ Err cause) }
     ensures nothing { (c : ClusterOf) (words : List (List ℕ)) (cause : CauseOf) (told : ToldOf)
         → told_of c words ≡ Err cause → StatusSays c words told → ⊥ }
+{}
+
+/// The lines of a status are read as a journal just when they say it, and else one of them is refused. They are never both.
+pub fn a_status_is_read_as_its_lines_say()
+    ensures read { (c : ClusterOf) (lines : List LineOf) (journal : JournalOf) → (status_journal c lines ≡ Ok journal) ↔ StatusIsSaid c lines journal }
+    ensures refused { (c : ClusterOf) (lines : List LineOf) (number : ℕ) (cause : StatusCauseOf)
+        → status_journal c lines ≡ Err (At number cause) → IsStatusRefused c lines number cause }
+    ensures not_both { (c : ClusterOf) (lines : List LineOf) (journal : JournalOf) (number : ℕ) (cause : StatusCauseOf)
+        → StatusIsSaid c lines journal → IsStatusRefused c lines number cause → ⊥ }
+{}
+
+/// Result lines are read as answers just when they say them, and else one of them is refused. They are never both.
+pub fn results_are_read_as_their_lines_say()
+    ensures read { (c : ClusterOf) (start : ℕ) (lines : List LineOf) (results : List ResultLineOf)
+        → (results_of c start lines ≡ Ok results) ↔ ResultsAreSaid c start lines results }
+    ensures refused { (c : ClusterOf) (start : ℕ) (lines : List LineOf) (number : ℕ) (cause : ResultCauseOf)
+        → results_of c start lines ≡ Err (At number cause) → AreResultsRefused c start lines number cause }
+    ensures not_both { (c : ClusterOf) (start : ℕ) (lines : List LineOf) (results : List ResultLineOf) (number : ℕ) (cause : ResultCauseOf)
+        → ResultsAreSaid c start lines results → AreResultsRefused c start lines number cause → ⊥ }
+{}
+
+/// The lines of a run are read as what they say just when they say it, and else one of them is refused. They are never both.
+pub fn a_run_is_read_as_its_lines_say()
+    ensures read { (c : ClusterOf) (lines : List LineOf) (run : List RunTextLineOf) → (read_run_lines c lines ≡ Ok run) ↔ RunIsSaid c lines run }
+    ensures refused { (c : ClusterOf) (lines : List LineOf) (number : ℕ) (cause : CauseOf)
+        → read_run_lines c lines ≡ Err (At number cause) → IsRunRefused c lines number cause }
+    ensures not_both { (c : ClusterOf) (lines : List LineOf) (run : List RunTextLineOf) (number : ℕ) (cause : CauseOf)
+        → RunIsSaid c lines run → IsRunRefused c lines number cause → ⊥ }
 {}

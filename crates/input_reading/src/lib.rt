@@ -30,10 +30,12 @@ mod laws;
 mod line_laws;
 
 pub use grammar_laws::{
-    a_result_line_says_one_answer, a_run_line_says_one_thing, a_status_line_says_one_fact,
+    a_result_line_says_one_answer, a_run_is_read_as_its_lines_say, a_run_line_says_one_thing,
+    a_status_is_read_as_its_lines_say, a_status_line_says_one_fact,
     result_lines_are_read_as_they_say, result_lines_that_say_nothing_are_refused,
-    run_lines_are_read_as_they_say, run_lines_that_say_nothing_are_refused,
-    status_lines_are_read_as_they_say, status_lines_that_say_nothing_are_refused,
+    results_are_read_as_their_lines_say, run_lines_are_read_as_they_say,
+    run_lines_that_say_nothing_are_refused, status_lines_are_read_as_they_say,
+    status_lines_that_say_nothing_are_refused,
 };
 pub use history_fault::{ResultCause, ResultFault, StatusCause, StatusFault};
 pub use history_laws::first_journals_are_at_rest;
