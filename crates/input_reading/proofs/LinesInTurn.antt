@@ -7,7 +7,7 @@ use Rattle.faults.specs.declared.fault.Fault.{Fault}
 use Rattle.faults.specs.declared.fault.Fault.TheVariants.{At, NoMemory}
 use Rattle.faults.specs.Reading.{◌>>=◌, Gives}
 use Rattle.faults.proofs.Steps.{bind-ok}
-use Rattle.input_reading.specs.Grammar.LinesSaid.{AsLinesSay, EachSays, IsFirstRefused}
+use Rattle.input_reading.specs.Grammar.LinesSaid.{AsLinesSay, EachLineSays, IsFirstRefused}
 
 module _ {A C : Type 0} (Says : List A → Line → A → Type 0) (Refused : List A → Line → C → Type 0) where
   -- each line says its value, from the first on and behind some values
@@ -45,10 +45,10 @@ module _ {A C : Type 0} (Says : List A → Line → A → Type 0) (Refused : Lis
         (λ k m w e f. subst (λ b. Says b m w) (sym (append_assoc before (v ∷ []) (take k vs))) (each (suc k) m w e f)),
   )
 
-  pub each-said : (ls : List Line) (vs : List A) → SaidFrom [] ls vs → EachSays Says ls vs
+  pub each-said : (ls : List Line) (vs : List A) → SaidFrom [] ls vs → EachLineSays Says ls vs
   each-said ls vs s = record { many = many-from [] ls vs s; each = each-from [] ls vs s }
 
-  pub said-each : (ls : List Line) (vs : List A) → EachSays Says ls vs → SaidFrom [] ls vs
+  pub said-each : (ls : List Line) (vs : List A) → EachLineSays Says ls vs → SaidFrom [] ls vs
   said-each ls vs s = from-each [] ls vs s.many s.each
 
   -- a line is at fault for this
@@ -145,12 +145,12 @@ module _ {A C : Type 0} (Says : List A → Line → A → Type 0) (Refused : Lis
         (fault, some s x (front ++ l ∷ behind) ∙ rw (step-read s x v said.0) e)
 
     -- all lines are read as what they say
-    pub lines-said : (ls : List Line) (all : List A) → run [] ls ≡ Ok all → EachSays Says ls all
+    pub lines-said : (ls : List Line) (all : List A) → run [] ls ≡ Ok all → EachLineSays Says ls all
     lines-said ls all e =
         let (vs, whole, said) = run-said [] ls all e in
-        subst (EachSays Says ls) (sym whole) (each-said ls vs said)
+        subst (EachLineSays Says ls) (sym whole) (each-said ls vs said)
 
-    pub lines-read : (ls : List Line) (all : List A) → EachSays Says ls all → run [] ls ≡ Ok all
+    pub lines-read : (ls : List Line) (all : List A) → EachLineSays Says ls all → run [] ls ≡ Ok all
     lines-read ls all s = run-read [] ls all (said-each ls all s)
 
     -- or the first that says nothing is at fault

@@ -13,7 +13,7 @@ use Rattle.input_reading.specs.declared.history_fault.ResultCause.{ResultCause}
 use Rattle.input_reading.specs.declared.history_fault.ResultCause.TheVariants.{Form, TooManyResults}
 use Rattle.input_reading.specs.declared.results.result_lines.ResultLine.{ResultLine}
 use Rattle.input_reading.specs.declared.words.word_cause.WordCause.{WordCause}
-use Rattle.input_reading.specs.Grammar.LinesSaid.{AreResultsRefused, AsLinesSay, IsAnswered, IsNoAnswer, IsNoAnswerOn, ResultLineRefused, ResultLineSays, ResultsAreSaid, no_result_form, too_many_before}
+use Rattle.input_reading.specs.Grammar.LinesSaid.{AreResultsRefused, AsLinesSay, IsResultAnswer, IsNoAnswer, IsNoAnswerOn, ResultLineRefused, ResultLineSays, ResultsAreSaid, no_result_form, too_many_before}
 use Rattle.input_reading.specs.Results.{answer_of, moment_after, most_results, result_of, results_of, with_result, with_result_lines}
 use Rattle.input_reading.proofs.FirstWords.{kept_suffice}
 use Rattle.input_reading.proofs.LinesInTurn.{IsLineFault, as-said, lines-read, lines-refuse, lines-refused, lines-said}
@@ -25,17 +25,17 @@ module _ (c : Cluster) (moment before line : ℕ) (words : List (List ℕ)) wher
   answered = faulting Form (on_line line (answer_of c moment words))
 
   said-case : (given : Answer) (test : Bool) → nat_lt before most_results ≡ test → cond test answered (Err (At line TooManyResults)) ≡ Ok given
-      → IsAnswered c moment before words given
+      → IsResultAnswer c moment before words given
   said-case given true t e = record {
     few = grind (arith, nat_tests);
     says = result-said c moment words given (on_line-ok line (answer_of c moment words) given (faulting-ok Form (on_line line (answer_of c moment words)) given e));
   }
   said-case given false t e = cc
 
-  pub answer-said : (given : Answer) → result_of c moment before line words ≡ Ok given → IsAnswered c moment before words given
+  pub answer-said : (given : Answer) → result_of c moment before line words ≡ Ok given → IsResultAnswer c moment before words given
   answer-said given e = said-case given (nat_lt before most_results) refl e
 
-  pub answer-read : (given : Answer) → IsAnswered c moment before words given → result_of c moment before line words ≡ Ok given
+  pub answer-read : (given : Answer) → IsResultAnswer c moment before words given → result_of c moment before line words ≡ Ok given
   answer-read given s =
       let few = s.few in
       let test : nat_lt before most_results ≡ true = grind (arith, nat_tests) in
@@ -72,7 +72,7 @@ module _ (c : Cluster) (moment before line : ℕ) (words : List (List ℕ)) wher
       (At line TooManyResults, rw test refl)
 
   answer-case : (given : Result Answer (Fault ResultCause)) → given ≡ result_of c moment before line words
-      → AsLinesSay (IsAnswered c moment before words) (IsNoAnswerOn c moment before line words) given
+      → AsLinesSay (IsResultAnswer c moment before words) (IsNoAnswerOn c moment before line words) given
   answer-case (Ok given) e = answer-said given (sym e)
   answer-case (Err (At number cause)) e = answer-refused (At number cause) (sym e)
   answer-case (Err NoMemory) e = tt
@@ -80,7 +80,7 @@ module _ (c : Cluster) (moment before line : ℕ) (words : List (List ℕ)) wher
 -- what a call returned of one line whose words are kept
 pub answer-given : (c : Cluster) (moment before line : ℕ) (words : Kept) (all : List (List ℕ)) (given : Result Answer (Fault ResultCause))
     → given ≡ result_of c moment before line words.first → words ≡ kept all
-    → AsLinesSay (IsAnswered c moment before all) (IsNoAnswerOn c moment before line all) given
+    → AsLinesSay (IsResultAnswer c moment before all) (IsNoAnswerOn c moment before line all) given
 answer-given c moment before line words all given e same =
     answer-case c moment before line all given (e ∙ kept_suffice c moment before line words all same)
 

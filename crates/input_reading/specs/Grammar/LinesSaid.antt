@@ -22,7 +22,7 @@ use Rattle.input_reading.specs.Grammar.StatusForms.{StatusSays}
 use Rattle.input_reading.specs.Results.{moment_after, most_results}
 
 -- each line says the value at its place, where the values before that one are said before it
-pub record EachSays {A : Type 0} (Says : List A → Line → A → Type 0) (lines : List Line) (values : List A) : Type 0 where
+pub record EachLineSays {A : Type 0} (Says : List A → Line → A → Type 0) (lines : List Line) (values : List A) : Type 0 where
   pub many : length values ≡ length lines
   pub each : (k : ℕ) (line : Line) (value : A) → slice_get lines k ≡ Some line → slice_get values k ≡ Some value → Says (take k values) line value
 
@@ -34,7 +34,7 @@ pub record IsFirstRefused {A C : Type 0} (Says : List A → Line → A → Type 
   pub behind : List Line
   pub values : List A
   pub whole : lines ≡ front ++ line ∷ behind
-  pub said : EachSays Says front values
+  pub said : EachLineSays Says front values
   pub place : line.line ≡ number
   pub refused : Refused values line cause
 
@@ -57,14 +57,14 @@ pub data StatusLineRefused (c : Cluster) (before : List Told) (line : Line) : St
 -- the journal is that of the facts which the lines of a status say
 pub record StatusIsSaid (c : Cluster) (lines : List Line) (journal : Journal) : Type 0 where
   pub facts : List Told
-  pub said : EachSays (StatusLineSays c) lines facts
+  pub said : EachLineSays (StatusLineSays c) lines facts
   pub is : journal ≡ journal_of c facts
 
 abbrev pub IsStatusRefused : Cluster → List Line → ℕ → StatusCause → Type 0
 IsStatusRefused c = IsFirstRefused (StatusLineSays c) (StatusLineRefused c)
 
 -- the words of a result line say an answer, at a moment, and the line is not behind too many others
-pub record IsAnswered (c : Cluster) (moment before : ℕ) (words : List (List ℕ)) (given : Answer) : Type 0 where
+pub record IsResultAnswer (c : Cluster) (moment before : ℕ) (words : List (List ℕ)) (given : Answer) : Type 0 where
   pub few : before < most_results
   pub says : ResultSays c moment words given
 
@@ -81,13 +81,13 @@ IsNoAnswerOn c moment before line words number cause = (line ≡ number) × IsNo
 -- each result line says its answer at the moment after the waits before it, of which the first begins at a moment
 pub record ResultLineSays (c : Cluster) (start : ℕ) (before : List ResultLine) (line : Line) (result : ResultLine) : Type 0 where
   pub place : result.line ≡ line.line
-  pub says : IsAnswered c (moment_after start before) (length before) line.words result.answer
+  pub says : IsResultAnswer c (moment_after start before) (length before) line.words result.answer
 
 abbrev pub ResultLineRefused : Cluster → ℕ → List ResultLine → Line → ResultCause → Type 0
 ResultLineRefused c start before line = IsNoAnswer c (moment_after start before) (length before) line.words
 
 abbrev pub ResultsAreSaid : Cluster → ℕ → List Line → List ResultLine → Type 0
-ResultsAreSaid c start = EachSays (ResultLineSays c start)
+ResultsAreSaid c start = EachLineSays (ResultLineSays c start)
 
 abbrev pub AreResultsRefused : Cluster → ℕ → List Line → ℕ → ResultCause → Type 0
 AreResultsRefused c start = IsFirstRefused (ResultLineSays c start) (ResultLineRefused c start)
@@ -102,7 +102,7 @@ abbrev pub RunLineRefused : Cluster → List RunTextLine → Line → WordCause 
 RunLineRefused c before line cause = (what : RunLine) → RunSays c line.words what → ⊥
 
 abbrev pub RunIsSaid : Cluster → List Line → List RunTextLine → Type 0
-RunIsSaid c = EachSays (RunLineSays c)
+RunIsSaid c = EachLineSays (RunLineSays c)
 
 abbrev pub IsRunRefused : Cluster → List Line → ℕ → WordCause → Type 0
 IsRunRefused c = IsFirstRefused (RunLineSays c) (RunLineRefused c)

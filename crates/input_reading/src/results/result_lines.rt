@@ -7,7 +7,7 @@ ghost use Rattle.cluster_types.specs.Journals as journals;
 ghost use Rattle.faults.specs.declared.fault.Fault.TheVariants as found;
 ghost use Rattle.faults.specs.Reading.{Gives};
 ghost use Rattle.input_reading.specs.Results.{most_results, result_of, results_of};
-ghost use Rattle.input_reading.specs.Grammar.LinesSaid.{AreResultsRefused, AsLinesSay, IsAnswered, IsNoAnswerOn, ResultsAreSaid};
+ghost use Rattle.input_reading.specs.Grammar.LinesSaid.{AreResultsRefused, AsLinesSay, IsResultAnswer, IsNoAnswerOn, ResultsAreSaid};
 
 use crate::results::answers::answer_of;
 use crate::{ResultCause, ResultFault, Words};
@@ -76,7 +76,7 @@ pub fn read_result(
     ensures answer { result ≡ result_of names.now moment before line words.now.first }
     ensures whole { (all : List (List ℕ)) → words.now ≡ kept all → result ≡ result_of names.now moment before line all }
     ensures said { (all : List (List ℕ)) → words.now ≡ kept all
-        → AsLinesSay (IsAnswered names.now moment before all) (IsNoAnswerOn names.now moment before line all) result }
+        → AsLinesSay (IsResultAnswer names.now moment before all) (IsNoAnswerOn names.now moment before line all) result }
     ensures few { IfOk result (λ _. before < most_results) }
     ensures within { IfOk result (λ answer. moment + seconds_in answer < 2 ^ 40) }
     ensures no_memory { IfErr result (λ fault. fault ≢ found.NoMemory) }
