@@ -38,9 +38,8 @@ use Rattle.input_reading.specs.declared.words.word_cause.WordCause.{WordCause}
 use Rattle.input_reading.specs.declared.run.text.RunTextLine.{RunTextLine}
 use Rattle.input_reading.specs.RunReading as runs
 use Rattle.input_reading.specs.RunReading.{line_of_words, read_run_lines, text_line}
-use Rattle.input_reading.specs.declared.history_fault.ResultCause.TheVariants.{TooManyResults}
-use Rattle.input_reading.specs.declared.history_fault.StatusCause.TheVariants.{Repeated}
-use Rattle.input_reading.specs.HistoryCauses.{result_cause, status_cause}
+use Rattle.input_reading.specs.declared.history_fault.ResultCause.TheVariants as of_result
+use Rattle.input_reading.specs.declared.history_fault.StatusCause.TheVariants as of_status
 use Rattle.input_reading.specs.FirstJournal as journals
 use Rattle.input_reading.specs.FirstJournal.{is_repeated, status_journal}
 use Rattle.input_reading.specs.Results as answers
@@ -209,8 +208,8 @@ by_test P false one other = other
 status_stands : (c : Cluster) (found : List Line) → Stands (faulting cause.Status (status_journal c found))
 status_stands c found =
     let told = all_hold (λ r. Stands (faulting cause.Status r)) (journals.with_status_line c) (journals.with_status_lines c) (λ s. tt) (λ s. refl) (λ s l ls. by_cases (journals.with_status_line c s l) _)
-    (λ s l. by_result (λ r. Stands (faulting cause.Status (faulting status_cause (on_line l.line r) >>= journals.with_told s l.line)))
-    (λ x. by_test (λ test. Stands (faulting cause.Status (if test then Err (At l.line Repeated) else Ok (s ++ x ∷ [])))) (is_repeated s x) tt tt) (λ why. tt) (told_of c l.words)) [] found in
+    (λ s l. by_result (λ r. Stands (faulting cause.Status (faulting of_status.Form (on_line l.line r) >>= journals.with_told s l.line)))
+    (λ x. by_test (λ test. Stands (faulting cause.Status (if test then Err (At l.line of_status.Repeated) else Ok (s ++ x ∷ [])))) (is_repeated s x) tt tt) (λ why. tt) (told_of c l.words)) [] found in
     by_result (λ r. Stands (faulting cause.Status r) → Stands (faulting cause.Status (r >>= (λ told. Ok (journals.journal_of c told))))) (λ x h. tt) (λ fault h. h)
     (journals.with_status_lines c [] found) told
 
@@ -220,10 +219,10 @@ results_stand c start found =
     all_hold (λ r. Stands (faulting cause.Results r)) (answers.with_result c start) (answers.with_result_lines c start) (λ s. tt) (λ s. refl) (λ s l ls. by_cases (answers.with_result c start s l) _)
     (λ s l. by_test
     (λ test. Stands (faulting cause.Results (
-    (if test then faulting result_cause (on_line l.line (answer_of c (moment_after start s) l.words)) else Err (At l.line TooManyResults))
+    (if test then faulting of_result.Form (on_line l.line (answer_of c (moment_after start s) l.words)) else Err (At l.line of_result.TooManyResults))
     >>= (λ given. Ok (s ++ record { line = l.line; answer = given } ∷ [])))))
     (nat_lt (length s) most_results)
-    (by_result (λ r. Stands (faulting cause.Results (faulting result_cause (on_line l.line r) >>= (λ given. Ok (s ++ record { line = l.line; answer = given } ∷ [])))))
+    (by_result (λ r. Stands (faulting cause.Results (faulting of_result.Form (on_line l.line r) >>= (λ given. Ok (s ++ record { line = l.line; answer = given } ∷ [])))))
     (λ x. tt) (λ why. tt) (answer_of c (moment_after start s) l.words))
     tt) [] found
 
