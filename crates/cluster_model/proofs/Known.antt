@@ -8,8 +8,8 @@ use Rattle.lemmas.proofs.Members.{head_or_rest, in_none}
 use Rattle.cluster_model.specs.declared.resolution.directory.Directory.{Directory}
 use Rattle.cluster_model.specs.declared.resolution.directory.Ends.{Ends}
 use Rattle.cluster_model.specs.Chains.{pairs_after, successive}
-use Rattle.cluster_model.specs.Directories.{first_named, if_there, is_unknown, last_named}
-use Rattle.cluster_model.specs.Tables.{lookup}
+use Rattle.cluster_model.specs.Inner.Directories.{first_named, if_there, is_unknown, last_named}
+use Rattle.cluster_model.specs.Inner.Tables.{lookup}
 
 -- both ends of what is there are leaves
 record AreLeaves (d : Directory) (found : Option Ends) : Type 0 where

@@ -1,7 +1,7 @@
 //! What the names in rules stand for.
 
 ghost use Rattle.std.specs.Prelude.{◌≡◌, ◌++◌, map, slice_get, IfOk, OnOk};
-ghost use Rattle.cluster_model.specs.Directories.{are_there, directory_of, ends_in_directory, span_ends, first_named, groups_of, is_local, is_one_group, is_unknown, is_unknown_node, joins_copies, last_named, may_promote, members_in, node_named, nodes_of, resources_of, traits_of};
+ghost use Rattle.cluster_model.specs.Inner.Directories.{are_there, directory_of, ends_in_directory, span_ends, first_named, groups_of, is_local, is_one_group, is_unknown, is_unknown_node, joins_copies, last_named, may_promote, members_in, node_named, nodes_of, resources_of, traits_of};
 
 use crate::{Leaves, NameTable, Span};
 use cluster_types::{Leaf, LeafId, NoMemory, NodeId};
@@ -133,7 +133,7 @@ fn all_traits(
     Ok(all)
 }
 
-#[tactic(auto, unfolding(crate::specs::Directories::directory_of))]
+#[tactic(auto, unfolding(crate::specs::Inner::Directories::directory_of))]
 pub fn directory_of<'n>(
     alloc: Global,
     leaves: &'n Leaves,

@@ -1,6 +1,6 @@
 use Rattle.std.proofs.Common.{rules, ◌≡◌, ◌+◌, ◌++◌, ◌∷◌, ℕ, List, drop, map, refl, sym, ap, ◌∙◌}
 use Rattle.std.proofs.lemmas.List.{append_assoc, drop_more}
-use Rattle.cluster_model.specs.Directories.{grouped_from, members_in}
+use Rattle.cluster_model.specs.Inner.Directories.{grouped_from, members_in}
 use Rattle.cluster_model.proofs.resolution.directory.groups_of.Goals as goal
 
 pub loop-statement-preserved : goal.loop-statement-preserved

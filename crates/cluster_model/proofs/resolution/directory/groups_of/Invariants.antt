@@ -1,5 +1,5 @@
 use Rattle.std.proofs.Common.{◌≡◌, ◌++◌, drop}
-use Rattle.cluster_model.specs.Directories.{groups_of, grouped_from}
+use Rattle.cluster_model.specs.Inner.Directories.{groups_of, grouped_from}
 use Rattle.cluster_model.proofs.resolution.directory.groups_of.Given as goal
 
 abbrev pub invariant-loop-statement : goal.invariant-loop-statement

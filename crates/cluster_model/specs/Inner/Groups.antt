@@ -7,8 +7,8 @@ use Rattle.crm_parse.specs.declared.statement.Statement.{Statement}
 use Rattle.cluster_model.specs.declared.expansion.clones.InClone.{InClone}
 use Rattle.cluster_model.specs.declared.expansion.groups.InGroup.{InGroup}
 use Rattle.cluster_model.specs.declared.expansion.meta.Meta.{Meta}
-use Rattle.cluster_model.specs.Metas.{meta_of}
-use Rattle.cluster_model.specs.Tables.{lookup}
+use Rattle.cluster_model.specs.Inner.Metas.{meta_of}
+use Rattle.cluster_model.specs.Inner.Tables.{lookup}
 
 -- what a group gives to a member; the members after the first are followers
 abbrev pub membership_of : Meta → Option InClone → Bool → InGroup

@@ -10,10 +10,11 @@ use Rattle.cluster_types.specs.declared.leaf.Leaf.{Leaf}
 use Rattle.cluster_model.specs.declared.expansion.leaves.Leaves.{Leaves}
 use Rattle.cluster_model.specs.declared.expansion.leaves.Span.{Span}
 use Rattle.cluster_model.specs.Settings.{nodes_in}
-use Rattle.cluster_model.specs.Tables.{lookup}
+use Rattle.cluster_model.specs.Inner.Tables.{lookup}
 use Rattle.cluster_model.specs.declared.resolution.directory.Directory.{Directory}
 use Rattle.cluster_model.specs.declared.resolution.directory.Ends.{Ends}
 use Rattle.cluster_model.specs.declared.resolution.directory.Traits.{Traits}
+use Rattle.cluster_model.specs.Inner.Spans.{span}
 
 -- names with their numbers, counted on from one
 abbrev pub numbered_from : ℕ → List (List ℕ) → List (List ℕ × ℕ)
