@@ -13,7 +13,7 @@ use Rattle.cluster_model.specs.declared.expansion.kinds.Kind.{Kind}
 use Rattle.cluster_model.specs.declared.expansion.kinds.Kind.TheVariants as kind
 use Rattle.cluster_model.specs.declared.expansion.seen.Seen.{Seen}
 use Rattle.cluster_model.specs.Inner.Faults.{expand_cause_of, fault_of, first_expand_fault, is_group, kinds_of, may_contain, nothing_seen, promotes_group, resource_kinds_in, seen_after}
-use Rattle.cluster_model.specs.Faults.{ids_in, parts_in, is_a_group, is_resource, leaf_cause, may_have, promotes_members, resource_named}
+use Rattle.cluster_model.specs.Faults.{ids_in, parts_in, is_a_group, is_resource, leaf_cause, may_have_part, promotes_members, resource_named}
 use Rattle.cluster_model.specs.FirstFaults.{first_fault}
 use Rattle.cluster_model.specs.Settings.{nodes_in}
 use Rattle.cluster_model.specs.Inner.Tables.{lookup}
@@ -49,7 +49,7 @@ module _ (name : List ℕ) where
   kinds_found (s ∷ statements) = kind_found s.form (kinds_of statements) (map (λ (s : Statement). s.form) statements) (kinds_found statements)
 
 -- a part of each kind
-may_is : (f part : Form) → may_contain f (kind_of part) ≡ may_have f part
+may_is : (f part : Form) → may_contain f (kind_of part) ≡ may_have_part f part
 may_is (form.Group i m d p n) (form.Primitive id agent description params meta utilization operations ops) = refl
 may_is (form.Group i m d p n) (form.Group id members description params meta) = refl
 may_is (form.Group i m d p n) _ = refl
@@ -73,9 +73,9 @@ module _ (statements : List Statement) where
     on (Some f) = refl
 
   may_be : (f : Form) (part : List ℕ)
-      → not (option_map_or (may_contain f) (lookup kinds part) true) ≡ not (option_map_or (may_have f) (resource_named statements part) true)
+      → not (option_map_or (may_contain f) (lookup kinds part) true) ≡ not (option_map_or (may_have_part f) (resource_named statements part) true)
   may_be f part = ap (λ (k : Option Kind). not (option_map_or (may_contain f) k true)) (kinds_found part statements) ∙ on (resource_named statements part) where
-    on : (found : Option Form) → not (option_map_or (may_contain f) (option_map kind_of found) true) ≡ not (option_map_or (may_have f) found true)
+    on : (found : Option Form) → not (option_map_or (may_contain f) (option_map kind_of found) true) ≡ not (option_map_or (may_have_part f) found true)
     on None = refl
     on (Some part) = ap not (may_is f part)
 

@@ -29,7 +29,7 @@ use Rattle.cluster_model.specs.Inner.Metas.{meta_of, no_meta, or_meta}
 use Rattle.cluster_model.specs.Metas.{read_as, first_given}
 use Rattle.cluster_model.specs.Operations.{after_a_stop, fail_of, monitors_of}
 use Rattle.cluster_model.specs.Settings.{option_given, count_nodes, defaults_in, properties_in}
-use Rattle.cluster_model.specs.Resources.{Clone, Group, Primitive, all_clones, all_groups, all_primitives, clone_around, clone_with, group_with, is_follower, its_clone, its_group, its_primitive}
+use Rattle.cluster_model.specs.Resources.{Clone, Group, Primitive, all_clones, all_groups, all_primitives, clone_around, clone_with, group_with, is_later_member, its_clone, its_group, its_primitive}
 use Rattle.cluster_model.specs.Inner.Settings.{defaults_from, defaults_of, option_from, option_of}
 use Rattle.cluster_model.specs.Inner.Tables.{lookup}
 
@@ -64,7 +64,7 @@ module _ {V : Type 0} where
 module _ (name : List ℕ) where
   -- the row of a member
   member_found : (meta : Meta) (clone : Option InClone) (members : List (List ℕ))
-      → lookup (members_of meta clone members) name ≡ cond (list_any (is name) members) (Some (membership_of meta clone (is_follower members name))) None
+      → lookup (members_of meta clone members) name ≡ cond (list_any (is name) members) (Some (membership_of meta clone (is_later_member members name))) None
   member_found meta clone [] = refl
   member_found meta clone (first ∷ others) = on (is name first) (beside_all (membership_of meta clone true) others name) where
     on : (b : Bool) → lookup (map (λ other. (other, membership_of meta clone true)) others) name
@@ -77,7 +77,7 @@ module _ (name : List ℕ) where
   module _ (cloned : List (List ℕ × InClone)) where
     -- what its group gives to a member
     abbrev given_by : Group → InGroup
-    given_by group = membership_of (meta_of group.meta) (lookup cloned group.id) (is_follower group.members name)
+    given_by group = membership_of (meta_of group.meta) (lookup cloned group.id) (is_later_member group.members name)
 
     group_found : (f : Form) (rest : List (List ℕ × InGroup)) (groups : List Group)
         → lookup rest name ≡ option_map given_by (find (λ group. list_any (is name) group.members) groups)
@@ -85,7 +85,7 @@ module _ (name : List ℕ) where
     group_found (form.Group id members description params meta) rest groups e =
         lookup-append (members_of (meta_of meta) (lookup cloned id) members) rest name
         ∙ (ap (λ found. option_or found (lookup rest name)) (member_found (meta_of meta) (lookup cloned id) members) ∙ on (list_any (is name) members)) where
-          on : (b : Bool) → option_or (cond b (Some (membership_of (meta_of meta) (lookup cloned id) (is_follower members name))) None) (lookup rest name)
+          on : (b : Bool) → option_or (cond b (Some (membership_of (meta_of meta) (lookup cloned id) (is_later_member members name))) None) (lookup rest name)
               ≡ option_map given_by (cond b (Some (record { id = id; members = members; meta = meta })) (find (λ group. list_any (is name) group.members) groups))
           on true = refl
           on false = e
@@ -179,7 +179,7 @@ module _ (statements : List Statement) where
       → around (surroundings_of statements) p.id
       ≡ record {
         meta = option_map_or (λ (g : Group). meta_of g.meta) (group_with statements p.id) no_meta;
-        follower = option_map_or (λ (g : Group). is_follower g.members p.id) (group_with statements p.id) false;
+        follower = option_map_or (λ (g : Group). is_later_member g.members p.id) (group_with statements p.id) false;
         clone = option_map (clone_gives p.id nodes) (clone_around statements p.id);
       }
   unfolding surroundings_of
@@ -192,7 +192,7 @@ module _ (statements : List Statement) where
             (record { meta = no_meta; follower = false; clone = lookup (cloned_by nodes statements) p.id })
             ≡ record {
               meta = option_map_or (λ (g : Group). meta_of g.meta) g no_meta;
-              follower = option_map_or (λ (g : Group). is_follower g.members p.id) g false;
+              follower = option_map_or (λ (g : Group). is_later_member g.members p.id) g false;
               clone = option_map (clone_gives p.id nodes) (clone_with statements (option_map_or (λ (g : Group). g.id) g p.id));
             }
         on None = let e = cloned_found p.id nodes statements in rw e refl
@@ -260,7 +260,7 @@ module _ (statements : List Statement) where
     cloned = is_some clone;
     interleave = option_map_or (λ (c : Clone). unwrap_or (read_as bool_of (codes "interleave") c.meta) false) clone false;
     promotable = option_map_or (λ (c : Clone). says_promotable c.ms c.meta) clone false;
-    follower = option_map_or (λ (g : Group). is_follower g.members p.id) group false;
+    follower = option_map_or (λ (g : Group). is_later_member g.members p.id) group false;
     priority = unwrap_or (first_given read_score (codes "priority") attributes) (pos 0);
     stickiness = unwrap_or (first_given read_score (codes "resource-stickiness") attributes) (plain_stickiness (is_some clone));
     threshold = unwrap_or (first_given read_score (codes "migration-threshold") attributes) infinity;
@@ -279,14 +279,14 @@ module _ (statements : List Statement) where
       → leaf_by fencing maintenance p
       (or_meta (or_meta (or_meta (meta_of p.meta) (option_map_or (λ (g : Group). meta_of g.meta) g no_meta))
       (unwrap_or (option_map (clone_gives p.id nodes) c) uncloned).meta) (defaults_of statements))
-      (option_map_or (λ (g : Group). is_follower g.members p.id) g false) (option_map (clone_gives p.id nodes) c)
+      (option_map_or (λ (g : Group). is_later_member g.members p.id) g false) (option_map (clone_gives p.id nodes) c)
       ≡ leaf_from fencing maintenance p g c
       (p.meta ∷ option_map_or (λ (g : Group). g.meta) g [] ∷ option_map_or (λ (c : Clone). c.meta) c [] ∷ map (λ s. defaults_in s.form) statements)
   unfolding in_clone
   leaf_by_cases fencing maintenance p g None =
-      ap (λ (m : Meta). leaf_by fencing maintenance p m (option_map_or (λ (g : Group). is_follower g.members p.id) g false) None) (meta_is p.meta g None)
+      ap (λ (m : Meta). leaf_by fencing maintenance p m (option_map_or (λ (g : Group). is_later_member g.members p.id) g false) None) (meta_is p.meta g None)
   leaf_by_cases fencing maintenance p g (Some c) =
-      ap (λ (m : Meta). leaf_by fencing maintenance p m (option_map_or (λ (g : Group). is_follower g.members p.id) g false) (Some (clone_gives p.id nodes c)))
+      ap (λ (m : Meta). leaf_by fencing maintenance p m (option_map_or (λ (g : Group). is_later_member g.members p.id) g false) (Some (clone_gives p.id nodes c)))
       (meta_is p.meta g (Some c))
 
   -- the leaf of a primitive

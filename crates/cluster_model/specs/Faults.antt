@@ -68,12 +68,12 @@ abbrev pub names_nothing : List Statement → Form → Bool
 names_nothing statements f = list_any (λ part. is_none (resource_named statements part)) (parts_in f)
 
 -- a group has primitives, and a clone a primitive or a group
-abbrev pub may_have : Form → Form → Bool
-may_have (form.Group id members description params meta) part = is_primitive part
-may_have _ part = is_primitive part || is_a_group part
+abbrev pub may_have_part : Form → Form → Bool
+may_have_part (form.Group id members description params meta) part = is_primitive part
+may_have_part _ part = is_primitive part || is_a_group part
 
 abbrev pub has_another_kind : List Statement → Form → Bool
-has_another_kind statements f = list_any (λ part. not (option_map_or (may_have f) (resource_named statements part) true)) (parts_in f)
+has_another_kind statements f = list_any (λ part. not (option_map_or (may_have_part f) (resource_named statements part) true)) (parts_in f)
 
 -- a member or a child belongs to an earlier group or clone, or stands twice
 abbrev pub has_part_twice : List Statement → Form → Bool

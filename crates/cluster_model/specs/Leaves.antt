@@ -17,7 +17,7 @@ use Rattle.cluster_types.specs.declared.leaf.TargetRole.TheVariants as target
 use Rattle.cluster_model.specs.Clones.{copies_in, promoted_in}
 use Rattle.cluster_model.specs.Metas.{read_as, first_given}
 use Rattle.cluster_model.specs.Operations.{after_a_stop, fail_of, monitors_of}
-use Rattle.cluster_model.specs.Resources.{Clone, Group, Primitive, all_primitives, clone_around, group_with, is_follower}
+use Rattle.cluster_model.specs.Resources.{Clone, Group, Primitive, all_primitives, clone_around, group_with, is_later_member}
 use Rattle.cluster_model.specs.Settings.{count_nodes, defaults_in, option_given}
 
 abbrev pub target_role_named : RoleName → TargetRole
@@ -52,7 +52,7 @@ leaf_said statements p =
       cloned = is_some clone;
       interleave = option_map_or (λ (c : Clone). unwrap_or (read_as bool_of (codes "interleave") c.meta) false) clone false;
       promotable = option_map_or (λ (c : Clone). says_promotable c.ms c.meta) clone false;
-      follower = option_map_or (λ (g : Group). is_follower g.members p.id) group false;
+      follower = option_map_or (λ (g : Group). is_later_member g.members p.id) group false;
       priority = unwrap_or (first_given read_score (codes "priority") attributes) (pos 0);
       stickiness = unwrap_or (first_given read_score (codes "resource-stickiness") attributes) (plain_stickiness (is_some clone));
       threshold = unwrap_or (first_given read_score (codes "migration-threshold") attributes) infinity;

@@ -70,6 +70,6 @@ abbrev pub members_named : List Statement → List ℕ → List (List ℕ)
 members_named statements name = option_map_or (λ (group : Group). group.members) (group_named statements name) (name ∷ [])
 
 -- a member after the first
-abbrev pub is_follower : List (List ℕ) → List ℕ → Bool
-is_follower [] name = false
-is_follower (first ∷ others) name = not (is name first)
+abbrev pub is_later_member : List (List ℕ) → List ℕ → Bool
+is_later_member [] name = false
+is_later_member (first ∷ others) name = not (is name first)
