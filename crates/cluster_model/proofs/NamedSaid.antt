@@ -14,7 +14,7 @@ use Rattle.cluster_types.specs.declared.leaf.Leaf.{Leaf}
 use Rattle.cluster_model.specs.declared.expansion.leaves.Leaves.{Leaves}
 use Rattle.cluster_model.specs.declared.expansion.leaves.Span.{Span}
 use Rattle.cluster_model.specs.declared.resolution.directory.Directory.{Directory}
-use Rattle.cluster_model.specs.declared.resolution.directory.Ends.{Ends}
+use Rattle.cluster_model.specs.declared.expansion.spans.Ends.{Ends}
 use Rattle.cluster_model.specs.declared.resolution.directory.Traits.{Traits}
 use Rattle.cluster_model.specs.Inner.Directories.{are_joined, are_there, directory_of, ends_in_directory, first_named, grouped_from, groups_of, if_there, is_local, is_one_group, is_unknown, is_unknown_node, last_named, may_promote, members_in, node_named, numbered_from, resources_of, span_ends, traits_of}
 use Rattle.cluster_model.specs.Named.{first_leaf, has_leaves, in_one_group, is_missing, is_on_nodes, joins_on_nodes, last_leaf, node_number, place_of_node, promotes, span_named}

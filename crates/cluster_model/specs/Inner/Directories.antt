@@ -12,7 +12,7 @@ use Rattle.cluster_model.specs.declared.expansion.leaves.Span.{Span}
 use Rattle.cluster_model.specs.Settings.{nodes_in}
 use Rattle.cluster_model.specs.Inner.Tables.{lookup}
 use Rattle.cluster_model.specs.declared.resolution.directory.Directory.{Directory}
-use Rattle.cluster_model.specs.declared.resolution.directory.Ends.{Ends}
+use Rattle.cluster_model.specs.declared.expansion.spans.Ends.{Ends}
 use Rattle.cluster_model.specs.declared.resolution.directory.Traits.{Traits}
 use Rattle.cluster_model.specs.Inner.Spans.{span}
 

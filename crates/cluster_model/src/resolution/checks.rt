@@ -249,7 +249,7 @@ pub fn first_fault(directory: &Directory<'_>, statements: &[Statement]) -> Resul
             let fault = Some(ModelFault::At { line, cause });
             return Ok(Checked { sound, fault });
         }
-        sound = sound.checked_add(1).ok_or(NoMemory)?;
+        sound += 1;
     }
     Ok(Checked { sound, fault: None })
 }
