@@ -1,4 +1,4 @@
--- Which statements are at fault, loops aside (the causes and their order are rules of this project).
+-- Which rules the code finds at fault by its directory, loops aside.
 use Rattle.std.specs.Prelude.{ℕ, nat_lt, Bool, false, not, ◌||◌, if◌then◌else◌, Option, Some, None}
 use Rattle.std.specs.List.{list_any}
 use Rattle.std.specs.Option.{option_or}

@@ -1,4 +1,4 @@
--- The clones, and what is in them (Pacemaker Explained, "Clones"; crmsh manual, clone and ms).
+-- The table of what each clone gives to what is in it.
 use Rattle.std.specs.Prelude.{ℕ, Bool, false, List, [], ◌∷◌, codes, unwrap_or}
 use Rattle.std.specs.List.{flat_map}
 use Rattle.crm_parse.specs.declared.form.Form.{Form}

@@ -1,5 +1,4 @@
--- Who wants to be where another is (crmsh manual, colocation and group; Pacemaker Explained, "Placing Resources Relative to other Resources" and
--- "Groups").
+-- The colocations as the code makes them by its directory.
 use Rattle.std.specs.Prelude.{ℕ, ℤ, List, [], ◌∷◌, map}
 use Rattle.std.specs.List.{flat_map}
 use Rattle.score.specs.Total.{infinity}

@@ -1,4 +1,4 @@
--- How many nodes, leaves and rules statements have (their limits are rules of this project).
+-- How many nodes, leaves and rules the code has counted, statement by statement.
 use Rattle.std.specs.Prelude.{ℕ, ◌+◌, List, [], ◌∷◌}
 use Rattle.crm_parse.specs.declared.form.Form.{Form}
 use Rattle.crm_parse.specs.declared.form.Form.TheVariants as form

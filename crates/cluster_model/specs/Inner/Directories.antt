@@ -1,5 +1,4 @@
--- What the names in a rule stand for (crmsh manual, location, colocation and order; whom a rule names on a group or a clone is a rule of this
--- project).
+-- The directory that the code keeps: tables of what the names in a rule stand for.
 use Rattle.std.specs.Prelude.{ℕ, ◌+◌, ◌==◌, nat_lt, ◌&&◌, ◌||◌, if◌then◌else◌, Bool, false, List, [], ◌∷◌, ◌++◌, length, map, slice_get, is_none, Option, Some, None}
 use Rattle.std.specs.List.{flat_map}
 use Rattle.std.specs.Option.{option_and_then, option_map_or}

@@ -1,4 +1,4 @@
--- What the groups and clones of a configuration stand for.
+-- What the code makes of groups and clones.
 use Rattle.std.specs.Prelude.{List, Result}
 use Rattle.faults.specs.declared.fault.Fault.{Fault}
 use Rattle.faults.specs.Reading.{unless}

@@ -1,4 +1,4 @@
--- Which statements are at fault (crmsh manual, group, clone and ms; the causes and their order are rules of this project).
+-- How the code finds the first statement at fault: by a table of kinds, and by the names that it has seen.
 use Rattle.std.specs.Prelude.{◌≡◌, ℕ, Bool, true, false, not, ◌&&◌, ◌||◌, if◌then◌else◌, List, [], ◌∷◌, ◌++◌, is_none, Option, Some, None}
 use Rattle.std.specs.List.{flat_map, list_any}
 use Rattle.std.specs.Option.{option_map_or}

@@ -1,4 +1,4 @@
--- The groups and their members (Pacemaker Explained, "Groups"; crmsh manual, group).
+-- The table of what each group gives to its members.
 use Rattle.std.specs.Prelude.{ℕ, Bool, false, true, List, [], ◌∷◌, map, Option}
 use Rattle.std.specs.List.{flat_map}
 use Rattle.crm_parse.specs.declared.form.Form.{Form}

@@ -1,4 +1,4 @@
--- The leaves of a configuration: each primitive is one, in the order of the text (rule of this project).
+-- The leaves as the code makes them: with the help of tables of what clones and groups give.
 use Rattle.std.specs.Prelude.{ℕ, pos, false, true, not, ◌&&◌, List, [], ◌∷◌, codes, is_some, unwrap_or}
 use Rattle.std.specs.List.{flat_map}
 use Rattle.score.specs.Total.{infinity}

@@ -1,4 +1,4 @@
--- How much resources want to be on nodes (crmsh manual, location; Pacemaker Explained, "Deciding Which Nodes a Resource Can Run On").
+-- The locations as the code makes them by its directory.
 use Rattle.std.specs.Prelude.{ℕ, List, [], ◌∷◌, map, Option}
 use Rattle.std.specs.List.{flat_map}
 use Rattle.std.specs.Option.{option_or}

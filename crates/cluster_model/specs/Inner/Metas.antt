@@ -1,5 +1,4 @@
--- The meta attributes of a resource that have effect (Pacemaker Explained, "Resource Meta-Attributes"). A value that isn't one of its kind
--- counts as none; a configuration that was parsed has no such value (rule of this project).
+-- The meta attributes that have effect, as the code keeps them beside each other.
 use Rattle.std.specs.Prelude.{List, None, codes}
 use Rattle.std.specs.Option.{option_or}
 use Rattle.score.specs.ScoreText.{read_score}

@@ -1,5 +1,4 @@
--- What comes before what (crmsh manual, order and group; Pacemaker Explained, "Specifying the Order in which Resources Should Start/Stop" and
--- "Groups").
+-- The orders as the code makes them by its directory.
 use Rattle.std.specs.Prelude.{ℕ, Bool, true, if◌then◌else◌, List, [], map}
 use Rattle.std.specs.List.{flat_map}
 use Rattle.crm_parse.specs.declared.form.Form.{Form}

@@ -1,4 +1,4 @@
--- The cluster that a configuration says, or its first fault (the causes and their order are rules of this project).
+-- The cluster that the code makes, and the fault that it finds.
 use Rattle.std.specs.Prelude.{List, [], ◌∷◌, ◌++◌, Option, Result}
 use Rattle.std.specs.Option.{option_or}
 use Rattle.faults.specs.declared.fault.Fault.{Fault}

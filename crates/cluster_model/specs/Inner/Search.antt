@@ -6,7 +6,6 @@ use Rattle.loops.specs.FirstLoops.{is_closed_by}
 use Rattle.cluster_model.specs.declared.resolution.fault.ModelCause.{ModelCause}
 use Rattle.cluster_model.specs.declared.resolution.fault.ModelCause.TheVariants.{ColocationLoop, OrderLoop}
 use Rattle.cluster_model.specs.Counting.{colocation_count, order_count}
-use Rattle.cluster_model.specs.Inner.Resolution.{cause_after}
 
 -- none, where there is a cause, and else one more than come later
 abbrev pub count_on : Option ModelCause → ℕ → ℕ

@@ -1,5 +1,4 @@
--- What holds of the whole cluster: its nodes, its options, and the defaults of its resources (Pacemaker Explained, "Cluster Options" and
--- "Setting Global Defaults for Resource Meta-Attributes").
+-- The options and defaults, statement by statement.
 use Rattle.std.specs.Prelude.{ℕ, Bool, List, [], ◌∷◌, unwrap_or, Option, None}
 use Rattle.std.specs.Option.{option_or}
 use Rattle.crm_parse.specs.declared.statement.Statement.{Statement}

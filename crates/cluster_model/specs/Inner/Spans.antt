@@ -1,5 +1,4 @@
--- The first and the last leaf of each resource. Those of a group are its first and its last member, and those of a clone are its child's
--- (crmsh manual, group and clone). A name without leaves would stand for the first leaf (rule of this project).
+-- The spans as the code makes them: by a table of the numbers of leaves, and one of the ends of groups.
 use Rattle.std.specs.Prelude.{ℕ, ◌+◌, ◌-◌, List, [], ◌∷◌, length, slice_get, unwrap_or, Option}
 use Rattle.std.specs.List.{flat_map}
 use Rattle.std.specs.Option.{option_map_or}
