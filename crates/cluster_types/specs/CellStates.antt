@@ -13,7 +13,7 @@ use Rattle.cluster_types.specs.declared.states.CellState.{CellState}
 use Rattle.cluster_types.specs.declared.states.CellState.TheVariants as cell
 use Rattle.cluster_types.specs.Cells.{is_of_cell, is_sent_to, is_reset}
 use Rattle.cluster_types.specs.Failures.{outcomes, counted, is_outcome, is_failure}
-use Rattle.cluster_types.specs.May.{may, may_promoted}
+use Rattle.cluster_types.specs.May.{may_be_running, may_be_promoted}
 use Rattle.cluster_types.specs.NodeStates.{is_online}
 use Rattle.cluster_types.specs.Outcomes.{effective_fail, is_block}
 
@@ -29,7 +29,7 @@ wants_block c _ = false
 abbrev pub is_blocked : Cluster → ℕ → ℕ → List Event → Bool
 is_blocked c r n es = option_map_or (wants_block c) (last_or None (counted c r n es)) false
 
--- the leaf was sent away from the cell
+-- the event ends the sending of a migration, with whatever outcome
 abbrev pub is_sent_away : Event → Bool
 is_sent_away (Ended k (MigrateTo leaf source target) o moment) = true
 is_sent_away _ = false
@@ -38,7 +38,7 @@ abbrev pub begins_sending_to : ℕ → ℕ → Event → Bool
 begins_sending_to r n (Begin k a) = is_sent_to r n a
 begins_sending_to r n _ = false
 
--- the last outcome leaves it open what runs there: it is bad, it sent the leaf away, or a migration to the cell began after it
+-- it is open what runs there: the last outcome is bad, or ended the sending of a migration from the cell, or a migration to the cell began after it
 -- (what a migration leaves is a rule of this project)
 abbrev pub is_left_open : Cluster → ℕ → ℕ → List Event → Bool
 is_left_open c r n es =
@@ -51,9 +51,9 @@ cell_state c r n es =
     if not (is_online c n es) then cell.Away
     else (if is_none (last_outcome c r n es) then cell.Unprobed
     else (if is_blocked c r n es then cell.Blocked
-    else (if may c r n es && is_left_open c r n es then cell.Failed
-    else (if may_promoted c r n es then cell.Promoted
-    else (if may c r n es then cell.On
+    else (if may_be_running c r n es && is_left_open c r n es then cell.Failed
+    else (if may_be_promoted c r n es then cell.Promoted
+    else (if may_be_running c r n es then cell.On
     else cell.Off)))))
 
 -- the action changes what runs in the cell
@@ -74,5 +74,5 @@ is_end_of_monitor r n interval (Ended k (Cell Monitor leaf node ms role) o momen
 is_end_of_monitor r n interval _ = false
 
 -- the monitor of this interval is running: an outcome of it, an ignored one too, came after all that ended it
-abbrev pub is_running : ℕ → ℕ → ℕ → List Event → Bool
-is_running r n interval es = list_any (is_end_of_monitor r n interval) (after_last (ends_monitors r n) es)
+abbrev pub is_monitor_running : ℕ → ℕ → ℕ → List Event → Bool
+is_monitor_running r n interval es = list_any (is_end_of_monitor r n interval) (after_last (ends_monitors r n) es)

@@ -1,5 +1,4 @@
--- Which action must have succeeded before which may begin (Pacemaker Explained, "Specifying the Order in which Resources Should Start/Stop",
--- "Promotable Clones", "Fencing"; what holds besides orders is a rule of this project).
+-- What the words of an order give, take and undo; and Precedes as a test, which the program computes (they agree: `precedence_is_computed`).
 use Rattle.std.specs.Prelude.{ℕ, nat_lt, ◌==◌, ◌&&◌, ◌||◌, Bool, true, false, not, if◌then◌else◌, Option, Some, None, List, [], ◌∷◌, length}
 use Rattle.std.specs.List.{list_any}
 use Rattle.cluster_types.specs.declared.cluster.Cluster.{Cluster}
@@ -34,15 +33,15 @@ is_same_op op.Monitor op.Monitor = true
 is_same_op _ _ = false
 
 -- a word of an order that gives a role
-abbrev pub is_up : Op → Bool
-is_up op.Start = true
-is_up op.Promote = true
-is_up _ = false
+abbrev pub is_giving : Op → Bool
+is_giving op.Start = true
+is_giving op.Promote = true
+is_giving _ = false
 
--- that role. A word that gives none is asked for none
-abbrev pub role_by : Op → Role
-role_by op.Promote = role.Promoted
-role_by _ = role.Started
+-- the role that such a word gives. For any other word, of which nobody asks, it says Started
+abbrev pub role_given : Op → Role
+role_given op.Promote = role.Promoted
+role_given _ = role.Started
 
 -- the word of what undoes it
 abbrev pub inverse : Op → Op
@@ -66,7 +65,7 @@ abbrev pub start_cell : Action → Option CellOf
 start_cell (MigrateTo r source target) = cell_of r target
 start_cell a = op_cell op.Start a
 
--- two actions stand so to each other by their cells
+-- both cells are there, and stand so to each other
 abbrev pub both : (CellOf → CellOf → Bool) → Option CellOf → Option CellOf → Bool
 both test (Some a) (Some b) = test a b
 both test _ _ = false
@@ -81,17 +80,17 @@ abbrev pub is_some_cell : Option CellOf → Bool
 is_some_cell (Some a) = true
 is_some_cell None = false
 
--- the action starts or promotes the leaf of the cell
+-- the cell whose leaf the action starts, a migration that sends too, or promotes
 abbrev pub gives_any : Action → Option CellOf
 gives_any (Cell op.Promote r n interval role) = cell_of r n
 gives_any a = start_cell a
 
--- the action gives the role
+-- the cell whose leaf gets the role by the action
 abbrev pub gives_role : Role → Action → Option CellOf
 gives_role role.Started a = start_cell a
 gives_role role.Promoted a = op_cell op.Promote a
 
--- the action takes the role away, or asks whether it is held
+-- the cell whose leaf loses the role by the action, or is probed by it
 abbrev pub takes_or_probes : Role → Action → Option CellOf
 takes_or_probes role.Started (Probe r n) = cell_of r n
 takes_or_probes role.Started a = op_cell op.Stop a
@@ -99,7 +98,7 @@ takes_or_probes role.Promoted (Probe r n) = cell_of r n
 takes_or_probes role.Promoted (Cell op.Demote r n interval role) = cell_of r n
 takes_or_probes role.Promoted a = op_cell op.Stop a
 
--- the action is one of the four that change a cell
+-- the cell of one of the four: a start, stop, promote or demote
 abbrev pub change_cell : Action → Option CellOf
 change_cell (Cell op.Monitor r n interval role) = None
 change_cell (Cell o r n interval role) = cell_of r n
@@ -111,11 +110,12 @@ takers op.Start = op.Stop ∷ []
 takers op.Promote = op.Demote ∷ op.Stop ∷ []
 takers _ = []
 
--- the leaf migrates, by the actions
+-- the action sends the leaf off
 abbrev pub sends : ℕ → Action → Bool
 sends r (MigrateTo leaf source target) = leaf == r
 sends r _ = false
 
+-- the leaf migrates, by the actions
 abbrev pub is_migrating : List Action → ℕ → Bool
 is_migrating actions r = list_any (sends r) actions
 
@@ -124,7 +124,8 @@ abbrev pub as_earlier : Op → Action → Option CellOf
 as_earlier op.Start (MigrateFrom r source target) = cell_of r target
 as_earlier o a = op_cell o a
 
--- the action as the later: a migration that sends stands for the start on its target, and in place of its stop
+-- the action as the later: a migration that sends stands for the start on its target and for the stop on its source; the stop of a leaf that migrates
+-- stands for nothing
 abbrev pub as_later : List Action → Op → Action → Option CellOf
 as_later actions op.Start a = start_cell a
 as_later actions op.Stop (MigrateTo r source target) = cell_of r source
@@ -158,7 +159,7 @@ abbrev pub demotes_first : Action → Action → Bool
 demotes_first x y =
     both is_one_leaf (op_cell op.Demote x) (op_cell op.Promote y) || both is_one_leaf (op_cell op.Stop x) (op_cell op.Promote y)
 
--- what takes a role from one leaf comes before what gives the other its role on the node, where the two must be apart
+-- what takes a role from one leaf, or probes it, comes before what gives the other its role on the node, where the two must be apart
 abbrev pub is_parted : ℕ → Role → ℕ → Role → Action → Action → Bool
 is_parted r r_role s s_role x y =
     both (λ a b. a.leaf == r && b.leaf == s && a.node == b.node) (takes_or_probes r_role x) (gives_role s_role y)
@@ -180,7 +181,7 @@ is_taken_back actions o x y =
 
 abbrev pub is_inverse_pair : List Action → Order → Action → Action → Bool
 is_inverse_pair actions o x y =
-    if is_up o.first_op && is_up o.then_op then is_taken_back actions o x y
+    if is_giving o.first_op && is_giving o.then_op then is_taken_back actions o x y
     else is_ordered_pair actions o (inverse o.then_op) o.then_leaf (inverse o.first_op) o.first x y
 
 abbrev pub is_mandatory_order : OrderKind → Bool
@@ -197,7 +198,7 @@ is_ordered actions o x y =
     not (is_serialize o.kind)
     && (is_ordered_pair actions o o.first_op o.first o.then_op o.then_leaf x y || o.symmetrical && is_inverse_pair actions o x y)
 
--- one of the four of each leaf, in scope
+-- the one action is one of the four of the order's first, the other one of its then, in scope
 abbrev pub is_across : Order → Action → Action → Bool
 is_across o x y = both (λ a b. a.leaf == o.first && b.leaf == o.then_leaf && is_in_scope o a.node b.node) (change_cell x) (change_cell y)
 
