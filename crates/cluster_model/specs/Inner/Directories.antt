@@ -1,5 +1,4 @@
--- What the names in a rule stand for (crmsh manual, location, colocation and order; whom a rule names on a group or a clone is a rule of this
--- project).
+-- The directory that the code keeps: tables of what the names in a rule stand for.
 use Rattle.std.specs.Prelude.{ℕ, ◌+◌, ◌==◌, nat_lt, ◌&&◌, ◌||◌, if◌then◌else◌, Bool, false, List, [], ◌∷◌, ◌++◌, length, map, slice_get, is_none, Option, Some, None}
 use Rattle.std.specs.List.{flat_map}
 use Rattle.std.specs.Option.{option_and_then, option_map_or}
@@ -10,10 +9,11 @@ use Rattle.cluster_types.specs.declared.leaf.Leaf.{Leaf}
 use Rattle.cluster_model.specs.declared.expansion.leaves.Leaves.{Leaves}
 use Rattle.cluster_model.specs.declared.expansion.leaves.Span.{Span}
 use Rattle.cluster_model.specs.Settings.{nodes_in}
-use Rattle.cluster_model.specs.Tables.{lookup}
+use Rattle.cluster_model.specs.Inner.Tables.{lookup}
 use Rattle.cluster_model.specs.declared.resolution.directory.Directory.{Directory}
-use Rattle.cluster_model.specs.declared.resolution.directory.Ends.{Ends}
+use Rattle.cluster_model.specs.declared.expansion.spans.Ends.{Ends}
 use Rattle.cluster_model.specs.declared.resolution.directory.Traits.{Traits}
+use Rattle.cluster_model.specs.Inner.Spans.{span}
 
 -- names with their numbers, counted on from one
 abbrev pub numbered_from : ℕ → List (List ℕ) → List (List ℕ × ℕ)

@@ -4,7 +4,7 @@ use Rattle.std.specs.Borrow.{Bor}
 use Rattle.std.specs.BTreeMap.{BTreeMap}
 use Rattle.std.specs.Option.{option_map, option_or}
 use Rattle.crm_lex.specs.Names.{is}
-use Rattle.cluster_model.specs.Tables.{lookup}
+use Rattle.cluster_model.specs.Inner.Tables.{lookup}
 
 module _ {V : Type 0} where
   -- the rows, with the names that they borrow

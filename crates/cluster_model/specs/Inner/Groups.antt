@@ -1,4 +1,4 @@
--- The groups and their members (Pacemaker Explained, "Groups"; crmsh manual, group).
+-- The table of what each group gives to its members.
 use Rattle.std.specs.Prelude.{ℕ, Bool, false, true, List, [], ◌∷◌, map, Option}
 use Rattle.std.specs.List.{flat_map}
 use Rattle.crm_parse.specs.declared.form.Form.{Form}
@@ -7,8 +7,8 @@ use Rattle.crm_parse.specs.declared.statement.Statement.{Statement}
 use Rattle.cluster_model.specs.declared.expansion.clones.InClone.{InClone}
 use Rattle.cluster_model.specs.declared.expansion.groups.InGroup.{InGroup}
 use Rattle.cluster_model.specs.declared.expansion.meta.Meta.{Meta}
-use Rattle.cluster_model.specs.Metas.{meta_of}
-use Rattle.cluster_model.specs.Tables.{lookup}
+use Rattle.cluster_model.specs.Inner.Metas.{meta_of}
+use Rattle.cluster_model.specs.Inner.Tables.{lookup}
 
 -- what a group gives to a member; the members after the first are followers
 abbrev pub membership_of : Meta → Option InClone → Bool → InGroup
