@@ -51,14 +51,14 @@ module _ (c : Cluster) (promotions : List Promotion) where
       pub is : IsWholeRun c promotions whole es rest (run_lines c run) run.journal.events
       pub unread : left ≡ is.behind
 
-    -- the run up to a step at which an answer is asked for is that of these answers, each of which was said: they are those that were taken, where the
-    -- answers to come are told
+    -- no action has ended silently: the run up to where it asks for an answer is that of some answers alone, each of which was said. Where the answers to
+    -- come are told, they are those that were taken
     pub record IsKeptOfAnswers (run : Run) : Type 0 where
       pub answers : List Answer
       pub taken : TakesAnswers rest answers left
       pub is : IsRunSoFar c promotions false es (Some answers) (run_lines c run) run.journal.events (Some [])
 
-    -- the run is kept up to a step at which the source failed. A steady source has let no action end silently
+    -- the run is kept up to where it asks for an answer, and the source failed. A steady source has let no action end silently
     pub record IsKeptSoFar (run : Run) : Type 0 where
       pub is : IsRunSoFar c promotions whole es rest (run_lines c run) run.journal.events left
       pub said : steady ≡ true → IsKeptOfAnswers run
