@@ -50,7 +50,7 @@ pub record IsLogTold (c : Cluster) (events : List Event) (known : Knowledge) : T
   pub moment : moment_of events < 2 ^ 64
 
 -- what is kept beside the events is what they say: what is known of the cluster, how many answers from outside were taken since the plan, and the first
--- event since then that aborts. So many events were there when it was planned
+-- event since then that aborts. So many events were there when it was planned, and the moment has 64 bits
 pub record Reflects (c : Cluster) (events : List Event) (planned : ℕ) (known : Knowledge) (outside : ℕ) (abort : Option Event) : Type 0 where
   pub starts : planned ≤ length events
   pub knows : Knows c events known
