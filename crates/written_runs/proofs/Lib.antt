@@ -5,3 +5,5 @@ pub mod TargetLines
 pub mod StepLines
 pub mod WrittenLines
 pub mod ReadFits
+pub mod Telling
+pub mod SafeLines
