@@ -6,8 +6,8 @@ pub mod OneOutcome
 pub mod Completeness
 -- The word `replay`.
 pub mod Beginnings
+pub mod SameComing
 pub mod LiveSays
-pub mod SafeReplay
 pub mod Promised
 pub mod Comments
 pub mod ReadsAgain
