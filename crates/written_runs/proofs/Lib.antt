@@ -7,3 +7,5 @@ pub mod WrittenLines
 pub mod ReadFits
 pub mod Telling
 pub mod SafeLines
+pub mod NextSteps
+pub mod SomeRuns
