@@ -7,5 +7,6 @@ pub mod WrittenLines
 pub mod ReadFits
 pub mod Telling
 pub mod SafeLines
+pub mod Fronts
 pub mod NextSteps
 pub mod SomeRuns

@@ -1,9 +1,11 @@
 -- What the lines of a run tell by themselves, and what is promised of them: for who reads the lines, and no definition of a run (rules of this project).
-use Rattle.std.specs.Prelude.{◌≡◌, ℕ, ◌<◌, true, false, IfSome, List, [], ◌∷◌, ◌++◌, Contains}
+use Rattle.std.specs.Prelude.{◌≡◌, ℕ, ◌<◌, Bool, true, false, Option, IfSome, List, [], ◌∷◌, ◌++◌, Contains}
 use Rattle.cluster_types.specs.declared.cluster.Cluster.{Cluster}
 use Rattle.cluster_types.specs.declared.journal.Action.{Action}
+use Rattle.cluster_types.specs.declared.journal.Answer.{Answer}
 use Rattle.cluster_types.specs.declared.journal.Event.{Event}
 use Rattle.cluster_types.specs.declared.journal.Event.TheVariants.{Begin}
+use Rattle.cluster_types.specs.declared.journal.Promotion.{Promotion}
 use Rattle.cluster_types.specs.declared.leaf.Op.TheVariants as op
 use Rattle.cluster_types.specs.declared.leaf.Role.{Role}
 use Rattle.cluster_types.specs.declared.rules.Colocation.{Colocation}
@@ -15,6 +17,7 @@ use Rattle.cluster_types.specs.Fields.{copies, promoted_copies}
 use Rattle.cluster_types.specs.Journals.{AreInFlightByNumber}
 use Rattle.cluster_types.specs.May.{may, may_promoted}
 use Rattle.cluster_types.specs.Precedence.{CellOf, gives_role, op_cell}
+use Rattle.cluster_types.specs.Runs.{RunStanding, due, Runs, journal_at}
 use Rattle.cluster_types.specs.Safety.{count_of_others, may_hold}
 
 -- after a journal some lines tell what happened, so that it is then this: a line `begin` tells that its action begins, and that of an answer what the answer
@@ -62,3 +65,14 @@ module _ (c : Cluster) (first : List Event) where
   -- promoted, be so on fewer than it has promoted copies; and no leaf gets a role beside one from which it must be apart
   abbrev pub AreLinesSafe : List RunLine → Type 0
   AreLinesSafe lines = BeforeEachBegin IsSafeBegin lines
+
+-- the journal that some lines tell is one that the run had on its way to where it stands, from the first journal on
+pub record IsOnTheWay (c : Cluster) (promotions : List Promotion) (whole : Bool) (first : List Event) (rest : Option (List Answer)) (at : RunStanding) (left : Option (List Answer))
+    (lines : List RunLine) : Type 0 where
+  pub place : RunStanding
+  pub behind : Option (List Answer)
+  pub printed : List RunLine
+  pub more : List RunLine
+  pub runs : Runs c promotions whole (due 1 first) rest printed place behind
+  pub goes_on : Runs c promotions whole place behind more at left
+  pub told : LinesTell c first lines (journal_at place)
