@@ -10,7 +10,7 @@ use Rattle.cluster_types.specs.declared.rules.Colocation.{Colocation}
 use Rattle.cluster_types.specs.Choice.{is_dependent, is_finite_colocation, is_mandatory, is_primary, is_separation}
 use Rattle.cluster_types.specs.Tables.{Targets, holds_role}
 use Rattle.decision_account.specs.Parts.{from_colocation, part_of, preference_parts}
-use Rattle.decision_account.specs.Verdicts.{joined_apart, joins_apart, misses_primary, missing_primary}
+use Rattle.decision_account.specs.Verdicts.{joined_separation, joins_apart, misses_primary, missed_colocation}
 use Rattle.placement.specs.Tests.{counts, has_primary, keeps_apart}
 use Rattle.account_text.specs.Sides.{AreColocationsOf, first_joined, first_missing, is_side, preference_part}
 use Rattle.account_text.specs.Sources.{lent_values}
@@ -93,7 +93,7 @@ module _ (c : Cluster) (table : Targets) (d : Decision) (n : ℕ) (sides : List 
       (λ col. part_of None (from_colocation col.id) col.score)
       (λ col. counts_of_side (is_dependent d col) (is_primary d col) (is_finite_colocation col) (holds_role table col.primary col.primary_role n)) c.colocations
 
-  pub missing_is : option_copied (first_missing table d n sides) ≡ missing_primary c table d n
+  pub missing_is : option_copied (first_missing table d n sides) ≡ missed_colocation c table d n
   missing_is =
       find_lent (λ col. not (has_primary table d n col)) sides
       ∙ ap (find (λ col. not (has_primary table d n col))) are
@@ -101,7 +101,7 @@ module _ (c : Cluster) (table : Targets) (d : Decision) (n : ℕ) (sides : List 
       (λ col. missing_test (is_dependent d col) (is_primary d col) (is_mandatory col) (holds_role table col.primary col.primary_role n))
       (λ col e. missing_alone (is_dependent d col) (is_mandatory col) (holds_role table col.primary col.primary_role n)) c.colocations
 
-  pub joined_is : option_copied (first_joined table d n sides) ≡ joined_apart c table d n
+  pub joined_is : option_copied (first_joined table d n sides) ≡ joined_separation c table d n
   joined_is =
       find_lent (λ col. not (keeps_apart table d n col)) sides
       ∙ ap (find (λ col. not (keeps_apart table d n col))) are

@@ -17,14 +17,14 @@ use Rattle.cluster_types.specs.declared.placement.Decision.TheVariants.{Place, P
 use Rattle.cluster_types.specs.declared.placement.Target.TheVariants as target
 use Rattle.cluster_types.specs.declared.rules.Colocation.{Colocation}
 use Rattle.cluster_types.specs.declared.states.States.{States}
-use Rattle.cluster_types.specs.Choice.{is_chosen, is_chosen_before, is_permitted, is_placed_for, total_on}
+use Rattle.cluster_types.specs.Choice.{is_chosen, is_better, is_permitted, is_placed_for, total_on}
 use Rattle.cluster_types.specs.Decisions.{leaf_of}
 use Rattle.cluster_types.specs.NodeStates.{is_usable}
 use Rattle.cluster_types.specs.Rights.{rights_of}
 use Rattle.cluster_types.specs.Tables.{Targets, load_of}
 use Rattle.cluster_types.specs.Unpacked.{states_of}
 use Rattle.decision_account.specs.Verdicts as verdict
-use Rattle.decision_account.specs.Verdicts.{Verdict, is_last_chosen, joined_apart, last_chosen, missing_primary, outdone, passed_by, refusal, verdict_on}
+use Rattle.decision_account.specs.Verdicts.{Verdict, is_last_chosen, joined_separation, last_chosen, missed_colocation, outdone, passed_by, refusal, verdict_on}
 use Rattle.decision_account.proofs.TrueVerdicts.{found}
 use Rattle.placement.specs.Reads.{is_permitted_in, may_stay_in}
 use Rattle.placement.specs.Usable.{is_usable_by}
@@ -94,7 +94,7 @@ module _ (c : Cluster) (es : List Event) (ps : List Promotion) (table : Targets)
   load_there : (n : ℕ) → n < length c.nodes → load_listed all_loads n ≡ load_of c table n
   load_there n low = get_or-map-range_with_len (load_of c table) 0 (length c.nodes) n n 0 low (omega arith)
 
-  before_is : (n m : ℕ) → n < length c.nodes → m < length c.nodes → goes_ahead all_totals all_loads n m ≡ is_chosen_before c es ps table d n m
+  before_is : (n m : ℕ) → n < length c.nodes → m < length c.nodes → goes_ahead all_totals all_loads n m ≡ is_better c es ps table d n m
   before_is n m low also = rw (total_there n low, total_there m also, load_there n low, load_there m also) refl
 
   passed_is : (n m : ℕ) → n < length c.nodes → m < length c.nodes → passed_in all_totals all_loads n m ≡ passed_by c es ps table d n m
@@ -108,7 +108,7 @@ module _ (c : Cluster) (es : List Event) (ps : List Promotion) (table : Targets)
         ∙ ap (λ b. b && list_all (λ m. not (has picked m) || (m == n || goes_ahead all_totals all_loads m n)) (range_with_len 0 (length c.nodes))) (are n low)
         ∙ ap (λ b. is_chosen c es ps table d n && b)
         (all_same (λ m. not (has picked m) || (m == n || goes_ahead all_totals all_loads m n))
-        (λ m. not (is_chosen c es ps table d m) || (m == n || is_chosen_before c es ps table d m n)) 0 (length c.nodes)
+        (λ m. not (is_chosen c es ps table d m) || (m == n || is_better c es ps table d m n)) 0 (length c.nodes)
         (λ m there. ap (λ b. not b || (m == n || goes_ahead all_totals all_loads m n)) (are m (omega (arith, there)))
         ∙ ap (λ b. not (is_chosen c es ps table d m) || (m == n || b)) (before_is m n (omega (arith, there)) low)))
 
@@ -125,8 +125,8 @@ module _ (c : Cluster) (es : List Event) (ps : List Promotion) (table : Targets)
       stays = may_stay_in c states (rights_of c es) (leaf_of d)
 
       by_table_is : refusal_by_table table d sides n
-          ≡ option_or (option_map verdict.without (missing_primary c table d n))
-          (option_or (option_map verdict.beside (joined_apart c table d n)) (if is_placed_for table d n then None else Some verdict.unplaced))
+          ≡ option_or (option_map verdict.without (missed_colocation c table d n))
+          (option_or (option_map verdict.beside (joined_separation c table d n)) (if is_placed_for table d n then None else Some verdict.unplaced))
       by_table_is = rw (missing_is c table d n sides of_it, joined_is c table d n sides of_it) refl
 
       permitted_is : is_usable c n es ≡ true → is_permitted_in c states (rights_of c es) d n ≡ is_permitted c es d n
@@ -144,8 +144,8 @@ module _ (c : Cluster) (es : List Event) (ps : List Promotion) (table : Targets)
           go false e = let by : is_usable_by c states n ≡ false = usable-is c es ps n low ∙ e in rw (by, e) refl
           go true e =
               let by : is_usable_by c states n ≡ true = usable-is c es ps n low ∙ e in
-              let rest : Option Verdict = option_or (option_map verdict.without (missing_primary c table d n))
-              (option_or (option_map verdict.beside (joined_apart c table d n)) (if is_placed_for table d n then None else Some verdict.unplaced)) in
+              let rest : Option Verdict = option_or (option_map verdict.without (missed_colocation c table d n))
+              (option_or (option_map verdict.beside (joined_separation c table d n)) (if is_placed_for table d n then None else Some verdict.unplaced)) in
               rw (by, e)
               (ap (λ b. if not b then Some verdict.forbidden
               else (if is_negative (total_listed all_totals n) then Some verdict.below else refusal_by_table table d sides n)) (permitted_is e)

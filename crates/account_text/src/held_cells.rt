@@ -7,7 +7,7 @@ ghost use Rattle.cluster_types.specs.Tables.{targets_of};
 ghost use Rattle.cluster_types.specs.Valid.{KeepsLimits};
 ghost use Rattle.decision_account.specs.Accounts as accounts;
 ghost use Rattle.decision_account.specs.Holders as holders;
-ghost use Rattle.decision_account.specs.Verdicts.{missing_primary};
+ghost use Rattle.decision_account.specs.Verdicts.{missed_colocation};
 ghost use Rattle.account_text.specs.HeldTexts as spec;
 
 use cluster_types::{Cluster, Colocation, Decision, LeafId, NodeId, Order, Role, Table};
@@ -42,7 +42,7 @@ fn missing_colocation<'c>(
     decision: Decision,
     node: NodeId,
 ) -> Option<&'c Colocation>
-    ensures { option_copied result ≡ missing_primary cluster.now (targets_of targets.now) decision node }
+    ensures { option_copied result ≡ missed_colocation cluster.now (targets_of targets.now) decision node }
 {
     cluster
         .colocations
@@ -87,7 +87,7 @@ fn missing_order<'c>(
     node: NodeId,
 ) -> Option<&'c Order>
     requires { KeepsLimits cluster.now }
-    ensures { option_copied result ≡ holders.missing_first cluster.now (targets_of targets.now) decision node }
+    ensures { option_copied result ≡ holders.missed_order cluster.now (targets_of targets.now) decision node }
 {
     cluster.orders.iter().find(|order| misses_first(cluster, targets, decision, node, *order))
 }

@@ -14,7 +14,7 @@ use Rattle.cluster_types.specs.declared.rules.Location.{Location}
 use Rattle.cluster_types.specs.declared.rules.Order.{Order}
 use Rattle.cluster_types.specs.declared.rules.RuleLocation.{RuleLocation}
 use Rattle.cluster_types.specs.Fields.{is_promotable}
-use Rattle.cluster_types.specs.Precedence.{is_up}
+use Rattle.cluster_types.specs.Precedence.{is_giving}
 use Rattle.cluster_types.specs.Valid.{MayHaveRole, MayHaveWord}
 use Rattle.crm_parse.specs.declared.form.Form.{Form}
 use Rattle.crm_parse.specs.declared.form.Form.TheVariants as form
@@ -128,13 +128,13 @@ module _ (d : Directory) (c : Cluster) (agrees : Agrees d c) where
   pub record HasWords (o : Order) : Type 0 where
     pub first : MayHaveWord c o.first o.first_op
     pub later : MayHaveWord c o.then_leaf o.then_op
-    pub upward : is_up o.first_op ≡ true → is_up o.then_op ≡ true
+    pub upward : is_giving o.first_op ≡ true → is_giving o.then_op ≡ true
 
   words-same : (one other : Order) → one ≡ other → HasWords one → HasWords other
   words-same one other e h = rw e at h
 
   -- an order of two actions that don't turn down
-  goes-up : (a b : ActionWord) → not (is_down a) && is_down b ≡ false → is_up (op_of a) ≡ true → is_up (op_of b) ≡ true
+  goes-up : (a b : ActionWord) → not (is_down a) && is_down b ≡ false → is_giving (op_of a) ≡ true → is_giving (op_of b) ≡ true
   goes-up a action.Start h u = refl
   goes-up a action.Promote h u = refl
   goes-up action.Start action.Stop h u = cc

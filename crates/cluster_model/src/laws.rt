@@ -10,7 +10,7 @@ ghost use Rattle.cluster_types.specs.declared.rules.Order.{Order};
 ghost use Rattle.cluster_types.specs.declared.rules.RuleLocation.{RuleLocation};
 ghost use Rattle.cluster_types.specs.Decisions.{NeedsHaveNoLoop};
 ghost use Rattle.cluster_types.specs.Numbers.{StepsHaveNoLoop};
-ghost use Rattle.cluster_types.specs.Precedence.{is_up};
+ghost use Rattle.cluster_types.specs.Precedence.{is_giving};
 ghost use Rattle.cluster_types.specs.Valid.{IsValid, MayHaveRole, MayHaveWord};
 ghost use Rattle.crm_lex.specs.declared.line.Line.{Line};
 ghost use Rattle.crm_parse.specs.declared.statement.Crm.{Crm};
@@ -40,7 +40,7 @@ pub fn resolved_rules_name_able_leaves()
     ensures thens { (leaves : Leaves) (statements : List Statement) (c : Cluster) → resolution_of leaves statements ≡ Ok c
         → (o : Order) → Contains c.orders o → MayHaveWord c o.then_leaf o.then_op }
     ensures upward { (leaves : Leaves) (statements : List Statement) (c : Cluster) → resolution_of leaves statements ≡ Ok c
-        → (o : Order) → Contains c.orders o → is_up o.first_op ≡ true → is_up o.then_op ≡ true }
+        → (o : Order) → Contains c.orders o → is_giving o.first_op ≡ true → is_giving o.then_op ≡ true }
 {}
 
 /// The cluster that the lines of a configuration resolve to is valid.

@@ -216,7 +216,7 @@ then_is_cycled =
       within = omega arith;
       first_within = omega arith;
       in_scope = refl;
-      stays = refl;
+      can_be_cycled = refl;
       in_role = refl;
     }) refl
 
@@ -232,7 +232,7 @@ its_then_too =
       within = omega arith;
       first_within = omega arith;
       in_scope = refl;
-      stays = refl;
+      can_be_cycled = refl;
       in_role = refl;
     }) then_is_cycled refl
 

@@ -8,7 +8,7 @@ use Rattle.cluster_types.specs.declared.placement.Decision.TheVariants.{Place}
 use Rattle.cluster_types.specs.declared.placement.NoReason.TheVariants as none
 use Rattle.cluster_types.specs.declared.placement.Target.TheVariants as target
 use Rattle.cluster_types.specs.declared.rules.Order.{Order}
-use Rattle.cluster_types.specs.Held.{OrderMayHold, Held, by_order, KeepsTarget, AreTargets}
+use Rattle.cluster_types.specs.Held.{OrderCanHoldBack, Held, by_order, KeepsTarget, AreTargets}
 use Rattle.cluster_types.specs.Reasons.{HasReason, IsHeldByOrder}
 use Rattle.cluster_types.specs.Tables.{Targets, holds_role}
 use Rattle.cluster_types.proofs.Few.{below_two}
@@ -39,7 +39,7 @@ b_is_chosen = refl
 a_is_nowhere : (m : ℕ) → m < 2 → holds_role chosen 0 role.Started m ≡ false
 a_is_nowhere = below_two (λ m. holds_role chosen 0 role.Started m ≡ false) refl refl
 
-b_may_be_held : OrderMayHold tied idle chosen order 0
+b_may_be_held : OrderCanHoldBack tied idle chosen order 0
 b_may_be_held = record {
   present = (0, omega arith, refl);
   mandatory = refl;

@@ -10,7 +10,7 @@ use Rattle.cluster_types.specs.declared.states.CellState.{CellState}
 use Rattle.cluster_types.specs.declared.states.CellState.TheVariants as cell
 use Rattle.cluster_types.specs.CellStates.{cell_state}
 use Rattle.cluster_types.specs.Failures.{is_banned}
-use Rattle.cluster_types.specs.May.{may}
+use Rattle.cluster_types.specs.May.{may_be_running}
 use Rattle.cluster_types.proofs.SmallClusters.{node, plain_leaf, two_nodes, unfenced, did, monitored, probed, step}
 
 abbrev alone : Cluster
@@ -26,7 +26,7 @@ said state banned may_run = record { state = state; banned = banned; may_run = m
 
 -- what is known after the node joined and these events
 abbrev tells : Cluster → List Event → Said
-tells c history = said (cell_state c 0 0 (Up 0 ∷ history)) (is_banned c 0 0 (Up 0 ∷ history)) (may c 0 0 (Up 0 ∷ history))
+tells c history = said (cell_state c 0 0 (Up 0 ∷ history)) (is_banned c 0 0 (Up 0 ∷ history)) (may_be_running c 0 0 (Up 0 ∷ history))
 
 histories_of_a_cell :
     map (tells alone)

@@ -11,7 +11,7 @@ use Rattle.cluster_types.specs.declared.journal.Outcome.TheVariants.{Code, Timed
 use Rattle.cluster_types.specs.declared.leaf.Op.TheVariants.{Stop, Promote, Monitor}
 use Rattle.cluster_types.specs.Outcomes.{is_code_among}
 use Rattle.cluster_types.specs.Fields.{is_promotable}
-use Rattle.cluster_types.specs.May.{opens_cell, promotes_cell, closes_cell, demotes_cell, opens, opens_promoted, closes, closes_promoted, shows_nothing, takes_out, may, may_promoted, is_left_promoted}
+use Rattle.cluster_types.specs.May.{opens_cell, promotes_cell, closes_cell, demotes_cell, opens, opens_promoted, closes, closes_promoted, shows_nothing, takes_out, may_be_running, may_be_promoted, is_left_promoted}
 
 -- an exit code of a promoted copy is none of a stopped one
 not_stopped : (o : Outcome) → is_code_among (8 ∷ 9 ∷ 191 ∷ []) o ≡ true → not (is_code_among (7 ∷ 5 ∷ []) o) ≡ true
@@ -71,17 +71,17 @@ module _ (c : Cluster) (r n : ℕ) where
   left_open : (es : List Event) → list_all (λ e. not (closes_promoted c r n e)) es ≡ true → list_all (λ e. not (closes c r n e)) es ≡ true
   left_open es h = all_kept (λ e. not (closes_promoted c r n e)) (λ e. not (closes c r n e)) es still_open h
 
-  left_running : (es : List Event) → is_left_promoted c r n es ≡ true → may c r n es ≡ true
+  left_running : (es : List Event) → is_left_promoted c r n es ≡ true → may_be_running c r n es ≡ true
   left_running [] h = h
   left_running (e ∷ es) h =
       one_of (opens_promoted c r n e && list_all (λ k. not (closes_promoted c r n k)) es) (opens c r n e && list_all (λ k. not (closes c r n k)) es)
-      (is_left_promoted c r n es) (may c r n es)
+      (is_left_promoted c r n es) (may_be_running c r n es)
       (both (opens_promoted c r n e) (opens c r n e) (list_all (λ k. not (closes_promoted c r n k)) es) (list_all (λ k. not (closes c r n k)) es)
       (opened e) (left_open es))
       (left_running es) h
 
   -- where a leaf may be promoted, it may run
-  pub may-promoted : (es : List Event) → may_promoted c r n es ≡ true → may c r n es ≡ true
+  pub may-promoted : (es : List Event) → may_be_promoted c r n es ≡ true → may_be_running c r n es ≡ true
   may-promoted es h = left_running es (later (is_promotable c r) (is_left_promoted c r n es) h)
 
 -- one more event at the end of a journal: what it opens is open, and what it closes no longer is
@@ -114,11 +114,11 @@ further : (a l m o y later rest : Bool) → later ≡ l && y → rest ≡ o || m
 further a l m o y later rest h k = let g = one_more a l m o y in cc
 
 module _ (c : Cluster) (r n : ℕ) (e : Event) where
-  pub may-last : (es : List Event) → may c r n (es ++ e ∷ []) ≡ opens c r n e || may c r n es && not (closes c r n e)
+  pub may-last : (es : List Event) → may_be_running c r n (es ++ e ∷ []) ≡ opens c r n e || may_be_running c r n es && not (closes c r n e)
   may-last [] = none_after (opens c r n e) (not (closes c r n e))
   may-last (d ∷ es) =
-      further (opens c r n d) (list_all (λ k. not (closes c r n k)) es) (may c r n es) (opens c r n e) (not (closes c r n e))
-      (list_all (λ k. not (closes c r n k)) (es ++ e ∷ [])) (may c r n (es ++ e ∷ [])) (kept_to_the_end (λ k. not (closes c r n k)) es e) (may-last es)
+      further (opens c r n d) (list_all (λ k. not (closes c r n k)) es) (may_be_running c r n es) (opens c r n e) (not (closes c r n e))
+      (list_all (λ k. not (closes c r n k)) (es ++ e ∷ [])) (may_be_running c r n (es ++ e ∷ [])) (kept_to_the_end (λ k. not (closes c r n k)) es e) (may-last es)
 
   pub promoted-last : (es : List Event)
       → is_left_promoted c r n (es ++ e ∷ []) ≡ opens_promoted c r n e || is_left_promoted c r n es && not (closes_promoted c r n e)

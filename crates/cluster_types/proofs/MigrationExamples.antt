@@ -16,8 +16,8 @@ use Rattle.cluster_types.specs.declared.placement.Target.TheVariants as target
 use Rattle.cluster_types.specs.declared.states.CellState.TheVariants as cell
 use Rattle.cluster_types.specs.CellStates.{cell_state}
 use Rattle.cluster_types.specs.Fields.{copies, monitors}
-use Rattle.cluster_types.specs.May.{may}
-use Rattle.cluster_types.specs.Needed.{Cycled, GetsStep, FirstSet, step as first_step, Migrates, Needed, kept, sent, taken_in}
+use Rattle.cluster_types.specs.May.{may_be_running}
+use Rattle.cluster_types.specs.Needed.{Cycled, GetsStep, NeededBeforeMigration, step as first_step, Migrates, Needed, kept, sent, taken_in}
 use Rattle.cluster_types.specs.Numbers.{AreNumbered, is_earlier}
 use Rattle.cluster_types.specs.Pins.{is_unprobed_state}
 use Rattle.cluster_types.specs.Rights.{is_to_be_fenced}
@@ -54,10 +54,10 @@ better_on_n2 = refl
 nothing_cycled : (r n : ℕ) → Cycled machine runs_on_n1 table r n → ⊥
 nothing_cycled = is_never_cycled machine runs_on_n1 table (λ o. of_none (λ _. ⊥) o) (below_one (λ r. nat_lt (copies machine r) (active_count machine runs_on_n1 r) ≡ false) refl)
 
-would_stop : FirstSet machine runs_on_n1 table (step Stop 0 0)
+would_stop : NeededBeforeMigration machine runs_on_n1 table (step Stop 0 0)
 would_stop = first_step 0 0 Stop (omega arith) (omega arith) (inr (nothing_cycled 0 0, (0, omega arith, refl)))
 
-would_start : FirstSet machine runs_on_n1 table (step Start 0 1)
+would_start : NeededBeforeMigration machine runs_on_n1 table (step Start 0 1)
 would_start = first_step 0 1 Start (omega arith) (omega arith) (inr (nothing_cycled 0 1, (0, omega arith, refl)))
 
 it_migrates : Migrates machine runs_on_n1 table 0 0 1
@@ -67,8 +67,8 @@ it_migrates = record {
   plain = refl;
   managed = refl;
   running = refl;
-  nowhere_else = λ k h d. below_two (λ k. k ≢ 0 → may machine 0 k runs_on_n1 ≡ false) (λ d. absurd (d refl)) (λ d. refl) k h d;
-  away = λ e. cc;
+  nowhere_else = λ k h d. below_two (λ k. k ≢ 0 → may_be_running machine 0 k runs_on_n1 ≡ false) (λ d. absurd (d refl)) (λ d. refl) k h d;
+  elsewhere = λ e. cc;
   stopped = would_stop;
   started = would_start;
   orders = λ o k. absurd (of_none (λ _. ⊥) o k);
@@ -94,7 +94,7 @@ only_so r n m g P p =
     let to = bounds_of_first machine runs_on_n1 table Start r m 0 role.Started g.started in
     cells_of_one (λ r n. cell_state machine r n runs_on_n1 ≡ cell.On → m ≢ n → P r n m)
     (λ e d. below_two (λ m. m ≢ 0 → P 0 0 m) (λ d. absurd (d refl)) (λ d. p) m to.1 d)
-    (λ e d. cc) r n from.0 from.1 g.running g.away
+    (λ e d. cc) r n from.0 from.1 g.running g.elsewhere
 
 nothing_more : (a : Action) → Needed machine runs_on_n1 table a → Contains migration a
 nothing_more a (kept _ f k) = of_first_set machine runs_on_n1 table (λ a. a ≢ step Start 0 1 → Contains migration a)
@@ -147,7 +147,7 @@ failed_on_n1 = refl
 failed_on_n2 : cell_state machine 0 1 left_open ≡ cell.Failed
 failed_on_n2 = refl
 
-may_run_on_n2 : may machine 0 1 left_open ≡ true
+may_run_on_n2 : may_be_running machine 0 1 left_open ≡ true
 may_run_on_n2 = refl
 
 still_better_on_n2 : open_table 0 1 ≡ target.Started

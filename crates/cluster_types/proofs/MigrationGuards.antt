@@ -15,8 +15,8 @@ use Rattle.cluster_types.specs.declared.rules.Order.{Order}
 use Rattle.cluster_types.specs.declared.rules.OrderKind.TheVariants as kind
 use Rattle.cluster_types.specs.Answering.{added_by}
 use Rattle.cluster_types.specs.Journals.{wants_node}
-use Rattle.cluster_types.specs.May.{may}
-use Rattle.cluster_types.specs.Needed.{IsDisturbed, IsHarmlessColocation, IsHarmlessOrder, Migrates}
+use Rattle.cluster_types.specs.May.{may_be_running}
+use Rattle.cluster_types.specs.Needed.{GetsStepAnywhere, IsHarmlessColocation, IsHarmlessOrder, Migrates}
 use Rattle.cluster_types.specs.Tables.{Targets}
 use Rattle.cluster_types.proofs.NeededLaws.{can_be_cycled}
 use Rattle.cluster_types.proofs.SmallClusters.{plain_leaf, two_nodes, colocation, start_order, did, probed, online}
@@ -74,7 +74,7 @@ with_order o = record both { orders = o ∷ [] }
 abbrev starts_first : Order
 starts_first = start_order (codes "o") 0 1 false
 
-first_is_stopped : IsDisturbed (with_order starts_first) on_n1 goes_to_n2 0
+first_is_stopped : GetsStepAnywhere (with_order starts_first) on_n1 goes_to_n2 0
 first_is_stopped = (0, omega arith, (Stop, inr ((λ h. let can = can_be_cycled (with_order starts_first) on_n1 goes_to_n2 0 0 h in cc), (0, omega arith, refl))))
 
 harmed_by_its_first : IsHarmlessOrder (with_order starts_first) on_n1 goes_to_n2 1 starts_first → ⊥
@@ -87,7 +87,7 @@ not_moved_live n m g = harmed_by_its_first (g.orders starts_first (0, omega arit
 abbrev in_turn : Order
 in_turn = record (start_order (codes "o") 1 0 false) { kind = kind.Serialize; symmetrical = false }
 
-other_is_stopped : IsDisturbed (with_order in_turn) on_n1 goes_to_n2 0
+other_is_stopped : GetsStepAnywhere (with_order in_turn) on_n1 goes_to_n2 0
 other_is_stopped = (0, omega arith, (Stop, inr ((λ h. let can = can_be_cycled (with_order in_turn) on_n1 goes_to_n2 0 0 h in cc), (0, omega arith, refl))))
 
 harmed_in_turn : IsHarmlessOrder (with_order in_turn) on_n1 goes_to_n2 1 in_turn → ⊥
@@ -100,7 +100,7 @@ harmed_in_turn h = elim (h.0 refl) [
 abbrev apart : ℕ → ℕ → Colocation
 apart r s = colocation (codes "x") r s (neg_ℤ (pos 1000000))
 
-s_is_stopped : IsDisturbed both on_n1 goes_to_n2 0
+s_is_stopped : GetsStepAnywhere both on_n1 goes_to_n2 0
 s_is_stopped = (0, omega arith, (Stop, inr ((λ h. let can = can_be_cycled both on_n1 goes_to_n2 0 0 h in cc), (0, omega arith, refl))))
 
 harmed_by_a_dependent : IsHarmlessColocation both on_n1 goes_to_n2 1 (apart 0 1) → ⊥
@@ -110,5 +110,5 @@ harmed_by_a_primary : IsHarmlessColocation both on_n1 goes_to_n2 1 (apart 1 0) �
 harmed_by_a_primary h = (h refl).0 refl s_is_stopped
 
 -- where another node may still run it, it isn't moved live
-may_run_on_the_lost : may both 0 1 (online (did Start 0 0 0 900 ∷ did Start 0 1 0 900 ∷ []) 1000 ++ Lost 1 ∷ []) ≡ true
+may_run_on_the_lost : may_be_running both 0 1 (online (did Start 0 0 0 900 ∷ did Start 0 1 0 900 ∷ []) 1000 ++ Lost 1 ∷ []) ≡ true
 may_run_on_the_lost = refl

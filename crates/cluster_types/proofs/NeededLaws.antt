@@ -14,7 +14,7 @@ use Rattle.cluster_types.specs.declared.leaf.Role.TheVariants as role
 use Rattle.cluster_types.specs.declared.rules.Order.{Order}
 use Rattle.cluster_types.specs.CellStates.{cell_state}
 use Rattle.cluster_types.specs.Fields.{copies, may_migrate, monitors}
-use Rattle.cluster_types.specs.Needed.{Cycled, by_copies, by_order, by_cycled, can_cycle, steps_at, GetsStep, NeedsMonitor, FirstSet, fence, probe, step, monitor, Migrates, Needed, kept, sent, taken_in}
+use Rattle.cluster_types.specs.Needed.{Cycled, by_copies, by_order, by_cycled, can_cycle, steps_at, GetsStep, NeedsMonitor, NeededBeforeMigration, fence, probe, step, monitor, Migrates, Needed, kept, sent, taken_in}
 use Rattle.cluster_types.specs.Pins.{is_unprobed_state}
 use Rattle.cluster_types.specs.Rights.{is_to_be_fenced}
 use Rattle.cluster_types.specs.Tables.{Targets}
@@ -28,8 +28,8 @@ module _ (c : Cluster) (es : List Event) (targets : Targets) where
   -- only what can be cycled is cycled
   pub can_be_cycled : (r n : ℕ) → Cycled c es targets r n → can_cycle c es targets r n ≡ true
   can_be_cycled _ _ (by_copies r n h l can over) = can
-  can_be_cycled _ _ (by_order o n m may d) = may.stays
-  can_be_cycled _ _ (by_cycled o n m may y d) = may.stays
+  can_be_cycled _ _ (by_order o n m may d) = may.can_be_cycled
+  can_be_cycled _ _ (by_cycled o n m may y d) = may.can_be_cycled
 
   -- without orders a cell is cycled only where its leaf is active in more cells than it has copies
   pub is_never_cycled : ((o : Order) → Contains c.orders o → ⊥) → ((r : ℕ) → r < length c.leaves → nat_lt (copies c r) (active_count c es r) ≡ false)
@@ -44,7 +44,7 @@ module _ (c : Cluster) (es : List Event) (targets : Targets) where
   step_of_uncycled r n o still (inr g) = g.1
 
   -- what is done to a cell is of a leaf and a node of the cluster
-  pub bounds_of_first : (o : Op) (r n i : ℕ) (given : Role) → FirstSet c es targets (Cell o r n i given) → (r < length c.leaves) × (n < length c.nodes)
+  pub bounds_of_first : (o : Op) (r n i : ℕ) (given : Role) → NeededBeforeMigration c es targets (Cell o r n i given) → (r < length c.leaves) × (n < length c.nodes)
   bounds_of_first _ _ _ _ _ (step r n o h l g) = (h, l)
   bounds_of_first _ _ _ _ _ (monitor r n m h l k g) = (h, l)
 
@@ -58,7 +58,7 @@ module _ (c : Cluster) (es : List Event) (targets : Targets) where
       (changed : (r n : ℕ) (o : Op) → r < length c.leaves → n < length c.nodes → GetsStep c es targets r n o → P (Cell o r n 0 role.Started))
       (watched : (r n : ℕ) (m : MonitorOf) → r < length c.leaves → n < length c.nodes → Contains (monitors c r) m → NeedsMonitor c es targets r n m
       → P (Cell Monitor r n m.interval_ms m.role)) where
-    pub of_first_set : (a : Action) → FirstSet c es targets a → P a
+    pub of_first_set : (a : Action) → NeededBeforeMigration c es targets a → P a
     of_first_set _ (fence n h e) = fenced n h e
     of_first_set _ (probe r n h l e) = asked r n h l e
     of_first_set _ (step r n o h l g) = changed r n o h l g

@@ -6,7 +6,7 @@ use Rattle.cluster_types.specs.declared.leaf.Op.TheVariants.{Start, Stop, Promot
 use Rattle.cluster_types.specs.declared.leaf.Role.TheVariants as role
 use Rattle.cluster_types.specs.declared.rules.OrderKind.{OrderKind}
 use Rattle.cluster_types.specs.declared.rules.OrderKind.TheVariants as kind
-use Rattle.cluster_types.specs.Precedence.{is_mandatory_order, is_same_op, is_up, role_by, takers}
+use Rattle.cluster_types.specs.Precedence.{is_mandatory_order, is_same_op, is_giving, role_given, takers}
 
 pub op_itself : (o : Op) → is_same_op o o ≡ true
 op_itself Start = refl
@@ -16,7 +16,7 @@ op_itself Demote = refl
 op_itself Monitor = refl
 
 -- what gives the role Started is a start
-pub start_of : (o : Op) → is_up o ≡ true → role_by o ≡ role.Started → o ≡ Start
+pub start_of : (o : Op) → is_giving o ≡ true → role_given o ≡ role.Started → o ≡ Start
 start_of Start h e = refl
 start_of Promote h e = cc
 start_of Stop h e = cc
@@ -24,7 +24,7 @@ start_of Demote h e = cc
 start_of Monitor h e = cc
 
 -- a stop takes whatever an up word gives
-pub stop_takes : (o : Op) → is_up o ≡ true → Contains (takers o) Stop
+pub stop_takes : (o : Op) → is_giving o ≡ true → Contains (takers o) Stop
 stop_takes Start h = at_head Stop [] Stop refl
 stop_takes Promote h = in_rest Demote (Stop ∷ []) Stop (at_head Stop [] Stop refl)
 stop_takes Stop h = cc

@@ -8,7 +8,7 @@ use Rattle.cluster_types.specs.declared.leaf.Op.TheVariants as op
 use Rattle.cluster_types.specs.declared.leaf.Role.{Role}
 use Rattle.cluster_types.specs.declared.leaf.Role.TheVariants as role
 use Rattle.cluster_types.specs.Precedence.{CellOf, as_earlier, as_later, both, cell_of, change_cell, gives_any, is_migrating, is_same_op, op_cell, start_cell, takers, takes_or_probes}
-use Rattle.cluster_types.specs.Precedes.{IsOperation, operation, StandsFirst, first_itself, first_taken_in, StandsLater, later_itself, later_sent_to, later_sent_off, TakesOrAsks, asks, takes, giver}
+use Rattle.cluster_types.specs.Precedes.{IsOperation, operation, CountsAsFirst, first_itself, first_taken_in, CountsAsLater, later_itself, later_sent_to, later_sent_off, TakesOrAsks, asks, takes, giver}
 use Rattle.cluster_types.proofs.Few.{of_one, of_two}
 use Rattle.cluster_types.proofs.OpLaws.{op_itself}
 
@@ -85,8 +85,8 @@ pub cell_of_operation : (o : Op) (x : Action) (r n : ℕ) → IsOperation o x r 
 cell_of_operation o _ _ _ (operation r n i role) = rw (op_itself o) refl
 
 -- as the first of a pair
-pub first_at : (o : Op) (x : Action) (a : CellOf) → as_earlier o x ≡ Some a → StandsFirst o x a.leaf a.node
-first_at op.Start (MigrateFrom r s t) a h = moved (StandsFirst op.Start (MigrateFrom r s t)) r t a h (first_taken_in r s t)
+pub first_at : (o : Op) (x : Action) (a : CellOf) → as_earlier o x ≡ Some a → CountsAsFirst o x a.leaf a.node
+first_at op.Start (MigrateFrom r s t) a h = moved (CountsAsFirst op.Start (MigrateFrom r s t)) r t a h (first_taken_in r s t)
 first_at op.Start (Fence n) a h = cc
 first_at op.Start (Probe r n) a h = cc
 first_at op.Start (Cell p r n i role) a h = first_itself op.Start (Cell p r n i role) a.leaf a.node (operation_at op.Start (Cell p r n i role) a h)
@@ -103,26 +103,26 @@ own_first op.Promote _ _ _ (operation r n i role) = refl
 own_first op.Demote _ _ _ (operation r n i role) = refl
 own_first op.Monitor _ _ _ (operation r n i role) = refl
 
-pub cell_of_first : (o : Op) (x : Action) (r n : ℕ) → StandsFirst o x r n → as_earlier o x ≡ cell_of r n
+pub cell_of_first : (o : Op) (x : Action) (r n : ℕ) → CountsAsFirst o x r n → as_earlier o x ≡ cell_of r n
 cell_of_first _ _ _ _ (first_itself o x r n k) = own_first o x r n k
 cell_of_first _ _ _ _ (first_taken_in r s t) = refl
 
 module _ (actions : List Action) where
   -- as the later
   stop_on : (r n i : ℕ) (role : Role) (a : CellOf) (b : Bool) → is_migrating actions r ≡ b → (if b then None else cell_of r n) ≡ Some a
-      → StandsLater actions op.Stop (Cell op.Stop r n i role) a.leaf a.node
+      → CountsAsLater actions op.Stop (Cell op.Stop r n i role) a.leaf a.node
   stop_on r n i role a true e h = cc
   stop_on r n i role a false e h =
-      moved (StandsLater actions op.Stop (Cell op.Stop r n i role)) r n a h (later_itself op.Stop (Cell op.Stop r n i role) r n (operation r n i role) (λ k. e))
+      moved (CountsAsLater actions op.Stop (Cell op.Stop r n i role)) r n a h (later_itself op.Stop (Cell op.Stop r n i role) r n (operation r n i role) (λ k. e))
 
-  start_on : (y : Action) (a : CellOf) → op_cell op.Start y ≡ Some a → StandsLater actions op.Start y a.leaf a.node
+  start_on : (y : Action) (a : CellOf) → op_cell op.Start y ≡ Some a → CountsAsLater actions op.Start y a.leaf a.node
   start_on y a h = later_itself op.Start y a.leaf a.node (operation_at op.Start y a h) (λ k. cc)
 
-  pub later_at : (o : Op) (y : Action) (a : CellOf) → as_later actions o y ≡ Some a → StandsLater actions o y a.leaf a.node
+  pub later_at : (o : Op) (y : Action) (a : CellOf) → as_later actions o y ≡ Some a → CountsAsLater actions o y a.leaf a.node
   later_at op.Start (Fence n) a h = cc
   later_at op.Start (Probe r n) a h = cc
   later_at op.Start (Cell p r n i role) a h = start_on (Cell p r n i role) a h
-  later_at op.Start (MigrateTo r s t) a h = moved (StandsLater actions op.Start (MigrateTo r s t)) r t a h (later_sent_to r s t)
+  later_at op.Start (MigrateTo r s t) a h = moved (CountsAsLater actions op.Start (MigrateTo r s t)) r t a h (later_sent_to r s t)
   later_at op.Start (MigrateFrom r s t) a h = cc
   later_at op.Stop (Fence n) a h = cc
   later_at op.Stop (Probe r n) a h = cc
@@ -131,7 +131,7 @@ module _ (actions : List Action) where
   later_at op.Stop (Cell op.Promote r n i role) a h = cc
   later_at op.Stop (Cell op.Demote r n i role) a h = cc
   later_at op.Stop (Cell op.Monitor r n i role) a h = cc
-  later_at op.Stop (MigrateTo r s t) a h = moved (StandsLater actions op.Stop (MigrateTo r s t)) r s a h (later_sent_off r s t)
+  later_at op.Stop (MigrateTo r s t) a h = moved (CountsAsLater actions op.Stop (MigrateTo r s t)) r s a h (later_sent_off r s t)
   later_at op.Stop (MigrateFrom r s t) a h = cc
   later_at op.Promote y a h = later_itself op.Promote y a.leaf a.node (operation_at op.Promote y a h) (λ k. cc)
   later_at op.Demote y a h = later_itself op.Demote y a.leaf a.node (operation_at op.Demote y a h) (λ k. cc)
@@ -144,7 +144,7 @@ module _ (actions : List Action) where
   own_later op.Demote _ _ _ (operation r n i role) k = refl
   own_later op.Monitor _ _ _ (operation r n i role) k = refl
 
-  pub cell_of_later : (o : Op) (y : Action) (r n : ℕ) → StandsLater actions o y r n → as_later actions o y ≡ cell_of r n
+  pub cell_of_later : (o : Op) (y : Action) (r n : ℕ) → CountsAsLater actions o y r n → as_later actions o y ≡ cell_of r n
   cell_of_later _ _ _ _ (later_itself o y r n k free) = own_later o y r n k free
   cell_of_later _ _ _ _ (later_sent_to r s t) = refl
   cell_of_later _ _ _ _ (later_sent_off r s t) = refl
@@ -152,7 +152,7 @@ module _ (actions : List Action) where
   -- the action gives some role
   pub record GivesSome (y : Action) (r n : ℕ) : Type 0 where
     pub given : Role
-    pub stands : StandsLater actions (giver given) y r n
+    pub stands : CountsAsLater actions (giver given) y r n
 
   started_at : (y : Action) (a : CellOf) → start_cell y ≡ Some a → GivesSome y a.leaf a.node
   started_at y a h = record { given = role.Started; stands = later_at op.Start y a h }
@@ -168,14 +168,14 @@ module _ (actions : List Action) where
   given_at (MigrateTo r s t) a h = started_at (MigrateTo r s t) a h
   given_at (MigrateFrom r s t) a h = cc
 
-  any_of_start : (y : Action) (r n : ℕ) → StandsLater actions op.Start y r n → gives_any y ≡ cell_of r n
+  any_of_start : (y : Action) (r n : ℕ) → CountsAsLater actions op.Start y r n → gives_any y ≡ cell_of r n
   any_of_start _ _ _ (later_itself _ _ _ _ (operation r n i role) free) = refl
   any_of_start _ _ _ (later_sent_to r s t) = refl
 
-  any_of_promote : (y : Action) (r n : ℕ) → StandsLater actions op.Promote y r n → gives_any y ≡ cell_of r n
+  any_of_promote : (y : Action) (r n : ℕ) → CountsAsLater actions op.Promote y r n → gives_any y ≡ cell_of r n
   any_of_promote _ _ _ (later_itself _ _ _ _ (operation r n i role) free) = refl
 
-  pub cell_of_given : (given : Role) (y : Action) (r n : ℕ) → StandsLater actions (giver given) y r n → gives_any y ≡ cell_of r n
+  pub cell_of_given : (given : Role) (y : Action) (r n : ℕ) → CountsAsLater actions (giver given) y r n → gives_any y ≡ cell_of r n
   cell_of_given role.Started y r n k = any_of_start y r n k
   cell_of_given role.Promoted y r n k = any_of_promote y r n k
 

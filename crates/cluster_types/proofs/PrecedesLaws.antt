@@ -17,9 +17,9 @@ use Rattle.cluster_types.specs.declared.rules.Colocation.{Colocation}
 use Rattle.cluster_types.specs.declared.rules.Order.{Order}
 use Rattle.cluster_types.specs.Choice.{is_separation}
 use Rattle.cluster_types.specs.Fields.{copies}
-use Rattle.cluster_types.specs.Precedence.{CellOf, as_earlier, as_later, both, cell_of, change_cell, comes_first_in_cell, demotes_first, fences_first, gives_any, gives_role, inverse, is_across, is_inverse_pair, is_one_cell, is_one_leaf, is_ordered, is_ordered_pair, is_parted, is_serialize, is_serialized, is_some_cell, is_taken_back, is_up, migrates_first, must_precede, op_cell, parts_first, probe_cell, probes_first, stops_first, takers, takes_or_probes}
+use Rattle.cluster_types.specs.Precedence.{CellOf, as_earlier, as_later, both, cell_of, change_cell, comes_first_in_cell, demotes_first, fences_first, gives_any, gives_role, inverse, is_across, is_inverse_pair, is_one_cell, is_one_leaf, is_ordered, is_ordered_pair, is_parted, is_serialize, is_serialized, is_some_cell, is_taken_back, is_giving, migrates_first, must_precede, op_cell, parts_first, probe_cell, probes_first, stops_first, takers, takes_or_probes}
 use Rattle.cluster_types.specs.Precedes as precedes
-use Rattle.cluster_types.specs.Precedes.{IsOperation, operation, StandsFirst, StandsLater, TakesOrAsks, giver, ComesFirstOnCell, demote_stop, start_promote, change_monitor, AreSides, dependent_first, primary_first, PutsFirst, forth, back, turned, AreEnds, first_and_then, then_and_first, MigratesInTurn, taken_in_later, stopped_later, watched_later}
+use Rattle.cluster_types.specs.Precedes.{IsOperation, operation, CountsAsFirst, CountsAsLater, TakesOrAsks, giver, ComesFirstOnCell, demote_stop, start_promote, change_monitor, AreSides, dependent_first, primary_first, PutsFirst, forth, back, turned, AreEnds, first_and_then, then_and_first, MigratesInTurn, taken_in_later, stopped_later, watched_later}
 use Rattle.cluster_types.specs.Tables.{is_in_scope}
 use Rattle.cluster_types.proofs.Few.{of_two}
 use Rattle.cluster_types.proofs.Operations.{two_cells, cells_pass, leaf_is, operation_at, cell_of_operation, first_at, cell_of_first, later_at, cell_of_later, given_at, cell_of_given, taken_at, cell_of_taken, changed_at, cell_of_changed}
@@ -51,7 +51,7 @@ module _ (c : Cluster) (actions : List Action) (is_earlier : Action → Action �
   probe_case (Probe r n) y a b h k e =
       let g = given_at actions y b k in
       let one : b.leaf ≡ r = rw (leaf_is r n a h) (sym (eqb-true a.leaf b.leaf e)) in
-      precedes.probe r n b.node g.given y (subst (λ v. StandsLater actions (giver g.given) y v b.node) one g.stands)
+      precedes.probe r n b.node g.given y (subst (λ v. CountsAsLater actions (giver g.given) y v b.node) one g.stands)
   probe_case (Fence n) y a b h k e = cc
   probe_case (Cell o r n i given) y a b h k e = cc
   probe_case (MigrateTo r s t) y a b h k e = cc
@@ -125,10 +125,10 @@ module _ (c : Cluster) (actions : List Action) (is_earlier : Action → Action �
       let (left, right) = and_parts (b.one.leaf == r) (b.other.leaf == s) leaves in
       precedes.apart col r s b.one.node held given x y present separate sides
       (subst (λ v. TakesOrAsks held x v b.one.node) (eqb-true b.one.leaf r left) (taken_at held x b.one b.is_one))
-      (subst (λ v. StandsLater actions (giver given) y s v) (sym (eqb-true b.one.node b.other.node node))
-      (subst (λ v. StandsLater actions (giver given) y v b.other.node) (eqb-true b.other.leaf s right) (gives given y b.other b.is_other)))
+      (subst (λ v. CountsAsLater actions (giver given) y s v) (sym (eqb-true b.one.node b.other.node node))
+      (subst (λ v. CountsAsLater actions (giver given) y v b.other.node) (eqb-true b.other.leaf s right) (gives given y b.other b.is_other)))
     where
-      gives : (given : Role) (y : Action) (a : CellOf) → gives_role given y ≡ Some a → StandsLater actions (giver given) y a.leaf a.node
+      gives : (given : Role) (y : Action) (a : CellOf) → gives_role given y ≡ Some a → CountsAsLater actions (giver given) y a.leaf a.node
       gives role.Started y a e = later_at actions op.Start y a e
       gives role.Promoted y a e = later_at actions op.Promote y a e
 
@@ -150,10 +150,10 @@ module _ (c : Cluster) (actions : List Action) (is_earlier : Action → Action �
       let (leaves, scope) = and_parts (b.one.leaf == r && b.other.leaf == s) (is_in_scope o b.one.node b.other.node) b.passes in
       let (left, right) = and_parts (b.one.leaf == r) (b.other.leaf == s) leaves in
       precedes.order o p q r s b.one.node b.other.node x y present kind puts
-      (subst (λ v. StandsFirst p x v b.one.node) (eqb-true b.one.leaf r left) (first_at p x b.one b.is_one))
-      (subst (λ v. StandsLater actions q y v b.other.node) (eqb-true b.other.leaf s right) (later_at actions q y b.other b.is_other)) scope
+      (subst (λ v. CountsAsFirst p x v b.one.node) (eqb-true b.one.leaf r left) (first_at p x b.one b.is_one))
+      (subst (λ v. CountsAsLater actions q y v b.other.node) (eqb-true b.other.leaf s right) (later_at actions q y b.other b.is_other)) scope
 
-  back_case : (o : Order) (x y : Action) → Contains c.orders o → is_serialize o.kind ≡ false → o.symmetrical ≡ true → is_up o.first_op && is_up o.then_op ≡ true
+  back_case : (o : Order) (x y : Action) → Contains c.orders o → is_serialize o.kind ≡ false → o.symmetrical ≡ true → is_giving o.first_op && is_giving o.then_op ≡ true
       → is_taken_back actions o x y ≡ true → Before x y
   back_case o x y present kind symmetrical up h =
       let p = passing (λ p. list_any (λ q. is_ordered_pair actions o p o.then_leaf q o.first x y) (takers o.first_op)) (takers o.then_op) h in
@@ -161,7 +161,7 @@ module _ (c : Cluster) (actions : List Action) (is_earlier : Action → Action �
       pair_case o p.element o.then_leaf q.element o.first x y present kind (back p.element q.element symmetrical up p.among q.among) q.passes
 
   inverse_case : (o : Order) (x y : Action) (b : Bool) → Contains c.orders o → is_serialize o.kind ≡ false → o.symmetrical ≡ true
-      → is_up o.first_op && is_up o.then_op ≡ b
+      → is_giving o.first_op && is_giving o.then_op ≡ b
       → (if b then is_taken_back actions o x y else is_ordered_pair actions o (inverse o.then_op) o.then_leaf (inverse o.first_op) o.first x y) ≡ true → Before x y
   inverse_case o x y true present kind symmetrical up h = back_case o x y present kind symmetrical up h
   inverse_case o x y false present kind symmetrical up h =
@@ -178,7 +178,7 @@ module _ (c : Cluster) (actions : List Action) (is_earlier : Action → Action �
       either forward (o.symmetrical && is_inverse_pair actions o x y) pair
       (pair_case o o.first_op o.first o.then_op o.then_leaf x y present (denied (is_serialize o.kind) kind) forth)
       (λ k. let (symmetrical, turn) = and_parts o.symmetrical (is_inverse_pair actions o x y) k in
-      inverse_case o x y (is_up o.first_op && is_up o.then_op) present (denied (is_serialize o.kind) kind) symmetrical refl turn)
+      inverse_case o x y (is_giving o.first_op && is_giving o.then_op) present (denied (is_serialize o.kind) kind) symmetrical refl turn)
 
   serialized_case : (o : Order) (x y : Action) → Contains c.orders o → is_serialized is_earlier o x y ≡ true → Before x y
   serialized_case o x y present h =
@@ -322,18 +322,18 @@ module _ (c : Cluster) (actions : List Action) (is_earlier : Action → Action �
       (cells_pass is_one_leaf (op_cell op.Stop x) (op_cell op.Promote y) r n r m (cell_of_operation op.Stop x r n k) (cell_of_operation op.Promote y r m l) (itself r)))
       takes k
 
-  cell_of_role : (given : Role) (y : Action) (r n : ℕ) → StandsLater actions (giver given) y r n → gives_role given y ≡ cell_of r n
+  cell_of_role : (given : Role) (y : Action) (r n : ℕ) → CountsAsLater actions (giver given) y r n → gives_role given y ≡ cell_of r n
   cell_of_role role.Started y r n k = cell_of_later actions op.Start y r n k
   cell_of_role role.Promoted y r n k = cell_of_later actions op.Promote y r n k
 
-  parted_test : (r s n : ℕ) (held given : Role) (x y : Action) → TakesOrAsks held x r n → StandsLater actions (giver given) y s n → is_parted r held s given x y ≡ true
+  parted_test : (r s n : ℕ) (held given : Role) (x y : Action) → TakesOrAsks held x r n → CountsAsLater actions (giver given) y s n → is_parted r held s given x y ≡ true
   parted_test r s n held given x y k l =
       cells_pass (λ a b. a.leaf == r && b.leaf == s && a.node == b.node) (takes_or_probes held x) (gives_role given y) r n s n
       (cell_of_taken held x r n k) (cell_of_role given y s n l)
       (and_from (r == r && s == s) (n == n) (and_from (r == r) (s == s) (itself r) (itself s)) (itself n))
 
   side_test : (col : Colocation) (r s n : ℕ) (held given : Role) (x y : Action) → AreSides col r held s given → TakesOrAsks held x r n
-      → StandsLater actions (giver given) y s n
+      → CountsAsLater actions (giver given) y s n
       → (is_parted col.dependent col.dependent_role col.primary col.primary_role x y || is_parted col.primary col.primary_role col.dependent col.dependent_role x y) ≡ true
   side_test col _ _ n _ _ x y dependent_first k l =
       or_left _ _ (parted_test col.dependent col.primary n col.dependent_role col.primary_role x y k l)
@@ -341,7 +341,7 @@ module _ (c : Cluster) (actions : List Action) (is_earlier : Action → Action �
       or_right (is_parted col.dependent col.dependent_role col.primary col.primary_role x y) _
       (parted_test col.primary col.dependent n col.primary_role col.dependent_role x y k l)
 
-  pair_test : (o : Order) (p q : Op) (r s n m : ℕ) (x y : Action) → StandsFirst p x r n → StandsLater actions q y s m → is_in_scope o n m ≡ true
+  pair_test : (o : Order) (p q : Op) (r s n m : ℕ) (x y : Action) → CountsAsFirst p x r n → CountsAsLater actions q y s m → is_in_scope o n m ≡ true
       → is_ordered_pair actions o p r q s x y ≡ true
   pair_test o p q r s n m x y k l scope =
       cells_pass (λ a b. a.leaf == r && b.leaf == s && is_in_scope o a.node b.node) (as_earlier p x) (as_later actions q y) r n s m
@@ -357,8 +357,8 @@ module _ (c : Cluster) (actions : List Action) (is_earlier : Action → Action �
       and_from (not (is_serialize o.kind)) _ (allowed (is_serialize o.kind) kind)
       (or_right (is_ordered_pair actions o o.first_op o.first o.then_op o.then_leaf x y) _ (and_from o.symmetrical (is_inverse_pair actions o x y) symmetrical h))
 
-  ordered_test : (o : Order) (p q : Op) (r s n m : ℕ) (x y : Action) → is_serialize o.kind ≡ false → PutsFirst o p r q s → StandsFirst p x r n
-      → StandsLater actions q y s m → is_in_scope o n m ≡ true → is_ordered actions o x y ≡ true
+  ordered_test : (o : Order) (p q : Op) (r s n m : ℕ) (x y : Action) → is_serialize o.kind ≡ false → PutsFirst o p r q s → CountsAsFirst p x r n
+      → CountsAsLater actions q y s m → is_in_scope o n m ≡ true → is_ordered actions o x y ≡ true
   ordered_test o _ _ _ _ n m x y kind forth k l scope =
       and_from (not (is_serialize o.kind)) _ (allowed (is_serialize o.kind) kind)
       (or_left (is_ordered_pair actions o o.first_op o.first o.then_op o.then_leaf x y) _ (pair_test o o.first_op o.then_op o.first o.then_leaf n m x y k l scope))

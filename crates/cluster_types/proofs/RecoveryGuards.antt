@@ -17,7 +17,7 @@ use Rattle.cluster_types.specs.declared.rules.Order.{Order}
 use Rattle.cluster_types.specs.declared.rules.OrderKind.TheVariants as kind
 use Rattle.cluster_types.specs.declared.states.CellState.TheVariants as cell
 use Rattle.cluster_types.specs.Choice.{is_permitted}
-use Rattle.cluster_types.specs.Held.{OrderMayHold}
+use Rattle.cluster_types.specs.Held.{OrderCanHoldBack}
 use Rattle.cluster_types.specs.Needed.{Cycled, by_copies, can_cycle, is_monitor_for, steps_at, steps_of}
 use Rattle.cluster_types.specs.Outcomes.{is_bad}
 use Rattle.cluster_types.specs.Reasons.{plain_reason}
@@ -129,7 +129,7 @@ starts_the_other_way = refl
 abbrev optional : Order
 optional = record (start_order (codes "o") 0 1 false) { kind = kind.Optional }
 
-holds_nothing_back : OrderMayHold stops twice on_n1 optional 0 → ⊥
+holds_nothing_back : OrderCanHoldBack stops twice on_n1 optional 0 → ⊥
 holds_nothing_back h = let e = h.mandatory in cc
 
 -- the first reason counts

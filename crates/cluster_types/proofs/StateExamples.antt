@@ -14,7 +14,7 @@ use Rattle.cluster_types.specs.declared.states.NodeState.TheVariants as state
 use Rattle.cluster_types.specs.CellStates.{cell_state}
 use Rattle.cluster_types.specs.Failures.{is_banned}
 use Rattle.cluster_types.specs.Journals.{first_events, unsaid, online as is_online}
-use Rattle.cluster_types.specs.May.{may}
+use Rattle.cluster_types.specs.May.{may_be_running}
 use Rattle.cluster_types.specs.NodeStates.{node_state}
 use Rattle.cluster_types.specs.Rights.{is_to_be_fenced}
 use Rattle.cluster_types.proofs.SmallClusters.{plain_leaf, two_nodes, unfenced, did, monitored, probed, online, step}
@@ -29,7 +29,7 @@ abbrev state_after : List Event → CellState
 state_after history = cell_state one 0 0 (online history 1000)
 
 abbrev may_after : List Event → Bool
-may_after history = may one 0 0 (online history 1000)
+may_after history = may_be_running one 0 0 (online history 1000)
 
 -- What the history of a cell says of it.
 
@@ -105,13 +105,13 @@ lost_is_offline_unfenced = refl
 
 -- What may run on a lost node stays so until the node is fenced, or is closed at once without fencing.
 
-lost_may_run : may one 0 1 (online (did Start 0 1 0 900 ∷ []) 1000 ++ Lost 1 ∷ []) ≡ true
+lost_may_run : may_be_running one 0 1 (online (did Start 0 1 0 900 ∷ []) 1000 ++ Lost 1 ∷ []) ≡ true
 lost_may_run = refl
 
-fenced_may_not : may one 0 1 (online (did Start 0 1 0 900 ∷ []) 1000 ++ Lost 1 ∷ Ended 1 (Fence 1) (Code 0) 1000 ∷ []) ≡ false
+fenced_may_not : may_be_running one 0 1 (online (did Start 0 1 0 900 ∷ []) 1000 ++ Lost 1 ∷ Ended 1 (Fence 1) (Code 0) 1000 ∷ []) ≡ false
 fenced_may_not = refl
 
-lost_unfenced_may_not : may (unfenced one) 0 1 (online (did Start 0 1 0 900 ∷ []) 1000 ++ Lost 1 ∷ []) ≡ false
+lost_unfenced_may_not : may_be_running (unfenced one) 0 1 (online (did Start 0 1 0 900 ∷ []) 1000 ++ Lost 1 ∷ []) ≡ false
 lost_unfenced_may_not = refl
 
 -- Where the status says nothing of a node, it is unclean from the beginning.

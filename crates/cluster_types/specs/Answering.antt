@@ -21,7 +21,7 @@ use Rattle.cluster_types.specs.declared.states.NodeState.TheVariants as node
 use Rattle.cluster_types.specs.Cells.{is_of_cell, is_sent_to}
 use Rattle.cluster_types.specs.Fields.{monitors}
 use Rattle.cluster_types.specs.Journals.{NodeSign, joined, last_sign, is_on, moment_of}
-use Rattle.cluster_types.specs.May.{may}
+use Rattle.cluster_types.specs.May.{may_be_running}
 use Rattle.cluster_types.specs.NodeStates.{node_state, is_online}
 use Rattle.cluster_types.specs.Outcomes.{is_bad, is_ignored}
 
@@ -65,7 +65,7 @@ module _ (c : Cluster) (es : List Event) (in_flight : List (ℕ × Action)) wher
   -- the report says something new: the node is online, the leaf may run there, the code is bad and not ignored, and the cell is quiet
   abbrev pub tells_news : ℕ → ℕ → ℕ → ℕ → Bool
   tells_news n r interval code =
-      nat_lt n (length c.nodes) && nat_lt r (length c.leaves) && nat_lt 0 interval && is_online c n es && may c r n es
+      nat_lt n (length c.nodes) && nat_lt r (length c.leaves) && nat_lt 0 interval && is_online c n es && may_be_running c r n es
       && is_bad (monitor_action c r n interval) (Code code) && not (is_ignored c (monitor_action c r n interval) (Code code)) && is_quiet_cell r n
 
   -- the answer applies, when so many from outside were taken

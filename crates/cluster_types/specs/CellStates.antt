@@ -13,7 +13,7 @@ use Rattle.cluster_types.specs.declared.states.CellState.{CellState}
 use Rattle.cluster_types.specs.declared.states.CellState.TheVariants as cell
 use Rattle.cluster_types.specs.Cells.{is_of_cell, is_sent_to, is_reset}
 use Rattle.cluster_types.specs.Failures.{outcomes, counted, is_outcome, is_failure}
-use Rattle.cluster_types.specs.May.{may, may_promoted}
+use Rattle.cluster_types.specs.May.{may_be_running, may_be_promoted}
 use Rattle.cluster_types.specs.NodeStates.{is_online}
 use Rattle.cluster_types.specs.Outcomes.{effective_fail, is_block}
 
@@ -51,9 +51,9 @@ cell_state c r n es =
     if not (is_online c n es) then cell.Away
     else (if is_none (last_outcome c r n es) then cell.Unprobed
     else (if is_blocked c r n es then cell.Blocked
-    else (if may c r n es && is_left_open c r n es then cell.Failed
-    else (if may_promoted c r n es then cell.Promoted
-    else (if may c r n es then cell.On
+    else (if may_be_running c r n es && is_left_open c r n es then cell.Failed
+    else (if may_be_promoted c r n es then cell.Promoted
+    else (if may_be_running c r n es then cell.On
     else cell.Off)))))
 
 -- the action changes what runs in the cell
@@ -74,5 +74,5 @@ is_end_of_monitor r n interval (Ended k (Cell Monitor leaf node ms role) o momen
 is_end_of_monitor r n interval _ = false
 
 -- the monitor of this interval is running: an outcome of it, an ignored one too, came after all that ended it
-abbrev pub is_running : ℕ → ℕ → ℕ → List Event → Bool
-is_running r n interval es = list_any (is_end_of_monitor r n interval) (after_last (ends_monitors r n) es)
+abbrev pub is_monitor_running : ℕ → ℕ → ℕ → List Event → Bool
+is_monitor_running r n interval es = list_any (is_end_of_monitor r n interval) (after_last (ends_monitors r n) es)

@@ -25,13 +25,15 @@ use Rattle.cluster_types.specs.Rights.{may_start, may_keep}
 use Rattle.cluster_types.specs.Tables.{Targets, holds_role, is_somewhere, load_of}
 use Rattle.cluster_types.specs.Terms.{active_count, base}
 
--- the colocation says something of this decision: its dependent gets its role by it
+-- the decision gives the dependent of the colocation its role
 abbrev pub is_dependent : Decision → Colocation → Bool
 is_dependent d col = is_same_decision d (decision_of col.dependent col.dependent_role)
 
+-- the decision gives the primary its role
 abbrev pub is_primary : Decision → Colocation → Bool
 is_primary d col = is_same_decision d (decision_of col.primary col.primary_role)
 
+-- of INFINITY (Pacemaker calls one of -INFINITY mandatory too; here that is a separation)
 abbrev pub is_mandatory : Colocation → Bool
 is_mandatory col = int_eq col.score infinity
 
@@ -56,7 +58,8 @@ abbrev pub is_unpromoted_role : TargetRole → Bool
 is_unpromoted_role target_role.Unpromoted = true
 is_unpromoted_role _ = false
 
--- how many nodes a decision chooses at most
+-- how many nodes a decision chooses at most: the copies of the leaf, or for a promotion its promoted copies if they are fewer; none where target-role
+-- forbids the role, or a failure keeps the leaf stopped everywhere (Pacemaker Explained, "target-role", "clone-max", "promoted-max")
 abbrev pub cap_of : Cluster → List Event → Decision → ℕ
 cap_of c es (Place r) = if is_stopped_role (target_role_of c r) || is_fail_stopped c r es then 0 else copies c r
 cap_of c es (Promote r) =
@@ -78,7 +81,7 @@ module _ (c : Cluster) (table : Targets) where
   preference d n =
       total_of (map (λ (col : Colocation). col.score) (filter (λ col. is_finite_colocation col && is_dependent d col && holds_role table col.primary col.primary_role n) c.colocations))
 
-  -- each mandatory primary of the decision holds its role on the node
+  -- the primary of each mandatory colocation of the decision holds its role on the node
   abbrev pub has_primaries : Decision → ℕ → Bool
   has_primaries d n =
       list_all (λ col. implies (is_mandatory col && is_dependent d col) (holds_role table col.primary col.primary_role n)) c.colocations
@@ -92,8 +95,8 @@ abbrev pub is_placed_for : Targets → Decision → ℕ → Bool
 is_placed_for table (Place r) n = true
 is_placed_for table (Promote r) n = is_somewhere (table r n)
 
--- the cluster may start the leaf, or what runs in the cell may stay and runs in no more cells than it has copies (Pacemaker Explained, "no-quorum-policy";
--- the bound by copies is a rule of this project)
+-- the cluster may start resources; or it may keep what runs, the cell has the role already, and its leaf is active in no more cells than it has copies
+-- (Pacemaker Explained, "no-quorum-policy"; the bound by copies is a rule of this project)
 abbrev pub is_permitted : Cluster → List Event → Decision → ℕ → Bool
 is_permitted c es d n =
     may_start c es
@@ -110,9 +113,9 @@ module _ (c : Cluster) (es : List Event) (promotions : List Promotion) (table : 
       is_usable c n es && is_permitted c es d n && int_le (pos 0) (total_on d n) && has_primaries c table d n && is_apart c table d n
       && is_placed_for table d n
 
-  -- node n is chosen before node m: a greater total, then fewer leaves with a target there so far, then the earlier node
-  abbrev pub is_chosen_before : Decision → ℕ → ℕ → Bool
-  is_chosen_before d n m =
+  -- node n is better than node m: a greater total, then fewer leaves with a target there so far, then the earlier node
+  abbrev pub is_better : Decision → ℕ → ℕ → Bool
+  is_better d n m =
       int_lt (total_on d m) (total_on d n)
       || int_eq (total_on d n) (total_on d m)
       && (nat_lt (load_of c table n) (load_of c table m) || load_of c table n == load_of c table m && nat_lt n m)
@@ -121,7 +124,7 @@ module _ (c : Cluster) (es : List Event) (promotions : List Promotion) (table : 
   abbrev pub is_chosen : Decision → ℕ → Bool
   is_chosen d n =
       is_candidate d n
-      && nat_lt (count_by (λ m. is_candidate d m && is_chosen_before d m n) (range_with_len 0 (length c.nodes))) (cap_of c es d)
+      && nat_lt (count_by (λ m. is_candidate d m && is_better d m n) (range_with_len 0 (length c.nodes))) (cap_of c es d)
 
 -- what a decision makes of a chosen cell
 abbrev pub target_by : Decision → Target

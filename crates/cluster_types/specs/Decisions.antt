@@ -3,7 +3,7 @@ use Rattle.std.specs.Prelude.{◌≡◌, ◌≢◌, ℕ, suc, zero, nat_lt, ◌=
 use Rattle.std.specs.List.{list_any, list_all, flat_map, range_with_len}
 use Rattle.std.specs.Int.{int_max}
 use Rattle.std.specs.Ordering.{int_eq}
-use Rattle.edges.specs.Chains.{Chain, HaveNoRing}
+use Rattle.edges.specs.Chains.{Chain, HaveNoLoop}
 use Rattle.score.specs.Total.{minus_infinity}
 use Rattle.cluster_types.specs.declared.cluster.Cluster.{Cluster}
 use Rattle.cluster_types.specs.declared.journal.Event.{Event}
@@ -46,14 +46,14 @@ decision_of r role.Promoted = Promote r
 
 -- by what decisions are compared: the priority of the leaf, the greatest total where it is active, the greatest total on a usable node
 pub record Key : Type 0 where
-  pub rank : ℤ
+  pub priority : ℤ
   pub active : ℤ
   pub usable : ℤ
 
 abbrev pub is_less : Key → Key → Bool
 is_less a b =
-    int_lt a.rank b.rank
-    || int_eq a.rank b.rank && (int_lt a.active b.active || int_eq a.active b.active && int_lt a.usable b.usable)
+    int_lt a.priority b.priority
+    || int_eq a.priority b.priority && (int_lt a.active b.active || int_eq a.active b.active && int_lt a.usable b.usable)
 
 abbrev pub greater_key : Key → Key → Key
 greater_key a b = if is_less a b then b else a
@@ -88,7 +88,7 @@ pub record IsNeedLink (c : Cluster) (among : List Decision) (d e : Decision) : T
 
 -- the needs have no loop: no chain of them leads from a decision back to it
 abbrev pub NeedsHaveNoLoop : Cluster → Type 0
-NeedsHaveNoLoop c = HaveNoRing (IsNeedLink c (all_decisions c))
+NeedsHaveNoLoop c = HaveNoLoop (IsNeedLink c (all_decisions c))
 
 -- the one decision needs the other through a chain of needs among these
 abbrev pub NeedsByChain : Cluster → List Decision → Decision → Decision → Type 0
@@ -110,7 +110,7 @@ module _ (c : Cluster) (es : List Event) where
   abbrev pub is_decision : Decision → Bool
   is_decision d = is_among decisions d
 
-  -- the decision can be made now: it hasn't been, and each that it needs has been
+  -- the decision can be made now: it hasn't been, and each that it needs has been. A pinned leaf has no decision, so none waits for it
   abbrev pub is_ready : List Decision → Decision → Bool
   is_ready made d = is_decision d && not (is_among made d) && list_all (λ e. implies (needs c d e) (is_among made e)) decisions
 
@@ -120,7 +120,7 @@ module _ (c : Cluster) (es : List Event) (promotions : List Promotion) where
 
   abbrev pub key_of : Decision → Key
   key_of d = record {
-    rank = priority c (leaf_of d);
+    priority = priority c (leaf_of d);
     active = greatest_of (totals_where (λ n. is_active_for d (cell_state c (leaf_of d) n es)) d);
     usable = greatest_of (totals_where (λ n. is_usable c n es) d);
   }

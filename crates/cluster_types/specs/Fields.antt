@@ -42,6 +42,7 @@ module _ (c : Cluster) (r : ℕ) where
   abbrev pub priority : ℤ
   priority = of_leaf (λ leaf. leaf.priority) (pos 0)
 
+  -- migration-threshold in points; 0 is none
   abbrev pub threshold : ℤ
   threshold = of_leaf (λ leaf. leaf.threshold) (pos 0)
 
@@ -55,14 +56,14 @@ module _ (c : Cluster) (r : ℕ) where
   abbrev pub target_role_of : TargetRole
   target_role_of = of_leaf (λ leaf. leaf.target_role) target_role.Started
 
-  abbrev pub start_fail : OnFail
-  start_fail = of_leaf (λ leaf. leaf.start_fail) on_fail.Restart
+  abbrev pub start_on_fail : OnFail
+  start_on_fail = of_leaf (λ leaf. leaf.start_fail) on_fail.Restart
 
-  abbrev pub stop_fail : OnFail
-  stop_fail = of_leaf (λ leaf. leaf.stop_fail) on_fail.Restart
+  abbrev pub stop_on_fail : OnFail
+  stop_on_fail = of_leaf (λ leaf. leaf.stop_fail) on_fail.Restart
 
-  abbrev pub promote_fail : OnFail
-  promote_fail = of_leaf (λ leaf. leaf.promote_fail) on_fail.Restart
+  abbrev pub promote_on_fail : OnFail
+  promote_on_fail = of_leaf (λ leaf. leaf.promote_fail) on_fail.Restart
 
-  abbrev pub demote_fail : OnFail
-  demote_fail = of_leaf (λ leaf. leaf.demote_fail) on_fail.Restart
+  abbrev pub demote_on_fail : OnFail
+  demote_on_fail = of_leaf (λ leaf. leaf.demote_fail) on_fail.Restart

@@ -15,44 +15,46 @@ use Rattle.cluster_types.specs.Choice.{is_mandatory}
 use Rattle.cluster_types.specs.Decisions.{decision_of}
 use Rattle.cluster_types.specs.Pins.{is_pinned}
 use Rattle.cluster_types.specs.Tables.{Targets, holds_role, is_in_scope}
-use Rattle.cluster_types.specs.Precedence.{is_up, role_by}
+use Rattle.cluster_types.specs.Precedence.{is_giving, role_given}
 
 module _ (c : Cluster) (es : List Event) (table : Targets) where
   -- a mandatory order whose words both give a role may hold its then back on a node where it was chosen. The table is that after all decisions
-  pub record OrderMayHold (o : Order) (n : ℕ) : Type 0 where
+  pub record OrderCanHoldBack (o : Order) (n : ℕ) : Type 0 where
     pub present : Contains c.orders o
     pub mandatory : o.kind ≡ kind.Mandatory
-    pub first_gives : is_up o.first_op ≡ true
-    pub then_gives : is_up o.then_op ≡ true
+    pub first_gives : is_giving o.first_op ≡ true
+    pub then_gives : is_giving o.then_op ≡ true
     pub managed : is_pinned c es o.then_leaf ≡ false
     pub within : n < length c.nodes
-    pub chosen : holds_role table o.then_leaf (role_by o.then_op) n ≡ true
+    pub chosen : holds_role table o.then_leaf (role_given o.then_op) n ≡ true
 
   -- a mandatory colocation may hold its dependent back on a node where it was chosen
-  pub record ColocationMayHold (col : Colocation) (n : ℕ) : Type 0 where
+  pub record ColocationCanHoldBack (col : Colocation) (n : ℕ) : Type 0 where
     pub present : Contains c.colocations col
     pub mandatory : is_mandatory col ≡ true
     pub managed : is_pinned c es col.dependent ≡ false
     pub within : n < length c.nodes
     pub chosen : holds_role table col.dependent col.dependent_role n ≡ true
 
-  -- no target of the first of an order, in its role and in scope, is outside the set; and none of the primary of a colocation on the node
+  -- each target that the first of the order has, in its role and in scope, is in the set (so too where it has none)
   abbrev pub LacksFirst : (Decision → ℕ → Type 0) → Order → ℕ → Type 0
   LacksFirst set o n =
-      (m : ℕ) → m < length c.nodes → is_in_scope o n m ≡ true → holds_role table o.first (role_by o.first_op) m ≡ true
-      → set (decision_of o.first (role_by o.first_op)) m
+      (m : ℕ) → m < length c.nodes → is_in_scope o n m ≡ true → holds_role table o.first (role_given o.first_op) m ≡ true
+      → set (decision_of o.first (role_given o.first_op)) m
 
+  -- the primary has no target in its role on the node, or that one is in the set
   abbrev pub LacksPrimary : (Decision → ℕ → Type 0) → Colocation → ℕ → Type 0
   LacksPrimary set col n = holds_role table col.primary col.primary_role n ≡ true → set (decision_of col.primary col.primary_role) n
 
-  -- the chosen cells that are held back, by three rules and nothing else: a then is held where its first has no target in scope that isn't, a dependent
-  -- where its primary has none on the node, and a promote where the place of its leaf is held
+  -- the chosen cells that are held back, by three rules and nothing else: a then where each target of its first, in the order's role and in scope, is held,
+  -- or there is none; a dependent where its primary has no target in its role on the node, or that one is held; and a promote where the place of its leaf
+  -- is held
   pub data Held : Decision → ℕ → Type 0 where
-    by_order : (o : Order) (n : ℕ) → OrderMayHold o n
-        → ((m : ℕ) → m < length c.nodes → is_in_scope o n m ≡ true → holds_role table o.first (role_by o.first_op) m ≡ true
-        → Held (decision_of o.first (role_by o.first_op)) m)
-        → Held (decision_of o.then_leaf (role_by o.then_op)) n
-    by_colocation : (col : Colocation) (n : ℕ) → ColocationMayHold col n
+    by_order : (o : Order) (n : ℕ) → OrderCanHoldBack o n
+        → ((m : ℕ) → m < length c.nodes → is_in_scope o n m ≡ true → holds_role table o.first (role_given o.first_op) m ≡ true
+        → Held (decision_of o.first (role_given o.first_op)) m)
+        → Held (decision_of o.then_leaf (role_given o.then_op)) n
+    by_colocation : (col : Colocation) (n : ℕ) → ColocationCanHoldBack col n
         → (holds_role table col.primary col.primary_role n ≡ true → Held (decision_of col.primary col.primary_role) n)
         → Held (decision_of col.dependent col.dependent_role) n
     by_place : (r n : ℕ) → holds_role table r role.Promoted n ≡ true → Held (Place r) n → Held (Promote r) n

@@ -14,7 +14,7 @@ use Rattle.cluster_types.specs.Failures.{is_banned}
 use Rattle.cluster_types.specs.NodeStates.{is_usable}
 use Rattle.cluster_types.specs.Pins.{is_pinned}
 use Rattle.cluster_types.specs.Tables.{Targets, holds_role, is_in_scope}
-use Rattle.cluster_types.specs.Precedence.{is_up, role_by}
+use Rattle.cluster_types.specs.Precedence.{is_giving, role_given}
 
 module _ (c : Cluster) (es : List Event) (targets : Targets) where
   -- what holds of a leaf on a node where it has a target
@@ -27,15 +27,15 @@ module _ (c : Cluster) (es : List Event) (targets : Targets) where
         → holds_role targets r col.dependent_role n ≡ true → holds_role targets col.primary col.primary_role n ≡ false
     pub apart_from_dependents : (col : Colocation) → Contains c.colocations col → is_separation col ≡ true → col.primary ≡ r
         → holds_role targets r col.primary_role n ≡ true → holds_role targets col.dependent col.dependent_role n ≡ false
-    pub after_firsts : (o : Order) → Contains c.orders o → o.kind ≡ kind.Mandatory → o.then_leaf ≡ r → is_up o.first_op ≡ true → is_up o.then_op ≡ true
-        → holds_role targets r (role_by o.then_op) n ≡ true
-        → (m : ℕ) × (m < length c.nodes) × (is_in_scope o n m ≡ true) × (holds_role targets o.first (role_by o.first_op) m ≡ true)
+    pub after_firsts : (o : Order) → Contains c.orders o → o.kind ≡ kind.Mandatory → o.then_leaf ≡ r → is_giving o.first_op ≡ true → is_giving o.then_op ≡ true
+        → holds_role targets r (role_given o.then_op) n ≡ true
+        → (m : ℕ) × (m < length c.nodes) × (is_in_scope o n m ≡ true) × (holds_role targets o.first (role_given o.first_op) m ≡ true)
 
   -- on how many nodes a leaf holds a role
-  abbrev pub holder_count : ℕ → Role → ℕ
-  holder_count r held = count_by (λ n. holds_role targets r held n) (range_with_len 0 (length c.nodes))
+  abbrev pub role_count : ℕ → Role → ℕ
+  role_count r given = count_by (λ n. holds_role targets r given n) (range_with_len 0 (length c.nodes))
 
   pub record IsLawful : Type 0 where
     pub cells : (r n : ℕ) → r < length c.leaves → n < length c.nodes → is_pinned c es r ≡ false → holds_role targets r role.Started n ≡ true → IsLawfulCell r n
-    pub copies : (r : ℕ) → r < length c.leaves → is_pinned c es r ≡ false → holder_count r role.Started ≤ cap_of c es (Place r)
-    pub promoted_copies : (r : ℕ) → r < length c.leaves → is_pinned c es r ≡ false → holder_count r role.Promoted ≤ cap_of c es (Promote r)
+    pub copies : (r : ℕ) → r < length c.leaves → is_pinned c es r ≡ false → role_count r role.Started ≤ cap_of c es (Place r)
+    pub promoted_copies : (r : ℕ) → r < length c.leaves → is_pinned c es r ≡ false → role_count r role.Promoted ≤ cap_of c es (Promote r)

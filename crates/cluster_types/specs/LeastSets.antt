@@ -10,17 +10,17 @@ use Rattle.cluster_types.specs.declared.rules.Colocation.{Colocation}
 use Rattle.cluster_types.specs.declared.rules.Order.{Order}
 use Rattle.cluster_types.specs.Decisions.{decision_of}
 use Rattle.cluster_types.specs.Fields.{copies}
-use Rattle.cluster_types.specs.Held.{ColocationMayHold, LacksFirst, LacksPrimary, OrderMayHold}
+use Rattle.cluster_types.specs.Held.{ColocationCanHoldBack, LacksFirst, LacksPrimary, OrderCanHoldBack}
 use Rattle.cluster_types.specs.Needed.{OrderMayCycle, can_cycle, has_disturbing, steps_at}
 use Rattle.cluster_types.specs.Tables.{Targets, holds_role}
 use Rattle.cluster_types.specs.Terms.{active_count}
-use Rattle.cluster_types.specs.Precedence.{role_by}
+use Rattle.cluster_types.specs.Precedence.{role_given}
 
 module _ (c : Cluster) (es : List Event) (table : Targets) where
   -- the rules of what is held
   pub record IsClosedUnderHolding (set : Decision → ℕ → Type 0) : Type 0 where
-    pub by_order : (o : Order) (n : ℕ) → OrderMayHold c es table o n → LacksFirst c es table set o n → set (decision_of o.then_leaf (role_by o.then_op)) n
-    pub by_colocation : (col : Colocation) (n : ℕ) → ColocationMayHold c es table col n → LacksPrimary c es table set col n
+    pub by_order : (o : Order) (n : ℕ) → OrderCanHoldBack c es table o n → LacksFirst c es table set o n → set (decision_of o.then_leaf (role_given o.then_op)) n
+    pub by_colocation : (col : Colocation) (n : ℕ) → ColocationCanHoldBack c es table col n → LacksPrimary c es table set col n
         → set (decision_of col.dependent col.dependent_role) n
     pub by_place : (r n : ℕ) → holds_role table r role.Promoted n ≡ true → set (Place r) n → set (Promote r) n
 

@@ -24,8 +24,8 @@ takes_out fencing n (Lost node) = node == n && not fencing
 takes_out fencing n (Ended k (Fence node) o moment) = node == n && is_code_among (success ∷ []) o
 takes_out fencing n _ = false
 
--- from this event on the leaf may run on the node: the node joined; a start, a promote, a demote or a migration to the node began or ended,
--- however it ended; or a probe or a monitor didn't find that it doesn't run
+-- from this event on the leaf may run on the node: the node joined; a start, a promote, a demote or the taking in of a migration began or ended, however it
+-- ended; the sending of a migration to the node began; or a probe or a monitor ended and doesn't close the cell
 abbrev pub opens_cell : ℕ → ℕ → Event → Bool
 opens_cell r n (Up node) = node == n
 opens_cell r n (Begin k (Cell Start leaf node interval role)) = is_same_cell r n leaf node
@@ -49,16 +49,18 @@ closes_cell r n (Ended k (Probe leaf node) o moment) = is_same_cell r n leaf nod
 closes_cell r n (Ended k (Cell Monitor leaf node interval role) o moment) = is_same_cell r n leaf node && is_code_among (not_running ∷ []) o
 closes_cell r n _ = false
 
+-- from this event on the leaf may run on the node: it opens the cell, and shows no outcome that is ignored
 abbrev pub opens : Cluster → ℕ → ℕ → Event → Bool
 opens c r n e = opens_cell r n e && not (shows_nothing c e)
 
+-- from this event on it no longer may: the node is out, or the event closes the cell and shows no outcome that is ignored
 abbrev pub closes : Cluster → ℕ → ℕ → Event → Bool
 closes c r n e = takes_out c.properties.fencing n e || closes_cell r n e && not (shows_nothing c e)
 
 -- the leaf may run on the node: some event opens the cell, and no later event closes it
-abbrev pub may : Cluster → ℕ → ℕ → List Event → Bool
-may c r n [] = false
-may c r n (e ∷ es) = opens c r n e && list_all (λ later. not (closes c r n later)) es || may c r n es
+abbrev pub may_be_running : Cluster → ℕ → ℕ → List Event → Bool
+may_be_running c r n [] = false
+may_be_running c r n (e ∷ es) = opens c r n e && list_all (λ later. not (closes c r n later)) es || may_be_running c r n es
 
 -- from this event on the leaf may be promoted on the node: the node joined; a promote began or ended, however it ended; or a probe or a
 -- monitor found it promoted
@@ -70,8 +72,8 @@ promotes_cell r n (Ended k (Probe leaf node) o moment) = is_same_cell r n leaf n
 promotes_cell r n (Ended k (Cell Monitor leaf node interval role) o moment) = is_same_cell r n leaf node && is_code_among (running_promoted ∷ failed_promoted ∷ degraded_promoted ∷ []) o
 promotes_cell r n _ = false
 
--- an action shows that the leaf isn't promoted on the node: a start, a stop or a demote succeeded; or a probe or a monitor found it
--- unpromoted or not running
+-- an action shows that the leaf isn't promoted on the node: a start, a stop or a demote succeeded; a probe or a monitor found it unpromoted or not running;
+-- or a probe found it not installed
 abbrev pub demotes_cell : ℕ → ℕ → Event → Bool
 demotes_cell r n (Ended k (Cell Start leaf node interval role) o moment) = is_same_cell r n leaf node && is_code_among (success ∷ []) o
 demotes_cell r n (Ended k (Cell Stop leaf node interval role) o moment) = is_same_cell r n leaf node && is_code_among (success ∷ []) o
@@ -93,5 +95,5 @@ is_left_promoted c r n (e ∷ es) =
     opens_promoted c r n e && list_all (λ later. not (closes_promoted c r n later)) es || is_left_promoted c r n es
 
 -- the leaf may be promoted on the node; only a promotable leaf may
-abbrev pub may_promoted : Cluster → ℕ → ℕ → List Event → Bool
-may_promoted c r n es = is_promotable c r && is_left_promoted c r n es
+abbrev pub may_be_promoted : Cluster → ℕ → ℕ → List Event → Bool
+may_be_promoted c r n es = is_promotable c r && is_left_promoted c r n es

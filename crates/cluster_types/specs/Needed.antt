@@ -18,17 +18,18 @@ use Rattle.cluster_types.specs.declared.rules.Order.{Order}
 use Rattle.cluster_types.specs.declared.rules.OrderKind.TheVariants as kind
 use Rattle.cluster_types.specs.declared.states.CellState.{CellState}
 use Rattle.cluster_types.specs.declared.states.CellState.TheVariants as cell
-use Rattle.cluster_types.specs.CellStates.{cell_state, is_running}
+use Rattle.cluster_types.specs.CellStates.{cell_state, is_monitor_running}
 use Rattle.cluster_types.specs.Choice.{is_separation}
 use Rattle.cluster_types.specs.Fields.{copies, monitors, is_cloned, is_promotable, may_migrate}
-use Rattle.cluster_types.specs.May.{may}
+use Rattle.cluster_types.specs.May.{may_be_running}
 use Rattle.cluster_types.specs.Pins.{is_pinned, is_unprobed_state}
 use Rattle.cluster_types.specs.Rights.{is_to_be_fenced, may_start}
 use Rattle.cluster_types.specs.Terms.{active_count}
 use Rattle.cluster_types.specs.Tables.{Targets, holds_role, is_in_scope, is_somewhere}
-use Rattle.cluster_types.specs.Precedence.{is_up, role_by}
+use Rattle.cluster_types.specs.Precedence.{is_giving, role_given}
 
--- the steps that bring a cell from its state to its target. A cycled cell is stopped and started again on the way
+-- the steps that bring a cell from its state to its target. A cycled cell is stopped and started again on the way. The others need none: an Off or Unprobed
+-- cell without a target, one that is Away (it has no target), and one that is Blocked (its leaf is pinned)
 abbrev pub steps_of : CellState → Target → Bool → List Op
 steps_of cell.Unprobed target.Started cycled = op.Start ∷ []
 steps_of cell.Unprobed target.Promoted cycled = op.Start ∷ op.Promote ∷ []
@@ -51,7 +52,7 @@ runs cell.On = true
 runs cell.Promoted = true
 runs _ = false
 
--- an action of the first that takes its role away or gives it anew, by the order's word for it
+-- by the order's word for its first: the step takes away the role that the word gives, or gives it anew
 abbrev pub disturbs : Op → Op → Bool
 disturbs op.Start op.Start = true
 disturbs op.Start op.Stop = true
@@ -82,13 +83,13 @@ module _ (c : Cluster) (es : List Event) (targets : Targets) where
     pub present : Contains c.orders o
     pub mandatory : o.kind ≡ kind.Mandatory
     pub both_ways : o.symmetrical ≡ true
-    pub first_gives : is_up o.first_op ≡ true
-    pub then_gives : is_up o.then_op ≡ true
+    pub first_gives : is_giving o.first_op ≡ true
+    pub then_gives : is_giving o.then_op ≡ true
     pub within : n < length c.nodes
     pub first_within : m < length c.nodes
     pub in_scope : is_in_scope o n m ≡ true
-    pub stays : can_cycle o.then_leaf n ≡ true
-    pub in_role : holds_role targets o.then_leaf (role_by o.then_op) n ≡ true
+    pub can_be_cycled : can_cycle o.then_leaf n ≡ true
+    pub in_role : holds_role targets o.then_leaf (role_given o.then_op) n ≡ true
 
   -- the cells that are stopped and started again, by three rules and nothing else: a cell of a leaf that is active in more cells than it has copies; and
   -- the then of an order whose first is disturbed in scope, by the steps that it needs itself, or by those that it gets as a cycled cell
@@ -112,30 +113,31 @@ module _ (c : Cluster) (es : List Event) (targets : Targets) where
   abbrev pub NeedsMonitor : ℕ → ℕ → MonitorOf → Type 0
   NeedsMonitor r n m =
       (is_pinned c es r ≡ false) × (is_monitor_for m.role (targets r n) ≡ true)
-      × ((is_running r n m.interval_ms es ≡ false) ⊎ GetsAny r n)
+      × ((is_monitor_running r n m.interval_ms es ≡ false) ⊎ GetsAny r n)
 
-  -- what has to be done, before live migration
-  pub data FirstSet : Action → Type 0 where
-    fence : (n : ℕ) → n < length c.nodes → is_to_be_fenced c n es ≡ true → FirstSet (Fence n)
-    probe : (r n : ℕ) → r < length c.leaves → n < length c.nodes → is_unprobed_state (cell_state c r n es) ≡ true → FirstSet (Probe r n)
-    step : (r n : ℕ) (o : Op) → r < length c.leaves → n < length c.nodes → GetsStep r n o → FirstSet (Cell o r n 0 role.Started)
+  -- what has to be done, before live migration. What is no monitor has interval 0 and role Started (see Action)
+  pub data NeededBeforeMigration : Action → Type 0 where
+    fence : (n : ℕ) → n < length c.nodes → is_to_be_fenced c n es ≡ true → NeededBeforeMigration (Fence n)
+    probe : (r n : ℕ) → r < length c.leaves → n < length c.nodes → is_unprobed_state (cell_state c r n es) ≡ true → NeededBeforeMigration (Probe r n)
+    step : (r n : ℕ) (o : Op) → r < length c.leaves → n < length c.nodes → GetsStep r n o → NeededBeforeMigration (Cell o r n 0 role.Started)
     monitor : (r n : ℕ) (m : MonitorOf) → r < length c.leaves → n < length c.nodes → Contains (monitors c r) m → NeedsMonitor r n m
-        → FirstSet (Cell op.Monitor r n m.interval_ms m.role)
+        → NeededBeforeMigration (Cell op.Monitor r n m.interval_ms m.role)
 
   -- the leaf gets a step anywhere
-  abbrev pub IsDisturbed : ℕ → Type 0
-  IsDisturbed r = (n : ℕ) × (n < length c.nodes) × GetsAny r n
+  abbrev pub GetsStepAnywhere : ℕ → Type 0
+  GetsStepAnywhere r = (n : ℕ) × (n < length c.nodes) × GetsAny r n
 
-  -- an order leaves a migration of r be: it isn't one of r's, r is its first by a start, or the other leaf gets no step
+  -- an order leaves a migration of r be: r isn't in it; r is its first by a start, and it isn't Serialize; or the other leaf gets no step. An order of r
+  -- with itself is judged by its first alone
   abbrev pub IsHarmlessOrder : ℕ → Order → Type 0
   IsHarmlessOrder r o =
-      (o.first ≡ r → ((o.kind ≢ kind.Serialize) × (o.first_op ≡ op.Start)) ⊎ (¬ IsDisturbed o.then_leaf))
-      × (o.then_leaf ≡ r → o.first ≢ r → ¬ IsDisturbed o.first)
+      (o.first ≡ r → ((o.kind ≢ kind.Serialize) × (o.first_op ≡ op.Start)) ⊎ (¬ GetsStepAnywhere o.then_leaf))
+      × (o.then_leaf ≡ r → o.first ≢ r → ¬ GetsStepAnywhere o.first)
 
-  -- a separation likewise
+  -- a colocation leaves it be: it is no separation, r isn't in it, or the other leaf gets no step
   abbrev pub IsHarmlessColocation : ℕ → Colocation → Type 0
   IsHarmlessColocation r col =
-      is_separation col ≡ true → (col.dependent ≡ r → ¬ IsDisturbed col.primary) × (col.primary ≡ r → ¬ IsDisturbed col.dependent)
+      is_separation col ≡ true → (col.dependent ≡ r → ¬ GetsStepAnywhere col.primary) × (col.primary ≡ r → ¬ GetsStepAnywhere col.dependent)
 
   -- the leaf migrates live from n to m (Pacemaker Explained, "Migrating Resources"; when a rule is harmless is a rule of this project)
   pub record Migrates (r n m : ℕ) : Type 0 where
@@ -144,15 +146,15 @@ module _ (c : Cluster) (es : List Event) (targets : Targets) where
     pub plain : is_promotable c r ≡ false
     pub managed : is_pinned c es r ≡ false
     pub running : cell_state c r n es ≡ cell.On
-    pub nowhere_else : (k : ℕ) → k < length c.nodes → k ≢ n → may c r k es ≡ false
-    pub away : m ≢ n
-    pub stopped : FirstSet (Cell op.Stop r n 0 role.Started)
-    pub started : FirstSet (Cell op.Start r m 0 role.Started)
+    pub nowhere_else : (k : ℕ) → k < length c.nodes → k ≢ n → may_be_running c r k es ≡ false
+    pub elsewhere : m ≢ n
+    pub stopped : NeededBeforeMigration (Cell op.Stop r n 0 role.Started)
+    pub started : NeededBeforeMigration (Cell op.Start r m 0 role.Started)
     pub orders : (o : Order) → Contains c.orders o → IsHarmlessOrder r o
     pub colocations : (col : Colocation) → Contains c.colocations col → IsHarmlessColocation r col
 
   -- what has to be done: where a leaf migrates, it is sent and taken in instead of started
   pub data Needed : Action → Type 0 where
-    kept : (a : Action) → FirstSet a → ((r n m : ℕ) → Migrates r n m → a ≢ Cell op.Start r m 0 role.Started) → Needed a
+    kept : (a : Action) → NeededBeforeMigration a → ((r n m : ℕ) → Migrates r n m → a ≢ Cell op.Start r m 0 role.Started) → Needed a
     sent : (r n m : ℕ) → Migrates r n m → Needed (MigrateTo r n m)
     taken_in : (r n m : ℕ) → Migrates r n m → Needed (MigrateFrom r n m)

@@ -1,7 +1,7 @@
 -- The order in which actions are numbered (rule of this project).
 use Rattle.std.specs.Prelude.{◌≡◌, ◌≢◌, ◌↔◌, ℕ, suc, zero, ◌+◌, ◌*◌, nat_lt, ◌==◌, ◌&&◌, ◌||◌, Bool, true, not, if◌then◌else◌, List, [], ◌∷◌, ◌++◌, length, map, filter, fold, max, Contains, AllPairs}
 use Rattle.std.specs.List.{flat_map, range_with_len}
-use Rattle.edges.specs.Chains.{HaveNoRing, IsLinked, IsLongestChain}
+use Rattle.edges.specs.Chains.{HaveNoLoop, IsLinked, IsLongestChain}
 use Rattle.cluster_types.specs.declared.cluster.Cluster.{Cluster}
 use Rattle.cluster_types.specs.declared.journal.Action.{Action}
 use Rattle.cluster_types.specs.declared.journal.Action.TheVariants.{Fence, Probe, Cell, MigrateTo, MigrateFrom}
@@ -9,7 +9,7 @@ use Rattle.cluster_types.specs.declared.leaf.Op.{Op}
 use Rattle.cluster_types.specs.declared.leaf.Op.TheVariants as op
 use Rattle.cluster_types.specs.declared.rules.Order.{Order}
 use Rattle.cluster_types.specs.Fields.{is_promotable}
-use Rattle.cluster_types.specs.Precedence.{is_same_op, is_up, inverse, takers, is_migrating, is_serialize}
+use Rattle.cluster_types.specs.Precedence.{is_same_op, is_giving, inverse, takers, is_migrating, is_serialize}
 
 -- a step of a leaf: one of the four operations that change it
 pub record StepOf : Type 0 where
@@ -36,7 +36,7 @@ leaf_links r = link op.Demote r op.Stop r ∷ link op.Start r op.Promote r ∷ [
 
 abbrev pub inverse_links : Order → List Link
 inverse_links o =
-    if is_up o.first_op && is_up o.then_op
+    if is_giving o.first_op && is_giving o.then_op
     then flat_map (λ p. map (λ q. link p o.then_leaf q o.first) (takers o.first_op)) (takers o.then_op)
     else link (inverse o.then_op) o.then_leaf (inverse o.first_op) o.first ∷ []
 
@@ -51,7 +51,7 @@ is_step c s = is_same_op s.what op.Start || is_same_op s.what op.Stop || is_prom
 
 -- a link counts within stops and demotes, and within starts and promotes
 abbrev pub is_within_phase : Link → Bool
-is_within_phase l = is_up l.before.what && is_up l.after.what || not (is_up l.before.what) && not (is_up l.after.what)
+is_within_phase l = is_giving l.before.what && is_giving l.after.what || not (is_giving l.before.what) && not (is_giving l.after.what)
 
 -- the links of a cluster, whether their steps are needed now or not
 abbrev pub links : Cluster → List Link
@@ -73,13 +73,13 @@ chain_within c zero s = 0
 chain_within c (suc most) s =
     fold max 0 (map (λ l. chain_within c most l.before + 1) (filter (λ l. is_same_step l.after s) (links c)))
 
--- the same, computed: where the links have no loop, no chain is longer than there are steps (`rank_is_computed` of crate `loops`)
+-- the same, computed: where the links have no loop, no chain is longer than there are steps: four a leaf at most (`rank_is_computed` of crate `loops`)
 abbrev pub rank : Cluster → StepOf → ℕ
 rank c s = chain_within c (4 * length c.leaves) s
 
 -- the links have no loop: no chain of them leads from a step back to it
 abbrev pub StepsHaveNoLoop : Cluster → Type 0
-StepsHaveNoLoop c = HaveNoRing (IsStepLink c)
+StepsHaveNoLoop c = HaveNoLoop (IsStepLink c)
 
 -- what is done at about the same time, in the order in which it is done
 pub data NumberPhase : Type 0 where
@@ -97,15 +97,15 @@ pub data NumberPhase : Type 0 where
   Starts : NumberPhase
   Monitors : NumberPhase
 
-abbrev pub phase_rank : NumberPhase → ℕ
-phase_rank Fences = 0
-phase_rank Probes = 1
-phase_rank Stops = 2
-phase_rank Sends = 3
-phase_rank TakingsIn = 4
-phase_rank SourceStops = 5
-phase_rank Starts = 6
-phase_rank Monitors = 7
+abbrev pub phase_position : NumberPhase → ℕ
+phase_position Fences = 0
+phase_position Probes = 1
+phase_position Stops = 2
+phase_position Sends = 3
+phase_position TakingsIn = 4
+phase_position SourceStops = 5
+phase_position Starts = 6
+phase_position Monitors = 7
 
 -- where an action stands in the numbers: by phase, rank, leaf, node and interval
 pub record Place : Type 0 where
@@ -118,31 +118,31 @@ pub record Place : Type 0 where
 abbrev pub place : ℕ → ℕ → ℕ → ℕ → ℕ → Place
 place phase ranked r n interval = record { phase = phase; ranked = ranked; leaf = r; node = n; interval = interval }
 
-abbrev pub place_in : NumberPhase → ℕ → ℕ → ℕ → ℕ → Place
-place_in phase ranked r n interval = place (phase_rank phase) ranked r n interval
+abbrev pub place_in_phase : NumberPhase → ℕ → ℕ → ℕ → ℕ → Place
+place_in_phase phase ranked r n interval = place (phase_position phase) ranked r n interval
 
 -- the place of each action. What has no rank, leaf, node or interval has 0 there: only stops, demotes, starts and promotes have a rank
 abbrev pub action_place : Cluster → List Action → Action → Place
-action_place c actions (Fence n) = place_in Fences 0 0 n 0
-action_place c actions (Probe r n) = place_in Probes 0 r n 0
+action_place c actions (Fence n) = place_in_phase Fences 0 0 n 0
+action_place c actions (Probe r n) = place_in_phase Probes 0 r n 0
 action_place c actions (Cell op.Stop r n interval role) =
-    if is_migrating actions r then place_in SourceStops 0 r n 0 else place_in Stops (rank c (step_of op.Stop r)) r n 0
-action_place c actions (Cell op.Demote r n interval role) = place_in Stops (rank c (step_of op.Demote r)) r n 0
-action_place c actions (MigrateTo r source target) = place_in Sends 0 r source 0
-action_place c actions (MigrateFrom r source target) = place_in TakingsIn 0 r target 0
-action_place c actions (Cell op.Start r n interval role) = place_in Starts (rank c (step_of op.Start r)) r n 0
-action_place c actions (Cell op.Promote r n interval role) = place_in Starts (rank c (step_of op.Promote r)) r n 0
-action_place c actions (Cell op.Monitor r n interval role) = place_in Monitors 0 r n interval
+    if is_migrating actions r then place_in_phase SourceStops 0 r n 0 else place_in_phase Stops (rank c (step_of op.Stop r)) r n 0
+action_place c actions (Cell op.Demote r n interval role) = place_in_phase Stops (rank c (step_of op.Demote r)) r n 0
+action_place c actions (MigrateTo r source target) = place_in_phase Sends 0 r source 0
+action_place c actions (MigrateFrom r source target) = place_in_phase TakingsIn 0 r target 0
+action_place c actions (Cell op.Start r n interval role) = place_in_phase Starts (rank c (step_of op.Start r)) r n 0
+action_place c actions (Cell op.Promote r n interval role) = place_in_phase Starts (rank c (step_of op.Promote r)) r n 0
+action_place c actions (Cell op.Monitor r n interval role) = place_in_phase Monitors 0 r n interval
 
 -- the one number is below the other, or they are equal and the rest says so
-abbrev pub is_below_or_tied : ℕ → ℕ → Bool → Bool
-is_below_or_tied x y among_equals = nat_lt x y || x == y && among_equals
+abbrev pub is_below_or_equal_and : ℕ → ℕ → Bool → Bool
+is_below_or_equal_and x y among_equals = nat_lt x y || x == y && among_equals
 
 -- the lesser phase comes first, then the lesser rank, leaf, node, and interval
 abbrev pub is_place_before : Place → Place → Bool
 is_place_before a b =
-    is_below_or_tied a.phase b.phase
-    (is_below_or_tied a.ranked b.ranked (is_below_or_tied a.leaf b.leaf (is_below_or_tied a.node b.node (nat_lt a.interval b.interval))))
+    is_below_or_equal_and a.phase b.phase
+    (is_below_or_equal_and a.ranked b.ranked (is_below_or_equal_and a.leaf b.leaf (is_below_or_equal_and a.node b.node (nat_lt a.interval b.interval))))
 
 -- the one action has a lower number than the other
 abbrev pub is_earlier : Cluster → List Action → Action → Action → Bool

@@ -13,7 +13,7 @@ use Rattle.cluster_types.specs.declared.leaf.Op.TheVariants.{Start, Stop, Promot
 use Rattle.cluster_types.specs.declared.leaf.OnFail.{OnFail}
 use Rattle.cluster_types.specs.declared.leaf.OnFail.TheVariants as on_fail
 use Rattle.cluster_types.specs.ExitCodes.{success, not_running, running_promoted, degraded, degraded_promoted}
-use Rattle.cluster_types.specs.Fields.{monitors, start_fail, stop_fail, promote_fail, demote_fail}
+use Rattle.cluster_types.specs.Fields.{monitors, start_on_fail, stop_on_fail, promote_on_fail, demote_on_fail}
 
 -- the outcome is one of these exit codes
 abbrev pub is_code_among : List ℕ → Outcome → Bool
@@ -50,10 +50,10 @@ monitor_fail ms interval = option_map_or (λ (m : MonitorOf). m.on_fail) (find (
 
 -- what the failure of an operation leads to
 abbrev pub op_fail : Cluster → ℕ → Op → ℕ → OnFail
-op_fail c r Start interval = start_fail c r
-op_fail c r Stop interval = stop_fail c r
-op_fail c r Promote interval = promote_fail c r
-op_fail c r Demote interval = demote_fail c r
+op_fail c r Start interval = start_on_fail c r
+op_fail c r Stop interval = stop_on_fail c r
+op_fail c r Promote interval = promote_on_fail c r
+op_fail c r Demote interval = demote_on_fail c r
 op_fail c r Monitor interval = monitor_fail (monitors c r) interval
 
 -- what the failure of an action leads to (Pacemaker Explained, "on-fail"); of a probe and of a migration it is restart (rule of this project)

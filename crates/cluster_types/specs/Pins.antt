@@ -11,7 +11,7 @@ use Rattle.cluster_types.specs.declared.states.CellState.{CellState}
 use Rattle.cluster_types.specs.declared.states.CellState.TheVariants as cell
 use Rattle.cluster_types.specs.CellStates.{cell_state}
 use Rattle.cluster_types.specs.Fields.{is_managed}
-use Rattle.cluster_types.specs.May.{may, may_promoted}
+use Rattle.cluster_types.specs.May.{may_be_running, may_be_promoted}
 use Rattle.cluster_types.specs.NodeStates.{is_online}
 use Rattle.cluster_types.specs.Tables.{Targets}
 
@@ -39,8 +39,8 @@ module _ (c : Cluster) (es : List Event) where
 
   -- a pinned leaf has as targets the cells on online nodes where it may run and that were probed
   abbrev pub stays : ℕ → ℕ → Bool
-  stays r n = nat_lt r (length c.leaves) && nat_lt n (length c.nodes) && is_pinned r && is_online c n es && may c r n es && not (is_unprobed_state (cell_state c r n es))
+  stays r n = nat_lt r (length c.leaves) && nat_lt n (length c.nodes) && is_pinned r && is_online c n es && may_be_running c r n es && not (is_unprobed_state (cell_state c r n es))
 
   -- the targets of the pinned leaves, which stand before any decision
   abbrev pub pinned_targets : Targets
-  pinned_targets r n = if stays r n then (if may_promoted c r n es then target.Promoted else target.Started) else target.Nowhere
+  pinned_targets r n = if stays r n then (if may_be_promoted c r n es then target.Promoted else target.Started) else target.Nowhere

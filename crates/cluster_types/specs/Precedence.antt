@@ -1,5 +1,4 @@
--- Which action must have succeeded before which may begin (Pacemaker Explained, "Specifying the Order in which Resources Should Start/Stop",
--- "Promotable Clones", "Fencing"; what holds besides orders is a rule of this project).
+-- What the words of an order give, take and undo; and Precedes as a test, which the program computes (they agree: `precedence_is_computed`).
 use Rattle.std.specs.Prelude.{ℕ, nat_lt, ◌==◌, ◌&&◌, ◌||◌, Bool, true, false, not, if◌then◌else◌, Option, Some, None, List, [], ◌∷◌, length}
 use Rattle.std.specs.List.{list_any}
 use Rattle.cluster_types.specs.declared.cluster.Cluster.{Cluster}
@@ -34,15 +33,15 @@ is_same_op op.Monitor op.Monitor = true
 is_same_op _ _ = false
 
 -- a word of an order that gives a role
-abbrev pub is_up : Op → Bool
-is_up op.Start = true
-is_up op.Promote = true
-is_up _ = false
+abbrev pub is_giving : Op → Bool
+is_giving op.Start = true
+is_giving op.Promote = true
+is_giving _ = false
 
--- that role. A word that gives none is asked for none
-abbrev pub role_by : Op → Role
-role_by op.Promote = role.Promoted
-role_by _ = role.Started
+-- the role that such a word gives. For any other word, of which nobody asks, it says Started
+abbrev pub role_given : Op → Role
+role_given op.Promote = role.Promoted
+role_given _ = role.Started
 
 -- the word of what undoes it
 abbrev pub inverse : Op → Op
@@ -124,7 +123,8 @@ abbrev pub as_earlier : Op → Action → Option CellOf
 as_earlier op.Start (MigrateFrom r source target) = cell_of r target
 as_earlier o a = op_cell o a
 
--- the action as the later: a migration that sends stands for the start on its target, and in place of its stop
+-- the action as the later: a migration that sends stands for the start on its target and for the stop on its source; the stop of a leaf that migrates
+-- stands for nothing
 abbrev pub as_later : List Action → Op → Action → Option CellOf
 as_later actions op.Start a = start_cell a
 as_later actions op.Stop (MigrateTo r source target) = cell_of r source
@@ -158,7 +158,7 @@ abbrev pub demotes_first : Action → Action → Bool
 demotes_first x y =
     both is_one_leaf (op_cell op.Demote x) (op_cell op.Promote y) || both is_one_leaf (op_cell op.Stop x) (op_cell op.Promote y)
 
--- what takes a role from one leaf comes before what gives the other its role on the node, where the two must be apart
+-- what takes a role from one leaf, or probes it, comes before what gives the other its role on the node, where the two must be apart
 abbrev pub is_parted : ℕ → Role → ℕ → Role → Action → Action → Bool
 is_parted r r_role s s_role x y =
     both (λ a b. a.leaf == r && b.leaf == s && a.node == b.node) (takes_or_probes r_role x) (gives_role s_role y)
@@ -180,7 +180,7 @@ is_taken_back actions o x y =
 
 abbrev pub is_inverse_pair : List Action → Order → Action → Action → Bool
 is_inverse_pair actions o x y =
-    if is_up o.first_op && is_up o.then_op then is_taken_back actions o x y
+    if is_giving o.first_op && is_giving o.then_op then is_taken_back actions o x y
     else is_ordered_pair actions o (inverse o.then_op) o.then_leaf (inverse o.first_op) o.first x y
 
 abbrev pub is_mandatory_order : OrderKind → Bool

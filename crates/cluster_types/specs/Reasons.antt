@@ -17,7 +17,7 @@ use Rattle.cluster_types.specs.Held.{Held, LacksFirst, LacksPrimary}
 use Rattle.cluster_types.specs.Pins.{is_pinned}
 use Rattle.cluster_types.specs.Rights.{may_start}
 use Rattle.cluster_types.specs.Tables.{Targets, is_somewhere}
-use Rattle.cluster_types.specs.Precedence.{is_up}
+use Rattle.cluster_types.specs.Precedence.{is_giving}
 
 -- x is the first of the list for which P holds
 pub record IsFirstOf {X : Type 0} (P : X → Type 0) (xs : List X) (x : X) : Type 0 where
@@ -53,7 +53,7 @@ module _ (c : Cluster) (es : List Event) (table : Targets) where
     pub mandatory : o.kind ≡ kind.Mandatory
     pub later : o.then_leaf ≡ r
     pub starts : o.then_op ≡ op.Start
-    pub first_gives : is_up o.first_op ≡ true
+    pub first_gives : is_giving o.first_op ≡ true
     pub lacking : LacksFirst c es table (Held c es table) o n
 
   -- on the earliest node where it was chosen the leaf is held by this rule: the first such colocation, or the first such order where there is

@@ -108,12 +108,12 @@ module _ (c : Cluster) (promotions : List Promotion) (whole : Bool) where
   IsRunUpTo most es rest lines left behind = Runs (due 1 es) rest lines (due (most + 1) left) behind
 
   -- the line that ends a transition
-  pub data Closes : RunStanding → List RunLine → RunStanding → Type 0 where
-    not_yet : (at : RunStanding) → Closes at [] at
+  pub data EndsByLine : RunStanding → List RunLine → RunStanding → Type 0 where
+    not_yet : (at : RunStanding) → EndsByLine at [] at
     complete : (k : ℕ) (t : Transition) (since : List Event) → HasEnded t since → has_aborted t since ≡ false
-        → Closes (amid k t since) (line.Complete k ∷ []) (idle k (journal t since))
+        → EndsByLine (amid k t since) (line.Complete k ∷ []) (idle k (journal t since))
     aborted : (k : ℕ) (t : Transition) (since : List Event) → HasEnded t since → has_aborted t since ≡ true
-        → Closes (amid k t since) (line.Aborted k ∷ []) (due (k + 1) (journal t since))
+        → EndsByLine (amid k t since) (line.Aborted k ∷ []) (due (k + 1) (journal t since))
 
   -- the run from a journal on, stopped by whom it tells its lines: those before the last call, those of that call, and at most the one that ends the
   -- transition right after it; the journal that it leaves, and the answers behind it
@@ -124,7 +124,7 @@ module _ (c : Cluster) (promotions : List Promotion) (whole : Bool) where
     pub middle : Option (List Answer)
     pub steps : Runs (due 1 es) rest told before middle
     pub stopped : RunsOn before middle call next behind
-    pub closes : Closes next closing last
+    pub closes : EndsByLine next closing last
     pub leaves : left ≡ journal_at last
 
   -- between two transitions, or before the first

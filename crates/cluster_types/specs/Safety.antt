@@ -25,7 +25,7 @@ use Rattle.cluster_types.specs.CellStates.{cell_state}
 use Rattle.cluster_types.specs.Choice.{is_separation}
 use Rattle.cluster_types.specs.Fields.{copies, promoted_copies}
 use Rattle.cluster_types.specs.Journals.{Orderly, in_flight_by_begin}
-use Rattle.cluster_types.specs.May.{may, may_promoted}
+use Rattle.cluster_types.specs.May.{may_be_running, may_be_promoted}
 use Rattle.cluster_types.specs.NodeStates.{is_online, node_state}
 use Rattle.cluster_types.specs.Pins.{is_pinned}
 use Rattle.cluster_types.specs.Plans.{IsPlan}
@@ -45,9 +45,9 @@ abbrev pub count_of_others : Cluster → ℕ → (ℕ → Bool) → ℕ
 count_of_others c n test = count_by (λ m. not (m == n) && test m) (range_with_len 0 (length c.nodes))
 
 -- the leaf may hold the role on the node
-abbrev pub may_hold : Cluster → ℕ → Role → ℕ → List Event → Bool
-may_hold c r role.Started n es = may c r n es
-may_hold c r role.Promoted n es = may_promoted c r n es
+abbrev pub may_have_role : Cluster → ℕ → Role → ℕ → List Event → Bool
+may_have_role c r role.Started n es = may_be_running c r n es
+may_have_role c r role.Promoted n es = may_be_promoted c r n es
 
 -- the event is the end of an action that is gone with its node
 abbrev pub is_gone : Event → Bool
@@ -80,7 +80,7 @@ module _ (t : Transition) where
   -- no copy too many: where a start or a promote of a leaf begins on a node, the leaf may run on fewer other nodes than it has copies. Of a plain
   -- resource there is none
   abbrev pub AddsNoCopy : List Event → CellOf → Type 0
-  AddsNoCopy before at = count_of_others t.cluster at.node (λ m. may t.cluster at.leaf m (journal t before)) < copies t.cluster at.leaf
+  AddsNoCopy before at = count_of_others t.cluster at.node (λ m. may_be_running t.cluster at.leaf m (journal t before)) < copies t.cluster at.leaf
 
   abbrev pub NoSecondCopy : List Event → Type 0
   NoSecondCopy events =
@@ -89,7 +89,7 @@ module _ (t : Transition) where
   -- no promoted copy too many: where a promote of a leaf begins on a node, the leaf may be promoted on fewer other nodes than it has promoted copies
   abbrev pub AddsNoPromoted : List Event → CellOf → Type 0
   AddsNoPromoted before at =
-      count_of_others t.cluster at.node (λ m. may_promoted t.cluster at.leaf m (journal t before)) < promoted_copies t.cluster at.leaf
+      count_of_others t.cluster at.node (λ m. may_be_promoted t.cluster at.leaf m (journal t before)) < promoted_copies t.cluster at.leaf
 
   abbrev pub NoSecondPromotion : List Event → Type 0
   NoSecondPromotion events = AtEachBegin (λ before k a. IfSome (op_cell op.Promote a) (AddsNoPromoted before)) events
@@ -97,7 +97,7 @@ module _ (t : Transition) where
   -- no forbidden neighbour: where two leaves must be apart and the one is given its role on a node, the other may not hold its own there
   abbrev pub MeetsNot : List Event → Action → ℕ → Role → ℕ → Role → Type 0
   MeetsNot before a r r_role s s_role =
-      IfSome (gives_role r_role a) (λ at. at.leaf ≡ r → may_hold t.cluster s s_role at.node (journal t before) ≡ false)
+      IfSome (gives_role r_role a) (λ at. at.leaf ≡ r → may_have_role t.cluster s s_role at.node (journal t before) ≡ false)
 
   abbrev pub NoForbiddenNeighbour : List Event → Type 0
   NoForbiddenNeighbour events =
@@ -109,9 +109,9 @@ module _ (t : Transition) where
   -- the target
   abbrev pub MigratesAlone : List Event → Action → Type 0
   MigratesAlone before (MigrateTo r source to) =
-      (m : ℕ) → m < length t.cluster.nodes → m ≢ source → may t.cluster r m (journal t before) ≡ false
+      (m : ℕ) → m < length t.cluster.nodes → m ≢ source → may_be_running t.cluster r m (journal t before) ≡ false
   MigratesAlone before (MigrateFrom r source to) =
-      (m : ℕ) → m < length t.cluster.nodes → m ≢ source → m ≢ to → may t.cluster r m (journal t before) ≡ false
+      (m : ℕ) → m < length t.cluster.nodes → m ≢ source → m ≢ to → may_be_running t.cluster r m (journal t before) ≡ false
   MigratesAlone before _ = ⊤
 
   abbrev pub MigrationsAlone : List Event → Type 0
@@ -143,9 +143,9 @@ module _ (t : Transition) where
     pub begun : (k : ℕ) → 0 < k → k ≤ length t.actions → count_by (begins_number k) events ≡ 1
     pub succeeded : (k : ℕ) → 0 < k → k ≤ length t.actions → count_by (succeeds_number t.cluster k) events ≡ 1
     pub may_run : (r n : ℕ) → r < length t.cluster.leaves → n < length t.cluster.nodes → is_online t.cluster n t.planned_at ≡ true
-        → may t.cluster r n (journal t events) ≡ is_somewhere (targets r n)
-    pub may_be_promoted : (r n : ℕ) → r < length t.cluster.leaves → n < length t.cluster.nodes → is_online t.cluster n t.planned_at ≡ true
-        → may_promoted t.cluster r n (journal t events) ≡ is_promoted_target (targets r n)
+        → may_be_running t.cluster r n (journal t events) ≡ is_somewhere (targets r n)
+    pub may_run_promoted : (r n : ℕ) → r < length t.cluster.leaves → n < length t.cluster.nodes → is_online t.cluster n t.planned_at ≡ true
+        → may_be_promoted t.cluster r n (journal t events) ≡ is_promoted_target (targets r n)
     pub cells : (r n : ℕ) → r < length t.cluster.leaves → n < length t.cluster.nodes → is_online t.cluster n t.planned_at ≡ true
         → is_pinned t.cluster t.planned_at r ≡ false → cell_state t.cluster r n (journal t events) ≡ state_of_target (targets r n)
     pub fenced : (n : ℕ) → n < length t.cluster.nodes → is_to_be_fenced t.cluster n t.planned_at ≡ true

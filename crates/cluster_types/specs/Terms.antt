@@ -52,7 +52,7 @@ module _ (c : Cluster) where
       int_eq col.score infinity && is_started col.dependent_role && is_started col.primary_role
       && not (is_cloned c col.dependent) && not (is_cloned c col.primary)
 
-  -- a tie has s with r
+  -- a tie puts s with r
   abbrev pub IsTieLink : ℕ → ℕ → Type 0
   IsTieLink s r = IsLinked (λ (col : Colocation). col.dependent) (λ (col : Colocation). col.primary) (filter is_tie c.colocations) s r
 
@@ -78,7 +78,7 @@ module _ (c : Cluster) (es : List Event) where
   abbrev pub active_count : ℕ → ℕ
   active_count r = count_by (λ n. is_active (cell_state c r n es)) (range_with_len 0 (length c.nodes))
 
-  -- the scores of the locations of a leaf and a node whose role passes, with those whose rule holds there
+  -- the scores of the locations of a leaf and a node whose role passes the test, with those whose rule holds there
   abbrev pub location_scores : (Role → Bool) → ℕ → ℕ → List ℤ
   location_scores passes r n =
       map (λ (l : Location). l.score) (filter (λ l. l.leaf == r && l.node == n && passes l.role) c.locations)
@@ -101,7 +101,7 @@ module _ (c : Cluster) (es : List Event) where
   abbrev pub opt_in_scores : ℕ → ℕ → List ℤ
   opt_in_scores r n = if not c.properties.symmetric && not (is_follower c r) && not (is_located r n) then minus_infinity ∷ [] else []
 
-  -- the scores of a leaf's own on a node: its locations, its stickiness where it is active, and what keeps it away
+  -- the own scores of a leaf on a node: its locations, its stickiness where it is active, and what keeps it away
   abbrev pub own_terms : ℕ → ℕ → List ℤ
   own_terms r n = location_scores is_started r n ++ stickiness_scores r n ++ ban_scores r n ++ opt_in_scores r n
 
@@ -110,12 +110,12 @@ module _ (c : Cluster) (es : List Event) where
   terms_of leaves n = flat_map (λ r. own_terms r n) leaves
 
   -- with the terms of these leaves some usable node is left
-  abbrev pub leaves_a_node : List ℕ → Bool
-  leaves_a_node leaves = list_any (λ n. is_usable c n es && int_le (pos 0) (total_of (terms_of leaves n))) (range_with_len 0 (length c.nodes))
+  abbrev pub has_node_left : List ℕ → Bool
+  has_node_left leaves = list_any (λ n. is_usable c n es && int_le (pos 0) (total_of (terms_of leaves n))) (range_with_len 0 (length c.nodes))
 
   -- one more lender joins, unless no usable node would be left
   abbrev pub with_lender : List ℕ → ℕ → List ℕ
-  with_lender joined s = if leaves_a_node (joined ++ s ∷ []) then joined ++ s ∷ [] else joined
+  with_lender joined s = if has_node_left (joined ++ s ∷ []) then joined ++ s ∷ [] else joined
 
   -- the leaf with the lenders that join it, tried in their order
   abbrev pub with_lenders : ℕ → List ℕ

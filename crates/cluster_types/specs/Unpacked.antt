@@ -8,17 +8,17 @@ use Rattle.cluster_types.specs.declared.journal.Promotion.{Promotion}
 use Rattle.cluster_types.specs.declared.leaf.Monitor.{Monitor}
 use Rattle.cluster_types.specs.declared.states.Cell.{Cell}
 use Rattle.cluster_types.specs.declared.states.States.{States}
-use Rattle.cluster_types.specs.CellStates.{cell_state, is_running}
+use Rattle.cluster_types.specs.CellStates.{cell_state, is_monitor_running}
 use Rattle.cluster_types.specs.Failures.{is_banned, is_fail_stopped}
 use Rattle.cluster_types.specs.Fields.{monitors}
 use Rattle.cluster_types.specs.Journals.{has_quorum, moment_of}
-use Rattle.cluster_types.specs.May.{may, may_promoted}
+use Rattle.cluster_types.specs.May.{may_be_running, may_be_promoted}
 use Rattle.cluster_types.specs.NodeStates.{node_state}
 
 module _ (c : Cluster) (es : List Event) where
   -- bit i, where monitor i is running
   abbrev pub running_bit : ℕ → ℕ → ℕ × Monitor → ℕ
-  running_bit r n numbered = if is_running r n numbered.1.interval_ms es then 2 ^ numbered.0 else 0
+  running_bit r n numbered = if is_monitor_running r n numbered.1.interval_ms es then 2 ^ numbered.0 else 0
 
   -- the monitors that are running, as the sum of their bits
   abbrev pub running_bits : ℕ → ℕ → ℕ
@@ -28,8 +28,8 @@ module _ (c : Cluster) (es : List Event) where
   abbrev pub cell_at : ℕ → ℕ → Cell
   cell_at r n = record {
     state = cell_state c r n es;
-    may = may c r n es;
-    may_promoted = may_promoted c r n es;
+    may = may_be_running c r n es;
+    may_promoted = may_be_promoted c r n es;
     banned = is_banned c r n es;
     running = running_bits r n;
   }

@@ -17,7 +17,7 @@ use Rattle.cluster_types.specs.declared.rules.RuleLocation.{RuleLocation}
 use Rattle.cluster_types.specs.Decisions.{NeedsHaveNoLoop}
 use Rattle.cluster_types.specs.Fields.{is_promotable}
 use Rattle.cluster_types.specs.Numbers.{StepsHaveNoLoop}
-use Rattle.cluster_types.specs.Precedence.{is_up}
+use Rattle.cluster_types.specs.Precedence.{is_giving}
 
 -- how many there may be of each
 pub record KeepsLimits (c : Cluster) : Type 0 where
@@ -68,7 +68,7 @@ pub record IsValidOrder (c : Cluster) (o : Order) : Type 0 where
   pub id : is_name o.id ≡ true
   pub first : MayHaveWord c o.first o.first_op
   pub later : MayHaveWord c o.then_leaf o.then_op
-  pub upward : is_up o.first_op ≡ true → is_up o.then_op ≡ true
+  pub upward : is_giving o.first_op ≡ true → is_giving o.then_op ≡ true
 
 pub record IsValid (c : Cluster) : Type 0 where
   pub limits : KeepsLimits c

@@ -20,7 +20,7 @@ ghost use Rattle.cluster_types.specs.declared.placement.Target.{Target as Target
 ghost use Rattle.cluster_types.specs.Journals.{NodeWord, Orderly, first_events, in_flight_by_begin, is_reported, moment_of};
 ghost use Rattle.cluster_types.specs.Graphs.{GraphOf, IsBefore, IsGraph, LeadUpward, is_before};
 ghost use Rattle.edges.specs.Loops.{EndsWithin};
-ghost use Rattle.cluster_types.specs.May.{closes, closes_promoted, is_left_promoted, may, may_promoted, opens, opens_promoted};
+ghost use Rattle.cluster_types.specs.May.{closes, closes_promoted, is_left_promoted, may_be_running, may_be_promoted, opens, opens_promoted};
 
 use crate::cluster::Cluster;
 use crate::journal::{Action, Answer, Event, Promotion};
@@ -29,7 +29,7 @@ use edges::Edge;
 /// After one more event a leaf may run where the event opens the cell, and where it might before and the event doesn't close it.
 pub fn may_after_one_more()
     ensures { (c : Cluster) (leaf node : ℕ) (events : List Event) (e : Event)
-        → may c leaf node (events ++ e ∷ []) ≡ opens c leaf node e || may c leaf node events && not (closes c leaf node e) }
+        → may_be_running c leaf node (events ++ e ∷ []) ≡ opens c leaf node e || may_be_running c leaf node events && not (closes c leaf node e) }
 {}
 
 /// The same for where a leaf may be promoted.
@@ -41,7 +41,7 @@ pub fn promoted_after_one_more()
 
 /// Where a leaf may be promoted, it may run.
 pub fn promoted_may_run()
-    ensures { (c : Cluster) (leaf node : ℕ) (events : List Event) → may_promoted c leaf node events ≡ true → may c leaf node events ≡ true }
+    ensures { (c : Cluster) (leaf node : ℕ) (events : List Event) → may_be_promoted c leaf node events ≡ true → may_be_running c leaf node events ≡ true }
 {}
 
 /// The first journal has nothing in flight, whatever the status tells.

@@ -30,14 +30,14 @@ pub enum Op {
 impl Op {
     /// Whether the operation gives a role.
     pub fn is_up(self) -> bool
-        ensures { result ≡ precedence.is_up self }
+        ensures { result ≡ precedence.is_giving self }
     {
         matches!(self, Op::Start | Op::Promote)
     }
 
     /// The role that a start or a promote gives. It is Started for any other.
     pub fn role_given(self) -> Role
-        ensures { result ≡ precedence.role_by self }
+        ensures { result ≡ precedence.role_given self }
     {
         match self {
             Op::Promote => Role::Promoted,

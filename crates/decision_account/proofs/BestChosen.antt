@@ -9,14 +9,14 @@ use Rattle.cluster_types.specs.declared.cluster.Cluster.{Cluster}
 use Rattle.cluster_types.specs.declared.journal.Event.{Event}
 use Rattle.cluster_types.specs.declared.journal.Promotion.{Promotion}
 use Rattle.cluster_types.specs.declared.placement.Decision.{Decision}
-use Rattle.cluster_types.specs.Choice.{cap_of, is_candidate, is_chosen, is_chosen_before, total_on}
+use Rattle.cluster_types.specs.Choice.{cap_of, is_candidate, is_chosen, is_better, total_on}
 use Rattle.cluster_types.specs.Tables.{Targets, load_of}
 use Rattle.decision_account.specs.Better.{IsBetter, by_load, by_place, by_total}
 use Rattle.decision_account.proofs.TrueVerdicts.{goes_before}
 
 module _ (c : Cluster) (es : List Event) (ps : List Promotion) (table : Targets) (d : Decision) where
   -- who goes before another is better
-  before_better : (n m : ℕ) → is_chosen_before c es ps table d n m ≡ true → IsBetter c es ps table d n m
+  before_better : (n m : ℕ) → is_better c es ps table d n m ≡ true → IsBetter c es ps table d n m
   before_better n m h = elim (or_cases (int_lt (total_on c es ps table d m) (total_on c es ps table d n)) _ h) [
     | inl greater ↦ by_total greater
     | inr behind ↦
@@ -35,4 +35,4 @@ module _ (c : Cluster) (es : List Event) (ps : List Promotion) (table : Targets)
   pub chosen_fits : (n : ℕ) → is_chosen c es ps table d n ≡ true → is_candidate c es ps table d n ≡ true
   chosen_fits n is =
       sooner (is_candidate c es ps table d n)
-      (nat_lt (count_by (λ m. is_candidate c es ps table d m && is_chosen_before c es ps table d m n) (range_with_len 0 (length c.nodes))) (cap_of c es d)) is
+      (nat_lt (count_by (λ m. is_candidate c es ps table d m && is_better c es ps table d m n) (range_with_len 0 (length c.nodes))) (cap_of c es d)) is

@@ -21,7 +21,7 @@ use Rattle.cluster_types.specs.declared.rules.Order.{Order}
 use Rattle.cluster_types.specs.Choice.{is_dependent, is_mandatory}
 use Rattle.cluster_types.specs.Decisions.{decision_of, is_same_decision}
 use Rattle.cluster_types.specs.Held.{AreTargets, Held, LacksFirst, LacksPrimary, by_colocation, by_order, by_place}
-use Rattle.cluster_types.specs.Precedence.{is_mandatory_order, is_up, role_by}
+use Rattle.cluster_types.specs.Precedence.{is_mandatory_order, is_giving, role_given}
 use Rattle.cluster_types.specs.Reasons.{IsHeldByColocation, IsHeldByOrder}
 use Rattle.cluster_types.specs.Tables.{Targets, holds_role, is_in_scope}
 use Rattle.cluster_types.specs.Valid.{IsValid}
@@ -29,8 +29,8 @@ use Rattle.cluster_types.proofs.OpLaws.{of_kind, start_of}
 use Rattle.cluster_types.proofs.TableCells.{promoted_somewhere}
 use Rattle.plan_laws.proofs.KeptTargets as kept
 use Rattle.plan_laws.proofs.MadeOnes.{never_both}
-use Rattle.decision_account.specs.Holders.{has_first_left, held_decision, holder_of, is_held_role, misses_first, missing_first}
-use Rattle.decision_account.specs.Verdicts.{misses_primary, missing_primary}
+use Rattle.decision_account.specs.Holders.{has_first_left, held_decision, holder_of, is_held_role, misses_first, missed_order}
+use Rattle.decision_account.specs.Verdicts.{misses_primary, missed_colocation}
 use Rattle.decision_account.proofs.TrueVerdicts.{fails}
 
 -- where one passes, one is found
@@ -77,18 +77,18 @@ module _ (c : Cluster) (es : List Event) (chosen targets : Targets) (valid : IsV
   first_gone o present lacks = false_from_ne_true (has_first_left c targets o n) (λ some. at (Any-from_list_any there (range_with_len 0 (length c.nodes)) some))
     where
       there : ℕ → Bool
-      there m = is_in_scope o n m && holds_role targets o.first (role_by o.first_op) m
+      there m = is_in_scope o n m && holds_role targets o.first (role_given o.first_op) m
 
-      at : Any (λ m. is_in_scope o n m && holds_role targets o.first (role_by o.first_op) m ≡ true) (range_with_len 0 (length c.nodes)) → ⊥
+      at : Any (λ m. is_in_scope o n m && holds_role targets o.first (role_given o.first_op) m ≡ true) (range_with_len 0 (length c.nodes)) → ⊥
       at (k, m, lt, is, h) =
           let words = valid_order c valid.orders o present in
           let low = of_range 0 (length c.nodes) m (k, lt, is) in
           let inside : m < length c.nodes = omega arith in
           let keeps = are o.first m words.first inside in
-          let has = later (is_in_scope o n m) (holds_role targets o.first (role_by o.first_op) m) h in
-          kept.free c es chosen targets o.first m (role_by o.first_op) keeps has
-          (lacks m inside (sooner (is_in_scope o n m) (holds_role targets o.first (role_by o.first_op) m) h)
-          (kept.chosen c es chosen targets o.first m (role_by o.first_op) keeps has))
+          let has = later (is_in_scope o n m) (holds_role targets o.first (role_given o.first_op) m) h in
+          kept.free c es chosen targets o.first m (role_given o.first_op) keeps has
+          (lacks m inside (sooner (is_in_scope o n m) (holds_role targets o.first (role_given o.first_op) m) h)
+          (kept.chosen c es chosen targets o.first m (role_given o.first_op) keeps has))
 
   module _ (r : ℕ) where
     pub colocation_yes : (col : Colocation) → Contains c.colocations col → misses_primary targets (Place r) n col ≡ true → IsHeldByColocation c es chosen r n col
@@ -109,33 +109,33 @@ module _ (c : Cluster) (es : List Event) (chosen targets : Targets) (valid : IsV
     pub order_yes : (o : Order) → Contains c.orders o → misses_first c targets (Place r) n o ≡ true → IsHeldByOrder c es chosen r n o
     order_yes o present h =
         let words = valid_order c valid.orders o present in
-        let its = is_same_decision (Place r) (decision_of o.then_leaf (role_by o.then_op)) in
-        let gone = fails (has_first_left c targets o n) (later (is_mandatory_order o.kind && is_up o.first_op && is_up o.then_op && its) (not (has_first_left c targets o n)) h) in
-        let four = sooner (is_mandatory_order o.kind && is_up o.first_op && is_up o.then_op && its) (not (has_first_left c targets o n)) h in
-        let three = sooner (is_mandatory_order o.kind && is_up o.first_op && is_up o.then_op) its four in
-        let two = sooner (is_mandatory_order o.kind && is_up o.first_op) (is_up o.then_op) three in
-        let same : Place r ≡ decision_of o.then_leaf (role_by o.then_op)
-        = same_decision (Place r) (decision_of o.then_leaf (role_by o.then_op)) (later (is_mandatory_order o.kind && is_up o.first_op && is_up o.then_op) its four) in
-        let (leaf, starts) = placed_by r o.then_leaf (role_by o.then_op) same in
+        let its = is_same_decision (Place r) (decision_of o.then_leaf (role_given o.then_op)) in
+        let gone = fails (has_first_left c targets o n) (later (is_mandatory_order o.kind && is_giving o.first_op && is_giving o.then_op && its) (not (has_first_left c targets o n)) h) in
+        let four = sooner (is_mandatory_order o.kind && is_giving o.first_op && is_giving o.then_op && its) (not (has_first_left c targets o n)) h in
+        let three = sooner (is_mandatory_order o.kind && is_giving o.first_op && is_giving o.then_op) its four in
+        let two = sooner (is_mandatory_order o.kind && is_giving o.first_op) (is_giving o.then_op) three in
+        let same : Place r ≡ decision_of o.then_leaf (role_given o.then_op)
+        = same_decision (Place r) (decision_of o.then_leaf (role_given o.then_op)) (later (is_mandatory_order o.kind && is_giving o.first_op && is_giving o.then_op) its four) in
+        let (leaf, starts) = placed_by r o.then_leaf (role_given o.then_op) same in
         record {
-          mandatory = of_kind o.kind (sooner (is_mandatory_order o.kind) (is_up o.first_op) two);
+          mandatory = of_kind o.kind (sooner (is_mandatory_order o.kind) (is_giving o.first_op) two);
           later = leaf;
-          starts = start_of o.then_op (later (is_mandatory_order o.kind && is_up o.first_op) (is_up o.then_op) three) starts;
-          first_gives = later (is_mandatory_order o.kind) (is_up o.first_op) two;
+          starts = start_of o.then_op (later (is_mandatory_order o.kind && is_giving o.first_op) (is_giving o.then_op) three) starts;
+          first_gives = later (is_mandatory_order o.kind) (is_giving o.first_op) two;
           lacking = λ m low scope was.
-              kept.back c es chosen targets o.first m (role_by o.first_op) (are o.first m words.first low) was
-              (false_from_ne_true (holds_role targets o.first (role_by o.first_op) m) (λ has.
+              kept.back c es chosen targets o.first m (role_given o.first_op) (are o.first m words.first low) was
+              (false_from_ne_true (holds_role targets o.first (role_given o.first_op) m) (λ has.
               never_both (has_first_left c targets o n)
-              (some_in_range (λ m. is_in_scope o n m && holds_role targets o.first (role_by o.first_op) m) 0 (length c.nodes) m (omega arith) (omega (arith, low))
-              (and_from (is_in_scope o n m) (holds_role targets o.first (role_by o.first_op) m) scope has)) gone));
+              (some_in_range (λ m. is_in_scope o n m && holds_role targets o.first (role_given o.first_op) m) 0 (length c.nodes) m (omega arith) (omega (arith, low))
+              (and_from (is_in_scope o n m) (holds_role targets o.first (role_given o.first_op) m) scope has)) gone));
         }
 
     pub order_no : (o : Order) → Contains c.orders o → IsHeldByOrder c es chosen r n o → misses_first c targets (Place r) n o ≡ true
     order_no o present h =
         let kind_is : is_mandatory_order o.kind ≡ true = rw h.mandatory refl in
-        let other : is_up o.then_op ≡ true = rw h.starts refl in
-        let role_is : role_by o.then_op ≡ role.Started = rw h.starts refl in
-        let same : is_same_decision (Place r) (decision_of o.then_leaf (role_by o.then_op)) ≡ true = rw (role_is, h.later) (is_itself (Place r)) in
+        let other : is_giving o.then_op ≡ true = rw h.starts refl in
+        let role_is : role_given o.then_op ≡ role.Started = rw h.starts refl in
+        let same : is_same_decision (Place r) (decision_of o.then_leaf (role_given o.then_op)) ≡ true = rw (role_is, h.later) (is_itself (Place r)) in
         rw (kind_is, h.first_gives, other, same, first_gone o present h.lacking) refl
 
   -- a decision that is held by no place is held by a rule, which is found
@@ -143,14 +143,14 @@ module _ (c : Cluster) (es : List Event) (chosen targets : Targets) (valid : IsV
       → is_some (holder_of c targets d n) ≡ true
   some_holder d _ same (by_order o _ may lacks) by_no_place =
       let kind_is : is_mandatory_order o.kind ≡ true = rw may.mandatory refl in
-      let its : is_same_decision d (decision_of o.then_leaf (role_by o.then_op)) ≡ true = rw (← same) (is_itself (decision_of o.then_leaf (role_by o.then_op))) in
+      let its : is_same_decision d (decision_of o.then_leaf (role_given o.then_op)) ≡ true = rw (← same) (is_itself (decision_of o.then_leaf (role_given o.then_op))) in
       let passes : misses_first c targets d n o ≡ true = rw (kind_is, may.first_gives, may.then_gives, its, first_gone o may.present (λ m low scope was. lacks m low scope was)) refl in
-      second_some (λ (o : Order). o.id) (option_map (λ (col : Colocation). col.id) (missing_primary c targets d n)) (missing_first c targets d n)
+      second_some (λ (o : Order). o.id) (option_map (λ (col : Colocation). col.id) (missed_colocation c targets d n)) (missed_order c targets d n)
       (some_found (misses_first c targets d n) c.orders o may.present passes)
   some_holder d _ same (by_colocation col _ may lacks) by_no_place =
       let its : is_dependent d col ≡ true = rw (← same) (is_itself (decision_of col.dependent col.dependent_role)) in
       let passes : misses_primary targets d n col ≡ true = rw (may.mandatory, its, primary_gone col may.present (λ was. lacks was)) refl in
-      first_some (λ (col : Colocation). col.id) (missing_primary c targets d n) (option_map (λ (o : Order). o.id) (missing_first c targets d n))
+      first_some (λ (col : Colocation). col.id) (missed_colocation c targets d n) (option_map (λ (o : Order). o.id) (missed_order c targets d n))
       (some_found (misses_primary targets d n) c.colocations col may.present passes)
   some_holder d _ same (by_place s _ promoted held) by_no_place = absurd (by_no_place s same held)
 
@@ -185,7 +185,7 @@ module _ (c : Cluster) (es : List Event) (chosen targets : Targets) (valid : IsV
     -- and all that is held back is told
     was_chosen : (given : Role) (e : Decision) → e ≡ decision_of r given → Held c es chosen e n → holds_role chosen r given n ≡ true
     was_chosen given _ same (by_order o _ may lacks) =
-        let (leaf, its) = same_sides o.then_leaf r (role_by o.then_op) given same in
+        let (leaf, its) = same_sides o.then_leaf r (role_given o.then_op) given same in
         subst (λ (x : ℕ). holds_role chosen x given n ≡ true) leaf (subst (λ (g : Role). holds_role chosen o.then_leaf g n ≡ true) its may.chosen)
     was_chosen given _ same (by_colocation col _ may lacks) =
         let (leaf, its) = same_sides col.dependent r col.dependent_role given same in

@@ -17,7 +17,7 @@ use Rattle.cluster_types.specs.declared.journal.Event.{Event}
 use Rattle.cluster_types.specs.declared.journal.Promotion.{Promotion}
 use Rattle.cluster_types.specs.declared.placement.Decision.{Decision}
 use Rattle.cluster_types.specs.declared.rules.Colocation.{Colocation}
-use Rattle.cluster_types.specs.Choice.{cap_of, has_primaries, is_apart, is_candidate, is_chosen, is_chosen_before, is_dependent, is_mandatory, is_permitted, is_placed_for, is_separation, total_on, would_join_dependent, would_join_primary}
+use Rattle.cluster_types.specs.Choice.{cap_of, has_primaries, is_apart, is_candidate, is_chosen, is_better, is_dependent, is_mandatory, is_permitted, is_placed_for, is_separation, total_on, would_join_dependent, would_join_primary}
 use Rattle.cluster_types.specs.Each.{implies}
 use Rattle.cluster_types.specs.NodeStates.{is_usable}
 use Rattle.cluster_types.specs.Tables.{Targets, holds_role, load_of}
@@ -26,7 +26,7 @@ use Rattle.plan_laws.proofs.FirstOnes.{first_among}
 use Rattle.plan_laws.proofs.MadeOnes.{never_both}
 use Rattle.decision_account.specs.Grounds.{IsPassedBy, IsTrueVerdict}
 use Rattle.decision_account.specs.Verdicts as verdict
-use Rattle.decision_account.specs.Verdicts.{Verdict, is_last_chosen, joined_apart, joins_apart, last_chosen, misses_primary, missing_primary, outdone, passed_by, refusal, verdict_on}
+use Rattle.decision_account.specs.Verdicts.{Verdict, is_last_chosen, joined_separation, joins_apart, last_chosen, misses_primary, missed_colocation, outdone, passed_by, refusal, verdict_on}
 
 -- what a search finds is there and passes, and where it finds none all fail
 pub record Found {X : Type 0} (p : X → Bool) (xs : List X) (x : X) : Type 0 where
@@ -99,7 +99,7 @@ module _ (c : Cluster) (es : List Event) (ps : List Promotion) (table : Targets)
   picked n = is_chosen c es ps table d n
 
   abbrev goes : ℕ → ℕ → Bool
-  goes n m = is_chosen_before c es ps table d n m
+  goes n m = is_better c es ps table d n m
 
   abbrev ahead : ℕ → ℕ
   ahead n = count_by (λ m. fits m && goes m n) (range_with_len 0 (length c.nodes))
@@ -214,7 +214,7 @@ module _ (c : Cluster) (es : List Event) (ps : List Promotion) (table : Targets)
         (outdone c es ps table d n)
 
     by_tests : (u : Bool) → is_usable c n es ≡ u → (p : Bool) → is_permitted c es d n ≡ p → (b : Bool) → int_le (pos 0) (total_on c es ps table d n) ≡ b
-        → (o : Option Colocation) → missing_primary c table d n ≡ o → (q : Option Colocation) → joined_apart c table d n ≡ q → (s : Bool) → is_placed_for table d n ≡ s
+        → (o : Option Colocation) → missed_colocation c table d n ≡ o → (q : Option Colocation) → joined_separation c table d n ≡ q → (s : Bool) → is_placed_for table d n ≡ s
         → IsTrueVerdict c es ps table d n (told_of_tests u p b o q s)
     by_tests false e p f b g o h q i s j = e
     by_tests true e false f b g o h q i s j = f
@@ -257,7 +257,7 @@ module _ (c : Cluster) (es : List Event) (ps : List Promotion) (table : Targets)
       go true e = e
       go false e =
           by_tests n within e (is_usable c n es) refl (is_permitted c es d n) refl (int_le (pos 0) (total_on c es ps table d n)) refl
-          (missing_primary c table d n) refl (joined_apart c table d n) refl (is_placed_for table d n) refl
+          (missed_colocation c table d n) refl (joined_separation c table d n) refl (is_placed_for table d n) refl
 
   pub told_chosen : (n : ℕ) → n < length c.nodes → verdict_on c es ps table d n ≡ verdict.chosen → is_chosen c es ps table d n ≡ true
   told_chosen n within e = subst (IsTrueVerdict c es ps table d n) e (verdict_true n within)

@@ -52,14 +52,14 @@ module _ (c : Cluster) (es : List Event) (promotions : List Promotion) where
   account_lines table [] = []
   account_lines table (d ∷ ds) = decision_lines table d ++ account_lines (after_decision c es promotions table d) ds
 
-module _ (c : Cluster) (taken targets : Targets) where
+module _ (c : Cluster) (before_holding targets : Targets) where
   abbrev pub holder_lines : ℕ → Option Decision → List WhyLine
   holder_lines n None = []
   holder_lines n (Some d) = option_map_or (λ id. held d n id ∷ []) (holder_of c targets d n) []
 
   -- what was chosen and is held back, leaf by leaf and node by node
   abbrev pub held_lines : List WhyLine
-  held_lines = flat_map (λ r. flat_map (λ n. holder_lines n (held_decision taken targets r n)) (range_with_len 0 (length c.nodes))) (range_with_len 0 (length c.leaves))
+  held_lines = flat_map (λ r. flat_map (λ n. holder_lines n (held_decision before_holding targets r n)) (range_with_len 0 (length c.nodes))) (range_with_len 0 (length c.leaves))
 
 -- all lines of a placement that these decisions make
 abbrev pub why_lines : Cluster → List Event → List Promotion → List Decision → Placed → List WhyLine

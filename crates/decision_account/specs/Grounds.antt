@@ -5,7 +5,7 @@ use Rattle.cluster_types.specs.declared.cluster.Cluster.{Cluster}
 use Rattle.cluster_types.specs.declared.journal.Event.{Event}
 use Rattle.cluster_types.specs.declared.journal.Promotion.{Promotion}
 use Rattle.cluster_types.specs.declared.placement.Decision.{Decision}
-use Rattle.cluster_types.specs.Choice.{cap_of, is_candidate, is_chosen, is_chosen_before, is_dependent, is_mandatory, is_permitted, is_placed_for, is_separation, total_on, would_join_dependent, would_join_primary}
+use Rattle.cluster_types.specs.Choice.{cap_of, is_candidate, is_chosen, is_better, is_dependent, is_mandatory, is_permitted, is_placed_for, is_separation, total_on, would_join_dependent, would_join_primary}
 use Rattle.cluster_types.specs.NodeStates.{is_usable}
 use Rattle.cluster_types.specs.Tables.{Targets, holds_role, load_of}
 use Rattle.decision_account.specs.Verdicts.{Verdict, beside, below, capped, chosen, forbidden, fuller, later, less, unplaced, unusable, without}
@@ -17,8 +17,8 @@ module _ (c : Cluster) (es : List Event) (promotions : List Promotion) (table : 
     pub not_chosen : is_chosen c es promotions table d n ≡ false
     pub within : m < length c.nodes
     pub chosen_there : is_chosen c es promotions table d m ≡ true
-    pub before : is_chosen_before c es promotions table d m n ≡ true
-    pub last : (k : ℕ) → k < length c.nodes → is_chosen c es promotions table d k ≡ true → k ≢ m → is_chosen_before c es promotions table d k m ≡ true
+    pub before : is_better c es promotions table d m n ≡ true
+    pub last : (k : ℕ) → k < length c.nodes → is_chosen c es promotions table d k ≡ true → k ≢ m → is_better c es promotions table d k m ≡ true
 
   -- what each verdict says of the node
   abbrev pub IsTrueVerdict : Verdict → Type 0

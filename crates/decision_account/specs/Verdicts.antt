@@ -7,23 +7,34 @@ use Rattle.cluster_types.specs.declared.journal.Event.{Event}
 use Rattle.cluster_types.specs.declared.journal.Promotion.{Promotion}
 use Rattle.cluster_types.specs.declared.placement.Decision.{Decision}
 use Rattle.cluster_types.specs.declared.rules.Colocation.{Colocation}
-use Rattle.cluster_types.specs.Choice.{is_chosen, is_chosen_before, is_dependent, is_mandatory, is_permitted, is_placed_for, is_separation, total_on, would_join_dependent, would_join_primary}
+use Rattle.cluster_types.specs.Choice.{is_chosen, is_better, is_dependent, is_mandatory, is_permitted, is_placed_for, is_separation, total_on, would_join_dependent, would_join_primary}
 use Rattle.cluster_types.specs.Each.{implies}
 use Rattle.cluster_types.specs.NodeStates.{is_usable}
 use Rattle.cluster_types.specs.Tables.{Targets, holds_role, load_of}
 
--- what is said of a node. Of the last three each names the last node that is chosen
+-- what is said of a node
 pub data Verdict : Type 0 where
+  -- it is chosen
   chosen : Verdict
+  -- it isn't online, or is in standby
   unusable : Verdict
+  -- the cluster may neither start the leaf there nor keep it (a ban or a location of -INFINITY is below)
   forbidden : Verdict
+  -- its total is below 0
   below : Verdict
+  -- the primary of this mandatory colocation doesn't hold its role there
   without : Colocation → Verdict
+  -- the other side of this separation holds its role there
   beside : Colocation → Verdict
+  -- the leaf that is to be promoted isn't placed there
   unplaced : Verdict
+  -- the decision chooses no node at all
   capped : Verdict
+  -- the worst node that is chosen, this one, has a greater total
   less : ℕ → Verdict
+  -- as great a total, and fewer leaves with a target
   fuller : ℕ → Verdict
+  -- both equal, and it comes earlier
   later : ℕ → Verdict
 
 module _ (table : Targets) (d : Decision) (n : ℕ) where
@@ -35,12 +46,13 @@ module _ (table : Targets) (d : Decision) (n : ℕ) where
   abbrev pub joins_apart : Colocation → Bool
   joins_apart col = is_separation col && (would_join_primary table d n col || would_join_dependent table d n col)
 
--- the first such colocations
-abbrev pub missing_primary : Cluster → Targets → Decision → ℕ → Option Colocation
-missing_primary c table d n = find (misses_primary table d n) c.colocations
+-- the first colocation of which the decision misses the primary
+abbrev pub missed_colocation : Cluster → Targets → Decision → ℕ → Option Colocation
+missed_colocation c table d n = find (misses_primary table d n) c.colocations
 
-abbrev pub joined_apart : Cluster → Targets → Decision → ℕ → Option Colocation
-joined_apart c table d n = find (joins_apart table d n) c.colocations
+-- the first separation whose sides it would join
+abbrev pub joined_separation : Cluster → Targets → Decision → ℕ → Option Colocation
+joined_separation c table d n = find (joins_apart table d n) c.colocations
 
 module _ (c : Cluster) (es : List Event) (promotions : List Promotion) (table : Targets) (d : Decision) where
   -- the first test of a candidate that the node fails
@@ -49,14 +61,14 @@ module _ (c : Cluster) (es : List Event) (promotions : List Promotion) (table : 
       if not (is_usable c n es) then Some unusable
       else (if not (is_permitted c es d n) then Some forbidden
       else (if not (int_le (pos 0) (total_on c es promotions table d n)) then Some below
-      else option_or (option_map without (missing_primary c table d n))
-      (option_or (option_map beside (joined_apart c table d n)) (if is_placed_for table d n then None else Some unplaced))))
+      else option_or (option_map without (missed_colocation c table d n))
+      (option_or (option_map beside (joined_separation c table d n)) (if is_placed_for table d n then None else Some unplaced))))
 
-  -- the node is chosen, and each other one that is goes before it
+  -- the node is the worst that is chosen: each other chosen one is better
   abbrev pub is_last_chosen : ℕ → Bool
   is_last_chosen n =
       is_chosen c es promotions table d n
-      && list_all (λ m. implies (is_chosen c es promotions table d m) (m == n || is_chosen_before c es promotions table d m n)) (range_with_len 0 (length c.nodes))
+      && list_all (λ m. implies (is_chosen c es promotions table d m) (m == n || is_better c es promotions table d m n)) (range_with_len 0 (length c.nodes))
 
   abbrev pub last_chosen : Option ℕ
   last_chosen = find is_last_chosen (range_with_len 0 (length c.nodes))

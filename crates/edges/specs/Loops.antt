@@ -2,13 +2,13 @@
 use Rattle.std.specs.Prelude.{◌≡◌, ◌<◌, ◌+◌, ℕ, suc, zero, ◌==◌, ◌&&◌, ◌||◌, Bool, true, false, List, Option, Some, None, length, take, Contains}
 use Rattle.std.specs.List.{list_any}
 use Rattle.edges.specs.declared.edge.Edge.{Edge}
-use Rattle.edges.specs.Chains.{Chain, HaveNoRing, IsLinked}
+use Rattle.edges.specs.Chains.{Chain, HaveNoLoop, IsLinked}
 
 -- the edges lead from a position to another, one after the other
 abbrev pub Leads : List Edge → ℕ → ℕ → Type 0
 Leads edges x y = Chain (IsLinked (λ (e : Edge). e.before) (λ (e : Edge). e.after) edges) x y
 
--- the same, computed, over at most so many edges
+-- the same, computed, over at most so many edges. Where no loop is, as many as there are positions are enough (`ways_are_short`)
 abbrev pub leads_within : ℕ → List Edge → ℕ → ℕ → Bool
 leads_within zero edges x y = false
 leads_within (suc most) edges x y = list_any (λ e. e.before == x && (e.after == y || leads_within most edges e.after y)) edges
@@ -19,14 +19,14 @@ EndsWithin positions edges = (e : Edge) → Contains edges e → (e.before < pos
 
 -- no edges lead from a position back to it
 abbrev pub HasNoLoop : List Edge → Type 0
-HasNoLoop edges = HaveNoRing (IsLinked (λ (e : Edge). e.before) (λ (e : Edge). e.after) edges)
+HasNoLoop edges = HaveNoLoop (IsLinked (λ (e : Edge). e.before) (λ (e : Edge). e.after) edges)
 
 -- from some position edges lead back to it
 pub record HasLoop (edges : List Edge) : Type 0 where
   pub at : ℕ
   pub leads : Leads edges at at
 
--- the same, computed, over at most so many edges
+-- the same, of at most so many edges (`loops_are_short`)
 pub record HasShortLoop (most : ℕ) (edges : List Edge) : Type 0 where
   pub at : ℕ
   pub leads : leads_within most edges at at ≡ true

@@ -13,7 +13,7 @@ use Rattle.cluster_types.specs.declared.leaf.Op.{Op}
 use Rattle.cluster_types.specs.declared.leaf.Op.TheVariants.{Start, Stop, Promote, Demote, Monitor}
 use Rattle.cluster_types.specs.declared.rules.Order.{Order}
 use Rattle.cluster_types.specs.Numbers.{IsStepLink, StepsHaveNoLoop, Link, StepOf, inverse_links, is_same_step, leaf_links, link, links, order_links}
-use Rattle.cluster_types.specs.Precedence.{inverse, is_serialize, is_up, takers}
+use Rattle.cluster_types.specs.Precedence.{inverse, is_serialize, is_giving, takers}
 use Rattle.loops.specs.Inner.Edges.{counts_link, link_edge, step_edges, step_position}
 use Rattle.loops.specs.FirstLoops.{AllOrder, OrdersSteps, StepsHaveLoop, reaches}
 use Rattle.lemmas.proofs.Members.{head_or_rest, in_map, in_none, of_filter, of_flat, of_map, of_range}
@@ -66,7 +66,7 @@ module _ (c : Cluster) (o : Order) (ordered : OrdersSteps c o) where
       (takers_change o.first_op m.source m.among) ordered.first
 
   of_inverse : (l : Link) → Contains (inverse_links o) l → BothStand (length c.leaves) l
-  of_inverse l h = on (is_up o.first_op && is_up o.then_op) h where
+  of_inverse l h = on (is_giving o.first_op && is_giving o.then_op) h where
     on : (b : Bool) → Contains (cond b (flat_map (λ p. map (λ q. link p o.then_leaf q o.first) (takers o.first_op)) (takers o.then_op))
         (link (inverse o.then_op) o.then_leaf (inverse o.first_op) o.first ∷ [])) l
         → BothStand (length c.leaves) l
@@ -157,7 +157,7 @@ module _ (c : Cluster) (ordered : AllOrder c) where
   pub steps_loop : HasLoop (step_edges c) → StepsHaveLoop c
   steps_loop l =
       let one = bounded_loop l in
-      record { step = one.thing; ring = links_chain c (4 * length c.leaves) one.thing one.thing one.follows }
+      record { step = one.thing; loop = links_chain c (4 * length c.leaves) one.thing one.thing one.follows }
 
   -- a height of the edges rises along each link
   link_rises : (rising : RiseSomehow (step_edges c)) (s t : StepOf) → IsStepLink c s t
@@ -175,5 +175,5 @@ module _ (c : Cluster) (ordered : AllOrder c) where
   pub loop_of_steps : StepsHaveLoop c → HasLoop (step_edges c)
   loop_of_steps l = elim (loop_or_none (4 * length c.leaves) (step_edges c) steps_within) [
     | inl loop ↦ loop
-    | inr none ↦ absurd (steps_free none l.step l.ring)
+    | inr none ↦ absurd (steps_free none l.step l.loop)
   ]

@@ -18,7 +18,7 @@ use Rattle.cluster_types.specs.declared.rules.Order.{Order}
 use Rattle.cluster_types.specs.Decisions.{NeedsHaveNoLoop, all_decisions, is_same_decision, needs, needs_through}
 use Rattle.cluster_types.specs.Numbers.{StepsHaveNoLoop, Link, StepOf, is_same_step, links}
 use Rattle.loops.specs.Inner.Edges.{colocation_edge, leaf_edges, need_edges, step_edges}
-use Rattle.loops.specs.FirstLoops.{AllJoin, AllOrder, IsFirstColocation, IsFirstOrder, NeedsHaveLoop, StepsHaveLoop, has_need_loop, has_step_loop, is_closed_by, reaches, with_colocations, with_first_orders}
+use Rattle.loops.specs.FirstLoops.{AllJoin, AllOrder, IsFirstColocation, IsFirstOrder, NeedsHaveLoop, StepsHaveLoop, has_need_loop, has_step_loop, is_closed_by, reaches, with_first_colocations, with_first_orders}
 use Rattle.lemmas.proofs.Members.{in_none}
 use Rattle.loops.proofs.FirstOrders.{first_ordered, own_free}
 use Rattle.loops.proofs.LinkLoops.{bounded_loop as bounded_steps, links_chain, loop_of_steps, steps_free, steps_loop}
@@ -47,7 +47,7 @@ module _ (c : Cluster) where
   pub loop_of_need : has_need_loop c ≡ true → NeedsHaveLoop c
   loop_of_need h = on (Any-from_list_any (λ d. needs_through c (all_decisions c) (length (all_decisions c)) d d) (all_decisions c) h) where
     on : Any (λ d. needs_through c (all_decisions c) (length (all_decisions c)) d d ≡ true) (all_decisions c) → NeedsHaveLoop c
-    on (k, d, lt, at, h) = record { decision = d; ring = needs_chain c (all_decisions c) (length (all_decisions c)) d d h }
+    on (k, d, lt, at, h) = record { decision = d; loop = needs_chain c (all_decisions c) (length (all_decisions c)) d d h }
 
   pub need_of_loop : AllJoin c → NeedsHaveLoop c → has_need_loop c ≡ true
   need_of_loop joined l =
@@ -56,10 +56,10 @@ module _ (c : Cluster) where
       (end_among c (all_decisions c) (length (all_decisions c)) one.thing one.thing one.follows) one.follows
 
   pub need_of_none : AllJoin c → has_need_loop c ≡ false → NeedsHaveNoLoop c
-  need_of_none joined h d ring = both_ways _ h (need_of_loop joined (record { decision = d; ring = ring }))
+  need_of_none joined h d ring = both_ways _ h (need_of_loop joined (record { decision = d; loop = ring }))
 
   pub needs_tested : AllJoin c → has_need_loop c ≡ false ↔ NeedsHaveNoLoop c
-  needs_tested joined = (need_of_none joined, λ free. false_from_ne_true _ (λ h. let l = loop_of_need h in free l.decision l.ring))
+  needs_tested joined = (need_of_none joined, λ free. false_from_ne_true _ (λ h. let l = loop_of_need h in free l.decision l.loop))
 
 -- the first link of a chain from a step
 record Begins (c : Cluster) (s : StepOf) : Type 0 where
@@ -77,7 +77,7 @@ module _ (c : Cluster) where
   pub loop_of_step : has_step_loop c ≡ true → StepsHaveLoop c
   loop_of_step h = on (Any-from_list_any (λ l. reaches c (4 * length c.leaves) l.before l.before) (links c) h) where
     on : Any (λ l. reaches c (4 * length c.leaves) l.before l.before ≡ true) (links c) → StepsHaveLoop c
-    on (k, l, lt, at, h) = record { step = l.before; ring = links_chain c (4 * length c.leaves) l.before l.before h }
+    on (k, l, lt, at, h) = record { step = l.before; loop = links_chain c (4 * length c.leaves) l.before l.before h }
 
   pub step_of_loop : AllOrder c → StepsHaveLoop c → has_step_loop c ≡ true
   step_of_loop ordered l =
@@ -86,15 +86,15 @@ module _ (c : Cluster) where
       passes_by (λ l. reaches c (4 * length c.leaves) l.before l.before) (links c) b.way b.among (rw b.from one.follows)
 
   pub step_of_none : AllOrder c → has_step_loop c ≡ false → StepsHaveNoLoop c
-  step_of_none ordered h s ring = both_ways _ h (step_of_loop ordered (record { step = s; ring = ring }))
+  step_of_none ordered h s ring = both_ways _ h (step_of_loop ordered (record { step = s; loop = ring }))
 
   pub steps_tested : AllOrder c → has_step_loop c ≡ false ↔ StepsHaveNoLoop c
-  steps_tested ordered = (step_of_none ordered, λ free. false_from_ne_true _ (λ h. let l = loop_of_step h in free l.step l.ring))
+  steps_tested ordered = (step_of_none ordered, λ free. false_from_ne_true _ (λ h. let l = loop_of_step h in free l.step l.loop))
 
 -- a cluster with the first so many colocations of another
 module _ (c d : Cluster) (joined : AllJoin c) (count : ℕ) (few : count ≤ length c.colocations) (leaves : d.leaves ≡ c.leaves)
     (colocations : d.colocations ≡ take count c.colocations) where
-  same_needs : need_edges d ≡ need_edges (with_colocations c count)
+  same_needs : need_edges d ≡ need_edges (with_first_colocations c count)
   same_needs =
       ap (λ (ls : List Leaf). need_edges record d { leaves = ls }) leaves
       ∙ ap (λ (cs : List Colocation). need_edges record d { leaves = c.leaves; colocations = cs }) colocations
@@ -104,14 +104,14 @@ module _ (c d : Cluster) (joined : AllJoin c) (count : ℕ) (few : count ≤ len
       let j = first_joined c joined count col (rw colocations at h) in
       record { dependent = rw leaves j.dependent; primary = rw leaves j.primary }
 
-  first_needs : NeedsHaveLoop d → NeedsHaveLoop (with_colocations c count)
+  first_needs : NeedsHaveLoop d → NeedsHaveLoop (with_first_colocations c count)
   first_needs l =
-      let looped : HasLoop (need_edges (with_colocations c count)) = subst HasLoop same_needs (loop_of_needs d all_joined l) in
-      needs_loop (with_colocations c count) (first_joined c joined count) looped
+      let looped : HasLoop (need_edges (with_first_colocations c count)) = subst HasLoop same_needs (loop_of_needs d all_joined l) in
+      needs_loop (with_first_colocations c count) (first_joined c joined count) looped
 
-  needs_of_first : NeedsHaveLoop (with_colocations c count) → NeedsHaveLoop d
+  needs_of_first : NeedsHaveLoop (with_first_colocations c count) → NeedsHaveLoop d
   needs_of_first l =
-      let looped : HasLoop (need_edges (with_colocations c count)) = loop_of_needs (with_colocations c count) (first_joined c joined count) l in
+      let looped : HasLoop (need_edges (with_first_colocations c count)) = loop_of_needs (with_first_colocations c count) (first_joined c joined count) l in
       needs_loop d all_joined (subst HasLoop (sym same_needs) looped)
 
   pub needs_closed : (place : Option ℕ) → IsFirstColocation c place → has_need_loop d ≡ is_closed_by place count
@@ -125,7 +125,7 @@ module _ (c d : Cluster) (joined : AllJoin c) (count : ℕ) (few : count ≤ len
       early h true e = e
       early h false e =
           let late : count ≤ place = grind (arith, nat_tests) in
-          absurd (needs_apart (with_colocations c place) (needs_stay c joined count place late (first_needs (loop_of_need d h))) closes.before)
+          absurd (needs_apart (with_first_colocations c place) (needs_stay c joined count place late (first_needs (loop_of_need d h))) closes.before)
 
 -- a cluster with the first so many orders of another
 module _ (c d : Cluster) (ordered : AllOrder c) (count : ℕ) (few : count ≤ length c.orders) (leaves : d.leaves ≡ c.leaves)
@@ -181,7 +181,7 @@ no_steps c e =
     (subst (λ (es : List Edge). NoLoopOfEdges es) (sym same) (own_free c))
 
 pub no_need_found : (c : Cluster) → c.colocations ≡ [] → has_need_loop c ≡ false
-no_need_found c e = false_from_ne_true _ (λ h. let l = loop_of_need c h in no_needs c e l.decision l.ring)
+no_need_found c e = false_from_ne_true _ (λ h. let l = loop_of_need c h in no_needs c e l.decision l.loop)
 
 pub no_step_found : (c : Cluster) → c.orders ≡ [] → has_step_loop c ≡ false
-no_step_found c e = false_from_ne_true _ (λ h. let l = loop_of_step c h in no_steps c e l.step l.ring)
+no_step_found c e = false_from_ne_true _ (λ h. let l = loop_of_step c h in no_steps c e l.step l.loop)

@@ -20,7 +20,7 @@ use Rattle.cluster_types.specs.declared.placement.Decision.{Decision}
 use Rattle.cluster_types.specs.declared.placement.Decision.TheVariants.{Promote}
 use Rattle.cluster_types.specs.Decisions.{IsNeedLink, NeedsHaveNoLoop, all_decisions, decision_of, is_same_decision, needs, needs_through}
 use Rattle.loops.specs.Inner.Edges.{colocation_edge, decision_position, leaf_edge, leaf_edges, need_edges}
-use Rattle.loops.specs.FirstLoops.{AllJoin, ClosesNeeds, NeedsHaveLoop, with_colocations}
+use Rattle.loops.specs.FirstLoops.{AllJoin, ClosesNeeds, NeedsHaveLoop, with_first_colocations}
 use Rattle.lemmas.proofs.Members.{of_map, of_range, contains_first}
 use Rattle.loops.proofs.Chained.{chain_of, no_ring}
 use Rattle.loops.proofs.Needs.{alike, count_of_decisions, edge_for, same_decision, way_for}
@@ -73,7 +73,7 @@ module _ (c : Cluster) (joined : AllJoin c) where
   pub needs_loop : HasLoop (need_edges c) → NeedsHaveLoop c
   needs_loop l =
       let one = bounded_loop l in
-      record { decision = one.thing; ring = needs_chain c (all_decisions c) (length (all_decisions c)) one.thing one.thing one.follows }
+      record { decision = one.thing; loop = needs_chain c (all_decisions c) (length (all_decisions c)) one.thing one.thing one.follows }
 
   -- a height of the edges rises along each need
   pub need_rises : (rising : RiseSomehow (need_edges c)) (d e : Decision) → IsNeedLink c (all_decisions c) d e
@@ -91,13 +91,13 @@ module _ (c : Cluster) (joined : AllJoin c) where
   pub loop_of_needs : NeedsHaveLoop c → HasLoop (need_edges c)
   loop_of_needs l = elim (loop_or_none (2 * length c.leaves) (need_edges c) needs_within) [
     | inl loop ↦ loop
-    | inr none ↦ absurd (needs_free none l.decision l.ring)
+    | inr none ↦ absurd (needs_free none l.decision l.loop)
   ]
 
   pub rising_needs : NeedsHaveNoLoop c → RiseSomehow (need_edges c)
   rising_needs free =
       rise_somehow (2 * length c.leaves) (need_edges c) needs_within (elim (loop_or_none (2 * length c.leaves) (need_edges c) needs_within) [
-        | inl loop ↦ let l : NeedsHaveLoop c = needs_loop loop in absurd (free l.decision l.ring)
+        | inl loop ↦ let l : NeedsHaveLoop c = needs_loop loop in absurd (free l.decision l.loop)
         | inr none ↦ none
       ])
 
@@ -118,14 +118,14 @@ module _ (c : Cluster) (joined : AllJoin c) where
       take-append-le k (leaf_edges (length c.leaves)) (map colocation_edge c.colocations) (omega arith)
 
   -- the edges of the first colocations are the first edges
-  pub first_edges : (k : ℕ) → take (length c.leaves + k) (need_edges c) ≡ need_edges (with_colocations c k)
+  pub first_edges : (k : ℕ) → take (length c.leaves + k) (need_edges c) ≡ need_edges (with_first_colocations c k)
   first_edges k =
       let l = length-map-range_with_len leaf_edge 0 (length c.leaves) in
       let t = take-append-add (leaf_edges (length c.leaves)) (map colocation_edge c.colocations) k in
       let m = take-map colocation_edge k c.colocations in
       rw m at (rw l at t)
 
-  pub first_joined : (k : ℕ) → AllJoin (with_colocations c k)
+  pub first_joined : (k : ℕ) → AllJoin (with_first_colocations c k)
   first_joined k col h =
       let j = joined col (contains_first k c.colocations col h) in
       record { dependent = j.dependent; primary = j.primary }
@@ -151,12 +151,12 @@ module _ (c : Cluster) (joined : AllJoin c) where
           let l = length-map-range_with_len leaf_edge 0 (length c.leaves) in
           let m = length-map c.colocations colocation_edge in
           let one : place + 1 ≡ length c.leaves + (k + 1) = omega arith in
-          let before : HasNoLoop (need_edges (with_colocations c k))
+          let before : HasNoLoop (need_edges (with_first_colocations c k))
           = rw (first_edges k) at (rw e at f.before) in
-          let closed : HasLoop (need_edges (with_colocations c (k + 1)))
+          let closed : HasLoop (need_edges (with_first_colocations c (k + 1)))
           = rw (first_edges (k + 1)) at (rw one at f.closed) in
           record {
             within = omega arith;
-            before = needs_free (with_colocations c k) (first_joined k) before;
-            closed = needs_loop (with_colocations c (k + 1)) (first_joined (k + 1)) closed;
+            before = needs_free (with_first_colocations c k) (first_joined k) before;
+            closed = needs_loop (with_first_colocations c (k + 1)) (first_joined (k + 1)) closed;
           }

@@ -13,40 +13,40 @@ use Rattle.cluster_types.specs.declared.rules.Order.{Order}
 use Rattle.cluster_types.specs.Decisions.{NeedsHaveNoLoop}
 use Rattle.cluster_types.specs.Numbers.{StepsHaveNoLoop, Link, leaf_links, links, order_links}
 use Rattle.loops.specs.Inner.Edges.{counts_link, link_edge, need_edges, step_edges}
-use Rattle.loops.specs.FirstLoops.{AllJoin, AllOrder, ClosesNeeds, ClosesSteps, IsFirstColocation, IsFirstOrder, NeedsHaveLoop, StepsHaveLoop, with_colocations, with_first_orders}
+use Rattle.loops.specs.FirstLoops.{AllJoin, AllOrder, ClosesNeeds, ClosesSteps, IsFirstColocation, IsFirstOrder, NeedsHaveLoop, StepsHaveLoop, with_first_colocations, with_first_orders}
 use Rattle.loops.proofs.FirstOrders.{first_ordered}
 use Rattle.loops.proofs.LinkLoops.{loop_of_steps, steps_loop}
 use Rattle.lemmas.proofs.Members.{contains_shorter, in_filter, in_flat, in_map, of_filter, of_flat, of_map}
 use Rattle.loops.proofs.NeedLoops.{first_edges, first_joined, loop_of_needs, needs_loop}
 
 pub needs_apart : (c : Cluster) → NeedsHaveLoop c → NeedsHaveNoLoop c → ⊥
-needs_apart c l free = free l.decision l.ring
+needs_apart c l free = free l.decision l.loop
 
 pub steps_apart : (c : Cluster) → StepsHaveLoop c → StepsHaveNoLoop c → ⊥
-steps_apart c l free = free l.step l.ring
+steps_apart c l free = free l.step l.loop
 
 module _ (c : Cluster) (joined : AllJoin c) where
   -- more colocations keep a loop
-  pub needs_stay : (j k : ℕ) → j ≤ k → NeedsHaveLoop (with_colocations c j) → NeedsHaveLoop (with_colocations c k)
+  pub needs_stay : (j k : ℕ) → j ≤ k → NeedsHaveLoop (with_first_colocations c j) → NeedsHaveLoop (with_first_colocations c k)
   needs_stay j k le l =
       let fewer : List Edge = take (length c.leaves + j) (need_edges c) in
       let more : List Edge = take (length c.leaves + k) (need_edges c) in
       let before : HasLoop (take (length c.leaves + j) (need_edges c))
-      = rw (first_edges c joined j) (loop_of_needs (with_colocations c j) (first_joined c joined j) l) in
-      let after : HasLoop (need_edges (with_colocations c k))
+      = rw (first_edges c joined j) (loop_of_needs (with_first_colocations c j) (first_joined c joined j) l) in
+      let after : HasLoop (need_edges (with_first_colocations c k))
       = rw (first_edges c joined k) at (loop_with_more fewer more
       (λ e h. contains_shorter (length c.leaves + j) (length c.leaves + k) (need_edges c) e (omega arith) h)
       before) in
-      needs_loop (with_colocations c k) (first_joined c joined k) after
+      needs_loop (with_first_colocations c k) (first_joined c joined k) after
 
-  pub all_colocations : NeedsHaveLoop (with_colocations c (length c.colocations)) → NeedsHaveLoop c
+  pub all_colocations : NeedsHaveLoop (with_first_colocations c (length c.colocations)) → NeedsHaveLoop c
   all_colocations l = subst (λ (cs : List Colocation). NeedsHaveLoop record c { colocations = cs }) (take-length c.colocations) l
 
   some_needs : (k : ℕ) → ClosesNeeds c k → NeedsHaveLoop c
   some_needs k f = let w = f.within in all_colocations (needs_stay (k + 1) (length c.colocations) (omega arith) f.closed)
 
   not_later : (j k : ℕ) → j < k → ClosesNeeds c j → ClosesNeeds c k → ⊥
-  not_later j k lt f g = needs_apart (with_colocations c k) (needs_stay (j + 1) k (omega arith) f.closed) g.before
+  not_later j k lt f g = needs_apart (with_first_colocations c k) (needs_stay (j + 1) k (omega arith) f.closed) g.before
 
 pub one_colocation : (c : Cluster) (a b : Option ℕ) → AllJoin c → IsFirstColocation c a → IsFirstColocation c b → a ≡ b
 one_colocation c None None joined f g = refl

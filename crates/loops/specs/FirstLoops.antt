@@ -29,8 +29,8 @@ abbrev pub AllOrder : Cluster → Type 0
 AllOrder c = (o : Order) → Contains c.orders o → OrdersSteps c o
 
 -- the cluster with so many of its colocations, the first ones
-abbrev pub with_colocations : Cluster → ℕ → Cluster
-with_colocations c count = record c { colocations = take count c.colocations }
+abbrev pub with_first_colocations : Cluster → ℕ → Cluster
+with_first_colocations c count = record c { colocations = take count c.colocations }
 
 -- the cluster with so many of its orders, the first ones
 abbrev pub with_first_orders : Cluster → ℕ → Cluster
@@ -39,16 +39,14 @@ with_first_orders c count = record c { orders = take count c.orders }
 -- a chain of needs leads from some decision back to it
 pub record NeedsHaveLoop (c : Cluster) : Type 0 where
   pub decision : Decision
-  pub ring : Chain (IsNeedLink c (all_decisions c)) decision decision
+  pub loop : Chain (IsNeedLink c (all_decisions c)) decision decision
 
 -- a chain of links leads from some step back to it
 pub record StepsHaveLoop (c : Cluster) : Type 0 where
   pub step : StepOf
-  pub ring : Chain (IsStepLink c) step step
+  pub loop : Chain (IsStepLink c) step step
 
--- the same two, computed: no chain has to have more needs than there are decisions, or more links than there are steps
--- (`loops_are_computed`)
-
+-- some decision needs itself, computed: no chain has to have more needs than there are decisions (`loops_are_computed`)
 abbrev pub has_need_loop : Cluster → Bool
 has_need_loop c = list_any (λ d. needs_through c (all_decisions c) (length (all_decisions c)) d d) (all_decisions c)
 
@@ -57,14 +55,15 @@ abbrev pub reaches : Cluster → ℕ → StepOf → StepOf → Bool
 reaches c zero s t = false
 reaches c (suc most) s t = list_any (λ l. is_same_step l.before s && (is_same_step l.after t || reaches c most l.after t)) (links c)
 
+-- some step leads back to itself, computed: no chain has to have more links than there are steps, four a leaf (`loops_are_computed`)
 abbrev pub has_step_loop : Cluster → Bool
 has_step_loop c = list_any (λ l. reaches c (4 * length c.leaves) l.before l.before) (links c)
 
 -- the needs have no loop with the colocations before this place, and with the one at it they have one
 pub record ClosesNeeds (c : Cluster) (place : ℕ) : Type 0 where
   pub within : place < length c.colocations
-  pub before : NeedsHaveNoLoop (with_colocations c place)
-  pub closed : NeedsHaveLoop (with_colocations c (place + 1))
+  pub before : NeedsHaveNoLoop (with_first_colocations c place)
+  pub closed : NeedsHaveLoop (with_first_colocations c (place + 1))
 
 -- the links have no loop with the orders before this place, and with the one at it they have one
 pub record ClosesSteps (c : Cluster) (place : ℕ) : Type 0 where

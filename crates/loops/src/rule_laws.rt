@@ -7,7 +7,7 @@ ghost use Rattle.cluster_types.specs.declared.placement.Decision.{Decision};
 ghost use Rattle.cluster_types.specs.Decisions.{NeedsByChain, NeedsHaveNoLoop, decisions, needs_through};
 ghost use Rattle.cluster_types.specs.Numbers.{StepsHaveNoLoop};
 ghost use Rattle.cluster_types.specs.Terms.{IsTied, is_tied, lenders};
-ghost use Rattle.loops.specs.FirstLoops.{AllJoin, AllOrder, IsFirstColocation, IsFirstOrder, has_need_loop, has_step_loop, is_closed_by, with_colocations, with_first_orders};
+ghost use Rattle.loops.specs.FirstLoops.{AllJoin, AllOrder, IsFirstColocation, IsFirstOrder, has_need_loop, has_step_loop, is_closed_by, with_first_colocations, with_first_orders};
 
 /// There is one answer to where the needs get their first loop: the place where they do, or None where they have none.
 pub fn first_colocation_is_unique()
@@ -42,7 +42,7 @@ pub fn ties_are_computed()
 /// The first `count` rules have a loop, as the test computes it, when the rule that closes the first loop is among them, and only then.
 pub fn first_rules_have_the_loop()
     ensures needs { (c : Cluster) (place : Option ℕ) (count : ℕ) → AllJoin c → IsFirstColocation c place → count ≤ length c.colocations
-        → has_need_loop (with_colocations c count) ≡ is_closed_by place count }
+        → has_need_loop (with_first_colocations c count) ≡ is_closed_by place count }
     ensures steps { (c : Cluster) (place : Option ℕ) (count : ℕ) → AllOrder c → IsFirstOrder c place → count ≤ length c.orders
         → has_step_loop (with_first_orders c count) ≡ is_closed_by place count }
 {}

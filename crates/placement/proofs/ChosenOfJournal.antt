@@ -15,7 +15,7 @@ use Rattle.cluster_types.specs.declared.cluster.Cluster.{Cluster}
 use Rattle.cluster_types.specs.declared.journal.Event.{Event}
 use Rattle.cluster_types.specs.declared.journal.Promotion.{Promotion}
 use Rattle.cluster_types.specs.declared.placement.Decision.{Decision}
-use Rattle.cluster_types.specs.Choice.{cap_of, has_primaries, is_apart, is_candidate, is_chosen, is_chosen_before, is_permitted, is_placed_for, preference, total_on}
+use Rattle.cluster_types.specs.Choice.{cap_of, has_primaries, is_apart, is_candidate, is_chosen, is_better, is_permitted, is_placed_for, preference, total_on}
 use Rattle.cluster_types.specs.Decisions.{leaf_of}
 use Rattle.cluster_types.specs.NodeStates.{is_usable}
 use Rattle.cluster_types.specs.Rights.{rights_of}
@@ -82,10 +82,10 @@ module _ (c : Cluster) (es : List Event) (ps : List Promotion) (table : Targets)
       (are : (n : ℕ) → n < length c.nodes → has among n ≡ is_candidate c es ps table d n)
       (picks : ArePicked on_each (map (load_of c table) (range_with_len 0 (length c.nodes))) among (cap_of c es d) picked) where
     abbrev ahead : (ℕ → Bool) → ℕ → ℕ
-    ahead may n = count_by (λ m. may m && is_chosen_before c es ps table d m n) (range_with_len 0 (length c.nodes))
+    ahead may n = count_by (λ m. may m && is_better c es ps table d m n) (range_with_len 0 (length c.nodes))
 
     goes-before : (n m : ℕ) → n < length c.nodes → m < length c.nodes → GoesBefore on_each (map (load_of c table) (range_with_len 0 (length c.nodes))) n m
-        → is_chosen_before c es ps table d n m ≡ true
+        → is_better c es ps table d n m ≡ true
     goes-before n m low also h =
         goes _ _ (total_on c es ps table d n) (total_on c es ps table d m) _ _ (load_of c table n) (load_of c table m) n m
         (total-at n low) (total-at m also) (load-at n low) (load-at m also) h
@@ -99,7 +99,7 @@ module _ (c : Cluster) (es : List Event) (ps : List Promotion) (table : Targets)
     -- among the candidates that were found
     first-are : (n : ℕ) → n < length c.nodes → has picked n ≡ (has among n && nat_lt (ahead (has among) n) (cap_of c es d))
     first-are n low =
-        picked_are_first (length c.nodes) (has among) (is_chosen_before c es ps table d) (chosen_one_way c es ps table d) (has picked) picks.fits
+        picked_are_first (length c.nodes) (has among) (is_better c es ps table d) (chosen_one_way c es ps table d) (has picked) picks.fits
         (λ x y h a k. goes-before x y (there x (picks.fits x h)) (there y a) (picks.first x y h a k))
         (cap_of c es d) (let most = picks.most in omega (arith, most, size-is))
         (λ x in-range a k. let enough = picks.enough x a k in omega (arith, enough, size-is)) n low
@@ -109,8 +109,8 @@ module _ (c : Cluster) (es : List Event) (ps : List Promotion) (table : Targets)
         first-are n low
         ∙ (ap (λ b. b && nat_lt (ahead (has among) n) (cap_of c es d)) (are n low)
         ∙ ap (λ (k : ℕ). is_candidate c es ps table d n && nat_lt k (cap_of c es d))
-        (count-same (λ m. has among m && is_chosen_before c es ps table d m n) (λ m. is_candidate c es ps table d m && is_chosen_before c es ps table d m n)
-        (length c.nodes) (λ m in-range. ap (λ b. b && is_chosen_before c es ps table d m n) (are m in-range))))
+        (count-same (λ m. has among m && is_better c es ps table d m n) (λ m. is_candidate c es ps table d m && is_better c es ps table d m n)
+        (length c.nodes) (λ m in-range. ap (λ b. b && is_better c es ps table d m n) (are m in-range))))
 
   -- what is picked by these totals, loads and this cap is what the decision chooses
   pub chooses : (totals : List ℤ) (loads : List ℕ) (among picked : NodeSet) (cap : ℕ) → totals ≡ on_each

@@ -14,10 +14,10 @@ use Rattle.cluster_types.specs.declared.placement.Target.TheVariants as target
 use Rattle.cluster_types.specs.declared.rules.Colocation.{Colocation}
 use Rattle.cluster_types.specs.declared.rules.Order.{Order}
 use Rattle.cluster_types.specs.Decisions.{decision_of}
-use Rattle.cluster_types.specs.Held.{AreTargets, ColocationMayHold, Held, KeepsTarget, LacksFirst, LacksPrimary, OrderMayHold}
+use Rattle.cluster_types.specs.Held.{AreTargets, ColocationCanHoldBack, Held, KeepsTarget, LacksFirst, LacksPrimary, OrderCanHoldBack}
 use Rattle.cluster_types.specs.LeastSets.{IsClosedUnderHolding}
 use Rattle.cluster_types.specs.Pins.{pin_of}
-use Rattle.cluster_types.specs.Precedence.{is_mandatory_order, is_up, role_by}
+use Rattle.cluster_types.specs.Precedence.{is_mandatory_order, is_giving, role_given}
 use Rattle.cluster_types.specs.Tables.{Targets, holds_role, is_in_scope, is_promoted_target, is_somewhere}
 use Rattle.cluster_types.proofs.LeastSets.{held-least}
 use Rattle.cluster_types.proofs.TableCells.{promoted_somewhere}
@@ -58,21 +58,21 @@ module _ (c : Cluster) (es : List Event) (chosen left : Targets) (is : IsLeft c 
 
   module _ (pins : List (Option Pin)) (are : pins ≡ map (pin_of c es) (range_with_len 0 (length c.leaves)))
       (settled : (rule : Dependency) → Contains (dependencies_by c pins) rule → IsRuleSettled (length c.nodes) left rule) where
-    by_an_order : (o : Order) (n : ℕ) → OrderMayHold c es chosen o n → LacksFirst c es chosen (HasGone left) o n
-        → HasGone left (decision_of o.then_leaf (role_by o.then_op)) n
+    by_an_order : (o : Order) (n : ℕ) → OrderCanHoldBack c es chosen o n → LacksFirst c es chosen (HasGone left) o n
+        → HasGone left (decision_of o.then_leaf (role_given o.then_op)) n
     by_an_order o n may lacks =
         let kind : is_mandatory_order o.kind ≡ true = rw may.mandatory refl in
         let holds : may_hold_back o ≡ true
-        = and_from (is_mandatory_order o.kind && is_up o.first_op) (is_up o.then_op)
-        (and_from (is_mandatory_order o.kind) (is_up o.first_op) kind may.first_gives) may.then_gives in
+        = and_from (is_mandatory_order o.kind && is_giving o.first_op) (is_giving o.then_op)
+        (and_from (is_mandatory_order o.kind) (is_giving o.first_op) kind may.first_gives) may.then_gives in
         let rule : Dependency = from_order o in
         let none : has_its_primary (length c.nodes) left rule n ≡ false
-        = lacked (length c.nodes) left rule n may.within (λ m low scope. missing o.first (role_by o.first_op) m (lacks m low (scoped o n m scope))) in
-        has_gone left o.then_leaf (role_by o.then_op) n
+        = lacked (length c.nodes) left rule n may.within (λ m low scope. missing o.first (role_given o.first_op) m (lacks m low (scoped o n m scope))) in
+        has_gone left o.then_leaf (role_given o.then_op) n
         (not_both (holds_role left rule.dependent rule.dependent_role n) (has_its_primary (length c.nodes) left rule n)
         (settled rule (order_there c es pins are o may.present holds may.managed) n may.within) none)
 
-    by_a_colocation : (col : Colocation) (n : ℕ) → ColocationMayHold c es chosen col n → LacksPrimary c es chosen (HasGone left) col n
+    by_a_colocation : (col : Colocation) (n : ℕ) → ColocationCanHoldBack c es chosen col n → LacksPrimary c es chosen (HasGone left) col n
         → HasGone left (decision_of col.dependent col.dependent_role) n
     by_a_colocation col n may lacks =
         let rule : Dependency = from_colocation col in

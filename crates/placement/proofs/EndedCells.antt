@@ -20,7 +20,7 @@ use Rattle.plan_laws.proofs.StayHeld.{has, holds_is, nowhere_has_none}
 use Rattle.plan_laws.proofs.TablesWithin.{StaysWithin, is_cell}
 use Rattle.placement.proofs.Lacking.{held_not}
 use Rattle.placement.proofs.LeftOfChosen.{IsLeft}
-use Rattle.cluster_types.specs.Precedence.{role_by}
+use Rattle.cluster_types.specs.Precedence.{role_given}
 
 -- a role is held only in a cell of the cluster
 on_cell : (c : Cluster) (table : Targets) → StaysWithin c table → (r : ℕ) (given : Role) (n : ℕ) → holds_role table r given n ≡ true
@@ -75,7 +75,7 @@ module _ (c : Cluster) (es : List Event) (chosen targets : Targets) (inside : St
 
   pub marked : (d : Decision) (n : ℕ) → Held c es chosen d n → marks d n ≡ true
   marked _ _ (by_order o n may lacks) =
-      marked_role o.then_leaf (role_by o.then_op) n may.chosen (held_gone o.then_leaf (role_by o.then_op) n (by_order o n may lacks))
+      marked_role o.then_leaf (role_given o.then_op) n may.chosen (held_gone o.then_leaf (role_given o.then_op) n (by_order o n may lacks))
   marked _ _ (by_colocation col n may lacks) =
       marked_role col.dependent col.dependent_role n may.chosen (held_gone col.dependent col.dependent_role n (by_colocation col n may lacks))
   marked _ _ (by_place r n promoted held) = marked_role r role.Promoted n promoted (held_gone r role.Promoted n (by_place r n promoted held))

@@ -13,7 +13,7 @@ use Rattle.cluster_types.specs.declared.rules.Order.{Order}
 use Rattle.cluster_types.specs.Choice.{is_mandatory}
 use Rattle.cluster_types.specs.Decisions.{decision_of, is_same_decision}
 use Rattle.cluster_types.specs.Held.{Held}
-use Rattle.cluster_types.specs.Precedence.{is_mandatory_order, is_up, role_by}
+use Rattle.cluster_types.specs.Precedence.{is_mandatory_order, is_giving, role_given}
 use Rattle.cluster_types.specs.Reasons.{IsHeldByColocation, IsHeldByOrder}
 use Rattle.cluster_types.specs.Tables.{Targets, holds_role}
 use Rattle.cluster_types.proofs.OpLaws.{of_kind, start_of}
@@ -57,17 +57,17 @@ module _ (c : Cluster) (es : List Event) (chosen targets : Targets) (is : IsLeft
       go : (b : Bool) → may_hold_back o ≡ b → holds_back (length c.nodes) targets r n (if b then Some (from_order o) else None) ≡ true
           → IsHeldByOrder c es chosen r n o
       go true e h =
-          let its = is_same_decision (Place r) (decision_of o.then_leaf (role_by o.then_op)) in
+          let its = is_same_decision (Place r) (decision_of o.then_leaf (role_given o.then_op)) in
           let has = has_its_primary (length c.nodes) targets (from_order o) n in
-          let two = sooner (is_mandatory_order o.kind && is_up o.first_op) (is_up o.then_op) e in
-          let same : Place r ≡ decision_of o.then_leaf (role_by o.then_op) = same_decision (Place r) _ (sooner its (not has) h) in
-          let (leaf, starts) = placed_by r o.then_leaf (role_by o.then_op) same in
+          let two = sooner (is_mandatory_order o.kind && is_giving o.first_op) (is_giving o.then_op) e in
+          let same : Place r ≡ decision_of o.then_leaf (role_given o.then_op) = same_decision (Place r) _ (sooner its (not has) h) in
+          let (leaf, starts) = placed_by r o.then_leaf (role_given o.then_op) same in
           record {
-            mandatory = of_kind o.kind (sooner (is_mandatory_order o.kind) (is_up o.first_op) two);
+            mandatory = of_kind o.kind (sooner (is_mandatory_order o.kind) (is_giving o.first_op) two);
             later = leaf;
-            starts = start_of o.then_op (later (is_mandatory_order o.kind && is_up o.first_op) (is_up o.then_op) e) starts;
-            first_gives = later (is_mandatory_order o.kind) (is_up o.first_op) two;
-            lacking = λ m low scope was. is.held o.first (role_by o.first_op) m was
+            starts = start_of o.then_op (later (is_mandatory_order o.kind && is_giving o.first_op) (is_giving o.then_op) e) starts;
+            first_gives = later (is_mandatory_order o.kind) (is_giving o.first_op) two;
+            lacking = λ m low scope was. is.held o.first (role_given o.first_op) m was
                 (lacking (length c.nodes) targets (from_order o) n (not-true has (later its (not has) h)) m low (in_scope o n m scope));
           }
       go false e h = cc
@@ -76,12 +76,12 @@ module _ (c : Cluster) (es : List Event) (chosen targets : Targets) (is : IsLeft
   order_no o h =
       let kind : is_mandatory_order o.kind ≡ true = rw h.mandatory refl in
       let holds : may_hold_back o ≡ true
-      = and_from (is_mandatory_order o.kind && is_up o.first_op) (is_up o.then_op)
-      (and_from (is_mandatory_order o.kind) (is_up o.first_op) kind h.first_gives) (rw h.starts refl) in
-      let starts : role_by o.then_op ≡ role.Started = rw h.starts refl in
-      let same : is_same_decision (Place r) (decision_of o.then_leaf (role_by o.then_op)) ≡ true = rw (starts, h.later) (is_itself (Place r)) in
+      = and_from (is_mandatory_order o.kind && is_giving o.first_op) (is_giving o.then_op)
+      (and_from (is_mandatory_order o.kind) (is_giving o.first_op) kind h.first_gives) (rw h.starts refl) in
+      let starts : role_given o.then_op ≡ role.Started = rw h.starts refl in
+      let same : is_same_decision (Place r) (decision_of o.then_leaf (role_given o.then_op)) ≡ true = rw (starts, h.later) (is_itself (Place r)) in
       let none : has_its_primary (length c.nodes) targets (from_order o) n ≡ false
       = lacked (length c.nodes) targets (from_order o) n lt (λ m low scope.
-      missing c es chosen targets is o.first (role_by o.first_op) m (λ was.
-      has_gone targets o.first (role_by o.first_op) m (gone o.first (role_by o.first_op) m (h.lacking m low (scoped o n m scope) was)))) in
-      rw holds (held_not (is_same_decision (Place r) (decision_of o.then_leaf (role_by o.then_op))) (has_its_primary (length c.nodes) targets (from_order o) n) same none)
+      missing c es chosen targets is o.first (role_given o.first_op) m (λ was.
+      has_gone targets o.first (role_given o.first_op) m (gone o.first (role_given o.first_op) m (h.lacking m low (scoped o n m scope) was)))) in
+      rw holds (held_not (is_same_decision (Place r) (decision_of o.then_leaf (role_given o.then_op))) (has_its_primary (length c.nodes) targets (from_order o) n) same none)

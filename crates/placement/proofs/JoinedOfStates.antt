@@ -9,7 +9,7 @@ use Rattle.cluster_types.specs.declared.cluster.Cluster.{Cluster}
 use Rattle.cluster_types.specs.declared.journal.Event.{Event}
 use Rattle.cluster_types.specs.declared.journal.Promotion.{Promotion}
 use Rattle.cluster_types.specs.NodeStates.{is_usable}
-use Rattle.cluster_types.specs.Terms.{is_tied, leaves_a_node, lenders, own_terms, terms_of, with_lender}
+use Rattle.cluster_types.specs.Terms.{is_tied, has_node_left, lenders, own_terms, terms_of, with_lender}
 use Rattle.cluster_types.specs.Unpacked.{states_of}
 use Rattle.placement.specs.Inner.LendingRows.{leaves_a_node_by, with_lender_by}
 use Rattle.placement.specs.OwnRows.{terms_by}
@@ -38,7 +38,7 @@ module _ (c : Cluster) (es : List Event) (ps : List Promotion) where
   terms-is (r ∷ rest) all n low =
       ap (λ ts. ts ++ terms_by c (states_of c es ps) rest n) (own-is c es ps r n all.0 low) ∙ ap (λ ts. own_terms c es r n ++ ts) (terms-is rest all.1 n low)
 
-  leaves-is : (leaves : List ℕ) → AllBelow (length c.leaves) leaves → leaves_a_node_by c (states_of c es ps) leaves ≡ leaves_a_node c es leaves
+  leaves-is : (leaves : List ℕ) → AllBelow (length c.leaves) leaves → leaves_a_node_by c (states_of c es ps) leaves ≡ has_node_left c es leaves
   leaves-is leaves all =
       any-same (λ n. is_usable_by c (states_of c es ps) n && not (is_negative (total_of (terms_by c (states_of c es ps) leaves n))))
       (λ n. is_usable c n es && int_le (pos 0) (total_of (terms_of c es leaves n))) (length c.nodes)
@@ -55,9 +55,9 @@ module _ (c : Cluster) (es : List Event) (ps : List Promotion) where
   joins joined [] all more = record { same = refl; below = all }
   joins joined (s ∷ ss) all more =
       let wide = one-more (length c.leaves) joined s all more.0 in
-      go (leaves_a_node c es (joined ++ s ∷ [])) refl (leaves-is (joined ++ s ∷ []) wide) (joins (joined ++ s ∷ []) ss wide more.1) (joins joined ss all more.1)
+      go (has_node_left c es (joined ++ s ∷ [])) refl (leaves-is (joined ++ s ∷ []) wide) (joins (joined ++ s ∷ []) ss wide more.1) (joins joined ss all more.1)
     where
-      go : (b : Bool) → leaves_a_node c es (joined ++ s ∷ []) ≡ b → leaves_a_node_by c (states_of c es ps) (joined ++ s ∷ []) ≡ leaves_a_node c es (joined ++ s ∷ [])
+      go : (b : Bool) → has_node_left c es (joined ++ s ∷ []) ≡ b → leaves_a_node_by c (states_of c es ps) (joined ++ s ∷ []) ≡ has_node_left c es (joined ++ s ∷ [])
           → Joins (joined ++ s ∷ []) ss → Joins joined ss → Joins joined (s ∷ ss)
       go true e is with_it without = let by = is ∙ e in record { same = rw (by, e) with_it.same; below = rw e with_it.below }
       go false e is with_it without = let by = is ∙ e in record { same = rw (by, e) without.same; below = rw e without.below }

@@ -30,15 +30,15 @@ not_itself a = false_from_ne_true (is_less a a) (λ h. less_one_way a a h h)
 
 pub one_key : (a b : Key) → is_less a b ≡ false → is_less b a ≡ false → a ≡ b
 one_key a b h k =
-    let rank : a.rank ≡ b.rank = same_number a.rank b.rank (int_lt a.active b.active || int_eq a.active b.active && int_lt a.usable b.usable)
+    let rank : a.priority ≡ b.priority = same_number a.priority b.priority (int_lt a.active b.active || int_eq a.active b.active && int_lt a.usable b.usable)
     (int_lt b.active a.active || int_eq b.active a.active && int_lt b.usable a.usable) h k in
-    let h1 = later_number a.rank b.rank (int_lt a.active b.active || int_eq a.active b.active && int_lt a.usable b.usable) rank h in
-    let k1 = later_number b.rank a.rank (int_lt b.active a.active || int_eq b.active a.active && int_lt b.usable a.usable) (sym rank) k in
+    let h1 = later_number a.priority b.priority (int_lt a.active b.active || int_eq a.active b.active && int_lt a.usable b.usable) rank h in
+    let k1 = later_number b.priority a.priority (int_lt b.active a.active || int_eq b.active a.active && int_lt b.usable a.usable) (sym rank) k in
     let active : a.active ≡ b.active = same_number a.active b.active (int_lt a.usable b.usable) (int_lt b.usable a.usable) h1 k1 in
     let h2 = later_number a.active b.active (int_lt a.usable b.usable) active h1 in
     let k2 = later_number b.active a.active (int_lt b.usable a.usable) (sym active) k1 in
     let usable : a.usable ≡ b.usable = last_number a.usable b.usable h2 k2 in
-    λ i. record { rank = rank i; active = active i; usable = usable i }
+    λ i. record { priority = rank i; active = active i; usable = usable i }
 
 neither : (p q : Bool) → p || q ≡ true → p ≡ false → q ≡ false → ⊥
 neither true q h e f = cc

@@ -41,7 +41,7 @@ module _ (c : Cluster) (es : List Event) (ps : List Promotion) (d : Decision) (l
       let active = ap greatest_of (totals-are (is_active_by_cell c (states_of c es ps) d) (λ n. is_active_for d (cell_state c (leaf_of d) n es))
       (λ n node. ap (λ s. option_map_or (λ (cell : Cell). is_active_for d cell.state) s false) (cell_kept c es ps (leaf_of d) n leaf node))) in
       let usable = ap greatest_of (totals-are (is_usable_by c (states_of c es ps)) (λ n. is_usable c n es) (usable-is c es ps)) in
-      λ i. record { rank = priority c (leaf_of d); active = active i; usable = usable i }
+      λ i. record { priority = priority c (leaf_of d); active = active i; usable = usable i }
 
 -- effective keys by keys that are the same of all decisions of the list
 pub effective-same : (c : Cluster) (ds : List Decision) (key other : Decision → Key) → ((d : Decision) → Contains ds d → key d ≡ other d)

@@ -15,7 +15,7 @@ use Rattle.cluster_types.specs.Choice.{is_mandatory}
 use Rattle.cluster_types.specs.Decisions.{decision_of}
 use Rattle.cluster_types.specs.Held.{Held, by_colocation, by_order, by_place}
 use Rattle.cluster_types.specs.Pins.{is_pinned, pin_of}
-use Rattle.cluster_types.specs.Precedence.{is_mandatory_order, is_up, role_by}
+use Rattle.cluster_types.specs.Precedence.{is_mandatory_order, is_giving, role_given}
 use Rattle.cluster_types.specs.Tables.{Targets, holds_role, is_in_scope}
 use Rattle.cluster_types.proofs.OpLaws.{of_kind}
 use Rattle.plan_laws.proofs.MadeOnes.{never_both}
@@ -51,24 +51,24 @@ module _ (c : Cluster) (es : List Event) (pins : List (Option Pin)) (are : pins 
         (λ was. is.held col.primary col.primary_role n was (lacking (length c.nodes) left rule n none n lt (λ e. refl)))
 
     by_an_order : (o : Order) → Contains c.orders o → may_hold_back o ≡ true → is_pinned c es o.then_leaf ≡ false
-        → takes (length c.nodes) left (from_order o) n ≡ true → Held c es chosen (decision_of o.then_leaf (role_by o.then_op)) n
+        → takes (length c.nodes) left (from_order o) n ≡ true → Held c es chosen (decision_of o.then_leaf (role_given o.then_op)) n
     by_an_order o among holds free taken =
         let rule : Dependency = from_order o in
         let there = takes_held (length c.nodes) left rule n taken in
         let none : has_its_primary (length c.nodes) left rule n ≡ false
         = not-true (has_its_primary (length c.nodes) left rule n) (later (holds_role left rule.dependent rule.dependent_role n) (not (has_its_primary (length c.nodes) left rule n)) taken) in
-        let two = sooner (is_mandatory_order o.kind && is_up o.first_op) (is_up o.then_op) holds in
+        let two = sooner (is_mandatory_order o.kind && is_giving o.first_op) (is_giving o.then_op) holds in
         by_order o n
         (record {
           present = among;
-          mandatory = of_kind o.kind (sooner (is_mandatory_order o.kind) (is_up o.first_op) two);
-          first_gives = later (is_mandatory_order o.kind) (is_up o.first_op) two;
-          then_gives = later (is_mandatory_order o.kind && is_up o.first_op) (is_up o.then_op) holds;
+          mandatory = of_kind o.kind (sooner (is_mandatory_order o.kind) (is_giving o.first_op) two);
+          first_gives = later (is_mandatory_order o.kind) (is_giving o.first_op) two;
+          then_gives = later (is_mandatory_order o.kind && is_giving o.first_op) (is_giving o.then_op) holds;
           managed = free;
           within = lt;
-          chosen = is.within o.then_leaf (role_by o.then_op) n there;
+          chosen = is.within o.then_leaf (role_given o.then_op) n there;
         })
-        (λ m low scope was. is.held o.first (role_by o.first_op) m was (lacking (length c.nodes) left rule n none m low (in_scope o n m scope)))
+        (λ m low scope was. is.held o.first (role_given o.first_op) m was (lacking (length c.nodes) left rule n none m low (in_scope o n m scope)))
 
     -- what a dependency takes is held
     rule_holds : (rule : Dependency) → Contains (dependencies_by c pins) rule → takes (length c.nodes) left rule n ≡ true

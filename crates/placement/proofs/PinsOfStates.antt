@@ -17,7 +17,7 @@ use Rattle.cluster_types.specs.declared.states.Cell.{Cell}
 use Rattle.cluster_types.specs.CellStates.{cell_state}
 use Rattle.cluster_types.specs.Decisions.{decisions, decisions_of}
 use Rattle.cluster_types.specs.Fields.{is_managed, is_promotable}
-use Rattle.cluster_types.specs.May.{may, may_promoted}
+use Rattle.cluster_types.specs.May.{may_be_running, may_be_promoted}
 use Rattle.cluster_types.specs.NodeStates.{is_online, is_online_in, is_online_state}
 use Rattle.cluster_types.specs.Pins.{is_blocked_state, is_pinned, is_unprobed_state, pin_of, pinned_targets}
 use Rattle.cluster_types.specs.Tables.{targets_of}
@@ -51,11 +51,11 @@ module _ (c : Cluster) (es : List Event) (ps : List Promotion) where
 
   -- a leaf that stays where it is has this target in a cell
   stay-is : (r n : ℕ) → r < length c.leaves → n < length c.nodes → stay_by c (states_of c es ps) r n
-      ≡ (if is_online c n es && (may c r n es && not (is_unprobed_state (cell_state c r n es))) then (if may_promoted c r n es then target.Promoted else target.Started) else target.Nowhere)
+      ≡ (if is_online c n es && (may_be_running c r n es && not (is_unprobed_state (cell_state c r n es))) then (if may_be_promoted c r n es then target.Promoted else target.Started) else target.Nowhere)
   stay-is r n leaf node =
       ap (λ s. option_map_or (λ (cell : Cell). if is_online_in (states_of c es ps).nodes n && may_stay cell then (if cell.may_promoted then target.Promoted else target.Started) else target.Nowhere) s target.Nowhere)
       (cell_kept c es ps r n leaf node)
-      ∙ ap (λ s. if option_map_or is_online_state s false && (may c r n es && not (is_unprobed_state (cell_state c r n es))) then (if may_promoted c r n es then target.Promoted else target.Started) else target.Nowhere)
+      ∙ ap (λ s. if option_map_or is_online_state s false && (may_be_running c r n es && not (is_unprobed_state (cell_state c r n es))) then (if may_be_promoted c r n es then target.Promoted else target.Started) else target.Nowhere)
       (node_kept c es ps n node)
 
   module _ (pins : List (Option Pin)) (are : pins ≡ map (pin_of c es) (range_with_len 0 (length c.leaves))) where
@@ -68,8 +68,8 @@ module _ (c : Cluster) (es : List Event) (ps : List Promotion) where
     cell-is r n leaf node =
         ap (λ (b : Bool). if b then stay_by c (states_of c es ps) r n else target.Nowhere) (pin_known c es pins are r)
         ∙ (ap (λ (t : Target). if is_pinned c es r then t else target.Nowhere) (stay-is r n leaf node)
-        ∙ in_cluster (nat_lt r (length c.leaves)) (nat_lt n (length c.nodes)) (is_pinned c es r) (is_online c n es) (may c r n es) (is_unprobed_state (cell_state c r n es))
-        (if may_promoted c r n es then target.Promoted else target.Started) target.Nowhere (lt-ltb r (length c.leaves) leaf) (lt-ltb n (length c.nodes) node))
+        ∙ in_cluster (nat_lt r (length c.leaves)) (nat_lt n (length c.nodes)) (is_pinned c es r) (is_online c n es) (may_be_running c r n es) (is_unprobed_state (cell_state c r n es))
+        (if may_be_promoted c r n es then target.Promoted else target.Started) target.Nowhere (lt-ltb r (length c.leaves) leaf) (lt-ltb n (length c.nodes) node))
 
     abbrev before : ℕ → ℕ → Target
     before = pinned_in c pins (states_of c es ps)

@@ -24,7 +24,7 @@ use Rattle.plan_laws.proofs.HeldRounds.{rules_give, stable_is_closed}
 use Rattle.plan_laws.proofs.MadeOnes.{never_both}
 use Rattle.plan_laws.proofs.StayHeld.{has, holds_is, nowhere_has_none}
 use Rattle.plan_laws.proofs.TablesWithin.{StaysWithin, is_cell}
-use Rattle.cluster_types.specs.Precedence.{role_by}
+use Rattle.cluster_types.specs.Precedence.{role_given}
 
 -- a leaf or its promote, on a node
 record Spot : Type 0 where
@@ -59,7 +59,7 @@ module _ (c : Cluster) (es : List Event) (table : Targets) (inside : StaysWithin
           absurd (never_both (has given target.Nowhere) none (nowhere_has_none given))
 
   held_within : (d : Decision) (n : ℕ) → Held c es table d n → IsWithin d n
-  held_within _ _ (by_order o n may lacks) = role_within o.then_leaf (role_by o.then_op) n may.chosen
+  held_within _ _ (by_order o n may lacks) = role_within o.then_leaf (role_given o.then_op) n may.chosen
   held_within _ _ (by_colocation col n may lacks) = role_within col.dependent col.dependent_role n may.chosen
   held_within _ _ (by_place r n promoted held) = role_within r role.Promoted n promoted
 

@@ -13,7 +13,7 @@ use Rattle.cluster_types.specs.declared.rules.Order.{Order}
 use Rattle.cluster_types.specs.Choice.{is_dependent, is_mandatory}
 use Rattle.cluster_types.specs.Decisions.{decision_of, is_same_decision}
 use Rattle.cluster_types.specs.Held.{Held, by_colocation, by_order, by_place}
-use Rattle.cluster_types.specs.Precedence.{is_mandatory_order, is_up, role_by}
+use Rattle.cluster_types.specs.Precedence.{is_mandatory_order, is_giving, role_given}
 use Rattle.cluster_types.specs.Reasons.{IsFirstOf, IsHeldByColocation, IsHeldByOrder}
 use Rattle.cluster_types.specs.Tables.{Targets}
 use Rattle.cluster_types.proofs.OpLaws.{of_kind, start_of}
@@ -42,31 +42,31 @@ module _ (c : Cluster) (es : List Event) (table : Targets) (marks : MarkedDecisi
 
   abbrev pub by_order_test : Order → Bool
   by_order_test o =
-      is_mandatory_order o.kind && is_up o.first_op && is_up o.then_op && is_same_decision (Place r) (decision_of o.then_leaf (role_by o.then_op))
+      is_mandatory_order o.kind && is_giving o.first_op && is_giving o.then_op && is_same_decision (Place r) (decision_of o.then_leaf (role_given o.then_op))
       && lacks_first c es table marks o n
 
   order_yes : (o : Order) → by_order_test o ≡ true → IsHeldByOrder c es table r n o
   order_yes o h =
       let four = sooner _ (lacks_first c es table marks o n) h in
-      let three = sooner _ (is_same_decision (Place r) (decision_of o.then_leaf (role_by o.then_op))) four in
-      let two = sooner _ (is_up o.then_op) three in
-      let same : Place r ≡ decision_of o.then_leaf (role_by o.then_op)
-      = same_decision (Place r) _ (later _ (is_same_decision (Place r) (decision_of o.then_leaf (role_by o.then_op))) four) in
-      let (leaf, starts) = placed_by r o.then_leaf (role_by o.then_op) same in
+      let three = sooner _ (is_same_decision (Place r) (decision_of o.then_leaf (role_given o.then_op))) four in
+      let two = sooner _ (is_giving o.then_op) three in
+      let same : Place r ≡ decision_of o.then_leaf (role_given o.then_op)
+      = same_decision (Place r) _ (later _ (is_same_decision (Place r) (decision_of o.then_leaf (role_given o.then_op))) four) in
+      let (leaf, starts) = placed_by r o.then_leaf (role_given o.then_op) same in
       record {
-        mandatory = of_kind o.kind (sooner (is_mandatory_order o.kind) (is_up o.first_op) two);
+        mandatory = of_kind o.kind (sooner (is_mandatory_order o.kind) (is_giving o.first_op) two);
         later = leaf;
-        starts = start_of o.then_op (later _ (is_up o.then_op) three) starts;
-        first_gives = later (is_mandatory_order o.kind) (is_up o.first_op) two;
+        starts = start_of o.then_op (later _ (is_giving o.then_op) three) starts;
+        first_gives = later (is_mandatory_order o.kind) (is_giving o.first_op) two;
         lacking = first_lacks c es table marks (Held c es table) sound o n (later _ (lacks_first c es table marks o n) h);
       }
 
   order_no : (o : Order) → IsHeldByOrder c es table r n o → by_order_test o ≡ true
   order_no o h =
       let kind_is : is_mandatory_order o.kind ≡ true = rw h.mandatory refl in
-      let other : is_up o.then_op ≡ true = rw h.starts refl in
-      let role_is : role_by o.then_op ≡ role.Started = rw h.starts refl in
-      let same : is_same_decision (Place r) (decision_of o.then_leaf (role_by o.then_op)) ≡ true = rw (role_is, h.later) (is_itself (Place r)) in
+      let other : is_giving o.then_op ≡ true = rw h.starts refl in
+      let role_is : role_given o.then_op ≡ role.Started = rw h.starts refl in
+      let same : is_same_decision (Place r) (decision_of o.then_leaf (role_given o.then_op)) ≡ true = rw (role_is, h.later) (is_itself (Place r)) in
       let lacks = lacks_of_first c es table marks (Held c es table) marked o n h.lacking in
       rw (kind_is, h.first_gives, other, same) lacks
 
@@ -77,7 +77,7 @@ module _ (c : Cluster) (es : List Event) (table : Targets) (marks : MarkedDecisi
 
   rule_of : (d : Decision) → Place r ≡ d → Held c es table d n → RuleOf
   rule_of _ e (by_order o _ may lacks) =
-      let (leaf, starts) = placed_by r o.then_leaf (role_by o.then_op) e in
+      let (leaf, starts) = placed_by r o.then_leaf (role_given o.then_op) e in
       an_order o may.present (record {
         mandatory = may.mandatory;
         later = leaf;

@@ -13,9 +13,9 @@ use Rattle.cluster_types.specs.declared.placement.Decision.{Decision}
 use Rattle.cluster_types.specs.declared.placement.Decision.TheVariants.{Place, Promote}
 use Rattle.cluster_types.specs.declared.rules.Order.{Order}
 use Rattle.cluster_types.specs.Decisions.{decision_of, is_same_decision}
-use Rattle.cluster_types.specs.Held.{Held, LacksFirst, OrderMayHold, by_colocation, by_order, by_place}
+use Rattle.cluster_types.specs.Held.{Held, LacksFirst, OrderCanHoldBack, by_colocation, by_order, by_place}
 use Rattle.cluster_types.specs.LeastSets.{IsClosedUnderHolding}
-use Rattle.cluster_types.specs.Precedence.{role_by}
+use Rattle.cluster_types.specs.Precedence.{role_given}
 use Rattle.cluster_types.specs.Tables.{Targets, holds_role}
 use Rattle.plan_laws.specs.Inner.HeldMarks.{MarkedDecisions, colocation_holds, is_held_by, lacks_first, lacks_primary, may_colocation, may_order, order_holds, place_holds}
 use Rattle.plan_laws.proofs.HeldTests.{colocation_may, first_lacks, lacks_of_first, lacks_of_primary, may_of_colocation, may_of_order, order_may, primary_lacks}
@@ -32,9 +32,9 @@ module _ (c : Cluster) (es : List Event) (table : Targets) where
     order_gives : (d : Decision) (n : ℕ) → Any (λ o. order_holds c es table marks d n o ≡ true) c.orders → Held c es table d n
     order_gives d n (k, o, lt, there, h) =
         let two = sooner _ (lacks_first c es table marks o n) h in
-        let same : d ≡ decision_of o.then_leaf (role_by o.then_op) = same_decision d _ (sooner (is_same_decision d (decision_of o.then_leaf (role_by o.then_op))) _ two) in
+        let same : d ≡ decision_of o.then_leaf (role_given o.then_op) = same_decision d _ (sooner (is_same_decision d (decision_of o.then_leaf (role_given o.then_op))) _ two) in
         rw same (by_order o n
-        (order_may c es table o n (k, lt, there) (later (is_same_decision d (decision_of o.then_leaf (role_by o.then_op))) (may_order c es table o n) two))
+        (order_may c es table o n (k, lt, there) (later (is_same_decision d (decision_of o.then_leaf (role_given o.then_op))) (may_order c es table o n) two))
         (first_lacks c es table marks (Held c es table) sound o n (later _ (lacks_first c es table marks o n) h)))
 
     colocation_gives : (d : Decision) (n : ℕ) → Any (λ col. colocation_holds c es table marks d n col ≡ true) c.colocations → Held c es table d n
@@ -73,17 +73,17 @@ module _ (c : Cluster) (es : List Event) (table : Targets) where
   third_true false false d h = h
 
   module _ (marks : MarkedDecisions) (stable : (d : Decision) (n : ℕ) → is_held_by c es table marks d n ≡ true → marks d n ≡ true) where
-    by_an_order : (o : Order) (n : ℕ) → OrderMayHold c es table o n → LacksFirst c es table (λ d n. marks d n ≡ true) o n
-        → marks (decision_of o.then_leaf (role_by o.then_op)) n ≡ true
+    by_an_order : (o : Order) (n : ℕ) → OrderCanHoldBack c es table o n → LacksFirst c es table (λ d n. marks d n ≡ true) o n
+        → marks (decision_of o.then_leaf (role_given o.then_op)) n ≡ true
     by_an_order o n may lacks =
         let lacking : lacks_first c es table marks o n ≡ true
         = lacks_of_first c es table marks (λ d n. marks d n ≡ true) (λ d n h. h) o n lacks in
-        stable (decision_of o.then_leaf (role_by o.then_op)) n
-        (first_true (list_any (order_holds c es table marks (decision_of o.then_leaf (role_by o.then_op)) n) c.orders) _ _
-        (passes_by (order_holds c es table marks (decision_of o.then_leaf (role_by o.then_op)) n) c.orders o may.present
+        stable (decision_of o.then_leaf (role_given o.then_op)) n
+        (first_true (list_any (order_holds c es table marks (decision_of o.then_leaf (role_given o.then_op)) n) c.orders) _ _
+        (passes_by (order_holds c es table marks (decision_of o.then_leaf (role_given o.then_op)) n) c.orders o may.present
         (and_from _ (lacks_first c es table marks o n)
-        (and_from (is_same_decision (decision_of o.then_leaf (role_by o.then_op)) (decision_of o.then_leaf (role_by o.then_op))) _
-        (is_itself (decision_of o.then_leaf (role_by o.then_op))) (may_of_order c es table o n may)) lacking)))
+        (and_from (is_same_decision (decision_of o.then_leaf (role_given o.then_op)) (decision_of o.then_leaf (role_given o.then_op))) _
+        (is_itself (decision_of o.then_leaf (role_given o.then_op))) (may_of_order c es table o n may)) lacking)))
 
     pub stable_is_closed : IsClosedUnderHolding c es table (λ d n. marks d n ≡ true)
     stable_is_closed = record {

@@ -15,14 +15,14 @@ use Rattle.cluster_types.specs.declared.rules.Order.{Order}
 use Rattle.cluster_types.specs.declared.rules.OrderKind.TheVariants as kind
 use Rattle.cluster_types.specs.Choice.{is_mandatory}
 use Rattle.cluster_types.specs.Decisions.{decision_of}
-use Rattle.cluster_types.specs.Held.{AreTargets, Held, by_order, by_colocation, by_place, KeepsTarget, OrderMayHold, ColocationMayHold}
+use Rattle.cluster_types.specs.Held.{AreTargets, Held, by_order, by_colocation, by_place, KeepsTarget, OrderCanHoldBack, ColocationCanHoldBack}
 use Rattle.cluster_types.specs.Pins.{is_pinned}
 use Rattle.cluster_types.specs.Tables.{Targets, holds_role, is_in_scope, target_holds}
 use Rattle.cluster_types.specs.Valid.{IsValid}
 use Rattle.cluster_types.proofs.TableCells.{promoted_somewhere}
 use Rattle.loops.proofs.FromValid.{valid_join, valid_order}
 use Rattle.lemmas.proofs.Searches.{passes_by}
-use Rattle.cluster_types.specs.Precedence.{is_up, role_by}
+use Rattle.cluster_types.specs.Precedence.{is_giving, role_given}
 
 module _ (c : Cluster) (es : List Event) (table : Targets) where
   module _ (r n : ℕ) where
@@ -92,7 +92,7 @@ module _ (c : Cluster) (es : List Event) (table : Targets) where
         go false e =
             let ends = valid_join c valid.colocations col present in
             let kept = are col.dependent n ends.dependent within in
-            let may : ColocationMayHold c es table col n = record {
+            let may : ColocationCanHoldBack c es table col n = record {
               present = present;
               mandatory = mandatory;
               managed = managed;
@@ -123,24 +123,24 @@ module _ (c : Cluster) (es : List Event) (table : Targets) where
           let is : slice_index_or all m m ≡ m = let f = get_or-range_with_len 0 (length c.nodes) m m lt in omega (arith, f) in
           let some = passes_by there all m (m, omega arith, is) (and_from (is_in_scope o n m) (holds_role targets o.first first m) scope held) in cc)
 
-    pub after_firsts : (o : Order) (n : ℕ) → Contains c.orders o → o.kind ≡ kind.Mandatory → is_up o.first_op ≡ true → is_up o.then_op ≡ true
-        → is_pinned c es o.then_leaf ≡ false → n < length c.nodes → holds_role targets o.then_leaf (role_by o.then_op) n ≡ true
-        → (m : ℕ) × (m < length c.nodes) × (is_in_scope o n m ≡ true) × (holds_role targets o.first (role_by o.first_op) m ≡ true)
-    after_firsts o n present mandatory gives then_gives managed within h = go (list_any (there o n (role_by o.first_op)) (all o n (role_by o.first_op))) refl
+    pub after_firsts : (o : Order) (n : ℕ) → Contains c.orders o → o.kind ≡ kind.Mandatory → is_giving o.first_op ≡ true → is_giving o.then_op ≡ true
+        → is_pinned c es o.then_leaf ≡ false → n < length c.nodes → holds_role targets o.then_leaf (role_given o.then_op) n ≡ true
+        → (m : ℕ) × (m < length c.nodes) × (is_in_scope o n m ≡ true) × (holds_role targets o.first (role_given o.first_op) m ≡ true)
+    after_firsts o n present mandatory gives then_gives managed within h = go (list_any (there o n (role_given o.first_op)) (all o n (role_given o.first_op))) refl
       where
-        go : (b : Bool) → list_any (there o n (role_by o.first_op)) (all o n (role_by o.first_op)) ≡ b → (m : ℕ) × (m < length c.nodes) × (is_in_scope o n m ≡ true) × (holds_role targets o.first (role_by o.first_op) m ≡ true)
-        go true e = found o n (role_by o.first_op) (Any-from_list_any (there o n (role_by o.first_op)) (all o n (role_by o.first_op)) e)
+        go : (b : Bool) → list_any (there o n (role_given o.first_op)) (all o n (role_given o.first_op)) ≡ b → (m : ℕ) × (m < length c.nodes) × (is_in_scope o n m ≡ true) × (holds_role targets o.first (role_given o.first_op) m ≡ true)
+        go true e = found o n (role_given o.first_op) (Any-from_list_any (there o n (role_given o.first_op)) (all o n (role_given o.first_op)) e)
         go false e =
             let words = valid_order c valid.orders o present in
             let kept = are o.then_leaf n words.later within in
-            let may : OrderMayHold c es table o n = record {
+            let may : OrderCanHoldBack c es table o n = record {
               present = present;
               mandatory = mandatory;
               first_gives = gives;
               then_gives = then_gives;
               managed = managed;
               within = within;
-              chosen = chosen targets o.then_leaf n (role_by o.then_op) kept h;
+              chosen = chosen targets o.then_leaf n (role_given o.then_op) kept h;
             } in
-            absurd (free targets o.then_leaf n (role_by o.then_op) kept h
-            (by_order o n may (λ m lt scope was. back targets o.first m (role_by o.first_op) (are o.first m words.first lt) was (missing o n (role_by o.first_op) e m lt scope))))
+            absurd (free targets o.then_leaf n (role_given o.then_op) kept h
+            (by_order o n may (λ m lt scope was. back targets o.first m (role_given o.first_op) (are o.first m words.first lt) was (missing o n (role_given o.first_op) e m lt scope))))

@@ -10,7 +10,7 @@ use Rattle.cluster_types.specs.declared.leaf.Op.{Op}
 use Rattle.cluster_types.specs.declared.leaf.Op.TheVariants as op
 use Rattle.cluster_types.specs.declared.rules.Order.{Order}
 use Rattle.cluster_types.specs.Numbers.{Link, inverse_links, is_step, is_within_phase, leaf_links, link, links, order_links, step_of}
-use Rattle.cluster_types.specs.Precedence.{inverse, is_serialize, is_up, takers}
+use Rattle.cluster_types.specs.Precedence.{inverse, is_serialize, is_giving, takers}
 use Rattle.cluster_types.specs.Valid.{MayHaveWord}
 use Rattle.cluster_types.proofs.Few.{of_one, of_two}
 
@@ -84,15 +84,15 @@ module _ (o : Order) where
   inverse_link l e s k = inverse_on (is_serialize o.kind) o.symmetrical (link o.first_op o.first o.then_op o.then_leaf) l (inverse_links o) e s k
 
   -- what takes the then's role before what takes the first's
-  pub taken_link : (p q : Op) → is_up o.first_op && is_up o.then_op ≡ true → Contains (takers o.then_op) p → Contains (takers o.first_op) q
+  pub taken_link : (p q : Op) → is_giving o.first_op && is_giving o.then_op ≡ true → Contains (takers o.then_op) p → Contains (takers o.first_op) q
       → Contains (inverse_links o) (link p o.then_leaf q o.first)
   taken_link p q e h k =
-      taken_on (is_up o.first_op && is_up o.then_op) (flat_map (λ p. map (λ q. link p o.then_leaf q o.first) (takers o.first_op)) (takers o.then_op))
+      taken_on (is_giving o.first_op && is_giving o.then_op) (flat_map (λ p. map (λ q. link p o.then_leaf q o.first) (takers o.first_op)) (takers o.then_op))
       (link (inverse o.then_op) o.then_leaf (inverse o.first_op) o.first ∷ []) (link p o.then_leaf q o.first) e
       (in_flat (λ p. map (λ q. link p o.then_leaf q o.first) (takers o.first_op)) (takers o.then_op) p (link p o.then_leaf q o.first) h
       (in_map (λ q. link p o.then_leaf q o.first) (takers o.first_op) q k))
 
-  pub turned_link : is_up o.first_op && is_up o.then_op ≡ false → Contains (inverse_links o) (link (inverse o.then_op) o.then_leaf (inverse o.first_op) o.first)
+  pub turned_link : is_giving o.first_op && is_giving o.then_op ≡ false → Contains (inverse_links o) (link (inverse o.then_op) o.then_leaf (inverse o.first_op) o.first)
   turned_link e =
-      turned_on (is_up o.first_op && is_up o.then_op) (flat_map (λ p. map (λ q. link p o.then_leaf q o.first) (takers o.first_op)) (takers o.then_op))
+      turned_on (is_giving o.first_op && is_giving o.then_op) (flat_map (λ p. map (λ q. link p o.then_leaf q o.first) (takers o.first_op)) (takers o.then_op))
       (link (inverse o.then_op) o.then_leaf (inverse o.first_op) o.first) e

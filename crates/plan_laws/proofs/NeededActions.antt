@@ -16,7 +16,7 @@ use Rattle.cluster_types.specs.declared.states.CellState.TheVariants as cell
 use Rattle.cluster_types.specs.CellStates.{cell_state}
 use Rattle.cluster_types.specs.Fields.{is_promotable}
 use Rattle.cluster_types.specs.May.{is_left_promoted}
-use Rattle.cluster_types.specs.Needed.{GetsStep, IsDisturbed, FirstSet, fence, probe, step, monitor, Migrates, Needed, kept, sent, taken_in}
+use Rattle.cluster_types.specs.Needed.{GetsStep, GetsStepAnywhere, NeededBeforeMigration, fence, probe, step, monitor, Migrates, Needed, kept, sent, taken_in}
 use Rattle.cluster_types.specs.Precedence.{is_migrating, sends}
 use Rattle.cluster_types.specs.Tables.{Targets, is_promoted_target}
 use Rattle.cluster_types.proofs.NeededLaws.{bounds_of_first}
@@ -42,17 +42,17 @@ is_monitor op.Monitor = true
 is_monitor _ = false
 
 module _ (c : Cluster) (es : List Event) (targets : Targets) where
-  no_migration : (a : Action) → FirstSet c es targets a → is_migration a ≡ false
+  no_migration : (a : Action) → NeededBeforeMigration c es targets a → is_migration a ≡ false
   no_migration _ (fence n h e) = refl
   no_migration _ (probe r n h l e) = refl
   no_migration _ (step r n o h l g) = refl
   no_migration _ (monitor r n m h l k g) = refl
 
-  first_of_cell : (o : Op) (r n i : ℕ) (role : Role) → Needed c es targets (Cell o r n i role) → FirstSet c es targets (Cell o r n i role)
+  first_of_cell : (o : Op) (r n i : ℕ) (role : Role) → Needed c es targets (Cell o r n i role) → NeededBeforeMigration c es targets (Cell o r n i role)
   first_of_cell o r n i role (kept _ f k) = f
 
   -- a step of a cell that isn't a monitor is one that the cell gets
-  step_of_cell : (o : Op) (r n i : ℕ) (role : Role) → is_monitor o ≡ false → FirstSet c es targets (Cell o r n i role) → GetsStep c es targets r n o
+  step_of_cell : (o : Op) (r n i : ℕ) (role : Role) → is_monitor o ≡ false → NeededBeforeMigration c es targets (Cell o r n i role) → GetsStep c es targets r n o
   step_of_cell _ _ _ _ _ e (step r n o h l g) = g
   step_of_cell _ _ _ _ _ e (monitor r n m h l k g) = cc
 
@@ -62,10 +62,10 @@ module _ (c : Cluster) (es : List Event) (targets : Targets) where
   pub bounds_of_cell : (o : Op) (r n i : ℕ) (role : Role) → Needed c es targets (Cell o r n i role) → (r < length c.leaves) × (n < length c.nodes)
   bounds_of_cell o r n i role h = bounds_of_first c es targets o r n i role (first_of_cell o r n i role h)
 
-  disturbed_by_first : (o : Op) (r n i : ℕ) (role : Role) → is_monitor o ≡ false → FirstSet c es targets (Cell o r n i role) → IsDisturbed c es targets r
+  disturbed_by_first : (o : Op) (r n i : ℕ) (role : Role) → is_monitor o ≡ false → NeededBeforeMigration c es targets (Cell o r n i role) → GetsStepAnywhere c es targets r
   disturbed_by_first o r n i role e f = (n, (bounds_of_first c es targets o r n i role f).1, (o, step_of_cell o r n i role e f))
 
-  pub disturbed_by : (o : Op) (r n i : ℕ) (role : Role) → is_monitor o ≡ false → Needed c es targets (Cell o r n i role) → IsDisturbed c es targets r
+  pub disturbed_by : (o : Op) (r n i : ℕ) (role : Role) → is_monitor o ≡ false → Needed c es targets (Cell o r n i role) → GetsStepAnywhere c es targets r
   disturbed_by o r n i role e h = disturbed_by_first o r n i role e (first_of_cell o r n i role h)
 
   -- what sends and what takes in is of a leaf that migrates
@@ -77,7 +77,7 @@ module _ (c : Cluster) (es : List Event) (targets : Targets) where
   migrates_by_taken r n m (kept _ f k) = absurd (both_ways true (no_migration (MigrateFrom r n m) f) refl)
   migrates_by_taken _ _ _ (taken_in r n m g) = g
 
-  pub migrant_disturbed : (r n m : ℕ) → Migrates c es targets r n m → IsDisturbed c es targets r
+  pub migrant_disturbed : (r n m : ℕ) → Migrates c es targets r n m → GetsStepAnywhere c es targets r
   migrant_disturbed r n m g = disturbed_by_first op.Stop r n 0 role.Started refl g.stopped
 
   -- the leaf migrates, from one node to another

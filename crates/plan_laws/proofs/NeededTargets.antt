@@ -17,7 +17,7 @@ use Rattle.cluster_types.specs.CellStates.{cell_state}
 use Rattle.cluster_types.specs.Choice.{is_kept_by, is_permitted}
 use Rattle.cluster_types.specs.Decisions.{decision_of, leaf_of}
 use Rattle.cluster_types.specs.Fields.{copies}
-use Rattle.cluster_types.specs.Needed.{Cycled, FirstSet, GetsStep, Migrates, Needed, kept, runs, sent, step, steps_at, steps_of, taken_in}
+use Rattle.cluster_types.specs.Needed.{Cycled, NeededBeforeMigration, GetsStep, Migrates, Needed, kept, runs, sent, step, steps_at, steps_of, taken_in}
 use Rattle.cluster_types.specs.Pins.{is_pinned}
 use Rattle.cluster_types.specs.Plans.{IsPlaced}
 use Rattle.cluster_types.specs.Rights.{may_keep, may_start}
@@ -81,10 +81,10 @@ module _ (c : Cluster) (es : List Event) where
         let m : MustBeGiven r given (cell_state c r n es) (targets r n) = given_anew r (cell_state c r n es) (targets r n) o given word s.among in
         gives_with r n given low within s.free (holds_is targets r given n ∙ m.wanted) (λ permitted. started_anew r n given permitted m.not_kept)
 
-    first_start : (r n : ℕ) → FirstSet c es targets (Cell op.Start r n 0 role.Started) → MayGiveRole c es targets r n role.Started
+    first_start : (r n : ℕ) → NeededBeforeMigration c es targets (Cell op.Start r n 0 role.Started) → MayGiveRole c es targets r n role.Started
     first_start r n (step _ _ _ low within gets) = gives r n op.Start role.Started low within started gets
 
-    first_promote : (r n : ℕ) → FirstSet c es targets (Cell op.Promote r n 0 role.Started) → MayGiveRole c es targets r n role.Promoted
+    first_promote : (r n : ℕ) → NeededBeforeMigration c es targets (Cell op.Promote r n 0 role.Started) → MayGiveRole c es targets r n role.Promoted
     first_promote r n (step _ _ _ low within gets) = gives r n op.Promote role.Promoted low within promoted gets
 
     pub needed_start : (r n : ℕ) → Needed c es targets (Cell op.Start r n 0 role.Started) → MayGiveRole c es targets r n role.Started
@@ -96,14 +96,14 @@ module _ (c : Cluster) (es : List Event) where
     pub needed_migration : (r n m : ℕ) → Migrates c es targets r n m → MayGiveRole c es targets r m role.Started
     needed_migration r n m migrates = first_start r m migrates.started
 
-    no_first_sending : (r n m : ℕ) → FirstSet c es targets (MigrateTo r n m) → ⊥
+    no_first_sending : (r n m : ℕ) → NeededBeforeMigration c es targets (MigrateTo r n m) → ⊥
     no_first_sending r n m h = elim h [ ]
 
     pub needed_sending : (r n m : ℕ) → Needed c es targets (MigrateTo r n m) → MayGiveRole c es targets r m role.Started
     needed_sending r n m (sent _ _ _ migrates) = needed_migration r n m migrates
     needed_sending r n m (kept _ first unless) = absurd (no_first_sending r n m first)
 
-    no_first_taking_in : (r n m : ℕ) → FirstSet c es targets (MigrateFrom r n m) → ⊥
+    no_first_taking_in : (r n m : ℕ) → NeededBeforeMigration c es targets (MigrateFrom r n m) → ⊥
     no_first_taking_in r n m h = elim h [ ]
 
     pub needed_taking_in : (r n m : ℕ) → Needed c es targets (MigrateFrom r n m) → MayGiveRole c es targets r m role.Started

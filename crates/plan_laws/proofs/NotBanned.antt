@@ -14,7 +14,7 @@ use Rattle.cluster_types.specs.declared.placement.Decision.TheVariants.{Place}
 use Rattle.cluster_types.specs.Choice.{preference, total_on}
 use Rattle.cluster_types.specs.Failures.{is_banned}
 use Rattle.cluster_types.specs.Tables.{Targets}
-use Rattle.cluster_types.specs.Terms.{ban_scores, base, is_started, leaves_a_node, lenders, location_scores, opt_in_scores, own_terms, stickiness_scores, terms_of, with_lender, with_lenders}
+use Rattle.cluster_types.specs.Terms.{ban_scores, base, is_started, has_node_left, lenders, location_scores, opt_in_scores, own_terms, stickiness_scores, terms_of, with_lender, with_lenders}
 use Rattle.plan_laws.proofs.MadeOnes.{never_both}
 
 total_of_minus : (terms : List ℤ) → has_points minus_infinity terms ≡ true → total_of terms ≡ minus_infinity
@@ -44,7 +44,7 @@ module _ (c : Cluster) (es : List Event) where
 
   still_joined : (joined ss : List ℕ) (r : ℕ) → Contains joined r → Contains (fold (with_lender c es) joined ss) r
   still_joined joined [] r h = h
-  still_joined joined (s ∷ ss) r h = still_joined (with_lender c es joined s) ss r (joins_on joined s r (leaves_a_node c es (joined ++ s ∷ [])) h)
+  still_joined joined (s ∷ ss) r h = still_joined (with_lender c es joined s) ss r (joins_on joined s r (has_node_left c es (joined ++ s ∷ [])) h)
 
   -- a leaf is the first that joins itself
   pub joins_itself : (r : ℕ) → Contains (with_lenders c es r) r

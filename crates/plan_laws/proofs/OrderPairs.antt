@@ -10,9 +10,9 @@ use Rattle.cluster_types.specs.declared.leaf.Op.{Op}
 use Rattle.cluster_types.specs.declared.leaf.Op.TheVariants as op
 use Rattle.cluster_types.specs.declared.rules.Order.{Order}
 use Rattle.cluster_types.specs.Fields.{is_promotable}
-use Rattle.cluster_types.specs.Needed.{IsDisturbed, Needed}
+use Rattle.cluster_types.specs.Needed.{GetsStepAnywhere, Needed}
 use Rattle.cluster_types.specs.Numbers.{Link, is_earlier, is_step, is_within_phase, link, links, order_links, rank, step_of}
-use Rattle.cluster_types.specs.Precedence.{as_earlier, as_later, inverse, is_inverse_pair, is_migrating, is_ordered, is_ordered_pair, is_serialize, is_taken_back, is_up, takers}
+use Rattle.cluster_types.specs.Precedence.{as_earlier, as_later, inverse, is_inverse_pair, is_migrating, is_ordered, is_ordered_pair, is_serialize, is_taken_back, is_giving, takers}
 use Rattle.cluster_types.specs.Tables.{Targets, is_in_scope}
 use Rattle.cluster_types.specs.Valid.{IsValidOrder, MayHaveWord}
 use Rattle.cluster_types.proofs.OpLaws.{stop_takes}
@@ -24,14 +24,14 @@ use Rattle.plan_laws.proofs.Words.{both_there, Earlier, first_start, first_taken
 
 module _ (c : Cluster) (es : List Event) (targets : Targets) (actions : List Action) (rise : (l : Link) → Contains (links c) l → rank c l.before < rank c l.after)
     (needed : (a : Action) → Contains actions a → Needed c es targets a) where
-  earlier_disturbs : (p : Op) (x : Action) (r : ℕ) → Earlier p x r → Needed c es targets x → IsDisturbed c es targets r
+  earlier_disturbs : (p : Op) (x : Action) (r : ℕ) → Earlier p x r → Needed c es targets x → GetsStepAnywhere c es targets r
   earlier_disturbs _ _ _ (first_start r n i role) h = disturbed_by c es targets op.Start r n i role refl h
   earlier_disturbs _ _ _ (first_taken_in r s t) h = migrant_disturbed c es targets r s t (migrates_by_taken c es targets r s t h)
   earlier_disturbs _ _ _ (first_stop r n i role) h = disturbed_by c es targets op.Stop r n i role refl h
   earlier_disturbs _ _ _ (first_promote r n i role) h = disturbed_by c es targets op.Promote r n i role refl h
   earlier_disturbs _ _ _ (first_demote r n i role) h = disturbed_by c es targets op.Demote r n i role refl h
 
-  later_disturbs : (q : Op) (y : Action) (s : ℕ) → Later actions q y s → Needed c es targets y → IsDisturbed c es targets s
+  later_disturbs : (q : Op) (y : Action) (s : ℕ) → Later actions q y s → Needed c es targets y → GetsStepAnywhere c es targets s
   later_disturbs _ _ _ (then_start s n i role) h = disturbed_by c es targets op.Start s n i role refl h
   later_disturbs _ _ _ (then_sent_to s f t) h = migrant_disturbed c es targets s f t (migrates_by_sent c es targets s f t h)
   later_disturbs _ _ _ (then_sent_off s f t) h = migrant_disturbed c es targets s f t (migrates_by_sent c es targets s f t h)
@@ -41,7 +41,7 @@ module _ (c : Cluster) (es : List Event) (targets : Targets) (actions : List Act
 
   -- a pair by two words in an order goes upward where it stands rightly, given that both its leaves are disturbed
   pair_upward : (o : Order) (p q : Op) (r s : ℕ) (x y : Action) → Contains actions x → Contains actions y → is_monitor p ≡ false → is_monitor q ≡ false
-      → (IsDisturbed c es targets r → IsDisturbed c es targets s → Rightly c actions p r q s) → is_ordered_pair actions o p r q s x y ≡ true
+      → (GetsStepAnywhere c es targets r → GetsStepAnywhere c es targets s → Rightly c actions p r q s) → is_ordered_pair actions o p r q s x y ≡ true
       → is_earlier c actions x y ≡ true
   pair_upward o p q r s x y inx iny mp mq w h =
       let b = both_there (λ a b. a.leaf == r && b.leaf == s && is_in_scope o a.node b.node) (as_earlier p x) (as_later actions q y) h in
@@ -58,7 +58,7 @@ module _ (c : Cluster) (es : List Event) (targets : Targets) (actions : List Act
     rises p q r s a b k w = rise (link p r q s) (link_of_order c o (link p r q s) present w a b k)
 
     -- the first migrates, by a word that isn't start: the then isn't disturbed
-    first_moves : is_migrating actions o.first ≡ true → o.first_op ≢ op.Start → IsDisturbed c es targets o.then_leaf → ⊥
+    first_moves : is_migrating actions o.first ≡ true → o.first_op ≢ op.Start → GetsStepAnywhere c es targets o.then_leaf → ⊥
     first_moves h other d =
         elim (((migrating c es targets actions needed o.first h).migrates.orders o present).0 refl) [
           | inl k ↦ other k.1
@@ -66,7 +66,7 @@ module _ (c : Cluster) (es : List Event) (targets : Targets) (actions : List Act
         ]
 
     -- the then migrates, and is another leaf: the first isn't disturbed
-    then_moves : is_migrating actions o.then_leaf ≡ true → o.first ≢ o.then_leaf → IsDisturbed c es targets o.first → ⊥
+    then_moves : is_migrating actions o.then_leaf ≡ true → o.first ≢ o.then_leaf → GetsStepAnywhere c es targets o.first → ⊥
     then_moves h other d =
         ((migrating c es targets actions needed o.then_leaf h).migrates.orders o present).1 refl other d
 
@@ -81,7 +81,7 @@ module _ (c : Cluster) (es : List Event) (targets : Targets) (actions : List Act
     no_self p q r s e f h = let same : rank c (step_of p r) ≡ rank c (step_of q s) = rw e (rw f refl) in omega arith
 
     -- the order's own pair
-    own_self : (p : Op) → o.first_op ≡ p → is_up p ≡ true → is_migrating actions o.then_leaf ≡ true → o.then_op ≡ op.Start → o.first ≡ o.then_leaf → ⊥
+    own_self : (p : Op) → o.first_op ≡ p → is_giving p ≡ true → is_migrating actions o.then_leaf ≡ true → o.then_op ≡ op.Start → o.first ≡ o.then_leaf → ⊥
     own_self op.Start e up h q same =
         no_self o.first_op o.then_op o.first o.then_leaf (rw e (sym q)) same
         (rises o.first_op o.then_op o.first o.then_leaf (step_by_word c o.first o.first_op valid.first) (step_by_word c o.then_leaf o.then_op valid.later) (own_link o kind)
@@ -94,7 +94,7 @@ module _ (c : Cluster) (es : List Event) (targets : Targets) (actions : List Act
     own_self op.Demote e up h q same = cc
     own_self op.Monitor e up h q same = cc
 
-    own_rightly : IsDisturbed c es targets o.first → IsDisturbed c es targets o.then_leaf → Rightly c actions o.first_op o.first o.then_op o.then_leaf
+    own_rightly : GetsStepAnywhere c es targets o.first → GetsStepAnywhere c es targets o.then_leaf → Rightly c actions o.first_op o.first o.then_op o.then_leaf
     own_rightly d later_d = record {
       linked = λ w. lt-ltb (rank c (step_of o.first_op o.first)) (rank c (step_of o.then_op o.then_leaf)) (rises o.first_op o.then_op o.first o.then_leaf (step_by_word c o.first o.first_op valid.first) (step_by_word c o.then_leaf o.then_op valid.later) (own_link o kind) w);
       rising = valid.upward;
@@ -104,16 +104,16 @@ module _ (c : Cluster) (es : List Event) (targets : Targets) (actions : List Act
 
     -- what takes the then's role before what takes the first's
     module _ (both_ways : o.symmetrical ≡ true) where
-      taken_rises : (p q : Op) → is_up o.first_op && is_up o.then_op ≡ true → Contains (takers o.then_op) p → Contains (takers o.first_op) q
+      taken_rises : (p q : Op) → is_giving o.first_op && is_giving o.then_op ≡ true → Contains (takers o.then_op) p → Contains (takers o.first_op) q
           → is_within_phase (link p o.then_leaf q o.first) ≡ true → rank c (step_of p o.then_leaf) < rank c (step_of q o.first)
       taken_rises p q up inp inq =
           rises p q o.then_leaf o.first (taker_by_word c o.then_leaf o.then_op p valid.later inp) (taker_by_word c o.first o.first_op q valid.first inq)
           (inverse_link o (link p o.then_leaf q o.first) kind both_ways (taken_link o p q up inp inq))
 
-      taken_rightly : (p q : Op) → is_up o.first_op && is_up o.then_op ≡ true → Contains (takers o.then_op) p → Contains (takers o.first_op) q
-          → IsDisturbed c es targets o.then_leaf → IsDisturbed c es targets o.first → Rightly c actions p o.then_leaf q o.first
+      taken_rightly : (p q : Op) → is_giving o.first_op && is_giving o.then_op ≡ true → Contains (takers o.then_op) p → Contains (takers o.first_op) q
+          → GetsStepAnywhere c es targets o.then_leaf → GetsStepAnywhere c es targets o.first → Rightly c actions p o.then_leaf q o.first
       taken_rightly p q up inp inq d first_d =
-          let ups = and_parts (is_up o.first_op) (is_up o.then_op) up in
+          let ups = and_parts (is_giving o.first_op) (is_giving o.then_op) up in
           record {
             linked = λ w. lt-ltb (rank c (step_of p o.then_leaf)) (rank c (step_of q o.first)) (taken_rises p q up inp inq w);
             rising = λ h. let k = (taker_takes o.then_op p inp).1 in absurd (let f : true ≡ false = cc in cc);
@@ -124,14 +124,14 @@ module _ (c : Cluster) (es : List Event) (targets : Targets) (actions : List Act
           }
 
       -- the inverse of an order of which the first is a stop or a demote
-      first_takes : is_up o.first_op && is_up o.then_op ≡ false → is_up o.first_op ≡ false
-      first_takes e = go (is_up o.first_op) refl e
+      first_takes : is_giving o.first_op && is_giving o.then_op ≡ false → is_giving o.first_op ≡ false
+      first_takes e = go (is_giving o.first_op) refl e
         where
-          go : (b : Bool) → is_up o.first_op ≡ b → b && is_up o.then_op ≡ false → is_up o.first_op ≡ false
+          go : (b : Bool) → is_giving o.first_op ≡ b → b && is_giving o.then_op ≡ false → is_giving o.first_op ≡ false
           go true h k = let up = valid.upward h in absurd (let f : true ≡ false = cc in cc)
           go false h k = h
 
-      turned_rightly : is_up o.first_op && is_up o.then_op ≡ false → IsDisturbed c es targets o.then_leaf → IsDisturbed c es targets o.first
+      turned_rightly : is_giving o.first_op && is_giving o.then_op ≡ false → GetsStepAnywhere c es targets o.then_leaf → GetsStepAnywhere c es targets o.first
           → Rightly c actions (inverse o.then_op) o.then_leaf (inverse o.first_op) o.first
       turned_rightly e d first_d =
           let other = not_start o.first_op (first_takes e) in
@@ -145,7 +145,7 @@ module _ (c : Cluster) (es : List Event) (targets : Targets) (actions : List Act
           }
 
       module _ (x y : Action) (inx : Contains actions x) (iny : Contains actions y) where
-        taken_back_upward : is_up o.first_op && is_up o.then_op ≡ true → is_taken_back actions o x y ≡ true → is_earlier c actions x y ≡ true
+        taken_back_upward : is_giving o.first_op && is_giving o.then_op ≡ true → is_taken_back actions o x y ≡ true → is_earlier c actions x y ≡ true
         taken_back_upward up h =
             let p = found (λ p. list_any (λ q. is_ordered_pair actions o p o.then_leaf q o.first x y) (takers o.first_op)) (takers o.then_op) h in
             let q = found (λ q. is_ordered_pair actions o p.element o.then_leaf q o.first x y) (takers o.first_op) p.passes in
@@ -153,9 +153,9 @@ module _ (c : Cluster) (es : List Event) (targets : Targets) (actions : List Act
             (taken_rightly p.element q.element up p.among q.among) q.passes
 
         inverse_upward : is_inverse_pair actions o x y ≡ true → is_earlier c actions x y ≡ true
-        inverse_upward h = go (is_up o.first_op && is_up o.then_op) refl h
+        inverse_upward h = go (is_giving o.first_op && is_giving o.then_op) refl h
           where
-            go : (b : Bool) → is_up o.first_op && is_up o.then_op ≡ b
+            go : (b : Bool) → is_giving o.first_op && is_giving o.then_op ≡ b
                 → (if b then is_taken_back actions o x y else is_ordered_pair actions o (inverse o.then_op) o.then_leaf (inverse o.first_op) o.first x y) ≡ true
                 → is_earlier c actions x y ≡ true
             go true e k = taken_back_upward e k

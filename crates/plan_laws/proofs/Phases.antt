@@ -7,7 +7,7 @@ use Rattle.cluster_types.specs.declared.journal.Action.TheVariants.{MigrateTo}
 use Rattle.cluster_types.specs.declared.leaf.Op.{Op}
 use Rattle.cluster_types.specs.declared.leaf.Op.TheVariants as op
 use Rattle.cluster_types.specs.Numbers.{Place, is_place_before, is_earlier, is_within_phase, link, place, action_place, rank, step_of}
-use Rattle.cluster_types.specs.Precedence.{is_migrating, is_up, sends}
+use Rattle.cluster_types.specs.Precedence.{is_migrating, is_giving, sends}
 use Rattle.plan_laws.proofs.Roles.{GivesTo, gives_start, gives_sent, gives_promote, TakesFrom, asks, takes_stop, takes_demote}
 use Rattle.plan_laws.proofs.Words.{Earlier, first_start, first_taken_in, first_stop, first_promote, first_demote, Later, then_start, then_sent_to, then_sent_off, then_stop, then_promote, then_demote}
 
@@ -23,14 +23,14 @@ module _ (c : Cluster) (actions : List Action) where
   -- way of the other
   pub record Rightly (p : Op) (r : ℕ) (q : Op) (s : ℕ) : Type 0 where
     pub linked : is_within_phase (link p r q s) ≡ true → nat_lt (rank c (step_of p r)) (rank c (step_of q s)) ≡ true
-    pub rising : is_up p ≡ true → is_up q ≡ true
+    pub rising : is_giving p ≡ true → is_giving q ≡ true
     pub first_stays : is_migrating actions r ≡ true → p ≡ op.Stop → ⊥
-    pub then_stays : is_migrating actions s ≡ true → is_up p ≡ true → q ≡ op.Start → ⊥
+    pub then_stays : is_migrating actions s ≡ true → is_giving p ≡ true → q ≡ op.Start → ⊥
 
   pub sent_is_migrating : (r s t : ℕ) → Contains actions (MigrateTo r s t) → is_migrating actions r ≡ true
   sent_is_migrating r s t k = passes_by (sends r) actions (MigrateTo r s t) k (grind arith)
 
-  never_falls : {X : Type 0} (p q : Op) (r s : ℕ) → Rightly p r q s → is_up p ≡ true → is_up q ≡ false → X
+  never_falls : {X : Type 0} (p q : Op) (r s : ℕ) → Rightly p r q s → is_giving p ≡ true → is_giving q ≡ false → X
   never_falls p q r s w h k = let e = w.rising h in absurd (let f : true ≡ false = cc in cc)
 
   -- where a stop stands

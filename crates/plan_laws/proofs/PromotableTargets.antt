@@ -10,7 +10,7 @@ use Rattle.cluster_types.specs.declared.placement.Decision.TheVariants.{Promote}
 use Rattle.cluster_types.specs.declared.placement.Target.TheVariants as target
 use Rattle.cluster_types.specs.Decisions.{Decides, IsMadeNext}
 use Rattle.cluster_types.specs.Fields.{is_promotable}
-use Rattle.cluster_types.specs.May.{is_left_promoted, may_promoted}
+use Rattle.cluster_types.specs.May.{is_left_promoted, may_be_promoted}
 use Rattle.cluster_types.specs.Pins.{pinned_targets, stays}
 use Rattle.cluster_types.specs.Tables.{holds_role, is_promoted_target}
 use Rattle.plan_laws.specs.Placing.{WasChosen, table_after}
@@ -22,7 +22,7 @@ use Rattle.plan_laws.proofs.Ready.{ready_is_one}
 module _ (c : Cluster) (es : List Event) (ps : List Promotion) where
   -- what is pinned as promoted was left promoted, and only a promotable leaf is
   pinned_promoted : (r n : ℕ) → is_promoted_target (pinned_targets c es r n) ≡ true → is_promotable c r ≡ true
-  pinned_promoted r n h = sooner (is_promotable c r) (is_left_promoted c r n es) (go (stays c es r n) (may_promoted c r n es) h)
+  pinned_promoted r n h = sooner (is_promotable c r) (is_left_promoted c r n es) (go (stays c es r n) (may_be_promoted c r n es) h)
     where
       go : (b p : Bool) → is_promoted_target (if b then (if p then target.Promoted else target.Started) else target.Nowhere) ≡ true → p ≡ true
       go true true h = refl

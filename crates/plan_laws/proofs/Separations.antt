@@ -8,7 +8,7 @@ use Rattle.cluster_types.specs.declared.journal.Event.{Event}
 use Rattle.cluster_types.specs.declared.leaf.Role.{Role}
 use Rattle.cluster_types.specs.declared.rules.Colocation.{Colocation}
 use Rattle.cluster_types.specs.Choice.{is_separation}
-use Rattle.cluster_types.specs.Needed.{IsDisturbed, Needed}
+use Rattle.cluster_types.specs.Needed.{GetsStepAnywhere, Needed}
 use Rattle.cluster_types.specs.Numbers.{is_earlier}
 use Rattle.cluster_types.specs.Precedence.{gives_role, is_migrating, is_parted, parts_first, takes_or_probes}
 use Rattle.cluster_types.specs.Tables.{Targets}
@@ -28,7 +28,7 @@ module _ (c : Cluster) (es : List Event) (targets : Targets) (actions : List Act
       takes_before_gives c actions x y b.one.leaf b.other.leaf (taken r_role x b.one b.is_one) (given s_role y b.other b.is_other) iny
       (λ m k. apart (subst (λ v. is_migrating actions v ≡ true) (eqb-true b.one.leaf r left) m) (subst (λ v. is_migrating actions v ≡ true) (eqb-true b.other.leaf s right) k))
 
-  disturbed : (r : ℕ) → is_migrating actions r ≡ true → IsDisturbed c es targets r
+  disturbed : (r : ℕ) → is_migrating actions r ≡ true → GetsStepAnywhere c es targets r
   disturbed r h = let one : Migrant c es targets r = migrating c es targets actions needed r h in migrant_disturbed c es targets r one.source one.goal one.migrates
 
   pub parts_upward : (col : Colocation) → Contains c.colocations col → (x y : Action) → Contains actions y → parts_first col x y ≡ true → is_earlier c actions x y ≡ true

@@ -13,9 +13,9 @@ use Rattle.cluster_types.specs.declared.leaf.Monitor.{Monitor as MonitorOf}
 use Rattle.cluster_types.specs.declared.leaf.Op.{Op}
 use Rattle.cluster_types.specs.declared.leaf.Op.TheVariants as op
 use Rattle.cluster_types.specs.declared.leaf.Role.TheVariants as role
-use Rattle.cluster_types.specs.CellStates.{cell_state, is_running}
+use Rattle.cluster_types.specs.CellStates.{cell_state, is_monitor_running}
 use Rattle.cluster_types.specs.Fields.{monitors}
-use Rattle.cluster_types.specs.Needed.{FirstSet, GetsAny, GetsStep, IsDisturbed, Migrates, Needed, NeedsMonitor, fence, is_monitor_for, kept, monitor, probe, sent, step, steps_of, taken_in}
+use Rattle.cluster_types.specs.Needed.{NeededBeforeMigration, GetsAny, GetsStep, GetsStepAnywhere, Migrates, Needed, NeedsMonitor, fence, is_monitor_for, kept, monitor, probe, sent, step, steps_of, taken_in}
 use Rattle.cluster_types.specs.Pins.{is_pinned, is_unprobed_state}
 use Rattle.cluster_types.specs.Precedence.{is_same_op}
 use Rattle.cluster_types.specs.Rights.{is_to_be_fenced}
@@ -67,10 +67,10 @@ waiting false true (inr e) = cc
 waiting false false h = refl
 
 module _ (c : Cluster) (es : List Event) (targets : Targets) where
-  stop_of : (r n : ℕ) → FirstSet c es targets (Cell op.Stop r n 0 role.Started) → GetsStep c es targets r n op.Stop
+  stop_of : (r n : ℕ) → NeededBeforeMigration c es targets (Cell op.Stop r n 0 role.Started) → GetsStep c es targets r n op.Stop
   stop_of r n (step _ _ _ h l g) = g
 
-  start_of : (r n : ℕ) → FirstSet c es targets (Cell op.Start r n 0 role.Started) → GetsStep c es targets r n op.Start
+  start_of : (r n : ℕ) → NeededBeforeMigration c es targets (Cell op.Start r n 0 role.Started) → GetsStep c es targets r n op.Start
   start_of r n (step _ _ _ h l g) = g
 
   -- what gets a step isn't pinned
@@ -79,7 +79,7 @@ module _ (c : Cluster) (es : List Event) (targets : Targets) where
   managed_of r n o (inr g) = (of_unless (is_pinned c es r) (steps_of (cell_state c r n es) (targets r n) false) o g.1).fails
 
   module _ (need : ℕ → ℕ → CellNeed) (marked : MarkedCells) (told : Tells c es targets need marked) (ordered : AllOrder c) (joined : AllJoin c)
-      (touched free : ℕ → Bool) (known : (r : ℕ) → r < length c.leaves → touched r ≡ true ↔ IsDisturbed c es targets r)
+      (touched free : ℕ → Bool) (known : (r : ℕ) → r < length c.leaves → touched r ≡ true ↔ GetsStepAnywhere c es targets r)
       (free_is : (r : ℕ) → r < length c.leaves → free r ≡ is_undisturbed c touched r) where
     abbrev source : ℕ → Option ℕ
     source r = migration_source c need marked (free r) r
@@ -112,7 +112,7 @@ module _ (c : Cluster) (es : List Event) (targets : Targets) where
           managed = managed_of r n op.Stop l.stopped;
           running = l.running;
           nowhere_else = l.nowhere_else;
-          away = λ s. both_ways (n == m) away (eq-eqb n m (sym s));
+          elsewhere = λ s. both_ways (n == m) away (eq-eqb n m (sym s));
           stopped = step r n op.Stop lr l.within l.stopped;
           started = step r m op.Start lr lm start;
           orders = f.orders;
@@ -131,21 +131,21 @@ module _ (c : Cluster) (es : List Event) (targets : Targets) where
         → Contains (monitors_in c need marked r n) m
     watch_in r n m lr ln h (free, of_role, why) =
         let any : Bool = is_filled (steps_in need marked r n) in
-        let late : (is_running r n m.interval_ms es ≡ false) ⊎ (is_filled (steps_in need marked r n) ≡ true)
+        let late : (is_monitor_running r n m.interval_ms es ≡ false) ⊎ (is_filled (steps_in need marked r n) ≡ true)
         = elim why [ inl e ↦ inl e | inr g ↦ inr (any_got c es targets need marked told r n lr ln g) ] in
         subst (λ (ms : List MonitorOf). Contains ms m) (sym (watched_by r n lr ln))
         (in_unless (is_pinned c es r) _ m free
         (in_filter (needs_it (targets r n) (is_filled (steps_in need marked r n)) (runs c es r n)) (monitors c r) m h
         (and_from (is_monitor_for m.role (targets r n)) _ of_role
-        (waiting (is_filled (steps_in need marked r n)) (is_running r n m.interval_ms es) late))))
+        (waiting (is_filled (steps_in need marked r n)) (is_monitor_running r n m.interval_ms es) late))))
 
     watch_of : (r n : ℕ) (m : MonitorOf) → r < length c.leaves → n < length c.nodes → Contains (monitors_in c need marked r n) m
         → Contains (monitors c r) m × NeedsMonitor c es targets r n m
     watch_of r n m lr ln h =
         let u = of_unless (is_pinned c es r) _ m (subst (λ (ms : List MonitorOf). Contains ms m) (watched_by r n lr ln) h) in
         let f = of_filter (needs_it (targets r n) (is_filled (steps_in need marked r n)) (runs c es r n)) (monitors c r) m u.among in
-        let why : (is_running r n m.interval_ms es ≡ false) ⊎ GetsAny c es targets r n
-        = elim (waits (is_filled (steps_in need marked r n)) (is_running r n m.interval_ms es)
+        let why : (is_monitor_running r n m.interval_ms es ≡ false) ⊎ GetsAny c es targets r n
+        = elim (waits (is_filled (steps_in need marked r n)) (is_monitor_running r n m.interval_ms es)
         (later (is_monitor_for m.role (targets r n)) _ f.passes)) [
           | inl e ↦ inl e
           | inr g ↦ inr (gets_any c es targets need marked told r n lr ln g)
@@ -174,7 +174,7 @@ module _ (c : Cluster) (es : List Event) (targets : Targets) where
         let e = bounds_of_first c es targets op.Start r m 0 role.Started g.started in
         let lm : m < length c.nodes = e.1 in
         let here : not (n == m) && includes_op op.Start (steps_in need marked r m) ≡ true
-        = and_from (not (n == m)) _ (not_from_false (n == m) (ne_eqb n m (λ s. g.away (sym s))))
+        = and_from (not (n == m)) _ (not_from_false (n == m) (ne_eqb n m (λ s. g.elsewhere (sym s))))
         (has_it op.Start (steps_in need marked r m) (got c es targets need marked told r m op.Start b.0 lm (start_of r m g.started))) in
         let to : Contains (migrations_to need marked r n m) a = rw here h in
         let among : Contains (migrations_of c need marked (Some n) r) a
@@ -197,7 +197,7 @@ module _ (c : Cluster) (es : List Event) (targets : Targets) where
             let start : GetsStep c es targets r n op.Start = subst (GetsStep c es targets r n) (sym same) g in
             absurd (k r w.source n (migrates r w.source n lr ln w.is w.away start) (ap (λ (p : Op). Cell p r n 0 role.Started) (sym same)))
 
-      first_there : (a : Action) → FirstSet c es targets a → ((r n m : ℕ) → Migrates c es targets r n m → a ≢ Cell op.Start r m 0 role.Started)
+      first_there : (a : Action) → NeededBeforeMigration c es targets a → ((r n m : ℕ) → Migrates c es targets r n m → a ≢ Cell op.Start r m 0 role.Started)
           → Contains (fences ++ all) a
       first_there _ (fence n ln h) k = Contains-append_left fences all (Fence n) (fenced n ln h)
       first_there _ (probe r n lr ln h) k =
@@ -248,7 +248,7 @@ module _ (c : Cluster) (es : List Event) (targets : Targets) where
           let leaf : r ≡ s = ap leaf_of e in
           let node : n ≡ u = ap node_of e in
           let from : source r ≡ Some t = rw (← leaf) at (from_source s t u g) in
-          let away : (t == n) ≡ false = ne_eqb t n (λ q. g.away (sym node ∙ sym q)) in
+          let away : (t == n) ≡ false = ne_eqb t n (λ q. g.elsewhere (sym node ∙ sym q)) in
           let sent : is_elsewhere (source r) n ≡ true = ap (λ (o : Option ℕ). is_elsewhere o n) from ∙ not_from_false (t == n) away in
           let start : is_same_op op.Start m.source ≡ true = ap (is_same_op op.Start) word in
           both_ways (is_elsewhere (source r) n && is_same_op op.Start m.source)

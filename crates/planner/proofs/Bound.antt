@@ -11,7 +11,7 @@ use Rattle.cluster_types.specs.declared.rules.Colocation.{Colocation}
 use Rattle.cluster_types.specs.declared.rules.Order.{Order}
 use Rattle.cluster_types.specs.Choice.{is_separation}
 use Rattle.cluster_types.specs.Plans.{is_of_either}
-use Rattle.cluster_types.specs.Precedence.{CellOf, inverse, is_serialize, is_up}
+use Rattle.cluster_types.specs.Precedence.{CellOf, inverse, is_serialize, is_giving}
 use Rattle.planner.specs.declared.precedence.sides.Join.{Join}
 use Rattle.planner.specs.declared.precedence.sides.Side.TheVariants as side
 use Rattle.planner.specs.Gates.{chain_edges, chain_step, edge, edge_in, edge_out, gate_edges_at, edges_of_joins, gates_upto, join_edges, key_at, next_gate, then_step}
@@ -74,7 +74,7 @@ module _ (c : Cluster) (actions : List Action) where
       on false = omega arith
 
   inverse_few : (base : ℕ) (o : Order) → length (edges_by base (inverse_join o ∷ [])) ≤ 2 * count_by (is_of_either o.first o.then_leaf) actions
-  inverse_few base o = on (is_up o.first_op && is_up o.then_op)
+  inverse_few base o = on (is_giving o.first_op && is_giving o.then_op)
     where
       on : (b : Bool) → length (edges_by base ((if b then join (side.EarlierTakers o.then_leaf o.then_op o.local) (side.LaterTakers o.first o.first_op o.local)
           else join (side.Earlier o.then_leaf (inverse o.then_op) o.local) (side.Later o.first (inverse o.first_op) o.local)) ∷ []))

@@ -6,7 +6,7 @@ use Rattle.cluster_types.specs.declared.cluster.Cluster.{Cluster}
 use Rattle.cluster_types.specs.declared.rules.Colocation.{Colocation}
 use Rattle.cluster_types.specs.declared.rules.Order.{Order}
 use Rattle.cluster_types.specs.Choice.{is_separation}
-use Rattle.cluster_types.specs.Precedence.{is_serialize, is_up, inverse}
+use Rattle.cluster_types.specs.Precedence.{is_serialize, is_giving, inverse}
 use Rattle.planner.specs.declared.precedence.sides.Join.{Join}
 use Rattle.planner.specs.declared.precedence.sides.Side.TheVariants as side
 use Rattle.planner.specs.Joins.{colocation_joins, first_joins, inverse_join, join, joins_of, order_joins}
@@ -57,7 +57,7 @@ module _ (c : Cluster) where
       on false h = of_none (IsEven c) j h
 
   pub inverse_even : (o : Order) → IsEven c (inverse_join o)
-  inverse_even o = on (is_up o.first_op && is_up o.then_op)
+  inverse_even o = on (is_giving o.first_op && is_giving o.then_op)
     where
       on : (b : Bool) → IsEven c (if b then join (side.EarlierTakers o.then_leaf o.then_op o.local) (side.LaterTakers o.first o.first_op o.local)
           else join (side.Earlier o.then_leaf (inverse o.then_op) o.local) (side.Later o.first (inverse o.first_op) o.local))

@@ -7,7 +7,7 @@ use Rattle.cluster_types.specs.declared.cluster.Cluster.{Cluster}
 use Rattle.cluster_types.specs.declared.leaf.Op.TheVariants.{Stop}
 use Rattle.cluster_types.specs.declared.rules.Order.{Order}
 use Rattle.cluster_types.specs.Numbers.{StepsHaveNoLoop, Link, inverse_links, leaf_links, link, links, order_links, rank, step_of}
-use Rattle.cluster_types.specs.Precedence.{is_serialize, is_up, takers}
+use Rattle.cluster_types.specs.Precedence.{is_serialize, is_giving, takers}
 use Rattle.loops.specs.Inner.Edges.{counts_link}
 use Rattle.loops.specs.FirstLoops.{AllOrder}
 use Rattle.cluster_types.proofs.OpLaws.{stop_takes}
@@ -21,7 +21,7 @@ stops_link o = link Stop o.then_leaf Stop o.first
 
 module _ (c : Cluster) (o : Order) (k : Cycles o) where
   among_inverse : Contains (inverse_links o) (stops_link o)
-  among_inverse = on (is_up o.first_op && is_up o.then_op) (and_from (is_up o.first_op) _ k.first_up k.then_up) where
+  among_inverse = on (is_giving o.first_op && is_giving o.then_op) (and_from (is_giving o.first_op) _ k.first_up k.then_up) where
     taken : Contains (flat_map (λ p. map (λ q. link p o.then_leaf q o.first) (takers o.first_op)) (takers o.then_op)) (stops_link o)
     taken =
         in_flat (λ p. map (λ q. link p o.then_leaf q o.first) (takers o.first_op)) (takers o.then_op) Stop (stops_link o)

@@ -19,7 +19,7 @@ use Rattle.cluster_types.specs.declared.leaf.Op.TheVariants as op
 use Rattle.cluster_types.specs.declared.rules.Colocation.{Colocation}
 use Rattle.cluster_types.specs.declared.rules.Order.{Order}
 use Rattle.cluster_types.specs.Fields.{monitors}
-use Rattle.cluster_types.specs.Needed.{FirstSet, Needed, fence, kept, monitor, probe, sent, step, taken_in}
+use Rattle.cluster_types.specs.Needed.{NeededBeforeMigration, Needed, fence, kept, monitor, probe, sent, step, taken_in}
 use Rattle.cluster_types.specs.Plans.{is_of_either, most_edges}
 use Rattle.cluster_types.specs.Tables.{Targets, targets_of}
 use Rattle.cluster_types.specs.Valid.{IsValid}
@@ -70,7 +70,7 @@ module _ (c : Cluster) (actions : List Action) (valid : IsValid c) (planned : Ar
   needs : (x : Action) → Contains actions x → Needs x
   needs x h = (planned.needed.needed x).0 h
 
-  first_kind : (x : Action) → FirstSet c planned.events targets x → kind c x < 16
+  first_kind : (x : Action) → NeededBeforeMigration c planned.events targets x → kind c x < 16
   first_kind _ (fence n h e) = omega arith
   first_kind _ (probe r n h l e) = omega arith
   first_kind _ (step r n op.Start h l g) = omega arith

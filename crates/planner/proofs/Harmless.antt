@@ -14,7 +14,7 @@ use Rattle.cluster_types.specs.declared.rules.Order.{Order}
 use Rattle.cluster_types.specs.declared.rules.OrderKind.{OrderKind}
 use Rattle.cluster_types.specs.declared.rules.OrderKind.TheVariants as kind
 use Rattle.cluster_types.specs.Choice.{is_separation}
-use Rattle.cluster_types.specs.Needed.{IsDisturbed, IsHarmlessColocation, IsHarmlessOrder}
+use Rattle.cluster_types.specs.Needed.{GetsStepAnywhere, IsHarmlessColocation, IsHarmlessOrder}
 use Rattle.cluster_types.specs.Precedence.{is_same_op, is_serialize}
 use Rattle.cluster_types.specs.Tables.{Targets}
 use Rattle.loops.specs.FirstLoops.{AllJoin, AllOrder}
@@ -72,11 +72,11 @@ not_serial kind.Optional f = refl
 not_serial kind.Serialize f = absurd (f refl)
 
 module _ (c : Cluster) (es : List Event) (targets : Targets) (touched : ℕ → Bool)
-    (known : (r : ℕ) → r < length c.leaves → touched r ≡ true ↔ IsDisturbed c es targets r) where
-  calm : (r : ℕ) → r < length c.leaves → touched r ≡ false → ¬ IsDisturbed c es targets r
+    (known : (r : ℕ) → r < length c.leaves → touched r ≡ true ↔ GetsStepAnywhere c es targets r) where
+  calm : (r : ℕ) → r < length c.leaves → touched r ≡ false → ¬ GetsStepAnywhere c es targets r
   calm r lr e d = both_ways (touched r) e ((known r lr).1 d)
 
-  untouched : (r : ℕ) → r < length c.leaves → (¬ IsDisturbed c es targets r) → touched r ≡ false
+  untouched : (r : ℕ) → r < length c.leaves → (¬ GetsStepAnywhere c es targets r) → touched r ≡ false
   untouched r lr f = on (touched r) refl where
     on : (b : Bool) → touched r ≡ b → touched r ≡ false
     on true e = absurd (f ((known r lr).0 e))
@@ -87,7 +87,7 @@ module _ (c : Cluster) (es : List Event) (targets : Targets) (touched : ℕ → 
     order_harmless o lf lt = (there, back) where
       there : is_harmless_order touched r o ≡ true → IsHarmlessOrder c es targets r o
       there h = (first, other) where
-        first : o.first ≡ r → ((o.kind ≢ kind.Serialize) × (o.first_op ≡ op.Start)) ⊎ (¬ IsDisturbed c es targets o.then_leaf)
+        first : o.first ≡ r → ((o.kind ≢ kind.Serialize) × (o.first_op ≡ op.Start)) ⊎ (¬ GetsStepAnywhere c es targets o.then_leaf)
         first e =
             elim (first_kept (r == o.first) (is_serialize o.kind) (is_same_op o.first_op op.Start) (touched o.then_leaf)
             (sooner (not (r == o.first && keeps_first touched o)) _ h) (eq-eqb r o.first (sym e))) [
@@ -95,7 +95,7 @@ module _ (c : Cluster) (es : List Event) (targets : Targets) (touched : ℕ → 
               | inr t ↦ inr (calm o.then_leaf lt t)
             ]
 
-        other : o.then_leaf ≡ r → o.first ≢ r → ¬ IsDisturbed c es targets o.first
+        other : o.then_leaf ≡ r → o.first ≢ r → ¬ GetsStepAnywhere c es targets o.first
         other e d =
             calm o.first lf
             (then_kept (r == o.then_leaf) (o.first == o.then_leaf) (touched o.first)

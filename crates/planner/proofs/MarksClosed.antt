@@ -91,7 +91,7 @@ module _ (c : Cluster) (es : List Event) (targets : Targets) where
         all_marked os (first_marks c es targets) apart o n there (record {
           may =
               and_from (nat_lt n (length c.nodes) && can_cycle c es targets o.then_leaf n) _
-              (and_from (nat_lt n (length c.nodes)) _ (lt-ltb _ _ may.within) may.stays) may.in_role;
+              (and_from (nat_lt n (length c.nodes)) _ (lt-ltb _ _ may.within) may.can_be_cycled) may.in_role;
           node = m;
           within = may.first_within;
           scope = may.in_scope;

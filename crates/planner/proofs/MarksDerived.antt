@@ -10,7 +10,7 @@ use Rattle.cluster_types.specs.declared.journal.Event.{Event}
 use Rattle.cluster_types.specs.declared.rules.Order.{Order}
 use Rattle.cluster_types.specs.Fields.{copies}
 use Rattle.cluster_types.specs.Needed.{Cycled, by_copies, by_order, by_cycled, OrderMayCycle, can_cycle, has_disturbing, steps_at}
-use Rattle.cluster_types.specs.Precedence.{role_by}
+use Rattle.cluster_types.specs.Precedence.{role_given}
 use Rattle.cluster_types.specs.Tables.{Targets, holds_role, is_in_scope}
 use Rattle.cluster_types.specs.Terms.{active_count}
 use Rattle.planner.specs.Cycling.{MarkedCells, first_marks, is_cycling, is_disturbed, is_marked_by, may_be_marked, with_order, with_orders}
@@ -38,7 +38,7 @@ module _ (c : Cluster) (es : List Event) (targets : Targets) where
         let k : Cycles o = cycles_of o cycling in
         let ln : Bool = nat_lt n (length c.nodes) in
         let can : Bool = can_cycle c es targets o.then_leaf n in
-        let two : ln && can ≡ true = sooner (ln && can) (holds_role targets o.then_leaf (role_by o.then_op) n) h in
+        let two : ln && can ≡ true = sooner (ln && can) (holds_role targets o.then_leaf (role_given o.then_op) n) h in
         record {
           present = among;
           mandatory = k.mandatory;
@@ -48,8 +48,8 @@ module _ (c : Cluster) (es : List Event) (targets : Targets) where
           within = ltb-true _ _ (sooner ln can two);
           first_within = lt;
           in_scope = scope;
-          stays = later ln can two;
-          in_role = later (ln && can) (holds_role targets o.then_leaf (role_by o.then_op) n) h;
+          can_be_cycled = later ln can two;
+          in_role = later (ln && can) (holds_role targets o.then_leaf (role_given o.then_op) n) h;
         }
 
     by_disturbed : (n m : ℕ) → OrderMayCycle c es targets o n m

@@ -5,13 +5,13 @@ use Rattle.cluster_types.specs.declared.journal.Action.{Action}
 use Rattle.cluster_types.specs.declared.journal.Event.{Event}
 use Rattle.cluster_types.specs.declared.leaf.Op.TheVariants as op
 use Rattle.cluster_types.specs.declared.leaf.Role.TheVariants as role
-use Rattle.cluster_types.specs.Needed.{FirstSet, Needed, fence, kept, monitor, probe, sent, step, taken_in}
+use Rattle.cluster_types.specs.Needed.{NeededBeforeMigration, Needed, fence, kept, monitor, probe, sent, step, taken_in}
 use Rattle.cluster_types.specs.Tables.{Targets}
 use Rattle.cluster_types.proofs.NeededLaws.{bounds_of_first}
 use Rattle.planner.specs.Rooms.{IsActionWithin}
 
 module _ (c : Cluster) (es : List Event) (targets : Targets) where
-  first_within : (a : Action) → FirstSet c es targets a → IsActionWithin c a
+  first_within : (a : Action) → NeededBeforeMigration c es targets a → IsActionWithin c a
   first_within _ (fence n h e) = h
   first_within _ (probe r n h l e) = (h, l)
   first_within _ (step r n o h l g) = (h, l)

@@ -21,8 +21,8 @@ use Rattle.cluster_types.specs.Choice.{is_stopped_role}
 use Rattle.cluster_types.specs.Failures.{is_fail_stopped}
 use Rattle.cluster_types.specs.Fields.{copies, is_cloned, target_role_of}
 use Rattle.cluster_types.specs.Lawful.{IsLawful}
-use Rattle.cluster_types.specs.May.{may}
-use Rattle.cluster_types.specs.Needed.{FirstSet, Migrates, step}
+use Rattle.cluster_types.specs.May.{may_be_running}
+use Rattle.cluster_types.specs.Needed.{NeededBeforeMigration, Migrates, step}
 use Rattle.cluster_types.specs.Pins.{is_pinned}
 use Rattle.cluster_types.specs.Plans.{IsPlaced}
 use Rattle.cluster_types.specs.Tables.{Targets, is_somewhere, targets_of}
@@ -75,7 +75,7 @@ module _ (c : Cluster) (es : List Event) (ps : List Promotion) (placed : Placed)
       let one = one_copy r (slice_get c.leaves r) refl plain in
       one_of_few (λ i. is_somewhere (targets r i)) (length c.nodes) n m (omega (arith, most, cap, one)) l k h g
 
-  start_target : (r m : ℕ) → FirstSet c es targets (Cell op.Start r m 0 role.Started) → is_somewhere (targets r m) ≡ true
+  start_target : (r m : ℕ) → NeededBeforeMigration c es targets (Cell op.Start r m 0 role.Started) → is_somewhere (targets r m) ≡ true
   start_target r m (step _ _ _ h l g) =
       later (is_known (cell_state c r m es)) (is_somewhere (targets r m)) (is_step c es targets r m op.Start g).fitting
 
@@ -92,5 +92,5 @@ module _ (c : Cluster) (es : List Event) (ps : List Promotion) (placed : Placed)
       on true e = sym (eqb-true p n e)
       on false e =
           let there = bounds_of_first c es targets op.Stop r p 0 role.Started other.stopped in
-          let running : may c r p es ≡ true = (says_of c r p es cell.On other.running).4 in
-          absurd (both_ways (may c r p es) (one.nowhere_else p there.1 (eqb-false p n e)) running)
+          let running : may_be_running c r p es ≡ true = (says_of c r p es cell.On other.running).4 in
+          absurd (both_ways (may_be_running c r p es) (one.nowhere_else p there.1 (eqb-false p n e)) running)

@@ -5,7 +5,7 @@ use Rattle.cluster_types.specs.declared.cluster.Cluster.{Cluster}
 use Rattle.edges.specs.declared.edge.Edge.{Edge}
 use Rattle.cluster_types.specs.declared.journal.Action.{Action}
 use Rattle.cluster_types.specs.declared.rules.Order.{Order}
-use Rattle.cluster_types.specs.Precedence.{is_serialize, is_up}
+use Rattle.cluster_types.specs.Precedence.{is_serialize, is_giving}
 use Rattle.planner.specs.declared.precedence.sides.Join.{Join}
 use Rattle.planner.specs.Gates.{join_edges, key_at}
 use Rattle.planner.specs.Inner.Index.{IsIndex, places_in}
@@ -23,14 +23,14 @@ pub own_small : (c : Cluster) (o : Order) → length c.nodes ≤ 256 → width_o
 own_small c o few = let h = nodes_few c o.local few in omega arith
 
 pub inverse_small : (c : Cluster) (o : Order) → length c.nodes ≤ 256 → width_of c (inverse_join o).from * rows_of c (inverse_join o).from ≤ 256
-inverse_small c o few = on (is_up o.first_op && is_up o.then_op)
+inverse_small c o few = on (is_giving o.first_op && is_giving o.then_op)
   where
     on : (b : Bool) → width_of c (if b then takers_join o else turned_join o).from * rows_of c (if b then takers_join o else turned_join o).from ≤ 256
     on true = let h = nodes_few c o.local few in omega arith
     on false = let h = nodes_few c o.local few in omega arith
 
 inverse_places : (actions : List Action) (o : Order) → places_of actions (inverse_join o) ≡ rule_places actions o.then_leaf o.first
-inverse_places actions o = on (is_up o.first_op && is_up o.then_op)
+inverse_places actions o = on (is_giving o.first_op && is_giving o.then_op)
   where
     on : (b : Bool) → places_of actions (if b then takers_join o else turned_join o) ≡ rule_places actions o.then_leaf o.first
     on true = refl

@@ -13,7 +13,7 @@ use Rattle.cluster_types.specs.declared.leaf.Op.TheVariants as op
 use Rattle.cluster_types.specs.declared.leaf.Role.TheVariants as role
 use Rattle.cluster_types.specs.declared.placement.Placed.{Placed}
 use Rattle.cluster_types.specs.Fields.{is_promotable, monitors}
-use Rattle.cluster_types.specs.Needed.{FirstSet, GetsStep, Needed, fence, kept, monitor, probe, sent, step, taken_in}
+use Rattle.cluster_types.specs.Needed.{NeededBeforeMigration, GetsStep, Needed, fence, kept, monitor, probe, sent, step, taken_in}
 use Rattle.cluster_types.specs.Numbers.{Place, link, action_place, rank, step_of}
 use Rattle.cluster_types.specs.Plans.{IsPlaced}
 use Rattle.cluster_types.specs.Precedence.{is_migrating}
@@ -123,7 +123,7 @@ module _ (c : Cluster) (es : List Event) (ps : List Promotion) (placed : Placed)
       (and_from (is_promotable c r) (rank c (step_of op.Demote r) == rank c (step_of op.Demote r)) promotable (eq-eqb (rank c (step_of op.Demote r)) (rank c (step_of op.Demote r)) refl))
   step_kind r n op.Monitor low l g = let e : false ≡ true = (is_step c es targets r n op.Monitor g).fitting in cc
 
-  first_kind : (x : Action) → FirstSet c es targets x → kind_by c (action_place c actions x) ≡ kind c x
+  first_kind : (x : Action) → NeededBeforeMigration c es targets x → kind_by c (action_place c actions x) ≡ kind c x
   first_kind _ (fence n h e) = refl
   first_kind _ (probe r n h l e) = refl
   first_kind _ (step r n o h l g) = step_kind r n o h l g

@@ -10,7 +10,7 @@ use Rattle.cluster_types.specs.declared.leaf.Op.TheVariants as op
 use Rattle.cluster_types.specs.declared.rules.Colocation.{Colocation}
 use Rattle.cluster_types.specs.declared.rules.Order.{Order}
 use Rattle.cluster_types.specs.Choice.{is_separation}
-use Rattle.cluster_types.specs.Precedence.{CellOf, as_earlier, as_later, both, cell_of, gives_role, inverse, is_inverse_pair, is_one_cell, is_ordered, is_ordered_pair, is_parted, is_serialize, is_taken_back, is_up, op_cell, parts_first, takers, takes_or_probes}
+use Rattle.cluster_types.specs.Precedence.{CellOf, as_earlier, as_later, both, cell_of, gives_role, inverse, is_inverse_pair, is_one_cell, is_ordered, is_ordered_pair, is_parted, is_serialize, is_taken_back, is_giving, op_cell, parts_first, takers, takes_or_probes}
 use Rattle.cluster_types.specs.Tables.{is_in_scope}
 use Rattle.planner.specs.declared.precedence.sides.Side.TheVariants as side
 use Rattle.planner.specs.Joins.{join, colocation_joins, earlier_taker, in_leaf, inverse_join, is_joined, later_demote, later_taker, order_joins, take_cell}
@@ -135,7 +135,7 @@ module _ (c : Cluster) (actions : List Action) (o : Order) (x y : Action) where
       ∙ ordered_joined o o.then_leaf o.first (earlier_taker o.then_op x) (later_taker actions o.first_op y))
 
   inverse_joined : is_inverse_pair actions o x y ≡ is_joined c actions x y (inverse_join o)
-  inverse_joined = on (is_up o.first_op && is_up o.then_op)
+  inverse_joined = on (is_giving o.first_op && is_giving o.then_op)
     where
       on : (b : Bool) → (if b then is_taken_back actions o x y else is_ordered_pair actions o (inverse o.then_op) o.then_leaf (inverse o.first_op) o.first x y)
           ≡ is_joined c actions x y

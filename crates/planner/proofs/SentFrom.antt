@@ -14,7 +14,7 @@ use Rattle.cluster_types.specs.declared.states.CellState.{CellState}
 use Rattle.cluster_types.specs.declared.states.CellState.TheVariants as cell
 use Rattle.cluster_types.specs.CellStates.{cell_state, is_blocked, is_left_open, last_outcome}
 use Rattle.cluster_types.specs.Fields.{is_cloned, is_promotable, may_migrate}
-use Rattle.cluster_types.specs.May.{may, may_promoted}
+use Rattle.cluster_types.specs.May.{may_be_running, may_be_promoted}
 use Rattle.cluster_types.specs.Needed.{GetsStep}
 use Rattle.cluster_types.specs.NodeStates.{is_online}
 use Rattle.cluster_types.specs.Tables.{Targets}
@@ -53,10 +53,10 @@ either_passes true b f = refl
 either_passes false b f = f refl
 
 module _ (c : Cluster) (es : List Event) (targets : Targets) where
-  pub runs_may : (r n : ℕ) → cell_state c r n es ≡ cell.On → may c r n es ≡ true
+  pub runs_may : (r n : ℕ) → cell_state c r n es ≡ cell.On → may_be_running c r n es ≡ true
   runs_may r n h =
       on_may (not (is_online c n es)) (Rattle.std.specs.Prelude.is_none (last_outcome c r n es)) (is_blocked c r n es)
-      (may c r n es && is_left_open c r n es) (may_promoted c r n es) (may c r n es) h
+      (may_be_running c r n es && is_left_open c r n es) (may_be_promoted c r n es) (may_be_running c r n es) h
 
   -- the leaf is sent from the node, wherever it is started
   pub record Leaves (r n : ℕ) (free : Bool) : Type 0 where
@@ -66,24 +66,24 @@ module _ (c : Cluster) (es : List Event) (targets : Targets) where
     pub is_free : free ≡ true
     pub within : n < length c.nodes
     pub running : cell_state c r n es ≡ cell.On
-    pub nowhere_else : (k : ℕ) → k < length c.nodes → k ≢ n → may c r k es ≡ false
+    pub nowhere_else : (k : ℕ) → k < length c.nodes → k ≢ n → may_be_running c r k es ≡ false
     pub stopped : GetsStep c es targets r n op.Stop
 
   module _ (need : ℕ → ℕ → CellNeed) (marked : MarkedCells) (told : Tells c es targets need marked) (r : ℕ) (lr : r < length c.leaves) where
-    may_known : (n : ℕ) → n < length c.nodes → (need r n).may ≡ may c r n es
+    may_known : (n : ℕ) → n < length c.nodes → (need r n).may ≡ may_be_running c r n es
     may_known n ln = ap (λ (w : CellNeed). w.may) (told.needs r n lr ln)
 
     state_known : (n : ℕ) → n < length c.nodes → (need r n).state ≡ cell_state c r n es
     state_known n ln = ap (λ (w : CellNeed). w.state) (told.needs r n lr ln)
 
-    alone_of : (n : ℕ) → is_alone c need r n ≡ true → (k : ℕ) → k < length c.nodes → k ≢ n → may c r k es ≡ false
+    alone_of : (n : ℕ) → is_alone c need r n ≡ true → (k : ℕ) → k < length c.nodes → k ≢ n → may_be_running c r k es ≡ false
     alone_of n h k lk d =
         let p = each_passes (λ k. n == k || not (need r k).may) (range_with_len 0 (length c.nodes)) k h
         (in_range 0 (length c.nodes) k (omega arith) (omega arith)) in
         sym (may_known k lk) ∙ not-true (need r k).may
         (first_passes (not (need r k).may) (n == k) (or_comm (not (need r k).may) (n == k) ∙ p) (ne_eqb n k (λ s. d (sym s))))
 
-    is_alone_where : (n : ℕ) → ((k : ℕ) → k < length c.nodes → k ≢ n → may c r k es ≡ false) → is_alone c need r n ≡ true
+    is_alone_where : (n : ℕ) → ((k : ℕ) → k < length c.nodes → k ≢ n → may_be_running c r k es ≡ false) → is_alone c need r n ≡ true
     is_alone_where n f = all_pass (λ k. n == k || not (need r k).may) (range_with_len 0 (length c.nodes)) (λ k h. (
         let w = of_range 0 (length c.nodes) k h in
         let lk : k < length c.nodes = omega arith in

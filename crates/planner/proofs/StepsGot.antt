@@ -7,7 +7,7 @@ use Rattle.lemmas.proofs.Searches.{passes_by}
 use Rattle.cluster_types.specs.declared.cluster.Cluster.{Cluster}
 use Rattle.cluster_types.specs.declared.journal.Event.{Event}
 use Rattle.cluster_types.specs.declared.leaf.Op.{Op}
-use Rattle.cluster_types.specs.Needed.{Cycled, GetsAny, GetsStep, IsDisturbed, steps_at}
+use Rattle.cluster_types.specs.Needed.{Cycled, GetsAny, GetsStep, GetsStepAnywhere, steps_at}
 use Rattle.cluster_types.specs.Tables.{Targets}
 use Rattle.planner.specs.Inner.Actions.{is_filled, is_touched, steps_in}
 use Rattle.planner.specs.Cycling.{MarkedCells}
@@ -45,16 +45,16 @@ module _ (c : Cluster) (es : List Event) (targets : Targets) (need : ℕ → ℕ
   any_got r n lr ln g = filled (steps_in need marked r n) g.0 (got r n g.0 lr ln g.1)
 
   -- and so are the leaves that get a step anywhere
-  pub touched_is : (r : ℕ) → r < length c.leaves → is_touched c need marked r ≡ true ↔ IsDisturbed c es targets r
+  pub touched_is : (r : ℕ) → r < length c.leaves → is_touched c need marked r ≡ true ↔ GetsStepAnywhere c es targets r
   touched_is r lr = (there, back) where
-    there : is_touched c need marked r ≡ true → IsDisturbed c es targets r
+    there : is_touched c need marked r ≡ true → GetsStepAnywhere c es targets r
     there h =
         let f = some_of (λ n. is_filled (steps_in need marked r n)) (range_with_len 0 (length c.nodes)) h in
         let w = of_range 0 (length c.nodes) f.member f.among in
         let ln : f.member < length c.nodes = omega arith in
         (f.member, ln, gets_any r f.member lr ln f.passes)
 
-    back : IsDisturbed c es targets r → is_touched c need marked r ≡ true
+    back : GetsStepAnywhere c es targets r → is_touched c need marked r ≡ true
     back (n, ln, g) =
         passes_by (λ n. is_filled (steps_in need marked r n)) (range_with_len 0 (length c.nodes)) n
         (in_range 0 (length c.nodes) n (omega arith) (omega arith)) (any_got r n lr ln g)

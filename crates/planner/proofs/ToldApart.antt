@@ -14,7 +14,7 @@ use Rattle.cluster_types.specs.declared.leaf.Op.TheVariants as op
 use Rattle.cluster_types.specs.declared.leaf.Role.TheVariants as role
 use Rattle.cluster_types.specs.declared.placement.Placed.{Placed}
 use Rattle.cluster_types.specs.Fields.{monitors}
-use Rattle.cluster_types.specs.Needed.{FirstSet, GetsStep, Migrates, Needed, fence, kept, monitor, probe, sent, step, taken_in}
+use Rattle.cluster_types.specs.Needed.{NeededBeforeMigration, GetsStep, Migrates, Needed, fence, kept, monitor, probe, sent, step, taken_in}
 use Rattle.cluster_types.specs.Plans.{IsPlaced}
 use Rattle.cluster_types.specs.Precedence.{is_migrating}
 use Rattle.cluster_types.specs.Tables.{Targets, targets_of}
@@ -68,7 +68,7 @@ module _ (c : Cluster) (es : List Event) (targets : Targets) (valid : IsValid c)
   of_step r n op.Demote g = refl
   of_step r n op.Monitor g = let e : false ≡ true = (is_step c es targets r n op.Monitor g).fitting in cc
 
-  of_first : (x : Action) → FirstSet c es targets x → back x ≡ x
+  of_first : (x : Action) → NeededBeforeMigration c es targets x → back x ≡ x
   of_first _ (fence n h e) = refl
   of_first _ (probe r n h l e) = refl
   of_first _ (step r n o h l g) = of_step r n o g

@@ -7,7 +7,7 @@ use Rattle.cluster_types.specs.declared.cluster.Cluster.{Cluster}
 use Rattle.cluster_types.specs.declared.journal.Event.{Event}
 use Rattle.cluster_types.specs.declared.leaf.Monitor.{Monitor as MonitorOf}
 use Rattle.cluster_types.specs.declared.placement.Target.{Target}
-use Rattle.cluster_types.specs.CellStates.{is_running}
+use Rattle.cluster_types.specs.CellStates.{is_monitor_running}
 use Rattle.cluster_types.specs.Fields.{monitors}
 use Rattle.cluster_types.specs.Needed.{is_monitor_for}
 use Rattle.cluster_types.specs.Unpacked.{running_bit, running_bits}
@@ -44,7 +44,7 @@ wanted_is target any runs (m ∷ ms) =
 
 module _ (c : Cluster) (es : List Event) (r n : ℕ) where
   abbrev pub runs : MonitorOf → Bool
-  runs m = is_running r n m.interval_ms es
+  runs m = is_monitor_running r n m.interval_ms es
 
   bit_more : (b : Bool) (p q rest : ℕ) → q ≡ 2 * p → (if b then p else 0) + q * rest ≡ p * (cond b 1 0 + 2 * rest)
   bit_more true p q rest e = rw e (omega arith)

@@ -16,7 +16,7 @@ use Rattle.cluster_types.specs.declared.leaf.Leaf.{Leaf}
 use Rattle.cluster_types.specs.declared.leaf.Monitor.{Monitor as MonitorOf}
 use Rattle.cluster_types.specs.declared.states.NodeState.{NodeState}
 use Rattle.cluster_types.specs.Fields.{monitors}
-use Rattle.cluster_types.specs.Needed.{IsDisturbed, Needed, fence, kept}
+use Rattle.cluster_types.specs.Needed.{GetsStepAnywhere, Needed, fence, kept}
 use Rattle.cluster_types.specs.NodeStates.{is_unclean_state}
 use Rattle.cluster_types.specs.Numbers.{AreNeeded}
 use Rattle.cluster_types.specs.Rights.{is_to_be_fenced, may_fence}
@@ -75,7 +75,7 @@ module _ (c : Cluster) (valid : IsValid c) where
           ap (λ fs. is_marked fs r) flags
           ∙ get_or-map-range_with_len (is_touched c need marked) 0 (length c.leaves) r r false lr (omega arith)
 
-      touched_known : (r : ℕ) → r < length c.leaves → is_marked touched r ≡ true ↔ IsDisturbed c es targets r
+      touched_known : (r : ℕ) → r < length c.leaves → is_marked touched r ≡ true ↔ GetsStepAnywhere c es targets r
       touched_known r lr = (
         λ h. (touched_is c es targets need marked told r lr).0 (sym (flag_known r lr) ∙ h),
         λ d. flag_known r lr ∙ (touched_is c es targets need marked told r lr).1 d,

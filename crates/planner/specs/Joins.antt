@@ -13,7 +13,7 @@ use Rattle.planner.specs.declared.precedence.sides.Side.{Side}
 use Rattle.planner.specs.declared.precedence.sides.Side.TheVariants as side
 use Rattle.cluster_types.specs.Choice.{is_separation}
 use Rattle.cluster_types.specs.Fields.{copies}
-use Rattle.cluster_types.specs.Precedence.{CellOf, as_earlier, as_later, both, cell_of, change_cell, gives_any, gives_role, inverse, is_one_cell, is_serialize, is_up, op_cell, probe_cell, takes_or_probes}
+use Rattle.cluster_types.specs.Precedence.{CellOf, as_earlier, as_later, both, cell_of, change_cell, gives_any, gives_role, inverse, is_one_cell, is_serialize, is_giving, op_cell, probe_cell, takes_or_probes}
 
 -- by leaf alone, and all together
 abbrev pub by_leaf : Option CellOf → Option CellOf
@@ -134,7 +134,7 @@ abbrev pub turned_join : Order → Join
 turned_join o = join (side.Earlier o.then_leaf (inverse o.then_op) o.local) (side.Later o.first (inverse o.first_op) o.local)
 
 abbrev pub inverse_join : Order → Join
-inverse_join o = if is_up o.first_op && is_up o.then_op then takers_join o else turned_join o
+inverse_join o = if is_giving o.first_op && is_giving o.then_op then takers_join o else turned_join o
 
 abbrev pub order_joins : Order → List Join
 order_joins o =

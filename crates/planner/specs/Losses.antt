@@ -29,6 +29,6 @@ module _ (c : Cluster) (es : List Event) (promotions : List Promotion) where
 abbrev pub online_before : Cluster → List Event → ℕ → List ℕ
 online_before c es upto = filter (λ n. is_online c n es) (range_with_len 0 upto)
 
--- what the loss of each node does that is online
-abbrev pub IsReport : Cluster → List Event → List Promotion → Report → Type 0
-IsReport c es promotions report = AreLosses c es promotions (online_before c es (length c.nodes)) report.losses
+-- what the loss of each online node does, in the order of the nodes
+abbrev pub AreAllLosses : Cluster → List Event → List Promotion → Report → Type 0
+AreAllLosses c es promotions report = AreLosses c es promotions (online_before c es (length c.nodes)) report.losses

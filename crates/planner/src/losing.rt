@@ -5,7 +5,7 @@ ghost use Rattle.cluster_types.specs.declared.journal.Event.TheVariants.{Lost};
 ghost use Rattle.cluster_types.specs.Unpacked.{states_of};
 ghost use Rattle.cluster_types.specs.Valid.{IsValid};
 ghost use Rattle.state_unpack.specs.Known.{Knows};
-ghost use Rattle.planner.specs.Losses.{IsLoss, IsReport};
+ghost use Rattle.planner.specs.Losses.{IsLoss, AreAllLosses};
 
 use cluster_types::{Cluster, Event, Journal, Loss, NoMemory, NodeId, NodeState, Report, States};
 use faults::with;
@@ -77,7 +77,7 @@ fn loss_of(
 pub fn survive(alloc: Global, cluster: &Cluster, journal: &Journal) -> Result<Report, NoMemory>
     requires valid { IsValid cluster.now }
     requires moment { journals.moment_of journal.now.events < 2 ^ 64 }
-    ensures { IfOk result (λ report. IsReport cluster.now journal.now.events journal.now.promotions report) }
+    ensures { IfOk result (λ report. AreAllLosses cluster.now journal.now.events journal.now.promotions report) }
 {
     let now = known(alloc, cluster, journal)?;
     let mut losses = Vec::new(alloc);

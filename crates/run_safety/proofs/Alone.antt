@@ -6,7 +6,7 @@ use Rattle.cluster_types.specs.declared.journal.Action.{Action}
 use Rattle.cluster_types.specs.declared.journal.Action.TheVariants.{Fence, Probe, Cell, MigrateTo, MigrateFrom}
 use Rattle.cluster_types.specs.declared.journal.Answer.{Answer}
 use Rattle.cluster_types.specs.declared.journal.Event.{Event}
-use Rattle.cluster_types.specs.May.{may}
+use Rattle.cluster_types.specs.May.{may_be_running}
 use Rattle.cluster_types.specs.Needed.{Migrates}
 use Rattle.cluster_types.specs.Safety.{MigratesAlone, MigrationsAlone}
 use Rattle.cluster_types.specs.Steps.{Transition, Begins, Goes, journal}
@@ -27,11 +27,11 @@ module _ (t : Transition) (targets : Targets) (carries : Carries t targets) (sou
       g : Migrates t.cluster t.planned_at targets r n to
       g = migrates_by_sent t.cluster t.planned_at targets r n to (carries.needed k (MigrateTo r n to) begins.action)
 
-      by : (b : Bool) → (m == to) ≡ b → may t.cluster r m (journal t since) ≡ false
+      by : (b : Bool) → (m == to) ≡ b → may_be_running t.cluster r m (journal t since) ≡ false
       by false e = on_no_third t targets carries sound valid r n to g since calm m low not_source (λ same. refuse (m == to) e (subst (λ z. (m == z) ≡ true) same (number_itself m)))
       by true e =
           let same = eqb-true m to e in
-          subst (λ z. may t.cluster r z (journal t since) ≡ false) (sym same) (not_there_yet t targets carries sound valid r n to g since k calm begins (subst (λ z. z < length t.cluster.nodes) same low))
+          subst (λ z. may_be_running t.cluster r z (journal t since) ≡ false) (sym same) (not_there_yet t targets carries sound valid r n to g since k calm begins (subst (λ z. z < length t.cluster.nodes) same low))
 
   migrates_alone : (since : List Event) (k : ℕ) (a : Action) → Calm t since → Begins t since k a → MigratesAlone t since a
   migrates_alone since k (MigrateTo r n to) calm begins = sending_alone since k r n to calm begins

@@ -19,7 +19,7 @@ use Rattle.cluster_types.specs.Lawful.{IsLawfulCell}
 use Rattle.cluster_types.specs.Needed.{Needed}
 use Rattle.cluster_types.specs.NodeStates.{is_online}
 use Rattle.cluster_types.specs.Precedence.{CellOf, cell_of, gives_any, gives_role, is_parted, parts_first, takes_or_probes}
-use Rattle.cluster_types.specs.Safety.{MeetsNot, NoForbiddenNeighbour, may_hold}
+use Rattle.cluster_types.specs.Safety.{MeetsNot, NoForbiddenNeighbour, may_have_role}
 use Rattle.cluster_types.specs.Steps.{Transition, Begins, Goes, journal}
 use Rattle.cluster_types.specs.Tables.{Targets, holds_role, is_promoted_target}
 use Rattle.cluster_types.specs.Valid.{IsValidColocation, MayHaveRole}
@@ -98,7 +98,7 @@ module _ (t : Transition) (targets : Targets) (carries : Carries t targets) (sou
         done : (x : Action) → Must t x a → Done t since x
         done x must = succeeded t targets carries since k x a begins must
 
-        meets_none : s < length t.cluster.leaves → holds_role targets s other at.node ≡ false → may_hold t.cluster s other at.node (journal t since) ≡ false
+        meets_none : s < length t.cluster.leaves → holds_role targets s other at.node ≡ false → may_have_role t.cluster s other at.node (journal t since) ≡ false
         meets_none h none =
             holds_not t targets carries sound orderly since calm s at.node h on.node online
             (done (Probe s at.node) (comes_first (Probe s at.node) (probes other)))
@@ -130,7 +130,7 @@ module _ (t : Transition) (targets : Targets) (carries : Carries t targets) (sou
           sound.lawful.cells at.leaf at.node on.leaf on.node on.free on.somewhere
 
       one : (o : Option CellOf) → gives_role col.dependent_role a ≡ o
-          → IfSome o (λ at. at.leaf ≡ col.dependent → may_hold t.cluster col.primary col.primary_role at.node (journal t since) ≡ false)
+          → IfSome o (λ at. at.leaf ≡ col.dependent → may_have_role t.cluster col.primary col.primary_role at.node (journal t since) ≡ false)
       one None e = tt
       one (Some at) e = λ same.
           meets_none since k a calm begins col.dependent_role col.primary_role col.dependent col.primary at e same col has
@@ -141,7 +141,7 @@ module _ (t : Transition) (targets : Targets) (carries : Carries t targets) (sou
           (has_target since k a calm begins col.dependent_role col.primary_role col.dependent col.primary at e same)))
 
       other : (o : Option CellOf) → gives_role col.primary_role a ≡ o
-          → IfSome o (λ at. at.leaf ≡ col.primary → may_hold t.cluster col.dependent col.dependent_role at.node (journal t since) ≡ false)
+          → IfSome o (λ at. at.leaf ≡ col.primary → may_have_role t.cluster col.dependent col.dependent_role at.node (journal t since) ≡ false)
       other None e = tt
       other (Some at) e = λ same.
           meets_none since k a calm begins col.primary_role col.dependent_role col.primary col.dependent at e same col has

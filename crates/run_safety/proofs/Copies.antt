@@ -17,8 +17,8 @@ use Rattle.cluster_types.specs.Choice.{cap_of, is_stopped_role}
 use Rattle.cluster_types.specs.Failures.{is_fail_stopped}
 use Rattle.cluster_types.specs.Fields.{copies, target_role_of}
 use Rattle.cluster_types.specs.Journals.{Orderly}
-use Rattle.cluster_types.specs.Lawful.{holder_count}
-use Rattle.cluster_types.specs.May.{may}
+use Rattle.cluster_types.specs.Lawful.{role_count}
+use Rattle.cluster_types.specs.May.{may_be_running}
 use Rattle.cluster_types.specs.Precedence.{CellOf, gives_any, op_cell}
 use Rattle.cluster_types.specs.Rights.{may_start}
 use Rattle.cluster_types.specs.Safety.{AddsNoCopy, NoSecondCopy}
@@ -55,10 +55,10 @@ module _ (t : Transition) (targets : Targets) (carries : Carries t targets) (sou
     pub is_able : may_start t.cluster t.planned_at ≡ true
     is_able = sound.may_start a (carries.needed k a begins.action) (rw gives refl)
 
-    pub targeted : (m : ℕ) → m < length t.cluster.nodes → Precedes at.leaf a m → may t.cluster at.leaf m (journal t since) ≡ true → is_somewhere (targets at.leaf m) ≡ true
+    pub targeted : (m : ℕ) → m < length t.cluster.nodes → Precedes at.leaf a m → may_be_running t.cluster at.leaf m (journal t since) ≡ true → is_somewhere (targets at.leaf m) ≡ true
     targeted m low first on =
         true_from_ne_false (is_somewhere (targets at.leaf m)) (λ nowhere.
-        both_ways (may t.cluster at.leaf m (journal t since))
+        both_ways (may_be_running t.cluster at.leaf m (journal t since))
         (elsewhere_off t targets carries at.leaf m nowhere since calm is_given.leaf low is_given.free orderly (inr is_able)
         (succeeded t targets carries since k (Probe at.leaf m) a begins first.probed)
         (succeeded t targets carries since k (Cell op.Stop at.leaf m 0 role.Started) a begins first.stopped)
@@ -69,13 +69,13 @@ module _ (t : Transition) (targets : Targets) (carries : Carries t targets) (sou
       where
         by : (few : Bool) → nat_lt (copies t.cluster at.leaf) (length t.cluster.nodes) ≡ few → AddsNoCopy t since at
         by true e =
-            let counted = others_fewer (λ m. may t.cluster at.leaf m (journal t since)) (λ m. is_somewhere (targets at.leaf m)) at.node (length t.cluster.nodes) is_given.node
+            let counted = others_fewer (λ m. may_be_running t.cluster at.leaf m (journal t since)) (λ m. is_somewhere (targets at.leaf m)) at.node (length t.cluster.nodes) is_given.node
             is_given.somewhere (λ m low other on. targeted m low (first e m) on) in
-            let capped : holder_count t.cluster t.planned_at targets at.leaf role.Started ≤ cap_of t.cluster t.planned_at (Place at.leaf) = sound.lawful.copies at.leaf is_given.leaf is_given.free in
+            let capped : role_count t.cluster t.planned_at targets at.leaf role.Started ≤ cap_of t.cluster t.planned_at (Place at.leaf) = sound.lawful.copies at.leaf is_given.leaf is_given.free in
             let within = cap_copies t.cluster t.planned_at at.leaf in
             omega (arith, counted, capped, within)
         by false e =
-            let counted = others_fewer (λ m. may t.cluster at.leaf m (journal t since)) (λ m. true) at.node (length t.cluster.nodes) is_given.node refl (λ m low other on. refl) in
+            let counted = others_fewer (λ m. may_be_running t.cluster at.leaf m (journal t since)) (λ m. true) at.node (length t.cluster.nodes) is_given.node refl (λ m low other on. refl) in
             let all = all_counted 0 (length t.cluster.nodes) in
             let enough : length t.cluster.nodes ≤ copies t.cluster at.leaf = grind (arith, nat_tests) in
             omega (arith, counted, all, enough)

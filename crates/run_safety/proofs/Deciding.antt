@@ -14,7 +14,7 @@ use Rattle.cluster_types.specs.declared.placement.Target.TheVariants as target
 use Rattle.cluster_types.specs.declared.states.CellState.{CellState}
 use Rattle.cluster_types.specs.declared.states.CellState.TheVariants as cell
 use Rattle.cluster_types.specs.Cells.{is_same_cell}
-use Rattle.cluster_types.specs.Needed.{Cycled, FirstSet, fence, probe, step, monitor, Needed, kept, sent, taken_in, GetsStep, runs, steps_of}
+use Rattle.cluster_types.specs.Needed.{Cycled, NeededBeforeMigration, fence, probe, step, monitor, Needed, kept, sent, taken_in, GetsStep, runs, steps_of}
 use Rattle.cluster_types.specs.Pins.{is_pinned}
 use Rattle.cluster_types.specs.Steps.{Transition}
 use Rattle.cluster_types.specs.Tables.{Targets}
@@ -79,7 +79,7 @@ module _ (t : Transition) (targets : Targets) (carries : Carries t targets) (r n
   stop_gets : (y : Action) → Needed t.cluster t.planned_at targets y → is_stop_of r n y ≡ true → Gets op.Stop
   stop_gets y (kept _ f others) h = of_first y f h
     where
-      of_first : (y : Action) → FirstSet t.cluster t.planned_at targets y → is_stop_of r n y ≡ true → Gets op.Stop
+      of_first : (y : Action) → NeededBeforeMigration t.cluster t.planned_at targets y → is_stop_of r n y ≡ true → Gets op.Stop
       of_first _ (fence m l e) h = absurd (let f : ⊥ = cc in f)
       of_first _ (probe s m k l e) h = absurd (let f : ⊥ = cc in f)
       of_first _ (step s m o k l g) h = step_gets s m o g h

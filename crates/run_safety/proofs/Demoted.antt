@@ -14,7 +14,7 @@ use Rattle.cluster_types.specs.declared.states.CellState.{CellState}
 use Rattle.cluster_types.specs.declared.states.CellState.TheVariants as cell
 use Rattle.cluster_types.specs.Fields.{is_promotable}
 use Rattle.cluster_types.specs.Journals.{Orderly, has_quorum}
-use Rattle.cluster_types.specs.May.{may, may_promoted, is_left_promoted}
+use Rattle.cluster_types.specs.May.{may_be_running, may_be_promoted, is_left_promoted}
 use Rattle.cluster_types.specs.Needed.{steps_of}
 use Rattle.cluster_types.specs.NodeStates.{is_online}
 use Rattle.cluster_types.specs.Pins.{is_pinned}
@@ -79,11 +79,11 @@ module _ (t : Transition) (targets : Targets) (carries : Carries t targets) (r n
       (λ es s was. down_waited t.cluster r n es s was) since calm down
 
   -- what may not be promoted of a promotable leaf isn't left promoted
-  pub not_left : (es : List Event) → is_promotable t.cluster r ≡ true → may_promoted t.cluster r n es ≡ false → IsDown es
+  pub not_left : (es : List Event) → is_promotable t.cluster r ≡ true → may_be_promoted t.cluster r n es ≡ false → IsDown es
   not_left es able h = other_fails (is_promotable t.cluster r) (is_left_promoted t.cluster r n es) able h
 
-  pub not_promoted : (es : List Event) → may t.cluster r n es ≡ false → may_promoted t.cluster r n es ≡ false
-  not_promoted es off = false_from_ne_true (may_promoted t.cluster r n es) (λ e. both_ways (may t.cluster r n es) off (may-promoted t.cluster r n es e))
+  pub not_promoted : (es : List Event) → may_be_running t.cluster r n es ≡ false → may_be_promoted t.cluster r n es ≡ false
+  not_promoted es off = false_from_ne_true (may_be_promoted t.cluster r n es) (λ e. both_ways (may_be_running t.cluster r n es) off (may-promoted t.cluster r n es e))
 
   module _ (since : List Event) (calm : Calm t since) (h : r < length t.cluster.leaves) (l : n < length t.cluster.nodes)
       (free : is_pinned t.cluster t.planned_at r ≡ false) (orderly : Orderly t.planned_at) (acts : Acts t n)

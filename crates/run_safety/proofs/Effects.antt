@@ -11,7 +11,7 @@ use Rattle.cluster_types.specs.declared.journal.Outcome.{Outcome}
 use Rattle.cluster_types.specs.declared.journal.Outcome.TheVariants.{Code, TimedOut, Gone}
 use Rattle.cluster_types.specs.declared.leaf.Op.TheVariants.{Start, Stop, Promote, Demote, Monitor}
 use Rattle.cluster_types.specs.declared.leaf.Role.TheVariants as role
-use Rattle.cluster_types.specs.May.{may, opens, closes}
+use Rattle.cluster_types.specs.May.{may_be_running, opens, closes}
 use Rattle.cluster_types.specs.Outcomes.{is_code_among}
 use Rattle.cluster_types.specs.Steps.{is_success}
 use Rattle.cluster_types.proofs.MayLaws.{may-last}
@@ -110,10 +110,10 @@ module _ (c : Cluster) (r n : ℕ) where
 
   -- So where it may run, event by event.
   abbrev pub IsOff : List Event → Type 0
-  IsOff es = may c r n es ≡ false
+  IsOff es = may_be_running c r n es ≡ false
 
   abbrev pub IsOn : List Event → Type 0
-  IsOn es = may c r n es ≡ true
+  IsOn es = may_be_running c r n es ≡ true
 
   pub off_begun : (es : List Event) (k : ℕ) (y : Action) → gives_run r n y ≡ false → IsOff es → IsOff (es ++ Begin k y ∷ [])
   off_begun es k y h off = may-last c r n (Begin k y) es ∙ still_shut _ _ (closes c r n (Begin k y)) (begins_open k y h) off

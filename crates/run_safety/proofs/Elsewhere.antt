@@ -14,7 +14,7 @@ use Rattle.cluster_types.specs.declared.placement.Target.TheVariants as target
 use Rattle.cluster_types.specs.declared.states.CellState.{CellState}
 use Rattle.cluster_types.specs.declared.states.CellState.TheVariants as cell
 use Rattle.cluster_types.specs.Journals.{Orderly, has_quorum}
-use Rattle.cluster_types.specs.May.{may}
+use Rattle.cluster_types.specs.May.{may_be_running}
 use Rattle.cluster_types.specs.Needed.{steps_of}
 use Rattle.cluster_types.specs.NodeStates.{is_online}
 use Rattle.cluster_types.specs.Pins.{is_pinned}
@@ -57,7 +57,7 @@ module _ (t : Transition) (targets : Targets) (carries : Carries t targets) (r n
       (inr (uncycled_nowhere t targets r n nowhere, stop_at (is_pinned t.cluster t.planned_at r) (state t r n) (targets r n) free running nowhere))
 
   abbrev IsOff : List Event → Type 0
-  IsOff es = may t.cluster r n es ≡ false
+  IsOff es = may_be_running t.cluster r n es ≡ false
 
   -- what takes the leaf away and has succeeded shuts the cell for good
   module _ (x : Action) (number : HasNumber t x) (takes : takes_run r n x ≡ true)

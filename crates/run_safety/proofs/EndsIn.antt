@@ -9,7 +9,7 @@ use Rattle.cluster_types.specs.declared.placement.Target.{Target}
 use Rattle.cluster_types.specs.declared.placement.Target.TheVariants as target
 use Rattle.cluster_types.specs.CellStates.{cell_state, is_blocked, is_left_open, last_outcome}
 use Rattle.cluster_types.specs.Journals.{Orderly, joined, last_sign}
-use Rattle.cluster_types.specs.May.{may, may_promoted}
+use Rattle.cluster_types.specs.May.{may_be_running, may_be_promoted}
 use Rattle.cluster_types.specs.NodeStates.{is_online}
 use Rattle.cluster_types.specs.Pins.{is_pinned}
 use Rattle.cluster_types.specs.Safety.{EndsInTargets, IsEager, state_of_target}
@@ -56,7 +56,7 @@ module _ (t : Transition) (targets : Targets) (carries : Carries t targets) (sou
       → is_pinned t.cluster t.planned_at r ≡ false → cell_state t.cluster r n (journal t since) ≡ state_of_target (targets r n)
   cell_as_targeted r n h l on free =
       as_target (targets r n) (is_online t.cluster n (journal t since)) (is_none (last_outcome t.cluster r n (journal t since))) (is_blocked t.cluster r n (journal t since))
-      (is_left_open t.cluster r n (journal t since)) (may_promoted t.cluster r n (journal t since)) (may t.cluster r n (journal t since))
+      (is_left_open t.cluster r n (journal t since)) (may_be_promoted t.cluster r n (journal t since)) (may_be_running t.cluster r n (journal t since))
       (online_still t since calm n on (there n on))
       (seen t since calm targets carries r n h l free on (done t targets carries sound orderly since calm all (Probe r n)))
       (unblocked t since calm targets carries r n h l free on)
@@ -73,7 +73,7 @@ module _ (t : Transition) (targets : Targets) (carries : Carries t targets) (sou
         let some = counted (succeeds_number t.cluster k) since (all k low high) in
         let few = succeeds_once t since k calm in omega (arith, some, few);
     may_run = λ r n h l on. runs_as_targeted t targets carries sound orderly since calm all r n h l on;
-    may_be_promoted = λ r n h l on. promoted_as_targeted t targets carries sound orderly since calm all r n h l on;
+    may_run_promoted = λ r n h l on. promoted_as_targeted t targets carries sound orderly since calm all r n h l on;
     cells = cell_as_targeted;
     fenced = λ n l due. fenced_offline t targets carries since calm n l due (done t targets carries sound orderly since calm all (Fence n));
   }

@@ -12,7 +12,7 @@ use Rattle.cluster_types.specs.declared.leaf.Role.TheVariants as role
 use Rattle.cluster_types.specs.declared.placement.Target.{Target}
 use Rattle.cluster_types.specs.declared.placement.Target.TheVariants as target
 use Rattle.cluster_types.specs.CellStates.{cell_state}
-use Rattle.cluster_types.specs.Needed.{FirstSet, fence, probe, step, monitor, Needed, kept, sent, taken_in, is_monitor_for}
+use Rattle.cluster_types.specs.Needed.{NeededBeforeMigration, fence, probe, step, monitor, Needed, kept, sent, taken_in, is_monitor_for}
 use Rattle.cluster_types.specs.Tables.{Targets, is_promoted_target, is_somewhere}
 use Rattle.cluster_types.proofs.TableCells.{promoted_somewhere}
 use Rattle.plan_laws.proofs.CellSteps.{IsStep, is_step, is_known, is_promoted_state}
@@ -31,7 +31,7 @@ monitored_promoted target.Started h = cc
 monitored_promoted target.Nowhere h = cc
 
 module _ (c : Cluster) (es : List Event) (targets : Targets) where
-  pub start_step : (r n : ℕ) → FirstSet c es targets (Cell op.Start r n 0 role.Started) → IsStep c es targets r n op.Start
+  pub start_step : (r n : ℕ) → NeededBeforeMigration c es targets (Cell op.Start r n 0 role.Started) → IsStep c es targets r n op.Start
   start_step r n (step _ _ _ h l g) = is_step c es targets r n op.Start g
 
   module _ (r n : ℕ) where
@@ -57,7 +57,7 @@ module _ (c : Cluster) (es : List Event) (targets : Targets) where
     step_gives s m op.Stop is h = absurd (let f : ⊥ = cc in f)
     step_gives s m op.Monitor is h = let no = is.fitting in absurd (let f : ⊥ = cc in f)
 
-    first_gives : (y : Action) → FirstSet c es targets y → gives_run r n y ≡ true → Gives y
+    first_gives : (y : Action) → NeededBeforeMigration c es targets y → gives_run r n y ≡ true → Gives y
     first_gives _ (fence m l e) h = absurd (let f : ⊥ = cc in f)
     first_gives _ (probe s m k l e) h = absurd (let f : ⊥ = cc in f)
     first_gives _ (step s m o k l g) h = step_gives s m o (is_step c es targets s m o g) h
@@ -84,7 +84,7 @@ module _ (c : Cluster) (es : List Event) (targets : Targets) where
     watch_promotes s m ms role.Started g h = cc
     watch_promotes s m ms role.Promoted g h = promoted_too s m (one_cell r n s m h) (monitored_promoted (targets s m) g)
 
-    first_promotes : (y : Action) → FirstSet c es targets y → gives_promoted r n y ≡ true → is_promoted_target (targets r n) ≡ true
+    first_promotes : (y : Action) → NeededBeforeMigration c es targets y → gives_promoted r n y ≡ true → is_promoted_target (targets r n) ≡ true
     first_promotes _ (fence m l e) h = cc
     first_promotes _ (probe s m k l e) h = cc
     first_promotes _ (step s m o k l g) h = step_promotes s m o (is_step c es targets s m o g) h

@@ -14,8 +14,8 @@ use Rattle.cluster_types.specs.declared.states.CellState.{CellState}
 use Rattle.cluster_types.specs.declared.states.CellState.TheVariants as cell
 use Rattle.cluster_types.specs.Choice.{cap_of}
 use Rattle.cluster_types.specs.Fields.{copies, is_cloned, is_promotable}
-use Rattle.cluster_types.specs.Lawful.{holder_count}
-use Rattle.cluster_types.specs.May.{may, is_left_promoted}
+use Rattle.cluster_types.specs.Lawful.{role_count}
+use Rattle.cluster_types.specs.May.{may_be_running, is_left_promoted}
 use Rattle.cluster_types.specs.Needed.{Migrates, sent}
 use Rattle.cluster_types.specs.Steps.{Transition, journal}
 use Rattle.cluster_types.specs.Tables.{Targets, is_somewhere}
@@ -50,7 +50,7 @@ module _ (t : Transition) (targets : Targets) (carries : Carries t targets) (sou
     one_target m low other =
         false_from_ne_true (is_somewhere (targets r m)) (λ e.
         let two = two_targets (λ i. is_somewhere (targets r i)) to m (length t.cluster.nodes) on_target.node low on_target.somewhere e other in
-        let capped : holder_count t.cluster t.planned_at targets r role.Started ≤ cap_of t.cluster t.planned_at (Place r) = sound.lawful.copies r on_target.leaf on_target.free in
+        let capped : role_count t.cluster t.planned_at targets r role.Started ≤ cap_of t.cluster t.planned_at (Place r) = sound.lawful.copies r on_target.leaf on_target.free in
         let within = cap_copies t.cluster t.planned_at r in
         let one = one_copy t.cluster r valid on_target.leaf g.uncloned in
         let f : ⊥ = omega (arith, two, capped, within, one) in f)
@@ -73,6 +73,6 @@ module _ (t : Transition) (targets : Targets) (carries : Carries t targets) (sou
         by cell.Off e = rw e refl
 
     -- it may run on no node but these two
-    pub on_no_third : (since : List Event) → Calm t since → (m : ℕ) → m < length t.cluster.nodes → m ≢ n → m ≢ to → may t.cluster r m (journal t since) ≡ false
+    pub on_no_third : (since : List Event) → Calm t since → (m : ℕ) → m < length t.cluster.nodes → m ≢ n → m ≢ to → may_be_running t.cluster r m (journal t since) ≡ false
     on_no_third since calm m low not_source not_target =
         stays_off t targets carries r m (one_target m low (ne_eqb m to not_target)) (never_promoted m) (g.nowhere_else m low not_source) since calm

@@ -13,10 +13,10 @@ use Rattle.cluster_types.specs.declared.states.CellState.TheVariants as cell
 use Rattle.cluster_types.specs.CellStates.{cell_state}
 use Rattle.cluster_types.specs.Fields.{is_promotable}
 use Rattle.cluster_types.specs.Journals.{Orderly}
-use Rattle.cluster_types.specs.May.{may, may_promoted, is_left_promoted}
+use Rattle.cluster_types.specs.May.{may_be_running, may_be_promoted, is_left_promoted}
 use Rattle.cluster_types.specs.NodeStates.{is_online}
 use Rattle.cluster_types.specs.Pins.{is_pinned, is_unprobed_state}
-use Rattle.cluster_types.specs.Safety.{may_hold}
+use Rattle.cluster_types.specs.Safety.{may_have_role}
 use Rattle.cluster_types.specs.Steps.{Transition, journal, has_succeeded}
 use Rattle.cluster_types.specs.Tables.{Targets, holds_role, is_promoted_target, is_somewhere}
 use Rattle.cluster_types.proofs.MayLaws.{may-promoted}
@@ -54,25 +54,25 @@ module _ (t : Transition) (targets : Targets) (carries : Carries t targets) (sou
     (fenced : Done t since (Fence n)) where
   -- of a pinned leaf without a target there: it may not run there, or is asked first
   abbrev Unasked : Type 0
-  Unasked = (is_unprobed_state (state t s n) ≡ true) ⊎ (may t.cluster s n t.planned_at ≡ false)
+  Unasked = (is_unprobed_state (state t s n) ≡ true) ⊎ (may_be_running t.cluster s n t.planned_at ≡ false)
 
   unasked : is_pinned t.cluster t.planned_at s ≡ true
       → nat_lt s (length t.cluster.leaves) && nat_lt n (length t.cluster.nodes) && is_pinned t.cluster t.planned_at s && is_online t.cluster n t.planned_at
-      && may t.cluster s n t.planned_at && not (is_unprobed_state (cell_state t.cluster s n t.planned_at)) ≡ false → Unasked
+      && may_be_running t.cluster s n t.planned_at && not (is_unprobed_state (cell_state t.cluster s n t.planned_at)) ≡ false → Unasked
   unasked pin none =
-      by (may t.cluster s n t.planned_at) refl (is_unprobed_state (state t s n)) refl
+      by (may_be_running t.cluster s n t.planned_at) refl (is_unprobed_state (state t s n)) refl
       (both_true (nat_lt s (length t.cluster.leaves)) (nat_lt n (length t.cluster.nodes)) (is_pinned t.cluster t.planned_at s) (is_online t.cluster n t.planned_at) _ _
       (grind (arith, nat_tests)) (grind (arith, nat_tests)) pin online none)
     where
-      by : (on : Bool) → may t.cluster s n t.planned_at ≡ on → (unprobed : Bool) → is_unprobed_state (state t s n) ≡ unprobed → on && not unprobed ≡ false → Unasked
+      by : (on : Bool) → may_be_running t.cluster s n t.planned_at ≡ on → (unprobed : Bool) → is_unprobed_state (state t s n) ≡ unprobed → on && not unprobed ≡ false → Unasked
       by false e u f g = inr e
       by true e true f g = inl f
       by true e false f g = absurd (let f : ⊥ = cc in f)
 
-  plain_state : may t.cluster s n t.planned_at ≡ false → is_promoted_state (state t s n) ≡ false
+  plain_state : may_be_running t.cluster s n t.planned_at ≡ false → is_promoted_state (state t s n) ≡ false
   plain_state off =
       false_from_ne_true (is_promoted_state (state t s n)) (λ e.
-      both_ways (may t.cluster s n t.planned_at) off
+      both_ways (may_be_running t.cluster s n t.planned_at) off
       (may-promoted t.cluster s n t.planned_at (says_of t.cluster s n t.planned_at cell.Promoted (promoted_state (state t s n) e)).4))
 
   unprobed_plain : is_unprobed_state (state t s n) ≡ true → is_promoted_state (state t s n) ≡ false
@@ -84,27 +84,27 @@ module _ (t : Transition) (targets : Targets) (carries : Carries t targets) (sou
       → has_succeeded t since (carries.numbered (Probe s n) (probe_needed t targets s n h l u)).number ≡ true
   probe_done u = probed (carries.numbered (Probe s n) (probe_needed t targets s n h l u))
 
-  pub runs_not : is_somewhere (targets s n) ≡ false → may t.cluster s n (journal t since) ≡ false
+  pub runs_not : is_somewhere (targets s n) ≡ false → may_be_running t.cluster s n (journal t since) ≡ false
   runs_not nowhere = by (is_pinned t.cluster t.planned_at s) refl
     where
-      by : (pinned : Bool) → is_pinned t.cluster t.planned_at s ≡ pinned → may t.cluster s n (journal t since) ≡ false
+      by : (pinned : Bool) → is_pinned t.cluster t.planned_at s ≡ pinned → may_be_running t.cluster s n (journal t since) ≡ false
       by false free = elsewhere_off t targets carries s n nowhere since calm h l free orderly (inl online) probed stopped fenced
-      by true pin = of (unasked pin (pinned_nowhere _ (may_promoted t.cluster s n t.planned_at) (targets s n) (sound.pinned s n h l pin) nowhere))
+      by true pin = of (unasked pin (pinned_nowhere _ (may_be_promoted t.cluster s n t.planned_at) (targets s n) (sound.pinned s n h l pin) nowhere))
         where
-          of : Unasked → may t.cluster s n (journal t since) ≡ false
+          of : Unasked → may_be_running t.cluster s n (journal t since) ≡ false
           of (inl u) =
               shut_by t targets carries s n nowhere (Probe s n) (carries.numbered (Probe s n) (probe_needed t targets s n h l u)) (own_cell s n)
               (λ p. refuse (is_promoted_state (state t s n)) (unprobed_plain u) p) since calm (probe_done u)
           of (inr off) = stays_off t targets carries s n nowhere (plain_state off) off since calm
 
   pub promoted_not : is_promoted_target (targets s n) ≡ false → Done t since (Cell op.Demote s n 0 role.Started)
-      → may_promoted t.cluster s n (journal t since) ≡ false
+      → may_be_promoted t.cluster s n (journal t since) ≡ false
   promoted_not untargeted demoted = able_or_not (is_promotable t.cluster s) refl
     where
       down : is_promotable t.cluster s ≡ true → (pinned : Bool) → is_pinned t.cluster t.planned_at s ≡ pinned → is_left_promoted t.cluster s n (journal t since) ≡ false
       down promotable false free =
           elsewhere_down t targets carries s n untargeted since calm h l free orderly (inl online) promotable probed stopped demoted fenced
-      down promotable true pin = of (pinned_down _ (may_promoted t.cluster s n t.planned_at) (targets s n) (sound.pinned s n h l pin) untargeted)
+      down promotable true pin = of (pinned_down _ (may_be_promoted t.cluster s n t.planned_at) (targets s n) (sound.pinned s n h l pin) untargeted)
         where
           asked : Unasked → is_left_promoted t.cluster s n (journal t since) ≡ false
           asked (inl u) =
@@ -112,17 +112,17 @@ module _ (t : Transition) (targets : Targets) (carries : Carries t targets) (sou
           asked (inr off) = stays_down t targets carries s n untargeted (not_left t targets carries s n untargeted t.planned_at promotable (not_promoted t targets carries s n untargeted t.planned_at off)) since calm
 
           of : (nat_lt s (length t.cluster.leaves) && nat_lt n (length t.cluster.nodes) && is_pinned t.cluster t.planned_at s && is_online t.cluster n t.planned_at
-              && may t.cluster s n t.planned_at && not (is_unprobed_state (cell_state t.cluster s n t.planned_at)) ≡ false)
-              ⊎ (may_promoted t.cluster s n t.planned_at ≡ false) → is_left_promoted t.cluster s n (journal t since) ≡ false
+              && may_be_running t.cluster s n t.planned_at && not (is_unprobed_state (cell_state t.cluster s n t.planned_at)) ≡ false)
+              ⊎ (may_be_promoted t.cluster s n t.planned_at ≡ false) → is_left_promoted t.cluster s n (journal t since) ≡ false
           of (inl none) = asked (unasked pin none)
           of (inr no_longer) = stays_down t targets carries s n untargeted (not_left t targets carries s n untargeted t.planned_at promotable no_longer) since calm
 
-      able_or_not : (b : Bool) → is_promotable t.cluster s ≡ b → may_promoted t.cluster s n (journal t since) ≡ false
+      able_or_not : (b : Bool) → is_promotable t.cluster s ≡ b → may_be_promoted t.cluster s n (journal t since) ≡ false
       able_or_not false e = rw e refl
       able_or_not true e = and_right (is_promotable t.cluster s) (is_left_promoted t.cluster s n (journal t since)) (down e (is_pinned t.cluster t.planned_at s) refl)
 
   -- what takes the role, or asks for it, comes first: then it may not be held
   pub holds_not : (held : Role) → holds_role targets s held n ≡ false → (held ≡ role.Promoted → Done t since (Cell op.Demote s n 0 role.Started))
-      → may_hold t.cluster s held n (journal t since) ≡ false
+      → may_have_role t.cluster s held n (journal t since) ≡ false
   holds_not role.Started none demoted = runs_not none
   holds_not role.Promoted none demoted = promoted_not none (demoted refl)

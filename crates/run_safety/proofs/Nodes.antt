@@ -13,7 +13,7 @@ use Rattle.cluster_types.specs.declared.states.NodeState.{NodeState}
 use Rattle.cluster_types.specs.declared.states.NodeState.TheVariants as node
 use Rattle.cluster_types.specs.CellStates.{cell_state}
 use Rattle.cluster_types.specs.Journals.{wants_node}
-use Rattle.cluster_types.specs.Needed.{FirstSet, fence, probe, step, monitor, Needed, kept, sent, taken_in}
+use Rattle.cluster_types.specs.Needed.{NeededBeforeMigration, fence, probe, step, monitor, Needed, kept, sent, taken_in}
 use Rattle.cluster_types.specs.NodeStates.{is_online, is_online_state, is_unclean_state, is_standby, node_state}
 use Rattle.cluster_types.specs.Pins.{is_unprobed_state}
 use Rattle.cluster_types.specs.Rights.{may_fence}
@@ -49,7 +49,7 @@ module _ (t : Transition) (targets : Targets) (carries : Carries t targets) (sou
   is_on_state cell.On = true
   is_on_state _ = false
 
-  first_online : (k n : ℕ) (a : Action) → FirstSet t.cluster t.planned_at targets a → wants_node n (Begin k a) ≡ true → is_online t.cluster n t.planned_at ≡ true
+  first_online : (k n : ℕ) (a : Action) → NeededBeforeMigration t.cluster t.planned_at targets a → wants_node n (Begin k a) ≡ true → is_online t.cluster n t.planned_at ≡ true
   first_online k n _ (fence m l e) h = cc
   first_online k n _ (probe r m g l e) h = at_node m n h (online_by is_unprobed_state refl r m e)
   first_online k n _ (step r m o g l gets) h = at_node m n h (step_online r m o (is_step t.cluster t.planned_at targets r m o gets))
@@ -68,7 +68,7 @@ module _ (t : Transition) (targets : Targets) (carries : Carries t targets) (sou
   pub fence_offline : (a : Action) (n : ℕ) → Needed t.cluster t.planned_at targets a → a ≡ Fence n → is_online t.cluster n t.planned_at ≡ false
   fence_offline a n (kept _ f others) e = by a f e
     where
-      by : (a : Action) → FirstSet t.cluster t.planned_at targets a → a ≡ Fence n → is_online t.cluster n t.planned_at ≡ false
+      by : (a : Action) → NeededBeforeMigration t.cluster t.planned_at targets a → a ≡ Fence n → is_online t.cluster n t.planned_at ≡ false
       by _ (fence m l h) e =
           let same : m ≡ n = cc in
           subst (λ z. is_online t.cluster z t.planned_at ≡ false) same (unclean_offline (node_state t.cluster m t.planned_at) (later (may_fence t.cluster t.planned_at) _ h))

@@ -13,7 +13,7 @@ use Rattle.cluster_types.specs.declared.leaf.OnFail.TheVariants as on_fail
 use Rattle.cluster_types.specs.declared.leaf.Op.TheVariants.{Start, Promote, Demote, Monitor}
 use Rattle.cluster_types.specs.Failures.{failures_in_force}
 use Rattle.cluster_types.specs.Journals.{NodeSign, joined, went_down, was_lost, was_fenced, Orderly, last_sign, sign_of, wants_node}
-use Rattle.cluster_types.specs.May.{may, opens, closes, opens_cell}
+use Rattle.cluster_types.specs.May.{may_be_running, opens, closes, opens_cell}
 use Rattle.cluster_types.specs.NodeStates.{is_online, is_online_state, is_unclean, is_to_blame, state_by, wants_fence}
 use Rattle.cluster_types.specs.Outcomes.{effective, is_code_among, is_fence, action_fail}
 use Rattle.cluster_types.proofs.MayLaws.{may-last}
@@ -93,15 +93,15 @@ signs_close c r n (Ended k (Fence node) o moment) s h out = by (node == n && is_
 signs_close c r n _ s h out = absurd (let f : ⊥ = cc in f)
 
 module _ (c : Cluster) (r n : ℕ) where
-  out_closed : (es : List Event) → FromEnd es → Orderly es → is_out c.properties.fencing (last_sign n es) ≡ true → may c r n es ≡ false
+  out_closed : (es : List Event) → FromEnd es → Orderly es → is_out c.properties.fencing (last_sign n es) ≡ true → may_be_running c r n es ≡ false
   out_closed _ empty orderly out = refl
   out_closed _ (one_more es e seen) orderly out = by (sign_of n e) refl (out_closed es seen (orderly_front es e orderly))
     where
-      by : (s : Option NodeSign) → sign_of n e ≡ s → (is_out c.properties.fencing (last_sign n es) ≡ true → may c r n es ≡ false) → may c r n (es ++ e ∷ []) ≡ false
+      by : (s : Option NodeSign) → sign_of n e ≡ s → (is_out c.properties.fencing (last_sign n es) ≡ true → may_be_running c r n es ≡ false) → may_be_running c r n (es ++ e ∷ []) ≡ false
       by None h before =
           let was : is_out c.properties.fencing (last_sign n es) ≡ true =
           subst (λ z. is_out c.properties.fencing z ≡ true) (still n es (e ∷ []) (more e [] h none)) out in
-          may-last c r n e es ∙ still_shut (opens c r n e) (may c r n es) (closes c r n e) (unopened was (opens_cell r n e) refl) (before was)
+          may-last c r n e es ∙ still_shut (opens c r n e) (may_be_running c r n es) (closes c r n e) (unopened was (opens_cell r n e) refl) (before was)
         where
           unopened : is_out c.properties.fencing (last_sign n es) ≡ true → (b : Bool) → opens_cell r n e ≡ b → opens c r n e ≡ false
           unopened was false g = rw g refl
@@ -116,7 +116,7 @@ module _ (c : Cluster) (r n : ℕ) where
           let closing = signs_close c r n e s h (subst (λ z. is_out c.properties.fencing z ≡ true) (signed n es e s h) out) in
           may-last c r n e es ∙ shut _ _ _ closing.opens_none closing.closes_it
 
-  pub out_closes : (es : List Event) → Orderly es → is_out c.properties.fencing (last_sign n es) ≡ true → may c r n es ≡ false
+  pub out_closes : (es : List Event) → Orderly es → is_out c.properties.fencing (last_sign n es) ≡ true → may_be_running c r n es ≡ false
   out_closes es orderly out = out_closed es (from_end es) orderly out
 
 -- A node that isn't online is unclean, and then the cluster has fencing, or it is out.

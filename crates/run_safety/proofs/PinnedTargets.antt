@@ -27,7 +27,7 @@ use Rattle.plan_laws.proofs.MadeInPlace.{held_on}
 use Rattle.plan_laws.proofs.MadeOnes.{Known, known}
 use Rattle.plan_laws.proofs.Ready.{ready_is_one}
 use Rattle.plan_laws.proofs.StayHeld.{has, holds_is}
-use Rattle.cluster_types.specs.Precedence.{role_by}
+use Rattle.cluster_types.specs.Precedence.{role_given}
 
 -- a target is known by the roles that it holds
 same_target : (t u : Target) → ((given : Role) → has given t ≡ has given u) → t ≡ u
@@ -44,7 +44,7 @@ same_target target.Promoted target.Started f = let e = f role.Promoted in absurd
 module _ (c : Cluster) (es : List Event) where
   -- only what isn't pinned is held back
   held_is_free : (table : Targets) (d : Decision) (n : ℕ) → Held c es table d n → is_pinned c es (leaf_of d) ≡ false
-  held_is_free table _ n (by_order o _ may_hold lacks) = subst (λ z. is_pinned c es z ≡ false) (sym (decided_leaf o.then_leaf (role_by o.then_op))) may_hold.managed
+  held_is_free table _ n (by_order o _ may_hold lacks) = subst (λ z. is_pinned c es z ≡ false) (sym (decided_leaf o.then_leaf (role_given o.then_op))) may_hold.managed
   held_is_free table _ n (by_colocation col _ may_hold lacks) =
       subst (λ z. is_pinned c es z ≡ false) (sym (decided_leaf col.dependent col.dependent_role)) may_hold.managed
   held_is_free table _ n (by_place r _ h held) = held_is_free table (Place r) n held

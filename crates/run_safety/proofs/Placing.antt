@@ -10,7 +10,7 @@ use Rattle.cluster_types.specs.declared.leaf.Op.{Op}
 use Rattle.cluster_types.specs.declared.leaf.Op.TheVariants as op
 use Rattle.cluster_types.specs.declared.leaf.Role.TheVariants as role
 use Rattle.cluster_types.specs.CellStates.{cell_state}
-use Rattle.cluster_types.specs.Needed.{FirstSet, fence, probe, step, monitor, Needed, kept, sent, taken_in}
+use Rattle.cluster_types.specs.Needed.{NeededBeforeMigration, fence, probe, step, monitor, Needed, kept, sent, taken_in}
 use Rattle.cluster_types.specs.Pins.{is_pinned}
 use Rattle.cluster_types.specs.Precedence.{CellOf, cell_of, gives_any}
 use Rattle.cluster_types.specs.Tables.{Targets, is_somewhere}
@@ -54,7 +54,7 @@ module _ (c : Cluster) (es : List Event) (targets : Targets) where
   step_given r n op.Demote at h l is e = absurd (let f : ⊥ = cc in f)
   step_given r n op.Monitor at h l is e = absurd (let f : ⊥ = cc in f)
 
-  first_given : (y : Action) (at : CellOf) → FirstSet c es targets y → gives_any y ≡ Some at → IsGiven at.leaf at.node
+  first_given : (y : Action) (at : CellOf) → NeededBeforeMigration c es targets y → gives_any y ≡ Some at → IsGiven at.leaf at.node
   first_given _ at (fence n l h) e = absurd (let f : ⊥ = cc in f)
   first_given _ at (probe r n h l u) e = absurd (let f : ⊥ = cc in f)
   first_given _ at (step r n o h l g) e = step_given r n o at h l (is_step c es targets r n o g) e

@@ -11,7 +11,7 @@ use Rattle.cluster_types.specs.declared.leaf.Role.TheVariants as role
 use Rattle.cluster_types.specs.declared.placement.Placed.{Placed}
 use Rattle.cluster_types.specs.Graphs.{GraphOf}
 use Rattle.plan_laws.proofs.NeededSteps.{started, promoted}
-use Rattle.cluster_types.specs.Needed.{FirstSet, fence, probe, step, monitor, Needed, kept, sent, taken_in}
+use Rattle.cluster_types.specs.Needed.{NeededBeforeMigration, fence, probe, step, monitor, Needed, kept, sent, taken_in}
 use Rattle.cluster_types.specs.Plans.{CarriesOut, IsPlaced, IsPlan, precedes_by_number, transition_of, transition_on}
 use Rattle.cluster_types.specs.Precedence.{gives_any, is_some_cell}
 use Rattle.cluster_types.specs.Rights.{may_start}
@@ -43,7 +43,7 @@ place_of actions k a e = by (k == 0) e
 
 -- what gives a role is needed only where the cluster may start
 module _ (c : Cluster) (es : List Event) (promotions : List Promotion) (placed : Placed) (is : IsPlaced c es promotions placed) where
-  first_starts : (y : Action) → FirstSet c es (targets_of placed.table) y → is_some_cell (gives_any y) ≡ true → may_start c es ≡ true
+  first_starts : (y : Action) → NeededBeforeMigration c es (targets_of placed.table) y → is_some_cell (gives_any y) ≡ true → may_start c es ≡ true
   first_starts _ (fence n l e) h = cc
   first_starts _ (probe r n g l e) h = cc
   first_starts _ (step r n op.Start g l gets) h = (gives c es promotions placed is r n op.Start role.Started g l started gets).may

@@ -16,7 +16,7 @@ use Rattle.cluster_types.specs.declared.states.CellState.{CellState}
 use Rattle.cluster_types.specs.declared.states.CellState.TheVariants as cell
 use Rattle.cluster_types.specs.Fields.{is_promotable}
 use Rattle.cluster_types.specs.Journals.{Orderly}
-use Rattle.cluster_types.specs.May.{may_promoted, is_left_promoted}
+use Rattle.cluster_types.specs.May.{may_be_promoted, is_left_promoted}
 use Rattle.cluster_types.specs.Needed.{Cycled, runs, steps_of, is_monitor_for}
 use Rattle.cluster_types.specs.NodeStates.{is_online}
 use Rattle.cluster_types.specs.Pins.{is_pinned, is_unprobed_state}
@@ -86,7 +86,7 @@ module _ (t : Transition) (targets : Targets) (carries : Carries t targets) (sou
         none y (is_a_step o same takes g) = absurd (never o g)
         none y (is_watch e) = unwatched e
 
-    left_up : may_promoted t.cluster r n t.planned_at ≡ true → IsUp t.planned_at
+    left_up : may_be_promoted t.cluster r n t.planned_at ≡ true → IsUp t.planned_at
     left_up e = later (is_promotable t.cluster r) _ e
 
     needs_promote : Gets t targets r n op.Promote → IsUp (journal t since)
@@ -132,20 +132,20 @@ module _ (t : Transition) (targets : Targets) (carries : Carries t targets) (sou
         by : (b : Bool) → is_pinned t.cluster t.planned_at r ≡ b → IsUp (journal t since)
         by false e = by_state e (state t r n) refl
         by true e =
-            let both = pinned_up _ (may_promoted t.cluster r n t.planned_at) (targets r n) (sound.pinned r n h l e) wanted in
+            let both = pinned_up _ (may_be_promoted t.cluster r n t.planned_at) (targets r n) (sound.pinned r n h l e) wanted in
             remains (left_up both.1) (not-true (is_unprobed_state (state t r n)) (later _ _ both.0))
             (λ o g. refuse (is_pinned t.cluster t.planned_at r) (is_step t.cluster t.planned_at targets r n o g).unpinned e)
 
-  pub promoted_as_targeted : may_promoted t.cluster r n (journal t since) ≡ is_promoted_target (targets r n)
+  pub promoted_as_targeted : may_be_promoted t.cluster r n (journal t since) ≡ is_promoted_target (targets r n)
   promoted_as_targeted = by (targets r n) refl
     where
-      unpromoted : is_promoted_target (targets r n) ≡ false → may_promoted t.cluster r n (journal t since) ≡ false
+      unpromoted : is_promoted_target (targets r n) ≡ false → may_be_promoted t.cluster r n (journal t since) ≡ false
       unpromoted e =
           promoted_not t targets carries sound orderly since calm r n h l online (done t targets carries sound orderly since calm all (Probe r n))
           (done t targets carries sound orderly since calm all (Cell op.Stop r n 0 role.Started)) (done t targets carries sound orderly since calm all (Fence n)) e
           (done t targets carries sound orderly since calm all (Cell op.Demote r n 0 role.Started))
 
-      by : (u : Target) → targets r n ≡ u → may_promoted t.cluster r n (journal t since) ≡ is_promoted_target (targets r n)
+      by : (u : Target) → targets r n ≡ u → may_be_promoted t.cluster r n (journal t since) ≡ is_promoted_target (targets r n)
       by target.Nowhere e = rw e (unpromoted (rw e refl))
       by target.Started e = rw e (unpromoted (rw e refl))
       by target.Promoted e = rw e (and_from (is_promotable t.cluster r) _ (sound.promotable r n h l (rw e refl)) (is_up e))

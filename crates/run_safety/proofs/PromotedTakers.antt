@@ -8,7 +8,7 @@ use Rattle.cluster_types.specs.declared.leaf.Op.{Op}
 use Rattle.cluster_types.specs.declared.leaf.Op.TheVariants as op
 use Rattle.cluster_types.specs.declared.leaf.Role.{Role}
 use Rattle.cluster_types.specs.declared.leaf.Role.TheVariants as role
-use Rattle.cluster_types.specs.Needed.{FirstSet, fence, probe, step, monitor, GetsStep, kept, sent, taken_in, is_monitor_for}
+use Rattle.cluster_types.specs.Needed.{NeededBeforeMigration, fence, probe, step, monitor, GetsStep, kept, sent, taken_in, is_monitor_for}
 use Rattle.cluster_types.specs.NodeStates.{is_online}
 use Rattle.cluster_types.specs.Pins.{is_unprobed_state}
 use Rattle.cluster_types.specs.Steps.{Transition, action_at}
@@ -58,7 +58,7 @@ module _ (t : Transition) (targets : Targets) (carries : Carries t targets) (sou
   takes_needs : (y : Action) → IsNeeded t targets y → takes_promoted r n y ≡ true → Takes t targets r n y
   takes_needs y (kept _ f others) e = of_first y f (kept y f others) e
     where
-      of_first : (y : Action) → FirstSet t.cluster t.planned_at targets y → IsNeeded t targets y → takes_promoted r n y ≡ true → Takes t targets r n y
+      of_first : (y : Action) → NeededBeforeMigration t.cluster t.planned_at targets y → IsNeeded t targets y → takes_promoted r n y ≡ true → Takes t targets r n y
       of_first _ (fence m k due) needs e =
           let off = fence_offline t targets carries sound (Fence m) m needs refl in
           refuse (is_online t.cluster n t.planned_at) (subst (λ z. is_online t.cluster z t.planned_at ≡ false) (eqb-true m n e) off) online

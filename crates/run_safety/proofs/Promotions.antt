@@ -15,8 +15,8 @@ use Rattle.cluster_types.specs.declared.placement.Decision.TheVariants.{Promote}
 use Rattle.cluster_types.specs.Choice.{cap_of, is_stopped_role, is_unpromoted_role}
 use Rattle.cluster_types.specs.Fields.{copies, is_promotable, promoted_copies, target_role_of}
 use Rattle.cluster_types.specs.Journals.{Orderly}
-use Rattle.cluster_types.specs.Lawful.{holder_count}
-use Rattle.cluster_types.specs.May.{may_promoted, is_left_promoted}
+use Rattle.cluster_types.specs.Lawful.{role_count}
+use Rattle.cluster_types.specs.May.{may_be_promoted, is_left_promoted}
 use Rattle.cluster_types.specs.Precedence.{op_cell}
 use Rattle.cluster_types.specs.Safety.{AddsNoPromoted, NoSecondPromotion}
 use Rattle.cluster_types.specs.Steps.{Transition, Begins, Goes, journal}
@@ -52,7 +52,7 @@ module _ (t : Transition) (targets : Targets) (carries : Carries t targets) (sou
     done : (x : Action) → Must t x (Cell op.Promote r n i held) → Done t since x
     done x must = succeeded t targets carries since k x (Cell op.Promote r n i held) begins must
 
-    targeted : (m : ℕ) → m < length t.cluster.nodes → may_promoted t.cluster r m (journal t since) ≡ true → is_promoted_target (targets r m) ≡ true
+    targeted : (m : ℕ) → m < length t.cluster.nodes → may_be_promoted t.cluster r m (journal t since) ≡ true → is_promoted_target (targets r m) ≡ true
     targeted m low up = true_from_ne_false (is_promoted_target (targets r m)) never
       where
         never : is_promoted_target (targets r m) ≡ false → ⊥
@@ -68,9 +68,9 @@ module _ (t : Transition) (targets : Targets) (carries : Carries t targets) (sou
 
     adds_no_promoted : AddsNoPromoted t since (record { leaf = r; node = n })
     adds_no_promoted =
-        let counted = others_fewer (λ m. may_promoted t.cluster r m (journal t since)) (λ m. is_promoted_target (targets r m)) n (length t.cluster.nodes) given_here.node
+        let counted = others_fewer (λ m. may_be_promoted t.cluster r m (journal t since)) (λ m. is_promoted_target (targets r m)) n (length t.cluster.nodes) given_here.node
         promoted_here (λ m low other up. targeted m low up) in
-        let capped : holder_count t.cluster t.planned_at targets r role.Promoted ≤ cap_of t.cluster t.planned_at (Promote r) = sound.lawful.promoted_copies r given_here.leaf given_here.free in
+        let capped : role_count t.cluster t.planned_at targets r role.Promoted ≤ cap_of t.cluster t.planned_at (Promote r) = sound.lawful.promoted_copies r given_here.leaf given_here.free in
         let within = cap_promoted t.cluster t.planned_at r in
         omega (arith, counted, capped, within)
 

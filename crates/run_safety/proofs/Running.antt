@@ -12,7 +12,7 @@ use Rattle.cluster_types.specs.declared.placement.Target.{Target}
 use Rattle.cluster_types.specs.declared.placement.Target.TheVariants as target
 use Rattle.cluster_types.specs.declared.states.CellState.{CellState}
 use Rattle.cluster_types.specs.declared.states.CellState.TheVariants as cell
-use Rattle.cluster_types.specs.May.{may, may_promoted}
+use Rattle.cluster_types.specs.May.{may_be_running, may_be_promoted}
 use Rattle.cluster_types.specs.Needed.{Cycled, runs, steps_of}
 use Rattle.cluster_types.specs.NodeStates.{is_online}
 use Rattle.cluster_types.specs.Pins.{is_pinned, is_unprobed_state}
@@ -77,16 +77,16 @@ module _ (t : Transition) (targets : Targets) (carries : Carries t targets) (sou
   pub data How : Type 0 where
     by_start : IsNeeded t targets (Cell op.Start r n 0 role.Started) → How
     by_taking : MigratesHere t targets carries r n → How
-    stays : may t.cluster r n t.planned_at ≡ true → is_unprobed_state (state t r n) ≡ false → (GetsStop t targets carries r n → ⊥)
+    stays : may_be_running t.cluster r n t.planned_at ≡ true → is_unprobed_state (state t r n) ≡ false → (GetsStop t targets carries r n → ⊥)
         → (is_pinned t.cluster t.planned_at r ≡ true) ⊎ (runs (state t r n) ≡ true) → How
 
-  not_both : MigratesHere t targets carries r n → may t.cluster r n t.planned_at ≡ true → {R : Type 0} → R
-  not_both here on = refuse (may t.cluster r n t.planned_at) (here.migrates.nowhere_else n l here.migrates.away) on
+  not_both : MigratesHere t targets carries r n → may_be_running t.cluster r n t.planned_at ≡ true → {R : Type 0} → R
+  not_both here on = refuse (may_be_running t.cluster r n t.planned_at) (here.migrates.nowhere_else n l here.migrates.elsewhere) on
 
   how_pinned : is_pinned t.cluster t.planned_at r ≡ true → How
   how_pinned pin =
-      let all = pinned_stays _ (may_promoted t.cluster r n t.planned_at) (targets r n) (sound.pinned r n h l pin) somewhere in
-      stays (later _ (may t.cluster r n t.planned_at) (sooner _ _ all)) (not-true (is_unprobed_state (state t r n)) (later _ _ all)) (λ g. refuse (is_pinned t.cluster t.planned_at r) (unpinned g) pin) (inl pin)
+      let all = pinned_stays _ (may_be_promoted t.cluster r n t.planned_at) (targets r n) (sound.pinned r n h l pin) somewhere in
+      stays (later _ (may_be_running t.cluster r n t.planned_at) (sooner _ _ all)) (not-true (is_unprobed_state (state t r n)) (later _ _ all)) (λ g. refuse (is_pinned t.cluster t.planned_at r) (unpinned g) pin) (inl pin)
     where
       unpinned : GetsStop t targets carries r n → is_pinned t.cluster t.planned_at r ≡ false
       unpinned g = (is_step t.cluster t.planned_at targets r n op.Stop g).unpinned
@@ -105,7 +105,7 @@ module _ (t : Transition) (targets : Targets) (carries : Carries t targets) (sou
     running : runs (state t r n) ≡ true → is_unprobed_state (state t r n) ≡ false → is_active (state t r n) ≡ true → How
     running runs_there probed may_be = by (cycled_or_not t targets carries r n h l free runs_there)
       where
-        on : may t.cluster r n t.planned_at ≡ true
+        on : may_be_running t.cluster r n t.planned_at ≡ true
         on = running_may t targets carries r n may_be
 
         start : IsNeeded t targets (Cell op.Start r n 0 role.Started) ⊎ MigratesHere t targets carries r n → How

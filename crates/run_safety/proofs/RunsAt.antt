@@ -9,7 +9,7 @@ use Rattle.cluster_types.specs.declared.journal.Event.TheVariants.{Ended}
 use Rattle.cluster_types.specs.declared.leaf.Op.TheVariants as op
 use Rattle.cluster_types.specs.declared.leaf.Role.TheVariants as role
 use Rattle.cluster_types.specs.Journals.{Orderly}
-use Rattle.cluster_types.specs.May.{may}
+use Rattle.cluster_types.specs.May.{may_be_running}
 use Rattle.cluster_types.specs.Needed.{Migrates, sent, taken_in}
 use Rattle.cluster_types.specs.NodeStates.{is_online}
 use Rattle.cluster_types.specs.Pins.{is_unprobed_state}
@@ -50,7 +50,7 @@ module _ (t : Transition) (targets : Targets) (carries : Carries t targets) (sou
 
   module _ (r n : ℕ) (h : r < length t.cluster.leaves) (l : n < length t.cluster.nodes) (online : is_online t.cluster n t.planned_at ≡ true) where
     abbrev IsOn : List Event → Type 0
-    IsOn es = may t.cluster r n es ≡ true
+    IsOn es = may_be_running t.cluster r n es ≡ true
 
     taken_or_not : (R : Type 0) (j : ℕ) (y : Action) → action_at t j ≡ Some y → (takes_run r n y ≡ false → R) → (Takes t targets carries r n y → R) → R
     taken_or_not R j y is still takes = by (takes_run r n y) refl
@@ -98,10 +98,10 @@ module _ (t : Transition) (targets : Targets) (carries : Carries t targets) (sou
         first : (R : Type 0) (j : ℕ) (y : Action) → action_at t j ≡ Some y → Takes t targets carries r n y → (action_at t j ≡ Some (Probe r n)) ⊎ R
         first R j y is (is_probe same u) = inl (subst (λ w. action_at t j ≡ Some w) same is)
         first R j y is (is_stop same g) =
-            refuse (may t.cluster r n t.planned_at) (here.migrates.nowhere_else n l here.migrates.away)
+            refuse (may_be_running t.cluster r n t.planned_at) (here.migrates.nowhere_else n l here.migrates.elsewhere)
             (running_may t targets carries r n (is_step t.cluster t.planned_at targets r n op.Stop g).fitting)
 
-    stayed : may t.cluster r n t.planned_at ≡ true → is_unprobed_state (state t r n) ≡ false → (GetsStop t targets carries r n → ⊥) → IsOn (journal t since)
+    stayed : may_be_running t.cluster r n t.planned_at ≡ true → is_unprobed_state (state t r n) ≡ false → (GetsStop t targets carries r n → ⊥) → IsOn (journal t since)
     stayed on probed never =
         unturned t IsOn (λ es j y is was. on_begun t.cluster r n es j y was)
         (λ es j m y o is ok was. on_done t.cluster r n es j m y o ok (taken_or_not (takes_run r n y ≡ false) j y is (λ e. e) (none y)) was)
@@ -119,9 +119,9 @@ module _ (t : Transition) (targets : Targets) (carries : Carries t targets) (sou
         by (by_taking here) = taken_there here
         by (stays on probed never why) = stayed on probed never
 
-    pub runs_as_targeted : may t.cluster r n (journal t since) ≡ is_somewhere (targets r n)
+    pub runs_as_targeted : may_be_running t.cluster r n (journal t since) ≡ is_somewhere (targets r n)
     runs_as_targeted = by (is_somewhere (targets r n)) refl
       where
-        by : (b : Bool) → is_somewhere (targets r n) ≡ b → may t.cluster r n (journal t since) ≡ is_somewhere (targets r n)
+        by : (b : Bool) → is_somewhere (targets r n) ≡ b → may_be_running t.cluster r n (journal t since) ≡ is_somewhere (targets r n)
         by true e = rw e (on_where_targeted e)
         by false e = rw e (runs_not t targets carries sound orderly since calm r n h l online (done (Probe r n)) (done (Cell op.Stop r n 0 role.Started)) (done (Fence n)) e)

@@ -11,7 +11,7 @@ use Rattle.cluster_types.specs.declared.leaf.Role.{Role}
 use Rattle.cluster_types.specs.declared.placement.Placed.{Placed}
 use Rattle.cluster_types.specs.Fields.{copies, is_cloned, promoted_copies}
 use Rattle.cluster_types.specs.Journals.{Orderly, in_flight_by_begin}
-use Rattle.cluster_types.specs.May.{may, may_promoted}
+use Rattle.cluster_types.specs.May.{may_be_running, may_be_promoted}
 use Rattle.cluster_types.specs.Safety.{EndsInTargets, IsSafe, MigrationsAlone, NoForbiddenNeighbour, NoSecondCopy, NoSecondPromotion, count_of_others}
 use Rattle.cluster_types.specs.Steps.{Transition, Goes, HasEnded, numbers_in_flight, has_aborted, journal}
 use Rattle.cluster_types.specs.Tables.{Targets, targets_of}
@@ -77,17 +77,17 @@ module _ (promotions : List Promotion) (placed : Placed) (t : Transition) (of : 
 
   -- where a leaf that has one copy is started, it may run on no other node; and where one of a single promoted copy is promoted, it may be so on none
   module _ (before after : List Event) (k r n i m : ℕ) (held : Role) (low : m < length t.cluster.nodes) (other : m ≢ n) where
-    pub is_only_copy : later ≡ before ++ Begin k (Cell op.Start r n i held) ∷ after → is_cloned t.cluster r ≡ false → may t.cluster r m (journal t before) ≡ false
+    pub is_only_copy : later ≡ before ++ Begin k (Cell op.Start r n i held) ∷ after → is_cloned t.cluster r ≡ false → may_be_running t.cluster r m (journal t before) ≡ false
     is_only_copy split plain =
         let own = begins-its_own t whole rest left later goes before after k (Cell op.Start r n i held) split in
         let within = bounds_of_cell t.cluster t.planned_at targets op.Start r n i held (carries.needed k (Cell op.Start r n i held) own) in
-        let few : count_of_others t.cluster n (λ m. may t.cluster r m (journal t before)) < copies t.cluster r = (adds_no_copy before after k (Cell op.Start r n i held) split).0 in
+        let few : count_of_others t.cluster n (λ m. may_be_running t.cluster r m (journal t before)) < copies t.cluster r = (adds_no_copy before after k (Cell op.Start r n i held) split).0 in
         let one = one_copy t.cluster r of.valid within.0 plain in
-        none_elsewhere (λ m. may t.cluster r m (journal t before)) n m (length t.cluster.nodes) (omega (arith, few, one)) low other
+        none_elsewhere (λ m. may_be_running t.cluster r m (journal t before)) n m (length t.cluster.nodes) (omega (arith, few, one)) low other
 
     pub is_only_promoted : later ≡ before ++ Begin k (Cell op.Promote r n i held) ∷ after → promoted_copies t.cluster r ≡ 1
-        → may_promoted t.cluster r m (journal t before) ≡ false
+        → may_be_promoted t.cluster r m (journal t before) ≡ false
     is_only_promoted split one =
-        let few : count_of_others t.cluster n (λ m. may_promoted t.cluster r m (journal t before)) < promoted_copies t.cluster r =
+        let few : count_of_others t.cluster n (λ m. may_be_promoted t.cluster r m (journal t before)) < promoted_copies t.cluster r =
         adds_no_promotion before after k (Cell op.Promote r n i held) split in
-        none_elsewhere (λ m. may_promoted t.cluster r m (journal t before)) n m (length t.cluster.nodes) (omega (arith, few, one)) low other
+        none_elsewhere (λ m. may_be_promoted t.cluster r m (journal t before)) n m (length t.cluster.nodes) (omega (arith, few, one)) low other

@@ -13,8 +13,8 @@ use Rattle.cluster_types.specs.declared.leaf.Op.TheVariants as op
 use Rattle.cluster_types.specs.declared.leaf.Role.TheVariants as role
 use Rattle.cluster_types.specs.declared.states.CellState.TheVariants as cell
 use Rattle.cluster_types.specs.Fields.{is_promotable}
-use Rattle.cluster_types.specs.May.{may}
-use Rattle.cluster_types.specs.Needed.{FirstSet, fence, probe, step, monitor, Migrates, Needed, kept, sent, taken_in}
+use Rattle.cluster_types.specs.May.{may_be_running}
+use Rattle.cluster_types.specs.Needed.{NeededBeforeMigration, fence, probe, step, monitor, Migrates, Needed, kept, sent, taken_in}
 use Rattle.cluster_types.specs.Steps.{Transition, Begins, action_at, has_begun, journal}
 use Rattle.cluster_types.specs.Tables.{Targets}
 use Rattle.cluster_types.specs.Valid.{IsValid}
@@ -66,7 +66,7 @@ module _ (t : Transition) (targets : Targets) (carries : Carries t targets) (sou
     step_comes s m op.Stop is needs other h = absurd (let f : ⊥ = cc in f)
     step_comes s m op.Monitor is needs other h = let none = is.fitting in absurd (let f : ⊥ = cc in f)
 
-    first_comes : (y : Action) → FirstSet t.cluster t.planned_at targets y → Needed t.cluster t.planned_at targets y → (y ≡ Cell op.Start r to 0 role.Started → ⊥)
+    first_comes : (y : Action) → NeededBeforeMigration t.cluster t.planned_at targets y → Needed t.cluster t.planned_at targets y → (y ≡ Cell op.Start r to 0 role.Started → ⊥)
         → gives_run r to y ≡ true → Comes y
     first_comes _ (fence m l e) needs other h = absurd (let f : ⊥ = cc in f)
     first_comes _ (probe s m k l e) needs other h = absurd (let f : ⊥ = cc in f)
@@ -86,7 +86,7 @@ module _ (t : Transition) (targets : Targets) (carries : Carries t targets) (sou
         by false e =
             let low = (bounds_of_first t.cluster t.planned_at targets op.Stop r from 0 role.Started other.stopped).1 in
             let on = (says_of t.cluster r from t.planned_at cell.On other.running).4 in
-            refuse (may t.cluster r from t.planned_at) (g.nowhere_else from low (λ same. refuse (from == n) e (subst (λ z. (from == z) ≡ true) same (number_itself from)))) on
+            refuse (may_be_running t.cluster r from t.planned_at) (g.nowhere_else from low (λ same. refuse (from == n) e (subst (λ z. (from == z) ≡ true) same (number_itself from)))) on
 
     comes : (y : Action) → Needed t.cluster t.planned_at targets y → gives_run r to y ≡ true → Comes y
     comes y (kept _ f others) h = first_comes y f (kept y f others) (others r n to g) h
@@ -128,7 +128,7 @@ module _ (t : Transition) (targets : Targets) (carries : Carries t targets) (sou
               later_too taking.number j (MigrateFrom r n to) y taking.is is must (later_too k taking.number (MigrateTo r n to) (MigrateFrom r n to) begins.action taking.is sends fresh)
 
       abbrev IsOff : List Event → Type 0
-      IsOff es = may t.cluster r to es ≡ false
+      IsOff es = may_be_running t.cluster r to es ≡ false
 
       abbrev late : ℕ → Bool
       late j = option_map_or (gives_run r to) (action_at t j) false
@@ -147,9 +147,9 @@ module _ (t : Transition) (targets : Targets) (carries : Carries t targets) (sou
           by None e h = absurd (let f : ⊥ = cc in f)
           by (Some y) e h = not_yet j y e h
 
-      pub not_there_yet : to < length t.cluster.nodes → may t.cluster r to (journal t since) ≡ false
+      pub not_there_yet : to < length t.cluster.nodes → may_be_running t.cluster r to (journal t since) ≡ false
       not_there_yet low =
           stays_kept t IsOff late
           (λ es j y is was. held_back (IsOff (es ++ Begin j y ∷ [])) j y is (λ e. off_begun t.cluster r to es j y e was))
           (λ es j m y o is ok was. held_back (IsOff (es ++ Ended j y o m ∷ [])) j y is (λ e. off_done t.cluster r to es j m y o ok e was))
-          (λ es s was. off_waited t.cluster r to es s was) since calm late_fresh (g.nowhere_else to low g.away)
+          (λ es s was. off_waited t.cluster r to es s was) since calm late_fresh (g.nowhere_else to low g.elsewhere)

@@ -6,7 +6,7 @@ use Rattle.cluster_types.specs.declared.journal.Answer.{Answer}
 use Rattle.cluster_types.specs.declared.journal.Event.{Event}
 use Rattle.cluster_types.specs.declared.journal.Promotion.{Promotion}
 use Rattle.cluster_types.specs.declared.run.RunLine.{RunLine}
-use Rattle.cluster_types.specs.Runs.{RunStanding, due, RunsOn, plans, goes, completes, aborts, answers, Runs, here, one_more, Closes, not_yet, complete, aborted, IsAsking, IsCutRun, IsRunSoFar, IsStoppedRun, IsWholeRun, journal_at}
+use Rattle.cluster_types.specs.Runs.{RunStanding, due, RunsOn, plans, goes, completes, aborts, answers, Runs, here, one_more, EndsByLine, not_yet, complete, aborted, IsAsking, IsCutRun, IsRunSoFar, IsStoppedRun, IsWholeRun, journal_at}
 use Rattle.cluster_types.specs.Sources.{Says}
 use Rattle.cluster_types.specs.Steps.{Transition, StepsOn, begins, takes, is_silent, IsWaiting}
 use Rattle.run_safety.specs.Followed.{AreAnswersTold, IsFront}
@@ -32,7 +32,7 @@ module _ (c : Cluster) (promotions : List Promotion) (whole : Bool) where
       → RunsOn c promotions whole middle behind more next left → Runs c promotions whole at rest (lines ++ more) next left
   runs_more at middle next rest behind left lines more runs step = runs_joined at middle next rest behind left lines more runs (runs_once middle next behind left more step)
 
-  closes_runs : (at later : RunStanding) (rest : Option (List Answer)) (lines : List RunLine) → Closes c promotions whole at lines later → Runs c promotions whole at rest lines later rest
+  closes_runs : (at later : RunStanding) (rest : Option (List Answer)) (lines : List RunLine) → EndsByLine c promotions whole at lines later → Runs c promotions whole at rest lines later rest
   closes_runs at _ rest _ (not_yet _) = here at rest
   closes_runs _ _ rest _ (complete k t since over h) = runs_once _ _ rest rest _ (completes k t since rest over h)
   closes_runs _ _ rest _ (aborted k t since over h) = runs_once _ _ rest rest _ (aborts k t since rest over h)

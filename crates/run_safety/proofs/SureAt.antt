@@ -14,8 +14,8 @@ use Rattle.cluster_types.specs.declared.states.CellState.TheVariants as cell
 use Rattle.cluster_types.specs.CellStates.{is_left_open}
 use Rattle.cluster_types.specs.Cells.{is_sent_to, is_same_cell}
 use Rattle.cluster_types.specs.Journals.{Orderly}
-use Rattle.cluster_types.specs.May.{may}
-use Rattle.cluster_types.specs.Needed.{FirstSet, fence, probe, step, monitor, Migrates, kept, sent, taken_in, runs}
+use Rattle.cluster_types.specs.May.{may_be_running}
+use Rattle.cluster_types.specs.Needed.{NeededBeforeMigration, fence, probe, step, monitor, Migrates, kept, sent, taken_in, runs}
 use Rattle.cluster_types.specs.NodeStates.{is_online}
 use Rattle.cluster_types.specs.Pins.{is_pinned}
 use Rattle.cluster_types.specs.Steps.{Transition, action_at, has_succeeded, journal}
@@ -49,11 +49,11 @@ module _ (t : Transition) (targets : Targets) (carries : Carries t targets) (sou
           let mine : Migrates t.cluster t.planned_at targets r n m =
           subst (λ z. Migrates t.cluster t.planned_at targets z n m) same.0 (subst (λ z. Migrates t.cluster t.planned_at targets s z m) same.1 g) in
           refuse (is_somewhere (targets r n))
-          (one_target t targets carries sound valid r n m mine n l (ne_eqb n m (λ e. mine.away (sym e)))) somewhere
+          (one_target t targets carries sound valid r n m mine n l (ne_eqb n m (λ e. mine.elsewhere (sym e)))) somewhere
   stays_here _ (taken_in s from m g) = refl
   stays_here y (kept _ f others) = of_first y f
     where
-      of_first : (y : Action) → FirstSet t.cluster t.planned_at targets y → is_sending_from r n y ≡ false
+      of_first : (y : Action) → NeededBeforeMigration t.cluster t.planned_at targets y → is_sending_from r n y ≡ false
       of_first _ (fence m l g) = refl
       of_first _ (probe s m k l g) = refl
       of_first _ (step s m o k l g) = refl
@@ -113,10 +113,10 @@ module _ (t : Transition) (targets : Targets) (carries : Carries t targets) (sou
   pub sure_there : is_left_open t.cluster r n (journal t since) ≡ false
   sure_there = by (how t targets carries sound r n h l online somewhere)
     where
-      was : may t.cluster r n t.planned_at ≡ true → (s : CellState) → state t r n ≡ s → runs s ≡ true → is_left_open t.cluster r n t.planned_at ≡ false
+      was : may_be_running t.cluster r n t.planned_at ≡ true → (s : CellState) → state t r n ≡ s → runs s ≡ true → is_left_open t.cluster r n t.planned_at ≡ false
       was on cell.On e g = (says_of t.cluster r n t.planned_at cell.On e).5
       was on cell.Promoted e g =
-          other_fails (may t.cluster r n t.planned_at) (is_left_open t.cluster r n t.planned_at) on (says_of t.cluster r n t.planned_at cell.Promoted e).3
+          other_fails (may_be_running t.cluster r n t.planned_at) (is_left_open t.cluster r n t.planned_at) on (says_of t.cluster r n t.planned_at cell.Promoted e).3
       was on cell.Off e g = cc
       was on cell.Away e g = cc
       was on cell.Unprobed e g = cc
@@ -128,5 +128,5 @@ module _ (t : Transition) (targets : Targets) (carries : Carries t targets) (sou
       by (by_taking here) = sure_of_taking here
       by (stays on probed never (inl pinned)) = refuse (is_pinned t.cluster t.planned_at r) free pinned
       by (stays on probed never (inr running)) =
-          sure_of_staying (λ here. refuse (may t.cluster r n t.planned_at) (here.migrates.nowhere_else n l here.migrates.away) on)
+          sure_of_staying (λ here. refuse (may_be_running t.cluster r n t.planned_at) (here.migrates.nowhere_else n l here.migrates.elsewhere) on)
           (was on (state t r n) refl running)

@@ -11,8 +11,8 @@ use Rattle.cluster_types.specs.declared.leaf.Role.TheVariants as role
 use Rattle.cluster_types.specs.declared.states.CellState.{CellState}
 use Rattle.cluster_types.specs.declared.states.CellState.TheVariants as cell
 use Rattle.cluster_types.specs.Cells.{is_sent_to}
-use Rattle.cluster_types.specs.May.{may}
-use Rattle.cluster_types.specs.Needed.{FirstSet, fence, probe, step, monitor, Migrates, kept, sent, taken_in, GetsStep}
+use Rattle.cluster_types.specs.May.{may_be_running}
+use Rattle.cluster_types.specs.Needed.{NeededBeforeMigration, fence, probe, step, monitor, Migrates, kept, sent, taken_in, GetsStep}
 use Rattle.cluster_types.specs.NodeStates.{is_online, node_state}
 use Rattle.cluster_types.specs.Pins.{is_unprobed_state}
 use Rattle.cluster_types.specs.Rights.{may_fence}
@@ -53,7 +53,7 @@ module _ (t : Transition) (targets : Targets) (carries : Carries t targets) (r n
   pub takes_needs : is_online t.cluster n t.planned_at ≡ true → (y : Action) → IsNeeded t targets y → takes_run r n y ≡ true → Takes y
   takes_needs online y (kept _ f others) h = of_first y f h
     where
-      of_first : (y : Action) → FirstSet t.cluster t.planned_at targets y → takes_run r n y ≡ true → Takes y
+      of_first : (y : Action) → NeededBeforeMigration t.cluster t.planned_at targets y → takes_run r n y ≡ true → Takes y
       of_first _ (fence m l due) h =
           let off : is_online t.cluster m t.planned_at ≡ false = unclean_offline (node_state t.cluster m t.planned_at) (later (may_fence t.cluster t.planned_at) _ due) in
           refuse (is_online t.cluster n t.planned_at) (subst (λ z. is_online t.cluster z t.planned_at ≡ false) (eqb-true m n h) off) online
@@ -69,10 +69,10 @@ module _ (t : Transition) (targets : Targets) (carries : Carries t targets) (r n
   takes_needs online _ (taken_in s from m g) h = absurd (let f : ⊥ = cc in f)
 
   -- what runs may run
-  pub running_may : is_active (state t r n) ≡ true → may t.cluster r n t.planned_at ≡ true
+  pub running_may : is_active (state t r n) ≡ true → may_be_running t.cluster r n t.planned_at ≡ true
   running_may h = by (state t r n) refl h
     where
-      by : (z : CellState) → state t r n ≡ z → is_active z ≡ true → may t.cluster r n t.planned_at ≡ true
+      by : (z : CellState) → state t r n ≡ z → is_active z ≡ true → may_be_running t.cluster r n t.planned_at ≡ true
       by cell.On e h = (says_of t.cluster r n t.planned_at cell.On e).4
       by cell.Promoted e h = may-promoted t.cluster r n t.planned_at (says_of t.cluster r n t.planned_at cell.Promoted e).4
       by cell.Failed e h = (says_of t.cluster r n t.planned_at cell.Failed e).3
@@ -89,7 +89,7 @@ module _ (t : Transition) (targets : Targets) (carries : Carries t targets) (r n
   pub migrates_here : (y : Action) → IsNeeded t targets y → is_sent_to r n y ≡ true → MigratesHere
   migrates_here y (kept _ f others) h = of_first y f h
     where
-      of_first : (y : Action) → FirstSet t.cluster t.planned_at targets y → is_sent_to r n y ≡ true → MigratesHere
+      of_first : (y : Action) → NeededBeforeMigration t.cluster t.planned_at targets y → is_sent_to r n y ≡ true → MigratesHere
       of_first _ (fence m l e) h = absurd (let f : ⊥ = cc in f)
       of_first _ (probe s m k l e) h = absurd (let f : ⊥ = cc in f)
       of_first _ (step s m o k l g) h = absurd (let f : ⊥ = cc in f)

@@ -10,7 +10,7 @@ ghost use Rattle.cluster_types.specs.declared.leaf.Op.TheVariants as op;
 ghost use Rattle.cluster_types.specs.declared.leaf.Role.{Role as RoleOf};
 ghost use Rattle.cluster_types.specs.declared.placement.Placed.{Placed as PlacedOf};
 ghost use Rattle.cluster_types.specs.Fields.{is_cloned, promoted_copies};
-ghost use Rattle.cluster_types.specs.May.{may, may_promoted};
+ghost use Rattle.cluster_types.specs.May.{may_be_running, may_be_promoted};
 ghost use Rattle.cluster_types.specs.Safety.{IsSafe, MigrationsAlone, NoForbiddenNeighbour, NoSecondCopy, NoSecondPromotion};
 ghost use Rattle.cluster_types.specs.Steps.{Goes, Transition, journal};
 ghost use Rattle.run_safety.specs.OfPlans.{IsOfPlan};
@@ -23,7 +23,7 @@ pub fn no_second_copy()
     ensures plain { (promotions : List PromotionOf) (placed : PlacedOf) (t : Transition) (whole : Bool) (rest left : Option (List AnswerOf)) (later : List EventOf)
         (before after : List EventOf) (k r n interval m : ℕ) (held : RoleOf) → IsOfPlan promotions placed t → Goes t whole [] rest later left
         → later ≡ before ++ event.Begin k (action.Cell op.Start r n interval held) ∷ after → is_cloned t.cluster r ≡ false
-        → m < length t.cluster.nodes → m ≢ n → may t.cluster r m (journal t before) ≡ false }
+        → m < length t.cluster.nodes → m ≢ n → may_be_running t.cluster r m (journal t before) ≡ false }
 {}
 
 /// No promoted copy too many: where a resource is promoted on a node, it may be promoted on fewer other nodes than it has promoted copies. One that has a
@@ -34,7 +34,7 @@ pub fn no_second_promotion()
     ensures single { (promotions : List PromotionOf) (placed : PlacedOf) (t : Transition) (whole : Bool) (rest left : Option (List AnswerOf)) (later : List EventOf)
         (before after : List EventOf) (k r n interval m : ℕ) (held : RoleOf) → IsOfPlan promotions placed t → Goes t whole [] rest later left
         → later ≡ before ++ event.Begin k (action.Cell op.Promote r n interval held) ∷ after → promoted_copies t.cluster r ≡ 1
-        → m < length t.cluster.nodes → m ≢ n → may_promoted t.cluster r m (journal t before) ≡ false }
+        → m < length t.cluster.nodes → m ≢ n → may_be_promoted t.cluster r m (journal t before) ≡ false }
 {}
 
 /// No forbidden neighbour: where a colocation of -INFINITY keeps two resources apart, the one is never given its role on a node where the other may still

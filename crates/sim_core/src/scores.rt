@@ -10,7 +10,7 @@ use crate::text_word::TextWord;
 use cluster_types::Placed;
 use faults::NoMemory;
 use input_reading::{Head, Input};
-use placement::{place, rows};
+use placement::placement_of;
 use state_unpack::{unpack, valid_clusters_have_few_monitors};
 use std::alloc::Global;
 use trace_text::score_text;
@@ -23,8 +23,7 @@ fn placed(alloc: Global, head: &Head) -> Result<Placed, NoMemory>
 {
     valid_clusters_have_few_monitors();
     let states = unpack(alloc, &head.cluster, &head.journal)?;
-    let scores = rows(alloc, &head.cluster, &states)?;
-    place(alloc, &head.cluster, &states, &scores)
+    placement_of(alloc, &head.cluster, &states)
 }
 
 /// The word `scores`.

@@ -16,7 +16,7 @@ use Rattle.std.proofs.Math.Bool.{or-true}
 use Rattle.cluster_types.specs.declared.journal.Action.{Action}
 use Rattle.cluster_types.specs.declared.journal.Event.{Event}
 use Rattle.cluster_types.specs.Answering.{applies_after, is_joined_sign, is_number_of, is_offline_state}
-use Rattle.cluster_types.specs.May.{may}
+use Rattle.cluster_types.specs.May.{may_be_running}
 use Rattle.cluster_types.specs.Precedence.{CellOf, op_cell}
 use Rattle.cluster_types.specs.Fields.{copies}
 use Rattle.cluster_types.specs.Safety.{AddsNoCopy, NoSecondCopy, count_of_others}
@@ -42,16 +42,16 @@ ends_apply c es w flight taken place k fate.Undone a at = flies flight place k a
 ends_apply c es w flight taken place k fate.TimedOut a at = flies flight place k a at
 
 module _ (t : Transition) (before : List Event) (w : World) (within : IsWorldWithin t.cluster (journal t before) w) where
-  found_may : (r m : ℕ) → is_there (found_at t.cluster w.cells r m) ≡ true → may t.cluster r m (journal t before) ≡ true
+  found_may : (r m : ℕ) → is_there (found_at t.cluster w.cells r m) ≡ true → may_be_running t.cluster r m (journal t before) ≡ true
   found_may r m h = on (is_cell t.cluster r m) refl h where
-    on : (b : Bool) → is_cell t.cluster r m ≡ b → is_there (found_at t.cluster w.cells r m) ≡ true → may t.cluster r m (journal t before) ≡ true
+    on : (b : Bool) → is_cell t.cluster r m ≡ b → is_there (found_at t.cluster w.cells r m) ≡ true → may_be_running t.cluster r m (journal t before) ≡ true
     on true e g = within.runs r m e (rw e at g)
     on false e g = let none = rw e at g in cc
 
   pub fewer : (at : CellOf) → AddsNoCopy t before at
       → count_of_others t.cluster at.node (λ m. is_there (found_at t.cluster w.cells at.leaf m)) < copies t.cluster at.leaf
   fewer at adds =
-      let less = count_more (λ m. not (m == at.node) && is_there (found_at t.cluster w.cells at.leaf m)) (λ m. not (m == at.node) && may t.cluster at.leaf m (journal t before))
+      let less = count_more (λ m. not (m == at.node) && is_there (found_at t.cluster w.cells at.leaf m)) (λ m. not (m == at.node) && may_be_running t.cluster at.leaf m (journal t before))
       (λ m h. let parts = and_parts (not (m == at.node)) (is_there (found_at t.cluster w.cells at.leaf m)) h in rw (parts.0, found_may at.leaf m parts.1) refl)
       (range_with_len 0 (length t.cluster.nodes)) in
       omega (arith, less, adds)

@@ -10,7 +10,7 @@ use Rattle.cluster_types.specs.declared.states.NodeState.TheVariants.{Online, Of
 use Rattle.cluster_types.specs.Answering.{is_joined_sign}
 use Rattle.cluster_types.specs.CellStates.{last_outcome}
 use Rattle.cluster_types.specs.Journals.{NodeSign, joined, went_down, was_lost, was_fenced, last_sign}
-use Rattle.cluster_types.specs.May.{may, may_promoted}
+use Rattle.cluster_types.specs.May.{may_be_running, may_be_promoted}
 use Rattle.cluster_types.specs.NodeStates.{state_by}
 use Rattle.cluster_types.proofs.TableCells.{same_place}
 use Rattle.simulated.specs.declared.real.Real.{Real}
@@ -111,7 +111,7 @@ something_heard (Some x) h = refl
 
 -- nothing comes up at first
 never_rising : (c : Cluster) (es : List Event) (r n : ℕ) → first_real c es r n ≡ real.Rising → ⊥
-never_rising c es r n = on (is_none (last_outcome c r n es)) (may_promoted c r n es) (may c r n es)
+never_rising c es r n = on (is_none (last_outcome c r n es)) (may_be_promoted c r n es) (may_be_running c r n es)
   where
     on : (unheard promoted runs : Bool)
         → (if unheard then real.Off else (if promoted then real.Promoted else (if runs then real.Started else real.Off))) ≡ real.Rising → ⊥

@@ -19,7 +19,7 @@ use Rattle.cluster_types.specs.Cells.{is_same_cell}
 use Rattle.cluster_types.specs.CellStates.{last_outcome}
 use Rattle.cluster_types.specs.Fields.{is_promotable}
 use Rattle.cluster_types.specs.Journals.{AreInFlightByNumber, joined, was_fenced, was_lost, is_on, last_sign, moment_of, sign_of}
-use Rattle.cluster_types.specs.May.{closes, closes_promoted, is_left_promoted, may, may_promoted, opens, opens_promoted}
+use Rattle.cluster_types.specs.May.{closes, closes_promoted, is_left_promoted, may_be_running, may_be_promoted, opens, opens_promoted}
 use Rattle.cluster_types.proofs.MayLaws.{may-last, may-promoted, promoted-last}
 use Rattle.cluster_types.proofs.LastSigns.{signed}
 use Rattle.simulated.specs.declared.real.Real.{Real}
@@ -74,19 +74,19 @@ found_first (p ∷ ps) (suc place) k a up at =
 
 module _ (c : Cluster) where
   module _ (es : List Event) (e : Event) where
-    runs_on : (r n : ℕ) (x y : Real) → (is_there x ≡ true → may c r n es ≡ true)
-        → (is_there y ≡ true → (opens c r n e ≡ true) ⊎ ((is_there x ≡ true) × (closes c r n e ≡ false))) → is_there y ≡ true → may c r n (es ++ e ∷ []) ≡ true
+    runs_on : (r n : ℕ) (x y : Real) → (is_there x ≡ true → may_be_running c r n es ≡ true)
+        → (is_there y ≡ true → (opens c r n e ≡ true) ⊎ ((is_there x ≡ true) × (closes c r n e ≡ false))) → is_there y ≡ true → may_be_running c r n (es ++ e ∷ []) ≡ true
     runs_on r n x y before stays h = on (stays h) where
-      on : (opens c r n e ≡ true) ⊎ ((is_there x ≡ true) × (closes c r n e ≡ false)) → may c r n (es ++ e ∷ []) ≡ true
+      on : (opens c r n e ≡ true) ⊎ ((is_there x ≡ true) × (closes c r n e ≡ false)) → may_be_running c r n (es ++ e ∷ []) ≡ true
       on (inl o) = may-last c r n e es ∙ rw o refl
       on (inr p) = may-last c r n e es ∙ rw (before p.0, p.1) (or-true (opens c r n e))
 
-    stays_promoted : (r n : ℕ) (x y : Real) → (is_really_promoted x ≡ true → may_promoted c r n es ≡ true)
+    stays_promoted : (r n : ℕ) (x y : Real) → (is_really_promoted x ≡ true → may_be_promoted c r n es ≡ true)
         → (is_really_promoted y ≡ true → ((is_promotable c r ≡ true) × (opens_promoted c r n e ≡ true)) ⊎ ((is_really_promoted x ≡ true) × (closes_promoted c r n e ≡ false)))
-        → is_really_promoted y ≡ true → may_promoted c r n (es ++ e ∷ []) ≡ true
+        → is_really_promoted y ≡ true → may_be_promoted c r n (es ++ e ∷ []) ≡ true
     stays_promoted r n x y before stays h = on (stays h) where
       on : ((is_promotable c r ≡ true) × (opens_promoted c r n e ≡ true)) ⊎ ((is_really_promoted x ≡ true) × (closes_promoted c r n e ≡ false))
-          → may_promoted c r n (es ++ e ∷ []) ≡ true
+          → may_be_promoted c r n (es ++ e ∷ []) ≡ true
       on (inl o) = rw (o.0, promoted-last c r n e es, o.1) refl
       on (inr p) =
           let parts = and_parts (is_promotable c r) (is_left_promoted c r n es) (before p.0) in
@@ -109,13 +109,13 @@ module _ (c : Cluster) where
   pub within_first : (es : List Event) → IsWorldWithin c es (first_world c es)
   within_first es = record {
     stands = λ n. refl;
-    runs = λ r n cell h. there r n (is_none (last_outcome c r n es)) (may_promoted c r n es) (may c r n es) refl refl h;
-    promoted = λ r n cell h. up r n (is_none (last_outcome c r n es)) (may_promoted c r n es) (may c r n es) h;
+    runs = λ r n cell h. there r n (is_none (last_outcome c r n es)) (may_be_promoted c r n es) (may_be_running c r n es) refl refl h;
+    promoted = λ r n cell h. up r n (is_none (last_outcome c r n es)) (may_be_promoted c r n es) (may_be_running c r n es) h;
     few = omega arith;
   }
     where
-      there : (r n : ℕ) (none promoted runs : Bool) → may_promoted c r n es ≡ promoted → may c r n es ≡ runs
-          → is_there (if none then real.Off else (if promoted then real.Promoted else (if runs then real.Started else real.Off))) ≡ true → may c r n es ≡ true
+      there : (r n : ℕ) (none promoted runs : Bool) → may_be_promoted c r n es ≡ promoted → may_be_running c r n es ≡ runs
+          → is_there (if none then real.Off else (if promoted then real.Promoted else (if runs then real.Started else real.Off))) ≡ true → may_be_running c r n es ≡ true
       there r n true promoted runs p m h = cc
       there r n false true runs p m h = may-promoted c r n es p
       there r n false false true p m h = m

@@ -9,7 +9,7 @@ use Rattle.cluster_types.specs.Answering.{added_by}
 use Rattle.cluster_types.specs.Journals.{AreInFlightByNumber, last_sign}
 use Rattle.cluster_types.specs.declared.leaf.Op.TheVariants as op
 use Rattle.cluster_types.specs.Fields.{copies}
-use Rattle.cluster_types.specs.May.{may, may_promoted}
+use Rattle.cluster_types.specs.May.{may_be_running, may_be_promoted}
 use Rattle.cluster_types.specs.Precedence.{CellOf, op_cell}
 use Rattle.cluster_types.specs.Safety.{AtEachBegin, count_of_others}
 use Rattle.cluster_types.specs.Steps.{Transition, journal}
@@ -38,8 +38,8 @@ pub data Lives (c : Cluster) (number : ℕ) (first : List Event) : List Event �
 -- and no more faults were given than may be
 pub record IsWorldWithin (c : Cluster) (es : List Event) (w : World) : Type 0 where
   pub stands : (n : ℕ) → w.nodes n ≡ standing_by c (last_sign n es)
-  pub runs : (r n : ℕ) → is_cell c r n ≡ true → is_there (w.cells r n) ≡ true → may c r n es ≡ true
-  pub promoted : (r n : ℕ) → is_cell c r n ≡ true → is_really_promoted (w.cells r n) ≡ true → may_promoted c r n es ≡ true
+  pub runs : (r n : ℕ) → is_cell c r n ≡ true → is_there (w.cells r n) ≡ true → may_be_running c r n es ≡ true
+  pub promoted : (r n : ℕ) → is_cell c r n ≡ true → is_really_promoted (w.cells r n) ≡ true → may_be_promoted c r n es ≡ true
   pub few : w.given ≤ most_faults
 
 -- where a start of a leaf begins on a node, the leaf really runs on fewer other nodes than it has copies. Of a plain resource there is none

@@ -11,7 +11,7 @@ use Rattle.cluster_types.specs.CellStates.{last_outcome}
 use Rattle.cluster_types.specs.ExitCodes.{success, not_running, running_promoted}
 use Rattle.cluster_types.specs.Fields.{is_promotable}
 use Rattle.cluster_types.specs.Journals.{NodeSign, joined, went_down, was_lost, was_fenced, last_sign}
-use Rattle.cluster_types.specs.May.{may, may_promoted}
+use Rattle.cluster_types.specs.May.{may_be_running, may_be_promoted}
 use Rattle.simulated.specs.declared.real.Real.{Real}
 use Rattle.simulated.specs.declared.real.Real.TheVariants as real
 use Rattle.simulated.specs.declared.real.Standing.{Standing}
@@ -70,8 +70,8 @@ standing_by c None = standing.Off
 abbrev pub first_real : Cluster → List Event → Cells
 first_real c es r n =
     if is_none (last_outcome c r n es) then real.Off
-    else (if may_promoted c r n es then real.Promoted
-    else (if may c r n es then real.Started
+    else (if may_be_promoted c r n es then real.Promoted
+    else (if may_be_running c r n es then real.Started
     else real.Off))
 
 -- a simulated cluster after a journal, of which nothing was drawn yet

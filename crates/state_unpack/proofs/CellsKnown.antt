@@ -12,7 +12,7 @@ use Rattle.cluster_types.specs.declared.journal.Event.{Event}
 use Rattle.cluster_types.specs.declared.leaf.Leaf.{Leaf}
 use Rattle.cluster_types.specs.declared.leaf.Monitor.{Monitor}
 use Rattle.cluster_types.specs.declared.states.NodeState.{NodeState}
-use Rattle.cluster_types.specs.CellStates.{last_outcome, cell_state, is_running}
+use Rattle.cluster_types.specs.CellStates.{last_outcome, cell_state, is_monitor_running}
 use Rattle.cluster_types.specs.Failures.{failures_in_force, counted, is_forgotten, has_code, fatal_codes, has_somewhere, is_fail_stopped, wants_stop, ended_at}
 use Rattle.cluster_types.specs.Fields.{failure_timeout, monitors}
 use Rattle.cluster_types.specs.Journals.{NodeSign, joined, went_down, was_lost, was_fenced, moment_of, last_sign}
@@ -69,7 +69,7 @@ module _ (c : Cluster) (r n : ℕ) (es : List Event) (few : length (monitors c r
   pub cell-is : (fatal online : Bool) → fatal ≡ has_somewhere (has_code fatal_codes) c r es → online ≡ is_online c n es
       → cell_from c r (moment_of es) fatal online (facts_of c r n es) ≡ cell_at c es r n
   cell-is fatal online f is =
-      rw (state-is online is, counted-is c r n es, f, bits-is (λ m. is_running r n m.interval_ms es) (monitors c r) few) refl
+      rw (state-is online is, counted-is c r n es, f, bits-is (λ m. is_monitor_running r n m.interval_ms es) (monitors c r) few) refl
 
 module _ (c : Cluster) (es : List Event) (cells : List Facts) (keeps : KeepsFacts c es cells) where
   -- failures of a leaf that count somewhere

@@ -8,7 +8,7 @@ use Rattle.cluster_types.specs.declared.cluster.Cluster.{Cluster}
 use Rattle.cluster_types.specs.declared.journal.Event.{Event}
 use Rattle.cluster_types.specs.declared.leaf.Monitor.{Monitor}
 use Rattle.cluster_types.specs.Cells.{is_reset}
-use Rattle.cluster_types.specs.CellStates.{last_outcome, begins_sending_to, ends_monitors, is_end_of_monitor, is_running}
+use Rattle.cluster_types.specs.CellStates.{last_outcome, begins_sending_to, ends_monitors, is_end_of_monitor, is_monitor_running}
 use Rattle.cluster_types.specs.Failures.{outcomes, is_outcome}
 use Rattle.cluster_types.specs.Fields.{monitors}
 use Rattle.cluster_types.proofs.MayLaws.{may-last, promoted-last}
@@ -45,7 +45,7 @@ module _ (c : Cluster) (r n : ℕ) (es : List Event) (e : Event) where
       ap (list_any (begins_sending_to r n)) (after_last-more (is_outcome c r n) es e o) ∙ any-more (begins_sending_to r n) (after_last (is_outcome c r n) es) e
 
   running-after : (ends : Bool) (interval : ℕ) → ends_monitors r n e ≡ ends
-      → is_running r n interval (es ++ e ∷ []) ≡ (not ends && (is_running r n interval es || is_end_of_monitor r n interval e))
+      → is_monitor_running r n interval (es ++ e ∷ []) ≡ (not ends && (is_monitor_running r n interval es || is_end_of_monitor r n interval e))
   running-after true interval h = ap (list_any (is_end_of_monitor r n interval)) (after_last-here (ends_monitors r n) es e h)
   running-after false interval h =
       ap (list_any (is_end_of_monitor r n interval)) (after_last-more (ends_monitors r n) es e h) ∙ any-more (is_end_of_monitor r n interval) (after_last (ends_monitors r n) es) e
@@ -54,8 +54,8 @@ module _ (c : Cluster) (r n : ℕ) (es : List Event) (e : Event) where
   runs-after i = split (slice_get (monitors c r) i) (ends_monitors r n e) refl
     where
       split : (found : Option Monitor) (ends : Bool) → ends_monitors r n e ≡ ends
-          → option_map_or (λ (m : Monitor). is_running r n m.interval_ms (es ++ e ∷ [])) found false
-          ≡ (not ends && (option_map_or (λ (m : Monitor). is_running r n m.interval_ms es) found false || option_map_or (λ (m : Monitor). is_end_of_monitor r n m.interval_ms e) found false))
+          → option_map_or (λ (m : Monitor). is_monitor_running r n m.interval_ms (es ++ e ∷ [])) found false
+          ≡ (not ends && (option_map_or (λ (m : Monitor). is_monitor_running r n m.interval_ms es) found false || option_map_or (λ (m : Monitor). is_end_of_monitor r n m.interval_ms e) found false))
       split None true h = refl
       split None false h = refl
       split (Some m) ends h = running-after ends m.interval_ms h

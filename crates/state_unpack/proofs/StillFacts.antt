@@ -7,7 +7,7 @@ use Rattle.cluster_types.specs.declared.journal.Event.{Event}
 use Rattle.cluster_types.specs.declared.leaf.Monitor.{Monitor}
 use Rattle.cluster_types.specs.CellStates.{is_end_of_monitor}
 use Rattle.cluster_types.specs.Fields.{monitors}
-use Rattle.cluster_types.specs.May.{may, is_left_promoted, opens, closes, opens_promoted, closes_promoted}
+use Rattle.cluster_types.specs.May.{may_be_running, is_left_promoted, opens, closes, opens_promoted, closes_promoted}
 use Rattle.state_unpack.specs.Facts.{facts_of, facts_after, monitor_runs, runs_after, answers}
 use Rattle.state_unpack.specs.Touching.{touches}
 use Rattle.state_unpack.proofs.MoreFacts.{facts-after}
@@ -55,7 +55,7 @@ module _ (c : Cluster) (r n : ℕ) (e : Event) (quiet : touches r n e ≡ false)
         runs_on 6 (monitor_runs c r n es 6),
         runs_on 7 (monitor_runs c r n es 7),
       )
-      (rw (or-false (facts_of c r n es).seen, or-false (facts_of c r n es).awaited, and-true (may c r n es), and-true (is_left_promoted c r n es)) refl)
+      (rw (or-false (facts_of c r n es).seen, or-false (facts_of c r n es).awaited, and-true (may_be_running c r n es), and-true (is_left_promoted c r n es)) refl)
 
   pub facts-stay : (es : List Event) → facts_of c r n (es ++ e ∷ []) ≡ facts_of c r n es
   facts-stay es = facts-after c r n es e ∙ still es

@@ -9,7 +9,7 @@ use Rattle.cluster_types.specs.declared.cluster.Cluster.{Cluster}
 use Rattle.cluster_types.specs.declared.journal.Event.{Event}
 use Rattle.cluster_types.specs.declared.leaf.Monitor.{Monitor}
 use Rattle.cluster_types.specs.Cells.{is_same_cell}
-use Rattle.cluster_types.specs.CellStates.{is_running}
+use Rattle.cluster_types.specs.CellStates.{is_monitor_running}
 use Rattle.cluster_types.specs.Fields.{monitors}
 use Rattle.cluster_types.proofs.TableCells.{ordered, same_place, get-at, same_cell}
 use Rattle.state_unpack.specs.declared.facts.Facts.{Facts}
@@ -135,7 +135,7 @@ nothing c r n = rw (stopped 0, stopped 1, stopped 2, stopped 3, stopped 4, stopp
     stopped : (i : ℕ) → monitor_runs c r n [] i ≡ false
     stopped i = split (slice_get (monitors c r) i)
       where
-        split : (found : Option Monitor) → option_map_or (λ (m : Monitor). is_running r n m.interval_ms []) found false ≡ false
+        split : (found : Option Monitor) → option_map_or (λ (m : Monitor). is_monitor_running r n m.interval_ms []) found false ≡ false
         split None = refl
         split (Some m) = refl
 

@@ -6,10 +6,10 @@ use Rattle.cluster_types.specs.declared.cluster.Cluster.{Cluster}
 use Rattle.cluster_types.specs.declared.journal.Event.{Event}
 use Rattle.cluster_types.specs.declared.leaf.Monitor.{Monitor}
 use Rattle.cluster_types.specs.Cells.{is_reset}
-use Rattle.cluster_types.specs.CellStates.{last_outcome, is_sent_away, begins_sending_to, ends_monitors, is_end_of_monitor, is_running}
+use Rattle.cluster_types.specs.CellStates.{last_outcome, is_sent_away, begins_sending_to, ends_monitors, is_end_of_monitor, is_monitor_running}
 use Rattle.cluster_types.specs.Failures.{failures_in_force, is_outcome, is_failure}
 use Rattle.cluster_types.specs.Fields.{monitors}
-use Rattle.cluster_types.specs.May.{may, is_left_promoted, opens, closes, opens_promoted, closes_promoted}
+use Rattle.cluster_types.specs.May.{may_be_running, is_left_promoted, opens, closes, opens_promoted, closes_promoted}
 use Rattle.state_unpack.specs.Tally.{no_tally, tally_of, tally_after}
 use Rattle.state_unpack.specs.declared.facts.Facts.{Facts}
 
@@ -19,7 +19,7 @@ leaves_open e = is_failure e || is_sent_away e
 
 -- the monitor of this index is running; none is where the leaf has none
 abbrev pub monitor_runs : Cluster → ℕ → ℕ → List Event → ℕ → Bool
-monitor_runs c r n es i = option_map_or (λ (m : Monitor). is_running r n m.interval_ms es) (slice_get (monitors c r) i) false
+monitor_runs c r n es i = option_map_or (λ (m : Monitor). is_monitor_running r n m.interval_ms es) (slice_get (monitors c r) i) false
 
 -- it answered
 abbrev pub answers : Cluster → ℕ → ℕ → Event → ℕ → Bool
@@ -39,7 +39,7 @@ facts_of c r n es = record {
   seen = is_some (last_outcome c r n es);
   left = option_map_or leaves_open (last_outcome c r n es) false;
   awaited = list_any (begins_sending_to r n) (after_last (is_outcome c r n) es);
-  may = may c r n es;
+  may = may_be_running c r n es;
   promoted = is_left_promoted c r n es;
   running = map (monitor_runs c r n es) (range_with_len 0 8);
 }

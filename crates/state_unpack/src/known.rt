@@ -140,7 +140,7 @@ impl<'c> Known<'c> {
     pub fn may(&self, leaf: LeafId, node: NodeId) -> bool
         requires leaf { leaf < length self.now.cluster.leaves }
         requires node { node < length self.now.cluster.nodes }
-        ensures { (c : ClusterOf) (es : List EventOf) → Knows c es self.now → result ≡ may.may c leaf node es }
+        ensures { (c : ClusterOf) (es : List EventOf) → Knows c es self.now → result ≡ may.may_be_running c leaf node es }
     {
         facts_or_none(self.cluster, self.cells.as_slice(), leaf, node).may
     }
@@ -149,7 +149,7 @@ impl<'c> Known<'c> {
     pub fn may_promoted(&self, leaf: LeafId, node: NodeId) -> bool
         requires leaf { leaf < length self.now.cluster.leaves }
         requires node { node < length self.now.cluster.nodes }
-        ensures { (c : ClusterOf) (es : List EventOf) → Knows c es self.now → result ≡ may.may_promoted c leaf node es }
+        ensures { (c : ClusterOf) (es : List EventOf) → Knows c es self.now → result ≡ may.may_be_promoted c leaf node es }
     {
         self.cluster.is_promotable(leaf)
             && facts_or_none(self.cluster, self.cells.as_slice(), leaf, node).promoted

@@ -14,7 +14,7 @@ use Rattle.cluster_types.specs.declared.leaf.Op.TheVariants as op
 use Rattle.cluster_types.specs.declared.leaf.Role.TheVariants as role
 use Rattle.cluster_types.specs.Answering.{role_of_interval}
 use Rattle.cluster_types.specs.Fields.{monitors}
-use Rattle.cluster_types.specs.Needed.{FirstSet, Migrates, Needed, fence, kept, monitor, probe, sent, step, taken_in}
+use Rattle.cluster_types.specs.Needed.{NeededBeforeMigration, Migrates, Needed, fence, kept, monitor, probe, sent, step, taken_in}
 use Rattle.cluster_types.specs.Tables.{Targets}
 use Rattle.cluster_types.specs.Valid.{IsValid}
 use Rattle.planner.proofs.ActionKinds.{AreApart}
@@ -60,7 +60,7 @@ module _ (c : Cluster) (valid : IsValid c) (fit : IntervalsFit c) where
           }
 
   module _ (es : List Event) (targets : Targets) where
-    first_fits : (a : Action) → FirstSet c es targets a → IsActionOf c a
+    first_fits : (a : Action) → NeededBeforeMigration c es targets a → IsActionOf c a
     first_fits _ (fence n l unclean) = l
     first_fits _ (probe r n h l unprobed) = record { leaf = h; node = l }
     first_fits _ (step r n op.Start h l gets) = (record { leaf = h; node = l }, refl, refl)

@@ -16,7 +16,7 @@ use Rattle.cluster_types.specs.declared.run.RunLine.{RunLine}
 use Rattle.cluster_types.specs.declared.run.RunLine.TheVariants as line
 use Rattle.cluster_types.specs.Answering.{is_joined_sign, is_number_of, is_offline_state, is_quiet_cell, monitor_action, most_from_outside, tells_news}
 use Rattle.cluster_types.specs.Journals.{last_sign, moment_of}
-use Rattle.cluster_types.specs.May.{may}
+use Rattle.cluster_types.specs.May.{may_be_running}
 use Rattle.cluster_types.specs.NodeStates.{is_online, node_state}
 use Rattle.cluster_types.specs.Outcomes.{is_bad, is_ignored}
 use Rattle.cluster_types.specs.Sources.{Says, told, used_up, untold}
@@ -110,7 +110,7 @@ module _ (t : Transition) (since : List Event) (few : length t.actions < 2 ^ 32)
   answer_fits (answer.Report n r interval code) h fits =
       let news = later (nat_lt (outside t since) most_from_outside) (tells_news t.cluster (journal t since) (in_flight_by_number t since) n r interval code) h in
       let front = first_three (nat_lt n (length t.cluster.nodes)) (nat_lt r (length t.cluster.leaves)) (nat_lt 0 interval) (is_online t.cluster n (journal t since))
-      (may t.cluster r n (journal t since)) (is_bad (monitor_action t.cluster r n interval) (Code code))
+      (may_be_running t.cluster r n (journal t since)) (is_bad (monitor_action t.cluster r n interval) (Code code))
       (not (is_ignored t.cluster (monitor_action t.cluster r n interval) (Code code))) (is_quiet_cell t.cluster (journal t since) (in_flight_by_number t since) r n) news in (
         record { leaf = ltb-true r (length t.cluster.leaves) front.1; node = ltb-true n (length t.cluster.nodes) front.0 },
         record { low = ltb-true 0 interval front.2; high = fits.0 },

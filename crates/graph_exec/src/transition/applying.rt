@@ -3,7 +3,7 @@
 ghost use Rattle.std.specs.Prelude.{◌≡◌, ◌<◌, ◌+◌, ◌^◌, ◌++◌, ◌&&◌, nat_lt, length};
 ghost use Rattle.cluster_types.specs.Answering as answering;
 ghost use Rattle.cluster_types.specs.Journals as journals;
-ghost use Rattle.cluster_types.specs.May.{may};
+ghost use Rattle.cluster_types.specs.May.{may_be_running};
 ghost use Rattle.cluster_types.specs.NodeStates.{is_online, node_state};
 ghost use Rattle.cluster_types.specs.Steps.{in_flight_by_number, journal, outside};
 ghost use Rattle.graph_exec.specs.Running.{going};
@@ -79,7 +79,7 @@ impl<'c> Course<'c> {
     /// Whether the cell is there, and the leaf may run on its node, which is online.
     fn may_report(&self, leaf: LeafId, node: NodeId) -> bool
         ensures { result ≡ (nat_lt node (length self.now.cluster.nodes) && nat_lt leaf (length self.now.cluster.leaves)
-            && is_online self.now.cluster node (journal (going self.now) self.now.since) && may self.now.cluster leaf node (journal (going self.now) self.now.since)) }
+            && is_online self.now.cluster node (journal (going self.now) self.now.since) && may_be_running self.now.cluster leaf node (journal (going self.now) self.now.since)) }
     {
         if !self.is_node(node) {
             return false;

@@ -35,7 +35,7 @@ module _ (c : Cluster) (states : States) (scores : ScoreTable) where
 
   abbrev pub compared_key : Decision → Key
   compared_key d = record {
-    rank = priority c (leaf_of d);
+    priority = priority c (leaf_of d);
     active = greatest_of (totals_where_by (is_active_by_cell c states d) d);
     usable = greatest_of (totals_where_by (is_usable_by c states) d);
   }

@@ -8,20 +8,20 @@ use Rattle.cluster_types.specs.declared.rules.Colocation.{Colocation}
 use Rattle.cluster_types.specs.declared.rules.Order.{Order}
 use Rattle.cluster_types.specs.Choice.{is_mandatory}
 use Rattle.cluster_types.specs.Pins.{is_pinned_in}
-use Rattle.cluster_types.specs.Precedence.{is_mandatory_order, is_up, role_by}
+use Rattle.cluster_types.specs.Precedence.{is_mandatory_order, is_giving, role_given}
 use Rattle.placement.specs.declared.held.dependencies.Dependency.{Dependency}
 
 -- the order may hold its then back: it is mandatory, and both its words give a role
 abbrev pub may_hold_back : Order → Bool
-may_hold_back o = is_mandatory_order o.kind && is_up o.first_op && is_up o.then_op
+may_hold_back o = is_mandatory_order o.kind && is_giving o.first_op && is_giving o.then_op
 
 -- the then may hold its role only where the first holds its own, in scope
 abbrev pub from_order : Order → Dependency
 from_order o = record {
   dependent = o.then_leaf;
-  dependent_role = role_by o.then_op;
+  dependent_role = role_given o.then_op;
   primary = o.first;
-  primary_role = role_by o.first_op;
+  primary_role = role_given o.first_op;
   local = o.local;
 }
 

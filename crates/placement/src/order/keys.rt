@@ -19,7 +19,7 @@ use std::marker::Model;
 /// The priority of the leaf, its greatest total where it is active, and its greatest total on a usable node (rule of this project).
 #[derive(Clone, Copy)]
 pub(crate) struct Key {
-    pub(crate) rank: Score,
+    pub(crate) priority: Score,
     pub(crate) active: Score,
     pub(crate) usable: Score,
 }
@@ -29,17 +29,17 @@ impl Model for Key {
 
     ghost Value = { KeyOf };
 
-    ghost view = { λ key. record { rank = key.rank; active = key.active; usable = key.usable } };
+    ghost view = { λ key. record { priority = key.priority; active = key.active; usable = key.usable } };
 
-    ghost inverse = { λ key. record { rank = key.rank; active = key.active; usable = key.usable } };
+    ghost inverse = { λ key. record { priority = key.priority; active = key.active; usable = key.usable } };
 }
 
 impl Key {
     pub(crate) fn is_less(self, other: Key) -> bool
         ensures { result ≡ decisions.is_less self other }
     {
-        self.rank < other.rank
-            || self.rank == other.rank
+        self.priority < other.priority
+            || self.priority == other.priority
                 && (self.active < other.active
                     || self.active == other.active && self.usable < other.usable)
     }
@@ -104,7 +104,7 @@ fn key_of(
     let nodes = cluster.nodes.len() as u32;
     let active = NodeSet::of(nodes, |node| is_active_at(cluster, states, decision, node));
     Key {
-        rank: cluster.priority(decision.leaf()),
+        priority: cluster.priority(decision.leaf()),
         active: greatest_among(scores, decision, nodes, &active),
         usable: greatest_among(scores, decision, nodes, usable),
     }

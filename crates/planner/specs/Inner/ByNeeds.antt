@@ -3,7 +3,7 @@ use Rattle.std.specs.Prelude.{ℕ, ◌&&◌, ◌||◌, Bool, true, false, if◌t
 use Rattle.std.specs.List.{range_with_len}
 use Rattle.cluster_types.specs.declared.rules.Order.{Order}
 use Rattle.cluster_types.specs.Needed.{has_disturbing}
-use Rattle.cluster_types.specs.Precedence.{role_by}
+use Rattle.cluster_types.specs.Precedence.{role_given}
 use Rattle.cluster_types.specs.Tables.{target_holds}
 use Rattle.cluster_types.specs.Terms.{is_active}
 use Rattle.planner.specs.Cycling.{MarkedCells}
@@ -19,7 +19,7 @@ is_disturbed_by_needs nodes needs marks o m =
 -- its then is marked on node n, where the first is disturbed on the nodes with a flag, and so somewhere or nowhere
 abbrev pub is_marked_on : ℕ → List CellNeed → Order → List Bool → Bool → ℕ → Bool
 is_marked_on nodes needs o flags somewhere n =
-    (need_in nodes needs o.then_leaf n).can_cycle && target_holds (need_in nodes needs o.then_leaf n).target (role_by o.then_op)
+    (need_in nodes needs o.then_leaf n).can_cycle && target_holds (need_in nodes needs o.then_leaf n).target (role_given o.then_op)
     && (if o.local then slice_index_or flags n false else somewhere)
 
 -- in how many cells the leaf is active

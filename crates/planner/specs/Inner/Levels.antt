@@ -8,7 +8,7 @@ use Rattle.cluster_types.specs.declared.placement.Target.TheVariants as target
 use Rattle.cluster_types.specs.declared.rules.Order.{Order}
 use Rattle.cluster_types.specs.declared.states.CellState.TheVariants as cell
 use Rattle.cluster_types.specs.CellStates.{cell_state}
-use Rattle.cluster_types.specs.May.{may}
+use Rattle.cluster_types.specs.May.{may_be_running}
 use Rattle.cluster_types.specs.Needed.{can_cycle, steps_of}
 use Rattle.cluster_types.specs.Numbers.{rank, step_of}
 use Rattle.cluster_types.specs.Pins.{is_pinned}
@@ -37,7 +37,7 @@ module _ (c : Cluster) (es : List Event) (targets : Targets) where
   abbrev pub need_at : ℕ → ℕ → CellNeed
   need_at r n = record {
     state = cell_state c r n es;
-    may = may c r n es;
+    may = may_be_running c r n es;
     running = running_bits c es r n;
     target = targets r n;
     pinned = is_pinned c es r;

@@ -4,7 +4,7 @@ ghost use Rattle.std.specs.Prelude.{◌≡◌, ◌≤◌, ◌<◌, ◌+◌, ◌*
 ghost use Rattle.std.specs.List.{list_any, range_with_len};
 ghost use Rattle.cluster_types.specs.declared.cluster.Cluster.{Cluster as ClusterOf};
 ghost use Rattle.cluster_types.specs.declared.journal.Event.{Event as EventOf};
-ghost use Rattle.cluster_types.specs.Precedence.{role_by};
+ghost use Rattle.cluster_types.specs.Precedence.{role_given};
 ghost use Rattle.cluster_types.specs.Tables.{Targets, target_holds};
 ghost use Rattle.loops.specs.FirstLoops.{OrdersSteps};
 ghost use Rattle.planner.specs.Cycling as cycling;
@@ -37,7 +37,7 @@ pub fn is_cycling(order: &Order) -> bool
 
 /// Whether the target is one of the role that the word gives.
 fn is_target_of(target: Target, word: Op) -> bool
-    ensures { result ≡ target_holds target (role_by word) }
+    ensures { result ≡ target_holds target (role_given word) }
 {
     target.holds(word.role_given())
 }

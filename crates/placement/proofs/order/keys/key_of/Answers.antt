@@ -22,4 +22,4 @@ returns c =
     let usable = c.greatest_among-2.ensures
     ∙ (ap (λ k. greatest_of (map f (filter (has c.args.usable.now) (range_with_len 0 k)))) c.len-nodes.ensures
     ∙ ap (λ ns. greatest_of (map f ns)) (filter-same (has c.args.usable.now) (is_usable_by cluster states) (length cluster.nodes) (λ n low. c.requires.usable n))) in
-    λ i. record { rank = rank i; active = active i; usable = usable i }
+    λ i. record { priority = rank i; active = active i; usable = usable i }
