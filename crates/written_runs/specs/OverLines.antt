@@ -15,10 +15,10 @@ use Rattle.cluster_types.specs.Answering.{added_by}
 use Rattle.cluster_types.specs.Choice.{is_separation}
 use Rattle.cluster_types.specs.Fields.{copies, promoted_copies}
 use Rattle.cluster_types.specs.Journals.{AreInFlightByNumber}
-use Rattle.cluster_types.specs.May.{may, may_promoted}
+use Rattle.cluster_types.specs.May.{may_be_promoted, may_be_running}
 use Rattle.cluster_types.specs.Precedence.{CellOf, gives_role, op_cell}
 use Rattle.cluster_types.specs.Runs.{RunStanding, due, Runs, journal_at}
-use Rattle.cluster_types.specs.Safety.{count_of_others, may_hold}
+use Rattle.cluster_types.specs.Safety.{count_of_others, may_have_role}
 
 -- after a journal some lines tell what happened, so that it is then this: a line `begin` tells that its action begins, and that of an answer what the answer
 -- adds, by what is in flight. The other lines tell of plans, and nothing that happened
@@ -43,15 +43,15 @@ module _ (c : Cluster) (first : List Event) where
 
   -- the leaf may run on fewer other nodes than it has copies. Of a plain resource: on none
   abbrev pub MayRunOnFewOthers : CellOf → List Event → Type 0
-  MayRunOnFewOthers at es = count_of_others c at.node (λ m. may c at.leaf m es) < copies c at.leaf
+  MayRunOnFewOthers at es = count_of_others c at.node (λ m. may_be_running c at.leaf m es) < copies c at.leaf
 
   -- it may be promoted on fewer other nodes than it has promoted copies
   abbrev pub MayBePromotedOnFewOthers : CellOf → List Event → Type 0
-  MayBePromotedOnFewOthers at es = count_of_others c at.node (λ m. may_promoted c at.leaf m es) < promoted_copies c at.leaf
+  MayBePromotedOnFewOthers at es = count_of_others c at.node (λ m. may_be_promoted c at.leaf m es) < promoted_copies c at.leaf
 
   -- where the action gives the one leaf its role on a node, the other may not hold its own there
   abbrev pub KeepsApart : Action → ℕ → Role → ℕ → Role → List Event → Type 0
-  KeepsApart a r r_role s s_role es = IfSome (gives_role r_role a) (λ at. at.leaf ≡ r → may_hold c s s_role at.node es ≡ false)
+  KeepsApart a r r_role s s_role es = IfSome (gives_role r_role a) (λ at. at.leaf ≡ r → may_have_role c s s_role at.node es ≡ false)
 
   -- what is promised before a line `begin` of an action
   pub record IsSafeBegin (before : List RunLine) (a : Action) : Type 0 where
