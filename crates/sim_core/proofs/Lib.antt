@@ -9,6 +9,7 @@ pub mod Beginnings
 pub mod SameComing
 pub mod LiveSays
 pub mod Promised
+pub mod SafeTexts
 pub mod Comments
 pub mod ReadsAgain
 -- An audit.

@@ -1,5 +1,5 @@
 -- Each front of the lines of a run tells the journal that the run has somewhere on its way.
-use Rattle.std.proofs.Common.{◌≡◌, Bool, Option, Some, None, List, [], ◌∷◌, ◌++◌, append-nil, refl, sym, ap, ◌∙◌, subst}
+use Rattle.std.proofs.Common.{◌≡◌, Bool, Option, List, [], ◌∷◌, ◌++◌, append-nil, refl, sym, ap, ◌∙◌, subst}
 use Rattle.std.specs.List.{AllByRecursion, flat_map}
 use Rattle.std.proofs.lemmas.Bool.{eq-eqb}
 use Rattle.lemmas.proofs.Members.{all_first}
@@ -14,7 +14,6 @@ use Rattle.cluster_types.specs.declared.run.RunLine.TheVariants as line
 use Rattle.cluster_types.specs.Answering.{added_by, is_number_of}
 use Rattle.cluster_types.specs.Journals.{in_flight_by_begin}
 use Rattle.cluster_types.specs.Runs.{RunStanding, due, amid, RunsOn, plans, goes, completes, aborts, answers, Runs, here, one_more, journal_at}
-use Rattle.cluster_types.specs.Sources.{Says, told as said_first, untold, used_up}
 use Rattle.cluster_types.specs.Steps.{Transition, StepsOn, begins, takes, is_silent, silent_code}
 use Rattle.cluster_types.specs.Tables.{targets_of}
 use Rattle.cluster_types.specs.Texts.{event_lines, target_lines}
@@ -164,27 +163,3 @@ on_the_way c promotions whole first rest idle at left lines before after runs is
       goes_on = found.goes_on;
       told = found.tells first (journal_at found.place) (told_run c promotions whole first rest idle found.place found.behind found.printed found.runs);
     }
-
--- answers that aren't told stay so
-pub stays_untold : (c : Cluster) (promotions : List Promotion) (whole : Bool) (at later : RunStanding) (rest left : Option (List Answer)) (lines : List RunLine) → rest ≡ None
-    → Runs c promotions whole at rest lines later left → left ≡ None
-stays_untold c promotions whole at _ rest _ _ none (here _ _) = none
-stays_untold c promotions whole at later rest left _ none (one_more _ next _ _ middle _ lines more step runs) =
-    stays_untold c promotions whole next later middle left more (one at next rest middle lines none step) runs
-  where
-    says : (said : Option Answer) (rest left : Option (List Answer)) → rest ≡ None → Says whole rest said left → left ≡ None
-    says _ _ _ e (said_first given others) = absurd (let f : ⊥ = cc in f)
-    says _ _ _ e (used_up over) = absurd (let f : ⊥ = cc in f)
-    says said _ _ e (untold _) = refl
-
-    step_says : (t : Transition) (since events : List Event) (rest left : Option (List Answer)) → rest ≡ None → StepsOn t whole since rest events left → left ≡ None
-    step_says t since _ rest _ e (begins _ k a begin) = e
-    step_says t since _ rest left e (takes _ _ given said taken) = says (Some given) rest left e said
-    step_says t since _ rest left e (is_silent _ _ k a said ends) = says None rest left e said
-
-    one : (at next : RunStanding) (rest left : Option (List Answer)) (lines : List RunLine) → rest ≡ None → RunsOn c promotions whole at rest lines next left → left ≡ None
-    one _ _ rest _ _ e (plans k es _ placed actions plan) = e
-    one _ _ rest left _ e (goes k t since events _ _ step) = step_says t since events rest left e step
-    one _ _ rest _ _ e (completes k t since _ over unaborted) = e
-    one _ _ rest _ _ e (aborts k t since _ over aborted) = e
-    one _ _ rest left _ e (answers k es _ _ given said applies) = says (Some given) rest left e said
