@@ -14,7 +14,7 @@ use Rattle.cluster_types.specs.declared.run.RunLine.TheVariants as line
 use Rattle.cluster_types.specs.Answering.{added_by, is_number_of}
 use Rattle.cluster_types.specs.Journals.{in_flight_by_begin}
 use Rattle.cluster_types.specs.Runs.{RunStanding, due, amid, RunsOn, plans, goes, completes, aborts, answers, Runs, here, one_more, journal_at}
-use Rattle.cluster_types.specs.Steps.{Transition, StepsOn, begins, takes, is_silent, silent_code}
+use Rattle.cluster_types.specs.Steps.{StepsOn, begins, takes, is_silent, silent_code}
 use Rattle.cluster_types.specs.Tables.{targets_of}
 use Rattle.cluster_types.specs.Texts.{event_lines, target_lines}
 use Rattle.run_safety.proofs.InFlight.{among_flying}
