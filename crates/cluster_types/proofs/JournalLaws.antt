@@ -10,7 +10,7 @@ use Rattle.cluster_types.specs.declared.journal.Event.{Event}
 use Rattle.cluster_types.specs.declared.journal.Event.TheVariants.{Up, Down, Lost, Quorum, Wait, Cleanup, Begin, Ended}
 use Rattle.cluster_types.proofs.Booleans.{clash}
 use Rattle.cluster_types.proofs.StepLaws.{begins_nothing}
-use Rattle.cluster_types.specs.Journals.{NodeWord, online, offline, unclean, unsaid, NodeSign, joined, in_flight_by_begin, sign_of, last_sign, wants_node, Orderly, is_reported, leaving, first_events}
+use Rattle.cluster_types.specs.Journals.{NodeWord, online, offline, unclean, unsaid, NodeSign, joined, in_flight_by_begin, sign_of, last_sign, wants_node, Orderly, is_history_event, leaving, first_events}
 
 -- events that begin nothing leave nothing in flight
 pub nothing_begun : (es : List Event) → list_all begins_nothing es ≡ true → in_flight_by_begin es ≡ []
@@ -49,15 +49,15 @@ module _ (p : Event → Bool) (up : (n : ℕ) → p (Up n) ≡ true) (down : (n 
   leaves_pass c n (word ∷ words) =
       all_joined p (leaving c (n, word)) (flat_map (leaving c) (enumerate_from (n + 1) words)) (leaving_passes c n word) (leaves_pass c (n + 1) words)
 
-reports_begin_nothing : (nodes : ℕ) (es : List Event) → list_all (is_reported nodes) es ≡ true → list_all begins_nothing es ≡ true
+reports_begin_nothing : (nodes : ℕ) (es : List Event) → list_all (is_history_event nodes) es ≡ true → list_all begins_nothing es ≡ true
 reports_begin_nothing nodes [] h = refl
-reports_begin_nothing nodes (Ended k a o m ∷ es) h = reports_begin_nothing nodes es (later (is_reported nodes (Ended k a o m)) _ h)
-reports_begin_nothing nodes (Cleanup r n ∷ es) h = reports_begin_nothing nodes es (later (is_reported nodes (Cleanup r n)) _ h)
+reports_begin_nothing nodes (Ended k a o m ∷ es) h = reports_begin_nothing nodes es (later (is_history_event nodes (Ended k a o m)) _ h)
+reports_begin_nothing nodes (Cleanup r n ∷ es) h = reports_begin_nothing nodes es (later (is_history_event nodes (Cleanup r n)) _ h)
 reports_begin_nothing nodes (e ∷ es) h = cc
 
 -- the first journal has nothing in flight
 pub nothing-in-flight : (c : Cluster) (history : List Event) (words : List NodeWord) (quorum : Bool) (now : ℕ)
-    → list_all (is_reported (length c.nodes)) history ≡ true → in_flight_by_begin (first_events c history words quorum now) ≡ []
+    → list_all (is_history_event (length c.nodes)) history ≡ true → in_flight_by_begin (first_events c history words quorum now) ≡ []
 nothing-in-flight c history words quorum now h =
     let joins = map Up (range_with_len 0 (length c.nodes)) in
     let leaves = flat_map (leaving c) (enumerate_from 0 words) in
@@ -93,13 +93,13 @@ joined_of_all : (n nodes : ℕ) → n < nodes → filter_map (sign_of n) (map Up
 joined_of_all n nodes h = joined_among n 0 nodes (grind arith) (grind arith)
 
 -- what a status tells shows no sign of a node, and wants only nodes of the cluster
-no_sign : (n nodes : ℕ) (e : Event) → is_reported nodes e ≡ true → sign_of n e ≡ None
+no_sign : (n nodes : ℕ) (e : Event) → is_history_event nodes e ≡ true → sign_of n e ≡ None
 no_sign n nodes (Ended k (Probe leaf node) o moment) h = refl
 no_sign n nodes (Ended k (Cell op leaf node interval role) o moment) h = refl
 no_sign n nodes (Cleanup leaf node) h = refl
 no_sign n nodes _ h = cc
 
-node_known : (n nodes : ℕ) (e : Event) → is_reported nodes e ≡ true → wants_node n e ≡ true → n < nodes
+node_known : (n nodes : ℕ) (e : Event) → is_history_event nodes e ≡ true → wants_node n e ≡ true → n < nodes
 node_known n nodes (Ended k (Probe leaf node) o moment) h w = grind arith
 node_known n nodes (Ended k (Cell op leaf node interval role) o moment) h w = grind arith
 node_known n nodes _ h w = cc
@@ -126,29 +126,29 @@ module _ (n : ℕ) (after : List Event) (e : Event) (w : wants_node n e ≡ true
       past u v xs ys bs (later (not (wants_node n x)) _ h) tail (λ c p r. let g : b ∷ bs ≡ x ∷ (xs ++ c) = cc in k c g r)
 
   module _ (nodes : ℕ) (rest : List Event) (h : list_all (λ k. not (wants_node n k)) rest ≡ true) where
-    no_sign_before : (xs before : List Event) → list_all (is_reported nodes) xs ≡ true → xs ++ rest ≡ before ++ e ∷ after → filter_map (sign_of n) before ≡ []
+    no_sign_before : (xs before : List Event) → list_all (is_history_event nodes) xs ≡ true → xs ++ rest ≡ before ++ e ∷ after → filter_map (sign_of n) before ≡ []
     no_sign_before [] before g q = unwanted (filter_map (sign_of n) before) [] rest before h q
     no_sign_before (x ∷ xs) [] g q = refl
     no_sign_before (x ∷ xs) (b ∷ bs) g q =
         let tail : xs ++ rest ≡ bs ++ e ∷ after = cc in
         let same : x ≡ b = cc in
-        let none : sign_of n x ≡ None = no_sign n nodes x (sooner (is_reported nodes x) _ g) in
+        let none : sign_of n x ≡ None = no_sign n nodes x (sooner (is_history_event nodes x) _ g) in
         let none_too : sign_of n b ≡ None = cc in
-        unsigned (sign_of n b) (filter_map (sign_of n) bs) none_too (no_sign_before xs bs (later (is_reported nodes x) _ g) tail)
+        unsigned (sign_of n b) (filter_map (sign_of n) bs) none_too (no_sign_before xs bs (later (is_history_event nodes x) _ g) tail)
 
-    is_among_reported : (xs before : List Event) → list_all (is_reported nodes) xs ≡ true → xs ++ rest ≡ before ++ e ∷ after → is_reported nodes e ≡ true
-    is_among_reported [] before g q = unwanted (is_reported nodes e) true rest before h q
+    is_among_reported : (xs before : List Event) → list_all (is_history_event nodes) xs ≡ true → xs ++ rest ≡ before ++ e ∷ after → is_history_event nodes e ≡ true
+    is_among_reported [] before g q = unwanted (is_history_event nodes e) true rest before h q
     is_among_reported (x ∷ xs) [] g q =
-        let same : x ≡ e = cc in let reported : is_reported nodes x ≡ true = sooner (is_reported nodes x) _ g in cc
+        let same : x ≡ e = cc in let reported : is_history_event nodes x ≡ true = sooner (is_history_event nodes x) _ g in cc
     is_among_reported (x ∷ xs) (b ∷ bs) g q =
-        let tail : xs ++ rest ≡ bs ++ e ∷ after = cc in is_among_reported xs bs (later (is_reported nodes x) _ g) tail
+        let tail : xs ++ rest ≡ bs ++ e ∷ after = cc in is_among_reported xs bs (later (is_history_event nodes x) _ g) tail
 
 glued : (a b c : List NodeSign) → c ≡ a ++ b → a ≡ joined ∷ [] → b ≡ [] → c ≡ joined ∷ []
 glued a b c q h k = let e : a ++ b ≡ (joined ∷ []) ++ [] = cc in q ∙ e
 
 -- the first journal is in order
 pub in-order : (c : Cluster) (history : List Event) (words : List NodeWord) (quorum : Bool) (now : ℕ)
-    → list_all (is_reported (length c.nodes)) history ≡ true → Orderly (first_events c history words quorum now)
+    → list_all (is_history_event (length c.nodes)) history ≡ true → Orderly (first_events c history words quorum now)
 in-order c history words quorum now h before after e n q w =
     let nodes = length c.nodes in
     let joins = map Up (range_with_len 0 nodes) in

@@ -12,7 +12,7 @@ use Rattle.cluster_types.specs.declared.journal.Outcome.{Outcome}
 use Rattle.cluster_types.specs.declared.journal.Outcome.TheVariants.{Gone}
 use Rattle.cluster_types.specs.Answering.{added_by, applies_after, end_event, most_from_outside}
 use Rattle.cluster_types.specs.Journals.{is_on, moment_of, seconds_of}
-use Rattle.cluster_types.specs.Steps.{Applies, Transition, StepsOn, Goes, begins, takes, is_silent, here, one_more, answer_events, in_flight_by_number, journal, outside, resting}
+use Rattle.cluster_types.specs.Steps.{Applies, Transition, StepsOn, Goes, begins, takes, is_silent, here, one_more, answer_events, in_flight_by_number, journal, count_from_outside, resting}
 use Rattle.lemmas.proofs.Booleans.{later}
 
 abbrev limit : ℕ
@@ -62,7 +62,7 @@ module _ (t : Transition) (whole : Bool) where
       → moment_of (journal t (since ++ events)) < limit
   step_keeps since _ rest _ (begins _ k a allowed) low = joined since _ (timeless (journal t since) _ refl low)
   step_keeps since _ rest left (takes _ _ given said taken) low =
-      joined since _ (answer_keeps t.cluster (journal t since) (in_flight_by_number t since) (outside t since) given taken.applies low)
+      joined since _ (answer_keeps t.cluster (journal t since) (in_flight_by_number t since) (count_from_outside t since) given taken.applies low)
   step_keeps since _ rest left (is_silent _ _ k a said ends) low =
       joined since _ (timeless (journal t since) _ (ended_at_once t.cluster (journal t since) (in_flight_by_number t since) _ _) low)
 
@@ -77,5 +77,5 @@ pub idle_keeps : (c : Cluster) (es : List Event) (given : Answer) → Applies (r
 idle_keeps c es given h low =
     let none = append-nil es in
     subst (λ xs. moment_of (xs ++ answer_events (resting c es) [] given) < limit) none
-    (answer_keeps c (journal (resting c es) []) (in_flight_by_number (resting c es) []) (outside (resting c es) []) given h
+    (answer_keeps c (journal (resting c es) []) (in_flight_by_number (resting c es) []) (count_from_outside (resting c es) []) given h
     (subst (λ xs. moment_of xs < limit) (sym none) low))

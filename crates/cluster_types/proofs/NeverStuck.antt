@@ -11,7 +11,7 @@ use Rattle.cluster_types.specs.declared.journal.Event.TheVariants.{Ended}
 use Rattle.cluster_types.specs.declared.journal.Outcome.TheVariants.{Code, TimedOut, Gone}
 use Rattle.cluster_types.specs.Journals.{ends_number}
 use Rattle.cluster_types.specs.Safety.{is_gone}
-use Rattle.cluster_types.specs.Steps.{Transition, aborts, all_succeeded, numbers_in_flight, has_aborted, has_begun, has_ended, has_room, has_succeeded, is_number_in_flight, is_settled, is_success, may_begin, numbers, succeeds_number}
+use Rattle.cluster_types.specs.Steps.{Transition, aborts, all_succeeded, numbers_in_flight, has_aborted, has_begun, has_number_ended, has_room, has_succeeded, is_number_in_flight, is_settled, is_success, may_begin, numbers, succeeds_number}
 
 left_out : (b : Bool) (x : ℕ) (xs : List ℕ) → cond b (x ∷ xs) xs ≡ [] → (not b ≡ true) × (xs ≡ [])
 left_out true x xs h = cc
@@ -67,7 +67,7 @@ module _ (t : Transition) (events : List Event) (upward : (j k : ℕ) → t.prec
   done : (k : ℕ) → 0 < k → k ≤ length t.actions → has_begun t events k ≡ true → has_succeeded t events k ≡ true
   done k low high begun =
       succeeded-of_ended t.cluster k events unaborted none_gone
-      (unless (has_begun t events k) (has_ended t events k) begun
+      (unless (has_begun t events k) (has_number_ended t events k) begun
       (none_in_range (is_number_in_flight t events) 1 (length t.actions) k (omega arith) (omega arith) idle))
 
   up_to : (bound k : ℕ) → 0 < k → k < bound → k ≤ length t.actions → has_succeeded t events k ≡ true

@@ -29,7 +29,7 @@ wants_block c _ = false
 abbrev pub is_blocked : Cluster → ℕ → ℕ → List Event → Bool
 is_blocked c r n es = option_map_or (wants_block c) (last_or None (counted c r n es)) false
 
--- the leaf was sent away from the cell
+-- the event ends the sending of a migration, with whatever outcome
 abbrev pub is_sent_away : Event → Bool
 is_sent_away (Ended k (MigrateTo leaf source target) o moment) = true
 is_sent_away _ = false
@@ -38,7 +38,7 @@ abbrev pub begins_sending_to : ℕ → ℕ → Event → Bool
 begins_sending_to r n (Begin k a) = is_sent_to r n a
 begins_sending_to r n _ = false
 
--- the last outcome leaves it open what runs there: it is bad, it sent the leaf away, or a migration to the cell began after it
+-- it is open what runs there: the last outcome is bad, or ended the sending of a migration from the cell, or a migration to the cell began after it
 -- (what a migration leaves is a rule of this project)
 abbrev pub is_left_open : Cluster → ℕ → ℕ → List Event → Bool
 is_left_open c r n es =

@@ -16,7 +16,7 @@ pub data LeadsByGates (actions : ℕ) (edges : List Edge) : ℕ → ℕ → Type
   direct : (e : Edge) → Contains edges e → LeadsByGates actions edges e.before e.after
   through : (e : Edge) (y : ℕ) → Contains edges e → actions ≤ e.after → LeadsByGates actions edges e.after y → LeadsByGates actions edges e.before y
 
--- the same, computed, over at most so many edges
+-- the same, computed, over at most so many edges. In a graph, as many as there are positions are enough (`paths_are_computed`)
 abbrev pub leads_by_gates_within : ℕ → ℕ → List Edge → ℕ → ℕ → Bool
 leads_by_gates_within zero actions edges x y = false
 leads_by_gates_within (suc most) actions edges x y =

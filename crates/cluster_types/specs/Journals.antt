@@ -93,11 +93,11 @@ pub data NodeWord : Type 0 where
   unsaid : NodeWord
 
 -- the event is of the kind that a status tells of a cluster with so many nodes: a probe or an operation of a cell ended, or the cell was cleaned up
-abbrev pub is_reported : ℕ → Event → Bool
-is_reported nodes (Ended k (Probe leaf node) o moment) = nat_lt node nodes
-is_reported nodes (Ended k (Cell op leaf node interval role) o moment) = nat_lt node nodes
-is_reported nodes (Cleanup leaf node) = nat_lt node nodes
-is_reported nodes _ = false
+abbrev pub is_history_event : ℕ → Event → Bool
+is_history_event nodes (Ended k (Probe leaf node) o moment) = nat_lt node nodes
+is_history_event nodes (Ended k (Cell op leaf node interval role) o moment) = nat_lt node nodes
+is_history_event nodes (Cleanup leaf node) = nat_lt node nodes
+is_history_event nodes _ = false
 
 -- how a node leaves by its word. One of which nothing is said is lost where the cluster fences such nodes, else down
 -- (Pacemaker Explained, "startup-fencing")

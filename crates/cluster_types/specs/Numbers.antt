@@ -30,10 +30,12 @@ pub record Link : Type 0 where
 abbrev pub link : Op → ℕ → Op → ℕ → Link
 link o r p s = record { before = step_of o r; after = step_of p s }
 
--- on one cell of a promotable leaf
+-- the links of a leaf with itself: demote before stop, start before promote. `links` keeps them only of a promotable leaf
 abbrev pub leaf_links : ℕ → List Link
 leaf_links r = link op.Demote r op.Stop r ∷ link op.Start r op.Promote r ∷ []
 
+-- the links by the inverse of an order: where both its words give a role, from each taker of the then's to each taker of the first's, else from the inverse
+-- of the then's word to that of the first's
 abbrev pub inverse_links : Order → List Link
 inverse_links o =
     if is_giving o.first_op && is_giving o.then_op

@@ -65,7 +65,7 @@ abbrev pub start_cell : Action → Option CellOf
 start_cell (MigrateTo r source target) = cell_of r target
 start_cell a = op_cell op.Start a
 
--- two actions stand so to each other by their cells
+-- both cells are there, and stand so to each other
 abbrev pub both : (CellOf → CellOf → Bool) → Option CellOf → Option CellOf → Bool
 both test (Some a) (Some b) = test a b
 both test _ _ = false
@@ -80,17 +80,17 @@ abbrev pub is_some_cell : Option CellOf → Bool
 is_some_cell (Some a) = true
 is_some_cell None = false
 
--- the action starts or promotes the leaf of the cell
+-- the cell whose leaf the action starts, a migration that sends too, or promotes
 abbrev pub gives_any : Action → Option CellOf
 gives_any (Cell op.Promote r n interval role) = cell_of r n
 gives_any a = start_cell a
 
--- the action gives the role
+-- the cell whose leaf gets the role by the action
 abbrev pub gives_role : Role → Action → Option CellOf
 gives_role role.Started a = start_cell a
 gives_role role.Promoted a = op_cell op.Promote a
 
--- the action takes the role away, or asks whether it is held
+-- the cell whose leaf loses the role by the action, or is probed by it
 abbrev pub takes_or_probes : Role → Action → Option CellOf
 takes_or_probes role.Started (Probe r n) = cell_of r n
 takes_or_probes role.Started a = op_cell op.Stop a
@@ -98,7 +98,7 @@ takes_or_probes role.Promoted (Probe r n) = cell_of r n
 takes_or_probes role.Promoted (Cell op.Demote r n interval role) = cell_of r n
 takes_or_probes role.Promoted a = op_cell op.Stop a
 
--- the action is one of the four that change a cell
+-- the cell of one of the four: a start, stop, promote or demote
 abbrev pub change_cell : Action → Option CellOf
 change_cell (Cell op.Monitor r n interval role) = None
 change_cell (Cell o r n interval role) = cell_of r n
@@ -110,11 +110,12 @@ takers op.Start = op.Stop ∷ []
 takers op.Promote = op.Demote ∷ op.Stop ∷ []
 takers _ = []
 
--- the leaf migrates, by the actions
+-- the action sends the leaf off
 abbrev pub sends : ℕ → Action → Bool
 sends r (MigrateTo leaf source target) = leaf == r
 sends r _ = false
 
+-- the leaf migrates, by the actions
 abbrev pub is_migrating : List Action → ℕ → Bool
 is_migrating actions r = list_any (sends r) actions
 
@@ -197,7 +198,7 @@ is_ordered actions o x y =
     not (is_serialize o.kind)
     && (is_ordered_pair actions o o.first_op o.first o.then_op o.then_leaf x y || o.symmetrical && is_inverse_pair actions o x y)
 
--- one of the four of each leaf, in scope
+-- the one action is one of the four of the order's first, the other one of its then, in scope
 abbrev pub is_across : Order → Action → Action → Bool
 is_across o x y = both (λ a b. a.leaf == o.first && b.leaf == o.then_leaf && is_in_scope o a.node b.node) (change_cell x) (change_cell y)
 

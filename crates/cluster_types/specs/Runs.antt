@@ -29,8 +29,9 @@ journal_at (due number es) = es
 journal_at (amid number t since) = journal t since
 journal_at (idle number es) = es
 
+-- of a cluster with its promotion scores. Where the answers to come are told, `whole` says that they are all (see `Says`); None is where they aren't
 module _ (c : Cluster) (promotions : List Promotion) (whole : Bool) where
-  -- one step of a run, the lines that it prints, and what is left of the answers to come
+  -- one step of a run: from where it stands and the answers to come, the lines that it prints, to where it stands then and the answers that are left
   pub data RunsOn : RunStanding → Option (List Answer) → List RunLine → RunStanding → Option (List Answer) → Type 0 where
     -- the transition that is due is planned
     plans : (k : ℕ) (es : List Event) (rest : Option (List Answer)) (placed : Placed) (actions : List Action) → IsPlan c es promotions placed actions
@@ -107,7 +108,7 @@ module _ (c : Cluster) (promotions : List Promotion) (whole : Bool) where
   abbrev pub IsRunUpTo : ℕ → List Event → Option (List Answer) → List RunLine → List Event → Option (List Answer) → Type 0
   IsRunUpTo most es rest lines left behind = Runs (due 1 es) rest lines (due (most + 1) left) behind
 
-  -- the line that ends a transition
+  -- at most one step, that which ends a transition: either nothing happens, or the transition has ended and its last line is printed
   pub data EndsByLine : RunStanding → List RunLine → RunStanding → Type 0 where
     not_yet : (at : RunStanding) → EndsByLine at [] at
     complete : (k : ℕ) (t : Transition) (since : List Event) → HasEnded t since → has_aborted t since ≡ false
@@ -115,8 +116,8 @@ module _ (c : Cluster) (promotions : List Promotion) (whole : Bool) where
     aborted : (k : ℕ) (t : Transition) (since : List Event) → HasEnded t since → has_aborted t since ≡ true
         → EndsByLine (amid k t since) (line.Aborted k ∷ []) (due (k + 1) (journal t since))
 
-  -- the run from a journal on, stopped by whom it tells its lines: those before the last call, those of that call, and at most the one that ends the
-  -- transition right after it; the journal that it leaves, and the answers behind it
+  -- the run from a journal on, stopped by the one to whom it tells its lines: those told before, those of the step at which it was stopped, and at most the
+  -- line that ends the transition right after that step; the journal that it leaves, and the answers behind it
   pub record IsStoppedRun (es : List Event) (rest : Option (List Answer)) (told call closing : List RunLine) (left : List Event) (behind : Option (List Answer)) : Type 0 where
     pub before : RunStanding
     pub next : RunStanding
@@ -127,7 +128,7 @@ module _ (c : Cluster) (promotions : List Promotion) (whole : Bool) where
     pub closes : EndsByLine next closing last
     pub leaves : left ≡ journal_at last
 
-  -- between two transitions, or before the first
+  -- in no transition: the next, or the first, is due, or nothing is to be done
   abbrev pub IsBetween : RunStanding → Type 0
   IsBetween (due k es) = ⊤
   IsBetween (amid k t since) = ⊥

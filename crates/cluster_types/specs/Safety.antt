@@ -44,7 +44,7 @@ AtEachBegin holds events =
 abbrev pub count_of_others : Cluster → ℕ → (ℕ → Bool) → ℕ
 count_of_others c n test = count_by (λ m. not (m == n) && test m) (range_with_len 0 (length c.nodes))
 
--- the leaf may hold the role on the node
+-- it may be that the leaf has the role on the node
 abbrev pub may_have_role : Cluster → ℕ → Role → ℕ → List Event → Bool
 may_have_role c r role.Started n es = may_be_running c r n es
 may_have_role c r role.Promoted n es = may_be_promoted c r n es
@@ -54,13 +54,14 @@ abbrev pub is_gone : Event → Bool
 is_gone (Ended k a Gone moment) = true
 is_gone _ = false
 
--- the event is an answer: no begin, and no end of an action that is gone with its node, whose loss comes behind it and is the answer
+-- the event comes while the transition waits: an answer adds it, or a silent end. So it is no begin, and no end of an action that is gone with its node: the
+-- loss, which follows, stands for those
 abbrev pub is_answered : Event → Bool
 is_answered (Begin k a) = false
 is_answered (Ended k a Gone moment) = false
 is_answered _ = true
 
--- some events without those at their end that are gone
+-- the events without the ends of gone actions behind which nothing else comes
 abbrev pub without_gone : List Event → List Event
 without_gone [] = []
 without_gone (e ∷ es) = if list_all is_gone (e ∷ es) then [] else e ∷ without_gone es
@@ -94,7 +95,7 @@ module _ (t : Transition) where
   abbrev pub NoSecondPromotion : List Event → Type 0
   NoSecondPromotion events = AtEachBegin (λ before k a. IfSome (op_cell op.Promote a) (AddsNoPromoted before)) events
 
-  -- no forbidden neighbour: where two leaves must be apart and the one is given its role on a node, the other may not hold its own there
+  -- no forbidden neighbour: where two leaves must be apart and the one is given its role on a node, it can't be that the other has its own there
   abbrev pub MeetsNot : List Event → Action → ℕ → Role → ℕ → Role → Type 0
   MeetsNot before a r r_role s s_role =
       IfSome (gives_role r_role a) (λ at. at.leaf ≡ r → may_have_role t.cluster s s_role at.node (journal t before) ≡ false)
@@ -117,8 +118,9 @@ module _ (t : Transition) where
   abbrev pub MigrationsAlone : List Event → Type 0
   MigrationsAlone events = AtEachBegin (λ before k a. MigratesAlone before a) events
 
-  -- eager and caused: an answer is taken only where no action may begin and something is in flight; each action begins once, as the one of its number; none
-  -- begins after an abort; and where nothing aborted, nothing is in flight and none may begin, all have succeeded
+  -- eager and caused: an answer is taken, or an action ends silently, only where no action may begin and something is in flight; no number begins twice,
+  -- and what begins is the action of its number; none begins after an abort; and where nothing aborted, nothing is in flight and none may begin, all have
+  -- succeeded
   pub record IsEager (events : List Event) : Type 0 where
     pub answers_when_settled : (before after : List Event) (e : Event) → events ≡ before ++ e ∷ after → is_answered e ≡ true
         → IsWaiting t (without_gone before)
@@ -165,7 +167,7 @@ IsSafeAt c promotions (amid number t since) =
     × ((placed : Placed) → IsPlan c t.planned_at promotions placed t.actions → HasEnded t since → has_aborted t since ≡ false
     → EndsInTargets t (targets_of placed.table) since)
 
--- a run from a journal on is safe all the way: wherever it stands, whatever comes
+-- each run from a journal on, of these answers to come, is safe all the way, wherever it stands. Where they aren't told, that is whatever comes
 abbrev pub IsSafeRun : Cluster → List Promotion → Bool → List Event → Option (List Answer) → Type 0
 IsSafeRun c promotions whole es rest =
     (at : RunStanding) (lines : List RunLine) (left : Option (List Answer)) → Runs c promotions whole (due 1 es) rest lines at left → IsSafeAt c promotions at

@@ -27,7 +27,7 @@ expected_codes (Cell Monitor r n interval role.Started) = success ∷ degraded �
 expected_codes (Cell Monitor r n interval role.Promoted) = running_promoted ∷ degraded_promoted ∷ []
 expected_codes _ = success ∷ []
 
--- the one with which an action ends when nothing more is said of it (rule of this project)
+-- the exit code with which an action ends when nothing more is said (rule of this project)
 abbrev pub silent_code : Action → ℕ
 silent_code (Probe r n) = not_running
 silent_code (Cell Monitor r n interval role.Promoted) = running_promoted
@@ -49,8 +49,8 @@ abbrev pub succeeds_number : Cluster → ℕ → Event → Bool
 succeeds_number c k (Ended j a o moment) = j == k && is_success c a o
 succeeds_number c k _ = false
 
--- the event aborts the transition: an action ended without success, or a node left or joined, or quorum was said. An action that is gone
--- doesn't abort by itself: its node's leaving, right after it, does
+-- the event aborts the transition: an action ended without success, a node joined or was lost, or quorum was said. That an action is gone doesn't
+-- abort: the loss of its node, which follows, does. No answer takes a node down
 abbrev pub aborts : Cluster → Event → Bool
 aborts c (Ended k a Gone moment) = false
 aborts c (Ended k a o moment) = not (is_success c a o)
@@ -96,8 +96,8 @@ module _ (t : Transition) where
     abbrev pub has_begun : ℕ → Bool
     has_begun k = list_any (begins_number k) since
 
-    abbrev pub has_ended : ℕ → Bool
-    has_ended k = list_any (ends_number k) since
+    abbrev pub has_number_ended : ℕ → Bool
+    has_number_ended k = list_any (ends_number k) since
 
     abbrev pub has_succeeded : ℕ → Bool
     has_succeeded k = list_any (succeeds_number t.cluster k) since
@@ -107,7 +107,7 @@ module _ (t : Transition) where
 
     -- the action of this number is in flight
     abbrev pub is_number_in_flight : ℕ → Bool
-    is_number_in_flight k = has_begun k && not (has_ended k)
+    is_number_in_flight k = has_begun k && not (has_number_ended k)
 
     -- the numbers in flight, ascending
     abbrev pub numbers_in_flight : List ℕ
@@ -132,13 +132,13 @@ module _ (t : Transition) where
     abbrev pub in_flight_by_number : List (ℕ × Action)
     in_flight_by_number = flat_map (λ k. option_map_or (λ a. (k, a) ∷ []) (action_at k) []) numbers_in_flight
 
-    -- how many answers from outside were taken
-    abbrev pub outside : ℕ
-    outside = count_by is_from_outside since
+    -- how many answers from outside were taken, by their events
+    abbrev pub count_from_outside : ℕ
+    count_from_outside = count_by is_from_outside since
 
     -- the answer applies now (rule of this project)
     abbrev pub Applies : Answer → Type 0
-    Applies given = applies_after t.cluster journal in_flight_by_number outside given ≡ true
+    Applies given = applies_after t.cluster journal in_flight_by_number count_from_outside given ≡ true
 
     -- the action of this number ends so, now
     abbrev pub ended : ℕ → Outcome → List Event
@@ -164,7 +164,8 @@ module _ (t : Transition) where
       pub waiting : IsWaiting
       pub applies : Applies given
 
-    -- nothing more is said: the action of lowest number in flight ends with its silent code
+    -- this action is the one that ends when nothing more is said: the transition waits, and of what is in flight the action has the lowest number.
+    -- That nothing is said, and with which code it ends, stand in `StepsOn`
     pub record EndsSilently (k : ℕ) (a : Action) : Type 0 where
       pub waiting : IsWaiting
       pub action : action_at k ≡ Some a
@@ -180,7 +181,9 @@ module _ (t : Transition) where
     abbrev pub all_succeeded : Bool
     all_succeeded = list_all has_succeeded numbers
 
-  -- one step of a transition: an action begins, an answer is taken, or nothing more is said and an action ends silently. It adds these events
+  -- one step of a transition after some events: an action begins, an answer is taken, or nothing more is said and an action ends with its silent code.
+  -- It adds events, and leads from the answers to come before it to those after it; None where they aren't told. Where they are told, `whole` says
+  -- that they are all (see `Says`)
   pub data StepsOn (whole : Bool) (since : List Event) : Option (List Answer) → List Event → Option (List Answer) → Type 0 where
     begins : (rest : Option (List Answer)) (k : ℕ) (a : Action) → Begins since k a → StepsOn whole since rest (Begin k a ∷ []) rest
     takes : (rest left : Option (List Answer)) (given : Answer) → Says whole rest (Some given) left → TakesAnswer since given

@@ -17,7 +17,7 @@ ghost use Rattle.cluster_types.specs.Failures.{is_fail_stopped};
 ghost use Rattle.cluster_types.specs.NodeStates.{node_state};
 ghost use Rattle.cluster_types.specs.Unpacked.{cell_at, states_of};
 ghost use Rattle.cluster_types.specs.declared.placement.Target.{Target as TargetOf};
-ghost use Rattle.cluster_types.specs.Journals.{NodeWord, Orderly, first_events, in_flight_by_begin, is_reported, moment_of};
+ghost use Rattle.cluster_types.specs.Journals.{NodeWord, Orderly, first_events, in_flight_by_begin, is_history_event, moment_of};
 ghost use Rattle.cluster_types.specs.Graphs.{GraphOf, IsBefore, IsGraph, LeadUpward, is_before};
 ghost use Rattle.edges.specs.Loops.{EndsWithin};
 ghost use Rattle.cluster_types.specs.May.{closes, closes_promoted, is_left_promoted, may_be_running, may_be_promoted, opens, opens_promoted};
@@ -47,13 +47,13 @@ pub fn promoted_may_run()
 /// The first journal has nothing in flight, whatever the status tells.
 pub fn first_journal_has_nothing_in_flight()
     ensures { (c : Cluster) (history : List Event) (words : List NodeWord) (quorum : Bool) (now : ℕ)
-        → list_all (is_reported (length c.nodes)) history ≡ true → in_flight_by_begin (first_events c history words quorum now) ≡ [] }
+        → list_all (is_history_event (length c.nodes)) history ≡ true → in_flight_by_begin (first_events c history words quorum now) ≡ [] }
 {}
 
 /// The first journal is in order: whatever the status tells of a node, the node has joined before it.
 pub fn first_journal_is_in_order()
     ensures { (c : Cluster) (history : List Event) (words : List NodeWord) (quorum : Bool) (now : ℕ)
-        → list_all (is_reported (length c.nodes)) history ≡ true → Orderly (first_events c history words quorum now) }
+        → list_all (is_history_event (length c.nodes)) history ≡ true → Orderly (first_events c history words quorum now) }
 {}
 
 /// Of a graph is computed what its edges say: one action comes before another when the edges lead from it to the other through gates

@@ -1,5 +1,5 @@
 -- A bound on how many parts follow is never reached, since each part has a word.
-use Rattle.std.proofs.Common.{◌≡◌, ℕ, ◌≤◌, ◌<◌, zero, suc, Bool, List, [], ◌∷◌, length, Some, Err, refl, arith}
+use Rattle.std.proofs.Common.{◌≡◌, ℕ, ◌≤◌, ◌<◌, zero, suc, Bool, List, ◌∷◌, length, Some, Err, refl, arith, [], Ok, None}
 use Rattle.crm_parse.specs.declared.expression.Expression.{Expression}
 use Rattle.crm_parse.specs.declared.fault.ParseCause.{ParseCause}
 use Rattle.faults.specs.declared.stop.Stop.{Stop}
@@ -36,3 +36,8 @@ tests-cause (suc most) before all words cause e h r = rw (e, r) refl
 pub tests-fault : (stop : Stop ParseCause) (most : ℕ) (before : Expression) (all : Bool) (words : Words) → joiner_at words ≡ Some all → length words ≤ most
     → IsCause stop (with_joined before all words) → IsCause stop (with_tests most (joiner_at words) before words)
 tests-fault stop most before all words e h f = cause_of_whole stop _ _ (λ cause r. tests-cause most before all words cause e h r) f
+
+-- where no word joins, no test follows
+pub stops : (most : ℕ) (before : Expression) (more : Words) → joiner_at more ≡ None → with_tests most (joiner_at more) before more ≡ Ok (before, more)
+stops zero before more j = refl
+stops (suc most) before more j = rw j refl

@@ -1,5 +1,5 @@
 -- The sides of a colocation that was read are of named resources.
-use Rattle.std.proofs.Common.{◌≡◌, ℕ, List, Option, Some, None, Ok, refl, ap, subst}
+use Rattle.std.proofs.Common.{◌≡◌, ℕ, List, Option, Some, None, Ok, refl, ap, subst, false, []}
 use Rattle.crm_parse.specs.declared.form.Side.{Side}
 use Rattle.crm_parse.specs.declared.values.RoleName.{RoleName}
 use Rattle.crm_parse.specs.declared.words.RoleWord.TheVariants as role
@@ -9,6 +9,9 @@ use Rattle.crm_parse.specs.Texts.{cut_at}
 use Rattle.crm_parse.specs.Values.{role_of}
 use Rattle.faults.proofs.Steps.{bind-ok}
 use Rattle.crm_parse.proofs.ResourceNames.{IsResource, resource-ok}
+use Rattle.std.specs.Prelude.{codes}
+use Rattle.crm_parse.proofs.PairWords.{has}
+use Rattle.crm_parse.proofs.LackedBytes.{no_label}
 
 started-ok : (word : List ℕ) (s : Side) → side_started word ≡ Ok s → IsResource s.resource
 unfolding side_started
@@ -39,3 +42,7 @@ side_at-ok words read e =
     let (s, is_side, last) = bind-ok (side_of word.0) _ read after_fits in
     let whole : (s, word.1) ≡ read = cc in
     subst (λ (r : Side × Words). IsResource r.0.resource) whole (cut-case word.0 (cut_at 58 word.0) s refl is_side)
+
+-- a word without `=` is no node attribute
+pub attribute-none : (word : List ℕ) → has 61 word ≡ false → no_attribute word ≡ Ok tt
+attribute-none word h = rw (no_label 61 (codes "node-attribute") [] word h) refl

@@ -40,7 +40,7 @@ many-case : (b : Bool) (op : Operation) (ops : List Operation) → length (filte
 many-case true op ops h = ap suc h
 many-case false op ops h = h
 
-as-many : (ops : List Operation) → length (filter recurs ops) ≡ length (recurring ops)
+pub as-many : (ops : List Operation) → length (filter recurs ops) ≡ length (recurring ops)
 as-many [] = refl
 as-many (op ∷ ops) = many-case (recurs op) op ops (as-many ops)
 
@@ -51,7 +51,7 @@ any-case : (b : Bool) (i : ℕ) (op : Operation) (ops : List Operation)
 any-case true i op ops h = ap (λ (r : Bool). (interval_of op.pairs == i) || r) h
 any-case false i op ops h = h
 
-as-any : (i : ℕ) (ops : List Operation) → list_any (λ op. recurs op && (interval_of op.pairs == i)) ops ≡ list_any (λ x. x == i) (recurring ops)
+pub as-any : (i : ℕ) (ops : List Operation) → list_any (λ op. recurs op && (interval_of op.pairs == i)) ops ≡ list_any (λ x. x == i) (recurring ops)
 as-any i [] = refl
 as-any i (op ∷ ops) = any-case (recurs op) i op ops (as-any i ops)
 

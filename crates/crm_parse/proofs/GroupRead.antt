@@ -1,5 +1,5 @@
 -- The members of a group that were read are names.
-use Rattle.std.proofs.Common.{◌≡◌, ℕ, Bool, true, false, List, [], ◌∷◌, ◌++◌, Ok, refl, sym, ap, ◌∙◌, subst, append_assoc, append-nil}
+use Rattle.std.proofs.Common.{◌≡◌, ℕ, Bool, true, false, List, ◌∷◌, ◌++◌, Ok, refl, sym, ap, ◌∙◌, subst, append_assoc, append-nil, []}
 use Rattle.std.specs.List.{AllByRecursion}
 use Rattle.crm_lex.specs.Names.{is_name}
 use Rattle.crm_parse.specs.Groups.{ends_members, members_from}
@@ -49,3 +49,14 @@ members_from-read before [] read e =
     subst (λ (r : Words × Words). Read before [] r.0 r.1) same none
 members_from-read before (word ∷ words) read e =
     members-case before word words read (ends_members word) refl (λ name h. members_from-read (before ++ name ∷ []) words read h) e
+
+-- the members end here
+abbrev pub EndsMembers : Words → Type 0
+EndsMembers rest = (before : Words) → members_from before rest ≡ Ok (before, rest)
+
+pub members-again : (before members rest : Words) → AllByRecursion IsMember members → EndsMembers rest → members_from before (members ++ rest) ≡ Ok (before ++ members, rest)
+members-again before [] rest m h = h before ∙ ap (λ (ws : Words). Ok (ws, rest)) (sym (append-nil before))
+members-again before (word ∷ members) rest m h =
+    let more = members-again (before ++ word ∷ []) members rest m.1 h in
+    let same = append_assoc before (word ∷ []) members in
+    rw (m.0.goes_on, m.0.named) (more ∙ ap (λ (ws : Words). Ok (ws, rest)) same)

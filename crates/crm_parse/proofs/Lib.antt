@@ -20,3 +20,15 @@ pub mod OperationRoom
 pub mod FewMonitors
 pub mod ReadForms
 pub mod SameForms
+pub mod Affixes
+pub mod PairsAgain
+pub mod LackedBytes
+pub mod SectionPairs
+pub mod Grammar
+pub mod FaultsStay
+pub mod LabelsStay
+pub mod TestsStay
+pub mod RulesStay
+pub mod SectionsStay
+pub mod LinesStay
+pub mod FirstFaultFound

@@ -1,12 +1,13 @@
 -- The resource and the place of a location that was read.
-use Rattle.std.proofs.Common.{◌≡◌, ℕ, ℤ, true, List, Ok, subst}
+use Rattle.std.proofs.Common.{◌≡◌, ℕ, ℤ, true, List, Ok, subst, false, refl, None, Bool, [], ◌∷◌, ◌++◌}
 use Rattle.crm_lex.specs.Names.{is_name}
-use Rattle.crm_parse.specs.Location.{place_at, resource_at}
-use Rattle.crm_parse.specs.Reading.{Words, end_at, name_at, resource_of, score_of, next_word_in}
+use Rattle.crm_parse.specs.Location.{place_at, resource_at, discovery_at}
+use Rattle.crm_parse.specs.Reading.{Words, end_at, name_at, resource_of, score_of, next_word_in, prefixed_at}
 use Rattle.crm_parse.proofs.Binds.{name_at-ok}
 use Rattle.faults.proofs.Steps.{bind-ok}
 use Rattle.crm_parse.proofs.ResourceNames.{IsResource, resource-ok}
 use Rattle.crm_parse.proofs.ScoreRead.{IsRead, score_of-ok}
+use Rattle.std.specs.Prelude.{codes}
 
 pub resource_at-ok : (words : Words) (read : List ℕ × Words) → resource_at words ≡ Ok read → IsResource read.0
 unfolding resource_at
@@ -30,3 +31,27 @@ place_at-ok words read e =
     let (end, at_end, last) = bind-ok (end_at node.1) _ read e3 in
     let whole : (points, node.0) ≡ read = cc in
     subst IsPlace whole (record { scored = score_of-ok word.0 points scored; named = (name_at-ok word.1 node named).1 })
+
+-- the word that says that a resource is looked for everywhere
+abbrev pub discovery_words : Bool → Words
+discovery_words true = codes "resource-discovery=always" ∷ []
+discovery_words false = []
+
+pub resource_at-again : (resource : List ℕ) (words : Words) → IsResource resource → resource_at (resource ∷ words) ≡ Ok (resource, words)
+unfolding resource_at
+resource_at-again resource words h = rw h.read refl
+
+-- what may stand where a location has said all but its score or its rules
+pub record Rest (words : Words) : Type 0 where
+  pub role : prefixed_at (codes "role=") words ≡ (None, words)
+  pub discovery : prefixed_at (codes "resource-discovery=") words ≡ (None, words)
+
+pub discovery_at-again : (everywhere : Bool) (words : Words) → Rest words → discovery_at (discovery_words everywhere ++ words) ≡ Ok (everywhere, words)
+unfolding discovery_at
+discovery_at-again true words h = refl
+discovery_at-again false words h = rw h.discovery refl
+
+pub discovery-no_role : (everywhere : Bool) (words : Words) → Rest words
+    → prefixed_at (codes "role=") (discovery_words everywhere ++ words) ≡ (None, discovery_words everywhere ++ words)
+discovery-no_role true words h = refl
+discovery-no_role false words h = h.role

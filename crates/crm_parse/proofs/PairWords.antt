@@ -1,5 +1,5 @@
 -- The pair that a word is read as spells that word.
-use Rattle.std.proofs.Common.{◌≡◌, ℕ, ◌+◌, ◌<◌, Bool, true, false, cond, eqb, ltb, suc, List, [], ◌∷◌, ◌++◌, length, take, drop, Option, Some, None, Ok, Err, refl, ap, ◌∙◌, subst, arith, ◌-◌}
+use Rattle.std.proofs.Common.{◌≡◌, ℕ, ◌+◌, ◌<◌, Bool, true, false, cond, eqb, ltb, suc, List, [], ◌∷◌, ◌++◌, length, take, drop, Option, Some, None, Ok, Err, refl, ap, ◌∙◌, subst, arith}
 use Rattle.std.specs.Prelude.{option_map, ◌==◌}
 use Rattle.std.specs.List.{list_any, position_or_len}
 use Rattle.std.proofs.lemmas.Bool.{or_parts, or_from, ltb-true, eqb-true}
@@ -76,15 +76,25 @@ cut_at-some byte word parts e =
 abbrev pub pair_word : Kv → List ℕ
 pair_word kv = kv.key ++ 61 ∷ kv.value
 
+-- a word that is cut into a pair has a key
 pair-case : (place : Place) (word : List ℕ) (found : Option (List ℕ × List ℕ)) (parts : List ℕ × List ℕ) → cut_at 61 word ≡ found → pair_of place word ≡ Ok parts
-    → cut_at 61 word ≡ Some parts
-pair-case place word None parts f e =
-    let h : Err (stray place word) ≡ Ok parts = rw (f, pair_of) at e in
-    cc
+    → (cut_at 61 word ≡ Some parts) × ((length parts.0 == 0) ≡ false)
+pair-case place word None parts f e = let h : Err (stray place word) ≡ Ok parts = rw (f, pair_of) at e in cc
 pair-case place word (Some found) parts f e =
     let h : cond (eqb (length found.0) 0) (Err (stray place word)) (Ok found) ≡ Ok parts = rw (f, pair_of) at e in
     let (same, some) = unless-ok (eqb (length found.0) 0) (Ok found) parts (stray place word) h in
-    f ∙ (cc)
+    let s : found ≡ parts = cc in
+    (f ∙ ap Some s, subst (λ (p : List ℕ × List ℕ). (length p.0 == 0) ≡ false) s some)
+
+-- the parts of a word that is cut into a pair
+pub record PairParts (word key value : List ℕ) : Type 0 where
+  pub joined : Joined 61 word key value
+  pub some : (length key == 0) ≡ false
+
+pub pair_of-parts : (place : Place) (word : List ℕ) (parts : List ℕ × List ℕ) → pair_of place word ≡ Ok parts → PairParts word parts.0 parts.1
+pair_of-parts place word parts e =
+    let (at, some) = pair-case place word (cut_at 61 word) parts refl e in
+    record { joined = cut_at-some 61 word parts at; some = some }
 
 -- what is read of a word spells it
 pub kv_of-word : (place : Place) (word : List ℕ) (kv : Kv) → kv_of place word ≡ Ok kv → word ≡ pair_word kv
@@ -92,7 +102,6 @@ unfolding kv_of
 kv_of-word place word kv e =
     let (parts, cut, taken) = bind-ok (pair_of place word) _ kv e in
     let (done, is_taken, last) = bind-ok (accepts place parts.0 parts.1) _ kv taken in
-    let joined = cut_at-some 61 word parts (pair-case place word (cut_at 61 word) parts refl cut) in
     let made : Kv = record { key = parts.0; value = parts.1 } in
     let same : made ≡ kv = cc in
-    joined.whole ∙ ap pair_word same
+    (pair_of-parts place word parts cut).joined.whole ∙ ap pair_word same

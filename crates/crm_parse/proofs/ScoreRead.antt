@@ -1,5 +1,5 @@
 -- A score that was read is a score, and is read again.
-use Rattle.std.proofs.Common.{◌≡◌, ℕ, ℤ, pos, neg_ℤ, ◌≤ℤ◌, Bool, true, false, if◌then◌else◌, List, Option, Some, None, Ok, refl, subst, arith}
+use Rattle.std.proofs.Common.{◌≡◌, ℕ, ℤ, pos, neg_ℤ, ◌≤ℤ◌, Bool, true, false, if◌then◌else◌, List, Option, Some, None, Ok, refl, subst, arith, sym, [], ◌∷◌, ◌++◌}
 use Rattle.std.specs.Prelude.{codes, option_map}
 use Rattle.std.specs.Int.{int_min}
 use Rattle.std.specs.Option.{ok_or}
@@ -15,6 +15,7 @@ use Rattle.crm_parse.specs.Reading.{score_of}
 use Rattle.crm_parse.specs.Texts.{before}
 use Rattle.crm_parse.proofs.Binds.{ok_or-ok}
 use Rattle.faults.proofs.Steps.{bind-ok}
+use Rattle.std.specs.Char.{is_ascii_digit}
 
 abbrev Within : ℤ → Type 0
 Within points = (pos 0 ≤ℤ points) × (points ≤ℤ infinity)
@@ -52,3 +53,20 @@ unfolding score_of
 score_of-ok word points e =
     let (text, found, rest) = bind-ok (ok_or (before (codes ":") word) BadScore) _ points e in
     score-again text points (ok_or-ok (read_score text) BadScore points rest)
+
+number-none : (b : ℕ) (text : List ℕ) → is_ascii_digit b ≡ false → is_number 4294967295 (b ∷ text) ≡ false
+number-none b text h = grind (arith, nat_tests)
+
+-- a text that begins with a byte that is no digit and no sign, and isn't INFINITY, is no score
+pub score-none : (b : ℕ) → is_ascii_digit b ≡ false → ((text : List ℕ) → without_leading_sign (b ∷ text) ≡ b ∷ text)
+    → ((text : List ℕ) → is_infinity (b ∷ text) ≡ false) → (text : List ℕ) → read_score (b ∷ text) ≡ None
+score-none b digit sign names text = rw (sign text, number-none b text digit, names text) refl
+
+-- the text of a score begins with no byte with which none begins
+pub first-none : (b : ℕ) (label text more rest : List ℕ) (points : ℤ) → ((t : List ℕ) → read_score (b ∷ t) ≡ None) → read_score text ≡ Some points
+    → text ++ more ≡ (b ∷ label) ++ rest → ⊥
+first-none b label [] more rest points none e f = let h : None ≡ Some points = e in cc
+first-none b label (c ∷ text) more rest points none e f =
+    let s : c ≡ b = cc in
+    let n : read_score (c ∷ text) ≡ None = subst (λ x. read_score (x ∷ text) ≡ None) (sym s) (none text) in
+    cc

@@ -21,3 +21,6 @@ pub mod Statements
 pub mod Named
 pub mod Monitors
 pub mod ReadForms
+pub mod WordTexts
+pub mod Grammar
+pub mod FirstFaults

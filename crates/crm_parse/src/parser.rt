@@ -2,7 +2,8 @@
 
 ghost use Rattle.std.specs.Prelude.{◌≡◌, [], IfOk, map};
 ghost use Rattle.crm_parse.specs.Statements.{crm_of, statement_of, statements_of, with_line, with_lines};
-ghost use Rattle.faults.specs.Reading.{Gives};
+ghost use Rattle.crm_parse.specs.Grammar.Configurations.{GivesWhatLinesSay, RefusesFirstSilentLine};
+ghost use Rattle.faults.specs.Reading.{Gives, IsAsSaid};
 
 use crate::actions::{finished, promotable_by};
 use crate::draft::DraftStatement;
@@ -78,15 +79,26 @@ fn crm_of(alloc: Global, drafts: Drafts) -> Result<Crm, NoMemory>
     })
 }
 
+fn read_lines(alloc: Global, lines: &[Line]) -> Result<Crm, ParseFault>
+    ensures { Gives (λ crm. crm) result (statements_of lines.now) }
+{
+    let drafts = with_lines(alloc, lines)?;
+    Ok(crm_of(alloc, drafts)?)
+}
+
 /// Reads the statements of a configuration from its logical lines (crmsh manual, `configure`). The lines are those before the first section.
 ///
 /// A fault is that of the first faulty line, at its leftmost faulty word: `UnknownStatement` at a first word that begins no statement,
 /// `Unsupported` at what this project doesn't carry out, `BadScore`, `BadTime` and `BadValue` at a value that isn't one of its kind,
 /// `MissingWord` where a statement or a section ends too early, `ExtraWord` at a word without a place, and `RepeatedKey` at a key that was
 /// given before. Where a word has several causes, the first in this order counts. `NoMemory` comes when memory runs out.
+///
+/// What is read is what the lines say by the grammar, which takes no step of a reader (`says`). A line is refused just when it is the first
+/// whose words say nothing after the statements before it (`silent`).
 pub fn parse(alloc: Global, lines: &[Line]) -> Result<Crm, ParseFault>
-    ensures { Gives (λ crm. crm) result (statements_of lines.now) }
+    ensures read { Gives (λ crm. crm) result (statements_of lines.now) }
+    ensures says { IsAsSaid (GivesWhatLinesSay lines.now) result }
+    ensures silent { IsAsSaid (RefusesFirstSilentLine lines.now) result }
 {
-    let drafts = with_lines(alloc, lines)?;
-    Ok(crm_of(alloc, drafts)?)
+    read_lines(alloc, lines)
 }

@@ -11,8 +11,8 @@ use Rattle.crm_parse.specs.Node.{node_statement_at}
 use Rattle.crm_parse.specs.Primitive.{agent_of, colon_parts, primitive_at}
 use Rattle.crm_parse.specs.Reading.{Words, given_at, name_at, prefixed_at, next_word_in}
 use Rattle.crm_parse.specs.Sections.{sections_at}
-use Rattle.crm_print.specs.WordTexts.{clone_word}
-use Rattle.crm_print.proofs.Affixes.{colon_at-words, given_words, noted_words, prefixed_at-words}
+use Rattle.crm_parse.specs.WordTexts.{clone_word}
+use Rattle.crm_parse.proofs.Affixes.{colon_at-words, given_words, noted_words, prefixed_at-words}
 use Rattle.crm_parse.proofs.Binds.{given_at-ok, name_at-ok, word_at-ok}
 use Rattle.faults.proofs.Steps.{bind-ok}
 use Rattle.crm_print.proofs.Clean.{AllClean, Clean, clean-append, clean-ascii}

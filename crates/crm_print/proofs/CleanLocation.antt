@@ -14,17 +14,17 @@ use Rattle.crm_parse.specs.Keys.{when}
 use Rattle.crm_parse.specs.Location.{begins_rule, discovery_at, discovery_in, either_at, location_at, place_at, plain_at, resource_at, role_at, rule_at, rule_id_at, rule_role_at, rule_score_of, ruled_at, some_role, with_rule, with_rules}
 use Rattle.crm_parse.specs.Reading.{Words, name_at, prefixed_at, resource_of, some_name, next_word_in}
 use Rattle.crm_parse.specs.Rules.{expression_at}
-use Rattle.crm_print.proofs.Affixes.{noted_words, prefixed_at-words}
+use Rattle.crm_parse.proofs.Affixes.{noted_words, prefixed_at-words}
 use Rattle.crm_parse.proofs.Binds.{name_at-ok, some_name-ok, word_at-ok, ok-same}
 use Rattle.faults.proofs.Steps.{bind-ok}
 use Rattle.crm_print.proofs.Clean.{AllClean, Clean, clean-append, clean-ascii, clean-name}
 use Rattle.crm_print.proofs.CleanNumbers.{score-clean}
 use Rattle.crm_print.proofs.CleanSections.{all-append, all-behind, all-front}
 use Rattle.crm_print.proofs.CleanTests.{expression-clean}
-use Rattle.crm_parse.proofs.LocationRead.{place_at-ok, resource_at-ok}
+use Rattle.crm_parse.proofs.LocationRead.{discovery_words, place_at-ok, resource_at-ok}
 use Rattle.crm_parse.proofs.ResourceNames.{IsResource}
 use Rattle.crm_print.proofs.RuleAgain.{rule_of, rule_score-case}
-use Rattle.crm_print.proofs.Written.{discovery_words, located_words, role_words, rule_words, ruled_words, score_word, written}
+use Rattle.crm_print.proofs.Written.{located_words, role_words, rule_words, ruled_words, score_word, written}
 
 role-clean : (label : List ℕ) (r : Option RoleWord) → Clean label → AllClean (role_words label r)
 role-clean label None c = tt

@@ -8,7 +8,7 @@ use Rattle.crm_parse.specs.declared.pair.Kv.{Kv}
 use Rattle.crm_parse.specs.Groups.{clone_at, clone_owner}
 use Rattle.crm_parse.specs.Reading.{Words, name_at, prefixed_at}
 use Rattle.crm_parse.specs.Sections.{place_of, section_of, sections_at}
-use Rattle.crm_print.specs.WordTexts.{clone_word}
+use Rattle.crm_parse.specs.WordTexts.{clone_word}
 use Rattle.crm_parse.proofs.Binds.{name_at-again, name_at-ok}
 use Rattle.faults.proofs.Steps.{bind-ok}
 use Rattle.crm_print.proofs.MetaAgain.{description-last, label}

@@ -1,5 +1,5 @@
 -- A colocation is read again from its words.
-use Rattle.std.proofs.Common.{◌≡◌, ℕ, ℤ, true, false, List, [], ◌∷◌, Ok, refl, subst}
+use Rattle.std.proofs.Common.{◌≡◌, ℕ, ℤ, true, false, List, ◌∷◌, Ok, refl, subst, []}
 use Rattle.std.specs.Prelude.{codes}
 use Rattle.crm_lex.specs.Names.{is_name}
 use Rattle.crm_parse.specs.declared.form.Form.{Form}
@@ -9,17 +9,16 @@ use Rattle.crm_parse.specs.declared.words.RoleWord.{RoleWord}
 use Rattle.crm_parse.specs.declared.words.RoleWord.TheVariants as role
 use Rattle.crm_parse.specs.Colocation.{colocation_at, no_attribute, no_third, side_at, side_in, side_of, side_started}
 use Rattle.crm_parse.specs.Reading.{Words, name_at, score_of, next_word_in}
-use Rattle.crm_parse.specs.Texts.{cut_at}
 use Rattle.crm_parse.proofs.Binds.{name_at-again, name_at-ok}
 use Rattle.faults.proofs.Steps.{bind-ok}
-use Rattle.crm_print.proofs.PairsAgain.{cut_at-again}
+use Rattle.crm_parse.proofs.PairsAgain.{cut_at-again}
 use Rattle.crm_parse.proofs.PairWords.{has}
 use Rattle.crm_parse.proofs.ResourceNames.{IsResource}
-use Rattle.crm_print.proofs.LackedBytes.{cut_at-none, has-append, name-lacks, no_label}
-use Rattle.crm_parse.proofs.ScoreRead.{IsRead, score_of-ok}
-use Rattle.crm_print.proofs.ScoreAgain.{score-no_label, score-none, score_of-again}
+use Rattle.crm_parse.proofs.LackedBytes.{cut_at-none, has-append, name-lacks}
+use Rattle.crm_parse.proofs.ScoreRead.{IsRead, score-none, score_of-ok}
+use Rattle.crm_print.proofs.ScoreAgain.{score-no_label, score_of-again}
 use Rattle.crm_print.proofs.Written.{Again, score_word, side_word}
-use Rattle.crm_parse.proofs.ColocationRead.{side_at-ok}
+use Rattle.crm_parse.proofs.ColocationRead.{side_at-ok, attribute-none}
 
 side-case : (name : List ℕ) (r : RoleWord) → IsResource name → let s : Side = record { resource = name; role = r } in side_of (side_word s) ≡ Ok s
 unfolding side_started side_in
@@ -33,10 +32,6 @@ side_of-again s h = side-case s.resource s.role h
 side_lacks : (name : List ℕ) (r : RoleWord) → is_name name ≡ true → has 61 (side_word (record { resource = name; role = r })) ≡ false
 side_lacks name role.Started h = name-lacks 61 name refl h
 side_lacks name role.Promoted h = has-append 61 name (58 ∷ codes "Promoted") (name-lacks 61 name refl h) refl
-
--- a word without `=` is no node attribute
-pub attribute-none : (word : List ℕ) → has 61 word ≡ false → no_attribute word ≡ Ok tt
-attribute-none word h = rw (no_label 61 (codes "node-attribute") [] word h) refl
 
 pub side_at-again : (s : Side) (words : Words) → IsResource s.resource → side_at (side_word s ∷ words) ≡ Ok (s, words)
 unfolding side_at

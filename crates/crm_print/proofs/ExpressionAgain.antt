@@ -1,5 +1,5 @@
 -- The expression of a rule is read again from the words that were noted.
-use Rattle.std.proofs.Common.{◌≡◌, ℕ, ◌≤◌, zero, suc, Bool, List, [], ◌∷◌, ◌++◌, length, Option, Some, None, Result, Ok, refl, sym, ap, ◌∙◌, subst, append_assoc, append-nil, arith}
+use Rattle.std.proofs.Common.{◌≡◌, ℕ, ◌≤◌, zero, suc, Bool, List, ◌∷◌, ◌++◌, length, Option, Some, None, Result, Ok, refl, sym, ap, ◌∙◌, subst, append_assoc, append-nil, arith, []}
 use Rattle.std.proofs.lemmas.List.{length-append}
 use Rattle.date_rules.specs.declared.rule.Test.{Test}
 use Rattle.crm_parse.specs.declared.expression.Expression.{Expression}
@@ -8,6 +8,7 @@ use Rattle.crm_parse.specs.Reading.{Words}
 use Rattle.crm_parse.specs.Rules.{expression_at, joined_alike, joiner_at, no_tests, noted_at, test_at, with_joined, with_test, with_tests}
 use Rattle.faults.proofs.Steps.{bind-ok}
 use Rattle.crm_print.proofs.TestAgain.{Rereads, test_at-faithful}
+use Rattle.crm_parse.proofs.Bounds.{stops}
 
 -- a reader of more of an expression
 abbrev More : Type 0
@@ -72,10 +73,6 @@ record Follow (before got : Expression) : Type 0 where
   notes : got.words ≡ before.words ++ words
   again : (most : ℕ) (more : Words) → length (words ++ more) ≤ most → joiner_at more ≡ None
       → with_tests most (joiner_at (words ++ more)) before (words ++ more) ≡ Ok (got, more)
-
-pub stops : (most : ℕ) (before : Expression) (more : Words) → joiner_at more ≡ None → with_tests most (joiner_at more) before more ≡ Ok (before, more)
-stops zero before more j = refl
-stops (suc most) before more j = rw j refl
 
 follow-none : (before : Expression) → Follow before before
 follow-none before = record { words = []; notes = sym (append-nil before.words); again = λ most more l j. stops most before more j }

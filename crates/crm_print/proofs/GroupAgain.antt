@@ -1,5 +1,5 @@
 -- A group is read again from its words.
-use Rattle.std.proofs.Common.{◌≡◌, ℕ, true, List, [], ◌∷◌, ◌++◌, Option, Some, None, Ok, refl, sym, ap, ◌∙◌, subst, append_assoc, append-nil}
+use Rattle.std.proofs.Common.{◌≡◌, ℕ, true, List, ◌∷◌, ◌++◌, Option, Some, None, Ok, refl, sym, ap, subst, append-nil, []}
 use Rattle.std.specs.Prelude.{codes, is_some}
 use Rattle.std.specs.List.{AllByRecursion}
 use Rattle.std.proofs.lemmas.Bool.{or_right}
@@ -12,8 +12,7 @@ use Rattle.crm_parse.specs.declared.pair.Kv.{Kv}
 use Rattle.crm_parse.specs.Groups.{ends_members, group_at, members_from}
 use Rattle.crm_parse.specs.Reading.{Words, name_at, prefixed_at}
 use Rattle.crm_parse.specs.Sections.{is_section, place_of, section_of, sections_at}
-use Rattle.crm_parse.specs.Texts.{after}
-use Rattle.crm_print.proofs.Affixes.{after-again}
+use Rattle.crm_parse.proofs.Affixes.{after-again}
 use Rattle.crm_parse.proofs.Binds.{name_at-again, name_at-ok}
 use Rattle.faults.proofs.Steps.{bind-ok}
 use Rattle.crm_print.proofs.MetaAgain.{description-last, label}
@@ -21,18 +20,7 @@ use Rattle.crm_parse.proofs.PairLists.{Kept, pair_words}
 use Rattle.crm_print.proofs.SectionsAgain.{Follows, meta_sections-again}
 use Rattle.crm_parse.proofs.SectionsKept.{sections_at-kept}
 use Rattle.crm_print.proofs.Written.{Again, meta_words, section_words}
-use Rattle.crm_parse.proofs.GroupRead.{IsMember, members_from-read}
-
--- the members end here
-abbrev pub EndsMembers : Words → Type 0
-EndsMembers rest = (before : Words) → members_from before rest ≡ Ok (before, rest)
-
-pub members-again : (before members rest : Words) → AllByRecursion IsMember members → EndsMembers rest → members_from before (members ++ rest) ≡ Ok (before ++ members, rest)
-members-again before [] rest m h = h before ∙ ap (λ (ws : Words). Ok (ws, rest)) (sym (append-nil before))
-members-again before (word ∷ members) rest m h =
-    let more = members-again (before ++ word ∷ []) members rest m.1 h in
-    let same = append_assoc before (word ∷ []) members in
-    rw (m.0.goes_on, m.0.named) (more ∙ ap (λ (ws : Words). Ok (ws, rest)) same)
+use Rattle.crm_parse.proofs.GroupRead.{IsMember, members_from-read, EndsMembers, members-again}
 
 ends-word : (word : List ℕ) (words : Words) → ends_members word ≡ true → EndsMembers (word ∷ words)
 ends-word word words h before = rw h refl

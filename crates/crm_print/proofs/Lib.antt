@@ -1,5 +1,3 @@
-pub mod Affixes
-pub mod PairsAgain
 pub mod SectionCuts
 pub mod SectionsAgain
 pub mod Written
@@ -12,7 +10,6 @@ pub mod Clean
 pub mod CleanSections
 pub mod CleanForms
 pub mod ScoreAgain
-pub mod LackedBytes
 pub mod ColocationAgain
 pub mod OrderAgain
 pub mod SettingsAgain

@@ -1,5 +1,5 @@
 -- A location is read again from its words.
-use Rattle.std.proofs.Common.{◌≡◌, ℕ, ℤ, Bool, true, false, cond, List, [], ◌∷◌, ◌++◌, length, Option, Some, None, Result, Ok, refl, sym, ◌∙◌, subst, arith}
+use Rattle.std.proofs.Common.{◌≡◌, ℕ, ℤ, Bool, true, false, cond, List, ◌∷◌, ◌++◌, length, Option, Some, None, Result, Ok, refl, sym, ◌∙◌, subst, arith, []}
 use Rattle.std.specs.Prelude.{codes}
 use Rattle.std.specs.List.{flat_map}
 use Rattle.std.proofs.lemmas.Bool.{false_from_ne_true}
@@ -11,34 +11,15 @@ use Rattle.crm_parse.specs.declared.rule_form.RuleForm.{RuleForm}
 use Rattle.crm_parse.specs.declared.words.RoleWord.{RoleWord}
 use Rattle.crm_parse.specs.declared.words.RoleWord.TheVariants as role
 use Rattle.crm_parse.specs.Location.{begins_rule, discovery_at, location_at, place_at, plain_at, resource_at, role_at, ruled_at, with_rules}
-use Rattle.crm_parse.specs.Reading.{Words, name_at, prefixed_at, rule_role_of, score_of}
+use Rattle.crm_parse.specs.Reading.{Words, name_at, prefixed_at, rule_role_of}
 use Rattle.crm_parse.proofs.Binds.{is-true, name_at-again, name_at-ok}
 use Rattle.faults.proofs.Steps.{bind-ok}
 use Rattle.crm_parse.proofs.ResourceNames.{IsResource}
 use Rattle.crm_print.proofs.RuleAgain.{SomeRules, rules-some, score_label, with_rules-again}
-use Rattle.crm_parse.proofs.ScoreRead.{IsRead}
-use Rattle.crm_print.proofs.ScoreAgain.{first-none, score-no_label, score-none, score_of-again}
-use Rattle.crm_print.proofs.Written.{Again, discovery_words, located_words, role_words, ruled_words, score_word}
-use Rattle.crm_parse.proofs.LocationRead.{IsPlace, place_at-ok, resource_at-ok}
-
-pub resource_at-again : (resource : List ℕ) (words : Words) → IsResource resource → resource_at (resource ∷ words) ≡ Ok (resource, words)
-unfolding resource_at
-resource_at-again resource words h = rw h.read refl
-
--- what may stand where a location has said all but its score or its rules
-pub record Rest (words : Words) : Type 0 where
-  pub role : prefixed_at (codes "role=") words ≡ (None, words)
-  pub discovery : prefixed_at (codes "resource-discovery=") words ≡ (None, words)
-
-pub discovery_at-again : (everywhere : Bool) (words : Words) → Rest words → discovery_at (discovery_words everywhere ++ words) ≡ Ok (everywhere, words)
-unfolding discovery_at
-discovery_at-again true words h = refl
-discovery_at-again false words h = rw h.discovery refl
-
-pub discovery-no_role : (everywhere : Bool) (words : Words) → Rest words
-    → prefixed_at (codes "role=") (discovery_words everywhere ++ words) ≡ (None, discovery_words everywhere ++ words)
-discovery-no_role true words h = refl
-discovery-no_role false words h = h.role
+use Rattle.crm_parse.proofs.ScoreRead.{first-none, IsRead, score-none}
+use Rattle.crm_print.proofs.ScoreAgain.{score-no_label, score_of-again}
+use Rattle.crm_print.proofs.Written.{Again, located_words, role_words, ruled_words, score_word}
+use Rattle.crm_parse.proofs.LocationRead.{discovery_words, IsPlace, place_at-ok, resource_at-ok, discovery-no_role, discovery_at-again, resource_at-again, Rest}
 
 role_at-again : (r : Option RoleWord) (words : Words) → prefixed_at (codes "role=") words ≡ (None, words) → role_at (role_words (codes "role=") r ++ words) ≡ Ok (r, words)
 unfolding role_at rule_role_of

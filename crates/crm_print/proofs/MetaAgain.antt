@@ -6,7 +6,7 @@ use Rattle.crm_parse.specs.declared.pair.Kv.{Kv}
 use Rattle.crm_parse.specs.declared.pair.Operation.{Operation}
 use Rattle.crm_parse.specs.Reading.{Words, prefixed_at}
 use Rattle.crm_parse.specs.Texts.{after}
-use Rattle.crm_print.proofs.Affixes.{noted_words, prefixed_at-again}
+use Rattle.crm_parse.proofs.Affixes.{noted_words, prefixed_at-again}
 use Rattle.crm_print.proofs.Written.{meta_words, operation_words, section_words}
 
 -- the label of a description

@@ -1,5 +1,5 @@
 -- Lines that are read as statements have no section among them.
-use Rattle.std.proofs.Common.{arith, ◌≡◌, ℕ, ◌+◌, ◌==◌, ◌&&◌, ◌||◌, not, min, Bool, true, false, Option, None, List, [], ◌∷◌, ◌++◌, length, codes, Ok, Err, refl, ap, sym, subst, ◌∙◌}
+use Rattle.std.proofs.Common.{arith, ◌≡◌, ℕ, ◌+◌, ◌==◌, min, Bool, true, false, None, List, [], ◌∷◌, ◌++◌, length, codes, Ok, Err, refl, sym, subst}
 use Rattle.std.specs.List.{AllByRecursion, position_or_len}
 use Rattle.crm_lex.specs.Names.{is}
 use Rattle.crm_lex.specs.declared.line.Line.{Line}
@@ -8,7 +8,7 @@ use Rattle.crm_parse.specs.declared.draft.DraftStatement.{DraftStatement}
 use Rattle.crm_parse.specs.declared.fault.ParseCause.TheVariants.{UnknownStatement}
 use Rattle.crm_parse.specs.declared.marks.SectionMarks.{SectionMarks}
 use Rattle.crm_parse.specs.declared.statement.Crm.{Crm}
-use Rattle.crm_parse.specs.Marks.{begins_with, first_word, has_percent, is_mark, misplaced, sections_of, marks_unless}
+use Rattle.crm_parse.specs.Marks.{begins_with, first_word, has_percent, is_mark, misplaced, sections_of}
 use Rattle.crm_parse.specs.Reading.{Words}
 use Rattle.crm_parse.specs.Statements.{draft_of, keyword_of, statements_of, with_lines}
 use Rattle.crm_parse.proofs.LinesRead.{Says, read_of-ok, said}

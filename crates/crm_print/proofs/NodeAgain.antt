@@ -10,7 +10,7 @@ use Rattle.crm_parse.specs.declared.pair.Kv.{Kv}
 use Rattle.crm_parse.specs.Node.{node_statement_at}
 use Rattle.crm_parse.specs.Reading.{Words, given_at, name_at, some_name}
 use Rattle.crm_parse.specs.Sections.{place_of, sections_at}
-use Rattle.crm_print.proofs.Affixes.{given_words, colon_at-again, name-no_colon_at}
+use Rattle.crm_parse.proofs.Affixes.{given_words, colon_at-again, name-no_colon_at}
 use Rattle.crm_parse.proofs.Binds.{given_at-again, given_at-ok, name_at-again, name_at-ok}
 use Rattle.faults.proofs.Steps.{bind-ok}
 use Rattle.crm_parse.proofs.PairLists.{Kept}

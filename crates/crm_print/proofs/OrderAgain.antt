@@ -13,14 +13,14 @@ use Rattle.crm_parse.specs.declared.words.ActionWord.TheVariants.{Start, Stop, P
 use Rattle.crm_parse.specs.declared.words.KindWord.{KindWord}
 use Rattle.crm_parse.specs.declared.words.KindWord.TheVariants.{Mandatory, Optional, Serialize}
 use Rattle.crm_parse.specs.Order.{ends_steps, kind_at, kind_by_word, order_at, read_order_step, step_parts, order_steps_at, symmetrical_as, symmetrical_in, with_step, with_steps}
-use Rattle.crm_parse.specs.Reading.{Words, name_at}
+use Rattle.crm_parse.specs.Reading.{Words}
 use Rattle.crm_parse.specs.Statements.{action_after, finished, with_actions}
 use Rattle.crm_parse.specs.Values.{action_of, bool_of}
-use Rattle.crm_print.specs.WordTexts.{action_word_text, bool_text, kind_text}
+use Rattle.crm_parse.specs.WordTexts.{action_word_text, bool_text, kind_text}
 use Rattle.crm_parse.proofs.Binds.{name_at-again}
-use Rattle.crm_print.proofs.PairsAgain.{cut_at-again}
+use Rattle.crm_parse.proofs.PairsAgain.{cut_at-again}
 use Rattle.crm_parse.proofs.PairWords.{has}
-use Rattle.crm_print.proofs.LackedBytes.{has-append, name-lacks, no_label}
+use Rattle.crm_parse.proofs.LackedBytes.{has-append, name-lacks, no_label}
 use Rattle.crm_print.proofs.Written.{step_word, written}
 use Rattle.crm_parse.proofs.OrderRead.{Named, actions-named, actions-front, IsOrder}
 

@@ -14,13 +14,13 @@ use Rattle.crm_parse.specs.Location.{all_of, either_at, rule_at, rule_id_at, rul
 use Rattle.crm_parse.specs.Reading.{Words, prefixed_at, rule_role_of, score_of, some_name, next_word_in}
 use Rattle.crm_parse.specs.Rules.{expression_at, joiner_at}
 use Rattle.crm_parse.specs.Texts.{after}
-use Rattle.crm_print.specs.WordTexts.{role_text}
-use Rattle.crm_print.proofs.Affixes.{noted_words, prefixed_at-again}
+use Rattle.crm_parse.specs.WordTexts.{role_text}
+use Rattle.crm_parse.proofs.Affixes.{noted_words, prefixed_at-again}
 use Rattle.crm_parse.proofs.Binds.{some_name-ok, unless-ok, ok-same}
 use Rattle.faults.proofs.Steps.{bind-ok}
 use Rattle.crm_print.proofs.ExpressionAgain.{ExpressionAgain, expression_at-again}
-use Rattle.crm_parse.proofs.ScoreRead.{IsRead, score_of-ok}
-use Rattle.crm_print.proofs.ScoreAgain.{score-no_label, score-none, score_of-again}
+use Rattle.crm_parse.proofs.ScoreRead.{IsRead, score-none, score_of-ok}
+use Rattle.crm_print.proofs.ScoreAgain.{score-no_label, score_of-again}
 use Rattle.crm_print.proofs.Written.{role_words, rule_words, ruled_words, score_word}
 
 -- no label begins where a score stands

@@ -1,5 +1,5 @@
 -- Words that are put together by sections are cut into these sections again.
-use Rattle.std.proofs.Common.{◌≡◌, ℕ, false, List, [], ◌∷◌, ◌++◌, Some, None, refl, append-nil}
+use Rattle.std.proofs.Common.{◌≡◌, ℕ, false, List, ◌∷◌, ◌++◌, Some, refl, append-nil, []}
 use Rattle.std.specs.Prelude.{codes, map}
 use Rattle.std.specs.List.{flat_map}
 use Rattle.crm_parse.specs.declared.owner.Owner.{Owner}
@@ -8,12 +8,11 @@ use Rattle.crm_parse.specs.declared.owner.SectionWord.TheVariants.{Op}
 use Rattle.crm_parse.specs.declared.pair.Kv.{Kv}
 use Rattle.crm_parse.specs.declared.pair.Operation.{Operation}
 use Rattle.crm_parse.specs.Reading.{Words}
-use Rattle.crm_parse.specs.Sections.{Part, cut_into_sections, section_of, section_word, takes_name}
+use Rattle.crm_parse.specs.Sections.{Part, cut_into_sections, section_of, takes_name}
 use Rattle.crm_parse.proofs.OperationWords.{op_words}
 use Rattle.crm_parse.proofs.PairLists.{pair_words}
-use Rattle.crm_parse.proofs.PairWords.{pair_word}
-use Rattle.crm_print.proofs.PairsAgain.{pair_word-differs}
 use Rattle.crm_print.proofs.Written.{operation_words, section_words}
+use Rattle.crm_parse.proofs.Cuts.{cut-pairs}
 
 -- the sections that they are cut into
 abbrev pub section_parts : SectionWord → List Kv → List Part
@@ -23,30 +22,11 @@ section_parts section (kv ∷ kvs) = (section, pair_words (kv ∷ kvs)) ∷ []
 abbrev pub op_part : Operation → Part
 op_part op = (Op, op_words op)
 
-pair-no_section_word : (kv : Kv) → section_word (pair_word kv) ≡ None
-pair-no_section_word kv = rw (
-  pair_word-differs kv (codes "attributes") refl,
-  pair_word-differs kv (codes "params") refl,
-  pair_word-differs kv (codes "meta") refl,
-  pair_word-differs kv (codes "utilization") refl,
-  pair_word-differs kv (codes "operations") refl,
-  pair_word-differs kv (codes "op") refl,
-) refl
-
 module _ (owner : Owner) where
-  -- a pair's word begins no section
-  pub pair-no_section : (kv : Kv) → section_of owner (pair_word kv) ≡ None
-  unfolding section_of
-  pair-no_section kv = rw (pair-no_section_word kv) refl
-
-  pub cut-pairs : (kvs : List Kv) (tail : Words) (parts : List Part) → cut_into_sections owner false tail ≡ ([], parts) → cut_into_sections owner false (pair_words kvs ++ tail) ≡ (pair_words kvs, parts)
-  cut-pairs [] tail parts e = e
-  cut-pairs (kv ∷ kvs) tail parts e = rw (pair-no_section kv, cut-pairs kvs tail parts e) refl
-
   pub cut-section : (word : List ℕ) (section : SectionWord) (kvs : List Kv) (tail : Words) (parts : List Part) → section_of owner word ≡ Some section
       → takes_name (Some section) ≡ false → cut_into_sections owner false tail ≡ ([], parts) → cut_into_sections owner false (section_words word kvs ++ tail) ≡ ([], section_parts section kvs ++ parts)
   cut-section word section [] tail parts s n e = e
-  cut-section word section (kv ∷ kvs) tail parts s n e = rw (s, n, cut-pairs (kv ∷ kvs) tail parts e) refl
+  cut-section word section (kv ∷ kvs) tail parts s n e = rw (s, n, cut-pairs owner (kv ∷ kvs) tail parts e) refl
 
   -- the last section
   pub cut-last : (word : List ℕ) (section : SectionWord) (kvs : List Kv) → section_of owner word ≡ Some section → takes_name (Some section) ≡ false
@@ -56,4 +36,4 @@ module _ (owner : Owner) where
   -- operations, whose names are words of their own
   pub cut-operations : (ops : List Operation) → section_of owner (codes "op") ≡ Some Op → cut_into_sections owner false (flat_map operation_words ops) ≡ ([], map op_part ops)
   cut-operations [] s = refl
-  cut-operations (op ∷ ops) s = rw (s, cut-pairs op.pairs (flat_map operation_words ops) (map op_part ops) (cut-operations ops s)) refl
+  cut-operations (op ∷ ops) s = rw (s, cut-pairs owner op.pairs (flat_map operation_words ops) (map op_part ops) (cut-operations ops s)) refl

@@ -1,5 +1,5 @@
 -- The words of the sections of a statement are read as these sections again.
-use Rattle.std.proofs.Common.{◌≡◌, true, false, List, [], ◌∷◌, ◌++◌, Some, Ok, refl, sym, ap, ◌∙◌, append-nil}
+use Rattle.std.proofs.Common.{◌≡◌, true, false, List, ◌∷◌, ◌++◌, Some, Ok, refl, sym, ap, ◌∙◌, append-nil, []}
 use Rattle.std.specs.Prelude.{codes, map}
 use Rattle.std.specs.List.{flat_map}
 use Rattle.crm_parse.specs.declared.owner.Owner.{Owner}
@@ -16,27 +16,10 @@ use Rattle.crm_parse.specs.Sections.{Part, cut_into_sections, may_follow, no_sec
 use Rattle.faults.proofs.Steps.{bind-ok}
 use Rattle.crm_parse.proofs.OperationWords.{KeptOps, op_words, with_operations}
 use Rattle.crm_parse.proofs.PairLists.{Kept, pair_words}
-use Rattle.crm_print.proofs.PairsAgain.{section-again}
+use Rattle.crm_parse.proofs.PairsAgain.{section-again}
 use Rattle.crm_print.proofs.SectionCuts.{op_part, section_parts, cut-section, cut-last, cut-operations}
 use Rattle.crm_print.proofs.Written.{operation_words, section_words}
-
--- the pairs of a section
-abbrev pub pairs_of : SectionWord → Sections → List Kv
-pairs_of Attributes s = s.attributes
-pairs_of Params s = s.params
-pairs_of Meta s = s.meta
-pairs_of Utilization s = s.utilization
-pairs_of Operations s = s.operations
-pairs_of Op s = []
-
--- the sections with these pairs
-abbrev pub put : SectionWord → List Kv → Sections → Sections
-put Attributes pairs s = record s { attributes = pairs }
-put Params pairs s = record s { params = pairs }
-put Meta pairs s = record s { meta = pairs }
-put Utilization pairs s = record s { utilization = pairs }
-put Operations pairs s = record s { operations = pairs }
-put Op pairs s = s
+use Rattle.crm_parse.proofs.SectionPairs.{pairs_of, put}
 
 put-none : (section : SectionWord) (s : Sections) → pairs_of section s ≡ [] → put section [] s ≡ s
 put-none Attributes s e = ap (λ ps. put Attributes ps s) (sym e)

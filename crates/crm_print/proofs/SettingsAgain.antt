@@ -13,8 +13,8 @@ use Rattle.crm_parse.specs.Pairs.{kv_of, repeats}
 use Rattle.crm_parse.specs.Reading.{Words, given_at}
 use Rattle.faults.specs.Reading.{◌>>=◌}
 use Rattle.crm_parse.specs.Settings.{begins_pair, set_at, set_before, sets, settings_at, settings_pairs, settings_place, with_setting, with_settings}
-use Rattle.crm_print.specs.WordTexts.{settings_text}
-use Rattle.crm_print.proofs.Affixes.{colon_at-words, given_words}
+use Rattle.crm_parse.specs.WordTexts.{settings_text}
+use Rattle.crm_parse.proofs.Affixes.{colon_at-words, given_words}
 use Rattle.crm_parse.proofs.Binds.{given_at-ok, unless-ok}
 use Rattle.faults.proofs.Steps.{bind-ok}
 use Rattle.crm_parse.proofs.PairLists.{Adds, AddsAll, adds_more, adds_none, pair_words}

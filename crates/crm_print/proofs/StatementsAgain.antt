@@ -20,7 +20,7 @@ use Rattle.crm_parse.specs.Primitive.{primitive_at}
 use Rattle.crm_parse.specs.Reading.{Words}
 use Rattle.crm_parse.specs.Settings.{settings_at}
 use Rattle.crm_parse.specs.Statements.{draft_after, draft_of, finished, keyword_of, order, whole}
-use Rattle.crm_print.specs.WordTexts.{settings_text}
+use Rattle.crm_parse.specs.WordTexts.{settings_text}
 use Rattle.faults.proofs.Steps.{bind-ok}
 use Rattle.crm_print.proofs.CloneAgain.{clone_at-again}
 use Rattle.crm_print.proofs.ColocationAgain.{colocation-again}

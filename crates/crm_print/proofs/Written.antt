@@ -1,5 +1,5 @@
 -- The words that a statement is written with.
-use Rattle.std.specs.Prelude.{◌≡◌, ℕ, ℤ, Bool, true, false, List, [], ◌∷◌, ◌++◌, map, codes, Option, Some, None, Result, Ok}
+use Rattle.std.specs.Prelude.{◌≡◌, ℕ, ℤ, Bool, List, ◌∷◌, ◌++◌, map, codes, Option, Some, None, Result, Ok, []}
 use Rattle.std.specs.List.{flat_map}
 use Rattle.score.specs.ScoreText.{score_text}
 use Rattle.crm_parse.specs.declared.fault.ParseCause.{ParseCause}
@@ -13,9 +13,10 @@ use Rattle.crm_parse.specs.declared.rule_form.RuleForm.{RuleForm}
 use Rattle.crm_parse.specs.declared.words.RoleWord.{RoleWord}
 use Rattle.crm_parse.specs.declared.words.RoleWord.TheVariants as role
 use Rattle.crm_parse.specs.Reading.{Words}
-use Rattle.crm_print.specs.WordTexts.{action_word_text, bool_text, clone_word, kind_text, role_text, settings_text}
-use Rattle.crm_print.proofs.Affixes.{given_words, noted_words}
+use Rattle.crm_parse.specs.WordTexts.{action_word_text, bool_text, clone_word, kind_text, role_text, settings_text}
+use Rattle.crm_parse.proofs.Affixes.{given_words, noted_words}
 use Rattle.crm_parse.proofs.PairLists.{pair_words}
+use Rattle.crm_parse.proofs.LocationRead.{discovery_words}
 
 -- a score with its colon
 abbrev pub score_word : ℤ → List ℕ
@@ -51,10 +52,6 @@ rule_words r = noted_words (codes "$id=") r.id ++ (role_words (codes "$role=") r
 
 abbrev pub ruled_words : RuleForm → Words
 ruled_words r = codes "rule" ∷ rule_words r
-
-abbrev pub discovery_words : Bool → Words
-discovery_words true = codes "resource-discovery=always" ∷ []
-discovery_words false = []
 
 -- a location up to its score or its rules
 abbrev pub located_words : List ℕ → List ℕ → Option RoleWord → Bool → Words → Words

@@ -20,12 +20,13 @@ use Rattle.crm_parse.specs.declared.words.RoleWord.TheVariants as role
 use Rattle.crm_parse.specs.declared.words.SettingsWord.{SettingsWord}
 use Rattle.crm_parse.specs.declared.words.SettingsWord.TheVariants.{Property, RscDefaults, OpDefaults}
 use Rattle.crm_parse.specs.Reading.{Words}
-use Rattle.crm_print.specs.WordTexts.{action_word_text, bool_text, kind_text, settings_text}
-use Rattle.crm_print.proofs.Affixes.{given_words, noted_words}
+use Rattle.crm_parse.specs.WordTexts.{action_word_text, bool_text, kind_text, settings_text}
+use Rattle.crm_parse.proofs.Affixes.{given_words, noted_words}
 use Rattle.crm_parse.proofs.OperationWords.{op_words}
 use Rattle.crm_parse.proofs.PairLists.{pair_words}
 use Rattle.crm_parse.proofs.PairWords.{pair_word}
-use Rattle.crm_print.proofs.Written.{discovery_words, located_words, meta_words, operation_words, role_words, ruled_words, score_word, section_words, side_word, step_word, written}
+use Rattle.crm_parse.proofs.LocationRead.{discovery_words}
+use Rattle.crm_print.proofs.Written.{located_words, meta_words, operation_words, role_words, ruled_words, score_word, section_words, side_word, step_word, written}
 use Rattle.crm_print.specs.Items.{discovery, given_id, in_role, items_of, labelled, location_items, noted, noted_role, operation_items, pair, parted, rule, section, side, step, with_colon, with_meta, word}
 use Rattle.crm_print.specs.Quoting.{Item, item_word}
 use Rattle.crm_print.specs.Text.{canonical_words}

@@ -1,5 +1,5 @@
 -- The items of the canonical line of each statement (crmsh manual, configure; the order of the sections is a rule of this project).
-use Rattle.std.specs.Prelude.{ℕ, Bool, true, false, if◌then◌else◌, List, [], ◌∷◌, ◌++◌, map, codes, Option, Some, None, ℤ}
+use Rattle.std.specs.Prelude.{ℕ, Bool, true, false, List, [], ◌∷◌, ◌++◌, map, codes, Option, Some, None}
 use Rattle.std.specs.List.{flat_map}
 use Rattle.score.specs.ScoreText.{score_text}
 use Rattle.crm_parse.specs.declared.form.Form.{Form}
@@ -11,7 +11,7 @@ use Rattle.crm_parse.specs.declared.pair.Operation.{Operation}
 use Rattle.crm_parse.specs.declared.rule_form.RuleForm.{RuleForm}
 use Rattle.crm_parse.specs.declared.words.RoleWord.{RoleWord}
 use Rattle.crm_parse.specs.declared.words.RoleWord.TheVariants as role
-use Rattle.crm_print.specs.WordTexts.{action_word_text, bool_text, clone_word, kind_text, role_text, settings_text}
+use Rattle.crm_parse.specs.WordTexts.{action_word_text, bool_text, clone_word, kind_text, role_text, settings_text}
 use Rattle.crm_print.specs.Quoting.{Item}
 
 -- a word alone

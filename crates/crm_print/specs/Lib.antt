@@ -1,4 +1,3 @@
-pub mod WordTexts
 pub mod Quoting
 pub mod Items
 pub mod Text

@@ -1,5 +1,5 @@
 -- How the words of a canonical text are written (crmsh manual, quoting; when a word is quoted is a rule of this project).
-use Rattle.std.specs.Prelude.{ℕ, nat_lt, ◌==◌, Bool, false, not, ◌&&◌, ◌||◌, if◌then◌else◌, List, [], ◌∷◌, ◌++◌, length, map}
+use Rattle.std.specs.Prelude.{ℕ, ◌==◌, Bool, false, not, ◌&&◌, ◌||◌, if◌then◌else◌, List, [], ◌∷◌, ◌++◌, length}
 use Rattle.std.specs.List.{concat, flat_map, list_any}
 use Rattle.crm_lex.specs.RawLines.{is_blank}
 

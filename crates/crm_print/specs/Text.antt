@@ -5,7 +5,7 @@ use Rattle.crm_parse.specs.declared.form.Form.{Form}
 use Rattle.crm_parse.specs.declared.statement.Crm.{Crm}
 use Rattle.crm_parse.specs.declared.statement.Statement.{Statement}
 use Rattle.crm_print.specs.Items.{items_of}
-use Rattle.crm_print.specs.Quoting.{Item, item_word, items_line}
+use Rattle.crm_print.specs.Quoting.{item_word, items_line}
 
 -- the words that the canonical line of a statement is read as
 abbrev pub canonical_words : Form → List (List ℕ)

@@ -1,7 +1,7 @@
 //! The words that are written for values of a few kinds.
 
 ghost use Rattle.std.specs.Prelude.{◌≡◌};
-ghost use Rattle.crm_print.specs.WordTexts.{action_word_text, bool_text, clone_word, kind_text, role_text, settings_text};
+ghost use Rattle.crm_parse.specs.WordTexts.{action_word_text, bool_text, clone_word, kind_text, role_text, settings_text};
 
 use crm_parse::{ActionWord, KindWord, RoleWord, SettingsWord};
 

@@ -3,7 +3,7 @@
 ghost use Rattle.std.specs.Prelude.{◌≡◌, ◌++◌, ◌∷◌, [], OnOk, codes, map};
 ghost use Rattle.std.specs.List.{flat_map};
 ghost use Rattle.crm_parse.specs.declared.form.Form.TheVariants as form;
-ghost use Rattle.crm_print.specs.WordTexts.{bool_text};
+ghost use Rattle.crm_parse.specs.WordTexts.{bool_text};
 ghost use Rattle.crm_print.specs.Quoting.{items_line, spaced};
 ghost use Rattle.crm_print.specs.Items.{labelled, operation_items, section, step, with_meta, word};
 ghost use Rattle.crm_print.specs.Text.{canonical_line};

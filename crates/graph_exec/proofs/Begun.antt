@@ -43,7 +43,7 @@ module _ (log : LogOf) (f : InFlightOf) (h : InFlightFollows log f) (k : ℕ) (a
   not_flying : is_member f.flying k ≡ false
   not_flying =
       (h.each k low high).flying
-      ∙ ap (λ b. b && not (steps.has_ended (going r) r.since k)) (sym (h.each k low high).begun ∙ not_begun)
+      ∙ ap (λ b. b && not (steps.has_number_ended (going r) r.since k)) (sym (h.each k low high).begun ∙ not_begun)
 
   counted_flying : count_by (λ b. b) (slice_set f.flying (k - 1) true) ≡ count_by (λ b. b) f.flying + 1
   counted_flying =

@@ -11,7 +11,7 @@ use Rattle.cluster_types.specs.declared.journal.Promotion.{Promotion}
 use Rattle.cluster_types.specs.Answering.{applies_after}
 use Rattle.cluster_types.specs.Runs.{amid, RunsOn, goes, completes, aborts, journal_at}
 use Rattle.cluster_types.specs.Steps as steps
-use Rattle.cluster_types.specs.Steps.{Transition, StepsOn, HasEnded, IsWaiting, in_flight_by_number, has_aborted, journal, outside}
+use Rattle.cluster_types.specs.Steps.{Transition, StepsOn, HasEnded, IsWaiting, in_flight_by_number, has_aborted, journal, count_from_outside}
 use Rattle.cluster_types.specs.Texts.{event_lines}
 use Rattle.graph_exec.specs.Logs.{JournalOf}
 use Rattle.graph_exec.specs.Running.{Running, Went, going, known_of}
@@ -140,8 +140,8 @@ module _ (whole steady : Bool) (names : Option Cluster) (k : ℕ) (r now : Runni
       → RunEndsCut here_set (amid k (going r) []) (sight rest over before) (sight left over_now text) j given
   cut given g told e j is =
       let same : going now ≡ going r = ap going g.went.same in
-      let refused : applies_after r.cluster (journal (going r) now.since) (in_flight_by_number (going r) now.since) (outside (going r) now.since) given ≡ false
-      = subst (λ (t : Transition). applies_after t.cluster (journal t now.since) (in_flight_by_number t now.since) (outside t now.since) given ≡ false) same e.refused in
+      let refused : applies_after r.cluster (journal (going r) now.since) (in_flight_by_number (going r) now.since) (count_from_outside (going r) now.since) given ≡ false
+      = subst (λ (t : Transition). applies_after t.cluster (journal t now.since) (in_flight_by_number t now.since) (count_from_outside t now.since) given ≡ false) same e.refused in
       record {
         last = amid k (going r) now.since;
         unread = g.before;

@@ -13,7 +13,7 @@ use Rattle.cluster_types.specs.declared.journal.Event.TheVariants.{Ended}
 use Rattle.cluster_types.specs.declared.journal.Outcome.{Outcome}
 use Rattle.cluster_types.specs.Answering.{is_number_of}
 use Rattle.cluster_types.specs.Journals.{moment_of}
-use Rattle.cluster_types.specs.Steps.{is_success, is_from_outside, ended, in_flight_by_number, has_begun, has_ended, has_succeeded}
+use Rattle.cluster_types.specs.Steps.{is_success, is_from_outside, ended, in_flight_by_number, has_begun, has_number_ended, has_succeeded}
 use Rattle.listed.specs.Sets.{is_member}
 use Rattle.graph_exec.specs.Flights.{InFlightOf, pairs_in_flight, with_ended}
 use Rattle.graph_exec.specs.Logs.{LogOf}
@@ -50,19 +50,19 @@ module _ (log : LogOf) (f : InFlightOf) (h : InFlightFollows log f) where
     is_up : is_member f.flying k ≡ true
     is_up = sym (is_flying f (record { flags = h.flight_size }) k low within) ∙ flies_here
 
-    up : (has_begun (going r) r.since k && not (has_ended (going r) r.since k)) ≡ true
+    up : (has_begun (going r) r.since k && not (has_number_ended (going r) r.since k)) ≡ true
     up = sym (h.each k low high).flying ∙ is_up
 
     -- it has begun, and hasn't succeeded
     pub has_run : is_member f.progress.begun k ≡ true
-    has_run = (h.each k low high).begun ∙ sooner (has_begun (going r) r.since k) (not (has_ended (going r) r.since k)) up
+    has_run = (h.each k low high).begun ∙ sooner (has_begun (going r) r.since k) (not (has_number_ended (going r) r.since k)) up
 
     pub not_yet : is_member f.progress.succeeded k ≡ false
     not_yet = (h.each k low high).succeeded ∙ on (has_succeeded (going r) r.since k) refl where
       on : (b : Bool) → has_succeeded (going r) r.since k ≡ b → b ≡ false
       on true e =
           let o = (h.each k low high).over e in
-          let n = not-true (has_ended (going r) r.since k) (later (has_begun (going r) r.since k) (not (has_ended (going r) r.since k)) up) in
+          let n = not-true (has_number_ended (going r) r.since k) (later (has_begun (going r) r.since k) (not (has_number_ended (going r) r.since k)) up) in
           cc
       on false e = refl
 

@@ -17,7 +17,7 @@ use Rattle.cluster_types.specs.declared.journal.Outcome.{Outcome}
 use Rattle.cluster_types.specs.declared.journal.Outcome.TheVariants.{Code, TimedOut}
 use Rattle.cluster_types.specs.Answering.{applies_after, is_number_of, monitor_action, most_from_outside}
 use Rattle.cluster_types.specs.Journals.{ends_number, moment_of}
-use Rattle.cluster_types.specs.Steps.{Begins, EndsSilently, begins_number, ended, answer_events, numbers_in_flight, in_flight_by_number, has_begun, has_ended, is_from_outside, is_number_in_flight, numbers, outside, silent_code}
+use Rattle.cluster_types.specs.Steps.{Begins, EndsSilently, begins_number, ended, answer_events, numbers_in_flight, in_flight_by_number, has_begun, has_number_ended, is_from_outside, is_number_in_flight, numbers, count_from_outside, silent_code}
 use Rattle.cluster_types.proofs.StepLaws.{not_begun}
 use Rattle.run_safety.proofs.InFlight.{number_within}
 use Rattle.graph_exec.specs.Inner.Rounds.{begins_left, ends_left, asks_left}
@@ -39,10 +39,10 @@ module _ (r : Running) (es : List Event) where
 
   pub ends_fewer : ends_left (running.later r es) ≤ ends_left r
   ends_fewer =
-      count_more (λ k. not (has_ended (going r) (r.since ++ es) k)) (λ k. not (has_ended (going r) r.since k))
+      count_more (λ k. not (has_number_ended (going r) (r.since ++ es) k)) (λ k. not (has_number_ended (going r) r.since k))
       (λ k h. not_before (ends_number k) r.since es h) (numbers (going r))
 
-  outside_more : outside (going r) (r.since ++ es) ≡ outside (going r) r.since + count_by is_from_outside es
+  outside_more : count_from_outside (going r) (r.since ++ es) ≡ count_from_outside (going r) r.since + count_by is_from_outside es
   outside_more = count-append is_from_outside r.since es
 
   pub asks_fewer : asks_left (running.later r es) ≤ asks_left r
@@ -60,15 +60,15 @@ module _ (r : Running) (es : List Event) where
         count_one_more (λ k. not (has_begun (going r) (r.since ++ es) k)) (λ k. not (has_begun (going r) r.since k))
         (λ k h. not_before (begins_number k) r.since es h) (numbers (going r)) (k - 1) k among_numbers at (rw is refl) (rw was refl)
 
-    pub one_ended : has_ended (going r) r.since k ≡ false → has_ended (going r) (r.since ++ es) k ≡ true → asks_left (running.later r es) < asks_left r
+    pub one_ended : has_number_ended (going r) r.since k ≡ false → has_number_ended (going r) (r.since ++ es) k ≡ true → asks_left (running.later r es) < asks_left r
     one_ended was is =
         let e : ends_left (running.later r es) < ends_left r
-        = count_one_more (λ k. not (has_ended (going r) (r.since ++ es) k)) (λ k. not (has_ended (going r) r.since k))
+        = count_one_more (λ k. not (has_number_ended (going r) (r.since ++ es) k)) (λ k. not (has_number_ended (going r) r.since k))
         (λ k h. not_before (ends_number k) r.since es h) (numbers (going r)) (k - 1) k among_numbers at (rw is refl) (rw was refl) in
         let o = outside_more in
         omega arith
 
-  pub one_told : outside (going r) r.since < most_from_outside → 0 < count_by is_from_outside es → asks_left (running.later r es) < asks_left r
+  pub one_told : count_from_outside (going r) r.since < most_from_outside → 0 < count_by is_from_outside es → asks_left (running.later r es) < asks_left r
   one_told few some = let e = ends_fewer in let o = outside_more in omega arith
 
 module _ (r : Running) where
@@ -83,7 +83,7 @@ module _ (r : Running) where
     pub end_leaves : asks_left (running.later r (ended (going r) r.since k outcome)) < asks_left r
     end_leaves =
         rw ended_is (one_ended r (Ended k (action_of r.graph.actions k) outcome (moment_of (r.planned_at ++ r.since)) ∷ []) k low high
-        (not-true (has_ended (going r) r.since k) (later (has_begun (going r) r.since k) (not (has_ended (going r) r.since k)) up))
+        (not-true (has_number_ended (going r) r.since k) (later (has_begun (going r) r.since k) (not (has_number_ended (going r) r.since k)) up))
         (any_last (ends_number k) r.since (Ended k (action_of r.graph.actions k) outcome (moment_of (r.planned_at ++ r.since))) (eq-eqb k k refl)))
 
   -- an action in flight is one of the transition
@@ -116,20 +116,20 @@ module _ (r : Running) where
   lost_one : (n : ℕ) → 0 < count_by is_from_outside (all_gone r n ++ Lost n ∷ [])
   lost_one n = let c = count-append is_from_outside (all_gone r n) (Lost n ∷ []) in let o = outside_one (Lost n) refl in omega arith
 
-  few_of : (rest : Bool) → nat_lt (outside (going r) r.since) most_from_outside && rest ≡ true → outside (going r) r.since < most_from_outside
-  few_of rest h = ltb-true _ _ (sooner (nat_lt (outside (going r) r.since) most_from_outside) rest h)
+  few_of : (rest : Bool) → nat_lt (count_from_outside (going r) r.since) most_from_outside && rest ≡ true → count_from_outside (going r) r.since < most_from_outside
+  few_of rest h = ltb-true _ _ (sooner (nat_lt (count_from_outside (going r) r.since) most_from_outside) rest h)
 
-  pub take_leaves : (given : Answer) → applies_after r.cluster (r.planned_at ++ r.since) (in_flight_by_number (going r) r.since) (outside (going r) r.since) given ≡ true
+  pub take_leaves : (given : Answer) → applies_after r.cluster (r.planned_at ++ r.since) (in_flight_by_number (going r) r.since) (count_from_outside (going r) r.since) given ≡ true
       → asks_left (running.later r (answer_events (going r) r.since given)) < asks_left r
   take_leaves (answer.End k code) h = let u = up_of k h in end_leaves k u.low u.high u.up (Code code)
   take_leaves (answer.Timeout k) h = let u = up_of k h in end_leaves k u.low u.high u.up TimedOut
   take_leaves (answer.Lost n) h =
       one_told r (all_gone r n ++ Lost n ∷ [])
-      (few_of (nat_lt n (length r.cluster.nodes)) (sooner (nat_lt (outside (going r) r.since) most_from_outside && nat_lt n (length r.cluster.nodes)) _ h))
+      (few_of (nat_lt n (length r.cluster.nodes)) (sooner (nat_lt (count_from_outside (going r) r.since) most_from_outside && nat_lt n (length r.cluster.nodes)) _ h))
       (lost_one n)
   take_leaves (answer.Up n) h =
       one_told r (Up n ∷ [])
-      (few_of (nat_lt n (length r.cluster.nodes)) (sooner (nat_lt (outside (going r) r.since) most_from_outside && nat_lt n (length r.cluster.nodes)) _ h))
+      (few_of (nat_lt n (length r.cluster.nodes)) (sooner (nat_lt (count_from_outside (going r) r.since) most_from_outside && nat_lt n (length r.cluster.nodes)) _ h))
       (outside_one (Up n) refl)
   take_leaves (answer.Quorum now) h = one_told r (Quorum now ∷ []) (ltb-true _ _ h) (outside_one (Quorum now) refl)
   take_leaves (answer.Wait seconds) h = one_told r (Wait seconds ∷ []) (few_of _ h) (outside_one (Wait seconds) refl)
@@ -149,6 +149,6 @@ module _ (r : Running) where
   -- at first there are as many as actions, and the answers from outside
   pub asks_most : asks_left r ≤ length r.graph.actions + most_from_outside
   asks_most =
-      let c = count_by-le-length (λ k. not (has_ended (going r) r.since k)) (numbers (going r)) in
+      let c = count_by-le-length (λ k. not (has_number_ended (going r) r.since k)) (numbers (going r)) in
       let l = length-range_with_len 1 (length r.graph.actions) in
       omega arith

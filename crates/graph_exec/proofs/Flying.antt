@@ -16,7 +16,7 @@ use Rattle.cluster_types.specs.declared.journal.Outcome.{Outcome}
 use Rattle.cluster_types.specs.declared.journal.Outcome.TheVariants.{Gone}
 use Rattle.cluster_types.specs.Answering.{is_number_of, end_event}
 use Rattle.cluster_types.specs.Journals.{ends_number, moment_of}
-use Rattle.cluster_types.specs.Steps.{begins_number, ended, numbers_in_flight, in_flight_by_number, has_begun, has_ended, is_number_in_flight}
+use Rattle.cluster_types.specs.Steps.{begins_number, ended, numbers_in_flight, in_flight_by_number, has_begun, has_number_ended, is_number_in_flight}
 use Rattle.graph_exec.specs.Running.{Running, going}
 use Rattle.run_safety.proofs.ByNumber.{action_of, with_action, flat_is}
 use Rattle.graph_exec.proofs.Pairs.{found_of, of_members}
@@ -91,14 +91,14 @@ module _ (r : Running) where
     begun_now : (j : ℕ) → has_begun (going r) (r.since ++ event ∷ []) j ≡ has_begun (going r) r.since j
     begun_now j = any-more (begins_number j) r.since event ∙ or-false (has_begun (going r) r.since j)
 
-    ended_now : (j : ℕ) → has_ended (going r) (r.since ++ event ∷ []) j ≡ (has_ended (going r) r.since j || (k == j))
+    ended_now : (j : ℕ) → has_number_ended (going r) (r.since ++ event ∷ []) j ≡ (has_number_ended (going r) r.since j || (k == j))
     ended_now j = any-more (ends_number j) r.since event
 
     pub flight_now : numbers_in_flight (going r) (r.since ++ event ∷ []) ≡ take place ks ++ drop (place + 1) ks
     flight_now =
         without (is_number_in_flight (going r) r.since) (is_number_in_flight (going r) (r.since ++ event ∷ [])) k
-        (rw (begun_now k, ended_now k, eq-eqb k k refl) (over (has_begun (going r) r.since k) (has_ended (going r) r.since k)))
-        (λ j d. rw (begun_now j, ended_now j, ne_eqb k j (λ e. d (sym e)), or-false (has_ended (going r) r.since j)) refl)
+        (rw (begun_now k, ended_now k, eq-eqb k k refl) (over (has_begun (going r) r.since k) (has_number_ended (going r) r.since k)))
+        (λ j d. rw (begun_now j, ended_now j, ne_eqb k j (λ e. d (sym e)), or-false (has_number_ended (going r) r.since j)) refl)
         1 (length r.graph.actions) place s.number
         ∙ ap (λ i. take place ks ++ drop i ks) (let e : suc place ≡ place + 1 = omega arith in e)
       where

@@ -6,7 +6,7 @@ use Rattle.cluster_types.specs.declared.journal.Action.{Action}
 use Rattle.cluster_types.specs.declared.journal.Answer.{Answer}
 use Rattle.cluster_types.specs.declared.journal.Event.{Event}
 use Rattle.cluster_types.specs.Answering.{added_by, applies_after}
-use Rattle.cluster_types.specs.Steps.{Transition, action_at, answer_events, in_flight_by_number, is_from_outside, is_number_in_flight, journal, numbers, outside, resting}
+use Rattle.cluster_types.specs.Steps.{Transition, action_at, answer_events, in_flight_by_number, is_from_outside, is_number_in_flight, journal, numbers, count_from_outside, resting}
 use Rattle.graph_exec.specs.Logs.{JournalOf}
 use Rattle.graph_exec.specs.Resting.{IsRefusedResting, IsResting, TookResting, resting_at}
 use Rattle.graph_exec.specs.Running.{Running, going, known_of, later}
@@ -20,7 +20,7 @@ module _ (r : Running) (is : IsResting r) where
   pub flies_none : in_flight_by_number (going r) r.since ≡ []
   flies_none = none_flying (going r) r.since is.nothing_to_do
 
-  pub resting_applies : (given : Answer) → applies_after r.cluster (journal (going r) r.since) (in_flight_by_number (going r) r.since) (outside (going r) r.since) given
+  pub resting_applies : (given : Answer) → applies_after r.cluster (journal (going r) r.since) (in_flight_by_number (going r) r.since) (count_from_outside (going r) r.since) given
       ≡ applies_after r.cluster (r.planned_at ++ []) [] 0 given
   resting_applies given =
       ap (λ (since : List Event). applies_after r.cluster (r.planned_at ++ since) (in_flight_by_number (going r) since) (count_by is_from_outside since) given) is.nothing_new
@@ -36,7 +36,7 @@ module _ (r : Running) (is : IsResting r) where
 
   -- an answer that doesn't apply leaves the journal as it is
   pub refuses : (given : Answer) (b : Bool)
-      → b ≡ applies_after r.cluster (journal (going r) r.since) (in_flight_by_number (going r) r.since) (outside (going r) r.since) given → b ≡ false
+      → b ≡ applies_after r.cluster (journal (going r) r.since) (in_flight_by_number (going r) r.since) (count_from_outside (going r) r.since) given → b ≡ false
       → (j : JournalOf) → j ≡ rests_with (r.planned_at ++ r.since) → IsRefusedResting (resting_at r) j given
   refuses given b says so j left = record {
     refused = λ applies. let e = resting_applies given in let f : ⊥ = cc in f;
@@ -45,7 +45,7 @@ module _ (r : Running) (is : IsResting r) where
 
   -- one that applies is entered
   pub takes_resting : (given : Answer) (b : Bool)
-      → b ≡ applies_after r.cluster (journal (going r) r.since) (in_flight_by_number (going r) r.since) (outside (going r) r.since) given → b ≡ true
+      → b ≡ applies_after r.cluster (journal (going r) r.since) (in_flight_by_number (going r) r.since) (count_from_outside (going r) r.since) given → b ≡ true
       → (now : Running) → now ≡ later r (answer_events (going r) r.since given)
       → (j : JournalOf) → j ≡ known_of now → TookResting (resting_at r) j given
   takes_resting given b says so now goes j left = record {

@@ -21,7 +21,7 @@ use Rattle.cluster_types.specs.Graphs.{GraphOf}
 use Rattle.cluster_types.specs.Plans.{CarriesOut, transition_on}
 use Rattle.cluster_types.specs.Runs.{RunStanding, due, amid, idle, completes, aborts, Runs, here, journal_at}
 use Rattle.cluster_types.specs.Steps as steps
-use Rattle.cluster_types.specs.Steps.{Transition, HasEnded, IsWaiting, in_flight_by_number, has_aborted, outside}
+use Rattle.cluster_types.specs.Steps.{Transition, HasEnded, IsWaiting, in_flight_by_number, has_aborted, count_from_outside}
 use Rattle.cluster_types.specs.Tables.{targets_of}
 use Rattle.cluster_types.specs.Texts.{all_passed_lines, end_lines, event_lines, target_lines}
 use Rattle.cluster_types.proofs.SourceLaws.{carries-out}
@@ -247,8 +247,8 @@ module _ (j : JournalOf) (p : Planned) (ready : IsReady j p) (whole steady : Boo
     ends_cut left given w e by journal leaves =
         let same = going_there w.before w.went in
         let t = transition_on j.cluster p.executor.graph j.events in
-        let refused : applies_after t.cluster (steps.journal t now.since) (in_flight_by_number t now.since) (outside t now.since) given ≡ false =
-        subst (λ (t : Transition). applies_after t.cluster (steps.journal t now.since) (in_flight_by_number t now.since) (outside t now.since) given ≡ false) same by.refused in
+        let refused : applies_after t.cluster (steps.journal t now.since) (in_flight_by_number t now.since) (count_from_outside t now.since) given ≡ false =
+        subst (λ (t : Transition). applies_after t.cluster (steps.journal t now.since) (in_flight_by_number t now.since) (count_from_outside t now.since) given ≡ false) same by.refused in
         record {
           last = amid (1 + length passed) t now.since;
           unread = w.before;

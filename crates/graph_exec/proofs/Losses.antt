@@ -12,7 +12,7 @@ use Rattle.cluster_types.specs.declared.journal.Event.TheVariants.{Ended}
 use Rattle.cluster_types.specs.declared.journal.Outcome.TheVariants.{Gone}
 use Rattle.cluster_types.specs.Answering.{end_event}
 use Rattle.cluster_types.specs.Journals.{is_on, moment_of, seconds_of}
-use Rattle.cluster_types.specs.Steps.{ended, numbers_in_flight, in_flight_by_number, is_from_outside, is_number_in_flight, outside}
+use Rattle.cluster_types.specs.Steps.{ended, numbers_in_flight, in_flight_by_number, is_from_outside, is_number_in_flight, count_from_outside}
 use Rattle.graph_exec.specs.Running.{Running, all_gone, going, later}
 use Rattle.run_safety.proofs.ByNumber.{action_of, with_action}
 use Rattle.graph_exec.proofs.Flying.{StandsAt, event, flying_is, gone_is, rest_same}
@@ -147,7 +147,7 @@ inside actions n m p a (suc count) some = on (p a) (inside actions n m p (a + 1)
   on true rest = inside_on actions n m a (filter p (range_with_len (a + 1) count)) (is_on n (action_of actions a)) refl some rest
   on false rest = rest
 
-pub still_few : (r : Running) (n : ℕ) → outside (going r) (r.since ++ all_gone r n) ≡ outside (going r) r.since
+pub still_few : (r : Running) (n : ℕ) → count_from_outside (going r) (r.since ++ all_gone r n) ≡ count_from_outside (going r) r.since
 still_few r n =
     let listed : all_gone r n ≡ gone_of r.graph.actions n (moment_of (r.planned_at ++ r.since)) (numbers_in_flight (going r) r.since)
     = ap (λ (ps : List (ℕ × Action)). map (end_event r.cluster (r.planned_at ++ r.since) (in_flight_by_number (going r) r.since) Gone) (filter (λ (p : ℕ × Action). is_on n p.1) ps)) (flying_is r)

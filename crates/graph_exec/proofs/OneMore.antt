@@ -7,7 +7,7 @@ use Rattle.lemmas.proofs.Booleans.{either}
 use Rattle.lemmas.proofs.Searches.{any-more}
 use Rattle.cluster_types.specs.declared.journal.Event.{Event}
 use Rattle.cluster_types.specs.Journals.{ends_number}
-use Rattle.cluster_types.specs.Steps.{begins_number, succeeds_number, has_begun, has_ended, has_succeeded}
+use Rattle.cluster_types.specs.Steps.{begins_number, succeeds_number, has_begun, has_number_ended, has_succeeded}
 use Rattle.listed.specs.Sets.{is_member}
 use Rattle.run_safety.proofs.Preceded.{success_ends}
 use Rattle.graph_exec.specs.Flights.{InFlightOf}
@@ -49,7 +49,7 @@ module _ (log : LogOf) (f after : InFlightOf) (e : Event) (h : InFlightFollows l
     begun_now : has_begun (going (running log f)) (log.since ++ e ∷ []) j ≡ (has_begun (going (running log f)) log.since j || begins_number j e)
     begun_now = any-more (begins_number j) log.since e
 
-    ended_now : has_ended (going (running log f)) (log.since ++ e ∷ []) j ≡ (has_ended (going (running log f)) log.since j || ends_number j e)
+    ended_now : has_number_ended (going (running log f)) (log.since ++ e ∷ []) j ≡ (has_number_ended (going (running log f)) log.since j || ends_number j e)
     ended_now = any-more (ends_number j) log.since e
 
     succeeded_now : has_succeeded (going (running log f)) (log.since ++ e ∷ []) j
@@ -66,14 +66,14 @@ module _ (log : LogOf) (f after : InFlightOf) (e : Event) (h : InFlightFollows l
       flying =
           a.flying j low high
           ∙ ap (λ (b : Bool). (b || begins_number j e) && not (ends_number j e)) old.flying
-          ∙ sym (rw (begun_now, ended_now) (flies_on (has_begun (going (running log f)) log.since j) (has_ended (going (running log f)) log.since j)
+          ∙ sym (rw (begun_now, ended_now) (flies_on (has_begun (going (running log f)) log.since j) (has_number_ended (going (running log f)) log.since j)
           (begins_number j e) (ends_number j e) old.ended (λ b. sym old.begun ∙ a.fresh j low high b)));
-      ended = λ t. either (has_ended (going (running log f)) log.since j) (ends_number j e) (sym ended_now ∙ t)
+      ended = λ t. either (has_number_ended (going (running log f)) log.since j) (ends_number j e) (sym ended_now ∙ t)
           (λ before. rw begun_now (rw (old.ended before) refl))
           (λ now. rw begun_now (rw (sym old.begun ∙ a.known j low high now) refl));
       over = λ t. either (has_succeeded (going (running log f)) log.since j) (succeeds_number log.cluster j e) (sym succeeded_now ∙ t)
           (λ before. rw ended_now (rw (old.over before) refl))
-          (λ now. rw ended_now (or_right (has_ended (going (running log f)) log.since j) (ends_number j e) (success_ends log.cluster j e now)));
+          (λ now. rw ended_now (or_right (has_number_ended (going (running log f)) log.since j) (ends_number j e) (success_ends log.cluster j e now)));
     }
 
   pub follows_more : InFlightFollows (logged log e) after

@@ -3,7 +3,7 @@ use Rattle.std.proofs.Common.{arith, ◌≡◌, ◌<◌, ◌≤◌, not, ℕ, su
 use Rattle.std.proofs.lemmas.Bool.{cases_lt}
 use Rattle.lemmas.proofs.Booleans.{sooner}
 use Rattle.cluster_types.specs.declared.journal.Action.{Action}
-use Rattle.cluster_types.specs.Steps.{EndsSilently, IsWaiting, has_begun, has_ended, is_number_in_flight}
+use Rattle.cluster_types.specs.Steps.{EndsSilently, IsWaiting, has_begun, has_number_ended, is_number_in_flight}
 use Rattle.graph_exec.specs.Running.{Running, going}
 use Rattle.graph_exec.proofs.FirstOf.{IsFirst, first_is}
 use Rattle.graph_exec.proofs.Flying.{StandsAt}
@@ -14,7 +14,7 @@ module _ (r : Running) (from_one : has_begun (going r) r.since 0 ≡ false) (wai
   first = first_is (is_number_in_flight (going r) r.since) 1 (length r.graph.actions) k s.number
 
   least : (j : ℕ) → is_number_in_flight (going r) r.since j ≡ true → k ≤ j
-  least zero flies = let b = sooner (has_begun (going r) r.since 0) (not (has_ended (going r) r.since 0)) flies in let n = from_one in cc
+  least zero flies = let b = sooner (has_begun (going r) r.since 0) (not (has_number_ended (going r) r.since 0)) flies in let n = from_one in cc
   least (suc j) flies = on (cases_lt (length r.graph.actions) (suc j)) where
     on : (length r.graph.actions < suc j) ⊎ (suc j ≤ length r.graph.actions) → k ≤ suc j
     on (inl past) = omega (arith, first.high, past)

@@ -13,7 +13,7 @@ use Rattle.cluster_types.specs.Graphs.{GraphOf, IsGraph}
 use Rattle.cluster_types.specs.Journals.{is_on}
 use Rattle.cluster_types.specs.Plans.{transition_on}
 use Rattle.cluster_types.specs.Steps as steps
-use Rattle.cluster_types.specs.Steps.{Transition, Goes, Begins, TakesAnswer, EndsSilently, ended, silent_code, is_settled, has_begun, has_ended, has_succeeded, is_number_in_flight, outside, answer_events, in_flight_by_number}
+use Rattle.cluster_types.specs.Steps.{Transition, Goes, Begins, TakesAnswer, EndsSilently, ended, silent_code, is_settled, has_begun, has_number_ended, has_succeeded, is_number_in_flight, count_from_outside, answer_events, in_flight_by_number}
 use Rattle.listed.specs.Sets.{is_member}
 use Rattle.graph_exec.specs.Flights.{InFlightOf}
 use Rattle.graph_exec.specs.Logs.{JournalOf, LogOf}
@@ -80,7 +80,7 @@ pub record Took (old new : Running) (given : Answer) : Type 0 where
 
 -- the answer doesn't apply, and nothing changes
 pub record IsAnswerRefused (old new : Running) (given : Answer) : Type 0 where
-  pub refused : applies_after old.cluster (old.planned_at ++ old.since) (in_flight_by_number (going old) old.since) (outside (going old) old.since) given ≡ false
+  pub refused : applies_after old.cluster (old.planned_at ++ old.since) (in_flight_by_number (going old) old.since) (count_from_outside (going old) old.since) given ≡ false
   pub same : new ≡ old
 
 -- nothing more is said, and the first action in flight ends, as if this had been answered
@@ -96,8 +96,8 @@ pub record IsNumberKept (log : LogOf) (f : InFlightOf) (k : ℕ) : Type 0 where
   pub begun : is_member f.progress.begun k ≡ has_begun (going (running log f)) log.since k
   pub succeeded : is_member f.progress.succeeded k ≡ has_succeeded (going (running log f)) log.since k
   pub flying : is_member f.flying k ≡ is_number_in_flight (going (running log f)) log.since k
-  pub ended : has_ended (going (running log f)) log.since k ≡ true → has_begun (going (running log f)) log.since k ≡ true
-  pub over : has_succeeded (going (running log f)) log.since k ≡ true → has_ended (going (running log f)) log.since k ≡ true
+  pub ended : has_number_ended (going (running log f)) log.since k ≡ true → has_begun (going (running log f)) log.since k ≡ true
+  pub over : has_succeeded (going (running log f)) log.since k ≡ true → has_number_ended (going (running log f)) log.since k ≡ true
 
 -- how many events may come: two of each action that hasn't begun, one of each in flight, and the answers from outside
 abbrev pub events_to_come : LogOf → InFlightOf → ℕ

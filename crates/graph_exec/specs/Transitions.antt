@@ -6,7 +6,7 @@ use Rattle.cluster_types.specs.declared.journal.Event.{Event}
 use Rattle.cluster_types.specs.Answering.{applies_after}
 use Rattle.cluster_types.specs.Journals.{in_flight_by_begin}
 use Rattle.cluster_types.specs.Sources.{Says}
-use Rattle.cluster_types.specs.Steps.{HasEnded, IsWaiting, aborts, all_succeeded, in_flight_by_number, has_aborted, outside}
+use Rattle.cluster_types.specs.Steps.{HasEnded, IsWaiting, aborts, all_succeeded, in_flight_by_number, has_aborted, count_from_outside}
 use Rattle.graph_exec.specs.declared.transition.ends.WatchedEnd.{WatchedEnd}
 use Rattle.graph_exec.specs.declared.transition.ends.WatchedEnd.TheVariants as how
 use Rattle.graph_exec.specs.Running.{Running, Went, going}
@@ -26,7 +26,7 @@ pub record IsAborted (r : Running) (first : Event) : Type 0 where
 -- an answer was asked for, and this one doesn't apply
 pub record IsCutBy (r : Running) (given : Answer) : Type 0 where
   pub waiting : IsWaiting (going r) r.since
-  pub refused : applies_after r.cluster (r.planned_at ++ r.since) (in_flight_by_number (going r) r.since) (outside (going r) r.since) given ≡ false
+  pub refused : applies_after r.cluster (r.planned_at ++ r.since) (in_flight_by_number (going r) r.since) (count_from_outside (going r) r.since) given ≡ false
 
 abbrev pub EndsAs : Running → WatchedEnd → Type 0
 EndsAs r how.Complete = IsComplete r
@@ -48,7 +48,7 @@ GoneTo whole old new rest left _ = Went whole old new rest left
 -- nothing was in flight when the transition was planned, and the source agrees with what has happened
 pub record Accords (agrees : Cluster → List Event → ℕ → Type 0) (r : Running) : Type 0 where
   pub idle : in_flight_by_begin r.planned_at ≡ []
-  pub agrees_now : agrees r.cluster (r.planned_at ++ r.since) (outside (going r) r.since)
+  pub agrees_now : agrees r.cluster (r.planned_at ++ r.since) (count_from_outside (going r) r.since)
 
 -- nothing more is to be done in it
 abbrev pub HasGoneToEnd : WatchedEnd → Type 0

@@ -11,7 +11,7 @@ use Rattle.cluster_types.specs.declared.journal.Event.{Event}
 use Rattle.cluster_types.specs.declared.journal.Event.TheVariants.{Up, Down, Lost, Quorum, Wait, Cleanup, Ended}
 use Rattle.cluster_types.specs.declared.journal.Promotion.{Promotion}
 use Rattle.cluster_types.specs.Journals as journals
-use Rattle.cluster_types.specs.Journals.{NodeWord, Orderly, first_events, in_flight_by_begin, is_reported, leaving, moment_of, seconds_of}
+use Rattle.cluster_types.specs.Journals.{NodeWord, Orderly, first_events, in_flight_by_begin, is_history_event, leaving, moment_of, seconds_of}
 use Rattle.cluster_types.proofs.JournalLaws.{in-order, nothing-in-flight}
 use Rattle.input_reading.specs.declared.status.told.Told.{Told}
 use Rattle.input_reading.specs.declared.status.told.Told.TheVariants as told
@@ -38,13 +38,13 @@ one_more_differs (x ∷ before) one h k =
     (one_more_differs before one (later (not (list_any (is_again x) before)) _ h) now.1)
 
 -- the history is what a status tells
-history_reported : (nodes : ℕ) (lines : List Told) → list_all (is_known nodes) lines ≡ true → list_all (is_reported nodes) (history_of lines) ≡ true
+history_reported : (nodes : ℕ) (lines : List Told) → list_all (is_known nodes) lines ≡ true → list_all (is_history_event nodes) (history_of lines) ≡ true
 history_reported nodes [] h = refl
 history_reported nodes (told.Now seconds ∷ lines) h = history_reported nodes lines (later (is_known nodes (told.Now seconds)) _ h)
 history_reported nodes (told.Quorum now ∷ lines) h = history_reported nodes lines h
 history_reported nodes (told.Node node word ∷ lines) h = history_reported nodes lines h
 history_reported nodes (told.Past event ∷ lines) h =
-    and_from (is_reported nodes event) _ (sooner (is_reported nodes event) _ h) (history_reported nodes lines (later (is_reported nodes event) _ h))
+    and_from (is_history_event nodes event) _ (sooner (is_history_event nodes event) _ h) (history_reported nodes lines (later (is_history_event nodes event) _ h))
 history_reported nodes (told.Promoting promotion ∷ lines) h = history_reported nodes lines h
 
 -- the moment that is said is below 2^40
@@ -53,7 +53,7 @@ now_small nodes [] h = omega arith
 now_small nodes (told.Now seconds ∷ lines) h = grind (arith, nat_tests)
 now_small nodes (told.Quorum now ∷ lines) h = now_small nodes lines h
 now_small nodes (told.Node node word ∷ lines) h = now_small nodes lines h
-now_small nodes (told.Past event ∷ lines) h = now_small nodes lines (later (is_reported nodes event) _ h)
+now_small nodes (told.Past event ∷ lines) h = now_small nodes lines (later (is_history_event nodes event) _ h)
 now_small nodes (told.Promoting promotion ∷ lines) h = now_small nodes lines h
 
 -- only the last wait takes time
@@ -61,10 +61,10 @@ joins_wait : (ns : List ℕ) → moment_of (map Up ns) ≡ 0
 joins_wait [] = refl
 joins_wait (n ∷ ns) = joins_wait ns
 
-history_waits : (nodes : ℕ) (es : List Event) → list_all (is_reported nodes) es ≡ true → moment_of es ≡ 0
+history_waits : (nodes : ℕ) (es : List Event) → list_all (is_history_event nodes) es ≡ true → moment_of es ≡ 0
 history_waits nodes [] h = refl
-history_waits nodes (Ended k a o m ∷ es) h = history_waits nodes es (later (is_reported nodes (Ended k a o m)) _ h)
-history_waits nodes (Cleanup r n ∷ es) h = history_waits nodes es (later (is_reported nodes (Cleanup r n)) _ h)
+history_waits nodes (Ended k a o m ∷ es) h = history_waits nodes es (later (is_history_event nodes (Ended k a o m)) _ h)
+history_waits nodes (Cleanup r n ∷ es) h = history_waits nodes es (later (is_history_event nodes (Cleanup r n)) _ h)
 history_waits nodes (e ∷ es) h = cc
 
 unsaid_waits : (b : Bool) (n : ℕ) → moment_of (if b then Lost n ∷ [] else Down n ∷ []) ≡ 0
@@ -85,7 +85,7 @@ leavings_wait c n [] = refl
 leavings_wait c n (word ∷ words) = none_waits (leaving c (n, word)) _ (leaving_waits c n word) (leavings_wait c (n + 1) words)
 
 moment_is_now : (c : Cluster) (history : List Event) (words : List NodeWord) (quorum : Bool) (now : ℕ)
-    → list_all (is_reported (length c.nodes)) history ≡ true → moment_of (first_events c history words quorum now) ≡ now
+    → list_all (is_history_event (length c.nodes)) history ≡ true → moment_of (first_events c history words quorum now) ≡ now
 moment_is_now c history words quorum now h =
     let joins = map Up (range_with_len 0 (length c.nodes)) in
     let leaves = flat_map (leaving c) (enumerate_from 0 words) in

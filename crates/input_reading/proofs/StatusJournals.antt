@@ -16,7 +16,7 @@ use Rattle.cluster_types.specs.declared.leaf.Op.TheVariants.{Start, Stop, Promot
 use Rattle.cluster_types.specs.declared.leaf.Role.{Role}
 use Rattle.cluster_types.specs.Fields.{monitors}
 use Rattle.cluster_types.specs.Answering.{role_of_interval}
-use Rattle.cluster_types.specs.Journals.{Orderly, in_flight_by_begin, is_reported}
+use Rattle.cluster_types.specs.Journals.{Orderly, in_flight_by_begin, is_history_event}
 use Rattle.faults.specs.Reading.{◌>>=◌, faulting, on_line}
 use Rattle.input_reading.specs.Places.{WordsOfLine, line_end_at, leaf_at, node_at, seconds_at, word_at, yes_at}
 use Rattle.input_reading.proofs.Bounds.{node_known, seconds_small}
@@ -29,7 +29,7 @@ use Rattle.input_reading.proofs.FirstJournals.{journal_in_order, journal_is_idle
 
 -- what an operation says of its node
 action_known : (c : Cluster) (op : Op) (r n interval : ℕ) (outcome : Outcome) (moment : ℕ) → nat_lt n (length c.nodes) ≡ true
-    → is_reported (length c.nodes) (Ended 0 (history_action c op r n interval) outcome moment) ≡ true
+    → is_history_event (length c.nodes) (Ended 0 (history_action c op r n interval) outcome moment) ≡ true
 action_known c Start r n interval outcome moment h = h
 action_known c Stop r n interval outcome moment h = h
 action_known c Promote r n interval outcome moment h = h
@@ -40,7 +40,7 @@ action_known c Monitor r n interval outcome moment h = probe_known (interval == 
     role = role_of_interval (monitors c r) interval
 
     probe_known : (is_probe : Bool)
-        → is_reported (length c.nodes) (Ended 0 (if is_probe then Probe r n else Cell Monitor r n interval role) outcome moment) ≡ true
+        → is_history_event (length c.nodes) (Ended 0 (if is_probe then Probe r n else Cell Monitor r n interval role) outcome moment) ≡ true
     probe_known true = h
     probe_known false = h
 

@@ -7,7 +7,7 @@ use Rattle.cluster_types.specs.declared.journal.Event.{Event}
 use Rattle.cluster_types.specs.declared.journal.Journal.{Journal}
 use Rattle.cluster_types.specs.declared.journal.Promotion.{Promotion}
 use Rattle.cluster_types.specs.Journals as journals
-use Rattle.cluster_types.specs.Journals.{first_events, is_reported}
+use Rattle.cluster_types.specs.Journals.{first_events, is_history_event}
 use Rattle.faults.specs.declared.fault.Fault.{Fault}
 use Rattle.faults.specs.declared.fault.Fault.TheVariants.{At}
 use Rattle.faults.specs.Reading.{◌>>=◌, faulting, on_line}
@@ -107,7 +107,7 @@ status_journal c lines = with_status_lines c [] lines >>= (λ told. Ok (journal_
 -- the line tells of a node of the cluster, and of seconds below 2^40, where it tells of some that count
 abbrev pub is_known : ℕ → Told → Bool
 is_known nodes (Now seconds) = nat_lt seconds (2 ^ 40)
-is_known nodes (Past event) = is_reported nodes event
+is_known nodes (Past event) = is_history_event nodes event
 is_known nodes _ = true
 
 -- how the nodes leave, in their order

@@ -59,29 +59,29 @@ reaches c (suc most) s t = list_any (λ l. is_same_step l.before s && (is_same_s
 abbrev pub has_step_loop : Cluster → Bool
 has_step_loop c = list_any (λ l. reaches c (4 * length c.leaves) l.before l.before) (links c)
 
--- the needs have no loop with the colocations before this place, and with the one at it they have one
+-- the colocation at this place, from 0, closes the first loop: with those before it the needs have no loop, and with it too they have one
 pub record ClosesNeeds (c : Cluster) (place : ℕ) : Type 0 where
   pub within : place < length c.colocations
   pub before : NeedsHaveNoLoop (with_first_colocations c place)
   pub closed : NeedsHaveLoop (with_first_colocations c (place + 1))
 
--- the links have no loop with the orders before this place, and with the one at it they have one
+-- the order at this place, from 0, closes the first loop: with those before it the links have no loop, and with it too they have one
 pub record ClosesSteps (c : Cluster) (place : ℕ) : Type 0 where
   pub within : place < length c.orders
   pub before : StepsHaveNoLoop (with_first_orders c place)
   pub closed : StepsHaveLoop (with_first_orders c (place + 1))
 
--- where the needs get their first loop, and None where they have none
+-- the place of the colocation that closes the first loop of needs, and None where there is no loop
 abbrev pub IsFirstColocation : Cluster → Option ℕ → Type 0
 IsFirstColocation c None = NeedsHaveNoLoop c
 IsFirstColocation c (Some place) = ClosesNeeds c place
 
--- where the links get their first loop, and None where they have none
+-- the place of the order that closes the first loop of links, and None where there is no loop
 abbrev pub IsFirstOrder : Cluster → Option ℕ → Type 0
 IsFirstOrder c None = StepsHaveNoLoop c
 IsFirstOrder c (Some place) = ClosesSteps c place
 
--- the first loop is closed among so many rules
+-- the rule that closes the first loop is among the first so many
 abbrev pub is_closed_by : Option ℕ → ℕ → Bool
 is_closed_by None count = false
 is_closed_by (Some place) count = nat_lt place count

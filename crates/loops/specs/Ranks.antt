@@ -15,7 +15,7 @@ links_into c s = filter (λ l. is_same_step l.after s) (links c)
 abbrev pub IsRanking : Cluster → (StepOf → ℕ) → Type 0
 IsRanking c height = (s : StepOf) → height s ≡ fold max 0 (map (λ l. height l.before + 1) (links_into c s))
 
--- the list has four ranks a leaf. A monitor is no step, and has rank 0
+-- the rank of a leaf's step in a list of ranks: four a leaf, in the order of the leaves, of its demote, stop, start and promote. A monitor is no step: 0
 abbrev pub rank_in : List ℕ → Op → ℕ → ℕ
 rank_in ranks Demote r = slice_index_or ranks (4 * r) 0
 rank_in ranks Stop r = slice_index_or ranks (4 * r + 1) 0

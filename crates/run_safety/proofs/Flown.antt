@@ -8,7 +8,7 @@ use Rattle.cluster_types.specs.declared.journal.Action.{Action}
 use Rattle.cluster_types.specs.declared.journal.Event.{Event}
 use Rattle.cluster_types.specs.declared.journal.Event.TheVariants.{Up, Down, Lost, Quorum, Wait, Cleanup, Begin, Ended}
 use Rattle.cluster_types.specs.Journals.{ends_number, in_flight_by_begin}
-use Rattle.cluster_types.specs.Steps.{Transition, Begins, begins_number, has_begun, has_ended}
+use Rattle.cluster_types.specs.Steps.{Transition, Begins, begins_number, has_begun, has_number_ended}
 use Rattle.cluster_types.proofs.StepLaws.{begins_nothing, not_begun}
 use Rattle.cluster_types.proofs.JournalLaws.{nothing_begun}
 use Rattle.run_safety.proofs.Each.{Each, more, none}
@@ -60,7 +60,7 @@ module _ (t : Transition) where
   -- of some events of the transition: what is in flight has a number that is, and what has ended had begun
   pub record Flown (since : List Event) : Type 0 where
     pub all : Each (Flies t since) (in_flight_by_begin since)
-    pub begun_first : (k : ℕ) → 0 < k → has_ended t since k ≡ true → has_begun t since k ≡ true
+    pub begun_first : (k : ℕ) → 0 < k → has_number_ended t since k ≡ true → has_begun t since k ≡ true
 
   module _ (since ys : List Event) (flown : Flown since) where
     kept_begun : (k : ℕ) → has_begun t since k ≡ true → has_begun t (since ++ ys) k ≡ true
@@ -72,8 +72,8 @@ module _ (t : Transition) where
       all = still_flying (Flies t since) (Flies t (since ++ ys)) ys silent (λ p f none. record {
         action = f.action;
         in_flight = and_from (has_begun t (since ++ ys) p.0) _ (kept_begun p.0 (sooner (has_begun t since p.0) _ f.in_flight))
-            (rw (list_any-append (ends_number p.0) since ys) (not_from_false (has_ended t since p.0 || list_any (ends_number p.0) ys)
-            (or_from (has_ended t since p.0) _ (not-true (has_ended t since p.0) (later (has_begun t since p.0) _ f.in_flight)) none)));
+            (rw (list_any-append (ends_number p.0) since ys) (not_from_false (has_number_ended t since p.0 || list_any (ends_number p.0) ys)
+            (or_from (has_number_ended t since p.0) _ (not-true (has_number_ended t since p.0) (later (has_begun t since p.0) _ f.in_flight)) none)));
       }) since flown.all;
       begun_first = λ k low h. kept_begun k (either _ _ (rw (list_any-append (ends_number k) since ys) at h) (flown.begun_first k low) (known k low));
     }
@@ -84,15 +84,15 @@ module _ (t : Transition) where
     begun_first = λ j low h. kept_begun since (Begin k a ∷ []) flown j (flown.begun_first j low (ended_before j h));
   }
     where
-      ended_before : (j : ℕ) → has_ended t (since ++ Begin k a ∷ []) j ≡ true → has_ended t since j ≡ true
+      ended_before : (j : ℕ) → has_number_ended t (since ++ Begin k a ∷ []) j ≡ true → has_number_ended t since j ≡ true
       ended_before j h = either _ _ (rw (list_any-append (ends_number j) since (Begin k a ∷ [])) at h) (λ e. e) (λ e. cc)
 
-      ended_after : (j : ℕ) → has_ended t since j ≡ false → has_ended t (since ++ Begin k a ∷ []) j ≡ false
+      ended_after : (j : ℕ) → has_number_ended t since j ≡ false → has_number_ended t (since ++ Begin k a ∷ []) j ≡ false
       ended_after j h = list_any-append (ends_number j) since (Begin k a ∷ []) ∙ (rw h refl)
 
-      fresh : has_ended t since k ≡ false
+      fresh : has_number_ended t since k ≡ false
       fresh =
-          false_from_ne_true (has_ended t since k) (λ e.
+          false_from_ne_true (has_number_ended t since k) (λ e.
           both_ways (has_begun t since k) (not_begun t since k begins.allowed) (flown.begun_first k (number_within t.actions k a begins.action).0 e))
 
       new : Flies t (since ++ Begin k a ∷ []) (k, a)

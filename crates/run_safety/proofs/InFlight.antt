@@ -13,7 +13,7 @@ use Rattle.cluster_types.specs.declared.journal.Event.{Event}
 use Rattle.cluster_types.specs.declared.journal.Outcome.TheVariants.{Gone}
 use Rattle.cluster_types.specs.Answering.{end_event}
 use Rattle.cluster_types.specs.Journals.{is_on, ends_number}
-use Rattle.cluster_types.specs.Steps.{Transition, action_at, begins_number, in_flight_by_number, has_begun, has_ended, is_number_in_flight, journal, numbered, numbers}
+use Rattle.cluster_types.specs.Steps.{Transition, action_at, begins_number, in_flight_by_number, has_begun, has_number_ended, is_number_in_flight, journal, numbered, numbers}
 use Rattle.run_safety.proofs.Shapes.{gone_with}
 
 -- what is in flight, and didn't begin just now, was in flight, and doesn't end just now
@@ -27,7 +27,7 @@ parted false false c d f h = cc
 pub was_in_flight : (t : Transition) (since ys : List Event) (k : ℕ) → list_any (begins_number k) ys ≡ false → is_number_in_flight t (since ++ ys) k ≡ true
     → (is_number_in_flight t since k ≡ true) × (list_any (ends_number k) ys ≡ false)
 was_in_flight t since ys k f h =
-    parted (has_begun t since k) (list_any (begins_number k) ys) (has_ended t since k) (list_any (ends_number k) ys) f
+    parted (has_begun t since k) (list_any (begins_number k) ys) (has_number_ended t since k) (list_any (ends_number k) ys) f
     (rw (list_any-append (begins_number k) since ys, list_any-append (ends_number k) since ys) at h)
 
 -- The numbers of the actions.

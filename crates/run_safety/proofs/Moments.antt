@@ -16,7 +16,7 @@ use Rattle.cluster_types.specs.declared.run.RunLine.{RunLine}
 use Rattle.cluster_types.specs.Answering.{is_number_of, most_from_outside}
 use Rattle.cluster_types.specs.Journals.{is_on, moment_of, seconds_of}
 use Rattle.cluster_types.specs.Runs.{RunStanding, RunsOn, plans, goes, completes, aborts, answers, Runs, journal_at}
-use Rattle.cluster_types.specs.Steps.{Transition, StepsOn, begins, takes, is_silent, Applies, answer_events, in_flight_by_number, journal, outside, resting, silent_code}
+use Rattle.cluster_types.specs.Steps.{Transition, StepsOn, begins, takes, is_silent, Applies, answer_events, in_flight_by_number, journal, count_from_outside, resting, silent_code}
 use Rattle.lemmas.proofs.Booleans.{later}
 use Rattle.run_safety.proofs.Along.{along}
 
@@ -40,7 +40,7 @@ module _ (t : Transition) (since : List Event) where
   answer_seconds (answer.Up n) applies low = omega (arith, low)
   answer_seconds (answer.Quorum now) applies low = omega (arith, low)
   answer_seconds (answer.Wait seconds) applies low =
-      let h : nat_lt (moment_of (journal t since) + seconds) (2 ^ 40) ≡ true = later (nat_lt (outside t since) most_from_outside) _ applies in grind (arith, h)
+      let h : nat_lt (moment_of (journal t since) + seconds) (2 ^ 40) ≡ true = later (nat_lt (count_from_outside t since) most_from_outside) _ applies in grind (arith, h)
   answer_seconds (answer.Report n r interval code) applies low = omega (arith, low)
 
   step_seconds : (whole : Bool) (events : List Event) (rest left : Option (List Answer)) → StepsOn t whole since rest events left → moment_of (journal t since) < 2 ^ 40

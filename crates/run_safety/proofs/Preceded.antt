@@ -9,7 +9,7 @@ use Rattle.cluster_types.specs.declared.cluster.Cluster.{Cluster}
 use Rattle.cluster_types.specs.declared.journal.Event.{Event}
 use Rattle.cluster_types.specs.declared.journal.Event.TheVariants.{Wait, Begin, Ended}
 use Rattle.cluster_types.specs.Journals.{ends_number}
-use Rattle.cluster_types.specs.Steps.{Transition, begins_number, has_begun, has_ended, has_succeeded, is_number_in_flight, succeeds_number}
+use Rattle.cluster_types.specs.Steps.{Transition, begins_number, has_begun, has_number_ended, has_succeeded, is_number_in_flight, succeeds_number}
 use Rattle.cluster_types.proofs.StepLaws.{has_preceded}
 use Rattle.run_safety.proofs.Calm.{Calm, none, begun, done, waited}
 use Rattle.run_safety.proofs.Truths.{refuse}
@@ -26,7 +26,7 @@ success_ends c k (Ended j a o m) h = sooner (j == k) _ h
 success_ends c k _ h = cc
 
 module _ (t : Transition) where
-  pub succeeded_ended : (since : List Event) (k : ℕ) → has_succeeded t since k ≡ true → has_ended t since k ≡ true
+  pub succeeded_ended : (since : List Event) (k : ℕ) → has_succeeded t since k ≡ true → has_number_ended t since k ≡ true
   succeeded_ended since k h = any-weaker (succeeds_number t.cluster k) (ends_number k) since (success_ends t.cluster k) h
 
   pub succeeded_begun : (since : List Event) (k : ℕ) → Calm t since → has_succeeded t since k ≡ true → has_begun t since k ≡ true
@@ -54,4 +54,4 @@ module _ (t : Transition) where
       any_split (begins_number k) since (Wait s) h (λ g. any_first (succeeds_number t.cluster j) since _ (preceded since k j calm g low high before)) (λ g. cc)
 
   pub in_flight_not_done : (since : List Event) (k : ℕ) → is_number_in_flight t since k ≡ true → has_succeeded t since k ≡ true → {R : Type 0} → R
-  in_flight_not_done since k flies h = refuse (has_ended t since k) (not-true _ (later (has_begun t since k) _ flies)) (succeeded_ended since k h)
+  in_flight_not_done since k flies h = refuse (has_number_ended t since k) (not-true _ (later (has_begun t since k) _ flies)) (succeeded_ended since k h)

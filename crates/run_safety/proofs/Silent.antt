@@ -21,7 +21,7 @@ use Rattle.cluster_types.specs.Runs.{due, IsWholeRun, RunStanding, IsOver, idle,
 use Rattle.cluster_types.specs.Steps.{Transition, StepsOn, begins, takes, is_silent, aborts, action_at, ended, expected_codes, in_flight_by_number, journal, silent_code}
 use Rattle.run_safety.proofs.Each.{found}
 use Rattle.run_safety.proofs.Shapes.{Flies, all_fly}
-use Rattle.run_safety.specs.Followed.{AreAnswersTold, IsHeard, is_begin, is_taken}
+use Rattle.run_safety.specs.Followed.{AreAnswersTold, IsNoSilentEnd, is_begin, is_taken}
 use Rattle.run_safety.proofs.OneRun.{runs_told}
 use Rattle.run_safety.proofs.Said.{says_something}
 
@@ -52,7 +52,7 @@ module _ (t : Transition) (since : List Event) where
       by None e = refl
       by (Some p) e = found (Flies t since) (is_number_of k) _ (in_flight_by_number t since) p (all_fly t since) e (λ f number. rw (unaborted t.cluster p.0 (moment_of (journal t since)) a p.1 (same p f.action number)) refl)
 
-  pub step_heard : (events : List Event) (rest left : Option (List Answer)) → AreAnswersTold rest → StepsOn t false since rest events left → IsHeard t false since rest events left
+  pub step_heard : (events : List Event) (rest left : Option (List Answer)) → AreAnswersTold rest → StepsOn t false since rest events left → IsNoSilentEnd t false since rest events left
   step_heard _ rest _ told (begins _ k a begin) = is_begin k a begin refl refl
   step_heard _ rest left told (takes _ _ given said taken) = is_taken given said taken refl
   step_heard _ rest left told (is_silent _ _ k a said ends) = says_something rest left told said

@@ -8,7 +8,7 @@ ghost use Rattle.cluster_types.specs.declared.journal.Promotion.{Promotion as Pr
 ghost use Rattle.cluster_types.specs.declared.run.RunLine.{RunLine as LineOf};
 ghost use Rattle.cluster_types.specs.Runs.{RunStanding, due, Runs, IsBetween, IsRunUpTo, IsWholeRun};
 ghost use Rattle.cluster_types.specs.Steps.{Transition, StepsOn};
-ghost use Rattle.run_safety.specs.Followed.{EndsBetween, IsHeard, AreAnswersTold, count_told, transition_number_at};
+ghost use Rattle.run_safety.specs.Followed.{EndsBetween, IsNoSilentEnd, AreAnswersTold, count_told, transition_number_at};
 
 /// Each transition but the last takes an answer: the number of a transition is at most one more than the answers that were taken.
 pub fn transitions_are_few()
@@ -25,7 +25,7 @@ pub fn enough_transitions_are_allowed()
 /// Where the answers to come are known to be not all, no action ends silently.
 pub fn nothing_is_silent_where_answers_lack()
     ensures { (t : Transition) (since events : List EventOf) (rest left : Option (List AnswerOf))
-        → AreAnswersTold rest → StepsOn t false since rest events left → IsHeard t false since rest events left }
+        → AreAnswersTold rest → StepsOn t false since rest events left → IsNoSilentEnd t false since rest events left }
 {}
 
 /// And no run is over.

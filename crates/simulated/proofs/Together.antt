@@ -17,7 +17,7 @@ use Rattle.cluster_types.specs.Answering.{added_by, is_number_of}
 use Rattle.cluster_types.specs.Journals.{in_flight_by_begin}
 use Rattle.cluster_types.specs.Plans.{transition_of}
 use Rattle.cluster_types.specs.Runs.{RunStanding, amid, RunsOn, plans, goes, completes, aborts, answers, IsBetween, journal_at}
-use Rattle.cluster_types.specs.Steps.{Transition, Applies, Begins, StepsOn, begins, takes, is_silent, IsWaiting, answer_events, in_flight_by_number, has_aborted, journal, outside, resting, silent_code}
+use Rattle.cluster_types.specs.Steps.{Transition, Applies, Begins, StepsOn, begins, takes, is_silent, IsWaiting, answer_events, in_flight_by_number, has_aborted, journal, count_from_outside, resting, silent_code}
 use Rattle.cluster_types.specs.Tables.{targets_of}
 use Rattle.cluster_types.specs.Texts.{event_lines, target_lines}
 use Rattle.run_safety.proofs.InFlight.{among_flying}
@@ -39,7 +39,7 @@ data IsStep (t : Transition) (since : List Event) : List Event → Type 0 where
 
 module _ (t : Transition) (since : List Event) where
   taken_first : (given : Answer) → Applies t since given → AreFirst (answer_events t since given)
-  taken_first given applies = answer_first t.cluster (journal t since) (in_flight_by_number t since) given (of_flight t.cluster (journal t since) (in_flight_by_number t since) (outside t since) given applies)
+  taken_first given applies = answer_first t.cluster (journal t since) (in_flight_by_number t since) given (of_flight t.cluster (journal t since) (in_flight_by_number t since) (count_from_outside t since) given applies)
 
   is_step : (whole : Bool) (events : List Event) (rest left : Option (List Answer)) → StepsOn t whole since rest events left → IsStep t since events
   is_step whole _ rest _ (begins _ k a begin) = a_begin k a begin

@@ -20,7 +20,7 @@ use Rattle.cluster_types.specs.May.{may_be_running}
 use Rattle.cluster_types.specs.NodeStates.{is_online, node_state}
 use Rattle.cluster_types.specs.Outcomes.{is_bad, is_ignored}
 use Rattle.cluster_types.specs.Sources.{Says, told, used_up, untold}
-use Rattle.cluster_types.specs.Steps.{Transition, StepsOn, begins, takes, is_silent, Applies, action_at, in_flight_by_number, journal, numbered, outside, silent_code}
+use Rattle.cluster_types.specs.Steps.{Transition, StepsOn, begins, takes, is_silent, Applies, action_at, in_flight_by_number, journal, numbered, count_from_outside, silent_code}
 use Rattle.cluster_types.specs.Texts.{event_lines}
 use Rattle.run_safety.proofs.Printed.{answer_line, end_line}
 use Rattle.input_reading.specs.Written.{IsActionOf, IsAnswerOf, IsLineOf, IsNumber}
@@ -98,17 +98,17 @@ module _ (t : Transition) (since : List Event) (few : length t.actions < 2 ^ 32)
   answer_fits (answer.Timeout k) h fits = flown k (in_flight_by_number t since) (all_fly t since) h
   answer_fits (answer.Lost n) h fits =
       ltb-true n (length t.cluster.nodes)
-      (later (nat_lt (outside t since) most_from_outside) (nat_lt n (length t.cluster.nodes)) (sooner _ (is_joined_sign (last_sign n (journal t since))) h))
+      (later (nat_lt (count_from_outside t since) most_from_outside) (nat_lt n (length t.cluster.nodes)) (sooner _ (is_joined_sign (last_sign n (journal t since))) h))
   answer_fits (answer.Up n) h fits =
       ltb-true n (length t.cluster.nodes)
-      (later (nat_lt (outside t since) most_from_outside) (nat_lt n (length t.cluster.nodes)) (sooner _ (is_offline_state (node_state t.cluster n (journal t since))) h))
+      (later (nat_lt (count_from_outside t since) most_from_outside) (nat_lt n (length t.cluster.nodes)) (sooner _ (is_offline_state (node_state t.cluster n (journal t since))) h))
   answer_fits (answer.Quorum now) h fits = tt
   answer_fits (answer.Wait seconds) h fits =
       let low = ltb-true (moment_of (journal t since) + seconds) (2 ^ 40)
-      (later (nat_lt (outside t since) most_from_outside) (nat_lt (moment_of (journal t since) + seconds) (2 ^ 40)) h) in
+      (later (nat_lt (count_from_outside t since) most_from_outside) (nat_lt (moment_of (journal t since) + seconds) (2 ^ 40)) h) in
       omega (arith, low)
   answer_fits (answer.Report n r interval code) h fits =
-      let news = later (nat_lt (outside t since) most_from_outside) (tells_news t.cluster (journal t since) (in_flight_by_number t since) n r interval code) h in
+      let news = later (nat_lt (count_from_outside t since) most_from_outside) (tells_news t.cluster (journal t since) (in_flight_by_number t since) n r interval code) h in
       let front = first_three (nat_lt n (length t.cluster.nodes)) (nat_lt r (length t.cluster.leaves)) (nat_lt 0 interval) (is_online t.cluster n (journal t since))
       (may_be_running t.cluster r n (journal t since)) (is_bad (monitor_action t.cluster r n interval) (Code code))
       (not (is_ignored t.cluster (monitor_action t.cluster r n interval) (Code code))) (is_quiet_cell t.cluster (journal t since) (in_flight_by_number t since) r n) news in (

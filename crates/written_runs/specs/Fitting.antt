@@ -13,12 +13,12 @@ use Rattle.input_reading.specs.ResultFields.{AnswerFieldsFit}
 abbrev pub IntervalsFit : Cluster → Type 0
 IntervalsFit c = (leaf : Leaf) (m : MonitorOf) → Contains c.leaves leaf → Contains leaf.monitors m → m.interval_ms < 2 ^ 32
 
--- the answer that a line tells is so
+-- the fields of the answer that a line tells are within their types
 abbrev pub LineFits : RunLine → Type 0
 LineFits (line.Taken given) = AnswerFieldsFit given
 LineFits _ = Unit {0}
 
--- the answers of a run are so: each that is to come, where they are told, and else each that its lines tell
+-- the fields of the answers of a run are within their types: of each that is to come, where they are told, and else of each that its lines tell
 abbrev pub AnswersFit : Option (List Answer) → List RunLine → Type 0
 AnswersFit (Some answers) lines = AllByRecursion AnswerFieldsFit answers
 AnswersFit None lines = AllByRecursion LineFits lines

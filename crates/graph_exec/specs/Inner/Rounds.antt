@@ -6,7 +6,7 @@ use Rattle.cluster_types.specs.declared.journal.Event.{Event}
 use Rattle.cluster_types.specs.declared.run.RunLine.TheVariants as line
 use Rattle.cluster_types.specs.Answering.{most_from_outside}
 use Rattle.cluster_types.specs.Sources.{Says}
-use Rattle.cluster_types.specs.Steps.{IsWaiting, StepsOn, has_begun, has_ended, numbers, outside}
+use Rattle.cluster_types.specs.Steps.{IsWaiting, StepsOn, has_begun, has_number_ended, numbers, count_from_outside}
 use Rattle.cluster_types.specs.Texts.{event_lines}
 use Rattle.graph_exec.specs.declared.transition.ends.WatchedEnd.{WatchedEnd}
 use Rattle.graph_exec.specs.declared.transition.ends.WatchedEnd.TheVariants as how
@@ -18,10 +18,10 @@ abbrev pub begins_left : Running → ℕ
 begins_left r = count_by (λ k. not (has_begun (going r) r.since k)) (numbers (going r))
 
 abbrev pub ends_left : Running → ℕ
-ends_left r = count_by (λ k. not (has_ended (going r) r.since k)) (numbers (going r))
+ends_left r = count_by (λ k. not (has_number_ended (going r) r.since k)) (numbers (going r))
 
 abbrev pub asks_left : Running → ℕ
-asks_left r = ends_left r + (most_from_outside - outside (going r) r.since)
+asks_left r = ends_left r + (most_from_outside - count_from_outside (going r) r.since)
 
 -- some action begins: of those that may, the one of lowest number
 pub record Began (old new : Running) : Type 0 where

@@ -5,7 +5,7 @@ ghost use Rattle.cluster_types.specs.Answering as answering;
 ghost use Rattle.cluster_types.specs.Journals as journals;
 ghost use Rattle.cluster_types.specs.May.{may_be_running};
 ghost use Rattle.cluster_types.specs.NodeStates.{is_online, node_state};
-ghost use Rattle.cluster_types.specs.Steps.{in_flight_by_number, journal, outside};
+ghost use Rattle.cluster_types.specs.Steps.{in_flight_by_number, journal, count_from_outside};
 ghost use Rattle.graph_exec.specs.Running.{going};
 
 use crate::transition::course::Course;
@@ -27,7 +27,7 @@ impl<'c> Course<'c> {
 
     /// Whether one more answer from outside may be taken.
     fn may_be_told(&self) -> bool
-        ensures { result ≡ nat_lt (outside (going self.now) self.now.since) answering.most_from_outside }
+        ensures { result ≡ nat_lt (count_from_outside (going self.now) self.now.since) answering.most_from_outside }
     {
         self.log.outside() < MOST_FROM_OUTSIDE
     }
@@ -108,7 +108,7 @@ impl<'c> Course<'c> {
     /// Whether the answer applies now.
     pub(crate) fn applies(&self, answer: Answer) -> bool
         ensures { result ≡ answering.applies_after self.now.cluster (journal (going self.now) self.now.since) (in_flight_by_number (going self.now) self.now.since)
-            (outside (going self.now) self.now.since) answer }
+            (count_from_outside (going self.now) self.now.since) answer }
     {
         match answer {
             Answer::End { number, .. } | Answer::Timeout { number } => {

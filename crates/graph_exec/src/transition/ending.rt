@@ -4,7 +4,7 @@ ghost use Rattle.std.specs.Prelude.{◌≡◌, ◌<◌, ◌+◌, ◌^◌, ◌++�
 ghost use Rattle.cluster_types.specs.declared.journal.Event.TheVariants.{Lost};
 ghost use Rattle.cluster_types.specs.Answering as answering;
 ghost use Rattle.cluster_types.specs.Journals as journals;
-ghost use Rattle.cluster_types.specs.Steps.{ended, in_flight_by_number, outside};
+ghost use Rattle.cluster_types.specs.Steps.{ended, in_flight_by_number, count_from_outside};
 ghost use Rattle.cluster_types.specs.Steps as steps;
 ghost use Rattle.graph_exec.specs.Running.{all_gone, going, later};
 
@@ -33,7 +33,7 @@ impl<'c> Course<'c> {
     /// An event from outside is told.
     pub(crate) fn tell(&mut self, event: Event)
         requires outer { steps.is_from_outside event ≡ true }
-        requires few { outside (going self.old) self.old.since < answering.most_from_outside }
+        requires few { count_from_outside (going self.old) self.old.since < answering.most_from_outside }
         requires moment { 0 < journals.seconds_of event → journals.moment_of (self.old.planned_at ++ self.old.since) + journals.seconds_of event < 2 ^ 64 }
         ensures { self.new ≡ later self.old (event ∷ []) }
     {
@@ -57,7 +57,7 @@ impl<'c> Course<'c> {
 
     /// The node is lost: what is in flight on it is gone, but for its fencing.
     pub(crate) fn lose(&mut self, node: NodeId)
-        requires { outside (going self.old) self.old.since < answering.most_from_outside }
+        requires { count_from_outside (going self.old) self.old.since < answering.most_from_outside }
         ensures { self.new ≡ later self.old (all_gone self.old node ++ Lost node ∷ []) }
     {
         self.end_all_on(node);

@@ -2,7 +2,7 @@
 
 ghost use Rattle.std.specs.Prelude.{◌≡◌, ◌++◌, true, OnOk, OnErr, IfErr};
 ghost use Rattle.cluster_types.specs.Answering.{applies_after};
-ghost use Rattle.cluster_types.specs.Steps.{IsWaiting, answer_events, in_flight_by_number, journal, outside};
+ghost use Rattle.cluster_types.specs.Steps.{IsWaiting, answer_events, in_flight_by_number, journal, count_from_outside};
 ghost use Rattle.graph_exec.specs.Running.{EndedSilently, IsAnswerRefused, Took, going, later};
 
 use crate::transition::course::Course;
@@ -19,7 +19,7 @@ impl<'c> Course<'c> {
     /// Enters what the answer adds, which applies.
     pub(crate) fn enter(&mut self, answer: Answer)
         requires { applies_after self.old.cluster (journal (going self.old) self.old.since) (in_flight_by_number (going self.old) self.old.since)
-            (outside (going self.old) self.old.since) answer ≡ true }
+            (count_from_outside (going self.old) self.old.since) answer ≡ true }
         ensures { self.new ≡ later self.old (answer_events (going self.old) self.old.since answer) }
     {
         match answer {

@@ -1,7 +1,7 @@
 //! What one line of a status tells.
 
 ghost use Rattle.std.specs.Prelude.{◌≡◌, ◌<◌, ◌^◌, ℕ, length, true, IfOk};
-ghost use Rattle.cluster_types.specs.Journals.{is_reported};
+ghost use Rattle.cluster_types.specs.Journals.{is_history_event};
 ghost use Rattle.cluster_types.specs.declared.journal.Event.TheVariants as event;
 ghost use Rattle.faults.specs.Digits.{number_up_to};
 ghost use Rattle.input_reading.specs.FirstJournal.{is_known};
@@ -185,7 +185,7 @@ fn outcome_at<W: Words>(place: usize, words: &W) -> Result<Outcome, WordCause>
 fn action_as(names: &Names<'_>, op: Op, leaf: LeafId, node: NodeId, interval_ms: u32) -> Action
     requires { node < length names.now.nodes }
     ensures value { result ≡ history_action names.now op leaf node interval_ms }
-    ensures known { is_reported (length names.now.nodes) (event.Ended 0 result Outcome.TimedOut 0) ≡ true }
+    ensures known { is_history_event (length names.now.nodes) (event.Ended 0 result Outcome.TimedOut 0) ≡ true }
 {
     match op {
         Op::Monitor if interval_ms == 0 => Action::Probe { leaf, node },

@@ -1,7 +1,7 @@
 use Rattle.std.proofs.Common.{◌++◌, codes, map, sym, ap, ◌∙◌}
 use Rattle.std.specs.List.{flat_map}
 use Rattle.std.proofs.lemmas.Result.{on_ok_weaker}
-use Rattle.crm_print.specs.WordTexts.{bool_text}
+use Rattle.crm_parse.specs.WordTexts.{bool_text}
 use Rattle.crm_print.specs.Quoting.{spaced}
 use Rattle.crm_print.specs.Items.{labelled, step}
 use Rattle.crm_print.proofs.FormLines.{spaced_last, two_pieces}

@@ -1,0 +1,32 @@
+-- Readers and the grammar, both ways.
+pub mod Phrases
+pub mod WordsSaid
+pub mod KindsSaid
+pub mod PairsRelated
+pub mod SectionWords
+pub mod SectionStates
+pub mod SectionsAreSaid
+pub mod SectionsAreRead
+pub mod ScoresSaid
+pub mod ColocationIsSaid
+pub mod ColocationIsRead
+pub mod OptionsSaid
+pub mod NodeRelated
+pub mod GroupRelated
+pub mod CloneRelated
+pub mod SettingsRelated
+pub mod OperationsRelated
+pub mod MonitorRoom
+pub mod OperationsAreRead
+pub mod AgentRelated
+pub mod PrimitiveRelated
+pub mod TestIsSaid
+pub mod TestIsRead
+pub mod ExpressionRelated
+pub mod RuleRelated
+pub mod LocationRelated
+pub mod LineRelated
+pub mod OrderIsSaid
+pub mod OrderIsRead
+pub mod ConfigurationRelated
+mod StatementExamples

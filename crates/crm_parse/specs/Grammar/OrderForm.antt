@@ -1,0 +1,41 @@
+-- `order ID [KIND: or SCORE:] RSC[:ACTION] RSC[:ACTION].. [symmetrical=BOOL]` (crmsh manual, order).
+use Rattle.std.specs.Prelude.{◌≡◌, ◌≤◌, ℕ, ℤ, pos, int_lt, Bool, true, false, List, ◌∷◌, ◌++◌, length, codes, Some, None}
+use Rattle.score.specs.ScoreText.{read_score}
+use Rattle.crm_lex.specs.Names.{is_name}
+use Rattle.crm_parse.specs.declared.draft.OrderDraft.{OrderDraft}
+use Rattle.crm_parse.specs.declared.draft.StepDraft.{StepDraft}
+use Rattle.crm_parse.specs.declared.words.ActionWord.{ActionWord}
+use Rattle.crm_parse.specs.declared.words.KindWord.{KindWord}
+use Rattle.crm_parse.specs.declared.words.KindWord.TheVariants.{Mandatory, Optional, Serialize}
+use Rattle.crm_parse.specs.Reading.{Words}
+use Rattle.crm_parse.specs.Values.{action_of, bool_of, kind_of}
+use Rattle.crm_parse.specs.Grammar.Phrases.{BelowTable, ColonSays, EachSays, LabelSays, MaySay}
+
+-- a kind: its name, or a score above 0 for Mandatory and 0 for Optional
+pub data KindSays : List ℕ → KindWord → Type 0 where
+  kind_by_name : (text : List ℕ) (kind : KindWord) → kind_of text ≡ Some kind → KindSays text kind
+  score_above_0 : (text : List ℕ) (points : ℤ) → read_score text ≡ Some points → int_lt (pos 0) points ≡ true → KindSays text Mandatory
+  score_of_0 : (text : List ℕ) → read_score text ≡ Some (pos 0) → KindSays text Optional
+
+-- a resource, and its action behind a colon where one is written
+pub data StepSays : List ℕ → StepDraft → Type 0 where
+  resource_alone : (resource : List ℕ) → is_name resource ≡ true → StepSays resource (record { resource = resource; action = None })
+  resource_acts : (resource text : List ℕ) (action : ActionWord) → is_name resource ≡ true → action_of text ≡ Some action
+      → StepSays (resource ++ (codes ":" ++ text)) (record { resource = resource; action = Some action })
+
+-- an order that doesn't say whether it is symmetrical is, unless its kind is Serialize
+abbrev pub symmetrical_unsaid : KindWord → Bool
+symmetrical_unsaid Serialize = false
+symmetrical_unsaid _ = true
+
+pub record OrderSays (words : Words) (order : OrderDraft) : Type 0 where
+  pub kind_words : Words
+  pub step_words : Words
+  pub last_words : Words
+  pub words_are : words ≡ order.id ∷ (kind_words ++ (step_words ++ last_words))
+  pub id : is_name order.id ≡ true
+  pub kind : MaySay (ColonSays KindSays) Mandatory kind_words order.kind
+  pub steps : EachSays StepSays step_words order.steps
+  pub two_or_more : 2 ≤ length order.steps
+  pub symmetrical : MaySay (LabelSays (codes "symmetrical=") (BelowTable bool_of)) (symmetrical_unsaid order.kind) last_words order.symmetrical
+  pub serialize_is_not : order.kind ≡ Serialize → order.symmetrical ≡ false

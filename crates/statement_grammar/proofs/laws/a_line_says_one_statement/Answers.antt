@@ -1,5 +1,0 @@
-use Rattle.statement_grammar.proofs.LineRelated.{one-statement}
-use Rattle.statement_grammar.proofs.laws.a_line_says_one_statement.Goals as goal
-
-pub returns : goal.returns
-returns c = λ before words one other s t. one-statement before words one other s t

@@ -1,6 +1,0 @@
-use Rattle.statement_grammar.proofs.ColocationIsRead.{colocation-is_read}
-use Rattle.statement_grammar.proofs.ColocationIsSaid.{colocation-is_said}
-use Rattle.statement_grammar.proofs.laws.colocations_are_read_as_they_say.Goals as goal
-
-pub returns : goal.returns
-returns c = λ words form. (colocation-is_said words form, colocation-is_read words form)

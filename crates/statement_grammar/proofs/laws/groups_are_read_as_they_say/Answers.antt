@@ -1,5 +1,0 @@
-use Rattle.statement_grammar.proofs.GroupRelated.{group-is_read, group-is_said}
-use Rattle.statement_grammar.proofs.laws.groups_are_read_as_they_say.Goals as goal
-
-pub returns : goal.returns
-returns c = λ words form. (group-is_said words form, group-is_read words form)

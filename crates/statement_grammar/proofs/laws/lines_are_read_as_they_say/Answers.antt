@@ -1,5 +1,0 @@
-use Rattle.statement_grammar.proofs.LineRelated.{line-is_read, line-is_said}
-use Rattle.statement_grammar.proofs.laws.lines_are_read_as_they_say.Goals as goal
-
-pub returns : goal.returns
-returns c = λ before words statement. (line-is_said before words statement, line-is_read before words statement)

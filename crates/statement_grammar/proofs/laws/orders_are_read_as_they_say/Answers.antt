@@ -1,6 +1,0 @@
-use Rattle.statement_grammar.proofs.OrderIsRead.{order-is_read}
-use Rattle.statement_grammar.proofs.OrderIsSaid.{order-is_said}
-use Rattle.statement_grammar.proofs.laws.orders_are_read_as_they_say.Goals as goal
-
-pub returns : goal.returns
-returns c = λ words order. (order-is_said words order, order-is_read words order)

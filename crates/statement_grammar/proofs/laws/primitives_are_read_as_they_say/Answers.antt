@@ -1,5 +1,0 @@
-use Rattle.statement_grammar.proofs.PrimitiveRelated.{primitive-is_read, primitive-is_said}
-use Rattle.statement_grammar.proofs.laws.primitives_are_read_as_they_say.Goals as goal
-
-pub returns : goal.returns
-returns c = λ words form. (primitive-is_said words form, primitive-is_read words form)

@@ -1,5 +1,0 @@
-use Rattle.statement_grammar.proofs.SettingsRelated.{settings-are_read, settings-are_said}
-use Rattle.statement_grammar.proofs.laws.settings_are_read_as_they_say.Goals as goal
-
-pub returns : goal.returns
-returns c = λ what before words form. (settings-are_said what before words form, settings-are_read what before words form)
