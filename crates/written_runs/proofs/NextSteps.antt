@@ -14,7 +14,7 @@ use Rattle.cluster_types.specs.declared.journal.Event.TheVariants.{Begin}
 use Rattle.cluster_types.specs.declared.journal.Outcome.TheVariants.{Code}
 use Rattle.cluster_types.specs.Answering.{end_event, is_number_of}
 use Rattle.cluster_types.specs.Journals.{ends_number}
-use Rattle.cluster_types.specs.Steps.{Transition, Begins, EndsSilently, HasEnded, IsWaiting, StepsOn, begins, takes, is_silent, Applies, action_at, answer_events, begins_number, ended, has_aborted, has_begun, has_ended, in_flight_by_number, is_number_in_flight, journal, may_begin, numbers, numbers_in_flight, outside, resting, silent_code}
+use Rattle.cluster_types.specs.Steps.{Transition, Begins, EndsSilently, HasEnded, IsWaiting, StepsOn, begins, takes, is_silent, Applies, action_at, answer_events, begins_number, ended, has_aborted, has_begun, has_number_ended, in_flight_by_number, is_number_in_flight, journal, may_begin, numbers, numbers_in_flight, count_from_outside, resting, silent_code}
 use Rattle.cluster_types.specs.Steps as steps
 use Rattle.cluster_types.proofs.StepLaws.{begins_nothing, not_begun}
 use Rattle.run_safety.proofs.ByNumber.{action_of, numbered_is}
@@ -113,7 +113,7 @@ module _ (t : Transition) where
   unbegun since = count_by (λ k. not (has_begun t since k)) (numbers t)
 
   abbrev pub unended : List Event → ℕ
-  unended since = count_by (λ k. not (has_ended t since k)) (numbers t)
+  unended since = count_by (λ k. not (has_number_ended t since k)) (numbers t)
 
   abbrev pub to_do : List Event → ℕ
   to_do since = unbegun since + unended since
@@ -123,7 +123,7 @@ module _ (t : Transition) where
     fewer_begun ys = count_more (λ k. not (has_begun t (since ++ ys) k)) (λ k. not (has_begun t since k)) (λ k h. not_before (begins_number k) since ys h) (numbers t)
 
     fewer_ended : (ys : List Event) → unended (since ++ ys) ≤ unended since
-    fewer_ended ys = count_more (λ k. not (has_ended t (since ++ ys) k)) (λ k. not (has_ended t since k)) (λ k h. not_before (ends_number k) since ys h) (numbers t)
+    fewer_ended ys = count_more (λ k. not (has_number_ended t (since ++ ys) k)) (λ k. not (has_number_ended t since k)) (λ k h. not_before (ends_number k) since ys h) (numbers t)
 
     module _ (k : ℕ) (low : 0 < k) (high : k ≤ length t.actions) (ys : List Event) where
       at_place : slice_index_or (numbers t) (k - 1) k ≡ k
@@ -137,9 +137,9 @@ module _ (t : Transition) where
           count_one_more (λ k. not (has_begun t (since ++ ys) k)) (λ k. not (has_begun t since k)) (λ k h. not_before (begins_number k) since ys h) (numbers t) (k - 1) k
           in_place at_place (rw is refl) (rw was refl)
 
-      one_ended : has_ended t since k ≡ false → has_ended t (since ++ ys) k ≡ true → unended (since ++ ys) < unended since
+      one_ended : has_number_ended t since k ≡ false → has_number_ended t (since ++ ys) k ≡ true → unended (since ++ ys) < unended since
       one_ended was is =
-          count_one_more (λ k. not (has_ended t (since ++ ys) k)) (λ k. not (has_ended t since k)) (λ k h. not_before (ends_number k) since ys h) (numbers t) (k - 1) k
+          count_one_more (λ k. not (has_number_ended t (since ++ ys) k)) (λ k. not (has_number_ended t since k)) (λ k h. not_before (ends_number k) since ys h) (numbers t) (k - 1) k
           in_place at_place (rw is refl) (rw was refl)
 
     -- an action may begin, or an answer is waited for, or the transition has ended
@@ -201,8 +201,8 @@ module _ (t : Transition) where
         let within = number_within t.actions k a ends.action in
         let flies = among_flying t since k a (is_number_of k) (eq-eqb k k refl) ends.action ends.in_flight in
         let over = ends_it k (end_event t.cluster (journal t since) (in_flight_by_number t since) (Code (silent_code a))) (λ p. refl) (in_flight_by_number t since) flies in
-        let is : has_ended t (since ++ ended t since k (Code (silent_code a))) k ≡ true
-        = list_any-append (ends_number k) since (ended t since k (Code (silent_code a))) ∙ or_true (has_ended t since k) over in
+        let is : has_number_ended t (since ++ ended t since k (Code (silent_code a))) k ≡ true
+        = list_any-append (ends_number k) since (ended t since k (Code (silent_code a))) ∙ or_true (has_number_ended t since k) over in
         let less = one_ended k within.0 within.1 (ended t since k (Code (silent_code a))) (not-true _ (later (has_begun t since k) _ ends.in_flight)) is in
         let no_more = fewer_begun (ended t since k (Code (silent_code a))) in
         omega (arith, less, no_more)

@@ -15,7 +15,7 @@ use Rattle.cluster_types.specs.Answering.{applies_after}
 use Rattle.cluster_types.specs.Plans.{IsPlan, transition_of}
 use Rattle.cluster_types.specs.Runs.{RunStanding, due, amid, idle, RunsOn, plans, goes, completes, aborts, answers, Runs, here, one_more, IsAsking, IsCutAt, IsOver, journal_at}
 use Rattle.cluster_types.specs.Sources.{told, used_up}
-use Rattle.cluster_types.specs.Steps.{Transition, Begins, EndsSilently, HasEnded, IsWaiting, StepsOn, begins, takes, is_silent, Applies, action_at, answer_events, begins_number, ended, has_aborted, has_begun, has_ended, in_flight_by_number, is_number_in_flight, journal, may_begin, numbers, numbers_in_flight, outside, resting, silent_code}
+use Rattle.cluster_types.specs.Steps.{Transition, Begins, EndsSilently, HasEnded, IsWaiting, StepsOn, begins, takes, is_silent, Applies, action_at, answer_events, begins_number, ended, has_aborted, has_begun, has_number_ended, in_flight_by_number, is_number_in_flight, journal, may_begin, numbers, numbers_in_flight, count_from_outside, resting, silent_code}
 use Rattle.cluster_types.specs.Steps as steps
 use Rattle.cluster_types.specs.Tables.{targets_of}
 use Rattle.cluster_types.specs.Texts.{event_lines, target_lines}
@@ -74,7 +74,7 @@ module _ (c : Cluster) (promotions : List Promotion) (whole : Bool) (placed_for 
     idle_ends k es = by to_come refl
       where
         answered : (given : Answer) (more : List Answer) (b : Bool) → to_come ≡ given ∷ more
-            → applies_after c (journal (resting c es) []) (in_flight_by_number (resting c es) []) (outside (resting c es) []) given ≡ b → EndsFrom (idle k es) (Some (given ∷ more))
+            → applies_after c (journal (resting c es) []) (in_flight_by_number (resting c es) []) (count_from_outside (resting c es) []) given ≡ b → EndsFrom (idle k es) (Some (given ∷ more))
         answered given more true same e =
             ends_later (idle k es) (due (k + 1) (es ++ answer_events (resting c es) [] given)) (Some (given ∷ more)) (Some more) (line.Taken given ∷ [])
             (answers k es (Some (given ∷ more)) (Some more) given (told given more) e) (next given more same (due (k + 1) (es ++ answer_events (resting c es) [] given)) tt)
@@ -85,7 +85,7 @@ module _ (c : Cluster) (promotions : List Promotion) (whole : Bool) (placed_for 
         by : (left : List Answer) → to_come ≡ left → EndsFrom (idle k es) (Some left)
         by [] same = asked_in_vain (idle k es) tt (λ e. ends_here (idle k es) (Some []) (is_over (used_up e)))
         by (given ∷ more) same =
-            answered given more (applies_after c (journal (resting c es) []) (in_flight_by_number (resting c es) []) (outside (resting c es) []) given) same refl
+            answered given more (applies_after c (journal (resting c es) []) (in_flight_by_number (resting c es) []) (count_from_outside (resting c es) []) given) same refl
 
     -- amid a transition that is aborted or isn't, up to where that changes, or it ends
     module _ (k : ℕ) (t : Transition) (aborted : Bool)
@@ -114,9 +114,9 @@ module _ (c : Cluster) (promotions : List Promotion) (whole : Bool) (placed_for 
               (deeper (since ++ events) (omega (arith, fewer, less)) (quiet_numbers t since events (silent t since events (none_may_begin t since waits)
               (step_adds t since whole events (Some []) (Some []) step)) own)
               (calm_still since events is (silent_aborts_nothing t since j a first.2.action)))))
-          waits_for waits deeper (given ∷ more) same = on (applies_after t.cluster (journal t since) (in_flight_by_number t since) (outside t since) given) refl
+          waits_for waits deeper (given ∷ more) same = on (applies_after t.cluster (journal t since) (in_flight_by_number t since) (count_from_outside t since) given) refl
             where
-              on : (b : Bool) → applies_after t.cluster (journal t since) (in_flight_by_number t since) (outside t since) given ≡ b → EndsFrom (amid k t since) (Some (given ∷ more))
+              on : (b : Bool) → applies_after t.cluster (journal t since) (in_flight_by_number t since) (count_from_outside t since) given ≡ b → EndsFrom (amid k t since) (Some (given ∷ more))
               on true e =
                   let events = answer_events t since given in
                   ends_later (amid k t since) (amid k t (since ++ events)) (Some (given ∷ more)) (Some more) (flat_map event_lines events)
