@@ -6,9 +6,10 @@ pub mod OneOutcome
 pub mod Completeness
 -- The word `replay`.
 pub mod Beginnings
+pub mod SameComing
 pub mod LiveSays
-pub mod SafeReplay
 pub mod Promised
+pub mod SafeTexts
 pub mod Comments
 pub mod ReadsAgain
 -- An audit.

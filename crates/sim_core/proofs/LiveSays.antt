@@ -1,18 +1,14 @@
 -- What the word `replay` answers says what it has to of the input.
-use Rattle.std.proofs.Common.{◌≡◌, inl, inr, ℕ, Bool, true, Option, Some, None, List, [], ◌++◌, drop, length, IfSome, refl, sym, ap, subst, ◌∙◌}
+use Rattle.std.proofs.Common.{◌≡◌, inl, inr, ℕ, Bool, true, Option, Some, None, List, [], IfSome, refl, sym, ap, subst, ◌∙◌}
 use Rattle.std.specs.Option.{option_map}
-use Rattle.std.proofs.Math.Seq.{drop-append_seam}
 use Rattle.std.proofs.lemmas.Option.{IfSome_then}
 use Rattle.cluster_io.specs.Readings.{Reading}
 use Rattle.cluster_io.proofs.Bearing.{Bears-as, Bears-then}
 use Rattle.cluster_io.specs.Streams.{AddsPrefix, Bears}
 use Rattle.cluster_types.specs.declared.cluster.Cluster.{Cluster}
 use Rattle.cluster_types.specs.declared.journal.Journal.{Journal}
-use Rattle.cluster_types.specs.Journals.{moment_of}
-use Rattle.crm_lex.specs.RawLines.{raw_lines}
-use Rattle.live_run.specs.Coming.{Coming, coming}
+use Rattle.live_run.specs.Coming.{Coming}
 use Rattle.live_run.specs.Heads as heads
-use Rattle.live_run.specs.declared.place.Place.{Place}
 use Rattle.live_run.specs.declared.live_end.LiveEnd.{LiveEnd}
 use Rattle.live_run.specs.declared.live_end.LiveEnd.TheVariants as end
 use Rattle.live_run.specs.Ends.{EndGets}
@@ -31,6 +27,7 @@ use Rattle.sim_core.specs.Inner.LiveSteps.{IsBehind, StopsBy, WritesFault, statu
 use Rattle.input_reading.specs.Causes.{refusal_text}
 use Rattle.sim_core.specs.Replay.{IsHeadFault, IsReplayOutput, IsTextOfRun, coming_behind}
 use Rattle.sim_core.specs.Table.{live}
+use Rattle.sim_core.proofs.SameComing.{same_coming}
 
 -- the head has a fault
 refused_says : (input : List ℕ) (left before after : Option (List ℕ)) (line : ℕ) (why : InputCause) (status : Status) → IsHeadFault input line why
@@ -91,13 +88,8 @@ write_fault_by end.NoMemory e = cc
 -- the run that follows from the head
 module _ (input : List ℕ) (head : Head) (reading : Reading) (from left before after : Option (List ℕ)) (k : IsBehind input head reading from) where
   -- what is to come is the same
-  same_coming : results_behind head.cluster head.journal reading k.unread ≡ coming_behind input k.bytes head reading.next reading.room
-  same_coming =
-      let at : Place = record { moment = moment_of head.journal.events; before = 0; line = reading.next } in
-      let bytes : reading.held ++ k.unread ≡ drop (length k.bytes) input
-      = sym (drop-append_seam k.bytes (reading.held ++ k.unread)) ∙ ap (λ (t : List ℕ). drop (length k.bytes) t) (sym k.parts) in
-      ap (λ (n : ℕ). coming head.cluster n at reading.room (raw_lines (reading.held ++ k.unread))) k.longest
-      ∙ ap (λ (t : List ℕ). coming head.cluster 1048576 at reading.room (raw_lines t)) bytes
+  coming_is : results_behind head.cluster head.journal reading k.unread ≡ coming_behind input k.bytes head reading.next reading.room
+  coming_is = same_coming input k.bytes k.unread head reading k.longest k.parts
 
   text_of_run : (how : LiveEnd) (text : List ℕ) → EndGets head.cluster head.journal (results_behind head.cluster head.journal reading k.unread) how text
       → IsTextOfRun (λ c journal all. EndGets c journal all how) input text
@@ -107,7 +99,7 @@ module _ (input : List ℕ) (head : Head) (reading : Reading) (from left before 
     next = reading.next;
     room = reading.room;
     begun = k.begun;
-    says = subst (λ (all : Coming). EndGets head.cluster head.journal all how text) same_coming gets;
+    says = subst (λ (all : Coming). EndGets head.cluster head.journal all how text) coming_is gets;
   }
 
   behind_the_head : (Became : Cluster → Journal → Reading → List ℕ → Option (List ℕ) → Option (List ℕ) → Option (List ℕ) → Type 0)

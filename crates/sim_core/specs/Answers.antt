@@ -1,15 +1,11 @@
 -- What the top call answers, what it has read and written by then, and what the answer has to be.
-use Rattle.std.specs.Prelude.{◌≡◌, ◌≢◌, ◌↔◌, ◌⊎◌, ℕ, ◌<◌, ◌≤◌, Bool, true, false, Option, Some, None, List, [], length, IfSome, is_none}
+use Rattle.std.specs.Prelude.{◌≡◌, ◌≢◌, ◌↔◌, ◌⊎◌, ℕ, ◌<◌, ◌≤◌, Bool, true, false, Option, Some, None, List, [], length, IfSome}
 use Rattle.cluster_io.specs.Streams.{Adds, AddsPrefix}
 use Rattle.sim_core.specs.declared.status.Status.{Status}
 use Rattle.sim_core.specs.declared.status.Status.TheVariants.{Done, NoMemory, Usage, ReadFault, WriteFault, Refused, Unexpected, TooLarge, NotLawful}
 use Rattle.sim_core.specs.declared.words.Command.{Command}
-use Rattle.cluster_types.specs.Safety.{IsSafeRun}
-use Rattle.live_run.specs.Courses.{answers_to_come}
-use Rattle.input_reading.specs.declared.input.reading.Head.{Head}
 use Rattle.sim_core.specs.Live.{SaysLive}
 use Rattle.input_reading.specs.Reading.{most_bytes}
-use Rattle.sim_core.specs.Replay.{IsBegun, coming_behind}
 use Rattle.sim_core.specs.Table.{Intake, nothing, whole, live, intake, takes_memory, Gets}
 
 -- the input was read to its end, and had room
@@ -119,12 +115,6 @@ InputHasRoom live input = Unit {0}
 abbrev pub IsCompleteAnswer : Command → Option (List ℕ) → Status → Type 0
 IsCompleteAnswer word told status = IfSome (told_input (intake word) told) (λ input. InputHasRoom (intake word) input → status ≢ NoMemory
     → (due : Status) → (status ≡ due) ↔ IsStatusDue (Gets word input) due)
-
--- the run that follows from the head of an input is safe wherever it stands: each promise of safety holds of it
-abbrev pub IsSafeReplay : List ℕ → Type 0
-IsSafeReplay input = (bytes : List ℕ) (head : Head) (next room : ℕ) → IsBegun input bytes head next room
-    → IsSafeRun head.cluster head.journal.promotions (is_none (coming_behind input bytes head next room).stop) head.journal.events
-    (Some (answers_to_come (coming_behind input bytes head next room)))
 
 abbrev pub reads_some : Intake → Bool
 reads_some nothing = false

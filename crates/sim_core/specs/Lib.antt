@@ -9,6 +9,7 @@ pub mod Graph
 pub mod Survive
 pub mod Generated
 pub mod World
+pub mod SafeTexts
 pub mod Replay
 pub mod Headline
 pub mod Live

@@ -6,9 +6,12 @@ ghost use Rattle.input_reading.specs.Reading.{ReadsInput};
 ghost use Rattle.input_reading.specs.declared.input.reading.Input.{Input as InputOf};
 ghost use Rattle.sim_core.specs.Again.{IsReadAgain};
 ghost use Rattle.sim_core.specs.Check.{check_text};
-ghost use Rattle.sim_core.specs.Headline.{IsTextOfOneSafeRun};
+ghost use Rattle.sim_core.specs.Generated.{IsSummaryText};
+ghost use Rattle.sim_core.specs.Headline.{IsSafeOutput};
 ghost use Rattle.sim_core.specs.Replay.{IsReplayOutput};
-ghost use Rattle.sim_core.specs.declared.status.Status.TheVariants as status;
+ghost use Rattle.sim_core.specs.SafeTexts.{IsSummaryOfSafeRun, IsTextOfSafeWorld};
+ghost use Rattle.sim_core.specs.World.{IsWorldOf};
+ghost use Rattle.sim_core.specs.declared.status.Status.{Status as StatusOf};
 
 /// What `check` writes of an input is read as the same statements and the same cluster, where none of its lines is longer than a line may be, and
 /// `check` writes the same text of it.
@@ -16,10 +19,21 @@ pub fn what_check_writes_is_read_again()
     ensures { (text : List ℕ) (whole : InputOf) → ReadsInput text whole → has_short_lines whole.head.crm ≡ true → IsReadAgain (check_text whole) whole }
 {}
 
-/// The headline. What `replay` writes of an accepted input, whose result lines are all taken, is the one run of the given results: each transition has the
-/// one plan for the journal so far, whose targets obey the mandatory rules and are the best allowed after earlier placements; no action begins before all
-/// that must precede it have succeeded, and none makes a second copy or a forbidden neighbour of what may still run; and each complete transition ends in
-/// its targets.
+/// The headline. What `replay` writes of an input is the one run of the given results: the whole run with status 0, and with 6, 5 and 7 the run up to where it
+/// is cut. Each transition has the one plan for the journal so far, whose targets obey the mandatory rules and are the best allowed after earlier placements;
+/// no action begins before all that must precede it have succeeded, and none makes a second copy or a forbidden neighbour of what may still run; and each
+/// complete transition ends in its targets. What stands written with any other status is a front of that run (`WritesASafeRun`, a clause of `run`).
 pub fn what_replay_writes_is_one_safe_run()
-    ensures { (input text : List ℕ) → IsReplayOutput input status.Done text → IsTextOfOneSafeRun input text }
+    ensures { (input text : List ℕ) (outcome : StatusOf) → IsReplayOutput input outcome text → IsSafeOutput input outcome text }
+{}
+
+/// What `world` writes is the run of a simulated cluster that is safe all the way, whatever the cluster answers; its lines are safe by themselves, and at each
+/// of them what really runs is among what may run, by the first journal and the lines before.
+pub fn what_world_writes_is_a_safe_run()
+    ensures { (number : ℕ) (input text : List ℕ) (whole : InputOf) → ReadsInput input whole → IsWorldOf number whole text → IsTextOfSafeWorld number whole text }
+{}
+
+/// The run that `gen` sums up is safe all the way, and its lines are safe by themselves.
+pub fn what_gen_sums_up_is_a_safe_run()
+    ensures { (number : ℕ) (input text : List ℕ) (whole : InputOf) → ReadsInput input whole → IsSummaryText number whole text → IsSummaryOfSafeRun number whole text }
 {}

@@ -1,8 +1,9 @@
 ghost use Rattle.std.specs.Prelude.{◌≡◌, ◌↔◌, ◌+◌, ◌<◌, false, true, Some, None, IfSome, length, map};
 ghost use Rattle.std.specs.String.{string_bytes};
 ghost use Rattle.cluster_io.specs.Streams.{Bears, Rose, TakesCount};
-ghost use Rattle.sim_core.specs.Answers.{WordAnswers, IsCompleteAnswer, IsEarly, IsSafeReplay, IsStatusOf, ReadsLive, ReadsNothing, ReadsSomething, ReadsWhole, reads_some};
+ghost use Rattle.sim_core.specs.Answers.{WordAnswers, IsCompleteAnswer, IsEarly, IsStatusOf, ReadsLive, ReadsNothing, ReadsSomething, ReadsWhole, reads_some};
 ghost use Rattle.input_reading.specs.Reading.{most_bytes};
+ghost use Rattle.sim_core.specs.Headline.{WritesASafeRun};
 ghost use Rattle.sim_core.specs.Table.{intake, nothing, whole};
 ghost use Rattle.sim_core.specs.Words.{command_of};
 
@@ -68,8 +69,9 @@ pub fn run<S: Source, W: Sink>(alloc: Global, words: &[String], src: &mut S, out
         (λ word. ¬ Rose (S.faults src.old) (S.faults src.new) → ¬ Rose (W.faults out.old) (W.faults out.new)
         → IsCompleteAnswer word (S.left src.old) result) }
 
-    // A run that is carried out while it is read is safe, whatever its answers are.
-    ensures safe { ReadsLive (command_of (map string_bytes words.now)) → IfSome (S.left src.old) IsSafeReplay }
+    // What `replay` has written, whatever its status: the lines of the one run of its input, or a front of them; and that run is safe.
+    ensures promise { ReadsLive (command_of (map string_bytes words.now))
+        → IfSome (S.left src.old) (λ input. WritesASafeRun input (W.written out.old) (W.written out.new) result) }
 
     // What holds whatever the source and the sink tell. Status 2 comes when the words are no form, and only then; it leaves both as they were.
     ensures usage { (result ≡ Status.Usage) ↔ (command_of (map string_bytes words.now) ≡ None) }

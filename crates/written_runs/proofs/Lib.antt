@@ -5,3 +5,8 @@ pub mod TargetLines
 pub mod StepLines
 pub mod WrittenLines
 pub mod ReadFits
+pub mod Telling
+pub mod SafeLines
+pub mod Fronts
+pub mod NextSteps
+pub mod SomeRuns

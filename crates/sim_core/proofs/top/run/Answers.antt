@@ -1,5 +1,5 @@
 use Rattle.sim_core.proofs.Completeness.{complete}
-use Rattle.sim_core.proofs.SafeReplay.{safe_told}
+use Rattle.sim_core.proofs.Promised.{promise_kept}
 use Rattle.sim_core.proofs.top.run.Goals as goal
 
 pub returns-in-Some-clause-complete : goal.returns-in-Some-clause-complete
@@ -9,5 +9,8 @@ returns-in-Some-clause-complete g c =
     (complete c.ends_are_unique.ensures c.faulty_runs_are_not_lawful.ensures c.in-Some.word (g.S.Source.left c.args.src.now) (g.S.Source.left run.new.src) (g.W.Sink.written c.args.out.now) (g.W.Sink.written run.new.out)
     run.result _ _ _ _ run.ensures.answers run.ensures.reads.cause run.ensures.writes.cause)
 
-pub returns-in-Some-clause-safe : goal.returns-in-Some-clause-safe
-returns-in-Some-clause-safe g c = λ is. safe_told (g.S.Source.left c.args.src.now)
+pub returns-in-Some-clause-promise : goal.returns-in-Some-clause-promise
+returns-in-Some-clause-promise g c =
+    let run = c.carry_out in
+    rw (← c.command_of.ensures, c.in-Some.is)
+    (promise_kept c.in-Some.word (g.S.Source.left c.args.src.now) (g.S.Source.left run.new.src) (g.W.Sink.written c.args.out.now) (g.W.Sink.written run.new.out) run.result run.ensures.answers)
