@@ -50,7 +50,7 @@ fn memory_suffices_or_is_refused_to_check(rt: HostRuntime) {
 }
 
 /// What is ordered after a leaf without a place is held back.
-const LEFT_OUT: Row = (
+const HELD_BACK: Row = (
     r#"node n1
 node n2
 primitive a Dummy
@@ -77,7 +77,7 @@ none b Held o
 
 #[test]
 fn memory_suffices_or_is_refused_to_score(rt: HostRuntime) {
-    assert_whole_or_refused(&rt, rt.alloc(), "scores", LEFT_OUT);
+    assert_whole_or_refused(&rt, rt.alloc(), "scores", HELD_BACK);
 }
 
 /// What is held back in the end: by a colocation before an order, of a place before its promote.
