@@ -18,6 +18,7 @@ _cekpayo() {
         case $word in
           plan) options+=" --time" ;;
           losses) options+=" --fail-on-loss" ;;
+          why) options+=" --change" ;;
           what-if) options+=" $changes --config --fail-on-loss --fail-on-change" ;;
         esac
         mapfile -t COMPREPLY < <(compgen -W "$options" -- "$current")

@@ -1,5 +1,5 @@
-"""Tries the questions `plan`, `what-if`, `losses` and `why`, CIBs as inputs, `--online`, `--json`, and the notes on
-what differs from Pacemaker."""
+"""Tries the questions `plan`, `what-if` and `losses`, CIBs as inputs, `--online`, `--json`, and the notes on what
+differs from Pacemaker."""
 import bz2
 import json
 import os
@@ -143,25 +143,6 @@ def try_losses():
     expect("losses --json", json.loads(run("losses", "--json")[1])["losses"][0]["entries"][0]["what"] == "Move")
 
 
-def try_why():
-    told = {
-        "location l a -inf: n1": "without `location l a -inf: n1`: on n1",
-        "location l a 5: n1\nlocation m a rule -inf: #uname eq n1": "without `location m a rule -inf: #uname eq n1`: on n1",
-    }
-    for rule, line in told.items():
-        status, output, _ = run("why", "a", data=INPUT.replace("location l a 5: n1", rule))
-        expect(f"why: {rule}", status == 0 and output.startswith("a: on n2\n") and f"  {line}\n" in output, output)
-    for old, new, line in (("node n1 online", "node n1 offline", "if n1 were online: on n1"), ("quorum yes", "quorum no", "with quorum: on n1"),
-                           ("node n1\n", "node n1 attributes standby=on\n", "if n1 weren't in standby: on n1"),
-                           ("meta resource-stickiness=1\nprim", "meta target-role=Stopped\nprim", "without `target-role=Stopped` of a: on n1"),
-                           ("op n1 a monitor 10000 0 6", "op n1 a start 0 1 6", "without the failure of a on n1: on n1")):
-        output = run("why", "a", data=INPUT.replace(old, new, 1))[1]
-        expect(f"why: {new}", f"  {line}\n" in output, output)
-    expect("why of nothing", "no rule, state or failure changes that" in run("why", "a", data=INPUT.replace("location l a 5: n1\n", ""))[1])
-    expect("why of no resource", run("why", "b")[:2] == (2, ""))
-    expect("why without a resource", run("why")[0] == 2)
-
-
 def try_cibs(folder):
     """A CIB gives every word what the text that is kept of it gives, from a file, packed, and from a pipe."""
     text, path = kept("cibs", "two-nodes.crm").encode(), os.path.join(TOP, ".ci", "cibs", "two-nodes.xml")
@@ -260,7 +241,6 @@ def try_all(folder):
     try_moves()
     try_config(folder)
     try_losses()
-    try_why()
     try_cibs(folder)
     try_runs_of_cibs(folder)
     try_measured(folder)

@@ -13,7 +13,7 @@ from expecting import PROGRAM, expect
 def try_build(folder):
     """The script builds when it must, and only then."""
     copy = Copy(folder, "build")
-    for words in ([], ["chek"], ["explain"], ["--help"], ["plan", "--tme"], ["what-if"], ["why"]):
+    for words in ([], ["chek"], ["explain"], ["--help"], ["plan", "--tme"], ["what-if"], ["why", "a", "--tme"]):
         expect(f"{words} builds nothing", copy.run(*words)[0] == (0 if words[:1] in (["explain"], ["--help"]) else 2))
     for words in (["check", "/nonexistent"], ["plan", "/nonexistent"], ["world", "7", "/nonexistent"], ["what-if", "--config", "/nonexistent"]):
         expect(f"{words} builds nothing", copy.run(*words)[:2] == (3, ""))

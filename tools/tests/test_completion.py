@@ -32,6 +32,7 @@ def try_completion(folder):
         pass
     expect("completion of a word", completed("cekpayo che", folder) == ["check"])
     expect("completion of an option", completed("cekpayo check --", folder) == ["--all", "--json", "--online", "--try", "--help"])
+    expect("completion of an option of a question", completed("cekpayo why --ch", folder) == ["--change"])
     expect("completion of a file", completed("cekpayo check inp", folder) == ["input.crm"])
     expect("completion of a folder", completed("cekpayo check su", folder) == ["sub"])
     expect("completion of a cause", completed("cekpayo explain BadT", folder) == ["BadTime"])

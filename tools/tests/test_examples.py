@@ -9,7 +9,7 @@ import textwrap
 from expecting import ENVIRONMENT, TOP, WRAPPER, expect, kept, own, tool
 
 EXAMPLES = os.path.join(TOP, "examples")
-WORDS = ("scores", "graph", "survive", "replay")
+WORDS = ("scores", "why", "graph", "survive", "replay")
 SHOWN = re.compile(r"^ +\$ (?:cat |\./cekpayo scores )(examples/\S+) \|(?: \./cekpayo scores \|)? tools/summary\n((?:    .*\n)+)", re.M)
 RUN = re.compile(r"^ +\$ cat (examples/\S+) \| \./cekpayo replay\n((?:    .*\n)+)", re.M)
 WALK = re.compile(r"^ +\$ \{ cat (examples/\S+); printf '%s\\n' (.*); \} \| \./cekpayo replay(?: \| tail -n \+(\d+))?\n((?:    .*\n)+)", re.M)
@@ -46,7 +46,7 @@ def try_answers():
             expect(f"{word} of the example {name}", status == 0 and answer.decode() == known.get(word), answer.decode())
         run = text.split(b"%results\n")[0] + b"%trace\n" + own(text, "replay")[1]
         expect(f"audit of the run of the example {name}", own(run, "audit") == (0, b"lawful\n"))
-    expect("answers of examples", count >= 60)
+    expect("answers of examples", count >= 75)
 
 
 def parts_of(path):

@@ -11,6 +11,8 @@ from expecting import ENVIRONMENT, PROGRAM, TOP, WRAPPER, expect
 QUESTIONS = {
     "check": ["check"],
     "scores": ["scores"],
+    "why": ["why"],
+    "why p1": ["check", "why"],
     "plan": ["check", "graph", "scores"],
     "losses": ["check", "graph", "scores", "survive"],
     "what-if --standby n1": ["check"] + 2 * ["graph", "scores", "survive"],
@@ -51,7 +53,7 @@ def cost(command, path):
 
 def costs(path):
     """Each question, the seconds of the program and of the script, and the memory of the script."""
-    alone = {word: cost([PROGRAM, word], path)[0] for word in ("check", "graph", "scores", "survive")}
+    alone = {word: cost([PROGRAM, word], path)[0] for word in ("check", "graph", "scores", "survive", "why")}
     for question, words in QUESTIONS.items():
         yield question, sum(alone[word] for word in words), *cost([WRAPPER, *question.split()], path)
 

@@ -19,10 +19,10 @@ use Rattle.decision_account.specs.Verdicts.{last_chosen, verdict_on}
 use Rattle.placement.specs.Reads.{may_stay_in}
 use Rattle.placement.specs.Steps.{Chooses, Tell}
 use Rattle.account_text.specs.declared.asked.Asked.{Asked}
-use Rattle.account_text.specs.Asked.{verdict_asked}
-use Rattle.account_text.specs.Judged.{last_of, verdict_in}
-use Rattle.account_text.specs.Sides.{preference_part}
-use Rattle.account_text.specs.Told.{base_parts_by, parts_text}
+use Rattle.account_text.specs.Inner.Asked.{verdict_asked}
+use Rattle.account_text.specs.Inner.Judged.{last_of, verdict_in}
+use Rattle.account_text.specs.Inner.Sides.{preference_part}
+use Rattle.account_text.specs.Inner.Told.{base_parts_by, parts_text}
 use Rattle.account_text.proofs.AccountLines.{node_text}
 use Rattle.account_text.proofs.PartsOfStates.{base_parts_are}
 use Rattle.account_text.proofs.SideTexts.{preferences_text}

@@ -23,7 +23,7 @@ use Rattle.placement.specs.OwnRows.{is_active_by, is_banned_by, stickiness_of}
 use Rattle.placement.specs.Locations.{is_unnamed}
 use Rattle.placement.proofs.JoinedOfStates.{all-joins}
 use Rattle.placement.proofs.OwnOfStates.{active-is}
-use Rattle.account_text.specs.Told.{base_parts_by, own_part_where, own_parts_by}
+use Rattle.account_text.specs.Inner.Told.{base_parts_by, own_part_where, own_parts_by}
 
 as_map : (counts : Bool) (lender : Option ℕ) (origin : Origin) (score : ℤ)
     → own_part_where counts lender origin score ≡ map (part_of lender origin) (if counts then score ∷ [] else [])

@@ -12,9 +12,9 @@ use Rattle.cluster_types.specs.Tables.{Targets, holds_role}
 use Rattle.decision_account.specs.Parts.{from_colocation, part_of, preference_parts}
 use Rattle.decision_account.specs.Verdicts.{joined_separation, joins_apart, misses_primary, missed_colocation}
 use Rattle.placement.specs.Tests.{counts, has_primary, keeps_apart}
-use Rattle.account_text.specs.Sides.{AreColocationsOf, first_joined, first_missing, is_side, preference_part}
-use Rattle.account_text.specs.Sources.{lent_values}
-use Rattle.account_text.specs.Told.{parts_text}
+use Rattle.account_text.specs.Inner.Sides.{AreColocationsOf, first_joined, first_missing, is_side, preference_part}
+use Rattle.account_text.specs.Inner.Sources.{lent_values}
+use Rattle.account_text.specs.Inner.Told.{parts_text}
 use Rattle.account_text.proofs.ToldTexts.{lent_map, picked}
 
 counts_of_side : (x y f h : Bool) → ((x || y) && (f && x && h)) ≡ (f && x && h)

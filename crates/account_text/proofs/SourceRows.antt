@@ -9,7 +9,7 @@ use Rattle.lemmas.proofs.Members.{head_or_rest, in_none}
 use Rattle.placement.proofs.MoreRows.{places-more}
 use Rattle.account_text.specs.declared.leaf_sources.LeafSources.{LeafSources}
 use Rattle.account_text.specs.declared.leaf_sources.Ruled.{Ruled}
-use Rattle.account_text.specs.Sources.{AreRuled, AreSources, HoldsAt, IsSourceOf}
+use Rattle.account_text.specs.Inner.Sources.{AreRuled, AreSources, HoldsAt, IsSourceOf}
 
 module _ (c : Cluster) (moment : ℕ) where
   holds_more : (before : List Ruled) (x : Ruled) → ((y : Ruled) → Contains before y → HoldsAt c moment y) → HoldsAt c moment x

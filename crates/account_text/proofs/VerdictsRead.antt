@@ -30,8 +30,8 @@ use Rattle.placement.specs.Reads.{is_permitted_in, may_stay_in}
 use Rattle.placement.specs.Usable.{is_usable_by}
 use Rattle.placement.proofs.OwnOfStates.{from-zero, usable-is}
 use Rattle.placement.proofs.ReadOfStates.{open-is}
-use Rattle.account_text.specs.Judged.{goes_ahead, is_last_of, last_of, load_listed, passed_in, refusal_by_table, refusal_in, total_listed, verdict_in}
-use Rattle.account_text.specs.Sides.{AreColocationsOf}
+use Rattle.account_text.specs.Inner.Judged.{goes_ahead, is_last_of, last_of, load_listed, passed_in, refusal_by_table, refusal_in, total_listed, verdict_in}
+use Rattle.account_text.specs.Inner.Sides.{AreColocationsOf}
 use Rattle.account_text.proofs.SideTexts.{joined_is, missing_is}
 
 -- searches and tests of numbers that agree

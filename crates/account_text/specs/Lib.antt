@@ -1,11 +1,2 @@
-pub mod Lent
-pub mod Told
-pub mod Sources
-pub mod Joining
-pub mod Sides
-pub mod Judged
-pub mod HeldTexts
-pub mod Asked
+pub mod Inner
 pub mod Journal
-pub mod Accounted
-pub mod Reading

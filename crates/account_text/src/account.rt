@@ -14,10 +14,10 @@ ghost use Rattle.decision_account.specs.Accounts as accounts;
 ghost use Rattle.placement.specs.Loads.{IsLoaded};
 ghost use Rattle.placement.specs.Steps.{Chooses, Tell};
 ghost use Rattle.placement.specs.Scores.{scores_of};
-ghost use Rattle.account_text.specs.Accounted.{AreAccounted, decisions_made};
+ghost use Rattle.account_text.specs.Inner.Accounted.{AreAccounted, decisions_made};
 ghost use Rattle.account_text.specs.Journal.{HavePlacement};
-ghost use Rattle.account_text.specs.Reading.{ReadsCluster};
-ghost use Rattle.account_text.specs.Told as told;
+ghost use Rattle.account_text.specs.Inner.Reading.{ReadsCluster};
+ghost use Rattle.account_text.specs.Inner.Told as told;
 
 use crate::asked::Asked;
 use crate::base_parts::{push_place, push_promote};

@@ -6,8 +6,8 @@ ghost use Rattle.cluster_types.specs.Tables.{targets_of};
 ghost use Rattle.placement.specs.Loads.{IsLoaded};
 ghost use Rattle.placement.specs.Reads.{may_stay_in};
 ghost use Rattle.placement.specs.Steps.{Chooses, Tell};
-ghost use Rattle.account_text.specs.Judged.{last_of};
-ghost use Rattle.account_text.specs.Sides.{AreColocationsOf};
+ghost use Rattle.account_text.specs.Inner.Judged.{last_of};
+ghost use Rattle.account_text.specs.Inner.Sides.{AreColocationsOf};
 
 use cluster_types::{Colocation, Decision, NodeId};
 use placement::{ChosenNodes, Known, LoadedTable};

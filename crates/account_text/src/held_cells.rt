@@ -8,7 +8,7 @@ ghost use Rattle.cluster_types.specs.Valid.{KeepsLimits};
 ghost use Rattle.decision_account.specs.Accounts as accounts;
 ghost use Rattle.decision_account.specs.Holders as holders;
 ghost use Rattle.decision_account.specs.Verdicts.{missed_colocation};
-ghost use Rattle.account_text.specs.HeldTexts as spec;
+ghost use Rattle.account_text.specs.Inner.HeldTexts as spec;
 
 use cluster_types::{Cluster, Colocation, Decision, LeafId, NodeId, Order, Role, Table};
 use faults::NoMemory;

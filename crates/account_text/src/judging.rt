@@ -3,9 +3,9 @@
 ghost use Rattle.std.specs.Prelude.{◌≡◌, ◌<◌, ◌&&◌, ◌||◌, length, option_map};
 ghost use Rattle.cluster_types.specs.Tables.{targets_of};
 ghost use Rattle.placement.specs.Reads.{is_kept_in};
-ghost use Rattle.account_text.specs.Asked as spec;
-ghost use Rattle.account_text.specs.Judged as judged;
-ghost use Rattle.account_text.specs.Lent as lent;
+ghost use Rattle.account_text.specs.Inner.Asked as spec;
+ghost use Rattle.account_text.specs.Inner.Judged as judged;
+ghost use Rattle.account_text.specs.Inner.Lent as lent;
 
 use crate::asked::Asked;
 use crate::lent::VerdictRef;

@@ -2,7 +2,7 @@
 
 ghost use Rattle.std.specs.Prelude.{◌≡◌, ◌==◌, ◌<◌, ◌≤◌, ℕ, length, IfOk};
 ghost use Rattle.cluster_types.specs.Valid.{IsValid};
-ghost use Rattle.account_text.specs.Sources as spec;
+ghost use Rattle.account_text.specs.Inner.Sources as spec;
 
 use cluster_types::{Cluster, LeafId, Location, RuleLocation};
 use faults::NoMemory;

@@ -3,9 +3,9 @@
 ghost use Rattle.std.specs.Prelude.{◌≡◌, ◌++◌, ◌<◌, ℕ, Option, length, OnOk};
 ghost use Rattle.std.specs.List.{flat_map};
 ghost use Rattle.placement.specs.Locations.{is_role};
-ghost use Rattle.account_text.specs.Lent as lent;
-ghost use Rattle.account_text.specs.Sources.{IsSourceOf};
-ghost use Rattle.account_text.specs.Told as spec;
+ghost use Rattle.account_text.specs.Inner.Lent as lent;
+ghost use Rattle.account_text.specs.Inner.Sources.{IsSourceOf};
+ghost use Rattle.account_text.specs.Inner.Told as spec;
 
 use crate::leaf_sources::{LeafSources, Ruled};
 use crate::lent::{OriginRef, PartRef};

@@ -4,8 +4,8 @@ ghost use Rattle.std.specs.Prelude.{◌≡◌, ◌<◌, length, IfOk};
 ghost use Rattle.cluster_types.specs.Decisions.{leaf_of};
 ghost use Rattle.cluster_types.specs.Valid.{IsValid};
 ghost use Rattle.account_text.specs.Journal.{HaveJournal};
-ghost use Rattle.account_text.specs.Reading.{ReadsCluster};
-ghost use Rattle.account_text.specs.Told as spec;
+ghost use Rattle.account_text.specs.Inner.Reading.{ReadsCluster};
+ghost use Rattle.account_text.specs.Inner.Told as spec;
 
 use crate::joining::joined_leaves;
 use crate::sources::Sources;

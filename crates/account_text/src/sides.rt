@@ -3,8 +3,8 @@
 ghost use Rattle.std.specs.Prelude.{◌≡◌, ◌++◌, OnOk, IfOk};
 ghost use Rattle.std.specs.List.{flat_map};
 ghost use Rattle.cluster_types.specs.Tables.{targets_of};
-ghost use Rattle.account_text.specs.Sides as spec;
-ghost use Rattle.account_text.specs.Told as told;
+ghost use Rattle.account_text.specs.Inner.Sides as spec;
+ghost use Rattle.account_text.specs.Inner.Told as told;
 
 use crate::lent::{OriginRef, PartRef};
 use crate::own_parts::push_part_if;

@@ -2,7 +2,7 @@
 
 ghost use Rattle.std.specs.Prelude.{◌≡◌, ◌<◌, ◌≤◌, length, IfOk};
 ghost use Rattle.cluster_types.specs.Valid.{IsValid, KeepsLimits};
-ghost use Rattle.account_text.specs.Sources as spec;
+ghost use Rattle.account_text.specs.Inner.Sources as spec;
 
 use crate::leaf_sources::LeafSources;
 use cluster_types::{Cluster, LeafId, States};

@@ -2,7 +2,7 @@
 
 ghost use Rattle.std.specs.Prelude.{◌≡◌, ◌++◌, codes, OnOk};
 ghost use Rattle.decision_account.specs.Accounts as accounts;
-ghost use Rattle.account_text.specs.Lent as spec;
+ghost use Rattle.account_text.specs.Inner.Lent as spec;
 
 use crate::lent::VerdictRef;
 use cluster_types::Cluster;

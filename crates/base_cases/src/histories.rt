@@ -7,7 +7,7 @@ use crate::resolved::cluster;
 use cluster_types::{Answer, Journal};
 use crm_lex::{Line, WordBuf, lex_one, logical_lines};
 use input_reading::{
-    Recovery, ResultCause, ResultFault, ResultLine, StatusFault, class_of, read_result,
+    InputCause, Recovery, ResultCause, ResultFault, ResultLine, StatusFault, class_of, read_result,
     read_results, read_status,
 };
 use listed::Listed;
@@ -162,7 +162,9 @@ fn print_journal(out: &mut String, journal: &Journal) -> Result<(), AllocError> 
 fn print_status(out: &mut String, read: &Result<Journal, StatusFault>) -> Result<(), AllocError> {
     match read {
         Ok(journal) => print_journal(out, journal),
-        Err(StatusFault::At { line, cause }) => write!(out, "{line} {cause:?}"),
+        Err(StatusFault::At { line, cause }) => {
+            write!(out, "{line} {}", InputCause::Status(*cause).name())
+        }
         Err(StatusFault::NoMemory) => write!(out, "no memory"),
     }
 }
@@ -273,7 +275,9 @@ fn print_results(
 ) -> Result<(), AllocError> {
     match read {
         Ok(results) => print_answers(out, results.as_slice()),
-        Err(ResultFault::At { line, cause }) => write!(out, "{line} {cause:?}"),
+        Err(ResultFault::At { line, cause }) => {
+            write!(out, "{line} {}", InputCause::Results(*cause).name())
+        }
         Err(ResultFault::NoMemory) => write!(out, "no memory"),
     }
 }
@@ -357,7 +361,7 @@ const LINES: &[OneLine] = &[
         6,
         9_999,
         "wait 1099511627770",
-        "Err(At { line: 7, cause: BadValue })",
+        "Err(At { line: 7, cause: Form(BadValue) })",
     ),
     (
         0,
@@ -375,13 +379,13 @@ const LINES: &[OneLine] = &[
         0,
         0,
         "%results\n",
-        "Err(At { line: 7, cause: UnknownStatement })",
+        "Err(At { line: 7, cause: Form(UnknownStatement) })",
     ),
     (
         0,
         0,
         "report n1 vip 1 0 2 3 4 5 6 7 8\n",
-        "Err(At { line: 7, cause: ExtraWord })",
+        "Err(At { line: 7, cause: Form(ExtraWord) })",
     ),
     (
         0,
@@ -393,7 +397,7 @@ const LINES: &[OneLine] = &[
         0,
         0,
         "lost n9 9 9 9 9 9 9 9 9\n",
-        "Err(At { line: 7, cause: UnknownName })",
+        "Err(At { line: 7, cause: Form(UnknownName) })",
     ),
     (1_099_511_627_775, 0, "wait 0", "Ok(Wait { seconds: 0 })"),
 ];

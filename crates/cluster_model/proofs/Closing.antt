@@ -15,12 +15,13 @@ use Rattle.loops.proofs.LoopTests.{needs_closed, steps_closed}
 use Rattle.cluster_model.specs.declared.resolution.directory.Directory.{Directory}
 use Rattle.cluster_model.specs.declared.resolution.fault.ModelCause.{ModelCause}
 use Rattle.cluster_model.specs.declared.resolution.fault.ModelCause.TheVariants.{ColocationLoop, OrderLoop}
-use Rattle.cluster_model.specs.Colocations.{colocations_in, colocations_of}
+use Rattle.cluster_model.specs.Inner.Colocations.{colocations_in, colocations_of}
 use Rattle.cluster_model.specs.Counting.{colocation_count, order_count}
 use Rattle.cluster_model.specs.FirstFaults.{first_fault}
-use Rattle.cluster_model.specs.Orders.{orders_in, orders_of}
-use Rattle.cluster_model.specs.Resolution.{cause_of_loops, cluster_of, loop_cause}
-use Rattle.cluster_model.specs.Search.{closed_by, closing_cause, colocations_in_all, orders_in_all}
+use Rattle.cluster_model.specs.Inner.Orders.{orders_in, orders_of}
+use Rattle.cluster_model.specs.Resolution.{cause_of_loops}
+use Rattle.cluster_model.specs.Inner.Resolution.{cluster_of, loop_cause}
+use Rattle.cluster_model.specs.Inner.Search.{closed_by, closing_cause, colocations_in_all, orders_in_all}
 use Rattle.cluster_model.proofs.Limits.{colocations_are, orders_are}
 
 -- the pass that looks for the statements of two places

@@ -14,8 +14,8 @@ use Rattle.crm_parse.specs.Operations.{interval_of, recurs}
 use Rattle.crm_parse.specs.ReadForms.{IsRead}
 use Rattle.cluster_types.specs.declared.leaf.Monitor.{Monitor as MonitorOf}
 use Rattle.cluster_types.specs.Valid.{IsValidLeaf}
-use Rattle.cluster_model.specs.Clones.{uncloned}
-use Rattle.cluster_model.specs.Leaves.{around, leaf_in, primitive_leaf, leaves_of, surroundings_of}
+use Rattle.cluster_model.specs.Inner.Clones.{uncloned}
+use Rattle.cluster_model.specs.Inner.Leaves.{around, leaf_in, primitive_leaf, leaves_of, surroundings_of}
 use Rattle.cluster_model.specs.Operations.{monitor_of, monitors_of}
 use Rattle.cluster_model.proofs.EachOf.{all_flat, of_all, of_map_all, pairs_map}
 use Rattle.cluster_model.proofs.ReadNames.{AreRead}

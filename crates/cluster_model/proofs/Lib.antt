@@ -21,3 +21,10 @@ pub mod NameLaws
 pub mod NodeNames
 pub mod Twice
 pub mod SameLeaves
+pub mod LeavesSaid
+pub mod SpansSaid
+pub mod FaultsSaid
+pub mod ExpansionSaid
+pub mod NamedSaid
+pub mod RulesSaid
+pub mod SaidExamples

@@ -11,9 +11,10 @@ use Rattle.cluster_types.specs.declared.leaf.Leaf.{Leaf}
 use Rattle.cluster_types.specs.Valid.{KeepsLimits}
 use Rattle.cluster_model.specs.declared.expansion.expand_fault.ExpandCause.{ExpandCause}
 use Rattle.cluster_model.specs.declared.expansion.leaves.Leaves.{Leaves}
-use Rattle.cluster_model.specs.Expansion.{expansion_of, leaves_with_spans}
-use Rattle.cluster_model.specs.Faults.{fault_of}
-use Rattle.cluster_model.specs.Leaves.{leaf_in, leaves_of, surroundings_of}
+use Rattle.cluster_model.specs.Expansion.{expansion_of}
+use Rattle.cluster_model.specs.Inner.Expansion.{leaves_with_spans}
+use Rattle.cluster_model.specs.Inner.Faults.{fault_of}
+use Rattle.cluster_model.specs.Inner.Leaves.{leaf_in, leaves_of, surroundings_of}
 use Rattle.cluster_model.specs.declared.resolution.checks.Checked.{Checked}
 use Rattle.cluster_model.specs.declared.resolution.counts.Counts.{Counts}
 use Rattle.cluster_model.specs.declared.resolution.directory.Directory.{Directory}
@@ -21,17 +22,21 @@ use Rattle.cluster_model.specs.declared.resolution.fault.ModelCause.{ModelCause}
 use Rattle.cluster_model.specs.declared.resolution.fault.ModelCause.TheVariants.{UnknownName, NotPromotable, UnsupportedOrder, TooManyNodes, TooManyLeaves, TooManyRules}
 use Rattle.faults.specs.declared.fault.Fault.{Fault}
 use Rattle.cluster_model.specs.Chains.{pairs_after, successive}
-use Rattle.cluster_model.specs.Checks.{cause_of, excess_of, has_unknown, has_unpromotable, is_unsupported_form}
-use Rattle.cluster_model.specs.Colocations.{colocations_in, colocations_of}
-use Rattle.cluster_model.specs.Counting.{all_counted, colocation_count, counted_with, counts_of, leaf_count, location_count, node_count, nothing_counted, order_count}
-use Rattle.cluster_model.specs.Directories.{directory_of}
-use Rattle.cluster_model.specs.Locations.{location_in, locations_of, rule_location_of, rule_locations_in, rule_locations_of}
+use Rattle.cluster_model.specs.Inner.Checks.{cause_of, excess_of, has_unknown, has_unpromotable}
+use Rattle.cluster_model.specs.Checks.{is_unsupported_form}
+use Rattle.cluster_model.specs.Inner.Colocations.{colocations_in, colocations_of}
+use Rattle.cluster_model.specs.Inner.Counting.{all_counted, counted_with, counts_of, leaf_count, node_count, nothing_counted}
+use Rattle.cluster_model.specs.Counting.{colocation_count, location_count, order_count}
+use Rattle.cluster_model.specs.Inner.Directories.{directory_of}
+use Rattle.cluster_model.specs.Inner.Locations.{location_in, locations_of, rule_location_of, rule_locations_in, rule_locations_of}
 use Rattle.cluster_model.specs.Nodes.{node_in, nodes_by}
-use Rattle.cluster_model.specs.Orders.{orders_in, orders_of}
-use Rattle.cluster_model.specs.Resolution.{cluster_of, resolution_of}
+use Rattle.cluster_model.specs.Inner.Orders.{orders_in, orders_of}
+use Rattle.cluster_model.specs.Inner.Resolution.{cluster_of}
+use Rattle.cluster_model.specs.Resolution.{resolution_of}
 use Rattle.cluster_model.proofs.Outcome.{clean, none-own}
 use Rattle.cluster_model.proofs.Passes.{fault_after, passes, unless_cause}
 use Rattle.faults.specs.Reading.{unless}
+use Rattle.cluster_model.proofs.ExpansionSaid.{expansion_is}
 
 -- so much there may be
 pub record Within (counts : Counts) : Type 0 where
@@ -172,7 +177,7 @@ cluster_within d leaves statements w few =
 pub limits_kept : (statements : List Statement) (leaves : Leaves) (cluster : Cluster) → expansion_of statements ≡ Ok leaves
     → resolution_of leaves statements ≡ Ok cluster → KeepsLimits cluster
 limits_kept statements leaves cluster e r =
-    let made = expanded (fault_of statements) statements leaves e in
+    let made = expanded (fault_of statements) statements leaves (sym (expansion_is statements) ∙ e) in
     let (same, w) = resolved_within leaves statements cluster r in
     let are : leaves.leaves ≡ leaves_of statements = ap (λ (l : Leaves). l.leaves) made in
     let few : length leaves.leaves ≤ 1000 = rw are (leaves_within statements w) in

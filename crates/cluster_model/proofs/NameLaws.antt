@@ -17,12 +17,15 @@ use Rattle.faults.specs.Reading.{fault_at}
 use Rattle.cluster_model.specs.declared.expansion.kinds.Kind.{Kind}
 use Rattle.cluster_model.specs.declared.expansion.seen.Seen.{Seen}
 use Rattle.cluster_model.specs.declared.expansion.surroundings.Surroundings.{Surroundings}
-use Rattle.cluster_model.specs.Faults.{expand_cause_of, fault_of, first_expand_fault, ids_in, kinds_of, nothing_seen, seen_after}
+use Rattle.cluster_model.specs.Inner.Faults.{expand_cause_of, fault_of, first_expand_fault, kinds_of, nothing_seen, seen_after}
+use Rattle.cluster_model.specs.Faults.{ids_in}
 use Rattle.cluster_model.specs.Laws.{NamesDiffer}
-use Rattle.cluster_model.specs.Leaves.{leaf_in, primitive_leaf, leaves_in, leaves_of, surroundings_of}
+use Rattle.cluster_model.specs.Inner.Leaves.{leaf_in, primitive_leaf, leaves_in, leaves_of, surroundings_of}
 use Rattle.cluster_model.specs.Settings.{nodes_in}
 use Rattle.crm_lex.specs.NameSets.{has_name}
 use Rattle.cluster_model.proofs.SameNames.{has-more}
+use Rattle.cluster_model.proofs.FaultsSaid.{fault_is}
+use Rattle.cluster_model.proofs.LeavesSaid.{leaves_are}
 
 is_itself : (name : List ℕ) → pointwise nat_eq name name ≡ true
 is_itself name = nat_list_eq_equiv.refl name
@@ -86,7 +89,12 @@ module _ (s : Surroundings) (kinds : List (List ℕ × Kind)) where
       fresh_by seen st (leaves_in s statements) (expand_cause_of kinds seen st.form) (first_expand_fault kinds (seen_after seen st.form) statements) refl h
       (λ e. fresh (seen_after seen st.form) statements e)
 
--- the names of leaves differ
-pub names_differ : NamesDiffer
+-- the names of the leaves of the code differ
+pub names_differ : (statements : List Statement) → fault_of statements ≡ None → AllPairs (λ (one other : Leaf). one.name ≢ other.name) (leaves_of statements)
 unfolding fault_of leaves_of
 names_differ statements h = (fresh (surroundings_of statements) (kinds_of statements) nothing_seen statements h).apart
+
+-- the names of leaves differ
+pub said_names_differ : NamesDiffer
+said_names_differ statements h =
+    subst (AllPairs (λ (one other : Leaf). one.name ≢ other.name)) (leaves_are statements) (names_differ statements (fault_is statements ∙ h))

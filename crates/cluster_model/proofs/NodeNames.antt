@@ -13,7 +13,8 @@ use Rattle.faults.specs.declared.fault.Fault.{Fault}
 use Rattle.faults.specs.Reading.{fault_at}
 use Rattle.cluster_model.specs.declared.expansion.kinds.Kind.{Kind}
 use Rattle.cluster_model.specs.declared.expansion.seen.Seen.{Seen}
-use Rattle.cluster_model.specs.Faults.{expand_cause_of, fault_of, first_expand_fault, ids_in, kinds_of, nothing_seen, seen_after}
+use Rattle.cluster_model.specs.Inner.Faults.{expand_cause_of, fault_of, first_expand_fault, kinds_of, nothing_seen, seen_after}
+use Rattle.cluster_model.specs.Faults.{ids_in}
 use Rattle.cluster_model.specs.Settings.{nodes_in}
 use Rattle.crm_lex.specs.NameSets.{has_name}
 use Rattle.cluster_model.proofs.NameLaws.{kept, not_first, other}

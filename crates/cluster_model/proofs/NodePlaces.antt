@@ -13,11 +13,12 @@ use Rattle.crm_parse.specs.declared.form.Form.TheVariants as form
 use Rattle.crm_parse.specs.declared.statement.Statement.{Statement}
 use Rattle.cluster_model.specs.declared.expansion.leaves.Leaves.{Leaves}
 use Rattle.cluster_model.specs.Settings.{nodes_in}
-use Rattle.cluster_model.specs.Tables.{lookup}
+use Rattle.cluster_model.specs.Inner.Tables.{lookup}
 use Rattle.lemmas.proofs.Members.{head_or_rest, in_none}
 use Rattle.cluster_model.specs.declared.resolution.directory.Directory.{Directory}
-use Rattle.cluster_model.specs.Directories.{directory_of, first_named, is_unknown, is_unknown_node, node_named, nodes_of, numbered_from}
-use Rattle.cluster_model.specs.Locations.{location_in, role_written}
+use Rattle.cluster_model.specs.Inner.Directories.{directory_of, first_named, is_unknown, is_unknown_node, node_named, nodes_of, numbered_from}
+use Rattle.cluster_model.specs.Inner.Locations.{location_in}
+use Rattle.cluster_model.specs.Locations.{role_written}
 use Rattle.cluster_model.specs.Nodes.{node_in, nodes_by}
 use Rattle.cluster_model.proofs.Sound.{IsSound}
 

@@ -12,11 +12,13 @@ use Rattle.cluster_model.specs.declared.expansion.leaves.Leaves.{Leaves}
 use Rattle.cluster_model.specs.declared.resolution.directory.Directory.{Directory}
 use Rattle.cluster_model.specs.declared.resolution.fault.ModelCause.{ModelCause}
 use Rattle.cluster_model.specs.declared.resolution.fault.ModelCause.TheVariants.{ColocationLoop, OrderLoop}
-use Rattle.cluster_model.specs.Directories.{directory_of}
+use Rattle.cluster_model.specs.Inner.Directories.{directory_of}
 use Rattle.cluster_model.specs.FirstFaults.{first_fault}
-use Rattle.cluster_model.specs.Resolution.{cause_after, cause_of_loops, cluster_of, loop_cause, own_cause, resolution_of}
+use Rattle.cluster_model.specs.Inner.Resolution.{cause_after, cluster_of, loop_cause, own_cause, resolution_by}
+use Rattle.cluster_model.specs.Resolution.{cause_of_loops, resolution_of}
 use Rattle.cluster_model.proofs.Sound.{second-none}
 use Rattle.cluster_model.proofs.Split.{none_stays, split}
+use Rattle.cluster_model.proofs.RulesSaid.{resolution_is}
 
 -- nothing stands in the way of a cluster
 pub record IsClean (d : Directory) (leaves : List Leaf) (statements : List Statement) (c : Cluster) : Type 0 where
@@ -25,10 +27,11 @@ pub record IsClean (d : Directory) (leaves : List Leaf) (statements : List State
 
 pub clean : (leaves : Leaves) (statements : List Statement) (c : Cluster) → resolution_of leaves statements ≡ Ok c
     → IsClean (directory_of leaves statements) leaves.leaves statements c
-unfolding resolution_of
+unfolding resolution_by
 clean leaves statements c h =
     let d = directory_of leaves statements in
-    let (none, same) = unless-ok (first_fault (cause_after d leaves.leaves) [] statements) (cluster_of d leaves.leaves statements) c h in
+    let (none, same) =
+    unless-ok (first_fault (cause_after d leaves.leaves) [] statements) (cluster_of d leaves.leaves statements) c (sym (resolution_is leaves statements) ∙ h) in
     record { no_fault = none; is_whole = sym same }
 
 -- no statement has a cause, loops aside

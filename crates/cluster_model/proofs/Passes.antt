@@ -7,11 +7,11 @@ use Rattle.cluster_model.specs.declared.resolution.checks.Checked.{Checked}
 use Rattle.cluster_model.specs.declared.resolution.counts.Counts.{Counts}
 use Rattle.cluster_model.specs.declared.resolution.directory.Directory.{Directory}
 use Rattle.cluster_model.specs.declared.resolution.fault.ModelCause.{ModelCause}
-use Rattle.cluster_model.specs.Checks.{cause_of}
-use Rattle.cluster_model.specs.Counting.{all_counted, counted_with, counts_of, nothing_counted}
+use Rattle.cluster_model.specs.Inner.Checks.{cause_of}
+use Rattle.cluster_model.specs.Inner.Counting.{all_counted, counted_with, counts_of, nothing_counted}
 use Rattle.cluster_model.specs.FirstFaults.{first_fault}
-use Rattle.cluster_model.specs.Resolution.{own_cause}
-use Rattle.cluster_model.specs.Search.{count_on, sound_count}
+use Rattle.cluster_model.specs.Inner.Resolution.{own_cause}
+use Rattle.cluster_model.specs.Inner.Search.{count_on, sound_count}
 
 -- the line and the cause of a statement that is at fault, behind so many that aren't, and else what comes of the others
 abbrev pub unless_cause : Option ModelCause → ℕ → ℕ → Checked → Checked

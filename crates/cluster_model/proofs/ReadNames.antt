@@ -14,10 +14,11 @@ use Rattle.cluster_types.specs.declared.rules.Order.{Order}
 use Rattle.cluster_types.specs.declared.rules.RuleLocation.{RuleLocation}
 use Rattle.cluster_model.specs.declared.resolution.directory.Directory.{Directory}
 use Rattle.cluster_model.specs.Chains.{successive}
-use Rattle.cluster_model.specs.Colocations.{colocations_in, colocations_of, member_colocation}
-use Rattle.cluster_model.specs.Locations.{location_in, locations_of, rule_location_of, rule_locations_in, rule_locations_of}
+use Rattle.cluster_model.specs.Inner.Colocations.{colocations_in, colocations_of, member_colocation}
+use Rattle.cluster_model.specs.Inner.Locations.{location_in, locations_of, rule_location_of, rule_locations_in, rule_locations_of}
 use Rattle.cluster_model.specs.Nodes.{node_in, nodes_by}
-use Rattle.cluster_model.specs.Orders.{kind_of_word, member_order, orders_in, orders_of, step_order}
+use Rattle.cluster_model.specs.Orders.{kind_of_word}
+use Rattle.cluster_model.specs.Inner.Orders.{member_order, orders_in, orders_of, step_order}
 use Rattle.cluster_model.proofs.EachOf.{all_flat, all_map}
 
 -- each statement was read

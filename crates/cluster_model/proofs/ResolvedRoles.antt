@@ -13,12 +13,13 @@ use Rattle.cluster_model.specs.declared.expansion.leaves.Leaves.{Leaves}
 use Rattle.lemmas.proofs.Members.{of_flat}
 use Rattle.cluster_model.specs.declared.resolution.checks.Checked.{Checked}
 use Rattle.cluster_model.specs.declared.resolution.directory.Directory.{Directory}
-use Rattle.cluster_model.specs.Colocations.{colocations_in}
-use Rattle.cluster_model.specs.Counting.{nothing_counted}
-use Rattle.cluster_model.specs.Directories.{directory_of}
-use Rattle.cluster_model.specs.Locations.{location_in, rule_locations_in}
-use Rattle.cluster_model.specs.Orders.{orders_in}
-use Rattle.cluster_model.specs.Resolution.{cluster_of, own_cause, resolution_of}
+use Rattle.cluster_model.specs.Inner.Colocations.{colocations_in}
+use Rattle.cluster_model.specs.Inner.Counting.{nothing_counted}
+use Rattle.cluster_model.specs.Inner.Directories.{directory_of}
+use Rattle.cluster_model.specs.Inner.Locations.{location_in, rule_locations_in}
+use Rattle.cluster_model.specs.Inner.Orders.{orders_in}
+use Rattle.cluster_model.specs.Inner.Resolution.{cluster_of, own_cause}
+use Rattle.cluster_model.specs.Resolution.{resolution_of}
 use Rattle.cluster_model.proofs.Outcome.{IsClean, clean, none-own}
 use Rattle.cluster_model.proofs.Passes.{passes}
 use Rattle.cluster_model.proofs.Split.{none_all}

@@ -28,11 +28,14 @@ use Rattle.cluster_model.specs.declared.resolution.directory.Directory.{Director
 use Rattle.cluster_model.specs.declared.resolution.directory.Traits.{Traits}
 use Rattle.cluster_model.specs.declared.resolution.orders.Point.{Point}
 use Rattle.cluster_model.specs.Chains.{successive}
-use Rattle.cluster_model.specs.Checks.{lacks_action, lacks_in_pair, lacks_role, side_lacks, turns_down}
-use Rattle.cluster_model.specs.Colocations.{colocation_of, colocations_in, dependent_at, member_colocation, primary_at}
-use Rattle.cluster_model.specs.Directories.{directory_of, first_named, groups_of, is_unknown, is_unknown_node, last_named, may_promote, node_named, traits_of}
-use Rattle.cluster_model.specs.Locations.{location_in, role_of_word, role_written, rule_location_of, rule_locations_in}
-use Rattle.cluster_model.specs.Orders.{first_point, is_down, kind_of_word, member_order, op_of, orders_in, step_order, then_point}
+use Rattle.cluster_model.specs.Inner.Checks.{lacks_action, lacks_in_pair, lacks_role, side_lacks}
+use Rattle.cluster_model.specs.Checks.{turns_down}
+use Rattle.cluster_model.specs.Inner.Colocations.{colocation_of, colocations_in, dependent_at, member_colocation, primary_at}
+use Rattle.cluster_model.specs.Inner.Directories.{directory_of, first_named, groups_of, is_unknown, is_unknown_node, last_named, may_promote, node_named, traits_of}
+use Rattle.cluster_model.specs.Inner.Locations.{location_in, rule_location_of, rule_locations_in}
+use Rattle.cluster_model.specs.Locations.{role_of_word, role_written}
+use Rattle.cluster_model.specs.Inner.Orders.{first_point, member_order, orders_in, step_order, then_point}
+use Rattle.cluster_model.specs.Orders.{is_down, kind_of_word, op_of}
 use Rattle.cluster_model.proofs.Known.{first-there, last-there, pairs-none}
 use Rattle.cluster_model.proofs.Sound.{IsSound, first-point-there, then-point-there}
 

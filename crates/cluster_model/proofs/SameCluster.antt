@@ -11,19 +11,21 @@ use Rattle.cluster_types.specs.declared.leaf.Leaf.{Leaf}
 use Rattle.cluster_model.specs.declared.resolution.counts.Counts.{Counts}
 use Rattle.cluster_model.specs.declared.resolution.directory.Directory.{Directory}
 use Rattle.cluster_model.specs.declared.resolution.fault.ModelCause.{ModelCause}
-use Rattle.cluster_model.specs.Colocations.{colocations_in}
-use Rattle.cluster_model.specs.Counting.{all_counted, counted_with, counts_of, nothing_counted}
-use Rattle.cluster_model.specs.Directories.{directory_of, grouped_from, members_in, numbered_from}
+use Rattle.cluster_model.specs.Inner.Colocations.{colocations_in}
+use Rattle.cluster_model.specs.Inner.Counting.{all_counted, counted_with, counts_of, nothing_counted}
+use Rattle.cluster_model.specs.Inner.Directories.{directory_of, grouped_from, members_in, numbered_from}
 use Rattle.cluster_model.specs.FirstFaults.{first_fault}
-use Rattle.cluster_model.specs.Locations.{location_in, rule_locations_in}
+use Rattle.cluster_model.specs.Inner.Locations.{location_in, rule_locations_in}
 use Rattle.cluster_model.specs.Nodes.{node_in}
 use Rattle.cluster_model.specs.Options.{properties_of, setting_of}
-use Rattle.cluster_model.specs.Orders.{orders_in}
-use Rattle.cluster_model.specs.Resolution.{cause_after, cluster_of, resolution_of}
+use Rattle.cluster_model.specs.Inner.Orders.{orders_in}
+use Rattle.cluster_model.specs.Inner.Resolution.{cause_after, cluster_of, resolution_by}
+use Rattle.cluster_model.specs.Resolution.{resolution_of}
 use Rattle.faults.specs.declared.fault.Fault.{Fault}
 use Rattle.faults.specs.Reading.{fault_at, unless}
 use Rattle.faults.proofs.Steps.{unless-ok}
 use Rattle.crm_parse.proofs.SameForms.{IsLineless, alike, clear, cleared, each-lineless, forms, unless-none}
+use Rattle.cluster_model.proofs.RulesSaid.{resolution_is}
 
 setting-lineless : (key : List ℕ) → IsLineless (setting_of key)
 setting-lineless key [] = refl
@@ -92,11 +94,10 @@ module _ (d : Directory) (leaves : List Leaf) where
       (first_fault (cause_after d leaves) (before ++ s ∷ []) statements)
       (first_fault (cause_after d leaves) (cleared before ++ clear s ∷ []) (cleared statements)) (cause-lineless before s) rest
 
--- statements that say the same say the same cluster
-pub same-resolution : (leaves : Leaves) (one other : List Statement) (cluster : Cluster) → forms one ≡ forms other
-    → resolution_of leaves one ≡ Ok cluster → resolution_of leaves other ≡ Ok cluster
-unfolding resolution_of
-same-resolution leaves one other cluster same e =
+same-by : (leaves : Leaves) (one other : List Statement) (cluster : Cluster) → forms one ≡ forms other
+    → resolution_by leaves one ≡ Ok cluster → resolution_by leaves other ≡ Ok cluster
+unfolding resolution_by
+same-by leaves one other cluster same e =
     let d = directory_of leaves one in
     let there = alike (directory_of leaves) (directory-lineless leaves) one other same in
     let found = unless-ok (first_fault (cause_after d leaves.leaves) [] one) (cluster_of d leaves.leaves one) cluster e in
@@ -104,3 +105,9 @@ same-resolution leaves one other cluster same e =
     let given = sym (alike (cluster_of d leaves.leaves) (cluster-lineless d leaves.leaves) one other same) ∙ found.1 in
     ap (λ d. unless (first_fault (cause_after d leaves.leaves) [] other) (cluster_of d leaves.leaves other)) (sym there)
     ∙ (unless-none (first_fault (cause_after d leaves.leaves) [] other) (cluster_of d leaves.leaves other) none ∙ ap Ok given)
+
+-- statements that say the same say the same cluster
+pub same-resolution : (leaves : Leaves) (one other : List Statement) (cluster : Cluster) → forms one ≡ forms other
+    → resolution_of leaves one ≡ Ok cluster → resolution_of leaves other ≡ Ok cluster
+same-resolution leaves one other cluster same e =
+    resolution_is leaves other ∙ same-by leaves one other cluster same (sym (resolution_is leaves one) ∙ e)

@@ -14,19 +14,23 @@ use Rattle.cluster_model.specs.declared.expansion.clones.InClone.{InClone}
 use Rattle.cluster_model.specs.declared.expansion.groups.InGroup.{InGroup}
 use Rattle.cluster_model.specs.declared.expansion.meta.Meta.{Meta}
 use Rattle.cluster_model.specs.declared.expansion.seen.Seen.{Seen}
-use Rattle.cluster_model.specs.Clones.{cloned_by, cloned_in}
-use Rattle.cluster_model.specs.Expansion.{expansion_of, leaves_with_spans}
-use Rattle.cluster_model.specs.Faults.{expand_cause_of, fault_of, first_expand_fault, resource_kinds_in, kinds_of, nothing_seen, seen_after}
-use Rattle.cluster_model.specs.Groups.{grouped_by, grouped_in}
-use Rattle.cluster_model.specs.Leaves.{leaf_in, leaves_of, surroundings_of}
-use Rattle.cluster_model.specs.Metas.{meta_of, no_meta, or_meta, read_as}
-use Rattle.cluster_model.specs.Settings.{count_nodes, defaults_from, defaults_in, nodes_in, option_from, properties_in}
-use Rattle.cluster_model.specs.Spans.{ends_by, group_ends_in, numbers_of, span_in, spans_of}
+use Rattle.cluster_model.specs.Inner.Clones.{cloned_by, cloned_in}
+use Rattle.cluster_model.specs.Expansion.{expansion_of}
+use Rattle.cluster_model.specs.Inner.Expansion.{leaves_with_spans}
+use Rattle.cluster_model.specs.Inner.Faults.{expand_cause_of, fault_of, first_expand_fault, resource_kinds_in, kinds_of, nothing_seen, seen_after}
+use Rattle.cluster_model.specs.Inner.Groups.{grouped_by, grouped_in}
+use Rattle.cluster_model.specs.Inner.Leaves.{leaf_in, leaves_of, surroundings_of}
+use Rattle.cluster_model.specs.Inner.Metas.{meta_of, no_meta, or_meta}
+use Rattle.cluster_model.specs.Metas.{read_as}
+use Rattle.cluster_model.specs.Settings.{count_nodes, defaults_in, nodes_in, properties_in}
+use Rattle.cluster_model.specs.Inner.Settings.{defaults_from, option_from}
+use Rattle.cluster_model.specs.Inner.Spans.{ends_by, group_ends_in, numbers_of, span_in, spans_of}
 use Rattle.cluster_types.specs.declared.leaf.Leaf.{Leaf}
 use Rattle.faults.specs.declared.fault.Fault.{Fault}
 use Rattle.faults.specs.Reading.{fault_at}
 use Rattle.faults.proofs.Steps.{unless-ok}
 use Rattle.crm_parse.proofs.SameForms.{IsLineless, alike, cleared, each-lineless, forms, unless-none}
+use Rattle.cluster_model.proofs.ExpansionSaid.{expansion_is}
 
 option-lineless : (key : List ℕ) (found : Option Bool) → IsLineless (option_from key found)
 option-lineless key found [] = refl
@@ -111,7 +115,7 @@ fault-lineless statements =
 -- statements that say the same stand for the same leaves
 pub same-expansion : (one other : List Statement) (leaves : Leaves) → forms one ≡ forms other → expansion_of one ≡ Ok leaves → expansion_of other ≡ Ok leaves
 same-expansion one other leaves same e =
-    let found = unless-ok (fault_of one) (leaves_with_spans one) leaves e in
+    let found = unless-ok (fault_of one) (leaves_with_spans one) leaves (sym (expansion_is one) ∙ e) in
     let none = sym (alike (λ statements. is_none (fault_of statements)) fault-lineless one other same) ∙ ap is_none found.0 in
     let given = sym (alike leaves_with_spans with_spans-lineless one other same) ∙ found.1 in
-    unless-none (fault_of other) (leaves_with_spans other) none ∙ ap Ok given
+    expansion_is other ∙ (unless-none (fault_of other) (leaves_with_spans other) none ∙ ap Ok given)

@@ -12,7 +12,8 @@ use Rattle.cluster_model.specs.declared.expansion.expand_fault.ExpandCause.{Expa
 use Rattle.cluster_model.specs.declared.expansion.kinds.Kind.{Kind}
 use Rattle.cluster_model.specs.declared.expansion.seen.Seen.{Seen}
 use Rattle.faults.specs.Reading.{fault_at}
-use Rattle.cluster_model.specs.Faults.{AreAlike, HaveTheSame, expand_cause_of, first_expand_fault, has_twice, ids_in, parts_in, seen_after}
+use Rattle.cluster_model.specs.Inner.Faults.{AreAlike, HaveTheSame, expand_cause_of, first_expand_fault, seen_after}
+use Rattle.cluster_model.specs.Faults.{has_twice, ids_in, parts_in}
 use Rattle.cluster_model.specs.Settings.{nodes_in}
 
 pub has-more : (one more : List (List ℕ)) (name : List ℕ) → has_name (one ++ more) name ≡ (has_name one name || has_name more name)

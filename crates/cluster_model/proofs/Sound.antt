@@ -27,19 +27,23 @@ use Rattle.faults.specs.declared.fault.Fault.TheVariants.{At, NoMemory}
 use Rattle.cluster_model.specs.declared.resolution.fault.ModelCause.{ModelCause}
 use Rattle.cluster_model.specs.declared.resolution.fault.ModelCause.TheVariants.{UnknownName, NotPromotable, UnsupportedOrder}
 use Rattle.cluster_model.specs.Chains.{successive}
-use Rattle.cluster_model.specs.Checks.{cause_of, excess_of, has_unknown, has_unpromotable, is_unsupported_form}
-use Rattle.cluster_model.specs.Colocations.{colocation_of, colocations_in, colocations_of, dependent_at, member_colocation, primary_at}
-use Rattle.cluster_model.specs.Counting.{counted_with, nothing_counted}
-use Rattle.cluster_model.specs.Directories.{directory_of, groups_of, is_unknown, traits_of}
+use Rattle.cluster_model.specs.Inner.Checks.{cause_of, excess_of, has_unknown, has_unpromotable}
+use Rattle.cluster_model.specs.Checks.{is_unsupported_form}
+use Rattle.cluster_model.specs.Inner.Colocations.{colocation_of, colocations_in, colocations_of, dependent_at, member_colocation, primary_at}
+use Rattle.cluster_model.specs.Inner.Counting.{counted_with, nothing_counted}
+use Rattle.cluster_model.specs.Inner.Directories.{directory_of, groups_of, is_unknown, traits_of}
 use Rattle.cluster_model.specs.Locations.{role_of_word}
-use Rattle.cluster_model.specs.Orders.{first_point, kind_of_word, member_order, op_of, orders_in, orders_of, step_order, then_point}
+use Rattle.cluster_model.specs.Inner.Orders.{first_point, member_order, orders_in, orders_of, step_order, then_point}
+use Rattle.cluster_model.specs.Orders.{kind_of_word, op_of}
 use Rattle.cluster_model.specs.FirstFaults.{first_fault}
-use Rattle.cluster_model.specs.Resolution.{cause_after, cluster_of, loop_cause, own_cause, resolution_of}
-use Rattle.cluster_model.specs.Search.{sound_count}
+use Rattle.cluster_model.specs.Inner.Resolution.{cause_after, cluster_of, loop_cause, own_cause, resolution_by}
+use Rattle.cluster_model.specs.Resolution.{resolution_of}
+use Rattle.cluster_model.specs.Inner.Search.{sound_count}
 use Rattle.faults.specs.Reading.{Gives, UnlessMemory, unless}
 use Rattle.cluster_model.proofs.Passes.{check_all, fault_after, passes, unless_cause}
 use Rattle.cluster_model.proofs.Split.{none_all, split}
 use Rattle.cluster_model.proofs.Known.{first-there, last-there, pairs-none}
+use Rattle.cluster_model.proofs.RulesSaid.{resolution_is}
 
 -- a statement without these faults
 pub record IsSound (d : Directory) (form : Form) : Type 0 where
@@ -247,16 +251,16 @@ module _ (leaves : Leaves) (all : List Leaf) (statements part : List Statement) 
       (is_fault : fault ≡ first_fault (own_cause d) [] statements) where
     -- the first loop among the statements before the first fault otherwise, and else that fault
     resolved-by : resolution_of leaves statements ≡ unless (option_or loop fault) (cluster_of d leaves.leaves statements)
-    unfolding resolution_of
+    unfolding resolution_by
     resolved-by =
         let found = split (own_cause d) (loop_cause d leaves.leaves) [] statements in
         let first : first_fault (loop_cause d leaves.leaves) [] (take (sound_count (own_cause d) [] statements) statements) ≡ loop
         = ap (first_fault (loop_cause d leaves.leaves) []) (ap (λ k. take k statements) (sym is_count) ∙ sym is_part) ∙ sym is_loop in
         let both : first_fault (cause_after d leaves.leaves) [] statements ≡ option_or loop fault
         = found ∙ ap (λ one. option_or one (first_fault (own_cause d) [] statements)) first ∙ ap (option_or loop) (sym is_fault) in
-        let resolution : resolution_of leaves statements ≡ unless (first_fault (cause_after d leaves.leaves) [] statements) (cluster_of d leaves.leaves statements)
+        let resolution : resolution_by leaves statements ≡ unless (first_fault (cause_after d leaves.leaves) [] statements) (cluster_of d leaves.leaves statements)
         = ap (λ (d : Directory). unless (first_fault (cause_after d leaves.leaves) [] statements) (cluster_of d leaves.leaves statements)) (sym is_directory) in
-        resolution ∙ ap (λ found. unless found (cluster_of d leaves.leaves statements)) both
+        resolution_is leaves statements ∙ (resolution ∙ ap (λ found. unless found (cluster_of d leaves.leaves statements)) both)
 
     -- where there is neither, the cluster is that of all statements
     pub resolves : option_or loop fault ≡ None → resolution_of leaves statements ≡ Ok c

@@ -7,7 +7,7 @@ use Rattle.faults.specs.Reading.{fault_at}
 use Rattle.crm_parse.specs.declared.statement.Statement.{Statement}
 use Rattle.cluster_model.specs.declared.resolution.fault.ModelCause.{ModelCause}
 use Rattle.cluster_model.specs.FirstFaults.{first_fault}
-use Rattle.cluster_model.specs.Search.{count_on, sound_count}
+use Rattle.cluster_model.specs.Inner.Search.{count_on, sound_count}
 
 module _ (own loop : List Statement → Statement → Option ModelCause) where
   pub split : (before statements : List Statement)

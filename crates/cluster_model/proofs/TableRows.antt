@@ -9,8 +9,8 @@ use Rattle.std.specs.Ordering.{nat_cmp}
 use Rattle.std.proofs.lemmas.Cmp.{nat_list_eq_equiv}
 use Rattle.std.proofs.lemmas.Map.Text.{is_eq-slice_cmp}
 use Rattle.crm_lex.specs.Names.{is}
-use Rattle.cluster_model.specs.TableRows.{first_place, or_place, shown_rows, value_at}
-use Rattle.cluster_model.specs.Tables.{lookup}
+use Rattle.cluster_model.specs.Inner.TableRows.{first_place, or_place, shown_rows, value_at}
+use Rattle.cluster_model.specs.Inner.Tables.{lookup}
 
 module _ {V : Type 0} where
   -- an ordered map finds a name as a list of its rows does

@@ -1,7 +1,8 @@
 -- Whether a part is named twice, by the names before it, in whatever order they stand.
 use Rattle.std.proofs.Common.{◌≡◌, ℕ, false, ◌||◌, List, [], ◌∷◌, ◌++◌, refl, sym, ap, ◌∙◌}
 use Rattle.crm_lex.specs.NameSets.{IsWithName, has_name}
-use Rattle.cluster_model.specs.Faults.{HaveTheSame, has_twice}
+use Rattle.cluster_model.specs.Inner.Faults.{HaveTheSame}
+use Rattle.cluster_model.specs.Faults.{has_twice}
 use Rattle.cluster_model.proofs.SameNames.{has-more, twice_alike, with_one}
 use Rattle.std.proofs.lemmas.List.{append_assoc}
 

@@ -18,19 +18,21 @@ use Rattle.faults.specs.declared.fault.Fault.{Fault}
 use Rattle.faults.specs.Reading.{unless}
 use Rattle.cluster_model.specs.declared.expansion.expand_fault.ExpandCause.{ExpandCause}
 use Rattle.cluster_model.specs.declared.expansion.leaves.Leaves.{Leaves}
-use Rattle.cluster_model.specs.Expansion.{expansion_of, leaves_with_spans}
-use Rattle.cluster_model.specs.Faults.{fault_of}
-use Rattle.cluster_model.specs.Leaves.{leaves_of}
+use Rattle.cluster_model.specs.Expansion.{expansion_of}
+use Rattle.cluster_model.specs.Inner.Expansion.{leaves_with_spans}
+use Rattle.cluster_model.specs.Inner.Faults.{fault_of}
+use Rattle.cluster_model.specs.Inner.Leaves.{leaves_of}
 use Rattle.cluster_model.proofs.NameLaws.{names_differ}
 use Rattle.cluster_model.proofs.NodeNames.{node_names_differ}
 use Rattle.lemmas.proofs.Members.{of_flat}
 use Rattle.cluster_model.specs.declared.resolution.directory.Directory.{Directory}
-use Rattle.cluster_model.specs.Colocations.{colocations_of}
-use Rattle.cluster_model.specs.Directories.{directory_of}
-use Rattle.cluster_model.specs.Locations.{location_in, locations_of, rule_locations_of}
+use Rattle.cluster_model.specs.Inner.Colocations.{colocations_of}
+use Rattle.cluster_model.specs.Inner.Directories.{directory_of}
+use Rattle.cluster_model.specs.Inner.Locations.{location_in, locations_of, rule_locations_of}
 use Rattle.cluster_model.specs.Nodes.{nodes_by}
-use Rattle.cluster_model.specs.Orders.{orders_of}
-use Rattle.cluster_model.specs.Resolution.{cluster_of, resolution_of}
+use Rattle.cluster_model.specs.Inner.Orders.{orders_of}
+use Rattle.cluster_model.specs.Inner.Resolution.{cluster_of}
+use Rattle.cluster_model.specs.Resolution.{resolution_of}
 use Rattle.cluster_model.proofs.EachOf.{of_all, pairs_map}
 use Rattle.cluster_model.proofs.LeavesValid.{leaves-valid}
 use Rattle.cluster_model.proofs.Limits.{limits_kept}
@@ -38,6 +40,7 @@ use Rattle.cluster_model.proofs.NodePlaces.{location-node, node_names}
 use Rattle.cluster_model.proofs.Loopless.{needs_without_loop, steps_without_loop}
 use Rattle.cluster_model.proofs.ReadNames.{AreRead, NamedColocation, NamedLocation, NamedNode, NamedOrder, NamedRule, colocations-named, locations-named, nodes-named, orders-named, rules-named}
 use Rattle.cluster_model.proofs.ResolvedRoles.{colocations, is-clean, locations, orders, rule_locations, sound}
+use Rattle.cluster_model.proofs.ExpansionSaid.{expansion_is}
 
 -- where a configuration was expanded, none of its statements is at fault
 record IsExpanded (statements : List Statement) (leaves : Leaves) : Type 0 where
@@ -64,7 +67,7 @@ module _ (statements : List Statement) (leaves : Leaves) (c : Cluster) (read : A
   d = directory_of leaves statements
 
   expanded : IsExpanded statements leaves
-  expanded = expanded-by (fault_of statements) statements leaves refl e
+  expanded = expanded-by (fault_of statements) statements leaves refl (sym (expansion_is statements) ∙ e)
 
   whole : c ≡ cluster_of d leaves.leaves statements
   whole = let clean = is-clean leaves statements c r in clean.is_whole

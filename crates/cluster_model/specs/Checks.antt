@@ -1,66 +1,72 @@
 -- Which statements are at fault, loops aside (the causes and their order are rules of this project).
-use Rattle.std.specs.Prelude.{ℕ, nat_lt, Bool, false, not, ◌&&◌, ◌||◌, if◌then◌else◌, Option, Some, None}
+use Rattle.std.specs.Prelude.{ℕ, nat_lt, Bool, false, not, ◌&&◌, ◌||◌, if◌then◌else◌, Option, Some, None, List, [], ◌∷◌, ◌++◌, length, is_none, sum_by}
 use Rattle.std.specs.List.{list_any}
 use Rattle.std.specs.Option.{option_or}
 use Rattle.crm_parse.specs.declared.form.Form.{Form}
 use Rattle.crm_parse.specs.declared.form.Form.TheVariants as form
 use Rattle.crm_parse.specs.declared.form.OrderStep.{OrderStep}
+use Rattle.crm_parse.specs.declared.rule_form.RuleForm.{RuleForm}
+use Rattle.crm_parse.specs.declared.statement.Statement.{Statement}
+use Rattle.crm_parse.specs.declared.words.ActionWord.{ActionWord}
+use Rattle.crm_parse.specs.declared.words.ActionWord.TheVariants as action
 use Rattle.cluster_types.specs.declared.leaf.Role.{Role}
 use Rattle.cluster_types.specs.declared.leaf.Role.TheVariants as role
-use Rattle.cluster_types.specs.declared.leaf.Op.TheVariants as op
-use Rattle.cluster_model.specs.declared.resolution.colocations.Bearer.{Bearer}
-use Rattle.cluster_model.specs.declared.resolution.counts.Counts.{Counts}
-use Rattle.cluster_model.specs.declared.resolution.directory.Directory.{Directory}
 use Rattle.cluster_model.specs.declared.resolution.fault.ModelCause.{ModelCause}
 use Rattle.cluster_model.specs.declared.resolution.fault.ModelCause.TheVariants.{UnknownName, NotPromotable, UnsupportedOrder, TooManyNodes, TooManyLeaves, TooManyRules}
-use Rattle.cluster_model.specs.declared.resolution.orders.Point.{Point}
 use Rattle.cluster_model.specs.Chains.{successive}
-use Rattle.cluster_model.specs.Colocations.{dependent_at, primary_at}
-use Rattle.cluster_model.specs.Directories.{first_named, is_unknown, is_unknown_node, may_promote}
 use Rattle.cluster_model.specs.Locations.{role_of_word, role_written}
-use Rattle.cluster_model.specs.Orders.{first_point, is_down, then_point}
+use Rattle.cluster_model.specs.Orders.{is_down, leaf_begun, leaf_done}
+use Rattle.cluster_model.specs.declared.expansion.leaves.Leaves.{Leaves}
+use Rattle.cluster_model.specs.Counting.{rule_count}
+use Rattle.cluster_model.specs.Named.{first_leaf, is_missing, last_leaf, place_of_node, promotes}
+use Rattle.cluster_model.specs.Resources.{all_primitives}
+use Rattle.cluster_model.specs.Settings.{count_nodes}
 
--- a rule names a resource or a node that isn't there
-abbrev pub has_unknown : Directory → Form → Bool
-has_unknown d (form.Location id resource role discovery score node) = is_unknown d resource || is_unknown_node d node
-has_unknown d (form.RuledLocation id resource role discovery rules) = is_unknown d resource
-has_unknown d (form.Colocation id score dependent primary) = is_unknown d dependent.resource || is_unknown d primary.resource
-has_unknown d (form.Order id kind steps symmetrical) = list_any (λ step. is_unknown d step.resource) steps
-has_unknown d (form.Group id members description params meta) = list_any (is_unknown d) members
-has_unknown d _ = false
+-- more than there may be
+abbrev pub too_many : List Statement → Option ModelCause
+too_many statements =
+    if nat_lt 256 (count_nodes statements) then Some TooManyNodes
+    else if nat_lt 1000 (length (all_primitives statements)) then Some TooManyLeaves
+    else if nat_lt 2000 (sum_by (λ s. rule_count s.form) statements) then Some TooManyRules
+    else None
 
--- the leaf can't have the role
-abbrev pub lacks_role : Directory → ℕ → Role → Bool
-lacks_role d leaf role.Started = false
-lacks_role d leaf role.Promoted = not (may_promote d leaf)
+module _ (leaves : Leaves) (statements : List Statement) where
+  -- a rule names a resource or a node that isn't there
+  abbrev pub names_missing : Form → Bool
+  names_missing (form.Location id resource role discovery score node) = is_missing leaves resource || is_none (place_of_node statements node)
+  names_missing (form.RuledLocation id resource role discovery rules) = is_missing leaves resource
+  names_missing (form.Colocation id score dependent primary) = is_missing leaves dependent.resource || is_missing leaves primary.resource
+  names_missing (form.Order id kind steps symmetrical) = list_any (λ (step : OrderStep). is_missing leaves step.resource) steps
+  names_missing (form.Group id members description params meta) = list_any (is_missing leaves) members
+  names_missing _ = false
 
-abbrev pub side_lacks : Directory → Bearer → Bool
-side_lacks d side = lacks_role d side.leaf side.role
+module _ (leaves : Leaves) where
+  -- the leaf can't have the role, or take the action
+  abbrev pub cant_have : ℕ → Role → Bool
+  cant_have leaf role.Started = false
+  cant_have leaf role.Promoted = not (promotes leaves leaf)
 
--- the leaf can't take the action
-abbrev pub lacks_action : Directory → Point → Bool
-lacks_action d point = elim point.what [
-  | op.Promote ↦ not (may_promote d point.leaf)
-  | op.Demote ↦ not (may_promote d point.leaf)
-  | op.Start ↦ false
-  | op.Stop ↦ false
-  | op.Monitor ↦ false
-]
+  abbrev pub cant_take : ℕ → ActionWord → Bool
+  cant_take leaf action.Promote = not (promotes leaves leaf)
+  cant_take leaf action.Demote = not (promotes leaves leaf)
+  cant_take leaf action.Start = false
+  cant_take leaf action.Stop = false
 
-abbrev pub lacks_in_pair : Directory → OrderStep × OrderStep → Bool
-lacks_in_pair d pair =
-    lacks_action d (first_point d pair.0.resource pair.0.action) || lacks_action d (then_point d pair.1.resource pair.1.action)
-
--- role Promoted, or an action promote or demote, at a leaf that isn't promotable
-abbrev pub has_unpromotable : Directory → Form → Bool
-has_unpromotable d (form.Location id resource written discovery score node) = lacks_role d (first_named d resource) (role_written written)
-has_unpromotable d (form.RuledLocation id resource written discovery rules) =
-    list_any (λ rule. lacks_role d (first_named d resource) (role_written (option_or rule.role written))) rules
-has_unpromotable d (form.Colocation id score dependent primary) =
-    side_lacks d (dependent_at d dependent.resource (role_of_word dependent.role))
-    || side_lacks d (primary_at d primary.resource (role_of_word primary.role))
-has_unpromotable d (form.Order id kind steps symmetrical) = list_any (lacks_in_pair d) (successive steps)
-has_unpromotable d _ = false
+  -- role Promoted, or an action promote or demote, at a leaf that isn't promotable
+  abbrev pub promotes_plain : Form → Bool
+  promotes_plain (form.Location id resource written discovery score node) = cant_have (first_leaf leaves resource) (role_written written)
+  promotes_plain (form.RuledLocation id resource written discovery rules) =
+      list_any (λ (rule : RuleForm). cant_have (first_leaf leaves resource) (role_written (option_or rule.role written))) rules
+  promotes_plain (form.Colocation id score dependent primary) =
+      cant_have (first_leaf leaves dependent.resource) (role_of_word dependent.role)
+      || cant_have (last_leaf leaves primary.resource) (role_of_word primary.role)
+  promotes_plain (form.Order id kind steps symmetrical) =
+      list_any
+      (λ (pair : OrderStep × OrderStep).
+      cant_take (leaf_done leaves pair.0.resource pair.0.action) pair.0.action
+      || cant_take (leaf_begun leaves pair.1.resource pair.1.action) pair.1.action)
+      (successive steps)
+  promotes_plain _ = false
 
 -- a stop or a demote that waits for a start or a promote
 abbrev pub turns_down : OrderStep × OrderStep → Bool
@@ -70,18 +76,11 @@ abbrev pub is_unsupported_form : Form → Bool
 is_unsupported_form (form.Order id kind steps symmetrical) = list_any turns_down (successive steps)
 is_unsupported_form _ = false
 
--- more than there may be
-abbrev pub excess_of : Counts → Option ModelCause
-excess_of counts =
-    if nat_lt 256 counts.nodes then Some TooManyNodes
-    else if nat_lt 1000 counts.leaves then Some TooManyLeaves
-    else if nat_lt 2000 counts.rules then Some TooManyRules
-    else None
-
--- the cause of a statement that is at fault, where it and those before it have so much
-unfoldable pub cause_of : Directory → Counts → Form → Option ModelCause
-cause_of d counts form =
-    if has_unknown d form then Some UnknownName
-    else if has_unpromotable d form then Some NotPromotable
-    else if is_unsupported_form form then Some UnsupportedOrder
-    else excess_of counts
+module _ (leaves : Leaves) (statements : List Statement) where
+  -- the cause of a statement that is at fault, where these stand before it
+  unfoldable pub rule_cause : List Statement → Statement → Option ModelCause
+  rule_cause before s =
+      if names_missing leaves statements s.form then Some UnknownName
+      else if promotes_plain leaves s.form then Some NotPromotable
+      else if is_unsupported_form s.form then Some UnsupportedOrder
+      else too_many (before ++ s ∷ [])

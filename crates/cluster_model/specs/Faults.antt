@@ -1,33 +1,16 @@
 -- Which statements are at fault (crmsh manual, group, clone and ms; the causes and their order are rules of this project).
-use Rattle.std.specs.Prelude.{◌≡◌, ℕ, Bool, true, false, not, ◌&&◌, ◌||◌, if◌then◌else◌, List, [], ◌∷◌, ◌++◌, is_none, Option, Some, None}
+use Rattle.std.specs.Prelude.{ℕ, Bool, true, false, not, ◌&&◌, ◌||◌, if◌then◌else◌, List, [], ◌∷◌, ◌++◌, is_none, Option, Some, None, find, map}
 use Rattle.std.specs.List.{flat_map, list_any}
 use Rattle.std.specs.Option.{option_map_or}
-use Rattle.faults.specs.declared.fault.Fault.{Fault}
-use Rattle.faults.specs.Reading.{fault_at}
 use Rattle.crm_lex.specs.NameSets.{has_name}
+use Rattle.crm_lex.specs.Names.{is}
 use Rattle.crm_parse.specs.declared.form.Form.{Form}
 use Rattle.crm_parse.specs.declared.form.Form.TheVariants as form
 use Rattle.crm_parse.specs.declared.statement.Statement.{Statement}
 use Rattle.crm_parse.specs.Statements.{says_promotable}
 use Rattle.cluster_model.specs.declared.expansion.expand_fault.ExpandCause.{ExpandCause}
-use Rattle.cluster_model.specs.declared.expansion.expand_fault.ExpandCause.TheVariants.{DuplicateName, UnknownName, NestedTwice}
-use Rattle.cluster_model.specs.declared.expansion.expand_fault.ExpandCause.TheVariants.{EmptyGroup, MemberTwice, UnsupportedMeta}
-use Rattle.cluster_model.specs.declared.expansion.kinds.Kind.{Kind}
-use Rattle.cluster_model.specs.declared.expansion.kinds.Kind.TheVariants as kind
-use Rattle.cluster_model.specs.declared.expansion.seen.Seen.{Seen}
+use Rattle.cluster_model.specs.declared.expansion.expand_fault.ExpandCause.TheVariants.{DuplicateName, UnknownName, NestedTwice, EmptyGroup, MemberTwice, UnsupportedMeta}
 use Rattle.cluster_model.specs.Settings.{nodes_in}
-use Rattle.cluster_model.specs.Tables.{lookup}
-
--- the resource of a statement, with its kind
-abbrev pub resource_kinds_in : Form → List (List ℕ × Kind)
-resource_kinds_in (form.Primitive id agent description params meta utilization operations ops) = (id, kind.Primitive) ∷ []
-resource_kinds_in (form.Group id members description params meta) = (id, kind.Group) ∷ []
-resource_kinds_in (form.Cloned id child ms description params meta) = (id, kind.Clone) ∷ []
-resource_kinds_in _ = []
-
--- each resource with its kind; where an id is defined twice, the first counts
-abbrev pub kinds_of : List Statement → List (List ℕ × Kind)
-kinds_of statements = flat_map (λ s. resource_kinds_in s.form) statements
 
 -- the id of a resource or of a rule, which share one space of names
 abbrev pub ids_in : Form → List (List ℕ)
@@ -46,48 +29,6 @@ parts_in (form.Group id members description params meta) = members
 parts_in (form.Cloned id child ms description params meta) = child ∷ []
 parts_in _ = []
 
--- nothing stands before the first statement
-abbrev pub nothing_seen : Seen
-nothing_seen = record { nodes = []; ids = []; parts = [] }
-
--- the names that statements use, after one more
-unfoldable pub seen_after : Seen → Form → Seen
-seen_after seen form = record {
-  nodes = seen.nodes ++ nodes_in form;
-  ids = seen.ids ++ ids_in form;
-  parts = seen.parts ++ parts_in form;
-}
-
--- the sets have the same names
-abbrev pub HaveTheSame : List (List ℕ) → List (List ℕ) → Type 0
-HaveTheSame one other = (name : List ℕ) → has_name one name ≡ has_name other name
-
--- they have seen the same names
-pub record AreAlike (one other : Seen) : Type 0 where
-  pub nodes : HaveTheSame one.nodes other.nodes
-  pub ids : HaveTheSame one.ids other.ids
-  pub parts : HaveTheSame one.parts other.parts
-
--- a name is used by an earlier node, or an id by an earlier resource or rule
-abbrev pub is_duplicate : Seen → Form → Bool
-is_duplicate seen form = list_any (has_name seen.nodes) (nodes_in form) || list_any (has_name seen.ids) (ids_in form)
-
--- a member or a child isn't there
-abbrev pub has_unknown_part : List (List ℕ × Kind) → Form → Bool
-has_unknown_part kinds form = list_any (λ part. is_none (lookup kinds part)) (parts_in form)
-
--- a group has primitives, and a clone a primitive or a group
-abbrev pub may_contain : Form → Kind → Bool
-may_contain (form.Group id members description params meta) kind.Primitive = true
-may_contain (form.Group id members description params meta) kind.Group = false
-may_contain (form.Group id members description params meta) kind.Clone = false
-may_contain form kind.Primitive = true
-may_contain form kind.Group = true
-may_contain form kind.Clone = false
-
-abbrev pub nests : List (List ℕ × Kind) → Form → Bool
-nests kinds form = list_any (λ part. not (option_map_or (may_contain form) (lookup kinds part) true)) (parts_in form)
-
 -- a group without members
 abbrev pub is_empty_group : Form → Bool
 is_empty_group (form.Group id [] description params meta) = true
@@ -98,33 +39,59 @@ abbrev pub has_twice : List (List ℕ) → List (List ℕ) → Bool
 has_twice before [] = false
 has_twice before (part ∷ parts) = has_name before part || has_twice (before ++ part ∷ []) parts
 
-abbrev pub is_group : Kind → Bool
-is_group kind.Group = true
-is_group kind.Primitive = false
-is_group kind.Clone = false
+-- a node has the name of an earlier node, or a resource or a rule the id of an earlier one
+abbrev pub repeats_name : List Statement → Form → Bool
+repeats_name before f =
+    list_any (has_name (flat_map (λ s. nodes_in s.form) before)) (nodes_in f) || list_any (has_name (flat_map (λ s. ids_in s.form) before)) (ids_in f)
+
+abbrev pub is_primitive : Form → Bool
+is_primitive (form.Primitive id agent description params meta utilization operations ops) = true
+is_primitive _ = false
+
+abbrev pub is_a_group : Form → Bool
+is_a_group (form.Group id members description params meta) = true
+is_a_group _ = false
+
+-- it is a resource of this id
+abbrev pub is_resource : List ℕ → Form → Bool
+is_resource name (form.Primitive id agent description params meta utilization operations ops) = is name id
+is_resource name (form.Group id members description params meta) = is name id
+is_resource name (form.Cloned id child ms description params meta) = is name id
+is_resource name _ = false
+
+-- the resource of this id
+abbrev pub resource_named : List Statement → List ℕ → Option Form
+resource_named statements name = find (is_resource name) (map (λ s. s.form) statements)
+
+-- a member or a child isn't the id of a resource
+abbrev pub names_nothing : List Statement → Form → Bool
+names_nothing statements f = list_any (λ part. is_none (resource_named statements part)) (parts_in f)
+
+-- a group has primitives, and a clone a primitive or a group
+abbrev pub may_have_part : Form → Form → Bool
+may_have_part (form.Group id members description params meta) part = is_primitive part
+may_have_part _ part = is_primitive part || is_a_group part
+
+abbrev pub has_another_kind : List Statement → Form → Bool
+has_another_kind statements f = list_any (λ part. not (option_map_or (may_have_part f) (resource_named statements part) true)) (parts_in f)
+
+-- a member or a child belongs to an earlier group or clone, or stands twice
+abbrev pub has_part_twice : List Statement → Form → Bool
+has_part_twice before f = has_twice (flat_map (λ s. parts_in s.form) before) (parts_in f)
 
 -- a promotable clone of a group
-abbrev pub promotes_group : List (List ℕ × Kind) → Form → Bool
-promotes_group kinds (form.Cloned id child ms description params meta) =
-    says_promotable ms meta && option_map_or is_group (lookup kinds child) false
-promotes_group kinds _ = false
+abbrev pub promotes_members : List Statement → Form → Bool
+promotes_members statements (form.Cloned id child ms description params meta) =
+    says_promotable ms meta && option_map_or is_a_group (resource_named statements child) false
+promotes_members statements _ = false
 
--- the cause of a statement that is at fault, after what was seen before it
-unfoldable pub expand_cause_of : List (List ℕ × Kind) → Seen → Form → Option ExpandCause
-expand_cause_of kinds seen form =
-    if is_duplicate seen form then Some DuplicateName
-    else if has_unknown_part kinds form then Some UnknownName
-    else if nests kinds form then Some NestedTwice
-    else if is_empty_group form then Some EmptyGroup
-    else if has_twice seen.parts (parts_in form) then Some MemberTwice
-    else if promotes_group kinds form then Some UnsupportedMeta
+-- the cause of one of the statements that is at fault, after those before it
+unfoldable pub leaf_cause : List Statement → List Statement → Statement → Option ExpandCause
+leaf_cause statements before s =
+    if repeats_name before s.form then Some DuplicateName
+    else if names_nothing statements s.form then Some UnknownName
+    else if has_another_kind statements s.form then Some NestedTwice
+    else if is_empty_group s.form then Some EmptyGroup
+    else if has_part_twice before s.form then Some MemberTwice
+    else if promotes_members statements s.form then Some UnsupportedMeta
     else None
-
--- the fault of the first statement that is at fault
-abbrev pub first_expand_fault : List (List ℕ × Kind) → Seen → List Statement → Option (Fault ExpandCause)
-first_expand_fault kinds seen [] = None
-first_expand_fault kinds seen (s ∷ statements) =
-    fault_at s.line (expand_cause_of kinds seen s.form) (first_expand_fault kinds (seen_after seen s.form) statements)
-
-unfoldable pub fault_of : List Statement → Option (Fault ExpandCause)
-fault_of statements = first_expand_fault (kinds_of statements) nothing_seen statements

@@ -1,48 +1,24 @@
--- The leaves of a configuration: each primitive is one, in the order of the text (rule of this project).
-use Rattle.std.specs.Prelude.{ℕ, ℤ, pos, Bool, false, true, not, ◌&&◌, List, [], ◌∷◌, codes, is_some, unwrap_or}
-use Rattle.std.specs.List.{flat_map}
+-- The leaf of each primitive: what its own statement, its group, its clone, the defaults and the options of the cluster say of it (Pacemaker
+-- Explained, "Resource Meta-Attributes", "Setting Global Defaults for Resource Meta-Attributes", "Groups" and "Clones").
+use Rattle.std.specs.Prelude.{ℤ, pos, Bool, false, true, not, ◌&&◌, List, [], ◌∷◌, map, codes, is_some, unwrap_or}
+use Rattle.std.specs.Option.{option_map_or}
+use Rattle.score.specs.ScoreText.{read_score}
 use Rattle.score.specs.Total.{infinity}
-use Rattle.crm_parse.specs.declared.form.Form.{Form}
-use Rattle.crm_parse.specs.declared.form.Form.TheVariants as form
 use Rattle.crm_parse.specs.declared.pair.Kv.{Kv}
-use Rattle.crm_parse.specs.declared.pair.Operation.{Operation}
 use Rattle.crm_parse.specs.declared.statement.Statement.{Statement}
-use Rattle.crm_parse.specs.declared.values.RoleName.{RoleName}
 use Rattle.crm_parse.specs.declared.values.RoleName.TheVariants as named
+use Rattle.crm_parse.specs.Statements.{says_promotable}
+use Rattle.crm_parse.specs.Values.{bool_of, role_of, time_of}
+use Rattle.crm_parse.specs.declared.values.RoleName.{RoleName}
 use Rattle.cluster_types.specs.declared.leaf.Leaf.{Leaf}
 use Rattle.cluster_types.specs.declared.leaf.OnFail.TheVariants.{Restart}
 use Rattle.cluster_types.specs.declared.leaf.TargetRole.{TargetRole}
 use Rattle.cluster_types.specs.declared.leaf.TargetRole.TheVariants as target
-use Rattle.cluster_model.specs.declared.expansion.clones.InClone.{InClone}
-use Rattle.cluster_model.specs.declared.expansion.groups.InGroup.{InGroup}
-use Rattle.cluster_model.specs.declared.expansion.meta.Meta.{Meta}
-use Rattle.cluster_model.specs.declared.expansion.surroundings.Surroundings.{Surroundings}
-use Rattle.cluster_model.specs.Clones.{cloned_by, uncloned}
-use Rattle.cluster_model.specs.Groups.{grouped_by}
-use Rattle.cluster_model.specs.Metas.{meta_of, no_meta, or_meta}
+use Rattle.cluster_model.specs.Clones.{copies_in, promoted_in}
+use Rattle.cluster_model.specs.Metas.{read_as, first_given}
 use Rattle.cluster_model.specs.Operations.{after_a_stop, fail_of, monitors_of}
-use Rattle.cluster_model.specs.Settings.{count_nodes, defaults_of, option_of}
-use Rattle.cluster_model.specs.Tables.{lookup}
-
--- what stands around the primitives of a configuration
-unfoldable pub surroundings_of : List Statement → Surroundings
-surroundings_of statements =
-    let cloned = cloned_by (count_nodes statements) statements in record {
-      fencing = option_of (codes "stonith-enabled") true statements;
-      maintenance = option_of (codes "maintenance-mode") false statements;
-      defaults = defaults_of statements;
-      cloned = cloned;
-      grouped = grouped_by cloned statements;
-    }
-
--- the group of a primitive with its clone; a primitive outside of groups may be in a clone of its own
-abbrev pub around : Surroundings → List ℕ → InGroup
-around s id = unwrap_or (lookup s.grouped id) (record { meta = no_meta; follower = false; clone = lookup s.cloned id })
-
--- a value is looked up in the primitive, its group, its clone, and the defaults (Pacemaker Explained, "Setting Global Defaults for Resource
--- Meta-Attributes")
-abbrev pub meta_around : Surroundings → InGroup → InClone → List Kv → Meta
-meta_around s group clone pairs = or_meta (or_meta (or_meta (meta_of pairs) group.meta) clone.meta) s.defaults
+use Rattle.cluster_model.specs.Resources.{Clone, Group, Primitive, all_primitives, clone_around, group_with, is_later_member}
+use Rattle.cluster_model.specs.Settings.{count_nodes, defaults_in, option_given}
 
 abbrev pub target_role_named : RoleName → TargetRole
 target_role_named named.Started = target.Started
@@ -55,46 +31,42 @@ abbrev pub plain_stickiness : Bool → ℤ
 plain_stickiness true = pos 1
 plain_stickiness false = pos 0
 
+-- where an attribute of a primitive is looked for, in this order: its own statement, its group, its clone, and the defaults
+abbrev pub attributes_around : List Statement → Primitive → List (List Kv)
+attributes_around statements p =
+    p.meta
+    ∷ option_map_or (λ (group : Group). group.meta) (group_with statements p.id) []
+    ∷ option_map_or (λ (clone : Clone). clone.meta) (clone_around statements p.id) []
+    ∷ map (λ s. defaults_in s.form) statements
+
 -- the leaf of a primitive
-unfoldable pub primitive_leaf : Surroundings → List ℕ → List Kv → List Operation → Leaf
-primitive_leaf s id pairs ops =
-    let group = around s id in
-    let clone = unwrap_or group.clone uncloned in
-    let meta = meta_around s group clone pairs in
+unfoldable pub leaf_said : List Statement → Primitive → Leaf
+leaf_said statements p =
+    let group = group_with statements p.id in
+    let clone = clone_around statements p.id in
+    let attributes = attributes_around statements p in
     record {
-      name = id;
-      copies = clone.copies;
-      promoted_copies = clone.promoted_copies;
-      cloned = is_some group.clone;
-      interleave = clone.interleave;
-      promotable = clone.promotable;
-      follower = group.follower;
-      priority = unwrap_or meta.priority (pos 0);
-      stickiness = unwrap_or meta.stickiness (plain_stickiness (is_some group.clone));
-      threshold = unwrap_or meta.threshold infinity;
-      timeout_ms = unwrap_or meta.timeout_ms 0;
-      target_role = target_role_named (unwrap_or meta.target_role named.Started);
-      managed = unwrap_or meta.managed true && not s.maintenance;
-      migrates = unwrap_or meta.migrates false;
-      start_fail = unwrap_or (fail_of (codes "start") ops) Restart;
-      stop_fail = unwrap_or (fail_of (codes "stop") ops) (after_a_stop s.fencing);
-      promote_fail = unwrap_or (fail_of (codes "promote") ops) Restart;
-      demote_fail = unwrap_or (fail_of (codes "demote") ops) Restart;
-      monitors = monitors_of ops;
+      name = p.id;
+      copies = option_map_or (λ (c : Clone). copies_in (count_nodes statements) c.meta) clone 1;
+      promoted_copies = option_map_or (λ (c : Clone). promoted_in c.meta) clone 1;
+      cloned = is_some clone;
+      interleave = option_map_or (λ (c : Clone). unwrap_or (read_as bool_of (codes "interleave") c.meta) false) clone false;
+      promotable = option_map_or (λ (c : Clone). says_promotable c.ms c.meta) clone false;
+      follower = option_map_or (λ (g : Group). is_later_member g.members p.id) group false;
+      priority = unwrap_or (first_given read_score (codes "priority") attributes) (pos 0);
+      stickiness = unwrap_or (first_given read_score (codes "resource-stickiness") attributes) (plain_stickiness (is_some clone));
+      threshold = unwrap_or (first_given read_score (codes "migration-threshold") attributes) infinity;
+      timeout_ms = unwrap_or (first_given time_of (codes "failure-timeout") attributes) 0;
+      target_role = target_role_named (unwrap_or (first_given role_of (codes "target-role") attributes) named.Started);
+      managed = unwrap_or (first_given bool_of (codes "is-managed") attributes) true && not (option_given (codes "maintenance-mode") false statements);
+      migrates = unwrap_or (first_given bool_of (codes "allow-migrate") attributes) false;
+      start_fail = unwrap_or (fail_of (codes "start") p.ops) Restart;
+      stop_fail = unwrap_or (fail_of (codes "stop") p.ops) (after_a_stop (option_given (codes "stonith-enabled") true statements));
+      promote_fail = unwrap_or (fail_of (codes "promote") p.ops) Restart;
+      demote_fail = unwrap_or (fail_of (codes "demote") p.ops) Restart;
+      monitors = monitors_of p.ops;
     }
 
-abbrev pub leaf_in : Surroundings → Form → List Leaf
-leaf_in s (form.Primitive id agent description params meta utilization operations ops) = primitive_leaf s id meta ops ∷ []
-leaf_in s _ = []
-
--- each primitive is one leaf
-abbrev pub leaves_in : Surroundings → List Statement → List Leaf
-leaves_in s statements = flat_map (λ statement. leaf_in s statement.form) statements
-
-unfoldable pub leaves_of : List Statement → List Leaf
-leaves_of statements = leaves_in (surroundings_of statements) statements
-
--- the id of a primitive
-abbrev pub primitive_in : Form → List (List ℕ)
-primitive_in (form.Primitive id agent description params meta utilization operations ops) = id ∷ []
-primitive_in _ = []
+-- each primitive is one leaf, in the order of the text
+unfoldable pub leaves_said : List Statement → List Leaf
+leaves_said statements = map (leaf_said statements) (all_primitives statements)

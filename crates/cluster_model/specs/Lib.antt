@@ -1,8 +1,10 @@
+pub mod Inner
 pub mod Causes
 pub mod Chains
-pub mod Directories
+pub mod Resources
 pub mod Nodes
 pub mod Options
+pub mod Named
 pub mod Locations
 pub mod Colocations
 pub mod Orders
@@ -10,14 +12,10 @@ pub mod Counting
 pub mod Checks
 pub mod FirstFaults
 pub mod Resolution
-pub mod Search
-pub mod Tables
-pub mod TableRows
 pub mod Metas
 pub mod Operations
 pub mod Settings
 pub mod Clones
-pub mod Groups
 pub mod Leaves
 pub mod Spans
 pub mod Faults

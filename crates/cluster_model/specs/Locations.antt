@@ -1,6 +1,5 @@
 -- How much resources want to be on nodes (crmsh manual, location; Pacemaker Explained, "Deciding Which Nodes a Resource Can Run On").
-use Rattle.std.specs.Prelude.{ℕ, List, [], ◌∷◌, map, unwrap_or, Option}
-use Rattle.std.specs.List.{flat_map}
+use Rattle.std.specs.Prelude.{List, [], ◌∷◌, map, unwrap_or, Option}
 use Rattle.std.specs.Option.{option_or}
 use Rattle.crm_parse.specs.declared.form.Form.{Form}
 use Rattle.crm_parse.specs.declared.form.Form.TheVariants as form
@@ -12,8 +11,8 @@ use Rattle.cluster_types.specs.declared.leaf.Role.{Role}
 use Rattle.cluster_types.specs.declared.leaf.Role.TheVariants as role
 use Rattle.cluster_types.specs.declared.rules.Location.{Location}
 use Rattle.cluster_types.specs.declared.rules.RuleLocation.{RuleLocation}
-use Rattle.cluster_model.specs.declared.resolution.directory.Directory.{Directory}
-use Rattle.cluster_model.specs.Directories.{first_named, node_named}
+use Rattle.cluster_model.specs.declared.expansion.leaves.Leaves.{Leaves}
+use Rattle.cluster_model.specs.Named.{first_leaf, node_number}
 
 abbrev pub role_of_word : RoleWord → Role
 role_of_word word.Started = role.Started
@@ -23,30 +22,30 @@ role_of_word word.Promoted = role.Promoted
 abbrev pub role_written : Option RoleWord → Role
 role_written written = role_of_word (unwrap_or written word.Started)
 
--- a location of a group is one of its first member, and one of a clone is one of its child
-abbrev pub location_in : Directory → Form → List Location
-location_in d (form.Location id resource written discovery score node) =
-    record { id = id; leaf = first_named d resource; role = role_written written; score = score; node = node_named d node } ∷ []
-location_in d _ = []
+module _ (leaves : Leaves) (statements : List Statement) where
+  -- a location of a group is one of its first member
+  abbrev pub its_locations : Form → List Location
+  its_locations (form.Location id resource written discovery score node) =
+      record {
+        id = id;
+        leaf = first_leaf leaves resource;
+        role = role_written written;
+        score = score;
+        node = node_number statements node;
+      }
+      ∷ []
+  its_locations _ = []
 
--- the role that a rule writes counts in place of that of its statement
-abbrev pub rule_location_of : Directory → List ℕ → List ℕ → Option RoleWord → RuleForm → RuleLocation
-rule_location_of d id resource written rule = record {
-  id = id;
-  leaf = first_named d resource;
-  role = role_written (option_or rule.role written);
-  score = rule.score;
-  rule = rule.rule;
-}
-
--- each rule of a statement is one
-abbrev pub rule_locations_in : Directory → Form → List RuleLocation
-rule_locations_in d (form.RuledLocation id resource written discovery rules) = map (rule_location_of d id resource written) rules
-rule_locations_in d _ = []
-
--- in the order of the text
-abbrev pub locations_of : Directory → List Statement → List Location
-locations_of d statements = flat_map (λ s. location_in d s.form) statements
-
-abbrev pub rule_locations_of : Directory → List Statement → List RuleLocation
-rule_locations_of d statements = flat_map (λ s. rule_locations_in d s.form) statements
+  -- each rule of a statement is one. The role that a rule writes counts in place of that of its statement
+  abbrev pub its_rule_locations : Form → List RuleLocation
+  its_rule_locations (form.RuledLocation id resource written discovery rules) =
+      map
+      (λ (rule : RuleForm). record {
+        id = id;
+        leaf = first_leaf leaves resource;
+        role = role_written (option_or rule.role written);
+        score = rule.score;
+        rule = rule.rule;
+      })
+      rules
+  its_rule_locations _ = []

@@ -1,49 +1,15 @@
 -- The meta attributes of a resource that have effect (Pacemaker Explained, "Resource Meta-Attributes"). A value that isn't one of its kind
 -- counts as none; a configuration that was parsed has no such value (rule of this project).
-use Rattle.std.specs.Prelude.{ℕ, List, Option, None, codes}
+use Rattle.std.specs.Prelude.{ℕ, List, Option, None, [], ◌∷◌}
 use Rattle.std.specs.Option.{option_and_then, option_or}
-use Rattle.score.specs.ScoreText.{read_score}
 use Rattle.crm_parse.specs.declared.pair.Kv.{Kv}
 use Rattle.crm_parse.specs.Operations.{value_of}
-use Rattle.crm_parse.specs.Values.{bool_of, role_of, time_of}
-use Rattle.cluster_model.specs.declared.expansion.meta.Meta.{Meta}
 
 -- what a key is given as, by a reader of its values
 abbrev pub read_as : {V : Type 0} → (List ℕ → Option V) → List ℕ → List Kv → Option V
 read_as reader key pairs = option_and_then reader (value_of key pairs)
 
--- no attribute is given
-abbrev pub no_meta : Meta
-no_meta = record {
-  priority = None;
-  stickiness = None;
-  threshold = None;
-  timeout_ms = None;
-  target_role = None;
-  managed = None;
-  migrates = None;
-}
-
--- what some pairs give
-unfoldable pub meta_of : List Kv → Meta
-meta_of pairs = record {
-  priority = read_as read_score (codes "priority") pairs;
-  stickiness = read_as read_score (codes "resource-stickiness") pairs;
-  threshold = read_as read_score (codes "migration-threshold") pairs;
-  timeout_ms = read_as time_of (codes "failure-timeout") pairs;
-  target_role = read_as role_of (codes "target-role") pairs;
-  managed = read_as bool_of (codes "is-managed") pairs;
-  migrates = read_as bool_of (codes "allow-migrate") pairs;
-}
-
--- what the one gives, and else the other
-unfoldable pub or_meta : Meta → Meta → Meta
-or_meta one other = record {
-  priority = option_or one.priority other.priority;
-  stickiness = option_or one.stickiness other.stickiness;
-  threshold = option_or one.threshold other.threshold;
-  timeout_ms = option_or one.timeout_ms other.timeout_ms;
-  target_role = option_or one.target_role other.target_role;
-  managed = option_or one.managed other.managed;
-  migrates = option_or one.migrates other.migrates;
-}
+-- what the first of these that gives a key gives, by a reader of its values
+abbrev pub first_given : {V : Type 0} → (List ℕ → Option V) → List ℕ → List (List Kv) → Option V
+first_given reader key [] = None
+first_given reader key (pairs ∷ others) = option_or (read_as reader key pairs) (first_given reader key others)

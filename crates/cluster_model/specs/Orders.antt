@@ -1,7 +1,6 @@
 -- What comes before what (crmsh manual, order and group; Pacemaker Explained, "Specifying the Order in which Resources Should Start/Stop" and
 -- "Groups").
 use Rattle.std.specs.Prelude.{ℕ, Bool, true, false, if◌then◌else◌, List, [], map}
-use Rattle.std.specs.List.{flat_map}
 use Rattle.crm_parse.specs.declared.form.Form.{Form}
 use Rattle.crm_parse.specs.declared.form.Form.TheVariants as form
 use Rattle.crm_parse.specs.declared.form.OrderStep.{OrderStep}
@@ -15,10 +14,9 @@ use Rattle.cluster_types.specs.declared.leaf.Op.TheVariants as op
 use Rattle.cluster_types.specs.declared.rules.Order.{Order}
 use Rattle.cluster_types.specs.declared.rules.OrderKind.{OrderKind}
 use Rattle.cluster_types.specs.declared.rules.OrderKind.TheVariants as kind
-use Rattle.cluster_model.specs.declared.resolution.directory.Directory.{Directory}
-use Rattle.cluster_model.specs.declared.resolution.orders.Point.{Point}
 use Rattle.cluster_model.specs.Chains.{successive}
-use Rattle.cluster_model.specs.Directories.{first_named, is_local, last_named}
+use Rattle.cluster_model.specs.declared.expansion.leaves.Leaves.{Leaves}
+use Rattle.cluster_model.specs.Named.{first_leaf, is_on_nodes, last_leaf}
 
 abbrev pub op_of : ActionWord → Op
 op_of action.Start = op.Start
@@ -38,41 +36,35 @@ is_down action.Demote = true
 is_down action.Start = false
 is_down action.Promote = false
 
--- what comes first: a group has come up with its last member, and has gone down with its first
-abbrev pub first_point : Directory → List ℕ → ActionWord → Point
-first_point d resource what = record { leaf = if is_down what then first_named d resource else last_named d resource; what = op_of what }
+module _ (leaves : Leaves) where
+  -- a group has come up with its last member, and has gone down with its first
+  abbrev pub leaf_done : List ℕ → ActionWord → ℕ
+  leaf_done resource what = if is_down what then first_leaf leaves resource else last_leaf leaves resource
 
--- what comes then: a group comes up with its first member, and goes down with its last
-abbrev pub then_point : Directory → List ℕ → ActionWord → Point
-then_point d resource what = record { leaf = if is_down what then last_named d resource else first_named d resource; what = op_of what }
+  -- a group comes up with its first member, and goes down with its last
+  abbrev pub leaf_begun : List ℕ → ActionWord → ℕ
+  leaf_begun resource what = if is_down what then last_leaf leaves resource else first_leaf leaves resource
 
-abbrev pub order_of : Directory → List ℕ → OrderKind → Bool → Point → Point → Order
-order_of d id kind symmetrical first later = record {
-  id = id;
-  kind = kind;
-  first = first.leaf;
-  first_op = first.what;
-  then_leaf = later.leaf;
-  then_op = later.what;
-  symmetrical = symmetrical;
-  local = is_local d first.leaf later.leaf;
-}
+module _ (leaves : Leaves) (statements : List Statement) where
+  -- the other resource begins its action when the one has done its own
+  abbrev pub order_said : List ℕ → OrderKind → Bool → List ℕ → ActionWord → List ℕ → ActionWord → Order
+  order_said id kind symmetrical one what other then_what = record {
+    id = id;
+    kind = kind;
+    first = leaf_done leaves one what;
+    first_op = op_of what;
+    then_leaf = leaf_begun leaves other then_what;
+    then_op = op_of then_what;
+    symmetrical = symmetrical;
+    local = is_on_nodes leaves statements (leaf_done leaves one what) (leaf_begun leaves other then_what);
+  }
 
--- an order of two resources
-abbrev pub step_order : Directory → List ℕ → OrderKind → Bool → OrderStep × OrderStep → Order
-step_order d id kind symmetrical pair =
-    order_of d id kind symmetrical (first_point d pair.0.resource pair.0.action) (then_point d pair.1.resource pair.1.action)
-
--- a member of a group starts after the member before it
-abbrev pub member_order : Directory → List ℕ → List ℕ × List ℕ → Order
-member_order d id pair = order_of d id kind.Mandatory true (first_point d pair.0 action.Start) (then_point d pair.1 action.Start)
-
--- an order of more resources is one for each two that follow each other
-abbrev pub orders_in : Directory → Form → List Order
-orders_in d (form.Order id kind steps symmetrical) = map (step_order d id (kind_of_word kind) symmetrical) (successive steps)
-orders_in d (form.Group id members description params meta) = map (member_order d id) (successive members)
-orders_in d _ = []
-
--- in the order of the text, those of a group at its statement
-abbrev pub orders_of : Directory → List Statement → List Order
-orders_of d statements = flat_map (λ s. orders_in d s.form) statements
+  -- an order of more resources is one for each two that follow each other. Each member of a group starts after the member before it
+  abbrev pub its_orders : Form → List Order
+  its_orders (form.Order id kind steps symmetrical) =
+      map
+      (λ (pair : OrderStep × OrderStep). order_said id (kind_of_word kind) symmetrical pair.0.resource pair.0.action pair.1.resource pair.1.action)
+      (successive steps)
+  its_orders (form.Group id members description params meta) =
+      map (λ (pair : List ℕ × List ℕ). order_said id kind.Mandatory true pair.0 action.Start pair.1 action.Start) (successive members)
+  its_orders _ = []

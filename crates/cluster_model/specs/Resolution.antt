@@ -1,56 +1,44 @@
 -- The cluster that a configuration says, or its first fault (the causes and their order are rules of this project).
 use Rattle.std.specs.Prelude.{if◌then◌else◌, List, [], ◌∷◌, ◌++◌, Option, Some, None, Result}
 use Rattle.std.specs.Option.{option_or}
+use Rattle.std.specs.List.{flat_map}
 use Rattle.faults.specs.declared.fault.Fault.{Fault}
 use Rattle.faults.specs.Reading.{unless}
 use Rattle.crm_parse.specs.declared.statement.Statement.{Statement}
 use Rattle.cluster_types.specs.declared.cluster.Cluster.{Cluster}
-use Rattle.cluster_types.specs.declared.leaf.Leaf.{Leaf}
 use Rattle.loops.specs.FirstLoops.{has_need_loop, has_step_loop}
 use Rattle.cluster_model.specs.declared.expansion.leaves.Leaves.{Leaves}
-use Rattle.cluster_model.specs.declared.resolution.directory.Directory.{Directory}
 use Rattle.cluster_model.specs.declared.resolution.fault.ModelCause.{ModelCause}
 use Rattle.cluster_model.specs.declared.resolution.fault.ModelCause.TheVariants.{ColocationLoop, OrderLoop}
-use Rattle.cluster_model.specs.Checks.{cause_of}
-use Rattle.cluster_model.specs.Colocations.{colocations_of}
-use Rattle.cluster_model.specs.Counting.{counts_of}
-use Rattle.cluster_model.specs.Directories.{directory_of}
 use Rattle.cluster_model.specs.FirstFaults.{first_fault}
-use Rattle.cluster_model.specs.Locations.{locations_of, rule_locations_of}
 use Rattle.cluster_model.specs.Nodes.{nodes_by}
 use Rattle.cluster_model.specs.Options.{properties_of}
-use Rattle.cluster_model.specs.Orders.{orders_of}
-
--- the cluster of some statements
-unfoldable pub cluster_of : Directory → List Leaf → List Statement → Cluster
-cluster_of d leaves statements = record {
-  nodes = nodes_by statements;
-  leaves = leaves;
-  locations = locations_of d statements;
-  rule_locations = rule_locations_of d statements;
-  colocations = colocations_of d statements;
-  orders = orders_of d statements;
-  properties = properties_of statements;
-}
-
--- the cause of a statement, loops aside
-abbrev pub own_cause : Directory → List Statement → Statement → Option ModelCause
-own_cause d before s = cause_of d (counts_of (before ++ s ∷ [])) s.form
+use Rattle.cluster_model.specs.Checks.{rule_cause}
+use Rattle.cluster_model.specs.Colocations.{its_colocations}
+use Rattle.cluster_model.specs.Locations.{its_locations, its_rule_locations}
+use Rattle.cluster_model.specs.Orders.{its_orders}
 
 -- the cause where the rules of a cluster have a loop
 abbrev pub cause_of_loops : Cluster → Option ModelCause
 cause_of_loops c = if has_need_loop c then Some ColocationLoop else if has_step_loop c then Some OrderLoop else None
 
--- the cause of a statement whose rules have a loop with those before it
-abbrev pub loop_cause : Directory → List Leaf → List Statement → Statement → Option ModelCause
-loop_cause d leaves before s = cause_of_loops (cluster_of d leaves (before ++ s ∷ []))
+module _ (leaves : Leaves) (statements : List Statement) where
+  -- the cluster that some of the statements say, each list in the order of the text
+  unfoldable pub cluster_said : List Statement → Cluster
+  cluster_said some = record {
+    nodes = nodes_by some;
+    leaves = leaves.leaves;
+    locations = flat_map (λ s. its_locations leaves statements s.form) some;
+    rule_locations = flat_map (λ s. its_rule_locations leaves statements s.form) some;
+    colocations = flat_map (λ s. its_colocations leaves s.form) some;
+    orders = flat_map (λ s. its_orders leaves statements s.form) some;
+    properties = properties_of some;
+  }
 
--- the cause of a statement after those before it
-abbrev pub cause_after : Directory → List Leaf → List Statement → Statement → Option ModelCause
-cause_after d leaves before s = option_or (own_cause d before s) (loop_cause d leaves before s)
+  -- the cause of a statement after those before it: its own, or a loop of the rules so far
+  abbrev pub cause_said : List Statement → Statement → Option ModelCause
+  cause_said before s = option_or (rule_cause leaves statements before s) (cause_of_loops (cluster_said (before ++ s ∷ [])))
 
 -- the cluster of a configuration, or the fault of the first statement with a cause
 unfoldable pub resolution_of : Leaves → List Statement → Result Cluster (Fault ModelCause)
-resolution_of leaves statements =
-    let d = directory_of leaves statements in
-    unless (first_fault (cause_after d leaves.leaves) [] statements) (cluster_of d leaves.leaves statements)
+resolution_of leaves statements = unless (first_fault (cause_said leaves statements) [] statements) (cluster_said leaves statements statements)

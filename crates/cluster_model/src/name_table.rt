@@ -1,6 +1,6 @@
 ghost use Rattle.std.specs.Prelude.{◌≡◌, ◌++◌, ◌∷◌, [], List, ℕ, OnErr, OnOk};
-ghost use Rattle.cluster_model.specs.TableRows.{or_place, place_found, shown_rows, value_at};
-ghost use Rattle.cluster_model.specs.Tables.{lookup};
+ghost use Rattle.cluster_model.specs.Inner.TableRows.{or_place, place_found, shown_rows, value_at};
+ghost use Rattle.cluster_model.specs.Inner.Tables.{lookup};
 
 use cluster_types::NoMemory;
 use crm_lex::Name;
@@ -19,7 +19,7 @@ pub struct NameTable<'n, V> {
 
 impl<'n, V> Model for NameTable<'n, V> {
     ghost use Rattle.std.specs.Prelude.{List, ℕ};
-    ghost use Rattle.cluster_model.specs.TableRows.{shown_rows, HasFirstPlaces};
+    ghost use Rattle.cluster_model.specs.Inner.TableRows.{shown_rows, HasFirstPlaces};
 
     ghost Value = { List (List ℕ × V) };
 

@@ -1,4 +1,4 @@
--- `location ID RSC [role=ROLE] [resource-discovery=always] SCORE: NODE`, and the same with rules in the place of a score and a node
+-- `location ID RESOURCE [role=ROLE] [resource-discovery=always] SCORE: NODE`, and the same with rules in the place of a score and a node
 -- (crmsh manual, location and rule expressions).
 use Rattle.std.specs.Prelude.{ℕ, zero, suc, ℤ, Bool, true, false, if◌then◌else◌, List, [], ◌∷◌, ◌++◌, length, codes, is_some, Option, Some, None, Result, Ok, Err}
 use Rattle.crm_lex.specs.Names.{is}
@@ -48,7 +48,7 @@ abbrev pub all_of : Option Bool → Bool
 all_of (Some false) = false
 all_of _ = true
 
--- `rule [$id=ID] [$role=ROLE or role=ROLE] SCORE: EXPR`, after its first word
+-- `rule [$id=ID] [$role=ROLE or role=ROLE] SCORE: TEST`, after its first word
 unfoldable pub rule_at : Words → Result (RuleForm × Words) ParseCause
 rule_at words = do
   id ← rule_id_at words

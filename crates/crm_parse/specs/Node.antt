@@ -1,4 +1,4 @@
--- `node [ID:] NAME [attributes KV..] [utilization KV..]` (crmsh manual, node).
+-- `node [ID:] NAME [attributes KEY=VALUE..] [utilization KEY=VALUE..]` (crmsh manual, node).
 use Rattle.std.specs.Prelude.{Result, Ok}
 use Rattle.crm_parse.specs.declared.fault.ParseCause.{ParseCause}
 use Rattle.crm_parse.specs.declared.form.Form.{Form}

@@ -1,4 +1,4 @@
--- `order ID [KIND: or SCORE:] RSC[:ACTION] RSC[:ACTION].. [symmetrical=BOOL]` (crmsh manual, order; Pacemaker Explained, "Ordering
+-- `order ID [KIND: or SCORE:] RESOURCE[:ACTION] RESOURCE[:ACTION].. [symmetrical=BOOL]` (crmsh manual, order; Pacemaker Explained, "Ordering
 -- Properties").
 use Rattle.std.specs.Prelude.{ℕ, ℤ, pos, int_lt, Bool, true, false, not, if◌then◌else◌, List, [], ◌∷◌, ◌++◌, codes, is_some, Option, Some, None, Result, Ok, Err}
 use Rattle.std.specs.Option.{ok_or}

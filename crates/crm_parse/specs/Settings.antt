@@ -1,4 +1,4 @@
--- `property [SET-ID:] KV..`, and `rsc_defaults` and `op_defaults` alike (crmsh manual, property, rsc_defaults and op_defaults).
+-- `property [SET-ID:] KEY=VALUE..`, and `rsc_defaults` and `op_defaults` alike (crmsh manual, property, rsc_defaults and op_defaults).
 use Rattle.std.specs.Prelude.{ℕ, ◌==◌, Bool, true, false, not, ◌&&◌, ◌||◌, if◌then◌else◌, List, [], ◌∷◌, ◌++◌, length, codes, Option, Some, None, Result, Ok, Err}
 use Rattle.std.specs.List.{list_any}
 use Rattle.crm_lex.specs.Names.{is}

@@ -1,4 +1,4 @@
-//! `colocation ID SCORE: RSC[:ROLE] RSC[:ROLE]`
+//! `colocation ID SCORE: RESOURCE[:ROLE] RESOURCE[:ROLE]`
 
 ghost use Rattle.std.specs.Prelude.{◌≡◌};
 ghost use Rattle.crm_parse.specs.Colocation.{before_colon, colocation_at, is_node_attribute, no_attribute, no_third, side_at, side_in, side_of, side_started};

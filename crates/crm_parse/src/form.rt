@@ -21,7 +21,7 @@ pub struct OrderStep {
 /// What a statement says, by its form. Several sections of one kind are joined, and a section that isn't there is an empty list.
 #[derive(PartialEq, Eq, Drop)]
 pub enum Form {
-    /// `node [ID:] NAME [attributes KV..] [utilization KV..]` (crmsh manual, `node`).
+    /// `node [ID:] NAME [attributes KEY=VALUE..] [utilization KEY=VALUE..]` (crmsh manual, `node`).
     Node {
         /// The id, where one was written.
         id: Option<Name>,
@@ -60,7 +60,7 @@ pub enum Form {
         params: Listed<Kv>,
         meta: Listed<Kv>,
     },
-    /// `location ID RSC [role=ROLE] [resource-discovery=always] SCORE: NODE` (crmsh manual, `location`).
+    /// `location ID RESOURCE [role=ROLE] [resource-discovery=always] SCORE: NODE` (crmsh manual, `location`).
     Location {
         id: Name,
         resource: Name,
@@ -70,7 +70,7 @@ pub enum Form {
         score: Score,
         node: Name,
     },
-    /// `location ID RSC [role=ROLE] [resource-discovery=always] RULE..` (crmsh manual, `location` and its rules).
+    /// `location ID RESOURCE [role=ROLE] [resource-discovery=always] RULE..` (crmsh manual, `location` and its rules).
     RuledLocation {
         id: Name,
         resource: Name,
@@ -79,21 +79,21 @@ pub enum Form {
         discovery: bool,
         rules: Listed<RuleForm>,
     },
-    /// `colocation ID SCORE: RSC[:ROLE] RSC[:ROLE]` (crmsh manual, `colocation`).
+    /// `colocation ID SCORE: RESOURCE[:ROLE] RESOURCE[:ROLE]` (crmsh manual, `colocation`).
     Colocation {
         id: Name,
         score: Score,
         dependent: Side,
         primary: Side,
     },
-    /// `order ID [KIND: or SCORE:] RSC[:ACTION] RSC[:ACTION].. [symmetrical=BOOL]` (crmsh manual, `order`).
+    /// `order ID [KIND: or SCORE:] RESOURCE[:ACTION] RESOURCE[:ACTION].. [symmetrical=BOOL]` (crmsh manual, `order`).
     Order {
         id: Name,
         kind: KindWord,
         steps: Listed<OrderStep>,
         symmetrical: bool,
     },
-    /// `property [SET-ID:] KV..`, and `rsc_defaults` and `op_defaults` alike (crmsh manual, `property`, `rsc_defaults` and `op_defaults`).
+    /// `property [SET-ID:] KEY=VALUE..`, and `rsc_defaults` and `op_defaults` alike (crmsh manual, `property`, `rsc_defaults` and `op_defaults`).
     Settings {
         what: SettingsWord,
         /// The id of the set, where one was written.

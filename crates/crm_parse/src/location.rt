@@ -1,4 +1,4 @@
-//! `location ID RSC [role=ROLE] [resource-discovery=always] SCORE: NODE`, and the same with rules in the place of a score and a node
+//! `location ID RESOURCE [role=ROLE] [resource-discovery=always] SCORE: NODE`, and the same with rules in the place of a score and a node
 
 ghost use Rattle.std.specs.Prelude.{◌≡◌};
 ghost use Rattle.std.specs.Option.{option_copied};

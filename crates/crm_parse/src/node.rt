@@ -1,4 +1,4 @@
-//! `node [ID:] NAME [attributes KV..] [utilization KV..]`
+//! `node [ID:] NAME [attributes KEY=VALUE..] [utilization KEY=VALUE..]`
 
 ghost use Rattle.std.specs.Prelude.{◌≡◌};
 ghost use Rattle.crm_parse.specs.Node.{node_statement_at};

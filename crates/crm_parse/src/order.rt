@@ -1,4 +1,4 @@
-//! `order ID [KIND: or SCORE:] RSC[:ACTION] RSC[:ACTION].. [symmetrical=BOOL]`
+//! `order ID [KIND: or SCORE:] RESOURCE[:ACTION] RESOURCE[:ACTION].. [symmetrical=BOOL]`
 
 ghost use Rattle.std.specs.Prelude.{◌≡◌, []};
 ghost use Rattle.std.specs.Option.{option_copied};

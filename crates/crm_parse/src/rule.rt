@@ -1,4 +1,4 @@
-//! `rule [$id=ID] [$role=ROLE or role=ROLE] SCORE: EXPR`, of a location
+//! `rule [$id=ID] [$role=ROLE or role=ROLE] SCORE: TEST`, of a location
 
 ghost use Rattle.std.specs.Prelude.{◌≡◌, ◌≤◌, ◌<◌, [], length, IfOk};
 ghost use Rattle.std.specs.Option.{option_copied};

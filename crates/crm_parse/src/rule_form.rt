@@ -4,7 +4,7 @@ use date_rules::Rule;
 use listed::Listed;
 use score::Score;
 
-/// A rule of a location, `rule [$id=ID] [$role=ROLE] SCORE: EXPR` (crmsh manual, rule expressions).
+/// A rule of a location, `rule [$id=ID] [$role=ROLE] SCORE: TEST` (crmsh manual, rule expressions).
 #[derive(PartialEq, Eq, Drop)]
 pub struct RuleForm {
     /// The id that the rule wrote, where it wrote one.

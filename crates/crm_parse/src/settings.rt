@@ -1,4 +1,4 @@
-//! `property [SET-ID:] KV..`, and `rsc_defaults` and `op_defaults` alike
+//! `property [SET-ID:] KEY=VALUE..`, and `rsc_defaults` and `op_defaults` alike
 
 ghost use Rattle.std.specs.Prelude.{◌≡◌};
 ghost use Rattle.faults.specs.Reading.{GivesInLine};

@@ -12,9 +12,7 @@ use Rattle.cluster_types.specs.Journals.{AreInFlightByNumber}
 use Rattle.cluster_types.specs.Steps.{ended, in_flight_by_number, is_from_outside, count_from_outside, silent_code}
 use Rattle.cluster_types.proofs.SilentEnds.{silent_end-is}
 use Rattle.run_safety.proofs.ByNumber.{by_number}
-use Rattle.run_safety.proofs.Each.{none}
 use Rattle.run_safety.proofs.InFlight.{number_within}
-use Rattle.lemmas.proofs.Booleans.{later}
 use Rattle.graph_exec.specs.Running.{Running, EndedSilently, IsAnswerRefused, IsUnderWay, Took, going}
 use Rattle.graph_exec.specs.Running as running
 use Rattle.graph_exec.specs.Saying.{AgreesOn, AgreesSilent}

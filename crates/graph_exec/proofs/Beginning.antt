@@ -69,10 +69,10 @@ module _ (log : LogOf) (f : InFlightOf) (h : InFlightFollows log f) where
   count = length f.progress.graph.actions
 
   -- the actions in flight are those of the transition
-  pub same_flight : members f.flying ≡ numbers_in_flight (going r) r.since
+  pub same_flight : members f.in_flight ≡ numbers_in_flight (going r) r.since
   same_flight =
-      ap (λ m. filter (is_member f.flying) (range_with_len 1 m)) h.flight_size
-      ∙ filter-alike (is_member f.flying) (is_number_in_flight (going r) r.since) 1 count (λ k low high. (h.each k low (omega arith)).flying)
+      ap (λ m. filter (is_member f.in_flight) (range_with_len 1 m)) h.flight_size
+      ∙ filter-alike (is_member f.in_flight) (is_number_in_flight (going r) r.since) 1 count (λ k low high. (h.each k low (omega arith)).in_flight)
 
   pub same_pairs : pairs_in_flight f ≡ in_flight_by_number (going r) r.since
   same_pairs = ap (flat_map (paired f.progress.graph.actions)) same_flight

@@ -40,19 +40,19 @@ module _ (log : LogOf) (f : InFlightOf) (h : InFlightFollows log f) (k : ℕ) (a
       let v : one (not (slice_index_or f.progress.begun (k - 1) false)) ≡ 1 = ap (λ (b : Bool). one (not b)) not_begun in
       omega arith
 
-  not_flying : is_member f.flying k ≡ false
+  not_flying : is_member f.in_flight k ≡ false
   not_flying =
-      (h.each k low high).flying
+      (h.each k low high).in_flight
       ∙ ap (λ b. b && not (steps.has_number_ended (going r) r.since k)) (sym (h.each k low high).begun ∙ not_begun)
 
-  counted_flying : count_by (λ b. b) (slice_set f.flying (k - 1) true) ≡ count_by (λ b. b) f.flying + 1
+  counted_flying : count_by (λ b. b) (slice_set f.in_flight (k - 1) true) ≡ count_by (λ b. b) f.in_flight + 1
   counted_flying =
       let l = low in
       let g = high in
       let s = h.flight_size in
-      let m : count_by (λ b. b) (slice_set f.flying (k - 1) true) + one (slice_index_or f.flying (k - 1) false) ≡ count_by (λ b. b) f.flying + 1
-      = sum_by-set (λ (b : Bool). one b) f.flying (k - 1) true false (omega arith) in
-      let v : one (slice_index_or f.flying (k - 1) false) ≡ 0 = ap (λ (b : Bool). one b) not_flying in
+      let m : count_by (λ b. b) (slice_set f.in_flight (k - 1) true) + one (slice_index_or f.in_flight (k - 1) false) ≡ count_by (λ b. b) f.in_flight + 1
+      = sum_by-set (λ (b : Bool). one b) f.in_flight (k - 1) true false (omega arith) in
+      let v : one (slice_index_or f.in_flight (k - 1) false) ≡ 0 = ap (λ (b : Bool). one b) not_flying in
       omega arith
 
   same_outside : (a : Action) → count_by steps.is_from_outside (log.since ++ Begin k a ∷ []) ≡ count_by steps.is_from_outside log.since
@@ -63,10 +63,10 @@ module _ (log : LogOf) (f : InFlightOf) (h : InFlightFollows log f) (k : ℕ) (a
     same = refl;
     begun_size = length-set f.progress.begun (k - 1) true;
     succeeded_size = refl;
-    flight_size = length-set f.flying (k - 1) true;
+    flight_size = length-set f.in_flight (k - 1) true;
     begun = λ j some within. set_one f.progress.begun k j low (rw h.begun_size high) some;
     succeeded = λ j some within. sym (or-false (is_member f.progress.succeeded j));
-    flying = λ j some within. set_one f.flying k j low (rw h.flight_size high) some ∙ sym (and-true (is_member f.flying j || (k == j)));
+    in_flight = λ j some within. set_one f.in_flight k j low (rw h.flight_size high) some ∙ sym (and-true (is_member f.in_flight j || (k == j)));
     fresh = λ j some within is. let e : k ≡ j = eqb-true k j is in rw (← e) not_begun;
     known = λ j some within is. cc;
     from_one = let l = low in ne_eqb k 0 (λ e. let g : ⊥ = omega arith in g);

@@ -38,20 +38,20 @@ module _ (log : LogOf) (f : InFlightOf) (h : InFlightFollows log f) where
       on (inl l) = l
       on (inr none) = let n = not_flying f (record { flags = h.flight_size }) k (inl (omega arith)) in let e = flies_here in cc
 
-    within : k ≤ length f.flying
-    within = on (cases_lt (length f.flying) k) where
-      on : (length f.flying < k) ⊎ (k ≤ length f.flying) → k ≤ length f.flying
+    within : k ≤ length f.in_flight
+    within = on (cases_lt (length f.in_flight) k) where
+      on : (length f.in_flight < k) ⊎ (k ≤ length f.in_flight) → k ≤ length f.in_flight
       on (inl more) = let n = not_flying f (record { flags = h.flight_size }) k (inr more) in let e = flies_here in cc
       on (inr l) = l
 
     pub high : k ≤ length f.progress.graph.actions
     high = rw h.flight_size at within
 
-    is_up : is_member f.flying k ≡ true
+    is_up : is_member f.in_flight k ≡ true
     is_up = sym (is_flying f (record { flags = h.flight_size }) k low within) ∙ flies_here
 
     up : (has_begun (going r) r.since k && not (has_number_ended (going r) r.since k)) ≡ true
-    up = sym (h.each k low high).flying ∙ is_up
+    up = sym (h.each k low high).in_flight ∙ is_up
 
     -- it has begun, and hasn't succeeded
     pub has_run : is_member f.progress.begun k ≡ true
@@ -72,13 +72,13 @@ module _ (log : LogOf) (f : InFlightOf) (h : InFlightFollows log f) where
     pub ended_is : (outcome : Outcome) → ended (going r) r.since k outcome ≡ Ended k action outcome (moment_of (r.planned_at ++ r.since)) ∷ []
     ended_is outcome = ended_of r k flies outcome
 
-    counted_flying : count_by (λ b. b) (slice_set f.flying (k - 1) false) + 1 ≡ count_by (λ b. b) f.flying
+    counted_flying : count_by (λ b. b) (slice_set f.in_flight (k - 1) false) + 1 ≡ count_by (λ b. b) f.in_flight
     counted_flying =
         let l = low in
         let w = within in
-        let m : count_by (λ b. b) (slice_set f.flying (k - 1) false) + one (slice_index_or f.flying (k - 1) false) ≡ count_by (λ b. b) f.flying + 0
-        = sum_by-set (λ (b : Bool). one b) f.flying (k - 1) false false (omega arith) in
-        let v : one (slice_index_or f.flying (k - 1) false) ≡ 1 = ap (λ (b : Bool). one b) is_up in
+        let m : count_by (λ b. b) (slice_set f.in_flight (k - 1) false) + one (slice_index_or f.in_flight (k - 1) false) ≡ count_by (λ b. b) f.in_flight + 0
+        = sum_by-set (λ (b : Bool). one b) f.in_flight (k - 1) false false (omega arith) in
+        let v : one (slice_index_or f.in_flight (k - 1) false) ≡ 1 = ap (λ (b : Bool). one b) is_up in
         omega arith
 
     -- there is room for the end
@@ -117,10 +117,10 @@ module _ (log : LogOf) (f : InFlightOf) (h : InFlightFollows log f) where
         same = refl;
         begun_size = refl;
         succeeded_size = succeeded_long success;
-        flight_size = length-set f.flying (k - 1) false;
+        flight_size = length-set f.in_flight (k - 1) false;
         begun = λ j some most. sym (or-false (is_member f.progress.begun j));
         succeeded = λ j some most. succeeded_so j some success is;
-        flying = λ j some most. unset_one f.flying k j low within some ∙ ap (λ (b : Bool). b && not (k == j)) (sym (or-false (is_member f.flying j)));
+        in_flight = λ j some most. unset_one f.in_flight k j low within some ∙ ap (λ (b : Bool). b && not (k == j)) (sym (or-false (is_member f.in_flight j)));
         fresh = λ j some most b. cc;
         known = λ j some most b. let e : k ≡ j = eqb-true k j b in rw (← e) has_run;
         from_one = refl;

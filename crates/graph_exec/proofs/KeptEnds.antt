@@ -127,7 +127,7 @@ module _ (s : Setting) (es : List Event) (first : Option (List Answer)) where
 
     pub kept_as : (most : ℕ) (end : RunEnd) → KeepsEnd s es first left passed end → KeepsAs s.cluster s.promotions s.whole s.steady es first left most (kept_end passed end)
     kept_as most (run.Whole journal) w = record {
-      is = record { last = w.last; behind = left; steps = runs_there journal w.last left true w.leaves w.keeps; over = w.over; leaves = ap events_in w.leaves };
+      run = record { last = w.last; behind = left; steps = runs_there journal w.last left true w.leaves w.keeps; over = w.over; leaves = ap events_in w.leaves };
       unread = refl;
     }
     kept_as most (run.Unexpected journal given) w = record {
@@ -138,13 +138,13 @@ module _ (s : Setting) (es : List Event) (first : Option (List Answer)) where
       leaves = ap events_in w.leaves;
     }
     kept_as most (run.SourceFault journal) w = record {
-      is = record { last = w.last; steps = runs_there journal w.last left false w.leaves w.keeps; asking = w.asking; leaves = ap events_in w.leaves };
+      run = record { last = w.last; steps = runs_there journal w.last left false w.leaves w.keeps; asking = w.asking; leaves = ap events_in w.leaves };
       said = λ steady.
           let of = w.keeps.said steady refl in
           record {
             answers = of.answers ++ [];
             taken = subst (λ (x : List Answer). TakesAnswers first x left) (sym (append-nil of.answers)) of.taken;
-            is = record {
+            run = record {
               last = w.last;
               steps = subst (λ (x : List RunLine). Runs s.cluster s.promotions false (due 1 es) (Some (of.answers ++ [])) x w.last (Some [])) (printed journal w.last w.leaves)
                   (of.runs []);

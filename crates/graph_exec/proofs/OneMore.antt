@@ -30,12 +30,12 @@ pub record Adds (log : LogOf) (f after : InFlightOf) (e : Event) : Type 0 where
   pub same : after.progress.graph ≡ f.progress.graph
   pub begun_size : length after.progress.begun ≡ length f.progress.begun
   pub succeeded_size : length after.progress.succeeded ≡ length f.progress.succeeded
-  pub flight_size : length after.flying ≡ length f.flying
+  pub flight_size : length after.in_flight ≡ length f.in_flight
   pub begun : (j : ℕ) → 0 < j → j ≤ length f.progress.graph.actions → is_member after.progress.begun j ≡ (is_member f.progress.begun j || begins_number j e)
   pub succeeded : (j : ℕ) → 0 < j → j ≤ length f.progress.graph.actions
       → is_member after.progress.succeeded j ≡ (is_member f.progress.succeeded j || succeeds_number log.cluster j e)
-  pub flying : (j : ℕ) → 0 < j → j ≤ length f.progress.graph.actions
-      → is_member after.flying j ≡ ((is_member f.flying j || begins_number j e) && not (ends_number j e))
+  pub in_flight : (j : ℕ) → 0 < j → j ≤ length f.progress.graph.actions
+      → is_member after.in_flight j ≡ ((is_member f.in_flight j || begins_number j e) && not (ends_number j e))
   pub fresh : (j : ℕ) → 0 < j → j ≤ length f.progress.graph.actions → begins_number j e ≡ true → is_member f.progress.begun j ≡ false
   pub known : (j : ℕ) → 0 < j → j ≤ length f.progress.graph.actions → ends_number j e ≡ true → is_member f.progress.begun j ≡ true
   pub from_one : begins_number 0 e ≡ false
@@ -63,9 +63,9 @@ module _ (log : LogOf) (f after : InFlightOf) (e : Event) (h : InFlightFollows l
     kept = record {
       begun = kept_begun;
       succeeded = a.succeeded j low high ∙ ap (λ (b : Bool). b || succeeds_number log.cluster j e) old.succeeded ∙ sym succeeded_now;
-      flying =
-          a.flying j low high
-          ∙ ap (λ (b : Bool). (b || begins_number j e) && not (ends_number j e)) old.flying
+      in_flight =
+          a.in_flight j low high
+          ∙ ap (λ (b : Bool). (b || begins_number j e) && not (ends_number j e)) old.in_flight
           ∙ sym (rw (begun_now, ended_now) (flies_on (has_begun (going (running log f)) log.since j) (has_number_ended (going (running log f)) log.since j)
           (begins_number j e) (ends_number j e) old.ended (λ b. sym old.begun ∙ a.fresh j low high b)));
       ended = λ t. either (has_number_ended (going (running log f)) log.since j) (ends_number j e) (sym ended_now ∙ t)

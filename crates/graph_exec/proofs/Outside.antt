@@ -67,7 +67,7 @@ module _ (log : LogOf) (f : InFlightOf) (h : InFlightFollows log f) (event : Eve
     flight_size = refl;
     begun = λ j some most. rw (begins_none j event outer) (sym (or-false (is_member f.progress.begun j)));
     succeeded = λ j some most. rw (succeeds_none j event some outer) (sym (or-false (is_member f.progress.succeeded j)));
-    flying = λ j some most. unchanged (is_member f.flying j) (begins_number j event) (ends_number j event) (begins_none j event outer) (ends_none j event some outer);
+    in_flight = λ j some most. unchanged (is_member f.in_flight j) (begins_number j event) (ends_number j event) (begins_none j event outer) (ends_none j event some outer);
     fresh = λ j some most b. let n = begins_none j event outer in cc;
     known = λ j some most b. let n = ends_none j event some outer in cc;
     from_one = begins_none 0 event outer;

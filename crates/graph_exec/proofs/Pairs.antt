@@ -1,5 +1,5 @@
 -- The actions in flight with their numbers, by the flags of the numbers.
-use Rattle.std.proofs.Common.{arith, ◌≡◌, ◌<◌, ◌≤◌, ◌+◌, ◌-◌, ◌==◌, ◌||◌, ℕ, suc, zero, Bool, true, false, cond, List, [], ◌∷◌, ◌++◌, Some, length, map, filter, find, take, slice_get, refl, ap, ◌∙◌, ◌≢◌, ◌⊎◌, inl, inr}
+use Rattle.std.proofs.Common.{arith, ◌≡◌, ◌<◌, ◌≤◌, ◌+◌, ◌==◌, ◌||◌, ℕ, suc, zero, Bool, true, false, cond, List, [], ◌∷◌, ◌++◌, Some, length, map, filter, find, take, slice_get, refl, ap, ◌∙◌, ◌≢◌, ◌⊎◌, inl, inr}
 use Rattle.std.specs.List.{list_any, range_with_len}
 use Rattle.std.proofs.lemmas.Bool.{cases_eq, ne_eqb, eq-eqb, eqb-true}
 use Rattle.std.proofs.lemmas.List.{length-map, take_more}
@@ -88,26 +88,26 @@ module _ (f : InFlightOf) (flight : HasFlagOfEach f) where
   abbrev actions : List Action
   actions = f.progress.graph.actions
 
-  pub pairs_are : pairs_in_flight f ≡ map (with_action actions) (members f.flying)
-  pairs_are = let s = flight.flags in flat_is actions (is_member f.flying) 1 (length f.flying) (omega arith) (omega arith)
+  pub pairs_are : pairs_in_flight f ≡ map (with_action actions) (members f.in_flight)
+  pairs_are = let s = flight.flags in flat_is actions (is_member f.in_flight) 1 (length f.in_flight) (omega arith) (omega arith)
 
-  pub pairs_many : length (pairs_in_flight f) ≡ length (members f.flying)
-  pairs_many = ap length pairs_are ∙ length-map (members f.flying) (with_action actions)
+  pub pairs_many : length (pairs_in_flight f) ≡ length (members f.in_flight)
+  pairs_many = ap length pairs_are ∙ length-map (members f.in_flight) (with_action actions)
 
-  any_pairs : (k : ℕ) → list_any (is_number_of k) (pairs_in_flight f) ≡ list_any (λ j. j == k) (members f.flying)
-  any_pairs k = ap (list_any (is_number_of k)) pairs_are ∙ any_number actions k (members f.flying)
+  any_pairs : (k : ℕ) → list_any (is_number_of k) (pairs_in_flight f) ≡ list_any (λ j. j == k) (members f.in_flight)
+  any_pairs k = ap (list_any (is_number_of k)) pairs_are ∙ any_number actions k (members f.in_flight)
 
-  pub is_flying : (k : ℕ) → 0 < k → k ≤ length f.flying → list_any (is_number_of k) (pairs_in_flight f) ≡ is_member f.flying k
-  is_flying k low high = any_pairs k ∙ among (is_member f.flying) k 1 (length f.flying) (omega arith) (omega arith)
+  pub is_flying : (k : ℕ) → 0 < k → k ≤ length f.in_flight → list_any (is_number_of k) (pairs_in_flight f) ≡ is_member f.in_flight k
+  is_flying k low high = any_pairs k ∙ among (is_member f.in_flight) k 1 (length f.in_flight) (omega arith) (omega arith)
 
-  pub not_flying : (k : ℕ) → (k ≡ 0) ⊎ (length f.flying < k) → list_any (is_number_of k) (pairs_in_flight f) ≡ false
-  not_flying k (inl e) = any_pairs k ∙ rw e (number_none (is_member f.flying) (length f.flying))
-  not_flying k (inr more) = any_pairs k ∙ none_above (is_member f.flying) k 1 (length f.flying) (omega arith)
+  pub not_flying : (k : ℕ) → (k ≡ 0) ⊎ (length f.in_flight < k) → list_any (is_number_of k) (pairs_in_flight f) ≡ false
+  not_flying k (inl e) = any_pairs k ∙ rw e (number_none (is_member f.in_flight) (length f.in_flight))
+  not_flying k (inr more) = any_pairs k ∙ none_above (is_member f.in_flight) k 1 (length f.in_flight) (omega arith)
 
   -- the member at a place, with its action
-  pub pair_at : (place k : ℕ) → slice_get (members f.flying) place ≡ Some k → slice_get (pairs_in_flight f) place ≡ Some (with_action actions k)
+  pub pair_at : (place k : ℕ) → slice_get (members f.in_flight) place ≡ Some k → slice_get (pairs_in_flight f) place ≡ Some (with_action actions k)
   pair_at place k at =
-      ap (λ (ps : List (ℕ × Action)). slice_get ps place) pairs_are ∙ slice_get-map (with_action actions) (members f.flying) place
+      ap (λ (ps : List (ℕ × Action)). slice_get ps place) pairs_are ∙ slice_get-map (with_action actions) (members f.in_flight) place
       ∙ ap (option_map (with_action actions)) at
 
   -- a member is the number of an action
@@ -115,8 +115,8 @@ module _ (f : InFlightOf) (flight : HasFlagOfEach f) where
     pub low : 0 < k
     pub high : k ≤ length actions
 
-  pub placed : (place k : ℕ) → slice_get (members f.flying) place ≡ Some k → IsNumber k
+  pub placed : (place k : ℕ) → slice_get (members f.in_flight) place ≡ Some k → IsNumber k
   placed place k at =
-      let within = of_members (is_member f.flying) 1 (length f.flying) place k at in
+      let within = of_members (is_member f.in_flight) 1 (length f.in_flight) place k at in
       let s = flight.flags in
       record { low = omega (arith, within.0); high = omega (arith, within.1, s) }

@@ -17,7 +17,8 @@ use Rattle.run_safety.proofs.Rests.{at_rest, in_order}
 use Rattle.run_safety.proofs.SoFar.{runs_more}
 use Rattle.graph_exec.specs.declared.run.stop.ReplayStop.{ReplayStop}
 use Rattle.graph_exec.specs.declared.run.stop.ReplayStop.TheVariants as stop
-use Rattle.graph_exec.specs.Replays.{Setting, Sight, IsBetweenTwo, IsJournalKept, IsUpTo, OfJournal, ReplaysAs, setting}
+use Rattle.graph_exec.specs.Replays.{Setting, Sight, IsBetweenTwo, IsJournalKept, IsTold, OfJournal, ReplaysAs, setting}
+use Rattle.graph_exec.specs.RunEnds.{at_most}
 use Rattle.graph_exec.specs.Inner.Turns.{HasComeTo, CameTo, RunEndsAs, journal_back}
 use Rattle.graph_exec.proofs.Joined.{came_nowhere}
 
@@ -33,29 +34,33 @@ module _ (s : Setting) (es : List Event) (a b : Sight) where
   pub replays : (most : ℕ) (end : Result Journal ReplayStop) → RunEndsAs s (due 1 es) a b end → ReplaysAs s es a b most end
   replays most (Ok journal) w = record {
     lines = w.lines;
-    run = record { last = w.last; behind = b.rest; steps = w.runs; over = w.over; leaves = ap events_in w.leaves };
+    ended = record {
+      run = record { last = w.last; behind = b.rest; steps = w.runs; over = w.over; leaves = ap events_in w.leaves };
+      unread = refl;
+    };
     told = w.told;
-    unread = refl;
   }
   replays most (Err (stop.Unexpected journal given)) w = record {
     lines = w.lines;
-    run = record { last = w.last; unread = w.unread; steps = w.runs; cut = w.cut; leaves = ap events_in w.leaves };
+    ended = record { last = w.last; unread = w.unread; steps = w.runs; cut = w.cut; leaves = ap events_in w.leaves };
     told = w.told;
   }
   replays most (Err (stop.SourceFault journal)) w = record {
     lines = w.lines;
-    run = record { last = w.last; steps = w.runs; asking = w.asking; leaves = ap events_in w.leaves };
-    told = w.told;
-    said = λ steady. record {
-      answers = (w.said steady).answers ++ [];
-      taken = subst (λ (x : List Answer). TakesAnswers a.rest x b.rest) (sym (append-nil (w.said steady).answers)) (w.said steady).taken;
-      run = record {
-        last = w.last;
-        steps = (w.said steady).runs [];
-        asking = asks_still s.cluster s.promotions s.whole false w.last w.asking;
-        leaves = ap events_in w.leaves;
+    ended = record {
+      run = record { last = w.last; steps = w.runs; asking = w.asking; leaves = ap events_in w.leaves };
+      said = λ steady. record {
+        answers = (w.said steady).answers ++ [];
+        taken = subst (λ (x : List Answer). TakesAnswers a.rest x b.rest) (sym (append-nil (w.said steady).answers)) (w.said steady).taken;
+        run = record {
+          last = w.last;
+          steps = (w.said steady).runs [];
+          asking = asks_still s.cluster s.promotions s.whole false w.last w.asking;
+          leaves = ap events_in w.leaves;
+        };
       };
     };
+    told = w.told;
   }
   replays most (Err (stop.Stopped journal)) w = record {
     lines = w.lines;
@@ -78,10 +83,10 @@ module _ (s : Setting) (es : List Event) (a b : Sight) where
   replays most (Err (stop.Most journal)) w = absurd w
   replays most (Err stop.NoMemory) w = record { lines = w.lines; at = w.at; run = w.runs; between = w.between; told = w.told }
 
-  pub up_to : (most : ℕ) (journal : Journal) (left : List Event) → journal.events ≡ left → HasComeTo s (due 1 es) a b (due (most + 1) left) → IsUpTo s es a b most journal
+  pub up_to : (most : ℕ) (journal : Journal) (left : List Event) → journal.events ≡ left → HasComeTo s (due 1 es) a b (due (most + 1) left) → IsTold s es a b journal (at_most most)
   up_to most journal left is w = record {
     lines = w.lines;
-    run = subst (λ (x : List Event). Runs s.cluster s.promotions s.whole (due 1 es) a.rest w.lines (due (most + 1) x) b.rest) (sym is) w.runs;
+    ended = subst (λ (x : List Event). Runs s.cluster s.promotions s.whole (due 1 es) a.rest w.lines (due (most + 1) x) b.rest) (sym is) w.runs;
     told = w.told;
   }
 

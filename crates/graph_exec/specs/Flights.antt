@@ -11,7 +11,7 @@ use Rattle.graph_exec.specs.Ready.{Progress}
 -- which actions have begun and succeeded, and which are in flight
 pub record InFlightOf : Type 0 where
   pub progress : Progress
-  pub flying : List Bool
+  pub in_flight : List Bool
 
 -- a number with its action
 abbrev pub paired : List Action → ℕ → List (ℕ × Action)
@@ -19,16 +19,16 @@ paired actions k = option_map_or (λ a. (k, a) ∷ []) (numbered actions k) []
 
 -- the actions in flight, in the order of their numbers
 abbrev pub pairs_in_flight : InFlightOf → List (ℕ × Action)
-pairs_in_flight f = flat_map (paired f.progress.graph.actions) (members f.flying)
+pairs_in_flight f = flat_map (paired f.progress.graph.actions) (members f.in_flight)
 
--- an action begins
+-- the action of this number begins
 abbrev pub with_begun : InFlightOf → ℕ → InFlightOf
 with_begun f k = record {
   progress = record { graph = f.progress.graph; begun = slice_set f.progress.begun (k - 1) true; succeeded = f.progress.succeeded };
-  flying = slice_set f.flying (k - 1) true;
+  in_flight = slice_set f.in_flight (k - 1) true;
 }
 
--- an action ends, with success or without
+-- the action of this number ends, with success or without
 abbrev pub with_ended : InFlightOf → ℕ → Bool → InFlightOf
 with_ended f k success = record {
   progress = record {
@@ -36,11 +36,12 @@ with_ended f k success = record {
     begun = f.progress.begun;
     succeeded = if success then slice_set f.progress.succeeded (k - 1) true else f.progress.succeeded;
   };
-  flying = slice_set f.flying (k - 1) false;
+  in_flight = slice_set f.in_flight (k - 1) false;
 }
 
+-- each action has a flag that says whether it is in flight
 pub record HasFlagOfEach (f : InFlightOf) : Type 0 where
-  pub flags : length f.flying ≡ length f.progress.graph.actions
+  pub flags : length f.in_flight ≡ length f.progress.graph.actions
 
 -- the action is of the cell, or a migration to it
 abbrev pub is_about : ℕ → ℕ → Action → Bool

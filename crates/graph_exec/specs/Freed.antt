@@ -11,16 +11,16 @@ use Rattle.edges.specs.Rows.{AreRows}
 abbrev pub edges_held : List Edge → List ℕ → ℕ → ℕ
 edges_held edges taken y = count_by (λ e. y == e.after && not (is_in_list taken e.before)) edges
 
--- the cleared positions then: a gate is one more if that was its last edge
+-- the cleared positions when an edge to a position is counted off: a gate is one more if that was the last edge to it
 abbrev pub gates_cleared_then : ℕ → List ℕ → List ℕ → ℕ → List ℕ
 gates_cleared_then actions left cleared y = if slice_index_or left y 0 == 1 && not (nat_lt y actions) then cleared ++ y ∷ [] else cleared
 
--- the flags of the actions that may begin: an action is one more if that was its last edge
+-- the flags of the actions that may begin, likewise: an action is one more if that was the last edge to it
 abbrev pub ready_then : ℕ → List ℕ → List Bool → ℕ → List Bool
 ready_then actions left ready y = if slice_index_or left y 0 == 1 && nat_lt y actions then slice_set ready y true else ready
 
--- the edges from the first so many cleared positions were counted off, but that of the last of them those to these positions are still to be
--- counted off
+-- midway through the cleared positions: of the first so many of them all edges were counted off, but for those to the pending positions, which are yet to
+-- be. What is left of each position, which are cleared, and which actions may begin, is by what was counted off
 pub record ClearsGates (g : GraphOf) (begun succeeded ready : List Bool) (taken : ℕ) (pending left cleared : List ℕ) : Type 0 where
   pub enough : taken ≤ length cleared
   pub size : length left ≡ g.edges.positions
@@ -37,7 +37,7 @@ pub record ClearsGates (g : GraphOf) (begun succeeded ready : List Bool) (taken 
   pub begun_free : (x : ℕ) → x < length g.actions → slice_index_or begun x false ≡ true → slice_index_or left x 0 ≡ 0
   pub success_begun : (x : ℕ) → x < length g.actions → slice_index_or succeeded x false ≡ true → slice_index_or begun x false ≡ true
 
--- all is counted off
+-- at rest: the edges of each cleared position were counted off, none is pending, and there is room for all positions
 pub record ClearingRests (g : GraphOf) (ends targets : List ℕ) (begun succeeded ready : List Bool) (left cleared : List ℕ) (room : ℕ) : Type 0 where
   pub graph : IsGraph g
   pub rows : AreRows g.edges.positions g.edges.list g.edges.list ends targets

@@ -1,6 +1,6 @@
 -- A run that is kept: its transitions, each with the plan for the journal up to it, their places in the journal, and how they ended (Pacemaker
 -- Administration, "Transitions"; when a run ends is a rule of this project).
-use Rattle.std.specs.Prelude.{◌≡◌, ◌≤◌, ℕ, Bool, true, false, Option, Some, Result, Ok, Err, List, [], length, take}
+use Rattle.std.specs.Prelude.{◌≡◌, ◌≤◌, ℕ, Bool, true, false, Option, Result, Ok, Err, List, length, take}
 use Rattle.std.specs.List.{AllByRecursion}
 use Rattle.cluster_types.specs.declared.cluster.Cluster.{Cluster}
 use Rattle.cluster_types.specs.declared.journal.Action.{Action}
@@ -13,12 +13,11 @@ use Rattle.cluster_types.specs.declared.run.PassedEnd.{PassedEnd}
 use Rattle.cluster_types.specs.declared.run.PassedEnd.TheVariants.{Complete, Aborted, Cut}
 use Rattle.cluster_types.specs.declared.run.Run.{Run}
 use Rattle.cluster_types.specs.Plans.{IsPlan, transition_of}
-use Rattle.cluster_types.specs.Runs.{IsCutRun, IsRunSoFar, IsRunUpTo, IsWholeRun}
 use Rattle.cluster_types.specs.Steps.{Transition, HasEnded, IsWaiting, has_aborted}
 use Rattle.cluster_types.specs.Texts.{PassedFits, between, run_lines}
 use Rattle.graph_exec.specs.declared.transition.outcomes.Next.TheVariants as next
 use Rattle.graph_exec.specs.Lasting.{LastWord, none_failed, word_is, word_open}
-use Rattle.graph_exec.specs.Saying.{TakesAnswers}
+use Rattle.graph_exec.specs.RunEnds.{EndOfRun, EndsSo, at_most, in_failure, unexpected, with_all}
 use Rattle.graph_exec.specs.declared.run.stop.ReplayEnd.{ReplayEnd}
 use Rattle.graph_exec.specs.declared.run.stop.ReplayEnd.TheVariants as end
 
@@ -46,29 +45,16 @@ module _ (c : Cluster) (promotions : List Promotion) where
     pub few : length run.passed ≤ most
 
   module _ (whole steady : Bool) (es : List Event) (rest left : Option (List Answer)) where
-    -- the whole run is kept, and all answers that were to come were taken
-    pub record IsKeptWhole (run : Run) : Type 0 where
-      pub is : IsWholeRun c promotions whole es rest (run_lines c run) run.journal.events
-      pub unread : left ≡ is.behind
-
-    -- the run up to a step at which an answer is asked for is that of these answers, each of which was said: they are those that were taken, where the
-    -- answers to come are told
-    pub record IsKeptOfAnswers (run : Run) : Type 0 where
-      pub answers : List Answer
-      pub taken : TakesAnswers rest answers left
-      pub is : IsRunSoFar c promotions false es (Some answers) (run_lines c run) run.journal.events (Some [])
-
-    -- the run is kept up to a step at which the source failed. A steady source has let no action end silently
-    pub record IsKeptSoFar (run : Run) : Type 0 where
-      pub is : IsRunSoFar c promotions whole es rest (run_lines c run) run.journal.events left
-      pub said : steady ≡ true → IsKeptOfAnswers run
+    -- the run ended so, and it is kept
+    abbrev pub IsKept : Run → EndOfRun → Type 0
+    IsKept run end = EndsSo c promotions whole steady es rest left (run_lines c run) run.journal.events end
 
     -- what is kept, by how the run ended, where so many transitions were allowed
     abbrev pub KeepsAs : ℕ → Result Run ReplayEnd → Type 0
-    KeepsAs most (Ok run) = IsKeptWhole run
-    KeepsAs most (Err (end.Unexpected run given)) = IsCutRun c promotions whole es rest (run_lines c run) run.journal.events given left
-    KeepsAs most (Err (end.SourceFault run)) = IsKeptSoFar run
-    KeepsAs most (Err (end.Most run)) = IsRunUpTo c promotions whole most es rest (run_lines c run) run.journal.events left
+    KeepsAs most (Ok run) = IsKept run with_all
+    KeepsAs most (Err (end.Unexpected run given)) = IsKept run (unexpected given)
+    KeepsAs most (Err (end.SourceFault run)) = IsKept run in_failure
+    KeepsAs most (Err (end.Most run)) = IsKept run (at_most most)
     KeepsAs most (Err end.NoMemory) = Unit {0}
 
 -- the fact holds of the run that is handed back. Out of memory, none is

@@ -12,5 +12,6 @@ pub mod Watching
 pub mod Lasting
 pub mod Transitions
 pub mod Promises
+pub mod RunEnds
 pub mod Replays
 pub mod Kept

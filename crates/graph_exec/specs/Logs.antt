@@ -15,7 +15,7 @@ pub record LogOf : Type 0 where
   pub promotions : List Promotion
   pub room : ℕ
 
--- so many of the events were there when it was planned
+-- the same of all events, of which so many were there when it was planned, and of how many there is room for in all
 abbrev pub log_of : Cluster → List Event → List Promotion → ℕ → ℕ → LogOf
 log_of c events promotions planned capacity = record {
   cluster = c;
@@ -44,12 +44,13 @@ pub record JournalOf : Type 0 where
 abbrev pub log_journal : Cluster → List Event → List Promotion → JournalOf
 log_journal c events promotions = record { cluster = c; events = events; promotions = promotions }
 
--- what is known of the cluster is what the events tell of it
+-- what is known of the cluster is what the events tell of it, and their moment has 64 bits
 pub record IsLogTold (c : Cluster) (events : List Event) (known : Knowledge) : Type 0 where
   pub knows : Knows c events known
   pub moment : moment_of events < 2 ^ 64
 
--- what is kept beside the events is what they say
+-- what is kept beside the events is what they say: what is known of the cluster, how many answers from outside were taken since the plan, and the first
+-- event since then that aborts. So many events were there when it was planned, and the moment has 64 bits
 pub record Reflects (c : Cluster) (events : List Event) (planned : ℕ) (known : Knowledge) (outside : ℕ) (abort : Option Event) : Type 0 where
   pub starts : planned ≤ length events
   pub knows : Knows c events known

@@ -1,6 +1,6 @@
 -- What a replay makes: a run from a journal on, of which a watcher is told the lines (Pacemaker Administration, "Transitions"; when a run ends is a
 -- rule of this project).
-use Rattle.std.specs.Prelude.{◌≡◌, ℕ, Bool, true, false, Option, Some, IfSome, Result, Ok, Err, List, []}
+use Rattle.std.specs.Prelude.{◌≡◌, ℕ, Bool, Option, IfSome, Result, Ok, Err, List}
 use Rattle.cluster_io.specs.Streams.{Adds, AddsPrefix}
 use Rattle.cluster_types.specs.declared.cluster.Cluster.{Cluster}
 use Rattle.cluster_types.specs.declared.journal.Answer.{Answer}
@@ -9,9 +9,9 @@ use Rattle.cluster_types.specs.declared.journal.Journal.{Journal}
 use Rattle.cluster_types.specs.declared.journal.Promotion.{Promotion}
 use Rattle.cluster_types.specs.declared.run.RunLine.{RunLine}
 use Rattle.cluster_types.specs.Journals.{Orderly}
-use Rattle.cluster_types.specs.Runs.{RunStanding, due, Runs, IsBetween, IsCutRun, IsRunSoFar, IsRunUpTo, IsStoppedRun, IsWholeRun}
+use Rattle.cluster_types.specs.Runs.{RunStanding, due, Runs, IsBetween, IsStoppedRun}
 use Rattle.graph_exec.specs.Lasting.{LastWord, none_failed, word_is}
-use Rattle.graph_exec.specs.Saying.{TakesAnswers}
+use Rattle.graph_exec.specs.RunEnds.{EndOfRun, EndsSo, at_most, in_failure, unexpected, with_all}
 use Rattle.graph_exec.specs.Telling.{text_of}
 use Rattle.graph_exec.specs.declared.transition.outcomes.Next.TheVariants as next
 use Rattle.graph_exec.specs.declared.transition.watcher.Heard.{Heard}
@@ -45,32 +45,11 @@ abbrev pub WritesNamesOf : Cluster → Option Cluster → Type 0
 WritesNamesOf c names = IfSome names (λ (d : Cluster). d ≡ c)
 
 module _ (s : Setting) (es : List Event) (old new : Sight) where
-  -- the whole run was made, each of its lines was told, and all answers that were to come were taken
-  pub record IsWholeReplay (journal : Journal) : Type 0 where
+  -- the run ended so, and each of its lines was told
+  pub record IsTold (journal : Journal) (end : EndOfRun) : Type 0 where
     pub lines : List RunLine
-    pub run : IsWholeRun s.cluster s.promotions s.whole es old.rest lines journal.events
+    pub ended : EndsSo s.cluster s.promotions s.whole s.steady es old.rest new.rest lines journal.events end
     pub told : Adds old.text (text_of s.names lines) new.text
-    pub unread : new.rest ≡ run.behind
-
-  -- the run was made up to the answer that doesn't apply, and each line up to there was told
-  pub record IsCutOffBy (journal : Journal) (given : Answer) : Type 0 where
-    pub lines : List RunLine
-    pub run : IsCutRun s.cluster s.promotions s.whole es old.rest lines journal.events given new.rest
-    pub told : Adds old.text (text_of s.names lines) new.text
-
-  -- the run up to a step at which an answer is asked for is that of these answers, each of which was said: they are those that were taken, where the answers
-  -- to come are told
-  pub record IsOfAnswers (journal : Journal) (lines : List RunLine) : Type 0 where
-    pub answers : List Answer
-    pub taken : TakesAnswers old.rest answers new.rest
-    pub run : IsRunSoFar s.cluster s.promotions false es (Some answers) lines journal.events (Some [])
-
-  -- the run was made up to a step at which the source failed, and each line up to there was told. A steady source has let no action end silently
-  pub record IsReplayBrokenOff (journal : Journal) : Type 0 where
-    pub lines : List RunLine
-    pub run : IsRunSoFar s.cluster s.promotions s.whole es old.rest lines journal.events new.rest
-    pub told : Adds old.text (text_of s.names lines) new.text
-    pub said : s.steady ≡ true → IsOfAnswers journal lines
 
   -- the run was made up to where the watcher stopped: each line before its last call was told, and a front of the lines of that call
   pub record IsStopped (journal : Journal) : Type 0 where
@@ -82,12 +61,6 @@ module _ (s : Setting) (es : List Event) (old new : Sight) where
     pub told : Adds old.text (text_of s.names lines) text
     pub front : AddsPrefix (text_of s.names call) text new.text
 
-  -- so many transitions were made, another is due, and each line up to there was told
-  pub record IsUpTo (most : ℕ) (journal : Journal) : Type 0 where
-    pub lines : List RunLine
-    pub run : IsRunUpTo s.cluster s.promotions s.whole most es old.rest lines journal.events new.rest
-    pub told : Adds old.text (text_of s.names lines) new.text
-
   -- the run was made up to a place between two transitions, and each line up to there was told
   pub record IsBetweenTwo : Type 0 where
     pub lines : List RunLine
@@ -98,11 +71,11 @@ module _ (s : Setting) (es : List Event) (old new : Sight) where
 
   -- what was made of the journal, by how the run ended, where so many transitions were allowed
   abbrev pub ReplaysAs : ℕ → Result Journal ReplayStop → Type 0
-  ReplaysAs most (Ok journal) = IsWholeReplay journal
-  ReplaysAs most (Err (stop.Unexpected journal given)) = IsCutOffBy journal given
-  ReplaysAs most (Err (stop.SourceFault journal)) = IsReplayBrokenOff journal
+  ReplaysAs most (Ok journal) = IsTold journal with_all
+  ReplaysAs most (Err (stop.Unexpected journal given)) = IsTold journal (unexpected given)
+  ReplaysAs most (Err (stop.SourceFault journal)) = IsTold journal in_failure
   ReplaysAs most (Err (stop.Stopped journal)) = IsStopped journal
-  ReplaysAs most (Err (stop.Most journal)) = IsUpTo most journal
+  ReplaysAs most (Err (stop.Most journal)) = IsTold journal (at_most most)
   ReplaysAs most (Err stop.NoMemory) = IsBetweenTwo
 
 -- the fact holds of the journal that is handed back. Out of memory, none is

@@ -10,6 +10,7 @@ pub record IsResting (r : Running) : Type 0 where
   pub nothing_to_do : r.graph.actions ≡ []
   pub nothing_new : r.since ≡ []
 
+-- the journal of a cluster of which nothing is to be done
 abbrev pub resting_at : Running → JournalOf
 resting_at r = record { cluster = r.cluster; events = r.planned_at; promotions = r.promotions }
 

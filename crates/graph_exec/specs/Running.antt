@@ -43,7 +43,7 @@ going r = transition_on r.cluster r.graph r.planned_at
 abbrev pub later : Running → List Event → Running
 later r events = record { cluster = r.cluster; graph = r.graph; planned_at = r.planned_at; since = r.since ++ events; promotions = r.promotions }
 
--- its journal now, with what it tells
+-- its journal now, with its cluster and the promotion scores
 abbrev pub known_of : Running → JournalOf
 known_of r = record { cluster = r.cluster; events = r.planned_at ++ r.since; promotions = r.promotions }
 
@@ -52,12 +52,12 @@ abbrev pub all_gone : Running → ℕ → List Event
 all_gone r n =
     map (end_event r.cluster (r.planned_at ++ r.since) (in_flight_by_number (going r) r.since) Gone) (filter (λ (p : ℕ × Action). is_on n p.1) (in_flight_by_number (going r) r.since))
 
--- what holds at every moment: the graph has no loop, and the events since the plan are steps of the transition, whatever answers there were
+-- what holds at every moment: the edges make a graph, and the events since the plan are steps of the transition, whatever answers there were
 pub record IsUnderWay (r : Running) : Type 0 where
   pub graph : IsGraph r.graph
   pub steps : Goes (going r) true [] None r.since None
 
--- it went on by steps, which took these answers
+-- it went on by steps, from the answers to come before to those after, and nothing else of it changed
 pub record Went (whole : Bool) (old new : Running) (rest left : Option (List Answer)) : Type 0 where
   pub same : new ≡ record { cluster = old.cluster; graph = old.graph; planned_at = old.planned_at; since = new.since; promotions = old.promotions }
   pub steps : Goes (going old) whole old.since rest new.since left
@@ -83,7 +83,7 @@ pub record IsAnswerRefused (old new : Running) (given : Answer) : Type 0 where
   pub refused : applies_after old.cluster (old.planned_at ++ old.since) (in_flight_by_number (going old) old.since) (count_from_outside (going old) old.since) given ≡ false
   pub same : new ≡ old
 
--- nothing more is said, and the first action in flight ends, as if this had been answered
+-- nothing more is said, and of the actions in flight that of lowest number ends, as if this had been answered
 pub record EndedSilently (old new : Running) (given : Answer) : Type 0 where
   pub number : ℕ
   pub action : Action
@@ -95,20 +95,20 @@ pub record EndedSilently (old new : Running) (given : Answer) : Type 0 where
 pub record IsNumberKept (log : LogOf) (f : InFlightOf) (k : ℕ) : Type 0 where
   pub begun : is_member f.progress.begun k ≡ has_begun (going (running log f)) log.since k
   pub succeeded : is_member f.progress.succeeded k ≡ has_succeeded (going (running log f)) log.since k
-  pub flying : is_member f.flying k ≡ is_number_in_flight (going (running log f)) log.since k
+  pub in_flight : is_member f.in_flight k ≡ is_number_in_flight (going (running log f)) log.since k
   pub ended : has_number_ended (going (running log f)) log.since k ≡ true → has_begun (going (running log f)) log.since k ≡ true
   pub over : has_succeeded (going (running log f)) log.since k ≡ true → has_number_ended (going (running log f)) log.since k ≡ true
 
--- how many events may come: two of each action that hasn't begun, one of each in flight, and the answers from outside
+-- how many events may come at most: two of each action that hasn't begun, one of each in flight, and the answers from outside that may still be taken
 abbrev pub events_to_come : LogOf → InFlightOf → ℕ
 events_to_come log f =
-    2 * count_by not f.progress.begun + count_by (λ b. b) f.flying + (most_from_outside - count_by steps.is_from_outside log.since)
+    2 * count_by not f.progress.begun + count_by (λ b. b) f.in_flight + (most_from_outside - count_by steps.is_from_outside log.since)
 
--- there is room for all of them
+-- what is kept of the actions is what the events say of each number, none has begun as number 0, and there is room for all events that may come
 pub record InFlightFollows (log : LogOf) (f : InFlightOf) : Type 0 where
   pub begun_size : length f.progress.begun ≡ length f.progress.graph.actions
   pub succeeded_size : length f.progress.succeeded ≡ length f.progress.graph.actions
-  pub flight_size : length f.flying ≡ length f.progress.graph.actions
+  pub flight_size : length f.in_flight ≡ length f.progress.graph.actions
   pub each : (k : ℕ) → 0 < k → k ≤ length f.progress.graph.actions → IsNumberKept log f k
   pub from_one : has_begun (going (running log f)) log.since 0 ≡ false
   pub has_room : events_to_come log f ≤ log.room

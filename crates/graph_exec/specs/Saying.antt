@@ -25,7 +25,8 @@ abbrev pub taken_by : Next → ℕ
 taken_by (next.Answer given) = 1
 taken_by _ = 0
 
--- a steady source that has said that nothing more comes is over, and doesn't fail
+-- whether a source is over, before and after it says this: it stays over, and doesn't fail then; and a steady one is over once it has said that nothing
+-- more comes
 abbrev pub IsOverBy : Bool → Bool → Bool → Next → Type 0
 IsOverBy steady before after (next.Answer given) = before ≡ true → after ≡ true
 IsOverBy steady before after next.Silent = steady ≡ true → after ≡ true
@@ -47,7 +48,7 @@ module _ (agrees : Cluster → List Event → ℕ → Type 0) (c : Cluster) (es 
   AgreesAfter next.Silent = AgreesSilent
   AgreesAfter next.Failed = agrees c es taken
 
--- an answer of a careful source applies
+-- an answer applies, as each of a careful source does
 abbrev pub IsFitting : Cluster → List Event → ℕ → List (ℕ × Action) → Next → Type 0
 IsFitting c es taken flight (next.Answer given) = applies_after c es flight taken given ≡ true
 IsFitting c es taken flight next.Silent = Unit {0}

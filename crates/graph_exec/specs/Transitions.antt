@@ -12,13 +12,13 @@ use Rattle.graph_exec.specs.declared.transition.ends.WatchedEnd.TheVariants as h
 use Rattle.graph_exec.specs.Running.{Running, Went, going}
 use Rattle.graph_exec.specs.Saying.{TakesAnswers}
 
--- each action has succeeded, and nothing aborted
+-- it has ended: each action has succeeded, and nothing aborted
 pub record IsComplete (r : Running) : Type 0 where
   pub ended : HasEnded (going r) r.since
   pub unaborted : has_aborted (going r) r.since ≡ false
   pub succeeded : all_succeeded (going r) r.since ≡ true
 
--- nothing is in flight any more, and this was the first event that aborted
+-- it has ended, and this was the first event that aborted it
 pub record IsAborted (r : Running) (first : Event) : Type 0 where
   pub ended : HasEnded (going r) r.since
   pub first_is : find (aborts r.cluster) r.since ≡ Some first
@@ -28,6 +28,7 @@ pub record IsCutBy (r : Running) (given : Answer) : Type 0 where
   pub waiting : IsWaiting (going r) r.since
   pub refused : applies_after r.cluster (r.planned_at ++ r.since) (in_flight_by_number (going r) r.since) (count_from_outside (going r) r.since) given ≡ false
 
+-- how it stands, by how it ended. Where a watcher stopped it, nothing is said here
 abbrev pub EndsAs : Running → WatchedEnd → Type 0
 EndsAs r how.Complete = IsComplete r
 EndsAs r (how.Aborted event) = IsAborted r event
@@ -35,12 +36,13 @@ EndsAs r (how.Unexpected given) = IsCutBy r given
 EndsAs r how.SourceFault = IsWaiting (going r) r.since
 EndsAs r how.Stopped = Unit {0}
 
--- the steps, and behind them the answer that doesn't apply
+-- it went on by steps, and behind them this answer was said
 pub record WentTo (whole : Bool) (old new : Running) (rest left : Option (List Answer)) (given : Answer) : Type 0 where
   pub before : Option (List Answer)
   pub went : Went whole old new rest before
   pub said : Says whole before (Some given) left
 
+-- how it went on, by how it ended: where an answer doesn't apply, that was said behind the steps
 abbrev pub GoneTo : Bool → Running → Running → Option (List Answer) → Option (List Answer) → WatchedEnd → Type 0
 GoneTo whole old new rest left (how.Unexpected given) = WentTo whole old new rest left given
 GoneTo whole old new rest left _ = Went whole old new rest left
@@ -50,7 +52,7 @@ pub record Accords (agrees : Cluster → List Event → ℕ → Type 0) (r : Run
   pub idle : in_flight_by_begin r.planned_at ≡ []
   pub agrees_now : agrees r.cluster (r.planned_at ++ r.since) (count_from_outside (going r) r.since)
 
--- nothing more is to be done in it
+-- it has ended by itself: complete, or aborted
 abbrev pub HasGoneToEnd : WatchedEnd → Type 0
 HasGoneToEnd how.Complete = Unit {0}
 HasGoneToEnd (how.Aborted event) = Unit {0}
@@ -61,13 +63,14 @@ abbrev pub IsExpected : WatchedEnd → Type 0
 IsExpected (how.Unexpected given) = ⊥
 IsExpected _ = Unit {0}
 
--- it went on by steps, each end of which was said. Their answers are those that were taken, where the answers to come are told
+-- it went on by the steps of some answers, and no action ended silently. Where the answers to come are told, they are those that were taken
 pub record WentAsSaid (old new : Running) (rest left : Option (List Answer)) : Type 0 where
   pub answers : List Answer
   pub went : Went false old new (Some answers) (Some [])
   pub taken : TakesAnswers rest answers left
 
--- what a steady source has said: where it fails, or isn't over at the end, no action has ended silently, and the steps took the answers that it gave
+-- what a steady source has said: where it fails, or isn't over at the end, no action has ended silently, and the steps took the answers that it gave. One
+-- that was over before doesn't fail
 pub record HasSaidAll (old new : Running) (rest left : Option (List Answer)) (over over_now : Bool) (end : WatchedEnd) : Type 0 where
   pub failed : end ≡ how.SourceFault → WentAsSaid old new rest left
   pub not_over : end ≡ how.SourceFault → over ≡ false

@@ -16,7 +16,7 @@ use Rattle.cluster_types.specs.declared.cluster.Cluster.{Cluster}
 use Rattle.cluster_types.specs.declared.journal.Answer.{Answer}
 use Rattle.cluster_types.specs.declared.journal.Answer.TheVariants as answer
 use Rattle.cluster_types.specs.Journals.{moment_of}
-use Rattle.input_reading.specs.declared.history_fault.ResultCause.TheVariants.{TooManyResults}
+use Rattle.input_reading.specs.declared.history_fault.ResultCause.TheVariants.{Form, TooManyResults}
 use Rattle.input_reading.specs.declared.input.cause.InputCause.TheVariants as cause
 use Rattle.input_reading.specs.declared.input.reading.Head.{Head}
 use Rattle.input_reading.specs.declared.input.reading.Input.{Input}
@@ -24,7 +24,6 @@ use Rattle.input_reading.specs.declared.results.answers.ResultWord.{ResultWord}
 use Rattle.input_reading.specs.declared.results.answers.ResultWord.TheVariants.{End, Timeout, Lost, Up, Quorum, Wait, Report}
 use Rattle.input_reading.specs.declared.results.result_lines.ResultLine.{ResultLine}
 use Rattle.input_reading.specs.declared.words.word_cause.WordCause.TheVariants.{BadValue}
-use Rattle.input_reading.specs.HistoryCauses.{result_cause}
 use Rattle.input_reading.specs.Numbers.{above_0, read_action_number, read_exit_code}
 use Rattle.input_reading.specs.Places.{code_at, leaf_at, line_end_at, node_at, number_at, seconds_at, word_at, yes_at}
 use Rattle.input_reading.specs.Reading.{ReadsInput, following_lines, head_of, status_lines, with_results}
@@ -165,9 +164,9 @@ ResultFits result = AnswerFieldsFit result.answer
 line_fits : (c : Cluster) (moment before line : ℕ) (words : List (List ℕ)) (given : Answer) → result_of c moment before line words ≡ Ok given → AnswerFieldsFit given
 line_fits c moment before line words given e = go (nat_lt before 10000) e
   where
-    go : (b : Bool) → (if b then faulting result_cause (on_line line (answer_of c moment words)) else Err (At line TooManyResults)) ≡ Ok given → AnswerFieldsFit given
+    go : (b : Bool) → (if b then faulting Form (on_line line (answer_of c moment words)) else Err (At line TooManyResults)) ≡ Ok given → AnswerFieldsFit given
     go true e =
-        answer_fits c moment words given (on_line-ok line (answer_of c moment words) given (faulting-ok result_cause (on_line line (answer_of c moment words)) given e))
+        answer_fits c moment words given (on_line-ok line (answer_of c moment words) given (faulting-ok Form (on_line line (answer_of c moment words)) given e))
     go false e = cc
 
 more_fit : (c : Cluster) (start : ℕ) (results : List ResultLine) (line : Line) (more : List ResultLine) → AllByRecursion ResultFits results

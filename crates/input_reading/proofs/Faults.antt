@@ -22,15 +22,11 @@ use Rattle.crm_parse.specs.Marks as marks
 use Rattle.crm_parse.specs.Marks.{last_at, misplaced, sections_of, status_at}
 use Rattle.crm_parse.specs.Statements as statements
 use Rattle.crm_parse.specs.Statements.{draft_of, statements_of}
-use Rattle.cluster_model.specs.declared.expansion.expand_fault.ExpandCause.{ExpandCause}
-use Rattle.cluster_model.specs.Expansion.{expansion_of, leaves_with_spans}
-use Rattle.cluster_model.specs.Faults as expanding
-use Rattle.cluster_model.specs.Faults.{fault_of, kinds_of, nothing_seen, seen_after}
+use Rattle.cluster_model.specs.Expansion.{expansion_of, leaf_fault, leaves_and_spans}
+use Rattle.cluster_model.specs.Faults.{leaf_cause}
 use Rattle.cluster_model.specs.declared.expansion.leaves.Leaves.{Leaves}
-use Rattle.cluster_model.specs.declared.resolution.fault.ModelCause.{ModelCause}
-use Rattle.cluster_model.specs.Directories.{directory_of}
-use Rattle.cluster_model.specs.FirstFaults as modelling
-use Rattle.cluster_model.specs.Resolution.{cause_after, cluster_of, resolution_of}
+use Rattle.cluster_model.specs.FirstFaults as statements_at
+use Rattle.cluster_model.specs.Resolution.{cause_said, cluster_said, resolution_of}
 use Rattle.cluster_types.specs.declared.cluster.Cluster.{Cluster}
 use Rattle.cluster_types.specs.declared.run.RunLine.{RunLine}
 use Rattle.cluster_types.specs.Journals.{moment_of}
@@ -38,9 +34,8 @@ use Rattle.input_reading.specs.declared.words.word_cause.WordCause.{WordCause}
 use Rattle.input_reading.specs.declared.run.text.RunTextLine.{RunTextLine}
 use Rattle.input_reading.specs.RunReading as runs
 use Rattle.input_reading.specs.RunReading.{line_of_words, read_run_lines, text_line}
-use Rattle.input_reading.specs.declared.history_fault.ResultCause.TheVariants.{TooManyResults}
-use Rattle.input_reading.specs.declared.history_fault.StatusCause.TheVariants.{Repeated}
-use Rattle.input_reading.specs.HistoryCauses.{result_cause, status_cause}
+use Rattle.input_reading.specs.declared.history_fault.ResultCause.TheVariants as of_result
+use Rattle.input_reading.specs.declared.history_fault.StatusCause.TheVariants as of_status
 use Rattle.input_reading.specs.FirstJournal as journals
 use Rattle.input_reading.specs.FirstJournal.{is_repeated, status_journal}
 use Rattle.input_reading.specs.Results as answers
@@ -171,34 +166,22 @@ line_stands : {C : Type 0} (line : ℕ) (found : Option C) (more : Option (Fault
 line_stands line (Some why) more h = tt
 line_stands line None more h = h
 
--- the leaves
-module _ {S : Type 0} (cause_at : S → Statement → Option ExpandCause) (after : S → Statement → S) (first : S → List Statement → Option (Fault ExpandCause))
-    (none : (s : S) → first s [] ≡ None)
-    (some : (s : S) (l : Statement) (ls : List Statement) → first s (l ∷ ls) ≡ fault_at l.line (cause_at s l) (first (after s l) ls)) where
-  first_expands : (s : S) (ls : List Statement) → StandsAt (first s ls)
-  first_expands s [] = subst (λ (o : Option (Fault ExpandCause)). StandsAt o) (sym (none s)) tt
-  first_expands s (l ∷ ls) =
-      subst (λ (o : Option (Fault ExpandCause)). StandsAt o) (sym (some s l ls)) (line_stands l.line (cause_at s l) (first (after s l) ls) (first_expands (after s l) ls))
+-- the first statement that is at fault
+first_stands : {C : Type 0} (cause : List Statement → Statement → Option C) (before ls : List Statement) → StandsAt (statements_at.first_fault cause before ls)
+first_stands cause before [] = tt
+first_stands cause before (l ∷ ls) =
+    line_stands l.line (cause before l) (statements_at.first_fault cause (before ++ l ∷ []) ls) (first_stands cause (before ++ l ∷ []) ls)
 
+-- the leaves
 leaves_stand : (found : List Statement) → Stands (faulting cause.Leaves (expansion_of found))
-unfolding fault_of
-leaves_stand found =
-    let kinds = kinds_of found in
-    unless_stands cause.Leaves (fault_of found) (leaves_with_spans found)
-    (first_expands (λ s l. expanding.expand_cause_of kinds s l.form) (λ s l. seen_after s l.form)
-    (expanding.first_expand_fault kinds) (λ s. refl) (λ s l ls. refl) nothing_seen found)
+leaves_stand found = unless_stands cause.Leaves (leaf_fault found) (leaves_and_spans found) (first_stands (leaf_cause found) [] found)
 
 -- the cluster
-first_model : (cause : List Statement → Statement → Option ModelCause) (before ls : List Statement) → StandsAt (modelling.first_fault cause before ls)
-first_model cause before [] = tt
-first_model cause before (l ∷ ls) = line_stands l.line (cause before l) (modelling.first_fault cause (before ++ l ∷ []) ls) (first_model cause (before ++ l ∷ []) ls)
-
 cluster_stands : (leaves : Leaves) (found : List Statement) → Stands (faulting cause.Cluster (resolution_of leaves found))
 unfolding resolution_of
 cluster_stands leaves found =
-    let d = directory_of leaves found in
-    unless_stands cause.Cluster (modelling.first_fault (cause_after d leaves.leaves) [] found) (cluster_of d leaves.leaves found)
-    (first_model (cause_after d leaves.leaves) [] found)
+    unless_stands cause.Cluster (statements_at.first_fault (cause_said leaves found) [] found) (cluster_said leaves found found)
+    (first_stands (cause_said leaves found) [] found)
 
 -- what holds of both values holds of a test
 by_test : (P : Bool → Type 0) (test : Bool) → P true → P false → P test
@@ -209,8 +192,8 @@ by_test P false one other = other
 status_stands : (c : Cluster) (found : List Line) → Stands (faulting cause.Status (status_journal c found))
 status_stands c found =
     let told = all_hold (λ r. Stands (faulting cause.Status r)) (journals.with_status_line c) (journals.with_status_lines c) (λ s. tt) (λ s. refl) (λ s l ls. by_cases (journals.with_status_line c s l) _)
-    (λ s l. by_result (λ r. Stands (faulting cause.Status (faulting status_cause (on_line l.line r) >>= journals.with_told s l.line)))
-    (λ x. by_test (λ test. Stands (faulting cause.Status (if test then Err (At l.line Repeated) else Ok (s ++ x ∷ [])))) (is_repeated s x) tt tt) (λ why. tt) (told_of c l.words)) [] found in
+    (λ s l. by_result (λ r. Stands (faulting cause.Status (faulting of_status.Form (on_line l.line r) >>= journals.with_told s l.line)))
+    (λ x. by_test (λ test. Stands (faulting cause.Status (if test then Err (At l.line of_status.Repeated) else Ok (s ++ x ∷ [])))) (is_repeated s x) tt tt) (λ why. tt) (told_of c l.words)) [] found in
     by_result (λ r. Stands (faulting cause.Status r) → Stands (faulting cause.Status (r >>= (λ told. Ok (journals.journal_of c told))))) (λ x h. tt) (λ fault h. h)
     (journals.with_status_lines c [] found) told
 
@@ -220,10 +203,10 @@ results_stand c start found =
     all_hold (λ r. Stands (faulting cause.Results r)) (answers.with_result c start) (answers.with_result_lines c start) (λ s. tt) (λ s. refl) (λ s l ls. by_cases (answers.with_result c start s l) _)
     (λ s l. by_test
     (λ test. Stands (faulting cause.Results (
-    (if test then faulting result_cause (on_line l.line (answer_of c (moment_after start s) l.words)) else Err (At l.line TooManyResults))
+    (if test then faulting of_result.Form (on_line l.line (answer_of c (moment_after start s) l.words)) else Err (At l.line of_result.TooManyResults))
     >>= (λ given. Ok (s ++ record { line = l.line; answer = given } ∷ [])))))
     (nat_lt (length s) most_results)
-    (by_result (λ r. Stands (faulting cause.Results (faulting result_cause (on_line l.line r) >>= (λ given. Ok (s ++ record { line = l.line; answer = given } ∷ [])))))
+    (by_result (λ r. Stands (faulting cause.Results (faulting of_result.Form (on_line l.line r) >>= (λ given. Ok (s ++ record { line = l.line; answer = given } ∷ [])))))
     (λ x. tt) (λ why. tt) (answer_of c (moment_after start s) l.words))
     tt) [] found
 

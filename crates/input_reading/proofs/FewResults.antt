@@ -10,9 +10,8 @@ use Rattle.faults.specs.declared.fault.Fault.TheVariants.{At}
 use Rattle.faults.specs.Reading.{faulting, on_line}
 use Rattle.faults.proofs.Steps.{bind-ok}
 use Rattle.input_reading.specs.declared.history_fault.ResultCause.{ResultCause}
-use Rattle.input_reading.specs.declared.history_fault.ResultCause.TheVariants.{TooManyResults}
+use Rattle.input_reading.specs.declared.history_fault.ResultCause.TheVariants.{Form, TooManyResults}
 use Rattle.input_reading.specs.declared.results.result_lines.ResultLine.{ResultLine}
-use Rattle.input_reading.specs.HistoryCauses.{result_cause}
 use Rattle.input_reading.specs.Results.{answer_of, moment_after, result_of, results_of, with_result, with_result_lines}
 
 -- a line that is read stands after fewer
@@ -24,7 +23,7 @@ fewer_if false line read given e = cc
 fewer_before : (c : Cluster) (moment before line : ℕ) (words : List (List ℕ)) (given : Answer) → result_of c moment before line words ≡ Ok given → before < 10000
 fewer_before c moment before line words given e =
     let test : nat_lt before 10000 ≡ true
-    = fewer_if (nat_lt before 10000) line (faulting result_cause (on_line line (answer_of c moment words))) given e in
+    = fewer_if (nat_lt before 10000) line (faulting Form (on_line line (answer_of c moment words))) given e in
     grind (arith, nat_tests)
 
 -- one more line, and all lines

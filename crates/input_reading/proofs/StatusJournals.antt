@@ -23,7 +23,7 @@ use Rattle.input_reading.proofs.Bounds.{node_known, seconds_small}
 use Rattle.input_reading.proofs.Steps.{any_step, either_way, step}
 use Rattle.input_reading.specs.FirstJournal as journals
 use Rattle.input_reading.specs.FirstJournal.{is_known, is_repeated, status_journal}
-use Rattle.input_reading.specs.HistoryCauses.{status_cause}
+use Rattle.input_reading.specs.declared.history_fault.StatusCause.TheVariants.{Form}
 use Rattle.input_reading.specs.Status.{history_action, cleanup_line, interval_at, node_line, now_line, op_at, op_line, outcome_at, promotable_at, promotion_line, quorum_line, score_at, state_at, status_word, told_as, told_of}
 use Rattle.input_reading.proofs.FirstJournals.{journal_in_order, journal_is_idle, one_more_known}
 
@@ -111,7 +111,7 @@ lines_known c lines =
     let n = length c.nodes in
     all_kept (λ told. list_all (is_known n) told ≡ true) (journals.with_status_line c) (journals.with_status_lines c) (λ s. refl) (λ s l ls. refl)
     (λ s l h.
-    by_result (λ r. IfOk r (λ t. is_known n t ≡ true) → IfOk (faulting status_cause (on_line l.line r) >>= journals.with_told s l.line) (λ told. list_all (is_known n) told ≡ true))
+    by_result (λ r. IfOk r (λ t. is_known n t ≡ true) → IfOk (faulting Form (on_line l.line r) >>= journals.with_told s l.line) (λ told. list_all (is_known n) told ≡ true))
     (λ x k. either_way _ (is_repeated s x) _ _ tt (one_more_known n s x h k)) (λ why k. tt) (told_of c l.words) (told_known c l.words))
     [] lines refl
 

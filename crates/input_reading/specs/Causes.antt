@@ -12,28 +12,20 @@ use Rattle.input_reading.specs.declared.words.word_cause.WordCause.TheVariants a
 use Rattle.input_reading.specs.declared.input.cause.InputCause.{InputCause}
 use Rattle.input_reading.specs.declared.input.cause.InputCause.TheVariants.{Words, Statements, Leaves, Cluster, Status, Results, Run}
 
-abbrev pub status_name : StatusCause → List ℕ
-status_name status.UnknownStatement = codes "UnknownStatement"
-status_name status.MissingWord = codes "MissingWord"
-status_name status.ExtraWord = codes "ExtraWord"
-status_name status.BadValue = codes "BadValue"
-status_name status.UnknownName = codes "UnknownName"
-status_name status.Repeated = codes "Repeated"
-
-abbrev pub result_name : ResultCause → List ℕ
-result_name result.UnknownStatement = codes "UnknownStatement"
-result_name result.MissingWord = codes "MissingWord"
-result_name result.ExtraWord = codes "ExtraWord"
-result_name result.BadValue = codes "BadValue"
-result_name result.UnknownName = codes "UnknownName"
-result_name result.TooManyResults = codes "TooManyResults"
-
 abbrev pub word_name : WordCause → List ℕ
 word_name word.UnknownStatement = codes "UnknownStatement"
 word_name word.MissingWord = codes "MissingWord"
 word_name word.ExtraWord = codes "ExtraWord"
 word_name word.BadValue = codes "BadValue"
 word_name word.UnknownName = codes "UnknownName"
+
+abbrev pub status_name : StatusCause → List ℕ
+status_name (status.Form cause) = word_name cause
+status_name status.Repeated = codes "Repeated"
+
+abbrev pub result_name : ResultCause → List ℕ
+result_name (result.Form cause) = word_name cause
+result_name result.TooManyResults = codes "TooManyResults"
 
 abbrev pub cause_name : InputCause → List ℕ
 cause_name (Words cause) = lex_name cause

@@ -12,12 +12,11 @@ use Rattle.faults.specs.declared.fault.Fault.{Fault}
 use Rattle.faults.specs.declared.fault.Fault.TheVariants.{At}
 use Rattle.faults.specs.Reading.{◌>>=◌, faulting, on_line}
 use Rattle.input_reading.specs.declared.history_fault.StatusCause.{StatusCause}
-use Rattle.input_reading.specs.declared.history_fault.StatusCause.TheVariants.{Repeated}
+use Rattle.input_reading.specs.declared.history_fault.StatusCause.TheVariants.{Form, Repeated}
 use Rattle.input_reading.specs.declared.status.told.NodeWord.{NodeWord}
 use Rattle.input_reading.specs.declared.status.told.NodeWord.TheVariants as said
 use Rattle.input_reading.specs.declared.status.told.Told.{Told}
 use Rattle.input_reading.specs.declared.status.told.Told.TheVariants.{Now, Quorum, Node, Past, Promoting}
-use Rattle.input_reading.specs.HistoryCauses.{status_cause}
 use Rattle.input_reading.specs.Status.{told_of}
 
 abbrev pub is_promotion_of_same_cell : Promotion → Promotion → Bool
@@ -39,7 +38,7 @@ abbrev pub with_told : List Told → ℕ → Told → Result (List Told) (Fault 
 with_told before line told = if is_repeated before told then Err (At line Repeated) else Ok (before ++ told ∷ [])
 
 abbrev pub with_status_line : Cluster → List Told → Line → Result (List Told) (Fault StatusCause)
-with_status_line c before line = faulting status_cause (on_line line.line (told_of c line.words)) >>= with_told before line.line
+with_status_line c before line = faulting Form (on_line line.line (told_of c line.words)) >>= with_told before line.line
 
 -- what some lines tell, and what further lines do; the first line that is at fault counts
 abbrev pub with_status_lines : Cluster → List Told → List Line → Result (List Told) (Fault StatusCause)

@@ -1,4 +1,5 @@
 pub mod Inner
+pub mod Grammar
 pub mod Causes
 pub mod Reading
 pub mod Sections
@@ -10,7 +11,6 @@ pub mod Numbers
 pub mod OpWords
 pub use Rattle.names.specs.Names
 pub mod Places
-pub mod HistoryCauses
 pub mod Recovery
 pub mod Results
 pub mod Status

@@ -15,9 +15,8 @@ use Rattle.input_reading.specs.declared.words.word_cause.WordCause.{WordCause}
 use Rattle.input_reading.specs.declared.words.word_cause.WordCause.TheVariants.{BadValue, UnknownStatement}
 use Rattle.input_reading.specs.Places.{WordsOfLine, code_at, line_end_at, leaf_at, node_at, number_at, seconds_at, word_at, yes_at}
 use Rattle.input_reading.specs.declared.history_fault.ResultCause.{ResultCause}
-use Rattle.input_reading.specs.declared.history_fault.ResultCause.TheVariants.{TooManyResults}
+use Rattle.input_reading.specs.declared.history_fault.ResultCause.TheVariants.{Form, TooManyResults}
 use Rattle.input_reading.specs.declared.results.result_lines.ResultLine.{ResultLine}
-use Rattle.input_reading.specs.HistoryCauses.{result_cause}
 
 -- what a first word begins
 unfoldable pub result_word : List ℕ → Result ResultWord WordCause
@@ -112,7 +111,7 @@ most_results = 10000
 -- what a result line answers, at a moment and after so many result lines
 abbrev pub result_of : Cluster → ℕ → ℕ → ℕ → WordsOfLine → Result Answer (Fault ResultCause)
 result_of c moment before line words =
-    if nat_lt before most_results then faulting result_cause (on_line line (answer_of c moment words)) else Err (At line TooManyResults)
+    if nat_lt before most_results then faulting Form (on_line line (answer_of c moment words)) else Err (At line TooManyResults)
 
 -- the moment after some results, which began at a moment
 abbrev pub moment_after : ℕ → List ResultLine → ℕ

@@ -24,10 +24,19 @@ mod input;
 mod run;
 
 // What follows from the definitions.
+mod grammar_laws;
 mod history_laws;
 mod laws;
 mod line_laws;
 
+pub use grammar_laws::{
+    a_result_line_says_one_answer, a_run_is_read_as_its_lines_say, a_run_line_says_one_thing,
+    a_status_is_read_as_its_lines_say, a_status_line_says_one_fact,
+    result_lines_are_read_as_they_say, result_lines_that_say_nothing_are_refused,
+    results_are_read_as_their_lines_say, run_lines_are_read_as_they_say,
+    run_lines_that_say_nothing_are_refused, status_lines_are_read_as_they_say,
+    status_lines_that_say_nothing_are_refused,
+};
 pub use history_fault::{ResultCause, ResultFault, StatusCause, StatusFault};
 pub use history_laws::first_journals_are_at_rest;
 pub use input::cause::InputCause;
@@ -44,6 +53,7 @@ pub(crate) use results::answers::answer_of;
 pub use results::result_lines::{ResultLine, read_result, read_results};
 pub use run::run_reading::read_run;
 pub use run::text::{RunText, RunTextLine, TraceFault};
+pub use status::told::{NodeWord, Told};
 pub use status::whole::read_status;
 pub use words::by_place::Words;
 pub use words::number_words::code_of;

@@ -20,20 +20,19 @@ use Rattle.live_run.specs.declared.line_stop.LineStop.TheVariants as why
 use Rattle.live_run.specs.declared.place.Place.{Place}
 use Rattle.live_run.specs.declared.said.Said.{Said}
 use Rattle.live_run.specs.declared.said.Said.TheVariants as said
-use Rattle.input_reading.specs.HistoryCauses.{result_cause}
 use Rattle.input_reading.specs.Results.{answer_of, result_of}
-use Rattle.input_reading.specs.declared.history_fault.ResultCause.TheVariants.{TooManyResults}
+use Rattle.input_reading.specs.declared.history_fault.ResultCause.TheVariants as of_result
 
 -- an answer is among the first 10,000 result lines
 read_few : (c : Cluster) (at : Place) (words : List (List ℕ)) (given : Answer) (t : Bool) → nat_lt at.before 10000 ≡ t → answer_says (result_of c at.moment at.before at.line words) ≡ said.Answer given
     → at.before < 10000
 read_few c at words given true e f = ltb-true at.before 10000 e
 read_few c at words given false e f =
-    let refused : answer_says (result_of c at.moment at.before at.line words) ≡ said.Stop (why.Refused at.line (cause.Form TooManyResults))
-    = ap (λ (b : Bool). answer_says (if b then faulting result_cause (on_line at.line (answer_of c at.moment words)) else Err (At at.line TooManyResults))) e in
+    let refused : answer_says (result_of c at.moment at.before at.line words) ≡ said.Stop (why.Refused at.line (cause.Form of_result.TooManyResults))
+    = ap (λ (b : Bool). answer_says (if b then faulting of_result.Form (on_line at.line (answer_of c at.moment words)) else Err (At at.line of_result.TooManyResults))) e in
     let wrong : ⊥ = differ (sym refused ∙ f) in absurd wrong
   where
-    differ : said.Stop (why.Refused at.line (cause.Form TooManyResults)) ≡ said.Answer given → ⊥
+    differ : said.Stop (why.Refused at.line (cause.Form of_result.TooManyResults)) ≡ said.Answer given → ⊥
     differ g = cc
 
 words_few : (c : Cluster) (at : Place) (read : Result (List (List ℕ)) (Fault LexCause)) (given : Answer) → read_says c at read ≡ said.Answer given → at.before < 10000

@@ -38,6 +38,7 @@ use Rattle.live_run.proofs.Dues.{begins_due, one_end}
 use Rattle.input_reading.specs.declared.results.result_lines.ResultLine.{ResultLine}
 use Rattle.graph_exec.specs.Replays.{IsBetweenTwo, IsStopped, setting, sight}
 use Rattle.graph_exec.specs.Replays as replays
+use Rattle.graph_exec.specs.RunEnds.{at_most, in_failure, unexpected, with_all}
 use Rattle.run_safety.specs.Followed.{IsFront}
 use Rattle.run_safety.proofs.Between.{ends_between}
 use Rattle.run_safety.proofs.Counted.{never_most}
@@ -202,22 +203,22 @@ module _ (c : Cluster) (journal : Journal) (reading : Reading) where
     reaches how = IfSome before (λ left. Reaches c journal reading left after old new how)
 
   done_reached : (before after old new : Option (List ℕ)) (t : SourceState) (was is : Bool) (j : Journal)
-      → replays.IsWholeReplay (along before after old new t was is) journal.events (sight (rest_of (told_by start before)) was old) (sight (rest_of (told_by t after)) is new) j
+      → replays.IsTold (along before after old new t was is) journal.events (sight (rest_of (told_by start before)) was old) (sight (rest_of (told_by t after)) is new) j with_all
       → reaches before after old new t was is end.Done
   done_reached None after old new t was is j w = tt
   done_reached (Some left) after old new t was is j w = record {
     text = run_lines_text c w.lines;
-    gets = record { lines = w.lines; run = whole_by (results_behind c journal reading left) w.lines j.events w.run; printed = refl };
+    gets = record { lines = w.lines; run = whole_by (results_behind c journal reading left) w.lines j.events w.ended.run; printed = refl };
     added = w.told;
   }
 
   -- behind a run that is cut
   unexpected_reached : (before after old middle new : Option (List ℕ)) (t : SourceState) (was is : Bool) (j : Journal) (a : Answer)
-      → replays.IsCutOffBy (along before after old middle t was is) journal.events (sight (rest_of (told_by start before)) was old) (sight (rest_of (told_by t after)) is middle) j a
+      → replays.IsTold (along before after old middle t was is) journal.events (sight (rest_of (told_by start before)) was old) (sight (rest_of (told_by t after)) is middle) j (unexpected a)
       → SourceFollows start t before after → (how : LiveEnd) → EndsCut (run_line c (line.Unexpected t.line)) how middle new → reaches before after old new t was is how
   unexpected_reached None after old middle new t was is j a w f how e = tt
   unexpected_reached (Some left) after old middle new t was is j a w f how e =
-      let cut = cut_by left after t w.lines j.events a w.run f in
+      let cut = cut_by left after t w.lines j.events a w.ended f in
       by cut how (subst (λ (n : ℕ). EndsCut (run_line c (line.Unexpected n)) how middle new) cut.line e)
     where
       text_is : (cut : CutBy left after t w.lines) → EndGets c journal (results_behind c journal reading left) end.Unexpected (run_lines_text c w.lines ++ run_line c (line.Unexpected cut.result.line))
@@ -248,7 +249,7 @@ module _ (c : Cluster) (journal : Journal) (reading : Reading) where
 
   -- the source failed
   broken_reached : (left : List ℕ) (after old middle new : Option (List ℕ)) (t : SourceState) (was is : Bool) (j : Journal)
-      → replays.IsReplayBrokenOff (along (Some left) after old middle t was is) journal.events (sight (rest_of (told_by start (Some left))) was old) (sight (rest_of (told_by t after)) is middle) j
+      → replays.IsTold (along (Some left) after old middle t was is) journal.events (sight (rest_of (told_by start (Some left))) was old) (sight (rest_of (told_by t after)) is middle) j in_failure
       → HasBroken start t (Some left) after → new ≡ middle → Reaches c journal reading left after old new end.ReadFault
   broken_reached left after old middle new t was is j w h same = on after refl h.told h.read.cut
     where
@@ -291,9 +292,9 @@ module _ (c : Cluster) (journal : Journal) (reading : Reading) where
               printed = w.lines;
               journal_now = j.events;
               run = subst (λ (x : Option (List ℕ)). IsRunSoFar c journal.promotions (is_none (results_behind c journal reading left).stop) journal.events
-                  (Some (answers_to_come (results_behind c journal reading left))) w.lines j.events (rest_of (told_by t x))) (sym o) w.run;
+                  (Some (answers_to_come (results_behind c journal reading left))) w.lines j.events (rest_of (told_by t x))) (sym o) w.ended.run;
               none_silent =
-                  let said = w.said refl in
+                  let said = w.ended.said refl in
                   let behind = answers_to_come (coming_to t unread) in
                   let taken : answers_to_come (results_behind c journal reading left) ≡ said.answers ++ behind
                   = same_Some (answers_to_come (results_behind c journal reading left)) (said.answers ++ behind)
@@ -358,7 +359,7 @@ module _ (c : Cluster) (journal : Journal) (reading : Reading) where
   stopped_by left after old middle new printed added given why.TooLarge all stop more lines first said ends bytes taken near how put last = absurd put
 
   stopped_reached : (left : List ℕ) (after old middle new : Option (List ℕ)) (t : SourceState) (was is : Bool) (j : Journal)
-      → replays.IsReplayBrokenOff (along (Some left) after old middle t was is) journal.events (sight (rest_of (told_by start (Some left))) was old) (sight (rest_of (told_by t after)) is middle) j
+      → replays.IsTold (along (Some left) after old middle t was is) journal.events (sight (rest_of (told_by start (Some left))) was old) (sight (rest_of (told_by t after)) is middle) j in_failure
       → HasStopped start t (Some left) after → (how : LiveEnd) → EndsLines (stop_of t) how middle new → Reaches c journal reading left after old new how
   stopped_reached left after old middle new t was is j w h how e = on after refl h.told
     where
@@ -379,13 +380,13 @@ module _ (c : Cluster) (journal : Journal) (reading : Reading) where
             left = j.events;
             run = subst (λ (x : Option (List Answer)). IsRunSoFar c journal.promotions false journal.events (Some (answers_to_come (results_behind c journal reading left))) w.lines j.events x) behind
                 (subst (λ (z : Option LineStop). IsRunSoFar c journal.promotions (is_none z) journal.events (Some (answers_to_come (results_behind c journal reading left))) w.lines j.events
-                (rest_of (told_by t after))) stop w.run);
+                (rest_of (told_by t after))) stop w.ended.run);
           } in
           stopped_by left after old middle new w.lines w.told h.given h.why all stop more h.by.lines h.by.first h.by.said (inr h.by.ends) h.by.bytes h.by.taken h.by.near how
           (subst (λ (z : Option LineStop). EndsLines z how middle new) h.stop e) h.last
 
   failed_reached : (before after old middle new : Option (List ℕ)) (t : SourceState) (was is : Bool) (j : Journal)
-      → replays.IsReplayBrokenOff (along before after old middle t was is) journal.events (sight (rest_of (told_by start before)) was old) (sight (rest_of (told_by t after)) is middle) j
+      → replays.IsTold (along before after old middle t was is) journal.events (sight (rest_of (told_by start before)) was old) (sight (rest_of (told_by t after)) is middle) j in_failure
       → HasBroken start t before after ⊎ HasStopped start t before after → (how : LiveEnd) → EndsLines (stop_of t) how middle new → reaches before after old new t was is how
   failed_reached None after old middle new t was is j w f how e = tt
   failed_reached (Some left) after old middle new t was is j w (inl h) how e =
@@ -456,14 +457,14 @@ module _ (c : Cluster) (journal : Journal) (reading : Reading) where
 
   -- memory is said to be out where so many transitions were made as are never made
   most_never : (before after old new : Option (List ℕ)) (t : SourceState) (was is : Bool) (j : Journal)
-      → replays.IsUpTo (along before after old new t was is) journal.events (sight (rest_of (told_by start before)) was old) (sight (rest_of (told_by t after)) is new) 10001 j
+      → replays.IsTold (along before after old new t was is) journal.events (sight (rest_of (told_by start before)) was old) (sight (rest_of (told_by t after)) is new) j (at_most 10001)
       → reaches before after old new t was is end.NoMemory
   most_never None after old new t was is j w = tt
   most_never (Some left) after old new t was is j w =
       let coming = results_behind c journal reading left in
       let count = few_results c start.lines (raw_lines (reading.held ++ left)) (omega arith) in
       let size : length (answers_to_come coming) ≡ length coming.results = answers_size coming.results in
-      never_most c journal.promotions (is_none coming.stop) journal.events (Some (answers_to_come coming)) (rest_of (told_by t after)) w.lines tt 10001 j.events (omega (arith, count, size)) w.run
+      never_most c journal.promotions (is_none coming.stop) journal.events (Some (answers_to_come coming)) (rest_of (told_by t after)) w.lines tt 10001 j.events (omega (arith, count, size)) w.ended
 
 -- which end a run gets, where no count rose and memory sufficed
 module _ (c : Cluster) (journal : Journal) (reading : Reading) (after old new : Option (List ℕ)) (Read Wrote : Type 0) where
@@ -494,15 +495,15 @@ module _ (c : Cluster) (journal : Journal) (reading : Reading) (s t : SourceStat
   abbrev pub from : replays.Setting
   from = setting c journal.promotions (whole_of (told_by s before)) true (Some d)
 
-  pub done_from : replays.IsWholeReplay from journal.events (sight (rest_of (told_by s before)) was old) (sight (rest_of (told_by t after)) is new) j
+  pub done_from : replays.IsTold from journal.events (sight (rest_of (told_by s before)) was old) (sight (rest_of (told_by t after)) is new) j with_all
       → IfSome before (λ left. Reaches c journal reading left after old new end.Done)
   done_from w = done_reached c journal reading before after old new t was is j (rw (fresh, names) at w)
 
-  pub unexpected_from : (a : Answer) → replays.IsCutOffBy from journal.events (sight (rest_of (told_by s before)) was old) (sight (rest_of (told_by t after)) is middle) j a → SourceFollows s t before after
+  pub unexpected_from : (a : Answer) → replays.IsTold from journal.events (sight (rest_of (told_by s before)) was old) (sight (rest_of (told_by t after)) is middle) j (unexpected a) → SourceFollows s t before after
       → (how : LiveEnd) → EndsCut (run_line d (line.Unexpected t.line)) how middle new → IfSome before (λ left. Reaches c journal reading left after old new how)
   unexpected_from a w f how e = unexpected_reached c journal reading before after old middle new t was is j a (rw (fresh, names) at w) (rw fresh at f) how (subst (λ (x : Cluster). EndsCut (run_line x (line.Unexpected t.line)) how middle new) names e)
 
-  pub failed_from : replays.IsReplayBrokenOff from journal.events (sight (rest_of (told_by s before)) was old) (sight (rest_of (told_by t after)) is middle) j
+  pub failed_from : replays.IsTold from journal.events (sight (rest_of (told_by s before)) was old) (sight (rest_of (told_by t after)) is middle) j in_failure
       → HasBroken s t before after ⊎ HasStopped s t before after → (how : LiveEnd) → EndsLines (stop_of t) how middle new → IfSome before (λ left. Reaches c journal reading left after old new how)
   failed_from w f how e = failed_reached c journal reading before after old middle new t was is j (rw (fresh, names) at w) (rw fresh at f) how e
 
@@ -514,7 +515,7 @@ module _ (c : Cluster) (journal : Journal) (reading : Reading) (s t : SourceStat
       → IfSome before (λ left. Reaches c journal reading left after old new end.NoMemory)
   between_from w = between_reached c journal reading before after old new t was is (rw (fresh, names) at w)
 
-  pub most_from : replays.IsUpTo from journal.events (sight (rest_of (told_by s before)) was old) (sight (rest_of (told_by t after)) is new) 10001 j
+  pub most_from : replays.IsTold from journal.events (sight (rest_of (told_by s before)) was old) (sight (rest_of (told_by t after)) is new) j (at_most 10001)
       → IfSome before (λ left. Reaches c journal reading left after old new end.NoMemory)
   most_from w = most_never c journal reading before after old new t was is j (rw (fresh, names) at w)
 

@@ -12,7 +12,7 @@ use Rattle.crm_lex.specs.declared.fault.LexCause.TheVariants.{LineTooLong}
 use Rattle.crm_lex.proofs.PhysicalLines.{concat-lines}
 use Rattle.live_run.specs.Coming.{Coming, Lines, coming, no_more, said_first}
 use Rattle.live_run.specs.Inner.ComingSteps.{said_came}
-use Rattle.live_run.specs.Followed.{AreNear, HasLast, HasRead, IsStoppedBy, StandFirst, bytes_of, count_said, results_first, said_by}
+use Rattle.live_run.specs.Followed.{AreNear, LastLineSays, HasRead, IsStoppedBy, StandFirst, bytes_of, count_said, results_first, said_by}
 use Rattle.live_run.specs.Inner.ReadSteps.{ReadUntil}
 use Rattle.live_run.specs.Saying.{line_says, place_behind_said, line_says_within, sized_says}
 use Rattle.live_run.specs.declared.came.Came.TheVariants as came
@@ -85,7 +85,7 @@ module _ (c : Cluster) (at : Place) (old new : Reading) (before after : Option (
     same_size = longest_is old new before after a;
   }
 
-  line_last : (s : Said) (whole : Coming) → line_says c at new.raw ≡ s → said_first at s (said_by c (behind s) []) ≡ whole → 0 < count_said whole → HasLast c (lines_at at old) lines
+  line_last : (s : Said) (whole : Coming) → line_says c at new.raw ≡ s → said_first at s (said_by c (behind s) []) ≡ whole → 0 < count_said whole → LastLineSays c (lines_at at old) lines
   line_last s whole is line_says_within some =
       let counted = ap count_said (says_first s is [] ∙ line_says_within) in
       record { front = []; last = physical_lines new.raw; joined = refl; fewer = omega (arith, counted, some) }

@@ -45,7 +45,8 @@ pub record Lines : Type 0 where
 abbrev pub coming_of : Cluster → Lines → List ℕ → Coming
 coming_of c lines left = coming c lines.reading.longest lines.at lines.reading.room (raw_lines (lines.reading.held ++ left))
 
--- the numbers of some lines have their ranges: seconds below 2^40, at most 10,000 result lines, and numbers of lines below 2^32
+-- the numbers of some lines have their ranges: seconds below 2^40, at most 10,000 result lines, and numbers of lines below 2^32. The place and the reader
+-- agree on the number of the next line
 pub record AreReady (lines : Lines) : Type 0 where
   pub moment : lines.at.moment < 2 ^ 40
   pub few : lines.at.before ≤ 10000

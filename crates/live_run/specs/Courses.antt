@@ -71,7 +71,7 @@ abbrev pub times_stopped : Course → ℕ
 times_stopped (course.Stopped why times) = times
 times_stopped _ = 0
 
--- if it has stopped, it has by such a line
+-- where it has stopped, it has by a line that is refused or goes past the limit
 abbrev pub stops_last : Course → Bool
 stops_last (course.Stopped why times) = is_last why
 stops_last _ = true

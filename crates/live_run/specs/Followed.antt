@@ -47,8 +47,8 @@ pub record StandFirst {X : Type 0} (xs all : List X) : Type 0 where
   pub others : List X
   pub joined : all ≡ xs ++ others
 
--- the last of some logical lines says something: the lines before it say less
-pub record HasLast (c : Cluster) (from : Lines) (lines : List (List (List ℕ))) : Type 0 where
+-- some logical lines have a last one, and it says something: without it they say less
+pub record LastLineSays (c : Cluster) (from : Lines) (lines : List (List (List ℕ))) : Type 0 where
   pub front : List (List (List ℕ))
   pub last : List (List ℕ)
   pub joined : lines ≡ front ++ last ∷ []
@@ -56,7 +56,7 @@ pub record HasLast (c : Cluster) (from : Lines) (lines : List (List (List ℕ)))
 
 -- there are none, or the last of them says something
 abbrev pub EndsInOne : Cluster → Lines → List (List (List ℕ)) → Type 0
-EndsInOne c from lines = (lines ≡ []) ⊎ HasLast c from lines
+EndsInOne c from lines = (lines ≡ []) ⊎ LastLineSays c from lines
 
 -- these logical lines were read and answered so, and the bytes that were taken for them are theirs and those that are held now. Each byte of theirs leaves
 -- less room
@@ -82,7 +82,7 @@ pub record IsStoppedBy (c : Cluster) (old : Lines) (before after : Option (List 
   pub lines : List (List (List ℕ))
   pub first : IfSome before (λ left. StandFirst lines (raw_lines (old.reading.held ++ left)))
   pub said : said_by c old lines ≡ record { results = given; stop = Some why }
-  pub ends : HasLast c old lines
+  pub ends : LastLineSays c old lines
   pub bytes : List ℕ
   pub taken : TakesBytes before bytes after
   pub near : AreNear old lines bytes
@@ -136,7 +136,8 @@ pub record View : Type 0 where
   pub faults : ℕ
   pub loan : ℕ
 
--- what reading on has left of the count of failures of the source of bytes, by whether it failed last, and of its loan
+-- what reading on has left of the count of failures of the source of bytes, by whether that failed last, and of its loan. An exact count is raised by
+-- failures alone (see `Bears`)
 pub record HasCounted (exact : Bool) (failed : Type 0) (old new : View) : Type 0 where
   pub bears : Bears exact failed old.faults new.faults
   pub same_source : new.loan ≡ old.loan

@@ -68,7 +68,8 @@ module _ (c : Cluster) (journal : Journal) (reading : Reading) (left : List ℕ)
     pub unstopped : asked.stop ≡ None
     pub none_left : after ≡ Some []
 
-  -- a call of the writer amid the run, behind these lines: it writes some more, and closes at most the transition. The run has taken these answers by then
+  -- a call of the writer amid the run, behind these lines: it writes those of one step. The line that ends the transition may come right
+  -- behind them, and this call doesn't write it. The run has taken these answers by then
   pub record CallInRun : Type 0 where
     pub printed : List RunLine
     pub call : List RunLine

@@ -10,7 +10,7 @@ use cluster_io::{LineReader, MemorySource, Source};
 use cluster_types::{Answer, Cluster};
 use crm_lex::LexCause;
 use graph_exec::Next;
-use input_reading::ResultCause;
+use input_reading::{ResultCause, WordCause};
 use live_run::{LineCause, LineOutcomes, LineStop};
 use names::Names;
 use std::alloc::Global;
@@ -52,7 +52,7 @@ const ROWS: &[Row] = &[
                 1,
                 Some(LineStop::Refused {
                     line: 3,
-                    cause: LineCause::Form(ResultCause::BadValue),
+                    cause: LineCause::Form(ResultCause::Form(WordCause::BadValue)),
                 }),
             ),
             (
@@ -60,7 +60,7 @@ const ROWS: &[Row] = &[
                 1,
                 Some(LineStop::Refused {
                     line: 3,
-                    cause: LineCause::Form(ResultCause::BadValue),
+                    cause: LineCause::Form(ResultCause::Form(WordCause::BadValue)),
                 }),
             ),
         ],
@@ -89,7 +89,7 @@ const ROWS: &[Row] = &[
                 1,
                 Some(LineStop::Refused {
                     line: 2,
-                    cause: LineCause::Form(ResultCause::UnknownStatement),
+                    cause: LineCause::Form(ResultCause::Form(WordCause::UnknownStatement)),
                 }),
             ),
         ],
@@ -112,7 +112,7 @@ const ROWS: &[Row] = &[
                 1,
                 Some(LineStop::Refused {
                     line: 2,
-                    cause: LineCause::Form(ResultCause::BadValue),
+                    cause: LineCause::Form(ResultCause::Form(WordCause::BadValue)),
                 }),
             ),
         ],

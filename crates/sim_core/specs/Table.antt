@@ -36,7 +36,7 @@ intake (World number) = whole
 intake Help = nothing
 intake Version = nothing
 
--- whether a word takes memory, so that it may be refused
+-- whether a word takes memory, so that it may run out of it
 abbrev pub takes_memory : Command → Bool
 takes_memory Check = true
 takes_memory Scores = true

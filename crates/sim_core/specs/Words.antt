@@ -5,6 +5,7 @@ use Rattle.faults.specs.Digits.{number_up_to}
 use Rattle.sim_core.specs.declared.words.Command.{Command}
 use Rattle.sim_core.specs.declared.words.Command.TheVariants.{Check, Scores, Why, Graph, Survive, Audit, Replay, Gen, World, Help, Version}
 
+-- what one word asks for, or none
 abbrev pub word_command : List ℕ → Option Command
 word_command word =
     if bytes_eq word (codes "check") then Some Check
@@ -21,6 +22,7 @@ word_command word =
 abbrev pub case_number : List ℕ → Option ℕ
 case_number word = if nat_lt 1 (length word) && slice_index word 0 == 48 then None else number_up_to 4294967295 word
 
+-- what a word with a number asks for, or none
 abbrev pub two_words_command : List ℕ → List ℕ → Option Command
 two_words_command word other =
     if bytes_eq word (codes "gen") then option_map Gen (case_number other)

@@ -34,7 +34,7 @@ use Rattle.simulated.specs.Worlds.{Agrees, IsOfOne, WorldOf}
 -- each action in flight has a number
 pub all_numbers : (f : InFlightOf) → AreNumbers (pairs_in_flight f)
 all_numbers f p there =
-    let found = of_flat (paired f.progress.graph.actions) (members f.flying) p there in on found.source (found.source == 0) refl found.gives
+    let found = of_flat (paired f.progress.graph.actions) (members f.in_flight) p there in on found.source (found.source == 0) refl found.gives
   where
     alone : (k : ℕ) (o : Option Action) → (k == 0) ≡ false → Contains (option_map_or (λ a. (k, a) ∷ []) o []) p → 0 < p.0
     alone k None e h = absurd (in_none p h)

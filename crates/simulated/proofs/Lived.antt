@@ -8,7 +8,8 @@ use Rattle.cluster_types.specs.declared.journal.Promotion.{Promotion}
 use Rattle.cluster_types.specs.declared.run.Run.{Run}
 use Rattle.cluster_types.specs.Runs.{RunStanding, due, amid, idle, Runs, IsOver, journal_at}
 use Rattle.cluster_types.specs.Texts.{run_lines}
-use Rattle.graph_exec.specs.Kept.{IsKeptWhole, KeepsPlans}
+use Rattle.graph_exec.specs.Kept.{IsKept, KeepsPlans}
+use Rattle.graph_exec.specs.RunEnds.{with_all}
 use Rattle.run_safety.proofs.Along.{journals_grow}
 use Rattle.simulated.specs.Lives.{Lives}
 use Rattle.simulated.specs.Worlds.{Agrees, IsOfOne, WorldOf}
@@ -55,11 +56,11 @@ module _ (c : Cluster) (journal : Journal) (old new : WorldOf) (since : old.sinc
         };
       }
 
-  pub lived_whole : (steady : Bool) → IsKeptWhole c journal.promotions true steady journal.events None None run
+  pub lived_whole : (steady : Bool) → IsKept c journal.promotions true steady journal.events None None run with_all
       → HasLived c journal old.reality.number new (record { run = run; over = true })
   lived_whole steady kept =
-      lived_to true kept.is.last (subst (λ rest. Runs c journal.promotions true (due 1 journal.events) None (run_lines c run) kept.is.last rest) (sym kept.unread) kept.is.steps)
-      kept.is.leaves (over_at c journal.promotions kept.is.last kept.is.behind kept.is.over)
+      lived_to true kept.run.last (subst (λ rest. Runs c journal.promotions true (due 1 journal.events) None (run_lines c run) kept.run.last rest) (sym kept.unread) kept.run.steps)
+      kept.run.leaves (over_at c journal.promotions kept.run.last kept.run.behind kept.run.over)
 
   pub lived_on : Runs c journal.promotions true (due 1 journal.events) None (run_lines c run) (due (most_transitions + 1) run.journal.events) None
       → HasLived c journal old.reality.number new (record { run = run; over = false })

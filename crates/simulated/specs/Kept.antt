@@ -8,8 +8,8 @@ use Rattle.simulated.specs.declared.real.Standing.{Standing}
 use Rattle.cases.specs.Draws.{state_after}
 use Rattle.simulated.specs.RealWorlds.{Cells, World}
 
--- what is kept: of each node, of each cell, leaf by leaf and node by node, which cell comes up, the number, the state of its draws, and how many faults were
--- given
+-- what is kept: how each node stands; what each cell has, leaf by leaf and node by node; which cell comes up, if one does; the number, the state of its
+-- draws, and how many faults it was given
 pub record RealityOf : Type 0 where
   pub cluster : Cluster
   pub nodes : List Standing
@@ -28,7 +28,7 @@ pub record Holds (c : Cluster) (kept : List Real) (cells : Cells) : Type 0 where
 abbrev pub NoneRises : Cluster → List Real → Type 0
 NoneRises c kept = (r n : ℕ) → r < length c.leaves → n < length c.nodes → slice_get kept (r * length c.nodes + n) ≢ Some real.Rising
 
--- only this cell comes up
+-- no cell comes up but this one
 abbrev pub IsAlone : Cluster → Option (ℕ × ℕ) → Cells → Type 0
 IsAlone c rising cells = (r n : ℕ) → r < length c.leaves → n < length c.nodes → cells r n ≡ real.Rising → rising ≡ Some (r, n)
 

@@ -23,7 +23,7 @@ module _ (c : Cluster) (number : ℕ) where
     answer_by (turn.Joins node) = Some (answer.Up node)
     answer_by (turn.Ends place f) = option_map (λ (p : ℕ × Action). answer_by_fate c (turned c number w) f p.0 p.1) (slice_get flight place)
 
-    -- the simulated cluster then
+    -- the simulated cluster then. An end of what isn't in flight leaves it as it is
     abbrev pub world_by : Turn → World
     world_by (turn.Leaves node) = after_leaving c (turned c number w) node
     world_by (turn.Joins node) = after_joining c (turned c number w) node

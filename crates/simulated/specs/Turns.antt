@@ -35,7 +35,7 @@ is_fault fate.TimedOut = true
 abbrev pub with_node : ℕ → Standing → (ℕ → Standing) → (ℕ → Standing)
 with_node node standing nodes n = if node == n then standing else nodes n
 
--- a fence is done
+-- how the nodes stand when an action is done: a fence turns its node off
 abbrev pub fenced : Action → (ℕ → Standing) → (ℕ → Standing)
 fenced (Fence node) nodes = with_node node standing.Off nodes
 fenced (Probe leaf node) nodes = nodes
@@ -100,6 +100,7 @@ module _ (c : Cluster) (number : ℕ) (w : World) where
       else (if die == 1 then of_node is_node_off node_joins drawn
       else happens_behind (action_ends (fate_by (Some die))) drawn)
 
+  -- what happens next
   abbrev pub happening : HappensBehind
   happening = happens_by (first_number number w) (w.drawn + 1)
 
@@ -107,7 +108,7 @@ module _ (c : Cluster) (number : ℕ) (w : World) where
   abbrev pub turn_of : ℕ → Turn
   turn_of count = turn_by happening.happens (drawn_next number happening.drawn count)
 
-  -- the simulated cluster when it comes: what comes up has come up, and the numbers are drawn
+  -- the simulated cluster when the turn comes: what comes up has come up, and the numbers are drawn
   abbrev pub turned : World
   turned = record { nodes = w.nodes; cells = λ r n. risen (w.cells r n); drawn = drawn_by happening.happens happening.drawn; given = w.given }
 
@@ -130,13 +131,14 @@ module _ (c : Cluster) (w : World) where
     given = w.given + 1;
   }
 
+  -- the cells when an action has ended so
   abbrev pub cells_after : Fate → Action → Cells
   cells_after fate.True a = done c a w.cells
   cells_after fate.DoneBadly a = done c a w.cells
   cells_after fate.Undone a = undone c a w.cells
   cells_after fate.TimedOut a = given_up c a w.cells
 
-  -- a node that was fenced is off, if its agent says so
+  -- the nodes then: one that was fenced is off, if the agent of the fence says so
   abbrev pub nodes_after : Fate → Action → (ℕ → Standing)
   nodes_after fate.True a = fenced a w.nodes
   nodes_after fate.DoneBadly a = w.nodes

@@ -25,7 +25,7 @@ pub record Agrees (k : WorldOf) (c : Cluster) (es : List Event) (taken : ℕ) : 
   pub shows : ShowsWorld k.reality world
   pub few : taken ≤ world.given
 
--- it has come from another, the same simulated cluster at an earlier moment
+-- the two are one simulated cluster, at whatever moments: of one cluster and one number, and begun with as many events
 pub record IsOfOne (old new : WorldOf) : Type 0 where
   pub same : IsOfSame old.reality new.reality
   pub since_stays : new.since ≡ old.since

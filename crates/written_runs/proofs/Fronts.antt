@@ -19,7 +19,7 @@ use Rattle.cluster_types.specs.Tables.{targets_of}
 use Rattle.cluster_types.specs.Texts.{event_lines, target_lines}
 use Rattle.run_safety.proofs.InFlight.{among_flying}
 use Rattle.run_safety.proofs.Printed.{answer_line, end_line}
-use Rattle.written_runs.specs.OverLines.{IsToldOnTheWay, LinesTell}
+use Rattle.written_runs.specs.OverLines.{LinesTellOfTheWay, LinesTell}
 use Rattle.written_runs.proofs.SafeLines.{told_run}
 use Rattle.written_runs.proofs.Telling.{IsOfPlanning, nothing_told, plan_lines, tell_more}
 
@@ -151,7 +151,7 @@ module _ (c : Cluster) (promotions : List Promotion) (whole : Bool) where
 -- from the first transition on
 pub on_the_way : (c : Cluster) (promotions : List Promotion) (whole : Bool) (first : List Event) (rest : Option (List Answer)) → in_flight_by_begin first ≡ [] → (at : RunStanding)
     (left : Option (List Answer)) (lines before after : List RunLine) → Runs c promotions whole (due 1 first) rest lines at left → lines ≡ before ++ after
-    → IsToldOnTheWay c promotions whole first rest at left before
+    → LinesTellOfTheWay c promotions whole first rest at left before
 on_the_way c promotions whole first rest idle at left lines before after runs is =
     let found = place_of c promotions whole (due 1 first) at rest left lines before after runs is in
     record {

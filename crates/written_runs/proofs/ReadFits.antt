@@ -5,11 +5,8 @@ use Rattle.std.specs.List.{AllByRecursion}
 use Rattle.std.specs.Option.{option_and_then}
 use Rattle.std.proofs.lemmas.Bool.Decides.{nat_tests}
 use Rattle.std.proofs.lemmas.List.{length-map}
-use Rattle.lemmas.proofs.Members.{all_append}
 use Rattle.faults.specs.Digits.{number_up_to}
 use Rattle.faults.proofs.Steps.{unless-ok}
-use Rattle.crm_parse.specs.declared.form.Form.{Form}
-use Rattle.crm_parse.specs.declared.form.Form.TheVariants as form
 use Rattle.crm_parse.specs.declared.pair.Kv.{Kv}
 use Rattle.crm_parse.specs.declared.pair.Operation.{Operation}
 use Rattle.crm_parse.specs.declared.statement.Statement.{Statement}
@@ -19,14 +16,13 @@ use Rattle.cluster_types.specs.declared.cluster.Cluster.{Cluster}
 use Rattle.cluster_types.specs.declared.leaf.Leaf.{Leaf}
 use Rattle.cluster_types.specs.declared.leaf.Monitor.{Monitor as MonitorOf}
 use Rattle.cluster_model.specs.declared.expansion.leaves.Leaves.{Leaves}
-use Rattle.cluster_model.specs.Expansion.{expansion_of, leaves_with_spans}
-use Rattle.cluster_model.specs.Directories.{directory_of}
-use Rattle.cluster_model.specs.Faults.{fault_of}
+use Rattle.cluster_model.specs.Expansion.{expansion_of, leaf_fault, leaves_and_spans}
 use Rattle.cluster_model.specs.FirstFaults.{first_fault}
-use Rattle.cluster_model.specs.Leaves.{leaf_in, leaves_in, leaves_of, primitive_leaf, surroundings_of}
+use Rattle.cluster_model.specs.Leaves.{leaf_said, leaves_said}
+use Rattle.cluster_model.specs.Resources.{Primitive, all_primitives}
+use Rattle.cluster_model.specs.Resolution.{cause_said, cluster_said, resolution_of}
 use Rattle.cluster_model.specs.Operations.{monitor_of, monitors_of}
-use Rattle.cluster_model.specs.Resolution.{cause_after, cluster_of, resolution_of}
-use Rattle.cluster_model.proofs.EachOf.{of_all}
+use Rattle.cluster_model.proofs.EachOf.{all_map, of_all}
 use Rattle.input_reading.specs.declared.input.reading.Head.{Head}
 use Rattle.input_reading.specs.declared.input.reading.Input.{Input}
 use Rattle.input_reading.specs.declared.results.result_lines.ResultLine.{ResultLine}
@@ -82,40 +78,30 @@ monitors_fit (op ∷ ops) = monitors_case (recurs op) op.pairs (monitors_of ops)
 abbrev LeafFits : Leaf → Type 0
 LeafFits leaf = AllByRecursion MonitorFits leaf.monitors
 
-leaf_fits : (all : List Statement) (id : List ℕ) (meta : List Kv) (ops : List Operation) → LeafFits (primitive_leaf (surroundings_of all) id meta ops)
-unfolding primitive_leaf
-leaf_fits all id meta ops = monitors_fit ops
+leaf_fits : (statements : List Statement) (p : Primitive) → LeafFits (leaf_said statements p)
+unfolding leaf_said
+leaf_fits statements p = monitors_fit p.ops
 
-form_fits : (all : List Statement) (f : Form) → AllByRecursion LeafFits (leaf_in (surroundings_of all) f)
-form_fits all (form.Primitive id agent description params meta utilization operations ops) = (leaf_fits all id meta ops, tt)
-form_fits all _ = tt
-
-leaves_fit : (all statements : List Statement) → AllByRecursion LeafFits (leaves_in (surroundings_of all) statements)
-leaves_fit all [] = tt
-leaves_fit all (statement ∷ statements) =
-    all_append LeafFits (leaf_in (surroundings_of all) statement.form) (leaves_in (surroundings_of all) statements) (form_fits all statement.form) (leaves_fit all statements)
-
-all_leaves_fit : (statements : List Statement) → AllByRecursion LeafFits (leaves_of statements)
-unfolding leaves_of
-all_leaves_fit statements = leaves_fit statements statements
+all_leaves_fit : (statements : List Statement) → AllByRecursion LeafFits (leaves_said statements)
+unfolding leaves_said
+all_leaves_fit statements = all_map LeafFits (leaf_said statements) (all_primitives statements) (leaf_fits statements)
 
 -- the cluster of a configuration
 cluster_leaves : (leaves : Leaves) (statements : List Statement) (c : Cluster) → resolution_of leaves statements ≡ Ok c → c.leaves ≡ leaves.leaves
-unfolding resolution_of cluster_of
+unfolding resolution_of cluster_said
 cluster_leaves leaves statements c r =
-    let d = directory_of leaves statements in
-    let found = unless-ok (first_fault (cause_after d leaves.leaves) [] statements) (cluster_of d leaves.leaves statements) c r in
+    let found = unless-ok (first_fault (cause_said leaves statements) [] statements) (cluster_said leaves statements statements) c r in
     sym (ap (λ (c : Cluster). c.leaves) found.1)
 
-expanded_leaves : (statements : List Statement) (leaves : Leaves) → expansion_of statements ≡ Ok leaves → leaves.leaves ≡ leaves_of statements
+expanded_leaves : (statements : List Statement) (leaves : Leaves) → expansion_of statements ≡ Ok leaves → leaves.leaves ≡ leaves_said statements
 expanded_leaves statements leaves e =
-    let found = unless-ok (fault_of statements) (leaves_with_spans statements) leaves e in
+    let found = unless-ok (leaf_fault statements) (leaves_and_spans statements) leaves e in
     sym (ap (λ (l : Leaves). l.leaves) found.1)
 
 intervals_fit : (statements : List Statement) (leaves : Leaves) (c : Cluster) → expansion_of statements ≡ Ok leaves → resolution_of leaves statements ≡ Ok c → IntervalsFit c
 intervals_fit statements leaves c e r leaf m there in_leaf =
-    let same : c.leaves ≡ leaves_of statements = cluster_leaves leaves statements c r ∙ expanded_leaves statements leaves e in
-    let fits : LeafFits leaf = of_all LeafFits (leaves_of statements) leaf (all_leaves_fit statements) (subst (λ (ls : List Leaf). Contains ls leaf) same there) in
+    let same : c.leaves ≡ leaves_said statements = cluster_leaves leaves statements c r ∙ expanded_leaves statements leaves e in
+    let fits : LeafFits leaf = of_all LeafFits (leaves_said statements) leaf (all_leaves_fit statements) (subst (λ (ls : List Leaf). Contains ls leaf) same there) in
     of_all MonitorFits leaf.monitors m fits in_leaf
 
 module _ (text : List ℕ) (input : Input) (r : ReadsInput text input) where

@@ -67,7 +67,7 @@ module _ (c : Cluster) (first : List Event) where
   AreLinesSafe lines = BeforeEachBegin IsSafeBegin lines
 
 -- the journal that some lines tell is one that the run had on its way to where it stands, from the first journal on
-pub record IsToldOnTheWay (c : Cluster) (promotions : List Promotion) (whole : Bool) (first : List Event) (rest : Option (List Answer)) (at : RunStanding) (left : Option (List Answer))
+pub record LinesTellOfTheWay (c : Cluster) (promotions : List Promotion) (whole : Bool) (first : List Event) (rest : Option (List Answer)) (at : RunStanding) (left : Option (List Answer))
     (lines : List RunLine) : Type 0 where
   pub place : RunStanding
   pub behind : Option (List Answer)

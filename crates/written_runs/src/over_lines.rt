@@ -9,7 +9,7 @@ ghost use Rattle.cluster_types.specs.declared.run.RunLine.{RunLine as LineOf};
 ghost use Rattle.cluster_types.specs.Runs.{RunStanding, due, Runs, journal_at};
 ghost use Rattle.cluster_types.specs.Safety.{IsAtRest};
 ghost use Rattle.cluster_types.specs.Valid.{IsValid};
-ghost use Rattle.written_runs.specs.OverLines.{AreLinesSafe, IsToldOnTheWay, LinesTell};
+ghost use Rattle.written_runs.specs.OverLines.{AreLinesSafe, LinesTellOfTheWay, LinesTell};
 
 /// The lines that a run of a valid cluster has written, wherever it stands, are safe by themselves: before a line `begin K start LEAF NODE` or
 /// `begin K promote LEAF NODE` the leaf may run on fewer other nodes than it has copies, by the first journal and the lines before it. Of a plain resource:
@@ -25,5 +25,5 @@ pub fn lines_tell_one_journal()
     ensures of_run { (c : ClusterOf) (promotions : List PromotionOf) (whole : Bool) (es : List EventOf) (rest left : Option (List AnswerOf)) (lines : List LineOf) (at : RunStanding)
         → IsAtRest es → Runs c promotions whole (due 1 es) rest lines at left → LinesTell c es lines (journal_at at) }
     ensures of_front { (c : ClusterOf) (promotions : List PromotionOf) (whole : Bool) (es : List EventOf) (rest left : Option (List AnswerOf)) (lines before after : List LineOf) (at : RunStanding)
-        → IsAtRest es → Runs c promotions whole (due 1 es) rest lines at left → lines ≡ before ++ after → IsToldOnTheWay c promotions whole es rest at left before }
+        → IsAtRest es → Runs c promotions whole (due 1 es) rest lines at left → lines ≡ before ++ after → LinesTellOfTheWay c promotions whole es rest at left before }
 {}

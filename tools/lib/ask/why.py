@@ -1,126 +1,104 @@
-"""`why RESOURCE`: what keeps a resource where it is: each statement, state or failure that changes its place when it is
-left out alone."""
+"""`why NAME`: what decided where a resource goes, as the program's word `why` tells it; and with --change what would
+change that."""
 import json
 
-from explain.differences import TRUE
 from explain.faulty import RESOURCES
-from explain.hints import primitives_of
 from explain.report import tell
-from explain.texts import STATUS, Text
-from show.lines import read
-from show.plans import Plan
-from show.program import Refused, answer, prepare
-from show.summaries import reason, role_on
+from explain.texts import Text
+from show.colours import coloured
+from show.program import answer, prepare
+from why.accounts import accounts
+from why.configured import Configured, Known
+from why.failures import failures
+from why.leaving import changes, tries
+from why.sentences import Teller
 
-from .edits import pair_in, the_node, with_pair
 from .sources import Source
 
 REFUSED, WRONG = 5, 2
-RULES = ("location", "colocation", "collocation", "order")
-GOOD = ("0", "8", "190", "191")
+NOTHING = "  no rule, state or failure changes that when it alone is left out"
 
 
 def options(parser):
-    parser.add_argument("resource", metavar="RESOURCE")
-    parser.add_argument("file", nargs="?", metavar="FILE")
+    parser.add_argument("--change", action="store_true", help="what would change it too: each rule, setting, state and failure is left out alone")
+    parser.add_argument("resource", metavar="NAME")
+    parser.add_argument("files", nargs="*", metavar="FILE")
 
 
-def tries(text):
-    """What may be left out, in words, with the text without it."""
-    yield from rules(text)
-    yield from settings(text)
-    yield from states(text)
-    yield from failures(text)
+class Answer:
+    """What is told of a resource in one input."""
 
+    def __init__(self, words, source):
+        self.words, self.data, self.text = words, source.data, Text(source.data)
+        self.statement = self.text.defined(RESOURCES).get(words.resource)
+        self.found = list(tries(self.text)) if self.statement and words.change else []
 
-def rules(text):
-    for one in text.configuration:
-        if one.kind in RULES:
-            yield f"without `{' '.join(one.fields())}`", text.without([one])
+    def questions(self):
+        asked = ["check", "why"] + ["scores"] * bool(self.found)
+        return [(word, self.data) for word in asked] + [("scores", without) for _, without in self.found]
 
+    def work_out(self):
+        self.configured = Configured(self.text)
+        self.inside = self.configured.inside(self.words.resource)
+        self.accounts = accounts(answer("why", self.data), self.inside)
+        names = list(dict.fromkeys(self.inside + [lender for one in self.accounts.values() for lender in one.lenders]))
+        self.known = Known(self.text, names)
+        self.failures = failures(self.configured, self.known, names)
+        self.changed = changes(self.data, self.found, self.inside) if self.words.change else None
 
-def settings(text):
-    """Nodes in standby, and settings that stop a resource or leave it alone."""
-    for one in text.configuration:
-        if one.kind == "node":
-            pair = pair_in(one, "attributes", "standby")
-            if pair and pair.value.lower() in TRUE:
-                yield f"if {one.id.text} weren't in standby", text.with_word(pair, "standby=off")
-        for word in one.words[1:]:
-            if word.key in ("target-role", "is-managed", "maintenance-mode", "stop-all-resources"):
-                name = f" of {one.words[1].text}" if one.kind in RESOURCES else ""
-                usual = {"target-role": "Started", "is-managed": "true"}.get(word.key, "false")
-                yield f"without `{word.text}`{name}", text.with_word(word, f"{word.key}={usual}")
+    def lines(self):
+        if self.statement.kind != "primitive":
+            yield f"{self.words.resource} is {'an' if self.statement.kind == 'ms' else 'a'} {self.statement.kind}, line {self.statement.first + 1}. In it: {', '.join(self.inside)}."
+            yield ""
+        teller = Teller(self.configured, self.known, self.words.all)
+        for at, account in enumerate(self.accounts.values()):
+            yield from [""] * bool(at)
+            yield from teller.lines(account)
+        if self.failures:
+            yield from ["", "Failures:"]
+        for one in self.failures:
+            yield from (("    " if at else "  ") + said for at, said in enumerate(one.sentences()))
+        if self.changed:
+            yield from ["", "What would change that, each left out alone:"]
+            yield from [f"  {what}: {then}" for what, then in self.changed[1]] or [NOTHING]
 
+    def fields(self):
+        found = {"kind": "why", "resource": self.words.resource}
+        found["primitives"] = [self.of_account(one) for one in self.accounts.values()]
+        found["failures"] = [one.fields() for one in self.failures]
+        if self.changed:
+            found.update(now=self.changed[0], changed=[{"with": what, "then": then} for what, then in self.changed[1]])
+        return found
 
-def states(text):
-    for one in text.each():
-        if one.section == STATUS and one.kind == "node" and one.fields()[2] != "online":
-            yield f"if {one.fields()[1]} were online", text.with_word(one.words[2], "online")
-        if one.section == STATUS and one.kind == "quorum" and one.fields()[1] == "no":
-            yield "with quorum", text.with_word(one.words[1], "yes")
-
-
-def failures(text):
-    """The failures of each resource on each node; what is left of its history there stays."""
-    found = {}
-    for one in text.each():
-        fields = one.fields() if one.section == STATUS and one.kind == "op" else []
-        if len(fields) == 7 and fields[5] not in GOOD and not (fields[3:6] == ["monitor", "0", "7"]):
-            found.setdefault((fields[1], fields[2]), []).append(one)
-    for (node, name), statements in found.items():
-        count = f"the {len(statements)} failures" if len(statements) > 1 else "the failure"
-        yield f"without {count} of {name} on {node}", text.without(statements)
-
-
-def places(data, inside):
-    """The targets of the resources, in words."""
-    plan = Plan()
-    for line in answer("scores", data):
-        if line.startswith(("target ", "none ", "pinned ")):
-            plan.take(read(line))
-    return "; ".join(where(plan, name, len(inside) > 1) for name in inside)
-
-
-def where(plan, name, named):
-    targets = ", ".join(role_on(role) + node for node, role in plan.targets[name])
-    why = reason(plan, name)
-    said = f"on {targets}" + (f" ({why})" if why else "") if targets else f"no place: {why}"
-    return f"{name} {said}" if named else said
+    def of_account(self, account):
+        name, plan, line_of = account.resource, account.plan, self.configured.line_of
+        found = {"resource": name, "targets": [{"node": node, "role": role} for node, role in plan.targets.get(name, [])]}
+        if name in plan.pinned:
+            found["pinned"] = plan.pinned[name]
+        if name in plan.without:
+            reason, rule = plan.without[name]
+            found["none"] = {"reason": reason, "rule": rule, "line": line_of(rule)} if rule else {"reason": reason}
+        found["decisions"] = [{"decision": decision, "nodes": [cell.fields(line_of) for cell in cells.values()]} for decision, cells in account.decisions.items()]
+        return found
 
 
 def ask(words):
     source = Source(words.file, words)
-    text = Text(source.data)
-    if words.resource not in text.defined(RESOURCES):
+    told = Answer(words, source)
+    if told.statement is None:
         if source.is_accepted():
-            tell(f"why: {source.name}: there is no resource `{words.resource}`")
+            tell(f"why: {source.name}: there is no resource `{words.resource}`{'' if words.files else ', nor a file of this name'}")
             return WRONG
         return REFUSED
-    inside = primitives_of(text, text.defined(RESOURCES)[words.resource])
-    found = list(tries(text))
-    prepare([("check", source.data), ("scores", source.data), *(("scores", data) for _, data in found)])
+    prepare(told.questions())
     if not source.is_accepted():
         return REFUSED
-    now, other = places(source.data, inside), []
-    for what, data in found:
-        try:
-            then = places(data, inside)
-        except Refused:
-            continue
-        if then != now:
-            other.append((what, then))
-    show(words, now, other)
-    return 0
-
-
-def show(words, now, other):
+    told.work_out()
     if words.json:
-        found = [{"with": what, "then": then} for what, then in other]
-        print(json.dumps({"kind": "why", "resource": words.resource, "now": now, "changed": found}, ensure_ascii=False))
-        return
-    print(f"{words.resource}: {now}")
-    for what, then in other:
-        print(f"  {what}: {then}")
-    if not other:
-        print("  no rule, state or failure changes that when it alone is left out")
+        found = dict(told.fields(), file=words.file) if len(words.files) > 1 else told.fields()
+        print(json.dumps(found, ensure_ascii=False))
+        return 0
+    if len(words.files) > 1:
+        print(coloured(f"{words.file}:", "bold"))
+    print(*told.lines(), sep="\n")
+    return 0

@@ -4,6 +4,8 @@ import re
 # The fields of each line behind its first word; `what` is an action, and what is in brackets may be missing.
 FIELDS = {
     "place": "resource", "promote": "resource", "score": "resource node score",
+    "part": "resource node score counted", "chosen": "resource node", "not": "resource node verdict",
+    "held": "resource node rule", "unpromoted": "resource node rule",
     "pinned": "resource reason", "target": "resource node role", "none": "resource reason [rule]",
     "action": "number what [after]", "begin": "number what", "end": "number code", "timeout": "number",
     "transition": "number", "complete": "number", "aborted": "number",
@@ -20,6 +22,8 @@ ACTIONS = {
 STATEMENTS = ("node", "primitive", "group", "clone", "ms", "location", "colocation", "order", "property", "rsc_defaults", "op_defaults",
               "fencing_topology", "alert", "user", "role", "acl_target", "acl_group")
 ALONE = STATEMENTS[STATEMENTS.index("fencing_topology"):]  # they are kept as they are, also when nothing follows
+WITH_RULE = ("location", "colocation", "without", "beside")  # of an origin or a verdict
+WITH_NODE = ("less", "fuller", "later")
 NUMBERS = ("number", "code", "line", "seconds", "interval", "count")
 COUNTS = re.compile(r"# nodes (\d+) leaves (\d+) rules (\d+)$")
 WORD = re.compile(r'(?:"(?:[^"\\]|\\.)*"|[^ "])+')
@@ -57,6 +61,10 @@ def take(field, words, found, line):
         return words
     if name == "what":
         return take_action(words, found, line)
+    if name == "counted":
+        return take_origin(words, found, line)
+    if name == "verdict":
+        return take_named("reason", words, found, line)
     if name == "after":
         if words[0] != "after":
             raise NotALine(line)
@@ -73,6 +81,21 @@ def take_action(words, found, line):
     for field in ACTIONS[words[0]].split():
         rest = take(field, rest, found, line)
     return rest
+
+
+def take_origin(words, found, line):
+    """What a part of a total comes from, behind the resource that lends it, where one does."""
+    if words[0] == "lent":
+        words = take("lender", words[1:], found, line)
+    return take_named("origin", words, found, line)
+
+
+def take_named(name, words, found, line):
+    """An origin or a reason, with the rule or the other node that it names."""
+    rest = take(name, words, found, line)
+    if found[name] in WITH_RULE:
+        return take("rule", rest, found, line)
+    return take("other", rest, found, line) if found[name] in WITH_NODE else rest
 
 
 def value(name, word, line):

@@ -3,7 +3,8 @@ ghost use Rattle.std.specs.Option.{option_map_or, option_or};
 ghost use Rattle.crm_parse.specs.Operations.{value_of};
 ghost use Rattle.crm_parse.specs.Statements.{says_promotable};
 ghost use Rattle.crm_parse.specs.Values.{bool_of, count_of};
-ghost use Rattle.cluster_model.specs.Clones.{cloned_by, cloned_in, copies_in, in_clone, promoted_in, uncloned};
+ghost use Rattle.cluster_model.specs.Inner.Clones.{cloned_by, cloned_in, in_clone, uncloned};
+ghost use Rattle.cluster_model.specs.Clones.{copies_in, promoted_in};
 ghost use Rattle.cluster_model.specs.Metas.{read_as};
 
 use crate::expansion::meta::{Meta, meta_of, no_meta};
@@ -57,7 +58,7 @@ pub fn is_promotable(ms: bool, pairs: &[Kv]) -> bool
     ms || bool_at(b"promotable", pairs).unwrap_or(false)
 }
 
-#[tactic(auto, unfolding(crate::specs::Clones::in_clone))]
+#[tactic(auto, unfolding(crate::specs::Inner::Clones::in_clone))]
 fn in_clone(nodes: u32, ms: bool, pairs: &[Kv]) -> InClone
     ensures { result ≡ in_clone nodes ms pairs.now }
 {

@@ -1,5 +1,5 @@
 ghost use Rattle.std.specs.Prelude.{◌≡◌, ◌++◌, map, OnOk, IfOk};
-ghost use Rattle.cluster_model.specs.Groups.{grouped_by, grouped_in, members_of, membership_of};
+ghost use Rattle.cluster_model.specs.Inner.Groups.{grouped_by, grouped_in, members_of, membership_of};
 
 use crate::expansion::clones::InClone;
 use crate::expansion::meta::{Meta, meta_of};

@@ -1,5 +1,5 @@
 ghost use Rattle.std.specs.Prelude.{◌≡◌, ◌++◌, IfOk, OnOk};
-ghost use Rattle.cluster_model.specs.Faults.{is_group, resource_kinds_in, kinds_of};
+ghost use Rattle.cluster_model.specs.Inner.Faults.{is_group, resource_kinds_in, kinds_of};
 
 use crate::name_table::NameTable;
 use cluster_types::NoMemory;

@@ -1,7 +1,8 @@
 //! The leaves of a configuration.
 
 ghost use Rattle.std.specs.Prelude.{◌≡◌, ◌++◌, ◌&&◌, not, true, unwrap_or, IfOk, OnOk};
-ghost use Rattle.cluster_model.specs.Leaves.{leaf_in, primitive_leaf, leaves_in, leaves_of, plain_stickiness, target_role_named};
+ghost use Rattle.cluster_model.specs.Inner.Leaves.{leaf_in, primitive_leaf, leaves_in, leaves_of};
+ghost use Rattle.cluster_model.specs.Leaves.{plain_stickiness, target_role_named};
 ghost use Rattle.cluster_model.specs.Operations.{fail_of, monitors_of};
 
 use crate::expansion::clones::uncloned;
@@ -50,7 +51,7 @@ fn fail_or(name: &[u8], ops: &[Operation], default: OnFail) -> OnFail
 }
 
 /// The leaf of a primitive, with its own name and its monitors.
-#[tactic(auto, unfolding(crate::specs::Leaves::primitive_leaf))]
+#[tactic(auto, unfolding(crate::specs::Inner::Leaves::primitive_leaf))]
 fn leaf_with(
     surroundings: &Surroundings<'_>,
     name: Name,
@@ -132,7 +133,7 @@ fn leaves_in(
 }
 
 /// A leaf for each primitive.
-#[tactic(auto, unfolding(crate::specs::Leaves::leaves_of))]
+#[tactic(auto, unfolding(crate::specs::Inner::Leaves::leaves_of))]
 pub fn leaves_of(alloc: Global, statements: &[Statement]) -> Result<Listed<Leaf>, NoMemory>
     ensures { IfOk result (λ leaves. leaves ≡ leaves_of statements.now) }
 {

@@ -3,9 +3,9 @@
 ghost use Rattle.std.specs.Prelude.{◌≡◌, ◌++◌, is_none, not, true, false, None, IfOk};
 ghost use Rattle.std.specs.List.{list_any};
 ghost use Rattle.std.specs.Option.{option_map_or};
-ghost use Rattle.cluster_model.specs.Faults.{expand_cause_of, fault_of, first_expand_fault, has_twice, has_unknown_part, is_empty_group};
-ghost use Rattle.cluster_model.specs.Faults.{is_group, may_contain, nests, parts_in, promotes_group};
-ghost use Rattle.cluster_model.specs.Tables.{lookup};
+ghost use Rattle.cluster_model.specs.Inner.Faults.{expand_cause_of, fault_of, first_expand_fault, has_unknown_part, is_group, may_contain, nests, promotes_group};
+ghost use Rattle.cluster_model.specs.Faults.{has_twice, is_empty_group, parts_in};
+ghost use Rattle.cluster_model.specs.Inner.Tables.{lookup};
 
 use crate::expansion::clones::is_promotable;
 use crate::expansion::kinds::{Kind, is_group, kinds_of};
@@ -115,7 +115,7 @@ fn promotes_group(kinds: &NameTable<'_, Kind>, form: &Form) -> bool
 }
 
 /// The cause of a statement that is at fault, after what was seen before it, where a part is named twice or none is.
-#[tactic(auto, unfolding(crate::specs::Faults::expand_cause_of))]
+#[tactic(auto, unfolding(crate::specs::Inner::Faults::expand_cause_of))]
 fn cause_where(
     kinds: &NameTable<'_, Kind>,
     seen: &Seen,
@@ -177,7 +177,7 @@ fn first_fault(
 }
 
 /// The fault of the first statement that is at fault.
-#[tactic(auto, unfolding(crate::specs::Faults::fault_of))]
+#[tactic(auto, unfolding(crate::specs::Inner::Faults::fault_of))]
 pub fn fault_of(alloc: Global, statements: &[Statement]) -> Result<Option<ExpandFault>, NoMemory>
     ensures { IfOk result (λ fault. fault ≡ fault_of statements.now) }
 {

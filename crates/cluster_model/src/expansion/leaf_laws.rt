@@ -9,7 +9,7 @@ pub fn each_primitive_is_a_leaf()
 {}
 
 /// No two leaves of a configuration that isn't at fault have one name.
-#[tactic(auto, using(crate::proofs::NameLaws::names_differ))]
+#[tactic(auto, using(crate::proofs::NameLaws::said_names_differ))]
 pub fn leaf_names_differ()
     ensures { NamesDiffer }
 {}

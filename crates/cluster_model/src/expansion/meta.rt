@@ -1,5 +1,5 @@
 ghost use Rattle.std.specs.Prelude.{◌≡◌};
-ghost use Rattle.cluster_model.specs.Metas.{meta_of, no_meta, or_meta};
+ghost use Rattle.cluster_model.specs.Inner.Metas.{meta_of, no_meta, or_meta};
 
 use crate::values::{bool_at, role_at, score_at, time_at};
 use crm_parse::{Kv, RoleName};
@@ -38,7 +38,7 @@ pub fn no_meta() -> Meta
 }
 
 /// What some pairs give.
-#[tactic(auto, unfolding(crate::specs::Metas::meta_of))]
+#[tactic(auto, unfolding(crate::specs::Inner::Metas::meta_of))]
 pub fn meta_of(pairs: &[Kv]) -> Meta
     ensures { result ≡ meta_of pairs.now }
 {
@@ -54,7 +54,7 @@ pub fn meta_of(pairs: &[Kv]) -> Meta
 }
 
 /// What the one gives, and else the other.
-#[tactic(auto, unfolding(crate::specs::Metas::or_meta))]
+#[tactic(auto, unfolding(crate::specs::Inner::Metas::or_meta))]
 pub fn or_meta(one: Meta, other: Meta) -> Meta
     ensures { result ≡ or_meta one other }
 {

@@ -6,8 +6,7 @@ ghost use Rattle.crm_lex.specs.Names.{is};
 ghost use Rattle.crm_parse.specs.Operations.{interval_of, recurs, value_of};
 ghost use Rattle.crm_parse.specs.Values.{role_of};
 ghost use Rattle.cluster_model.specs.Metas.{read_as};
-ghost use Rattle.cluster_model.specs.Operations.{after_a_stop, fail_of, on_fail_in, on_fail_of};
-ghost use Rattle.cluster_model.specs.Operations.{is_promoted_name, monitor_in, monitor_of, monitor_role, monitors_of};
+ghost use Rattle.cluster_model.specs.Operations.{after_a_stop, fail_of, on_fail_in, on_fail_of, is_promoted_name, monitor_in, monitor_of, monitor_role, monitors_of};
 
 use crate::values::role_at;
 use cluster_types::{Monitor, NoMemory, OnFail, Role};

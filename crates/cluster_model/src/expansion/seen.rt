@@ -1,7 +1,8 @@
 ghost use Rattle.std.specs.Prelude.{◌≡◌, ◌++◌, OnOk};
 ghost use Rattle.std.specs.List.{list_any};
 ghost use Rattle.std.specs.Option.{option_copied, option_to_list};
-ghost use Rattle.cluster_model.specs.Faults.{AreAlike, HaveTheSame, ids_in, is_duplicate, nothing_seen, parts_in, seen_after};
+ghost use Rattle.cluster_model.specs.Inner.Faults.{AreAlike, HaveTheSame, is_duplicate, nothing_seen, seen_after};
+ghost use Rattle.cluster_model.specs.Faults.{ids_in, parts_in};
 ghost use Rattle.cluster_model.specs.Settings.{nodes_in};
 ghost use Rattle.crm_lex.specs.NameSets.{has_name};
 
@@ -106,7 +107,7 @@ impl Seen {
     }
 
     /// Adds the names of a statement.
-    #[tactic(auto, unfolding(crate::specs::Faults::seen_after))]
+    #[tactic(auto, unfolding(crate::specs::Inner::Faults::seen_after))]
     pub fn add(&mut self, alloc: Global, form: &Form) -> Result<(), NoMemory>
         ensures { OnOk result (AreAlike self.new (seen_after self.old form.now)) }
     {

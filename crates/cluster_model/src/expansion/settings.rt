@@ -1,9 +1,9 @@
 //! What holds of the whole cluster.
 
 ghost use Rattle.std.specs.Prelude.{◌≡◌, ◌+◌, if◌then◌else◌, length, None, unwrap_or, IfOk};
-ghost use Rattle.cluster_model.specs.Metas.{no_meta};
-ghost use Rattle.cluster_model.specs.Settings.{count_nodes, defaults_in, defaults_of, nodes_in};
-ghost use Rattle.cluster_model.specs.Settings.{option_from, option_of, properties_in};
+ghost use Rattle.cluster_model.specs.Inner.Metas.{no_meta};
+ghost use Rattle.cluster_model.specs.Settings.{count_nodes, defaults_in, nodes_in, properties_in};
+ghost use Rattle.cluster_model.specs.Inner.Settings.{defaults_of, option_from, option_of};
 
 use crate::expansion::meta::{Meta, meta_of, no_meta, or_meta};
 use crate::values::bool_at;

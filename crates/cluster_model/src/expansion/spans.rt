@@ -2,8 +2,7 @@
 
 ghost use Rattle.std.specs.Prelude.{◌≡◌, ◌++◌, unwrap_or, slice_get, IfOk, OnOk};
 ghost use Rattle.std.specs.Option.{option_copied, option_map_or};
-ghost use Rattle.cluster_model.specs.Spans.{ends_by, group_ends_in, ends_named, ends_of, number, number_of, numbers_of};
-ghost use Rattle.cluster_model.specs.Spans.{span_in, spans_in, spans_of};
+ghost use Rattle.cluster_model.specs.Inner.Spans.{ends_by, group_ends_in, ends_named, ends_of, number, number_of, numbers_of, span_in, spans_in, spans_of};
 
 use crate::Span;
 use crate::name_table::NameTable;
@@ -138,7 +137,7 @@ fn spans_in(
 }
 
 /// A span for each resource.
-#[tactic(auto, unfolding(crate::specs::Spans::spans_of))]
+#[tactic(auto, unfolding(crate::specs::Inner::Spans::spans_of))]
 pub fn spans_of(
     alloc: Global,
     leaves: &[Leaf],

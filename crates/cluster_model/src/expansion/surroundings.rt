@@ -1,5 +1,5 @@
 ghost use Rattle.std.specs.Prelude.{◌≡◌, IfOk};
-ghost use Rattle.cluster_model.specs.Leaves.{around, meta_around, surroundings_of};
+ghost use Rattle.cluster_model.specs.Inner.Leaves.{around, meta_around, surroundings_of};
 
 use crate::expansion::clones::{InClone, cloned_by};
 use crate::expansion::groups::{InGroup, grouped_by};
@@ -26,7 +26,7 @@ pub(crate) struct Surroundings<'n> {
     pub grouped: NameTable<'n, InGroup>,
 }
 
-#[tactic(auto, unfolding(crate::specs::Leaves::surroundings_of))]
+#[tactic(auto, unfolding(crate::specs::Inner::Leaves::surroundings_of))]
 pub fn surroundings_of<'n>(
     alloc: Global,
     statements: &'n [Statement],

@@ -1,6 +1,7 @@
 ghost use Rattle.std.specs.Prelude.{◌≡◌, IfOk};
 ghost use Rattle.faults.specs.Reading.{Gives};
-ghost use Rattle.cluster_model.specs.Expansion.{expansion_of, leaves_with_spans};
+ghost use Rattle.cluster_model.specs.Expansion.{expansion_of};
+ghost use Rattle.cluster_model.specs.Inner.Expansion.{expansion_by, leaves_with_spans};
 
 use crate::expansion::leaf::leaves_of;
 use crate::expansion::leaf_checks::fault_of;
@@ -18,6 +19,16 @@ fn leaves_with_spans(alloc: Global, statements: &[Statement]) -> Result<Leaves, 
     Ok(Leaves { leaves, spans })
 }
 
+/// The leaves of some statements, or the first fault.
+fn expansion_by(alloc: Global, statements: &[Statement]) -> Result<Leaves, ExpandFault>
+    ensures { Gives (λ leaves. leaves) result (expansion_by statements.now) }
+{
+    if let Some(fault) = fault_of(alloc, statements)? {
+        return Err(fault);
+    }
+    Ok(leaves_with_spans(alloc, statements)?)
+}
+
 /// Makes the leaves of a configuration, as `parse` gives it (Pacemaker Explained, "Groups" and "Clones"). Each primitive is one leaf, with
 /// what its own statement, its group, its clone and the defaults say of it.
 ///
@@ -26,12 +37,9 @@ fn leaves_with_spans(alloc: Global, statements: &[Statement]) -> Result<Leaves, 
 /// primitive, or a child is neither a primitive nor a group; `EmptyGroup` at a group without members; `MemberTwice` where a member or a
 /// child belongs already to this or an earlier group or clone; and `UnsupportedMeta` where the child of a promotable clone is a group.
 /// Where a statement has several causes, the first in this order counts. `NoMemory` comes when memory runs out.
+#[tactic(auto, using(crate::proofs::ExpansionSaid::given_as_said))]
 pub fn expand(alloc: Global, crm: &Crm) -> Result<Leaves, ExpandFault>
     ensures { Gives (λ leaves. leaves) result (expansion_of crm.now.statements) }
 {
-    let statements = crm.statements.as_slice();
-    if let Some(fault) = fault_of(alloc, statements)? {
-        return Err(fault);
-    }
-    Ok(leaves_with_spans(alloc, statements)?)
+    expansion_by(alloc, crm.statements.as_slice())
 }

@@ -5,11 +5,12 @@ ghost use Rattle.std.specs.List.{list_any};
 ghost use Rattle.std.specs.Option.{option_or};
 ghost use Rattle.cluster_model.specs.Chains.{successive};
 ghost use Rattle.cluster_model.specs.Locations.{role_written};
-ghost use Rattle.cluster_model.specs.Directories.{is_unknown};
-ghost use Rattle.cluster_model.specs.Checks.{cause_of, excess_of, has_unknown, has_unpromotable, is_unsupported_form, lacks_action, lacks_in_pair, lacks_role, side_lacks, turns_down};
+ghost use Rattle.cluster_model.specs.Inner.Directories.{is_unknown};
+ghost use Rattle.cluster_model.specs.Inner.Checks.{cause_of, excess_of, has_unknown, has_unpromotable, lacks_action, lacks_in_pair, lacks_role, side_lacks};
+ghost use Rattle.cluster_model.specs.Checks.{is_unsupported_form, turns_down};
 ghost use Rattle.cluster_model.specs.FirstFaults.{first_fault};
-ghost use Rattle.cluster_model.specs.Resolution.{own_cause};
-ghost use Rattle.cluster_model.specs.Search.{sound_count};
+ghost use Rattle.cluster_model.specs.Inner.Resolution.{own_cause};
+ghost use Rattle.cluster_model.specs.Inner.Search.{sound_count};
 
 use crate::resolution::colocations::{Bearer, dependent_at, primary_at};
 use crate::resolution::counts::{Counts, counted_with, nothing_counted};
@@ -218,7 +219,7 @@ fn excess_of(counts: Counts) -> Option<ModelCause>
 }
 
 /// The cause of a statement that is at fault, where it and those before it have so much.
-#[tactic(auto, unfolding(crate::specs::Checks::cause_of))]
+#[tactic(auto, unfolding(crate::specs::Inner::Checks::cause_of))]
 fn cause_of(directory: &Directory<'_>, counts: Counts, form: &Form) -> Option<ModelCause>
     ensures { result ≡ cause_of directory.now counts form.now }
 {
@@ -248,7 +249,7 @@ pub fn first_fault(directory: &Directory<'_>, statements: &[Statement]) -> Resul
             let fault = Some(ModelFault::At { line, cause });
             return Ok(Checked { sound, fault });
         }
-        sound = sound.checked_add(1).ok_or(NoMemory)?;
+        sound += 1;
     }
     Ok(Checked { sound, fault: None })
 }

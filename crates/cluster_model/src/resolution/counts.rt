@@ -1,7 +1,8 @@
 //! How many nodes, leaves and rules statements have.
 
 ghost use Rattle.std.specs.Prelude.{◌≡◌, ◌+◌, IfOk};
-ghost use Rattle.cluster_model.specs.Counting.{colocation_count, counted_with, leaf_count, location_count, node_count, nothing_counted, order_count, rule_count};
+ghost use Rattle.cluster_model.specs.Counting.{colocation_count, location_count, order_count, rule_count};
+ghost use Rattle.cluster_model.specs.Inner.Counting.{counted_with, leaf_count, node_count, nothing_counted};
 
 use cluster_types::NoMemory;
 use crm_parse::Form;
@@ -88,7 +89,7 @@ fn rule_count(form: &Form) -> Result<usize, NoMemory>
 }
 
 /// What statements have, with one more.
-#[tactic(auto, unfolding(crate::specs::Counting::counted_with))]
+#[tactic(auto, unfolding(crate::specs::Inner::Counting::counted_with))]
 pub fn counted_with(counts: Counts, form: &Form) -> Result<Counts, NoMemory>
     ensures { IfOk result (λ counted. counted ≡ counted_with counts form.now) }
 {

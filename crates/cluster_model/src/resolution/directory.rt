@@ -1,21 +1,15 @@
 //! What the names in rules stand for.
 
 ghost use Rattle.std.specs.Prelude.{◌≡◌, ◌++◌, map, slice_get, IfOk, OnOk};
-ghost use Rattle.cluster_model.specs.Directories.{are_there, directory_of, ends_in_directory, span_ends, first_named, groups_of, is_local, is_one_group, is_unknown, is_unknown_node, joins_copies, last_named, may_promote, members_in, node_named, nodes_of, resources_of, traits_of};
+ghost use Rattle.cluster_model.specs.Inner.Directories.{are_there, directory_of, ends_in_directory, span_ends, first_named, groups_of, is_local, is_one_group, is_unknown, is_unknown_node, joins_copies, last_named, may_promote, members_in, node_named, nodes_of, resources_of, traits_of};
 
+use crate::expansion::spans::Ends;
 use crate::{Leaves, NameTable, Span};
 use cluster_types::{Leaf, LeafId, NoMemory, NodeId};
 use crm_lex::Name;
 use crm_parse::{Form, Statement};
 use listed::Listed;
 use std::alloc::Global;
-
-/// The first and the last leaf of a resource.
-#[derive(Clone, Copy)]
-pub(crate) struct Ends {
-    pub first: LeafId,
-    pub last: LeafId,
-}
 
 /// What the rules ask of a leaf.
 #[derive(Clone, Copy)]
@@ -24,7 +18,7 @@ pub(crate) struct Traits {
     pub cloned: bool,
     pub interleave: bool,
     /// The group that it is a member of, told by the number of its statement.
-    pub group: Option<u32>,
+    pub group: Option<usize>,
 }
 
 /// Who is who in a configuration.
@@ -83,8 +77,8 @@ fn members_in(form: &Form) -> &[Name]
 }
 
 fn add_members<'n>(
-    groups: &mut NameTable<'n, u32>,
-    number: u32,
+    groups: &mut NameTable<'n, usize>,
+    number: usize,
     members: &'n [Name],
 ) -> Result<(), NoMemory>
     ensures { OnOk result (groups.new ≡ groups.old ++ map (λ member. (member, number)) members.now) }
@@ -96,19 +90,22 @@ fn add_members<'n>(
 }
 
 /// Each member of a group, with the number of the statement of its group.
-fn groups_of<'n>(alloc: Global, statements: &'n [Statement]) -> Result<NameTable<'n, u32>, NoMemory>
+fn groups_of<'n>(
+    alloc: Global,
+    statements: &'n [Statement],
+) -> Result<NameTable<'n, usize>, NoMemory>
     ensures { IfOk result (λ groups. groups ≡ groups_of statements.now) }
 {
     let mut groups = NameTable::new(alloc);
-    let mut number: u32 = 0;
+    let mut number: usize = 0;
     for statement in statements {
         add_members(&mut groups, number, members_in(&statement.form))?;
-        number = number.checked_add(1).ok_or(NoMemory)?;
+        number += 1;
     }
     Ok(groups)
 }
 
-fn traits_of(groups: &NameTable<'_, u32>, leaf: &Leaf) -> Traits
+fn traits_of(groups: &NameTable<'_, usize>, leaf: &Leaf) -> Traits
     ensures { result ≡ traits_of groups.now leaf.now }
 {
     Traits {
@@ -121,7 +118,7 @@ fn traits_of(groups: &NameTable<'_, u32>, leaf: &Leaf) -> Traits
 
 fn all_traits(
     alloc: Global,
-    groups: &NameTable<'_, u32>,
+    groups: &NameTable<'_, usize>,
     leaves: &[Leaf],
 ) -> Result<Listed<Traits>, NoMemory>
     ensures { IfOk result (λ all. all ≡ map (traits_of groups.now) leaves.now) }
@@ -133,7 +130,7 @@ fn all_traits(
     Ok(all)
 }
 
-#[tactic(auto, unfolding(crate::specs::Directories::directory_of))]
+#[tactic(auto, unfolding(crate::specs::Inner::Directories::directory_of))]
 pub fn directory_of<'n>(
     alloc: Global,
     leaves: &'n Leaves,
@@ -149,7 +146,7 @@ pub fn directory_of<'n>(
     })
 }
 
-fn is_one_group(one: Option<u32>, other: Option<u32>) -> bool
+fn is_one_group(one: Option<usize>, other: Option<usize>) -> bool
     ensures { result ≡ is_one_group one other }
 {
     match (one, other) {

@@ -1,7 +1,8 @@
 //! How much resources want to be on nodes.
 
 ghost use Rattle.std.specs.Prelude.{◌≡◌, ◌++◌, map, IfOk, OnOk};
-ghost use Rattle.cluster_model.specs.Locations.{location_in, locations_of, role_of_word, role_written, rule_location_of, rule_locations_in, rule_locations_of};
+ghost use Rattle.cluster_model.specs.Inner.Locations.{location_in, locations_of, rule_location_of, rule_locations_in, rule_locations_of};
+ghost use Rattle.cluster_model.specs.Locations.{role_of_word, role_written};
 
 use crate::resolution::copies::{copy_name, copy_rule};
 use crate::resolution::directory::Directory;

@@ -7,8 +7,8 @@ ghost use Rattle.cluster_types.specs.declared.rules.Order.{Order};
 ghost use Rattle.loops.specs.FirstLoops.{JoinsLeaves, OrdersSteps, is_closed_by};
 ghost use Rattle.cluster_model.specs.declared.resolution.directory.Directory.{Directory};
 ghost use Rattle.cluster_model.specs.FirstFaults.{first_fault};
-ghost use Rattle.cluster_model.specs.Resolution.{cluster_of, loop_cause};
-ghost use Rattle.cluster_model.specs.Search.{closed_by, closing_cause};
+ghost use Rattle.cluster_model.specs.Inner.Resolution.{cluster_of, loop_cause};
+ghost use Rattle.cluster_model.specs.Inner.Search.{closed_by, closing_cause};
 
 use crate::resolution::counts::{colocation_count, order_count, sum};
 use crate::{ModelCause, ModelFault};

@@ -6,13 +6,14 @@ ghost use Rattle.cluster_types.specs.declared.rules.Colocation.{Colocation as Co
 ghost use Rattle.cluster_types.specs.declared.rules.Order.{Order as OrderOf};
 ghost use Rattle.loops.specs.FirstLoops.{JoinsLeaves, OrdersSteps};
 ghost use Rattle.cluster_model.specs.declared.resolution.directory.Directory.{Directory as DirectoryOf};
-ghost use Rattle.cluster_model.specs.Colocations.{colocations_of};
-ghost use Rattle.cluster_model.specs.Directories.{directory_of};
+ghost use Rattle.cluster_model.specs.Inner.Colocations.{colocations_of};
+ghost use Rattle.cluster_model.specs.Inner.Directories.{directory_of};
 ghost use Rattle.cluster_model.specs.FirstFaults.{first_fault};
-ghost use Rattle.cluster_model.specs.Locations.{locations_of, rule_locations_of};
+ghost use Rattle.cluster_model.specs.Inner.Locations.{locations_of, rule_locations_of};
 ghost use Rattle.cluster_model.specs.Nodes.{nodes_by};
-ghost use Rattle.cluster_model.specs.Orders.{orders_of};
-ghost use Rattle.cluster_model.specs.Resolution.{cluster_of, loop_cause, resolution_of};
+ghost use Rattle.cluster_model.specs.Inner.Orders.{orders_of};
+ghost use Rattle.cluster_model.specs.Inner.Resolution.{cluster_of, loop_cause};
+ghost use Rattle.cluster_model.specs.Resolution.{resolution_of};
 
 use crate::resolution::checks::first_fault;
 use crate::resolution::colocations::colocations_of;
@@ -70,7 +71,7 @@ fn joins_of(
 }
 
 /// The cluster of some statements.
-#[tactic(auto, unfolding(crate::specs::Resolution::cluster_of))]
+#[tactic(auto, unfolding(crate::specs::Inner::Resolution::cluster_of))]
 fn cluster_of(
     alloc: Global,
     directory: &Directory<'_>,

@@ -1,4 +1,4 @@
--- `colocation ID SCORE: RSC[:ROLE] RSC[:ROLE]` (crmsh manual, colocation).
+-- `colocation ID SCORE: RESOURCE[:ROLE] RESOURCE[:ROLE]` (crmsh manual, colocation).
 use Rattle.std.specs.Prelude.{◌≡◌, ℕ, ℤ, true, List, [], ◌∷◌, ◌++◌, codes}
 use Rattle.crm_lex.specs.Names.{is_name}
 use Rattle.crm_parse.specs.declared.form.Form.{Form}

@@ -1,4 +1,4 @@
--- `location ID RSC [role=ROLE] [resource-discovery=always] SCORE: NODE`, and the same with rules in the place of a score and a node
+-- `location ID RESOURCE [role=ROLE] [resource-discovery=always] SCORE: NODE`, and the same with rules in the place of a score and a node
 -- (crmsh manual, location and rule expressions).
 use Rattle.std.specs.Prelude.{◌≡◌, ◌≢◌, ℕ, ℤ, Bool, true, false, List, [], ◌∷◌, ◌++◌, codes, Option}
 use Rattle.crm_lex.specs.Names.{is_name}
@@ -17,7 +17,7 @@ pub data RuleRoleWord : List ℕ → RoleWord → Type 0 where
   with_dollar : (text : List ℕ) (role : RoleWord) → RuleRoleSays text role → RuleRoleWord (codes "$role=" ++ text) role
   without_dollar : (text : List ℕ) (role : RoleWord) → RuleRoleSays text role → RuleRoleWord (codes "role=" ++ text) role
 
--- `rule [$id=ID] [$role=ROLE or role=ROLE] SCORE: EXPR`
+-- `rule [$id=ID] [$role=ROLE or role=ROLE] SCORE: TEST`
 pub data RuleSays : Words → RuleForm → Type 0 where
   a_rule : (id_words : Words) (id : Option (List ℕ)) (role_words : Words) (role : Option RoleWord) (score : List ℕ) (points : ℤ) (words kept : Words) (rule : Rule)
       → MayGive (LabelSays (codes "$id=") NameSays) id_words id → MayGive RuleRoleWord role_words role → ScoreSays score points → ExpressionSays words kept rule

@@ -1,4 +1,4 @@
--- `node [ID:] NAME [attributes KV..] [utilization KV..]` (crmsh manual, node).
+-- `node [ID:] NAME [attributes KEY=VALUE..] [utilization KEY=VALUE..]` (crmsh manual, node).
 use Rattle.std.specs.Prelude.{◌≡◌, ℕ, true, List, ◌∷◌, ◌++◌, Option}
 use Rattle.crm_lex.specs.Names.{is_name}
 use Rattle.crm_parse.specs.declared.form.Form.{Form}

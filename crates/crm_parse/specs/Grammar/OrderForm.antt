@@ -1,4 +1,4 @@
--- `order ID [KIND: or SCORE:] RSC[:ACTION] RSC[:ACTION].. [symmetrical=BOOL]` (crmsh manual, order).
+-- `order ID [KIND: or SCORE:] RESOURCE[:ACTION] RESOURCE[:ACTION].. [symmetrical=BOOL]` (crmsh manual, order).
 use Rattle.std.specs.Prelude.{◌≡◌, ◌≤◌, ℕ, ℤ, pos, int_lt, Bool, true, false, List, ◌∷◌, ◌++◌, length, codes, Some, None}
 use Rattle.score.specs.ScoreText.{read_score}
 use Rattle.crm_lex.specs.Names.{is_name}

@@ -1,4 +1,4 @@
--- `property [SET-ID:] KV..`, and `rsc_defaults` and `op_defaults` alike (crmsh manual, property, rsc_defaults and op_defaults).
+-- `property [SET-ID:] KEY=VALUE..`, and `rsc_defaults` and `op_defaults` alike (crmsh manual, property, rsc_defaults and op_defaults).
 use Rattle.std.specs.Prelude.{◌≡◌, ◌≢◌, ◌⊎◌, ℕ, List, [], ◌++◌, codes, Option}
 use Rattle.std.specs.List.{AllByRecursion}
 use Rattle.crm_parse.specs.declared.draft.Draft.TheVariants as draft

@@ -17,7 +17,7 @@ use std::marker::Model;
 #[derive(Drop)]
 pub struct InFlight {
     waiting: Waiting,
-    flying: NumberSet,
+    in_flight: NumberSet,
 }
 
 impl Model for InFlight {
@@ -25,9 +25,9 @@ impl Model for InFlight {
 
     ghost Value = { InFlightOf };
 
-    ghost view = { λ f. record { progress = f.waiting; flying = f.flying } };
+    ghost view = { λ f. record { progress = f.waiting; in_flight = f.in_flight } };
 
-    ghost invariant = { λ f. HasFlagOfEach (record { progress = f.waiting; flying = f.flying }) };
+    ghost invariant = { λ f. HasFlagOfEach (record { progress = f.waiting; in_flight = f.in_flight }) };
 }
 
 /// Whether the action is of the cell, or a migration to it.
@@ -40,21 +40,21 @@ fn is_about(action: Action, leaf: LeafId, node: NodeId) -> bool
 impl InFlight {
     /// Nothing has begun. Where the memory isn't there, the graph is handed back.
     pub(crate) fn new(alloc: Global, graph: Graph) -> Result<InFlight, Graph>
-        ensures ok { IfOk result (λ f. f ≡ record { progress = none_begun graph; flying = replicate (length graph.actions) false }) }
+        ensures ok { IfOk result (λ f. f ≡ record { progress = none_begun graph; in_flight = replicate (length graph.actions) false }) }
         ensures err { IfErr result (λ g. g ≡ graph) }
     {
-        let Ok(flying) = NumberSet::new(alloc, graph.count()) else {
+        let Ok(in_flight) = NumberSet::new(alloc, graph.count()) else {
             return Err(graph);
         };
         let waiting = Waiting::new(alloc, graph)?;
-        Ok(InFlight { waiting, flying })
+        Ok(InFlight { waiting, in_flight })
     }
 
     /// How many actions are in flight.
     pub fn count(&self) -> u32
         ensures { result ≡ length (pairs_in_flight self.now) }
     {
-        self.flying.count()
+        self.in_flight.count()
     }
 
     /// The action in flight at this place in the order of their numbers, from 0, with its number.
@@ -62,7 +62,7 @@ impl InFlight {
         requires { place < length (pairs_in_flight self.now) }
         ensures { slice_get (pairs_in_flight self.now) place ≡ Some result }
     {
-        let number = self.flying.nth(place);
+        let number = self.in_flight.nth(place);
         (number, self.waiting.graph().action(number))
     }
 
@@ -70,13 +70,13 @@ impl InFlight {
     pub fn contains(&self, number: u32) -> bool
         ensures { result ≡ list_any (is_number_of number) (pairs_in_flight self.now) }
     {
-        if number > self.flying.most() {
+        if number > self.in_flight.most() {
             return false;
         }
         if number == 0 {
             return false;
         }
-        self.flying.contains(number)
+        self.in_flight.contains(number)
     }
 
     /// Whether something of the cell is in flight, or a migration to it.
@@ -114,7 +114,7 @@ impl InFlight {
         ensures { self.new ≡ with_begun self.old number }
     {
         self.waiting.begin(number);
-        self.flying.insert(number);
+        self.in_flight.insert(number);
     }
 
     /// The action ends, with success or without. It has begun and hasn't succeeded.
@@ -125,7 +125,7 @@ impl InFlight {
         requires not_yet { is_member self.old.progress.succeeded number ≡ false }
         ensures { self.new ≡ with_ended self.old number success }
     {
-        self.flying.remove(number);
+        self.in_flight.remove(number);
         if success {
             self.waiting.succeed(number);
         }

@@ -14,6 +14,8 @@ ghost use Rattle.faults.specs.Reading.{Gives, faulting};
 ghost use Rattle.input_reading.specs.declared.input.cause.InputCause.TheVariants as cause;
 ghost use Rattle.input_reading.specs.Reading.{AreStated, configuration_of, head_of, input_of, input_with, line_behind, most_bytes, nothing_yet, start_of, status_and_results, with_cluster, with_results};
 ghost use Rattle.input_reading.specs.Sections.{sections_by};
+ghost use Rattle.input_reading.specs.Grammar.LinesSaid.{AsLinesSay};
+ghost use Rattle.input_reading.specs.Grammar.TextsSaid.{InputIsSaid, IsInputRefused, IsStartRefused, StartIsSaid};
 
 use crate::input::cause::InputCause;
 use crate::input::fault::InputFault;
@@ -178,7 +180,7 @@ pub(crate) fn head_of(
 }
 
 /// An input whose configuration says this cluster, with these lines of the status and these result lines.
-#[tactic(auto, using(crate::proofs::Told::input_told))]
+#[tactic(auto, using(crate::proofs::ToldInput::input_told))]
 fn input_with(
     alloc: Global,
     crm: Crm,
@@ -269,6 +271,7 @@ fn start_of(alloc: Global, text: Vec<u8>) -> Result<Head, InputFault>
 pub fn read_start(alloc: Global, text: Vec<u8>) -> Result<Head, InputFault>
     requires { length text.items ≤ most_bytes }
     ensures read { Gives (λ head. head) result (start_of text.items) }
+    ensures said { AsLinesSay (StartIsSaid text.items) (IsStartRefused text.items) result }
     ensures valid { IfOk result (λ head. IsValid head.cluster) }
     ensures at_rest { IfOk result (λ head. IsAtRest head.journal.events) }
     ensures moment { IfOk result (λ head. moment_of head.journal.events < 2 ^ 40) }
@@ -295,11 +298,15 @@ fn input_of(alloc: Global, text: Vec<u8>) -> Result<Input, InputFault>
 /// status and the result lines. A fault is that of the first step that fails, at the lowest line that is at fault in it, with the cause
 /// that the reader of that step gives. `NoMemory` comes when memory runs out. The text goes back to memory after the first step.
 ///
+/// The lines of the status and the result lines say what is read, each its part, by one of the forms in `specs/Grammar`. When one of them is at
+/// fault, those before it do, and none of the forms has its words, unless it is `Repeated` or behind too many results.
+///
 /// What is read is valid: the cluster is, and the first journal is in order, has nothing in flight and a moment below 2^40 seconds. There are at
 /// most 10,000 result lines.
 pub fn read_input(alloc: Global, text: Vec<u8>) -> Result<Input, InputFault>
     requires { length text.items ≤ most_bytes }
     ensures read { Gives (λ input. input) result (input_of text.items) }
+    ensures said { AsLinesSay (InputIsSaid text.items) (IsInputRefused text.items) result }
     ensures valid { IfOk result (λ input. IsValid input.head.cluster) }
     ensures orderly { IfOk result (λ input. Orderly input.head.journal.events) }
     ensures idle { IfOk result (λ input. in_flight_by_begin input.head.journal.events ≡ []) }

@@ -9,6 +9,8 @@ ghost use Rattle.input_reading.specs.declared.input.cause.InputCause.TheVariants
 ghost use Rattle.input_reading.specs.Reading.{line_behind, most_bytes, with_cluster};
 ghost use Rattle.input_reading.specs.Traces.{trace_of, with_run};
 ghost use Rattle.input_reading.specs.RunReading.{read_run_lines};
+ghost use Rattle.input_reading.specs.Grammar.LinesSaid.{AsLinesSay};
+ghost use Rattle.input_reading.specs.Grammar.TextsSaid.{IsTraceLineRefused, TraceIsSaid};
 ghost use Rattle.input_reading.specs.Written.{AreNamed};
 
 use crate::input::cause::InputCause;
@@ -102,10 +104,12 @@ fn trace_of(alloc: Global, text: Vec<u8>) -> Result<Trace, InputFault>
 /// Reads a whole input with a trace, of at most 16,777,216 bytes.
 ///
 /// It is read as `read_input` reads one with results, and the lines of its trace as those of a run, the last step. So their faults come behind
-/// all others. What is read is valid in the same way, and each rule that the run says to hold a leaf back has a name.
+/// all others. The lines of its status and of its run say what is read, each its part, or none of the forms in `specs/Grammar` has the words of the
+/// line at fault. What is read is valid in the same way, and each rule that the run says to hold a leaf back has a name.
 pub fn read_trace(alloc: Global, text: Vec<u8>) -> Result<Trace, InputFault>
     requires { length text.items ≤ most_bytes }
     ensures read { Gives (λ trace. trace) result (trace_of text.items) }
+    ensures said { AsLinesSay (TraceIsSaid text.items) (IsTraceLineRefused text.items) result }
     ensures valid { IfOk result (λ trace. IsValid trace.head.cluster) }
     ensures at_rest { IfOk result (λ trace. IsAtRest trace.head.journal.events) }
     ensures moment { IfOk result (λ trace. moment_of trace.head.journal.events < 2 ^ 40) }

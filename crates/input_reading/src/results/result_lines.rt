@@ -7,6 +7,7 @@ ghost use Rattle.cluster_types.specs.Journals as journals;
 ghost use Rattle.faults.specs.declared.fault.Fault.TheVariants as found;
 ghost use Rattle.faults.specs.Reading.{Gives};
 ghost use Rattle.input_reading.specs.Results.{most_results, result_of, results_of};
+ghost use Rattle.input_reading.specs.Grammar.LinesSaid.{AreResultsRefused, AsLinesSay, IsResultAnswer, IsNoAnswerOn, ResultsAreSaid};
 
 use crate::results::answers::answer_of;
 use crate::{ResultCause, ResultFault, Words};
@@ -50,7 +51,7 @@ fn result_of<W: Words>(
         Ok(answer) => Ok(answer),
         Err(cause) => Err(ResultFault::At {
             line,
-            cause: cause.into(),
+            cause: ResultCause::Form(cause),
         }),
     }
 }
@@ -74,6 +75,8 @@ pub fn read_result(
     requires moment { moment < 2 ^ 40 }
     ensures answer { result ≡ result_of names.now moment before line words.now.first }
     ensures whole { (all : List (List ℕ)) → words.now ≡ kept all → result ≡ result_of names.now moment before line all }
+    ensures said { (all : List (List ℕ)) → words.now ≡ kept all
+        → AsLinesSay (IsResultAnswer names.now moment before all) (IsNoAnswerOn names.now moment before line all) result }
     ensures few { IfOk result (λ _. before < most_results) }
     ensures within { IfOk result (λ answer. moment + seconds_in answer < 2 ^ 40) }
     ensures no_memory { IfErr result (λ fault. fault ≢ found.NoMemory) }
@@ -81,10 +84,8 @@ pub fn read_result(
     result_of(names, moment, before as usize, line, words)
 }
 
-/// Reads result lines, of which the first is taken at the moment of the journal. Each line is read as by `read_result`, after the lines before
-/// it and their waits. The fault is that of the first faulty line; `NoMemory` comes when memory runs out. It asks for a
-/// journal with a moment below 2^40.
-pub fn read_results(
+/// All lines, one after the other.
+fn results_of(
     alloc: Global,
     names: &Names<'_>,
     journal: &Journal,
@@ -104,4 +105,22 @@ pub fn read_results(
         moment += answer.seconds();
     }
     Ok(results)
+}
+
+/// Reads result lines, of which the first is taken at the moment of the journal. Each line is read as by `read_result`, after the lines before
+/// it and their waits. The fault is that of the first faulty line; `NoMemory` comes when memory runs out. Each line that is read says its
+/// answer, by one of the forms in `specs/Grammar`; no form has the words of the line at fault, unless it is behind 10,000 others. It asks for a
+/// journal with a moment below 2^40.
+pub fn read_results(
+    alloc: Global,
+    names: &Names<'_>,
+    journal: &Journal,
+    lines: &[Line],
+) -> Result<Vec<ResultLine>, ResultFault>
+    requires moment { journals.moment_of journal.now.events < 2 ^ 40 }
+    ensures read { Gives (λ results. results.items) result (results_of names.now (journals.moment_of journal.now.events) lines.now) }
+    ensures said { AsLinesSay (λ results. ResultsAreSaid names.now (journals.moment_of journal.now.events) lines.now results.items)
+        (AreResultsRefused names.now (journals.moment_of journal.now.events) lines.now) result }
+{
+    results_of(alloc, names, journal, lines)
 }

@@ -4,6 +4,7 @@ ghost use Rattle.std.specs.Prelude.{◌≡◌, IfOk};
 ghost use Rattle.faults.specs.Reading.{Gives};
 ghost use Rattle.input_reading.specs.RunReading.{read_run_lines, text_line};
 ghost use Rattle.input_reading.specs.Inner.Said.{said_of};
+ghost use Rattle.input_reading.specs.Grammar.LinesSaid.{AsLinesSay, IsRunRefused, RunIsSaid};
 ghost use Rattle.input_reading.specs.Written.{AreNamed};
 
 use crate::run::line::{Said, line_of_words};
@@ -46,6 +47,20 @@ fn text_line(alloc: Global, names: &Names<'_>, line: &Line) -> Result<RunTextLin
     }
 }
 
+/// All lines, one after the other.
+fn run_lines(alloc: Global, names: &Names<'_>, lines: &[Line]) -> Result<RunText, TraceFault>
+    ensures lines { Gives (λ text. text.lines) result (read_run_lines names.now lines.now) }
+    ensures named { IfOk result (λ text. AreNamed text.lines) }
+{
+    let mut read = Vec::new(alloc);
+    for line in lines {
+        read.push(text_line(alloc, names, line)?)?;
+    }
+    Ok(RunText {
+        lines: Listed::from(read),
+    })
+}
+
 /// Reads the lines of a run as `write_line` writes them.
 ///
 /// The lines are `transition K`, `pinned LEAF unmanaged` or `blocked`, `target LEAF NODE started` or `promoted`, `none
@@ -58,16 +73,12 @@ fn text_line(alloc: Global, names: &Names<'_>, line: &Line) -> Result<RunTextLin
 /// The fault is that of the first faulty line, and there of its leftmost faulty word: `UnknownStatement` at a first
 /// word that begins no such line, `MissingWord` where the line ends too early, `ExtraWord` past its end, `UnknownName`
 /// at a NODE or LEAF that the cluster doesn't have, and `BadValue` at any other word that isn't one of its place.
-/// `NoMemory` comes when memory runs out. Rule of this project.
+/// `NoMemory` comes when memory runs out. Each line that is read says what is read, by one of the forms in `specs/Grammar`, and no form has the
+/// words of the line at fault. Rule of this project.
 pub fn read_run(alloc: Global, names: &Names<'_>, lines: &[Line]) -> Result<RunText, TraceFault>
     ensures lines { Gives (λ text. text.lines) result (read_run_lines names.now lines.now) }
     ensures named { IfOk result (λ text. AreNamed text.lines) }
+    ensures said { AsLinesSay (λ text. RunIsSaid names.now lines.now text.lines) (IsRunRefused names.now lines.now) result }
 {
-    let mut read = Vec::new(alloc);
-    for line in lines {
-        read.push(text_line(alloc, names, line)?)?;
-    }
-    Ok(RunText {
-        lines: Listed::from(read),
-    })
+    run_lines(alloc, names, lines)
 }

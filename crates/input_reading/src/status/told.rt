@@ -4,15 +4,17 @@ use cluster_types::{Event, NodeId, Promotion};
 
 /// What a status says of a node.
 #[derive(Clone, Copy)]
-pub(crate) enum NodeWord {
+pub enum NodeWord {
     Online,
+    /// It left in order.
     Offline,
+    /// It is lost, and not known to be down.
     Unclean,
 }
 
 /// What one line of a status tells.
 #[derive(Clone, Copy)]
-pub(crate) enum Told {
+pub enum Told {
     /// The moment, in seconds.
     Now(u64),
     /// Whether the cluster has quorum.

@@ -6,6 +6,7 @@ ghost use Rattle.cluster_types.specs.declared.journal.Promotion.{Promotion as Pr
 ghost use Rattle.cluster_types.specs.Journals.{Orderly, in_flight_by_begin, moment_of};
 ghost use Rattle.faults.specs.Reading.{Gives};
 ghost use Rattle.input_reading.specs.FirstJournal.{all_differ, is_known, is_repeated, is_promotion_of_same_cell, journal_of, status_journal, with_status_line, with_status_lines};
+ghost use Rattle.input_reading.specs.Grammar.LinesSaid.{AsLinesSay, IsStatusRefused, StatusIsSaid};
 
 use crate::status::first_journal::journal_of;
 use crate::status::status_lines::told_of;
@@ -32,7 +33,7 @@ fn told_on(names: &Names<'_>, told: &ToldLines, line: &Line) -> Result<Told, Sta
         Ok(one) => Ok(one),
         Err(cause) => Err(StatusFault::At {
             line: line.line,
-            cause: cause.into(),
+            cause: StatusCause::Form(cause),
         }),
     }
 }
@@ -77,6 +78,18 @@ fn told_journal(alloc: Global, names: &Names<'_>, told: &[Told]) -> Result<Journ
     Ok(journal_of(alloc, names, told)?)
 }
 
+/// All lines, one after the other, and then the journal.
+fn status_journal(alloc: Global, names: &Names<'_>, lines: &[Line]) -> Result<Journal, StatusFault>
+    ensures read { Gives (λ journal. journal) result (status_journal names.now lines.now) }
+    ensures orderly { IfOk result (λ journal. Orderly journal.events) }
+    ensures idle { IfOk result (λ journal. in_flight_by_begin journal.events ≡ []) }
+    ensures moment { IfOk result (λ journal. moment_of journal.events < 2 ^ 40) }
+    ensures once { IfOk result (λ journal. AllPairs (λ (one other : PromotionOf). is_promotion_of_same_cell one other ≡ false) journal.promotions) }
+{
+    let told = with_lines(alloc, names, lines)?;
+    told_journal(alloc, names, told.as_slice())
+}
+
 /// Reads the status of a cluster as its first journal (Pacemaker Explained, operation history; the lines are a rule of this project).
 ///
 /// The lines are those between `%status` and the next section. Each is `now SECONDS`, `quorum yes` or `quorum no`, `node NODE` and `online`,
@@ -91,13 +104,16 @@ fn told_journal(alloc: Global, names: &Names<'_>, told: &[Told]) -> Result<Journ
 /// `MissingWord` where the line ends too early, `ExtraWord` past its end, `UnknownName` at a NODE or LEAF that the cluster doesn't have, and
 /// `BadValue` at any other word that isn't one of its place. `Repeated` comes where all words of a line are read, and a line before it said the
 /// moment, quorum, the state of this node or the score of this cell. `NoMemory` comes when memory runs out.
+///
+/// Of what is read each line says its fact, by one of the forms in `specs/Grammar`. Of what is refused each line before the one at fault does, and
+/// no form has the words of that one, unless it is `Repeated`.
 pub fn read_status(alloc: Global, names: &Names<'_>, lines: &[Line]) -> Result<Journal, StatusFault>
     ensures read { Gives (λ journal. journal) result (status_journal names.now lines.now) }
     ensures orderly { IfOk result (λ journal. Orderly journal.events) }
     ensures idle { IfOk result (λ journal. in_flight_by_begin journal.events ≡ []) }
     ensures moment { IfOk result (λ journal. moment_of journal.events < 2 ^ 40) }
     ensures once { IfOk result (λ journal. AllPairs (λ (one other : PromotionOf). is_promotion_of_same_cell one other ≡ false) journal.promotions) }
+    ensures said { AsLinesSay (StatusIsSaid names.now lines.now) (IsStatusRefused names.now lines.now) result }
 {
-    let told = with_lines(alloc, names, lines)?;
-    told_journal(alloc, names, told.as_slice())
+    status_journal(alloc, names, lines)
 }

@@ -6,7 +6,7 @@ use Rattle.cluster_io.proofs.Pieces.{Takes-then}
 use Rattle.cluster_types.specs.declared.cluster.Cluster.{Cluster}
 use Rattle.crm_lex.specs.RawLines.{raw_lines}
 use Rattle.live_run.specs.Coming.{Coming, Lines}
-use Rattle.live_run.specs.Followed.{AreNear, EndsInOne, HasLast, HasRead, IsStoppedBy, StandFirst, bytes_of, count_said, results_first, said_by}
+use Rattle.live_run.specs.Followed.{AreNear, EndsInOne, LastLineSays, HasRead, IsStoppedBy, StandFirst, bytes_of, count_said, results_first, said_by}
 use Rattle.live_run.specs.Inner.ReadSteps.{HasPassed, ReadUntil}
 use Rattle.live_run.specs.declared.came.Came.{Came}
 use Rattle.live_run.specs.declared.came.Came.TheVariants as came
@@ -87,7 +87,7 @@ module _ (c : Cluster) where
         let sum = length-append (bytes_of xs) (bytes_of ys) in
         inr (omega (arith, size, lines, sum, first))
 
-    pub last_then : (ys : List (List (List ℕ))) → HasLast c b ys → HasLast c a (xs ++ ys)
+    pub last_then : (ys : List (List (List ℕ))) → LastLineSays c b ys → LastLineSays c a (xs ++ ys)
     last_then ys l =
         let front = ap count_said (r.answered l.front) ∙ count_first given (said_by c b l.front) in
         let whole = ap count_said (r.answered ys) ∙ count_first given (said_by c b ys) in

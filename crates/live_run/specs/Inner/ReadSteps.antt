@@ -6,7 +6,7 @@ use Rattle.input_reading.specs.declared.results.result_lines.ResultLine.{ResultL
 use Rattle.live_run.specs.Coming.{Lines}
 use Rattle.live_run.specs.declared.came.Came.{Came}
 use Rattle.live_run.specs.declared.came.Came.TheVariants as came
-use Rattle.live_run.specs.Followed.{HasLast, HasRead, AreNear, AllIsRead, IsStoppedBy}
+use Rattle.live_run.specs.Followed.{LastLineSays, HasRead, AreNear, AllIsRead, IsStoppedBy}
 
 -- lines without words were passed over
 pub record HasPassed (c : Cluster) (old new : Lines) (before after : Option (List ℕ)) : Type 0 where
@@ -21,7 +21,7 @@ pub record HasGiven (c : Cluster) (old new : Lines) (before after : Option (List
   pub bytes : List ℕ
   pub read : HasRead c old new before after lines (result ∷ []) bytes
   pub near : AreNear old lines bytes
-  pub ends : HasLast c old lines
+  pub ends : LastLineSays c old lines
 
 -- the end came
 pub record HasReachedEnd (c : Cluster) (old new : Lines) (before after : Option (List ℕ)) : Type 0 where

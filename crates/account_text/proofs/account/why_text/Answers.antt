@@ -10,8 +10,8 @@ use Rattle.cluster_types.specs.Unpacked.{states_of}
 use Rattle.decision_account.specs.Accounts.{account_lines, why_text}
 use Rattle.placement.specs.Steps.{Tell}
 use Rattle.placement.specs.Scores.{scores_of}
-use Rattle.account_text.specs.Accounted.{decisions_made}
-use Rattle.account_text.specs.HeldTexts.{leaf_text}
+use Rattle.account_text.specs.Inner.Accounted.{decisions_made}
+use Rattle.account_text.specs.Inner.HeldTexts.{leaf_text}
 use Rattle.account_text.proofs.DecidedLeaves.{decided_below}
 use Rattle.account_text.proofs.WholeTexts.{decisions_back, whole_text}
 use Rattle.account_text.proofs.account.why_text.Goals as goal

@@ -1,6 +1,6 @@
 use Rattle.std.proofs.Common.{◌≡◌, None, take}
 use Rattle.cluster_types.specs.Tables.{targets_of}
-use Rattle.account_text.specs.Sides as spec
+use Rattle.account_text.specs.Inner.Sides as spec
 use Rattle.account_text.proofs.sides.first_joined.Given as goal
 
 abbrev pub invariant-loop-rule : goal.invariant-loop-rule

@@ -1,5 +1,5 @@
 use Rattle.std.proofs.Common.{take}
-use Rattle.account_text.specs.Sides.{AreColocationsOf}
+use Rattle.account_text.specs.Inner.Sides.{AreColocationsOf}
 use Rattle.account_text.proofs.sides.sides_of.Given as goal
 
 abbrev pub invariant-loop-rule : goal.invariant-loop-rule

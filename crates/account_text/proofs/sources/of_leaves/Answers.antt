@@ -1,5 +1,5 @@
 use Rattle.std.proofs.Common.{rules, ◌≡◌, ◌++◌, ◌∷◌, []}
-use Rattle.account_text.specs.Sources.{IsSourceOf}
+use Rattle.account_text.specs.Inner.Sources.{IsSourceOf}
 use Rattle.account_text.proofs.SourceRows.{each_source}
 use Rattle.account_text.proofs.sources.of_leaves.Goals as goal
 

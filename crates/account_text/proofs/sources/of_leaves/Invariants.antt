@@ -1,6 +1,6 @@
 use Rattle.std.proofs.Common.{◌≡◌, ◌≤◌, ℕ, Some, length, slice_get, vec_capacity}
 use Rattle.account_text.specs.declared.leaf_sources.LeafSources.{LeafSources}
-use Rattle.account_text.specs.Sources.{IsSourceOf}
+use Rattle.account_text.specs.Inner.Sources.{IsSourceOf}
 use Rattle.account_text.proofs.sources.of_leaves.Given as goal
 
 abbrev pub invariant-loop-leaf : goal.invariant-loop-leaf

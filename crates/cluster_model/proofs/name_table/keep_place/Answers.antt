@@ -1,5 +1,5 @@
 use Rattle.std.proofs.Common.{rules, ◌≡◌, None}
-use Rattle.cluster_model.specs.TableRows.{place_found}
+use Rattle.cluster_model.specs.Inner.TableRows.{place_found}
 use Rattle.cluster_model.proofs.TableRows.{kept}
 use Rattle.cluster_model.proofs.name_table.keep_place.Goals as goal
 

@@ -1,5 +1,5 @@
 use Rattle.std.proofs.Common.{◌≡◌, ◌++◌, drop}
-use Rattle.cluster_model.specs.Clones.{cloned_by}
+use Rattle.cluster_model.specs.Inner.Clones.{cloned_by}
 use Rattle.cluster_model.proofs.expansion.clones.cloned_by.Given as goal
 
 abbrev pub invariant-loop-statement : goal.invariant-loop-statement

@@ -1,5 +1,5 @@
 use Rattle.std.proofs.Common.{◌≡◌, ◌++◌, drop}
-use Rattle.cluster_model.specs.Groups.{grouped_by}
+use Rattle.cluster_model.specs.Inner.Groups.{grouped_by}
 use Rattle.cluster_model.proofs.expansion.groups.grouped_by.Given as goal
 
 abbrev pub invariant-loop-statement : goal.invariant-loop-statement

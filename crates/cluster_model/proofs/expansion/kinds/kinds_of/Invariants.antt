@@ -1,5 +1,5 @@
 use Rattle.std.proofs.Common.{◌≡◌, ◌++◌, drop}
-use Rattle.cluster_model.specs.Faults.{kinds_of}
+use Rattle.cluster_model.specs.Inner.Faults.{kinds_of}
 use Rattle.cluster_model.proofs.expansion.kinds.kinds_of.Given as goal
 
 abbrev pub invariant-loop-statement : goal.invariant-loop-statement

@@ -1,5 +1,5 @@
 use Rattle.std.proofs.Common.{◌≡◌, take}
-use Rattle.cluster_model.specs.Leaves.{leaves_in}
+use Rattle.cluster_model.specs.Inner.Leaves.{leaves_in}
 use Rattle.cluster_model.proofs.expansion.leaf.leaves_in.Given as goal
 
 abbrev pub invariant-loop-statement : goal.invariant-loop-statement

@@ -1,5 +1,5 @@
 use Rattle.std.proofs.Common.{◌≡◌, drop}
-use Rattle.cluster_model.specs.Faults.{first_expand_fault}
+use Rattle.cluster_model.specs.Inner.Faults.{first_expand_fault}
 use Rattle.cluster_model.proofs.expansion.leaf_checks.first_fault.Given as goal
 
 abbrev pub invariant-loop-statement : goal.invariant-loop-statement

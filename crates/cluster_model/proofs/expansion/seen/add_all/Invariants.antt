@@ -1,5 +1,5 @@
 use Rattle.std.proofs.Common.{◌++◌, take}
-use Rattle.cluster_model.specs.Faults.{HaveTheSame}
+use Rattle.cluster_model.specs.Inner.Faults.{HaveTheSame}
 use Rattle.cluster_model.proofs.expansion.seen.add_all.Given as goal
 
 abbrev pub invariant-loop-name : goal.invariant-loop-name

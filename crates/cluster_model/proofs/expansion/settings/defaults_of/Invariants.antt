@@ -1,5 +1,5 @@
 use Rattle.std.proofs.Common.{◌≡◌, drop}
-use Rattle.cluster_model.specs.Settings.{defaults_from, defaults_of}
+use Rattle.cluster_model.specs.Inner.Settings.{defaults_from, defaults_of}
 use Rattle.cluster_model.proofs.expansion.settings.defaults_of.Given as goal
 
 abbrev pub invariant-loop-statement : goal.invariant-loop-statement

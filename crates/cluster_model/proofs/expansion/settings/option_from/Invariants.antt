@@ -1,5 +1,5 @@
 use Rattle.std.proofs.Common.{◌≡◌, drop, None}
-use Rattle.cluster_model.specs.Settings.{option_from}
+use Rattle.cluster_model.specs.Inner.Settings.{option_from}
 use Rattle.cluster_model.proofs.expansion.settings.option_from.Given as goal
 
 abbrev pub invariant-loop-statement : goal.invariant-loop-statement

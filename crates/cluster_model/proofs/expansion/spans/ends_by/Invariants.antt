@@ -1,5 +1,5 @@
 use Rattle.std.proofs.Common.{◌≡◌, ◌++◌, drop}
-use Rattle.cluster_model.specs.Spans.{ends_by}
+use Rattle.cluster_model.specs.Inner.Spans.{ends_by}
 use Rattle.cluster_model.proofs.expansion.spans.ends_by.Given as goal
 
 abbrev pub invariant-loop-statement : goal.invariant-loop-statement

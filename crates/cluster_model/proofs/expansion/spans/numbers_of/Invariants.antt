@@ -1,5 +1,5 @@
 use Rattle.std.proofs.Common.{◌≡◌, ◌++◌, drop}
-use Rattle.cluster_model.specs.Spans.{numbers_from, numbers_of}
+use Rattle.cluster_model.specs.Inner.Spans.{numbers_from, numbers_of}
 use Rattle.cluster_model.proofs.expansion.spans.numbers_of.Given as goal
 
 abbrev pub invariant-loop-leaf : goal.invariant-loop-leaf

@@ -1,5 +1,5 @@
 use Rattle.std.proofs.Common.{◌≡◌, take}
-use Rattle.cluster_model.specs.Spans.{spans_in}
+use Rattle.cluster_model.specs.Inner.Spans.{spans_in}
 use Rattle.cluster_model.proofs.expansion.spans.spans_in.Given as goal
 
 abbrev pub invariant-loop-statement : goal.invariant-loop-statement

@@ -1,7 +1,7 @@
 use Rattle.std.proofs.Common.{◌≡◌, [], drop}
 use Rattle.cluster_model.specs.FirstFaults.{first_fault}
-use Rattle.cluster_model.specs.Resolution.{own_cause}
-use Rattle.cluster_model.specs.Search.{sound_count}
+use Rattle.cluster_model.specs.Inner.Resolution.{own_cause}
+use Rattle.cluster_model.specs.Inner.Search.{sound_count}
 use Rattle.cluster_model.proofs.Passes.{fault_after}
 use Rattle.cluster_model.proofs.resolution.checks.first_fault.Given as goal
 

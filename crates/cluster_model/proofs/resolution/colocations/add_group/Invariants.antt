@@ -1,6 +1,6 @@
 use Rattle.std.proofs.Common.{◌≡◌, drop, map, ◌++◌}
 use Rattle.cluster_model.specs.Chains.{pairs_after, successive}
-use Rattle.cluster_model.specs.Colocations.{member_colocation}
+use Rattle.cluster_model.specs.Inner.Colocations.{member_colocation}
 use Rattle.cluster_model.proofs.resolution.colocations.add_group.Given as goal
 
 abbrev pub invariant-loop-member : goal.invariant-loop-member

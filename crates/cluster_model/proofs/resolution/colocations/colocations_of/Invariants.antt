@@ -1,5 +1,5 @@
 use Rattle.std.proofs.Common.{◌≡◌, take}
-use Rattle.cluster_model.specs.Colocations.{colocations_of}
+use Rattle.cluster_model.specs.Inner.Colocations.{colocations_of}
 use Rattle.cluster_model.proofs.resolution.colocations.colocations_of.Given as goal
 
 abbrev pub invariant-loop-statement : goal.invariant-loop-statement

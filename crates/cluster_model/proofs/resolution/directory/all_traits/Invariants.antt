@@ -1,5 +1,5 @@
 use Rattle.std.proofs.Common.{◌≡◌, take, map}
-use Rattle.cluster_model.specs.Directories.{traits_of}
+use Rattle.cluster_model.specs.Inner.Directories.{traits_of}
 use Rattle.cluster_model.proofs.resolution.directory.all_traits.Given as goal
 
 abbrev pub invariant-loop-leaf : goal.invariant-loop-leaf

@@ -1,6 +1,6 @@
 use Rattle.std.proofs.Common.{rules, ◌≡◌, ◌+◌, ◌++◌, ◌∷◌, ℕ, List, drop, map, refl, sym, ap, ◌∙◌}
 use Rattle.std.proofs.lemmas.List.{append_assoc, drop_more}
-use Rattle.cluster_model.specs.Directories.{grouped_from, members_in}
+use Rattle.cluster_model.specs.Inner.Directories.{grouped_from, members_in}
 use Rattle.cluster_model.proofs.resolution.directory.groups_of.Goals as goal
 
 pub loop-statement-preserved : goal.loop-statement-preserved
@@ -13,7 +13,10 @@ loop-statement-preserved c =
     let front : drop l.statement-index statements ≡ s ∷ rest
     = drop_more statements l.statement-index s c.loop-statement-test.true ∙ ap (λ first. first ∷ rest) (sym c.statement-item.is) in
     let added : c.add_members.new.groups ≡ l.groups ++ members = search rules in
-    let next : c.in_ok-number.number ≡ l.number + 1 = search rules in
-    l.invariant
-    ∙ (ap (λ more. l.groups ++ grouped_from l.number more) front
-    ∙ (sym (append_assoc l.groups members (grouped_from (l.number + 1) rest)) ∙ rw (added, next) refl))
+    record {
+      all =
+          l.invariant.all
+          ∙ (ap (λ more. l.groups ++ grouped_from l.number more) front
+          ∙ (sym (append_assoc l.groups members (grouped_from (l.number + 1) rest)) ∙ rw added refl));
+      so_many = ap (λ n. n + 1) l.invariant.so_many;
+    }

@@ -1,7 +1,7 @@
 use Rattle.std.proofs.Common.{◌≡◌, ◌++◌, drop}
 use Rattle.std.specs.List.{flat_map}
 use Rattle.cluster_model.specs.Settings.{nodes_in}
-use Rattle.cluster_model.specs.Directories.{nodes_of, numbered_from}
+use Rattle.cluster_model.specs.Inner.Directories.{nodes_of, numbered_from}
 use Rattle.cluster_model.proofs.resolution.directory.nodes_of.Given as goal
 
 abbrev pub invariant-loop-statement : goal.invariant-loop-statement

@@ -1,5 +1,5 @@
 use Rattle.std.proofs.Common.{◌≡◌, ◌++◌, drop, map}
-use Rattle.cluster_model.specs.Directories.{span_ends, resources_of}
+use Rattle.cluster_model.specs.Inner.Directories.{span_ends, resources_of}
 use Rattle.cluster_model.proofs.resolution.directory.resources_of.Given as goal
 
 abbrev pub invariant-loop-span : goal.invariant-loop-span

@@ -1,5 +1,5 @@
 use Rattle.std.proofs.Common.{◌≡◌, take, map, ◌++◌}
-use Rattle.cluster_model.specs.Locations.{rule_location_of}
+use Rattle.cluster_model.specs.Inner.Locations.{rule_location_of}
 use Rattle.cluster_model.proofs.resolution.locations.add_rules.Given as goal
 
 abbrev pub invariant-loop-rule : goal.invariant-loop-rule

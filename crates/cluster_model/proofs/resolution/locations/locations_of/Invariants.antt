@@ -1,5 +1,5 @@
 use Rattle.std.proofs.Common.{◌≡◌, take}
-use Rattle.cluster_model.specs.Locations.{locations_of}
+use Rattle.cluster_model.specs.Inner.Locations.{locations_of}
 use Rattle.cluster_model.proofs.resolution.locations.locations_of.Given as goal
 
 abbrev pub invariant-loop-statement : goal.invariant-loop-statement

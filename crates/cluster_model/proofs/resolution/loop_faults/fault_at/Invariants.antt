@@ -1,6 +1,6 @@
 use Rattle.std.proofs.Common.{◌≡◌, [], drop}
 use Rattle.cluster_model.specs.FirstFaults.{first_fault}
-use Rattle.cluster_model.specs.Search.{closing_cause}
+use Rattle.cluster_model.specs.Inner.Search.{closing_cause}
 use Rattle.cluster_model.proofs.Closing.{fault_from}
 use Rattle.cluster_model.proofs.resolution.loop_faults.fault_at.Given as goal
 

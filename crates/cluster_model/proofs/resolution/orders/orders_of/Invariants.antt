@@ -1,5 +1,5 @@
 use Rattle.std.proofs.Common.{◌≡◌, take}
-use Rattle.cluster_model.specs.Orders.{orders_of}
+use Rattle.cluster_model.specs.Inner.Orders.{orders_of}
 use Rattle.cluster_model.proofs.resolution.orders.orders_of.Given as goal
 
 abbrev pub invariant-loop-statement : goal.invariant-loop-statement

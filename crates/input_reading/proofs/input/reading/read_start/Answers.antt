@@ -1,3 +1,4 @@
+use Rattle.input_reading.proofs.TextsSaid.{start-given}
 use Rattle.input_reading.proofs.ValidHead.{at_rest_given, valid_given}
 use Rattle.input_reading.proofs.input.reading.read_start.Goals as goal
 
@@ -6,3 +7,6 @@ returns-clause-valid c = valid_given c.args.text.items c.start_of.result c.start
 
 pub returns-clause-at_rest : goal.returns-clause-at_rest
 returns-clause-at_rest c = at_rest_given c.args.text.items c.start_of.result c.start_of.ensures.head
+
+pub returns-clause-said : goal.returns-clause-said
+returns-clause-said c = start-given c.args.text.items c.start_of.result c.start_of.ensures.head

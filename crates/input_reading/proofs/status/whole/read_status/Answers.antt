@@ -1,4 +1,5 @@
+use Rattle.input_reading.proofs.StatusSaid.{status-given}
 use Rattle.input_reading.proofs.status.whole.read_status.Goals as goal
 
-pub returns-clause-read : goal.returns-clause-read
-returns-clause-read c = rw c.in_ok-told.ensures.read (rw c.as_slice.ensures at c.told_journal.ensures.read)
+pub returns-clause-said : goal.returns-clause-said
+returns-clause-said c = status-given c.args.names.now c.args.lines.now c.status_journal.result c.status_journal.ensures.read

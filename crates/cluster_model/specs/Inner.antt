@@ -1,0 +1,19 @@
+-- What no public clause rests on: what the code of this crate keeps of a configuration, and makes of it on the way, for its proofs alone.
+pub mod Checks
+pub mod Clones
+pub mod Colocations
+pub mod Counting
+pub mod Directories
+pub mod Expansion
+pub mod Faults
+pub mod Groups
+pub mod Leaves
+pub mod Locations
+pub mod Metas
+pub mod Orders
+pub mod Resolution
+pub mod Search
+pub mod Settings
+pub mod Spans
+pub mod TableRows
+pub mod Tables

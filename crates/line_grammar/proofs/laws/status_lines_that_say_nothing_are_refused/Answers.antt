@@ -1,8 +1,0 @@
-use Rattle.line_grammar.proofs.StatusIsRead.{no-fact, no-fact-said}
-use Rattle.line_grammar.proofs.laws.status_lines_that_say_nothing_are_refused.Goals as goal
-
-pub returns-clause-refused : goal.returns-clause-refused
-returns-clause-refused g = no-fact
-
-pub returns-clause-nothing : goal.returns-clause-nothing
-returns-clause-nothing g = no-fact-said

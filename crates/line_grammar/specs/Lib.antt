@@ -1,4 +1,0 @@
-pub mod WordValues
-pub mod ResultForms
-pub mod RunForms
-pub mod StatusForms
