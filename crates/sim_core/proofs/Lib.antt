@@ -10,6 +10,8 @@ pub mod SameComing
 pub mod LiveSays
 pub mod Promised
 pub mod SafeTexts
+pub mod Tallied
+pub mod OneSummary
 pub mod Comments
 pub mod ReadsAgain
 -- An audit.

@@ -1,5 +1,5 @@
 -- The parts of the promise of the word `replay`, joined.
-use Rattle.std.proofs.Common.{◌≡◌, ◌⊎◌, inl, inr, ℕ, IfSome, Option, Some, None, List, [], ◌++◌, length, take, is_none, append-nil, refl, sym, ap, subst, ◌∙◌, arith}
+use Rattle.std.proofs.Common.{◌≡◌, inl, inr, ℕ, IfSome, Option, Some, List, [], ◌++◌, length, take, is_none, append-nil, refl, sym, subst, arith}
 use Rattle.std.proofs.Math.Seq.{take-length}
 use Rattle.std.proofs.lemmas.Option.{IfSome_then}
 use Rattle.cluster_io.specs.Readings.{Reading}
@@ -34,8 +34,8 @@ use Rattle.sim_core.specs.declared.status.Status.TheVariants.{Done, NoMemory, Us
 use Rattle.sim_core.specs.declared.words.Command.{Command}
 use Rattle.sim_core.specs.declared.words.Command.TheVariants.{Check, Scores, Why, Graph, Survive, Audit, Replay, Gen, World, Help, Version}
 use Rattle.sim_core.specs.Answers.{IsWritten, WordAnswers}
-use Rattle.sim_core.specs.Headline.{HasOnePlan, HasPrinted, HasWrittenFront, IsOfHead, IsOneSafeRun, IsSafeAllTheWay, IsSafeOutput, IsTextOfOneSafeRun, WritesASafeRun, WritesLinesOfSafeRun, WritesPartOfSafeRun}
-use Rattle.sim_core.specs.Live.{HasWrittenReplay, IsBehindHead, SaysLive, amid_head, behind_head, of_head, of_run, at_first, between_two}
+use Rattle.sim_core.specs.Headline.{HasOnePlan, HasPrinted, HasWrittenFront, IsOfHead, IsOneSafeRun, IsSafeAllTheWay, IsSafeOutput, IsTextOfOneSafeRun, WritesASafeRun}
+use Rattle.sim_core.specs.Live.{HasWrittenReplay, SaysLive, amid_head, behind_head, of_head, of_run, at_first, between_two}
 use Rattle.sim_core.specs.Replay.{IsBegun, IsReplayOutput, IsTextOfRun, coming_behind}
 use Rattle.sim_core.specs.Table.{live, intake}
 use Rattle.sim_core.proofs.SameComing.{same_coming}

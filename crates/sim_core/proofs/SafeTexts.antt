@@ -1,23 +1,21 @@
 -- The runs that `world` writes and `gen` sums up are safe.
-use Rattle.std.proofs.Common.{◌≡◌, ℕ, true, Option, Some, None, List, ◌++◌}
+use Rattle.std.proofs.Common.{◌≡◌, ℕ, true, Option, Some, None, List}
 use Rattle.cluster_types.specs.declared.journal.Answer.{Answer}
 use Rattle.cluster_types.specs.declared.run.RunLine.{RunLine}
 use Rattle.cluster_types.specs.Runs.{RunStanding, due, Runs, journal_at}
 use Rattle.cluster_types.specs.Safety.{IsSafeRun}
 use Rattle.cluster_types.specs.Texts.{run_lines}
-use Rattle.cluster_types.specs.Valid.{IsValid}
 use Rattle.input_reading.proofs.ValidInput.{cluster_valid, journal_ordered, journal_rests}
 use Rattle.input_reading.specs.declared.input.reading.Input.{Input}
 use Rattle.input_reading.specs.Reading.{ReadsInput}
 use Rattle.run_safety.proofs.SafeRuns.{safe_run}
 use Rattle.simulated.proofs.Moments.{each_moment}
-use Rattle.simulated.specs.Moments.{IsLivedWithin}
 use Rattle.sim_core.specs.Generated.{IsRunOf, IsSummaryText, answers_of, cut, to_its_end}
 use Rattle.sim_core.specs.SafeTexts.{IsSummaryOfSafeRun, IsTextOfSafeWorld}
 use Rattle.sim_core.specs.World.{IsWorldOf}
 use Rattle.written_runs.proofs.Fronts.{on_the_way}
 use Rattle.written_runs.proofs.SafeLines.{safe_lines}
-use Rattle.written_runs.specs.OverLines.{AreLinesSafe, IsToldBy}
+use Rattle.written_runs.specs.OverLines.{AreLinesSafe}
 
 module _ (input : List ℕ) (whole : Input) (reads : ReadsInput input whole) where
   -- over any answers

@@ -37,3 +37,8 @@ pub fn what_world_writes_is_a_safe_run()
 pub fn what_gen_sums_up_is_a_safe_run()
     ensures { (number : ℕ) (input text : List ℕ) (whole : InputOf) → ReadsInput input whole → IsSummaryText number whole text → IsSummaryOfSafeRun number whole text }
 {}
+
+/// A number has one summary.
+pub fn summaries_are_unique()
+    ensures { (number : ℕ) (whole : InputOf) (text other : List ℕ) → IsSummaryText number whole text → IsSummaryText number whole other → text ≡ other }
+{}

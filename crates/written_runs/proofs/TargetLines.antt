@@ -1,5 +1,5 @@
 -- The target lines of a placement are lines of the cluster.
-use Rattle.std.proofs.Common.{arith, ◌≡◌, ◌<◌, ◌+◌, ◌∙◌, ℕ, true, Option, Some, None, List, ◌++◌, length, inl, inr, ◌⊎◌, refl, ap, slice_get}
+use Rattle.std.proofs.Common.{arith, ◌≡◌, ◌<◌, ◌∙◌, ℕ, true, Option, Some, None, List, ◌++◌, length, inl, inr, ◌⊎◌, refl, ap, slice_get}
 use Rattle.std.specs.Prelude.{unwrap_or}
 use Rattle.std.specs.List.{AllByRecursion, flat_map, range_with_len}
 use Rattle.lemmas.proofs.Members.{all_append}
