@@ -7,6 +7,7 @@ pub mod Completeness
 -- The word `replay`.
 pub mod Beginnings
 pub mod SameComing
+pub mod SomeEnd
 pub mod LiveSays
 pub mod Promised
 pub mod SafeTexts

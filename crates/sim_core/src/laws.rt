@@ -1,9 +1,16 @@
 //! Laws of the definitions. Each is a function that does nothing, and whose contract is the law.
 
-ghost use Rattle.std.specs.Prelude.{◌≡◌, ℕ, List, true};
+ghost use Rattle.std.specs.Prelude.{◌≡◌, ◌≢◌, ℕ, Some, List, true};
+ghost use Rattle.cluster_types.specs.declared.cluster.Cluster.{Cluster as ClusterOf};
+ghost use Rattle.cluster_types.specs.declared.journal.Journal.{Journal as JournalOf};
+ghost use Rattle.cluster_types.specs.Valid.{IsValid};
 ghost use Rattle.crm_print.specs.Again.{has_short_lines};
 ghost use Rattle.input_reading.specs.Reading.{ReadsInput};
 ghost use Rattle.input_reading.specs.declared.input.reading.Input.{Input as InputOf};
+ghost use Rattle.live_run.specs.Coming.{Coming};
+ghost use Rattle.live_run.specs.Ends.{IsDueText};
+ghost use Rattle.live_run.specs.declared.line_stop.LineStop.TheVariants.{ReadFault};
+ghost use Rattle.live_run.specs.declared.live_end.LiveEnd.{LiveEnd as LiveEndOf};
 ghost use Rattle.sim_core.specs.Again.{IsReadAgain};
 ghost use Rattle.sim_core.specs.Check.{check_text};
 ghost use Rattle.sim_core.specs.Generated.{IsSummaryText};
@@ -25,6 +32,12 @@ pub fn what_check_writes_is_read_again()
 /// complete transition ends in its targets. What stands written with any other status is a front of that run (`WritesASafeRun`, a clause of `run`).
 pub fn what_replay_writes_is_one_safe_run()
     ensures { (input text : List ℕ) (outcome : StatusOf) → IsReplayOutput input outcome text → IsSafeOutput input outcome text }
+{}
+
+/// The run of a valid cluster gets an end and a text, from any journal on and over whatever is to come of result lines, as long as that doesn't say that their
+/// source has failed.
+pub fn there_is_an_end()
+    ensures { (c : ClusterOf) (journal : JournalOf) (coming : Coming) → IsValid c → coming.stop ≢ Some ReadFault → (how : LiveEndOf) × IsDueText c journal coming how }
 {}
 
 /// What `world` writes is the run of a simulated cluster that is safe all the way, whatever the cluster answers; its lines are safe by themselves, and at each
