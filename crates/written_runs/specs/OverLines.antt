@@ -1,7 +1,8 @@
 -- What the lines of a run tell by themselves, and what is promised of them: for who reads the lines, and no definition of a run (rules of this project).
-use Rattle.std.specs.Prelude.{◌≡◌, ℕ, ◌<◌, Bool, true, false, Option, IfSome, List, [], ◌∷◌, ◌++◌, Contains}
+use Rattle.std.specs.Prelude.{◌≡◌, ◌≢◌, ℕ, ◌<◌, ⊤, length, Bool, true, false, Option, IfSome, List, [], ◌∷◌, ◌++◌, Contains}
 use Rattle.cluster_types.specs.declared.cluster.Cluster.{Cluster}
 use Rattle.cluster_types.specs.declared.journal.Action.{Action}
+use Rattle.cluster_types.specs.declared.journal.Action.TheVariants.{MigrateTo, MigrateFrom}
 use Rattle.cluster_types.specs.declared.journal.Answer.{Answer}
 use Rattle.cluster_types.specs.declared.journal.Event.{Event}
 use Rattle.cluster_types.specs.declared.journal.Event.TheVariants.{Begin}
@@ -53,16 +54,25 @@ module _ (c : Cluster) (first : List Event) where
   abbrev pub KeepsApart : Action → ℕ → Role → ℕ → Role → List Event → Type 0
   KeepsApart a r r_role s s_role es = IfSome (gives_role r_role a) (λ at. at.leaf ≡ r → may_have_role c s s_role at.node es ≡ false)
 
+  -- a migration has its leaf to itself: where it sends, the leaf may run on no node but the source, and where it takes in, on none but the source and the
+  -- target
+  abbrev pub HasItsLeafAlone : Action → List Event → Type 0
+  HasItsLeafAlone (MigrateTo r source to) es = (m : ℕ) → m < length c.nodes → m ≢ source → may_be_running c r m es ≡ false
+  HasItsLeafAlone (MigrateFrom r source to) es = (m : ℕ) → m < length c.nodes → m ≢ source → m ≢ to → may_be_running c r m es ≡ false
+  HasItsLeafAlone _ es = ⊤
+
   -- what is promised before a line `begin` of an action
   pub record IsSafeBegin (before : List RunLine) (a : Action) : Type 0 where
     pub start : IfSome (op_cell op.Start a) (λ at. IsToldBy before (MayRunOnFewOthers at))
     pub promote : IfSome (op_cell op.Promote a) (λ at. IsToldBy before (MayRunOnFewOthers at))
     pub promoted : IfSome (op_cell op.Promote a) (λ at. IsToldBy before (MayBePromotedOnFewOthers at))
+    pub alone : IsToldBy before (HasItsLeafAlone a)
     pub apart : IsToldBy before (λ es. (col : Colocation) → Contains c.colocations col → is_separation col ≡ true
         → KeepsApart a col.dependent col.dependent_role col.primary col.primary_role es × KeepsApart a col.primary col.primary_role col.dependent col.dependent_role es)
 
   -- before each line `begin K start LEAF NODE` or `begin K promote LEAF NODE` the leaf may run on fewer other nodes than it has copies, and where it is
-  -- promoted, be so on fewer than it has promoted copies; and no leaf gets a role beside one from which it must be apart
+  -- promoted, be so on fewer than it has promoted copies. Before `begin K migrate_to LEAF SOURCE TARGET` it may run on the source alone, and before
+  -- `migrate_from` on source and target alone. No leaf gets a role beside one from which it must be apart
   abbrev pub AreLinesSafe : List RunLine → Type 0
   AreLinesSafe lines = BeforeEachBegin IsSafeBegin lines
 

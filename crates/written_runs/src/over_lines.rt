@@ -13,7 +13,8 @@ ghost use Rattle.written_runs.specs.OverLines.{AreLinesSafe, LinesTellOfTheWay, 
 
 /// The lines that a run of a valid cluster has written, wherever it stands, are safe by themselves: before a line `begin K start LEAF NODE` or
 /// `begin K promote LEAF NODE` the leaf may run on fewer other nodes than it has copies, by the first journal and the lines before it. Of a plain resource:
-/// on none. The first journal is in order, with nothing in flight, as a status gives it.
+/// on none. Before a line `begin K migrate_to LEAF SOURCE TARGET` it may run on the source alone, and before `migrate_from` on source and target alone. The
+/// first journal is in order, with nothing in flight, as a status gives it.
 pub fn lines_of_runs_are_safe()
     ensures { (c : ClusterOf) (promotions : List PromotionOf) (whole : Bool) (es : List EventOf) (rest left : Option (List AnswerOf)) (lines : List LineOf) (at : RunStanding)
         → IsValid c → IsAtRest es → Runs c promotions whole (due 1 es) rest lines at left → AreLinesSafe c es lines }
