@@ -8,6 +8,7 @@ pub mod Bringing
 pub mod Unfinished
 pub mod Stepping
 pub mod Asked
+pub mod NoFault
 pub mod Few
 pub mod Readers
 pub mod Written

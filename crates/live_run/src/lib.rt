@@ -41,5 +41,5 @@ pub use line_outcomes::LineOutcomes;
 pub use line_stop::{LineCause, LineStop};
 pub use line_writer::LineWriter;
 pub use live_end::LiveEnd;
-pub use run_laws::{ends_are_unique, runs_begin_what_is_due};
+pub use run_laws::{ends_are_unique, lines_say_no_read_fault, runs_begin_what_is_due};
 pub use running::run_live;

@@ -12,17 +12,19 @@ use Rattle.cluster_types.specs.declared.journal.Promotion.{Promotion}
 use Rattle.cluster_types.specs.declared.run.RunLine.{RunLine}
 use Rattle.cluster_types.specs.Runs.{RunStanding, due, Runs}
 use Rattle.cluster_types.specs.Valid.{IsValid}
+use Rattle.crm_lex.specs.RawLines.{raw_lines}
 use Rattle.input_reading.proofs.ValidHead.{cluster_valid, journal_at_rest}
 use Rattle.input_reading.specs.declared.input.reading.Head.{Head}
 use Rattle.input_reading.specs.Causes.{refusal_text}
 use Rattle.live_run.proofs.Dues.{begins_due, one_end}
+use Rattle.live_run.proofs.NoFault.{coming_no_fault}
 use Rattle.live_run.proofs.Written.{adds_none, prefix_first}
 use Rattle.live_run.specs.Coming.{Coming}
 use Rattle.live_run.specs.Courses.{answers_to_come}
 use Rattle.live_run.specs.declared.live_end.LiveEnd.{LiveEnd}
 use Rattle.live_run.specs.declared.live_end.LiveEnd.TheVariants as end
 use Rattle.live_run.specs.Ends.{EndGets, run_lines_text}
-use Rattle.live_run.specs.Reached.{HasNoMemory, IsBrokenOff, IsCutOff, WriterCall, in_run, of_unexpected, of_refusal, lines_before_call, text_of_call, results_behind}
+use Rattle.live_run.specs.Reached.{HasNoMemory, IsBrokenOff, IsCutOff, WriterCall, in_run, of_unexpected, of_refusal, first_result_place, lines_before_call, text_of_call, results_behind}
 use Rattle.plan_laws.proofs.LawfulTable.{lawful}
 use Rattle.plan_laws.proofs.OnePlan.{one_list, one_placed}
 use Rattle.planner.proofs.SomePlan.{actions, goals, is_plan}
@@ -39,6 +41,7 @@ use Rattle.sim_core.specs.Live.{HasWrittenReplay, SaysLive, amid_head, behind_he
 use Rattle.sim_core.specs.Replay.{IsBegun, IsReplayOutput, IsTextOfRun, coming_behind}
 use Rattle.sim_core.specs.Table.{live, intake}
 use Rattle.sim_core.proofs.SameComing.{same_coming}
+use Rattle.sim_core.proofs.SomeEnd.{HasEnd, some_end}
 
 has_one_plan : (c : Cluster) (promotions : List Promotion) → IsValid c → (es : List Event) → HasOnePlan c promotions es
 has_one_plan c promotions valid es = record {
@@ -132,6 +135,12 @@ module _ (input : List ℕ) where
       safe_now : IsSafeAllTheWay head all
       safe_now = safe_all_the_way input bytes head reading.next reading.room begun all
 
+      ends_now : HasEnd head.cluster head.journal all
+      ends_now =
+          let lines = first_result_place head.cluster head.journal reading in
+          some_end head.cluster head.journal all safe_now.valid
+          (coming_no_fault head.cluster lines.reading.longest lines.at lines.reading.room (raw_lines (lines.reading.held ++ unread)))
+
       broken_off : IsBrokenOff head.cluster head.journal reading unread left before after → HasWrittenFront head all [] before after
       broken_off b = record {
         lines = b.ran.printed;
@@ -139,6 +148,7 @@ module _ (input : List ℕ) where
         behind = _;
         so_far = b.ran.run.steps;
         added = no_more (run_lines_text head.cluster b.ran.printed) before after b.ran.added;
+        ends = ends_now;
         begins = λ how text gets. front_added (run_lines_text head.cluster b.ran.printed) text before after
             (begins_due head.cluster head.journal all b.ran.run.last _ b.ran.printed how text b.ran.run.steps gets) b.ran.added;
         safe = safe_now;
@@ -151,6 +161,7 @@ module _ (input : List ℕ) where
         behind = m.behind;
         so_far = m.run;
         added = no_more (run_lines_text head.cluster m.printed) before after m.added;
+        ends = ends_now;
         begins = m.begins;
         safe = safe_now;
       }
@@ -184,6 +195,7 @@ module _ (input : List ℕ) where
               behind = stands.behind;
               so_far = stands.printed;
               added = Adds-then before cut.middle after (run_lines_text head.cluster lines) part cut.before cut.front.added;
+              ends = ends_now;
               begins = cut.begins;
               safe = safe_now;
             },

@@ -20,7 +20,7 @@ use Rattle.live_run.specs.Coming.{Coming}
 use Rattle.live_run.specs.Courses.{answers_to_come}
 use Rattle.live_run.specs.declared.live_end.LiveEnd.{LiveEnd}
 use Rattle.live_run.specs.declared.live_end.LiveEnd.TheVariants as end
-use Rattle.live_run.specs.Ends.{EndGets, run_lines_text}
+use Rattle.live_run.specs.Ends.{EndGets, IsDueText, run_lines_text}
 use Rattle.sim_core.specs.declared.status.Status.{Status}
 use Rattle.sim_core.specs.declared.status.Status.TheVariants.{Done, NoMemory, Usage, ReadFault, WriteFault, Refused, Unexpected, TooLarge, NotLawful}
 use Rattle.sim_core.specs.Answers.{IsWritten}
@@ -60,13 +60,14 @@ module _ (head : Head) (coming : Coming) where
     pub one : (other : LiveEnd) (also : List ℕ) → EndGets head.cluster head.journal coming other also → (how ≡ other) × (text ≡ also)
     pub safe : IsSafeAllTheWay
 
-  -- a front of its text was written: its lines up to where it stands, and a part of what comes behind them
+  -- a front of its text was written: its lines up to where it stands, and a part of what comes behind them. There is such a text: the run gets an end
   pub record HasWrittenFront (part : List ℕ) (before after : Option (List ℕ)) : Type 0 where
     pub lines : List RunLine
     pub at : RunStanding
     pub behind : Option (List Answer)
     pub so_far : HasPrinted lines at behind
     pub added : Adds before (run_lines_text head.cluster lines ++ part) after
+    pub ends : (how : LiveEnd) × IsDueText head.cluster head.journal coming how
     pub begins : (how : LiveEnd) (text : List ℕ) → EndGets head.cluster head.journal coming how text → AddsPrefix text before after
     pub safe : IsSafeAllTheWay
 
