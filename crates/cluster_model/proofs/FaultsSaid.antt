@@ -13,9 +13,9 @@ use Rattle.cluster_model.specs.declared.expansion.kinds.Kind.{Kind}
 use Rattle.cluster_model.specs.declared.expansion.kinds.Kind.TheVariants as kind
 use Rattle.cluster_model.specs.declared.expansion.seen.Seen.{Seen}
 use Rattle.cluster_model.specs.Inner.Faults.{expand_cause_of, fault_of, first_expand_fault, is_group, kinds_of, may_contain, nothing_seen, promotes_group, resource_kinds_in, seen_after}
-use Rattle.cluster_model.specs.Faults.{ids_in, parts_in, is_a_group, is_resource, leaf_cause, may_have_part, promotes_members, resource_named}
+use Rattle.cluster_model.specs.Faults.{ids_in, parts_in, is_a_group, is_resource, expand_cause, may_have_part, promotes_members, resource_named}
 use Rattle.cluster_model.specs.FirstFaults.{first_fault}
-use Rattle.cluster_model.specs.Settings.{nodes_in}
+use Rattle.cluster_model.specs.Settings.{node_names_in}
 use Rattle.cluster_model.specs.Inner.Tables.{lookup}
 
 -- tests that agree on each element
@@ -91,7 +91,7 @@ module _ (statements : List Statement) where
 
   -- what was seen of the statements before
   record HasSeen (seen : Seen) (before : List Statement) : Type 0 where
-    nodes : seen.nodes ≡ flat_map (λ s. nodes_in s.form) before
+    nodes : seen.nodes ≡ flat_map (λ s. node_names_in s.form) before
     ids : seen.ids ≡ flat_map (λ s. ids_in s.form) before
     parts : seen.parts ≡ flat_map (λ s. parts_in s.form) before
 
@@ -105,26 +105,26 @@ module _ (statements : List Statement) where
   seen_next : (seen : Seen) (before : List Statement) (s : Statement) → HasSeen seen before → HasSeen (seen_after seen s.form) (before ++ s ∷ [])
   unfolding seen_after
   seen_next seen before s h = record {
-    nodes = seen_more nodes_in seen.nodes before s h.nodes;
+    nodes = seen_more node_names_in seen.nodes before s h.nodes;
     ids = seen_more ids_in seen.ids before s h.ids;
     parts = seen_more parts_in seen.parts before s h.parts;
   }
 
-  cause_is : (seen : Seen) (before : List Statement) (s : Statement) → HasSeen seen before → expand_cause_of kinds seen s.form ≡ leaf_cause statements before s
-  unfolding expand_cause_of leaf_cause
+  cause_is : (seen : Seen) (before : List Statement) (s : Statement) → HasSeen seen before → expand_cause_of kinds seen s.form ≡ expand_cause statements before s
+  unfolding expand_cause_of expand_cause
   cause_is seen before s h =
       let unknown = any_same _ _ unknown_is (parts_in s.form) in
       let kind = any_same _ _ (may_be s.form) (parts_in s.form) in
       rw (h.nodes, h.ids, h.parts, unknown, kind, promotes_is s.form) refl
 
   first_is : (seen : Seen) (before some : List Statement) → HasSeen seen before
-      → first_expand_fault kinds seen some ≡ first_fault (leaf_cause statements) before some
+      → first_expand_fault kinds seen some ≡ first_fault (expand_cause statements) before some
   first_is seen before [] h = refl
   first_is seen before (s ∷ some) h =
       let here = cause_is seen before s h in
       let more = first_is (seen_after seen s.form) (before ++ s ∷ []) some (seen_next seen before s h) in
       rw (here, more) refl
 
-  pub fault_is : fault_of statements ≡ first_fault (leaf_cause statements) [] statements
+  pub fault_is : fault_of statements ≡ first_fault (expand_cause statements) [] statements
   unfolding fault_of
   fault_is = first_is nothing_seen [] statements (record { nodes = refl; ids = refl; parts = refl })

@@ -21,9 +21,9 @@ use Rattle.cluster_model.specs.declared.resolution.directory.Directory.{Director
 use Rattle.cluster_model.specs.declared.resolution.fault.ModelCause.{ModelCause}
 use Rattle.cluster_model.specs.declared.resolution.fault.ModelCause.TheVariants.{UnknownName, NotPromotable, UnsupportedOrder, TooManyNodes, TooManyLeaves, TooManyRules}
 use Rattle.faults.specs.declared.fault.Fault.{Fault}
-use Rattle.cluster_model.specs.Chains.{pairs_after, successive}
+use Rattle.cluster_model.specs.Successive.{pairs_after, successive}
 use Rattle.cluster_model.specs.Inner.Checks.{cause_of, excess_of, has_unknown, has_unpromotable}
-use Rattle.cluster_model.specs.Checks.{is_unsupported_form}
+use Rattle.cluster_model.specs.Checks.{has_unsupported_pair}
 use Rattle.cluster_model.specs.Inner.Colocations.{colocations_in, colocations_of}
 use Rattle.cluster_model.specs.Inner.Counting.{all_counted, counted_with, counts_of, leaf_count, node_count, nothing_counted}
 use Rattle.cluster_model.specs.Counting.{colocation_count, location_count, order_count}
@@ -57,7 +57,7 @@ within counts e = split (nat_lt 256 counts.nodes) (nat_lt 1000 counts.leaves) (n
 
 no_excess : (d : Directory) (counts : Counts) (f : Form) → cause_of d counts f ≡ None → excess_of counts ≡ None
 unfolding cause_of
-no_excess d counts f e = split (has_unknown d f) (has_unpromotable d f) (is_unsupported_form f) e
+no_excess d counts f e = split (has_unknown d f) (has_unpromotable d f) (has_unsupported_pair f) e
   where
     split : (a b c : Bool) → (if a then Some UnknownName else if b then Some NotPromotable else if c then Some UnsupportedOrder else excess_of counts) ≡ None
         → excess_of counts ≡ None

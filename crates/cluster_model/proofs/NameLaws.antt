@@ -21,7 +21,7 @@ use Rattle.cluster_model.specs.Inner.Faults.{expand_cause_of, fault_of, first_ex
 use Rattle.cluster_model.specs.Faults.{ids_in}
 use Rattle.cluster_model.specs.Laws.{NamesDiffer}
 use Rattle.cluster_model.specs.Inner.Leaves.{leaf_in, primitive_leaf, leaves_in, leaves_of, surroundings_of}
-use Rattle.cluster_model.specs.Settings.{nodes_in}
+use Rattle.cluster_model.specs.Settings.{node_names_in}
 use Rattle.crm_lex.specs.NameSets.{has_name}
 use Rattle.cluster_model.proofs.SameNames.{has-more}
 use Rattle.cluster_model.proofs.FaultsSaid.{fault_is}
@@ -73,7 +73,7 @@ not_first false rest h = refl
 
 new_id : (kinds : List (List ℕ × Kind)) (seen : Seen) (f : Form) → expand_cause_of kinds seen f ≡ None → list_any (has_name seen.ids) (ids_in f) ≡ false
 unfolding expand_cause_of
-new_id kinds seen f h = (or_parts (list_any (has_name seen.nodes) (nodes_in f)) (list_any (has_name seen.ids) (ids_in f)) (not_first _ _ h)).1
+new_id kinds seen f h = (or_parts (list_any (has_name seen.nodes) (node_names_in f)) (list_any (has_name seen.ids) (ids_in f)) (not_first _ _ h)).1
 
 module _ (s : Surroundings) (kinds : List (List ℕ × Kind)) where
   fresh_by : (seen : Seen) (st : Statement) (leaves : List Leaf) (cause : Option ExpandCause) (later : Option (Fault ExpandCause))

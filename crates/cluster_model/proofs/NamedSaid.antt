@@ -19,7 +19,7 @@ use Rattle.cluster_model.specs.declared.resolution.directory.Traits.{Traits}
 use Rattle.cluster_model.specs.Inner.Directories.{are_joined, are_there, directory_of, ends_in_directory, first_named, grouped_from, groups_of, if_there, is_local, is_one_group, is_unknown, is_unknown_node, last_named, may_promote, members_in, node_named, numbered_from, resources_of, span_ends, traits_of}
 use Rattle.cluster_model.specs.Named.{first_leaf, has_leaves, in_one_group, is_missing, is_on_nodes, joins_on_nodes, last_leaf, node_number, place_of_node, promotes, span_named}
 use Rattle.cluster_model.specs.Resources.{Group, all_groups, its_group}
-use Rattle.cluster_model.specs.Settings.{nodes_in}
+use Rattle.cluster_model.specs.Settings.{node_names_in}
 use Rattle.cluster_model.specs.Inner.Tables.{lookup}
 use Rattle.cluster_model.proofs.LeavesSaid.{beside_all, lookup-append}
 
@@ -112,7 +112,7 @@ module _ (leaves : Leaves) (statements : List Statement) where
 
   node_place : (name : List ℕ) → lookup directory.nodes name ≡ place_of_node statements name
   unfolding directory_of
-  node_place name = place_is name 0 (flat_map (λ s. nodes_in s.form) statements)
+  node_place name = place_is name 0 (flat_map (λ s. node_names_in s.form) statements)
 
   pub node_is : (name : List ℕ) → node_named directory name ≡ node_number statements name
   node_is name = ap (λ (found : Option ℕ). option_map_or (λ n. n) found 0) (node_place name) ∙ on (place_of_node statements name) where

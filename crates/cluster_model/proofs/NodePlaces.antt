@@ -12,7 +12,7 @@ use Rattle.crm_parse.specs.declared.form.Form.{Form}
 use Rattle.crm_parse.specs.declared.form.Form.TheVariants as form
 use Rattle.crm_parse.specs.declared.statement.Statement.{Statement}
 use Rattle.cluster_model.specs.declared.expansion.leaves.Leaves.{Leaves}
-use Rattle.cluster_model.specs.Settings.{nodes_in}
+use Rattle.cluster_model.specs.Settings.{node_names_in}
 use Rattle.cluster_model.specs.Inner.Tables.{lookup}
 use Rattle.lemmas.proofs.Members.{head_or_rest, in_none}
 use Rattle.cluster_model.specs.declared.resolution.directory.Directory.{Directory}
@@ -44,7 +44,7 @@ found-below n (row ∷ table) name t h = on (is name row.0) h (found-below n tab
 -- the nodes of statements have the names that stand in them
 
 names_in : (f : Form) (nodes : List Node) (names : List (List ℕ)) → map (λ node. node.name) nodes ≡ names
-    → map (λ node. node.name) (node_in f ++ nodes) ≡ nodes_in f ++ names
+    → map (λ node. node.name) (node_in f ++ nodes) ≡ node_names_in f ++ names
 names_in (form.Node id name attributes utilization) nodes names e = ap (λ rest. name ∷ rest) e
 names_in (form.Primitive id agent description params meta utilization operations ops) nodes names e = e
 names_in (form.Group id members description params meta) nodes names e = e
@@ -56,17 +56,17 @@ names_in (form.Order id kind steps symmetrical) nodes names e = e
 names_in (form.Settings what set pairs) nodes names e = e
 names_in (form.Kept words) nodes names e = e
 
-pub node_names : (statements : List Statement) → map (λ node. node.name) (nodes_by statements) ≡ flat_map (λ s. nodes_in s.form) statements
+pub node_names : (statements : List Statement) → map (λ node. node.name) (nodes_by statements) ≡ flat_map (λ s. node_names_in s.form) statements
 node_names [] = refl
-node_names (s ∷ statements) = names_in s.form (nodes_by statements) (flat_map (λ s. nodes_in s.form) statements) (node_names statements)
+node_names (s ∷ statements) = names_in s.form (nodes_by statements) (flat_map (λ s. node_names_in s.form) statements) (node_names statements)
 
-as-many-nodes : (statements : List Statement) → length (flat_map (λ s. nodes_in s.form) statements) ≡ length (nodes_by statements)
+as-many-nodes : (statements : List Statement) → length (flat_map (λ s. node_names_in s.form) statements) ≡ length (nodes_by statements)
 as-many-nodes statements = sym (ap length (node_names statements)) ∙ length-map (nodes_by statements) (λ node. node.name)
 
 nodes-below : (statements : List Statement) → AreBelow (length (nodes_by statements)) (nodes_of statements)
 nodes-below statements =
     let many = as-many-nodes statements in
-    numbered-below 0 (length (nodes_by statements)) (flat_map (λ s. nodes_in s.form) statements) (omega (arith, many))
+    numbered-below 0 (length (nodes_by statements)) (flat_map (λ s. node_names_in s.form) statements) (omega (arith, many))
 
 pub node-below : (leaves : Leaves) (statements : List Statement) (name : List ℕ) → is_unknown_node (directory_of leaves statements) name ≡ false
     → node_named (directory_of leaves statements) name < length (nodes_by statements)

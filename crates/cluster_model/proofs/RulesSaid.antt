@@ -21,7 +21,7 @@ use Rattle.cluster_model.specs.declared.expansion.leaves.Leaves.{Leaves}
 use Rattle.cluster_model.specs.declared.resolution.counts.Counts.{Counts}
 use Rattle.cluster_model.specs.declared.resolution.directory.Directory.{Directory}
 use Rattle.cluster_model.specs.declared.resolution.fault.ModelCause.{ModelCause}
-use Rattle.cluster_model.specs.Chains.{successive}
+use Rattle.cluster_model.specs.Successive.{successive}
 use Rattle.cluster_model.specs.Inner.Checks.{cause_of, excess_of, has_unknown, has_unpromotable, lacks_action, lacks_in_pair, lacks_role}
 use Rattle.cluster_model.specs.Inner.Colocations.{colocation_of, colocations_in, dependent_at, primary_at}
 use Rattle.cluster_model.specs.Inner.Counting.{all_counted, counted_with, counts_of, leaf_count, node_count, nothing_counted}
@@ -38,7 +38,7 @@ use Rattle.cluster_model.specs.Resolution.{cause_said, cluster_said, resolution_
 use Rattle.cluster_model.specs.Resources.{all_primitives, its_primitive}
 use Rattle.cluster_model.specs.Checks.{cant_have, cant_take, names_missing, promotes_plain, rule_cause, too_many}
 use Rattle.cluster_model.specs.Colocations.{colocation_said, its_colocations}
-use Rattle.cluster_model.specs.Settings.{count_nodes, nodes_in}
+use Rattle.cluster_model.specs.Settings.{count_nodes, node_names_in}
 use Rattle.cluster_model.proofs.FaultsSaid.{any_same}
 use Rattle.cluster_model.proofs.NamedSaid.{directory, first_is, last_is, local_is, node_is, promotes_is, unknown_is, unknown_node_is}
 
@@ -168,7 +168,7 @@ module _ (leaves : Leaves) (statements : List Statement) where
   plain_is _ = refl
 
 -- how much some statements have
-nodes_are : (f : Form) → node_count f ≡ length (nodes_in f)
+nodes_are : (f : Form) → node_count f ≡ length (node_names_in f)
 nodes_are (form.Node id name attributes utilization) = refl
 nodes_are _ = refl
 
@@ -189,7 +189,7 @@ counted_is : (counts : Counts) (some : List Statement)
 unfolding counted_with
 counted_is counts [] = same_counts _ _ _ _ _ _ (omega arith) (omega arith) (omega arith)
 counted_is counts (s ∷ some) =
-    let nodes = length-append (nodes_in s.form) (flat_map (λ (s : Statement). nodes_in s.form) some) in
+    let nodes = length-append (node_names_in s.form) (flat_map (λ (s : Statement). node_names_in s.form) some) in
     let leaves = length-append (its_primitive s.form) (all_primitives some) in
     let node = nodes_are s.form in
     let leaf = leaves_are s.form in

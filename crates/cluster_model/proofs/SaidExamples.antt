@@ -16,7 +16,7 @@ use Rattle.crm_parse.specs.declared.words.SettingsWord.TheVariants.{Property, Rs
 use Rattle.cluster_types.specs.declared.leaf.OnFail.TheVariants.{Block, Fence}
 use Rattle.cluster_types.specs.declared.leaf.Role.TheVariants as role
 use Rattle.cluster_types.specs.declared.rules.Order.{Order}
-use Rattle.cluster_model.specs.declared.expansion.expand_fault.ExpandCause.TheVariants as leaf_cause
+use Rattle.cluster_model.specs.declared.expansion.expand_fault.ExpandCause.TheVariants as expand_cause
 use Rattle.cluster_model.specs.declared.expansion.leaves.Leaves.{Leaves}
 use Rattle.cluster_model.specs.declared.resolution.fault.ModelCause.TheVariants as model_cause
 use Rattle.cluster_model.specs.Checks.{rule_cause}
@@ -214,34 +214,34 @@ after_a_stop_of = refl
 
 -- faults of resources: each cause, and none
 sound : leaf_fault all ≡ None
-unfolding faults.leaf_cause
+unfolding faults.expand_cause
 sound = refl
 
-name_again : leaf_fault (said_by (primitive (codes "a") [] ∷ primitive (codes "a") [] ∷ [])) ≡ Some (At 1 leaf_cause.DuplicateName)
-unfolding faults.leaf_cause
+name_again : leaf_fault (said_by (primitive (codes "a") [] ∷ primitive (codes "a") [] ∷ [])) ≡ Some (At 1 expand_cause.DuplicateName)
+unfolding faults.expand_cause
 name_again = refl
 
-no_member : leaf_fault (said_by (group (codes "g") (codes "a" ∷ []) [] ∷ [])) ≡ Some (At 1 leaf_cause.UnknownName)
-unfolding faults.leaf_cause
+no_member : leaf_fault (said_by (group (codes "g") (codes "a" ∷ []) [] ∷ [])) ≡ Some (At 1 expand_cause.UnknownName)
+unfolding faults.expand_cause
 no_member = refl
 
 group_of_a_group : leaf_fault (said_by (primitive (codes "a") [] ∷ group (codes "g") (codes "a" ∷ []) [] ∷ group (codes "h") (codes "g" ∷ []) [] ∷ []))
-    ≡ Some (At 1 leaf_cause.NestedTwice)
-unfolding faults.leaf_cause
+    ≡ Some (At 1 expand_cause.NestedTwice)
+unfolding faults.expand_cause
 group_of_a_group = refl
 
-empty_group : leaf_fault (said_by (group (codes "g") [] [] ∷ [])) ≡ Some (At 1 leaf_cause.EmptyGroup)
-unfolding faults.leaf_cause
+empty_group : leaf_fault (said_by (group (codes "g") [] [] ∷ [])) ≡ Some (At 1 expand_cause.EmptyGroup)
+unfolding faults.expand_cause
 empty_group = refl
 
 member_twice : leaf_fault (said_by (primitive (codes "a") [] ∷ group (codes "g") (codes "a" ∷ codes "a" ∷ []) [] ∷ []))
-    ≡ Some (At 1 leaf_cause.MemberTwice)
-unfolding faults.leaf_cause
+    ≡ Some (At 1 expand_cause.MemberTwice)
+unfolding faults.expand_cause
 member_twice = refl
 
 promotable_group : leaf_fault (said_by (primitive (codes "a") [] ∷ group (codes "g") (codes "a" ∷ []) [] ∷ clone (codes "c") (codes "g") true [] ∷ []))
-    ≡ Some (At 1 leaf_cause.UnsupportedMeta)
-unfolding faults.leaf_cause
+    ≡ Some (At 1 expand_cause.UnsupportedMeta)
+unfolding faults.expand_cause
 promotable_group = refl
 
 -- faults of rules

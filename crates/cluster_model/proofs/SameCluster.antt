@@ -5,7 +5,7 @@ use Rattle.std.proofs.lemmas.List.{map-append}
 use Rattle.crm_parse.specs.declared.statement.Statement.{Statement}
 use Rattle.crm_parse.specs.Operations.{value_of}
 use Rattle.cluster_model.specs.declared.expansion.leaves.Leaves.{Leaves}
-use Rattle.cluster_model.specs.Settings.{nodes_in, properties_in}
+use Rattle.cluster_model.specs.Settings.{node_names_in, properties_in}
 use Rattle.cluster_types.specs.declared.cluster.Cluster.{Cluster}
 use Rattle.cluster_types.specs.declared.leaf.Leaf.{Leaf}
 use Rattle.cluster_model.specs.declared.resolution.counts.Counts.{Counts}
@@ -51,7 +51,7 @@ members-lineless n (s ∷ statements) = ap (λ (more : List (List ℕ × ℕ)). 
 directory-lineless : (leaves : Leaves) → IsLineless (directory_of leaves)
 unfolding directory_of
 directory-lineless leaves statements =
-    rw (ap (λ (names : List (List ℕ)). numbered_from 0 names) (each-lineless nodes_in statements), members-lineless 0 statements) refl
+    rw (ap (λ (names : List (List ℕ)). numbered_from 0 names) (each-lineless node_names_in statements), members-lineless 0 statements) refl
 
 cluster-lineless : (d : Directory) (leaves : List Leaf) → IsLineless (cluster_of d leaves)
 unfolding cluster_of

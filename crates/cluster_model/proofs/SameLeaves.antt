@@ -22,7 +22,7 @@ use Rattle.cluster_model.specs.Inner.Groups.{grouped_by, grouped_in}
 use Rattle.cluster_model.specs.Inner.Leaves.{leaf_in, leaves_of, surroundings_of}
 use Rattle.cluster_model.specs.Inner.Metas.{meta_of, no_meta, or_meta}
 use Rattle.cluster_model.specs.Metas.{read_as}
-use Rattle.cluster_model.specs.Settings.{count_nodes, defaults_in, nodes_in, properties_in}
+use Rattle.cluster_model.specs.Settings.{count_nodes, defaults_in, node_names_in, properties_in}
 use Rattle.cluster_model.specs.Inner.Settings.{defaults_from, option_from}
 use Rattle.cluster_model.specs.Inner.Spans.{ends_by, group_ends_in, numbers_of, span_in, spans_of}
 use Rattle.cluster_types.specs.declared.leaf.Leaf.{Leaf}
@@ -41,7 +41,7 @@ defaults-lineless found [] = refl
 defaults-lineless found (s ∷ statements) = defaults-lineless (or_meta found (meta_of (defaults_in s.form))) statements
 
 count-lineless : IsLineless count_nodes
-count-lineless statements = ap length (each-lineless nodes_in statements)
+count-lineless statements = ap length (each-lineless node_names_in statements)
 
 kinds-lineless : IsLineless kinds_of
 kinds-lineless statements = each-lineless resource_kinds_in statements

@@ -14,7 +14,7 @@ use Rattle.cluster_model.specs.declared.expansion.seen.Seen.{Seen}
 use Rattle.faults.specs.Reading.{fault_at}
 use Rattle.cluster_model.specs.Inner.Faults.{AreAlike, HaveTheSame, expand_cause_of, first_expand_fault, seen_after}
 use Rattle.cluster_model.specs.Faults.{has_twice, ids_in, parts_in}
-use Rattle.cluster_model.specs.Settings.{nodes_in}
+use Rattle.cluster_model.specs.Settings.{node_names_in}
 
 pub has-more : (one more : List (List ℕ)) (name : List ℕ) → has_name (one ++ more) name ≡ (has_name one name || has_name more name)
 has-more one more name = list_any-append (λ (each : List ℕ). pointwise nat_eq each name) one more
@@ -45,14 +45,14 @@ module _ (kinds : List (List ℕ × Kind)) where
   cause_alike : (one other : Seen) (f : Form) → AreAlike one other → expand_cause_of kinds one f ≡ expand_cause_of kinds other f
   unfolding expand_cause_of
   cause_alike one other f h =
-      rw (any_alike one.nodes other.nodes (nodes_in f) h.nodes)
+      rw (any_alike one.nodes other.nodes (node_names_in f) h.nodes)
       (rw (any_alike one.ids other.ids (ids_in f) h.ids)
       (rw (twice_alike one.parts other.parts (parts_in f) h.parts) refl))
 
   after_alike : (one other : Seen) (f : Form) → AreAlike one other → AreAlike (seen_after one f) (seen_after other f)
   unfolding seen_after
   after_alike one other f h = record {
-    nodes = same_more one.nodes other.nodes (nodes_in f) h.nodes;
+    nodes = same_more one.nodes other.nodes (node_names_in f) h.nodes;
     ids = same_more one.ids other.ids (ids_in f) h.ids;
     parts = same_more one.parts other.parts (parts_in f) h.parts;
   }

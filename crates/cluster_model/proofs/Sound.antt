@@ -26,9 +26,9 @@ use Rattle.faults.specs.declared.fault.Fault.{Fault}
 use Rattle.faults.specs.declared.fault.Fault.TheVariants.{At, NoMemory}
 use Rattle.cluster_model.specs.declared.resolution.fault.ModelCause.{ModelCause}
 use Rattle.cluster_model.specs.declared.resolution.fault.ModelCause.TheVariants.{UnknownName, NotPromotable, UnsupportedOrder}
-use Rattle.cluster_model.specs.Chains.{successive}
+use Rattle.cluster_model.specs.Successive.{successive}
 use Rattle.cluster_model.specs.Inner.Checks.{cause_of, excess_of, has_unknown, has_unpromotable}
-use Rattle.cluster_model.specs.Checks.{is_unsupported_form}
+use Rattle.cluster_model.specs.Checks.{has_unsupported_pair}
 use Rattle.cluster_model.specs.Inner.Colocations.{colocation_of, colocations_in, colocations_of, dependent_at, member_colocation, primary_at}
 use Rattle.cluster_model.specs.Inner.Counting.{counted_with, nothing_counted}
 use Rattle.cluster_model.specs.Inner.Directories.{directory_of, groups_of, is_unknown, traits_of}
@@ -49,12 +49,12 @@ use Rattle.cluster_model.proofs.RulesSaid.{resolution_is}
 pub record IsSound (d : Directory) (form : Form) : Type 0 where
   pub known : has_unknown d form ≡ false
   pub promotable : has_unpromotable d form ≡ false
-  pub supported : is_unsupported_form form ≡ false
+  pub supported : has_unsupported_pair form ≡ false
 
 pub none-sound : (d : Directory) (counts : Counts) (f : Form) → cause_of d counts f ≡ None → IsSound d f
 unfolding cause_of
-none-sound d counts f h = on (has_unknown d f) (has_unpromotable d f) (is_unsupported_form f) refl refl refl h where
-  on : (a b c : Bool) → has_unknown d f ≡ a → has_unpromotable d f ≡ b → is_unsupported_form f ≡ c
+none-sound d counts f h = on (has_unknown d f) (has_unpromotable d f) (has_unsupported_pair f) refl refl refl h where
+  on : (a b c : Bool) → has_unknown d f ≡ a → has_unpromotable d f ≡ b → has_unsupported_pair f ≡ c
       → cond a (Some UnknownName) (cond b (Some NotPromotable) (cond c (Some UnsupportedOrder) (excess_of counts))) ≡ None → IsSound d f
   on true b c e f g h = cc
   on false true c e f g h = cc

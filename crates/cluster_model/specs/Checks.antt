@@ -1,4 +1,4 @@
--- Which statements are at fault, loops aside (the causes and their order are rules of this project).
+-- Which statements are at fault in `resolve`, loops aside (the causes and their order are rules of this project).
 use Rattle.std.specs.Prelude.{ℕ, nat_lt, Bool, false, not, ◌&&◌, ◌||◌, if◌then◌else◌, Option, Some, None, List, [], ◌∷◌, ◌++◌, length, is_none, sum_by}
 use Rattle.std.specs.List.{list_any}
 use Rattle.std.specs.Option.{option_or}
@@ -13,7 +13,7 @@ use Rattle.cluster_types.specs.declared.leaf.Role.{Role}
 use Rattle.cluster_types.specs.declared.leaf.Role.TheVariants as role
 use Rattle.cluster_model.specs.declared.resolution.fault.ModelCause.{ModelCause}
 use Rattle.cluster_model.specs.declared.resolution.fault.ModelCause.TheVariants.{UnknownName, NotPromotable, UnsupportedOrder, TooManyNodes, TooManyLeaves, TooManyRules}
-use Rattle.cluster_model.specs.Chains.{successive}
+use Rattle.cluster_model.specs.Successive.{successive}
 use Rattle.cluster_model.specs.Locations.{role_of_word, role_written}
 use Rattle.cluster_model.specs.Orders.{is_down, leaf_begun, leaf_done}
 use Rattle.cluster_model.specs.declared.expansion.leaves.Leaves.{Leaves}
@@ -31,7 +31,7 @@ too_many statements =
     else None
 
 module _ (leaves : Leaves) (statements : List Statement) where
-  -- a rule names a resource or a node that isn't there
+  -- a rule names a resource or a node that isn't there, or a group a member
   abbrev pub names_missing : Form → Bool
   names_missing (form.Location id resource role discovery score node) = is_missing leaves resource || is_none (place_of_node statements node)
   names_missing (form.RuledLocation id resource role discovery rules) = is_missing leaves resource
@@ -72,9 +72,9 @@ module _ (leaves : Leaves) where
 abbrev pub turns_down : OrderStep × OrderStep → Bool
 turns_down pair = not (is_down pair.0.action) && is_down pair.1.action
 
-abbrev pub is_unsupported_form : Form → Bool
-is_unsupported_form (form.Order id kind steps symmetrical) = list_any turns_down (successive steps)
-is_unsupported_form _ = false
+abbrev pub has_unsupported_pair : Form → Bool
+has_unsupported_pair (form.Order id kind steps symmetrical) = list_any turns_down (successive steps)
+has_unsupported_pair _ = false
 
 module _ (leaves : Leaves) (statements : List Statement) where
   -- the cause of a statement that is at fault, where these stand before it
@@ -82,5 +82,5 @@ module _ (leaves : Leaves) (statements : List Statement) where
   rule_cause before s =
       if names_missing leaves statements s.form then Some UnknownName
       else if promotes_plain leaves s.form then Some NotPromotable
-      else if is_unsupported_form s.form then Some UnsupportedOrder
+      else if has_unsupported_pair s.form then Some UnsupportedOrder
       else too_many (before ++ s ∷ [])

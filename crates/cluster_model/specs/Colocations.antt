@@ -7,13 +7,13 @@ use Rattle.crm_parse.specs.declared.form.Form.TheVariants as form
 use Rattle.cluster_types.specs.declared.leaf.Role.{Role}
 use Rattle.cluster_types.specs.declared.leaf.Role.TheVariants as role
 use Rattle.cluster_types.specs.declared.rules.Colocation.{Colocation}
-use Rattle.cluster_model.specs.Chains.{successive}
+use Rattle.cluster_model.specs.Successive.{successive}
 use Rattle.cluster_model.specs.Locations.{role_of_word}
 use Rattle.cluster_model.specs.declared.expansion.leaves.Leaves.{Leaves}
 use Rattle.cluster_model.specs.Named.{first_leaf, last_leaf}
 
 module _ (leaves : Leaves) where
-  -- the first leaf of the one wants to be where the last leaf of the other is
+  -- a colocation of the first leaf of the dependent and the last leaf of the primary
   abbrev pub colocation_said : List ℕ → ℤ → List ℕ → Role → List ℕ → Role → Colocation
   colocation_said id score dependent dependent_role primary primary_role = record {
     id = id;

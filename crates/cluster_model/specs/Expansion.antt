@@ -8,11 +8,11 @@ use Rattle.cluster_model.specs.declared.expansion.leaves.Leaves.{Leaves}
 use Rattle.cluster_model.specs.FirstFaults.{first_fault}
 use Rattle.cluster_model.specs.Leaves.{leaves_said}
 use Rattle.cluster_model.specs.Spans.{spans_said}
-use Rattle.cluster_model.specs.Faults.{leaf_cause}
+use Rattle.cluster_model.specs.Faults.{expand_cause}
 
 -- the fault of the first statement that is at fault
 abbrev pub leaf_fault : List Statement → Option (Fault ExpandCause)
-leaf_fault statements = first_fault (leaf_cause statements) [] statements
+leaf_fault statements = first_fault (expand_cause statements) [] statements
 
 -- each primitive as a leaf, and each resource with its first and its last leaf
 abbrev pub leaves_and_spans : List Statement → Leaves

@@ -1,4 +1,4 @@
--- Which statements are at fault (crmsh manual, group, clone and ms; the causes and their order are rules of this project).
+-- Which statements are at fault in `expand` (crmsh manual, group, clone and ms; the causes and their order are rules of this project).
 use Rattle.std.specs.Prelude.{ℕ, Bool, true, false, not, ◌&&◌, ◌||◌, if◌then◌else◌, List, [], ◌∷◌, ◌++◌, is_none, Option, Some, None, find, map}
 use Rattle.std.specs.List.{flat_map, list_any}
 use Rattle.std.specs.Option.{option_map_or}
@@ -10,7 +10,7 @@ use Rattle.crm_parse.specs.declared.statement.Statement.{Statement}
 use Rattle.crm_parse.specs.Statements.{says_promotable}
 use Rattle.cluster_model.specs.declared.expansion.expand_fault.ExpandCause.{ExpandCause}
 use Rattle.cluster_model.specs.declared.expansion.expand_fault.ExpandCause.TheVariants.{DuplicateName, UnknownName, NestedTwice, EmptyGroup, MemberTwice, UnsupportedMeta}
-use Rattle.cluster_model.specs.Settings.{nodes_in}
+use Rattle.cluster_model.specs.Settings.{node_names_in}
 
 -- the id of a resource or of a rule, which share one space of names
 abbrev pub ids_in : Form → List (List ℕ)
@@ -34,7 +34,7 @@ abbrev pub is_empty_group : Form → Bool
 is_empty_group (form.Group id [] description params meta) = true
 is_empty_group _ = false
 
--- some of the parts belongs to an earlier group or clone, or stands among those before it
+-- one of the parts belongs to an earlier group or clone, or stands among those before it
 abbrev pub has_twice : List (List ℕ) → List (List ℕ) → Bool
 has_twice before [] = false
 has_twice before (part ∷ parts) = has_name before part || has_twice (before ++ part ∷ []) parts
@@ -42,7 +42,7 @@ has_twice before (part ∷ parts) = has_name before part || has_twice (before ++
 -- a node has the name of an earlier node, or a resource or a rule the id of an earlier one
 abbrev pub repeats_name : List Statement → Form → Bool
 repeats_name before f =
-    list_any (has_name (flat_map (λ s. nodes_in s.form) before)) (nodes_in f) || list_any (has_name (flat_map (λ s. ids_in s.form) before)) (ids_in f)
+    list_any (has_name (flat_map (λ s. node_names_in s.form) before)) (node_names_in f) || list_any (has_name (flat_map (λ s. ids_in s.form) before)) (ids_in f)
 
 abbrev pub is_primitive : Form → Bool
 is_primitive (form.Primitive id agent description params meta utilization operations ops) = true
@@ -86,8 +86,8 @@ promotes_members statements (form.Cloned id child ms description params meta) =
 promotes_members statements _ = false
 
 -- the cause of one of the statements that is at fault, after those before it
-unfoldable pub leaf_cause : List Statement → List Statement → Statement → Option ExpandCause
-leaf_cause statements before s =
+unfoldable pub expand_cause : List Statement → List Statement → Statement → Option ExpandCause
+expand_cause statements before s =
     if repeats_name before s.form then Some DuplicateName
     else if names_nothing statements s.form then Some UnknownName
     else if has_another_kind statements s.form then Some NestedTwice

@@ -26,7 +26,7 @@ target_role_named named.Stopped = target.Stopped
 target_role_named named.Promoted = target.Promoted
 target_role_named named.Unpromoted = target.Unpromoted
 
--- how much a resource wants to stay where nothing is said: a little where it is cloned (Pacemaker Explained, "resource-stickiness")
+-- resource-stickiness where none is given: 1 in a clone, else 0 (Pacemaker Explained, "resource-stickiness")
 abbrev pub plain_stickiness : Bool → ℤ
 plain_stickiness true = pos 1
 plain_stickiness false = pos 0

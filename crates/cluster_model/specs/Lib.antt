@@ -1,6 +1,5 @@
 pub mod Inner
 pub mod Causes
-pub mod Chains
 pub mod Resources
 pub mod Nodes
 pub mod Options
@@ -18,6 +17,7 @@ pub mod Settings
 pub mod Clones
 pub mod Leaves
 pub mod Spans
+pub mod Successive
 pub mod Faults
 pub mod Expansion
 pub mod Laws

@@ -9,17 +9,16 @@ use Rattle.cluster_types.specs.declared.leaf.Leaf.{Leaf}
 use Rattle.cluster_model.specs.declared.expansion.leaves.Leaves.{Leaves}
 use Rattle.cluster_model.specs.declared.expansion.leaves.Span.{Span}
 use Rattle.cluster_model.specs.Resources.{Group, all_groups}
-use Rattle.cluster_model.specs.Settings.{nodes_in}
-use Rattle.cluster_model.specs.Inner.Spans.{number, span}
+use Rattle.cluster_model.specs.Settings.{node_names_in}
 
 -- the place of a node among the nodes, which is its number
 abbrev pub place_of_node : List Statement → List ℕ → Option ℕ
-place_of_node statements name = position_from (is name) 0 (flat_map (λ s. nodes_in s.form) statements)
+place_of_node statements name = position_from (is name) 0 (flat_map (λ s. node_names_in s.form) statements)
 
 abbrev pub node_number : List Statement → List ℕ → ℕ
 node_number statements name = unwrap_or (place_of_node statements name) 0
 
--- both leaves are there; they aren't where the leaves are those of another configuration
+-- the span is among these leaves, as it always is in what `expand` gives
 abbrev pub has_leaves : Leaves → Span → Bool
 has_leaves leaves span = nat_lt span.first (length leaves.leaves) && nat_lt span.last (length leaves.leaves)
 
@@ -31,7 +30,7 @@ span_named leaves resource =
 abbrev pub is_missing : Leaves → List ℕ → Bool
 is_missing leaves resource = is_none (span_named leaves resource)
 
--- a rule on a clone names its child
+-- the first leaf of a resource, which for a clone is that of its child; and the last
 abbrev pub first_leaf : Leaves → List ℕ → ℕ
 first_leaf leaves resource = option_map_or (λ (span : Span). span.first) (span_named leaves resource) 0
 

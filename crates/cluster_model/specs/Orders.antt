@@ -14,7 +14,7 @@ use Rattle.cluster_types.specs.declared.leaf.Op.TheVariants as op
 use Rattle.cluster_types.specs.declared.rules.Order.{Order}
 use Rattle.cluster_types.specs.declared.rules.OrderKind.{OrderKind}
 use Rattle.cluster_types.specs.declared.rules.OrderKind.TheVariants as kind
-use Rattle.cluster_model.specs.Chains.{successive}
+use Rattle.cluster_model.specs.Successive.{successive}
 use Rattle.cluster_model.specs.declared.expansion.leaves.Leaves.{Leaves}
 use Rattle.cluster_model.specs.Named.{first_leaf, is_on_nodes, last_leaf}
 
@@ -46,7 +46,7 @@ module _ (leaves : Leaves) where
   leaf_begun resource what = if is_down what then last_leaf leaves resource else first_leaf leaves resource
 
 module _ (leaves : Leaves) (statements : List Statement) where
-  -- the other resource begins its action when the one has done its own
+  -- an order of two resources: what the one has done by its action, and what the other begins by its own
   abbrev pub order_said : List ℕ → OrderKind → Bool → List ℕ → ActionWord → List ℕ → ActionWord → Order
   order_said id kind symmetrical one what other then_what = record {
     id = id;
@@ -59,7 +59,7 @@ module _ (leaves : Leaves) (statements : List Statement) where
     local = is_on_nodes leaves statements (leaf_done leaves one what) (leaf_begun leaves other then_what);
   }
 
-  -- an order of more resources is one for each two that follow each other. Each member of a group starts after the member before it
+  -- an order of several resources is one for each two that follow each other. Each member of a group starts after the member before it
   abbrev pub its_orders : Form → List Order
   its_orders (form.Order id kind steps symmetrical) =
       map

@@ -69,7 +69,7 @@ clone_around statements name = clone_with statements (option_map_or (λ (group :
 abbrev pub members_named : List Statement → List ℕ → List (List ℕ)
 members_named statements name = option_map_or (λ (group : Group). group.members) (group_named statements name) (name ∷ [])
 
--- a member after the first
+-- of the members of a group, one that isn't the first
 abbrev pub is_later_member : List (List ℕ) → List ℕ → Bool
 is_later_member [] name = false
 is_later_member (first ∷ others) name = not (is name first)

@@ -21,12 +21,12 @@ defaults_in (form.Settings RscDefaults set pairs) = pairs
 defaults_in _ = []
 
 -- the names of the nodes
-abbrev pub nodes_in : Form → List (List ℕ)
-nodes_in (form.Node id name attributes utilization) = name ∷ []
-nodes_in _ = []
+abbrev pub node_names_in : Form → List (List ℕ)
+node_names_in (form.Node id name attributes utilization) = name ∷ []
+node_names_in _ = []
 
 abbrev pub count_nodes : List Statement → ℕ
-count_nodes statements = length (flat_map (λ s. nodes_in s.form) statements)
+count_nodes statements = length (flat_map (λ s. node_names_in s.form) statements)
 
 -- an option of the cluster that is yes or no
 abbrev pub option_given : List ℕ → Bool → List Statement → Bool

@@ -19,7 +19,7 @@ use Rattle.crm_parse.specs.declared.words.ActionWord.TheVariants.{Start}
 use Rattle.crm_parse.specs.declared.words.SettingsWord.{SettingsWord}
 use Rattle.crm_parse.specs.Grammar.ColocationForm.{ColocationSays, SideSays, a_colocation, side_alone, side_in_role}
 use Rattle.crm_parse.specs.Grammar.Lines.{LineSays, line_kept, line_of_clone, line_of_colocation, line_of_group, line_of_location, line_of_node, line_of_order, line_of_primitive, line_of_settings}
-use Rattle.crm_parse.specs.Grammar.LocationForms.{LocationSays, a_place, some_rules}
+use Rattle.crm_parse.specs.Grammar.LocationForms.{LocationSays, at_a_node, where_rules_say}
 use Rattle.crm_parse.specs.Grammar.NodeForm.{NodeSays, a_node}
 use Rattle.crm_parse.specs.Grammar.OrderForm.{OrderSays, StepSays, resource_acts, resource_alone}
 use Rattle.crm_parse.specs.Grammar.Phrases.{EachSays, no_word, one_word}
@@ -57,9 +57,9 @@ clone-names ms ws g (a_clone id child description_words description section_word
     record { names = (named, (child_named, tt)); monitors = tt }
 
 location-names : (words : Words) (f : Form) → LocationSays words f → IsRead f
-location-names ws g (a_place id resource role_words role discovery_words discovery score points node named resource_named in_role found scored node_named) =
+location-names ws g (at_a_node id resource role_words role discovery_words discovery score points node named resource_named in_role found scored node_named) =
     record { names = (named, (resource_named, (node_named, tt))); monitors = tt }
-location-names ws g (some_rules id resource role_words role discovery_words discovery rule_words rules named resource_named in_role found parts some) =
+location-names ws g (where_rules_say id resource role_words role discovery_words discovery rule_words rules named resource_named in_role found parts some) =
     record { names = (named, (resource_named, tt)); monitors = tt }
 
 side-named : (word : List ℕ) (side : Side) → SideSays word side → is_name side.resource ≡ true

@@ -91,7 +91,8 @@ fn read_lines(alloc: Global, lines: &[Line]) -> Result<Crm, ParseFault>
 /// A fault is that of the first faulty line, at its leftmost faulty word: `UnknownStatement` at a first word that begins no statement,
 /// `Unsupported` at what this project doesn't carry out, `BadScore`, `BadTime` and `BadValue` at a value that isn't one of its kind,
 /// `MissingWord` where a statement or a section ends too early, `ExtraWord` at a word without a place, and `RepeatedKey` at a key that was
-/// given before. Where a word has several causes, the first in this order counts. `NoMemory` comes when memory runs out.
+/// given before. Where a word has several causes, the first in this order counts. Whether a monitor recurs, and needs room beside others, is told
+/// by an `enabled=` behind its `interval=` too. `NoMemory` comes when memory runs out.
 ///
 /// What is read is what the lines say by the grammar, which takes no step of a reader (`says`). A line is refused just when it is the first
 /// whose words say nothing after the statements before it (`silent`).

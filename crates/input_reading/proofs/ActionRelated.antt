@@ -22,7 +22,7 @@ use Rattle.input_reading.specs.RunReading.{action_as, begin_line, fence_at_end, 
 use Rattle.cluster_types.specs.declared.run.RunLine.{RunLine}
 use Rattle.cluster_types.specs.declared.run.RunLine.TheVariants as line
 use Rattle.input_reading.specs.Grammar.RunForms.{ActionSays, RunSays, SaysOperation, begin_form, fence_form, migrate_from_form, migrate_to_form, monitor_form, operation_form, probe_form, to_demote, to_promote, to_start, to_stop}
-use Rattle.input_reading.specs.Grammar.WordValues.{NamesLeaf, NamesNode, WritesCount}
+use Rattle.input_reading.specs.Grammar.WordValues.{NamesLeaf, NamesNode, WritesPositive}
 use Rattle.input_reading.proofs.NamesSaid.{name-read}
 use Rattle.input_reading.proofs.NumbersSaid.{count-read}
 use Rattle.input_reading.proofs.PlacesSaid.{bind-both, by-form, count-at, end-here, leaf-at, node-at, ok_or-some, onto, word-here}
@@ -162,7 +162,7 @@ module _ (c : Cluster) where
   operation-read number k w leaf_name name o leaf node to_promote n a b = rw (n, a, b) refl
   operation-read number k w leaf_name name o leaf node to_demote n a b = rw (n, a, b) refl
 
-  pub begin-read : (number : List ℕ) (words : WordsOfLine) (k : ℕ) (action : Action) → WritesCount number k → ActionSays c words action
+  pub begin-read : (number : List ℕ) (words : WordsOfLine) (k : ℕ) (action : Action) → WritesPositive number k → ActionSays c words action
       → begin_line c (codes "begin" ∷ number ∷ words) ≡ Ok (line.Begin k action)
   unfolding begin_line action_word_at action_word fence_at_end probe_at_end monitor_at_end migrate_to_at_end migrate_from_at_end number_at node_at leaf_at
   begin-read number ws k x n (fence_form name node a) = rw (count-read number k n, node-found name node a) refl

@@ -23,7 +23,7 @@ use Rattle.crm_parse.specs.Marks.{last_at, misplaced, sections_of, status_at}
 use Rattle.crm_parse.specs.Statements as statements
 use Rattle.crm_parse.specs.Statements.{draft_of, statements_of}
 use Rattle.cluster_model.specs.Expansion.{expansion_of, leaf_fault, leaves_and_spans}
-use Rattle.cluster_model.specs.Faults.{leaf_cause}
+use Rattle.cluster_model.specs.Faults.{expand_cause}
 use Rattle.cluster_model.specs.declared.expansion.leaves.Leaves.{Leaves}
 use Rattle.cluster_model.specs.FirstFaults as statements_at
 use Rattle.cluster_model.specs.Resolution.{cause_said, cluster_said, resolution_of}
@@ -174,7 +174,7 @@ first_stands cause before (l ∷ ls) =
 
 -- the leaves
 leaves_stand : (found : List Statement) → Stands (faulting cause.Leaves (expansion_of found))
-leaves_stand found = unless_stands cause.Leaves (leaf_fault found) (leaves_and_spans found) (first_stands (leaf_cause found) [] found)
+leaves_stand found = unless_stands cause.Leaves (leaf_fault found) (leaves_and_spans found) (first_stands (expand_cause found) [] found)
 
 -- the cluster
 cluster_stands : (leaves : Leaves) (found : List Statement) → Stands (faulting cause.Cluster (resolution_of leaves found))

@@ -11,7 +11,7 @@ use Rattle.faults.specs.Digits.{is_number, number_up_to}
 use Rattle.faults.proofs.Numbers.{is_number-true}
 use Rattle.input_reading.specs.Numbers.{above_0, read_action_number}
 use Rattle.input_reading.specs.Places.{yes_or_no}
-use Rattle.input_reading.specs.Grammar.WordValues.{SaysWhether, WritesCount, WritesNumber, says_no, says_yes}
+use Rattle.input_reading.specs.Grammar.WordValues.{SaysWhether, WritesNumber, WritesPositive, says_no, says_yes}
 
 number-parts : (most : ℕ) (word : List ℕ) → is_number most word ≡ true
     → (list_all is_ascii_digit word ≡ true) × (0 < length word) × (digits_value 10 word ≤ most)
@@ -43,13 +43,13 @@ above None n e = cc
 above (Some m) n e = let h = above-case m n (m == 0) refl e in (ap Some h.0, h.1)
 
 -- and so is the number of an action
-pub count-said : (word : List ℕ) (n : ℕ) → read_action_number word ≡ Some n → WritesCount word n
+pub count-said : (word : List ℕ) (n : ℕ) → read_action_number word ≡ Some n → WritesPositive word n
 count-said word n e =
     let h = above (number_up_to 4294967295 word) n e in
     let w = number-said 4294967295 word n h.0 in
     record { digits = w.digits; some = w.some; value = w.value; low = h.1; high = w.high }
 
-pub count-read : (word : List ℕ) (n : ℕ) → WritesCount word n → read_action_number word ≡ Some n
+pub count-read : (word : List ℕ) (n : ℕ) → WritesPositive word n → read_action_number word ≡ Some n
 count-read word n w =
     let low = w.low in
     let not_0 : (n == 0) ≡ false = grind (arith, nat_tests) in

@@ -13,7 +13,7 @@ use Rattle.input_reading.specs.declared.words.word_cause.WordCause.TheVariants.{
 use Rattle.input_reading.specs.Numbers.{read_action_number, read_exit_code, read_seconds}
 use Rattle.input_reading.specs.Places.{WordsOfLine, code_at, leaf_at, line_end_at, node_at, number_at, seconds_at, word_at, yes_at, yes_or_no}
 use Rattle.names.specs.Names.{leaf_of_word, node_of_word}
-use Rattle.input_reading.specs.Grammar.WordValues.{NamesLeaf, NamesNode, SaysWhether, WritesCode, WritesCount, WritesSeconds}
+use Rattle.input_reading.specs.Grammar.WordValues.{NamesLeaf, NamesNode, SaysWhether, WritesCode, WritesPositive, WritesSeconds}
 use Rattle.input_reading.proofs.NamesSaid.{name-said}
 use Rattle.input_reading.proofs.NumbersSaid.{count-said, number-said, whether-said}
 
@@ -48,9 +48,9 @@ table-at Says table why told place words value e =
     let (word, at, rest) = bind-ok (word_at place words) (λ word. ok_or (table word) why) value e in
     record { word = word; here = word-here place words word at; says = told word value (ok_or-some (table word) why value rest) }
 
-pub count-at : (place : ℕ) (words : WordsOfLine) (n : ℕ) → number_at place words ≡ Ok n → IsAt WritesCount place words n
+pub count-at : (place : ℕ) (words : WordsOfLine) (n : ℕ) → number_at place words ≡ Ok n → IsAt WritesPositive place words n
 unfolding number_at
-count-at place words n e = table-at WritesCount read_action_number BadValue count-said place words n e
+count-at place words n e = table-at WritesPositive read_action_number BadValue count-said place words n e
 
 pub code-at : (place : ℕ) (words : WordsOfLine) (code : ℕ) → code_at place words ≡ Ok code → IsAt WritesCode place words code
 unfolding code_at

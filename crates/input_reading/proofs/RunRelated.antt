@@ -19,7 +19,7 @@ use Rattle.input_reading.specs.Results.{answer_of}
 use Rattle.input_reading.specs.RunReading.{aborted_line, answer_line, complete_line, held_line, lacking_line, line_as, line_of_words, number_alone, pinned_line, plain_line, target_line, transition_line, unexpected_line}
 use Rattle.input_reading.specs.Grammar.ResultForms.{ResultSays, end_form, lost_form, quorum_form, report_form, timeout_form, up_form, wait_form}
 use Rattle.input_reading.specs.Grammar.RunForms.{RunSays, SaysReason, aborted_form, answer_form, begin_form, complete_form, for_a_rule, for_no_copies, for_no_node, for_no_quorum, for_on_fail, for_stop_all, for_stopped, none_form, pinned_form, target_form, transition_form, unexpected_form}
-use Rattle.input_reading.specs.Grammar.WordValues.{WritesCount}
+use Rattle.input_reading.specs.Grammar.WordValues.{WritesPositive}
 use Rattle.input_reading.proofs.ActionRelated.{begin-read, begin-said, leaf-found, node-found}
 use Rattle.input_reading.proofs.NumbersSaid.{count-read}
 use Rattle.input_reading.proofs.PlacesSaid.{begins-with, by-form, choose, count-at, end-here, leaf-at, node-at, ok-one, ok_or-some, onto, word-here}
@@ -30,7 +30,7 @@ use Rattle.input_reading.proofs.RunWords.{id-at, pin-at, pin-read, reason-said, 
 record IsAlone (words : WordsOfLine) (k : ℕ) : Type 0 where
   word : List ℕ
   behind : drop 1 words ≡ word ∷ []
-  says : WritesCount word k
+  says : WritesPositive word k
 
 alone-said : (words : WordsOfLine) (k : ℕ) → number_alone words ≡ Ok k → IsAlone words k
 unfolding number_alone
@@ -39,7 +39,7 @@ alone-said words k e =
     let (end, last, e2) = bind-ok (line_end_at 2 words) _ k e1 in
     let same : n ≡ k = ok-one n k e2 in
     let a = count-at 1 words n number in
-    record { word = a.word; behind = onto _ a.here (end-here 2 words end last); says = subst (WritesCount a.word) same a.says }
+    record { word = a.word; behind = onto _ a.here (end-here 2 words end last); says = subst (WritesPositive a.word) same a.says }
 
 module _ (c : Cluster) where
   transition-said : (words : WordsOfLine) (read : RunLine) → words ≡ codes "transition" ∷ drop 1 words → transition_line words ≡ Ok read → RunSays c words read

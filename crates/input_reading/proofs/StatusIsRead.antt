@@ -11,7 +11,7 @@ use Rattle.input_reading.specs.Places.{WordsOfLine, leaf_at, node_at, seconds_at
 use Rattle.input_reading.specs.Status.{cleanup_line, interval_at, node_line, now_line, op_at, op_line, outcome_at, promotable_at, promotion_line, quorum_line, score_at, state_at, status_word, told_of}
 use Rattle.input_reading.specs.declared.status.told.Told.{Told}
 use Rattle.input_reading.specs.declared.status.told.Told.TheVariants.{Past}
-use Rattle.input_reading.specs.Grammar.StatusForms.{ActionEnded, SaysOutcome, StatusSays, a_demote, a_monitor, a_probe, a_promote, a_start, a_stop, cleanup_form, node_form, now_form, op_form, promotion_form, quorum_said}
+use Rattle.input_reading.specs.Grammar.StatusForms.{ActionEnded, SaysOutcome, StatusSays, a_demote, a_monitor, a_probe, a_promote, a_start, a_stop, cleanup_form, node_form, now_form, op_form, promotion_form, quorum_form}
 use Rattle.input_reading.proofs.ActionRelated.{leaf-found, node-found}
 use Rattle.input_reading.proofs.NumbersSaid.{number-read, whether-read}
 use Rattle.input_reading.proofs.PlacesSaid.{ok-one}
@@ -47,7 +47,7 @@ module _ (c : Cluster) where
   pub status-read : (words : WordsOfLine) (told : Told) → StatusSays c words told → told_of c words ≡ Ok told
   unfolding told_of status_word now_line quorum_line node_line cleanup_line promotion_line seconds_at yes_at node_at leaf_at state_at promotable_at score_at
   status-read ws t (now_form number seconds n) = rw (number-read 0 1099511627775 number seconds n) refl
-  status-read ws t (quorum_said word now s) = rw (whether-read word now s) refl
+  status-read ws t (quorum_form word now s) = rw (whether-read word now s) refl
   status-read ws t (node_form name word node state n s) = rw (node-found c name node n, state-read word state s) refl
   status-read ws t (op_form name leaf_name op ms code number node leaf action outcome moment a b e x s) =
       op-read name leaf_name op ms code number node leaf action outcome moment (rw (node-found c name node a) refl) (rw (leaf-found c leaf_name leaf b) refl) e

@@ -18,7 +18,7 @@ use Rattle.input_reading.specs.declared.status.told.Told.TheVariants.{Now, Quoru
 use Rattle.input_reading.specs.OpWords.{operation_named}
 use Rattle.input_reading.specs.Places.{WordsOfLine, leaf_at, line_end_at, node_at, seconds_at, word_at, yes_at}
 use Rattle.input_reading.specs.Status.{cleanup_line, history_action, interval_as, interval_at, may_have, node_line, node_word, now_line, op_at, op_line, outcome_at, outcome_of, promotable_at, promotion_line, quorum_line, score_at, state_at, status_word, told_as, told_of}
-use Rattle.input_reading.specs.Grammar.StatusForms.{SaysOutcome, SaysState, StatusSays, cleanup_form, node_form, now_form, op_form, promotion_form, quorum_said}
+use Rattle.input_reading.specs.Grammar.StatusForms.{SaysOutcome, SaysState, StatusSays, cleanup_form, node_form, now_form, op_form, promotion_form, quorum_form}
 use Rattle.input_reading.proofs.PlacesSaid.{IsAt, ask, begins-with, by-form, end-here, leaf-at, node-at, ok-one, ok_or-some, onto, seconds-at, table-at, whether-at, word-here}
 use Rattle.input_reading.proofs.StatusWords.{ended-said, outcome-said, state-said}
 use Rattle.input_reading.proofs.TablesSaid.{IsOperation, operation-said}
@@ -40,7 +40,7 @@ module _ (c : Cluster) where
       let (end, last, e2) = bind-ok (line_end_at 2 words) _ told e1 in
       let a = whether-at 1 words now whether in
       by-form (StatusSays c) words (codes "quorum" ∷ a.word ∷ []) (Quorum now) told (onto _ first (onto _ a.here (end-here 2 words end last))) e2
-      (quorum_said a.word now a.says)
+      (quorum_form a.word now a.says)
 
   state-at : (place : ℕ) (words : WordsOfLine) (state : NodeWord) → state_at place words ≡ Ok state → IsAt SaysState place words state
   unfolding state_at

@@ -103,7 +103,7 @@ journal_of c told = record { events = events_of c told; promotions = filter_map 
 abbrev pub status_journal : Cluster → List Line → Result Journal (Fault StatusCause)
 status_journal c lines = with_status_lines c [] lines >>= (λ told. Ok (journal_of c told))
 
--- the line tells of a node of the cluster, and of seconds below 2^40, where it tells of some that count
+-- a moment that is told is below 2^40, and an event is one of the history of so many nodes. Of other facts nothing is asked
 abbrev pub is_known : ℕ → Told → Bool
 is_known nodes (Now seconds) = nat_lt seconds (2 ^ 40)
 is_known nodes (Past event) = is_history_event nodes event

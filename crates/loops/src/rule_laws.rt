@@ -19,7 +19,8 @@ pub fn first_order_is_unique()
     ensures { (c : Cluster) (a b : Option ℕ) → AllOrder c → IsFirstOrder c a → IsFirstOrder c b → a ≡ b }
 {}
 
-/// No chain of needs or of links, however long, leads back to where it begins, just where the tests find none.
+/// No chain of needs or of links, however long, leads back to where it begins, just where the tests find none. The leaves of the colocations, or
+/// those of the orders and their actions, have to be there, as in a valid cluster they are.
 pub fn loops_are_computed()
     ensures needs { (c : Cluster) → AllJoin c → has_need_loop c ≡ false ↔ NeedsHaveNoLoop c }
     ensures steps { (c : Cluster) → AllOrder c → has_step_loop c ≡ false ↔ StepsHaveNoLoop c }

@@ -13,5 +13,6 @@ pub mod Picks
 pub mod Pins
 pub mod Queueing
 pub mod Reasoning
+pub mod ScoresByStates
 pub mod Taking
 pub mod Turns

@@ -6,13 +6,8 @@ use Rattle.cluster_types.specs.declared.journal.Event.{Event}
 use Rattle.cluster_types.specs.declared.journal.Promotion.{Promotion}
 use Rattle.cluster_types.specs.declared.placement.Decision.{Decision}
 use Rattle.cluster_types.specs.declared.placement.Decision.TheVariants.{Place, Promote}
-use Rattle.cluster_types.specs.declared.states.States.{States}
 use Rattle.cluster_types.specs.Terms.{base}
-use Rattle.score.specs.Total.{total_of}
 use Rattle.placement.specs.declared.totals.table.ScoreTable.{ScoreTable}
-use Rattle.placement.specs.Inner.LendingRows.{all_joined}
-use Rattle.placement.specs.OwnRows.{terms_by}
-use Rattle.placement.specs.Promotions.{wished_by}
 
 -- a list of all cells, leaf by leaf, node by node
 abbrev pub cells_of : {X : Type 0} → Cluster → (ℕ → ℕ → X) → List X
@@ -34,14 +29,3 @@ score_in_list scores nodes r n = if nat_lt n nodes then slice_index_or scores (r
 abbrev pub score_in : ScoreTable → Decision → ℕ → ℤ
 score_in table (Place r) n = score_in_list table.places table.nodes r n
 score_in table (Promote r) n = score_in_list table.promotes table.nodes r n
-
--- the same by the states of the cluster
-module _ (c : Cluster) (states : States) where
-  abbrev pub place_by : ℕ → ℕ → ℤ
-  place_by r n = total_of (terms_by c states (all_joined c states r) n)
-
-  abbrev pub promote_by : ℕ → ℕ → ℤ
-  promote_by r n = total_of (wished_by c states.moment states.promotions r n)
-
-  abbrev pub table_by : ScoreTable
-  table_by = record { nodes = length c.nodes; places = cells_of c place_by; promotes = cells_of c promote_by }

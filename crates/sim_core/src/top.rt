@@ -70,6 +70,7 @@ pub fn run<S: Source, W: Sink>(alloc: Global, words: &[String], src: &mut S, out
         → IsCompleteAnswer word (S.left src.old) result) }
 
     // What `replay` has written, whatever its status: the lines of the one run of its input, or a front of them; and that run is safe.
+    // Where nothing was written, it speaks of no run.
     ensures promise { ReadsLive (command_of (map string_bytes words.now))
         → IfSome (S.left src.old) (λ input. WritesASafeRun input (W.written out.old) (W.written out.new) result) }
 

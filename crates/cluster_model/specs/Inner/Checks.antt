@@ -14,12 +14,12 @@ use Rattle.cluster_model.specs.declared.resolution.directory.Directory.{Director
 use Rattle.cluster_model.specs.declared.resolution.fault.ModelCause.{ModelCause}
 use Rattle.cluster_model.specs.declared.resolution.fault.ModelCause.TheVariants.{UnknownName, NotPromotable, UnsupportedOrder, TooManyNodes, TooManyLeaves, TooManyRules}
 use Rattle.cluster_model.specs.declared.resolution.orders.Point.{Point}
-use Rattle.cluster_model.specs.Chains.{successive}
+use Rattle.cluster_model.specs.Successive.{successive}
 use Rattle.cluster_model.specs.Inner.Colocations.{dependent_at, primary_at}
 use Rattle.cluster_model.specs.Inner.Directories.{first_named, is_unknown, is_unknown_node, may_promote}
 use Rattle.cluster_model.specs.Locations.{role_of_word, role_written}
 use Rattle.cluster_model.specs.Inner.Orders.{first_point, then_point}
-use Rattle.cluster_model.specs.Checks.{is_unsupported_form}
+use Rattle.cluster_model.specs.Checks.{has_unsupported_pair}
 
 -- a rule names a resource or a node that isn't there
 abbrev pub has_unknown : Directory → Form → Bool
@@ -76,5 +76,5 @@ unfoldable pub cause_of : Directory → Counts → Form → Option ModelCause
 cause_of d counts form =
     if has_unknown d form then Some UnknownName
     else if has_unpromotable d form then Some NotPromotable
-    else if is_unsupported_form form then Some UnsupportedOrder
+    else if has_unsupported_pair form then Some UnsupportedOrder
     else excess_of counts

@@ -8,7 +8,7 @@ use Rattle.crm_parse.specs.declared.statement.Statement.{Statement}
 use Rattle.cluster_types.specs.declared.leaf.Leaf.{Leaf}
 use Rattle.cluster_model.specs.declared.expansion.leaves.Leaves.{Leaves}
 use Rattle.cluster_model.specs.declared.expansion.leaves.Span.{Span}
-use Rattle.cluster_model.specs.Settings.{nodes_in}
+use Rattle.cluster_model.specs.Settings.{node_names_in}
 use Rattle.cluster_model.specs.Inner.Tables.{lookup}
 use Rattle.cluster_model.specs.declared.resolution.directory.Directory.{Directory}
 use Rattle.cluster_model.specs.declared.expansion.spans.Ends.{Ends}
@@ -22,7 +22,7 @@ numbered_from n (name ∷ names) = (name, n) ∷ numbered_from (n + 1) names
 
 -- each node with its number, in the order of the text
 abbrev pub nodes_of : List Statement → List (List ℕ × ℕ)
-nodes_of statements = numbered_from 0 (flat_map (λ s. nodes_in s.form) statements)
+nodes_of statements = numbered_from 0 (flat_map (λ s. node_names_in s.form) statements)
 
 abbrev pub span_ends : Span → Ends
 span_ends span = record { first = span.first; last = span.last }

@@ -14,7 +14,7 @@ use Rattle.cluster_model.specs.declared.expansion.expand_fault.ExpandCause.TheVa
 use Rattle.cluster_model.specs.declared.expansion.kinds.Kind.{Kind}
 use Rattle.cluster_model.specs.declared.expansion.kinds.Kind.TheVariants as kind
 use Rattle.cluster_model.specs.declared.expansion.seen.Seen.{Seen}
-use Rattle.cluster_model.specs.Settings.{nodes_in}
+use Rattle.cluster_model.specs.Settings.{node_names_in}
 use Rattle.cluster_model.specs.Inner.Tables.{lookup}
 use Rattle.cluster_model.specs.Faults.{ids_in, parts_in, is_empty_group, has_twice}
 
@@ -36,7 +36,7 @@ nothing_seen = record { nodes = []; ids = []; parts = [] }
 -- the names that statements use, after one more
 unfoldable pub seen_after : Seen → Form → Seen
 seen_after seen form = record {
-  nodes = seen.nodes ++ nodes_in form;
+  nodes = seen.nodes ++ node_names_in form;
   ids = seen.ids ++ ids_in form;
   parts = seen.parts ++ parts_in form;
 }
@@ -53,7 +53,7 @@ pub record AreAlike (one other : Seen) : Type 0 where
 
 -- a name is used by an earlier node, or an id by an earlier resource or rule
 abbrev pub is_duplicate : Seen → Form → Bool
-is_duplicate seen form = list_any (has_name seen.nodes) (nodes_in form) || list_any (has_name seen.ids) (ids_in form)
+is_duplicate seen form = list_any (has_name seen.nodes) (node_names_in form) || list_any (has_name seen.ids) (ids_in form)
 
 -- a member or a child isn't there
 abbrev pub has_unknown_part : List (List ℕ × Kind) → Form → Bool

@@ -12,7 +12,7 @@ use Rattle.cluster_types.specs.declared.rules.OrderKind.{OrderKind}
 use Rattle.cluster_types.specs.declared.rules.OrderKind.TheVariants as kind
 use Rattle.cluster_model.specs.declared.resolution.directory.Directory.{Directory}
 use Rattle.cluster_model.specs.declared.resolution.orders.Point.{Point}
-use Rattle.cluster_model.specs.Chains.{successive}
+use Rattle.cluster_model.specs.Successive.{successive}
 use Rattle.cluster_model.specs.Inner.Directories.{first_named, is_local, last_named}
 use Rattle.cluster_model.specs.Orders.{op_of, kind_of_word, is_down}
 

@@ -3,7 +3,7 @@ ghost use Rattle.std.specs.List.{list_any};
 ghost use Rattle.std.specs.Option.{option_copied, option_to_list};
 ghost use Rattle.cluster_model.specs.Inner.Faults.{AreAlike, HaveTheSame, is_duplicate, nothing_seen, seen_after};
 ghost use Rattle.cluster_model.specs.Faults.{ids_in, parts_in};
-ghost use Rattle.cluster_model.specs.Settings.{nodes_in};
+ghost use Rattle.cluster_model.specs.Settings.{node_names_in};
 ghost use Rattle.crm_lex.specs.NameSets.{has_name};
 
 use cluster_types::NoMemory;
@@ -35,7 +35,7 @@ pub fn nothing_seen(alloc: Global) -> Seen
 
 /// The name of a node.
 fn node_in(form: &Form) -> Option<&Name>
-    ensures { option_to_list (option_copied result) ≡ nodes_in form.now }
+    ensures { option_to_list (option_copied result) ≡ node_names_in form.now }
 {
     match form {
         Form::Node { name, .. } => Some(name),

@@ -2,7 +2,7 @@
 
 ghost use Rattle.std.specs.Prelude.{◌≡◌, ◌+◌, if◌then◌else◌, length, None, unwrap_or, IfOk};
 ghost use Rattle.cluster_model.specs.Inner.Metas.{no_meta};
-ghost use Rattle.cluster_model.specs.Settings.{count_nodes, defaults_in, nodes_in, properties_in};
+ghost use Rattle.cluster_model.specs.Settings.{count_nodes, defaults_in, node_names_in, properties_in};
 ghost use Rattle.cluster_model.specs.Inner.Settings.{defaults_of, option_from, option_of};
 
 use crate::expansion::meta::{Meta, meta_of, no_meta, or_meta};
@@ -66,14 +66,14 @@ pub fn defaults_of(statements: &[Statement]) -> Meta
 }
 
 fn is_node(form: &Form) -> bool
-    ensures { (if result then 1 else 0) ≡ length (nodes_in form.now) }
+    ensures { (if result then 1 else 0) ≡ length (node_names_in form.now) }
 {
     matches!(form, Form::Node { .. })
 }
 
 /// How many nodes there are with one more statement.
 fn count_after(count: u32, form: &Form) -> Result<u32, NoMemory>
-    ensures { IfOk result (λ after. after ≡ count + length (nodes_in form.now)) }
+    ensures { IfOk result (λ after. after ≡ count + length (node_names_in form.now)) }
 {
     if is_node(form) {
         count.checked_add(1).ok_or(NoMemory)

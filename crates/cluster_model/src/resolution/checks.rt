@@ -3,11 +3,11 @@
 ghost use Rattle.std.specs.Prelude.{◌≡◌, ◌≤◌, [], length, IfOk};
 ghost use Rattle.std.specs.List.{list_any};
 ghost use Rattle.std.specs.Option.{option_or};
-ghost use Rattle.cluster_model.specs.Chains.{successive};
+ghost use Rattle.cluster_model.specs.Successive.{successive};
 ghost use Rattle.cluster_model.specs.Locations.{role_written};
 ghost use Rattle.cluster_model.specs.Inner.Directories.{is_unknown};
 ghost use Rattle.cluster_model.specs.Inner.Checks.{cause_of, excess_of, has_unknown, has_unpromotable, lacks_action, lacks_in_pair, lacks_role, side_lacks};
-ghost use Rattle.cluster_model.specs.Checks.{is_unsupported_form, turns_down};
+ghost use Rattle.cluster_model.specs.Checks.{has_unsupported_pair, turns_down};
 ghost use Rattle.cluster_model.specs.FirstFaults.{first_fault};
 ghost use Rattle.cluster_model.specs.Inner.Resolution.{own_cause};
 ghost use Rattle.cluster_model.specs.Inner.Search.{sound_count};
@@ -195,7 +195,7 @@ fn some_pair_turns_down(steps: &[OrderStep]) -> bool
 }
 
 fn is_unsupported(form: &Form) -> bool
-    ensures { result ≡ is_unsupported_form form.now }
+    ensures { result ≡ has_unsupported_pair form.now }
 {
     match form {
         Form::Order { steps, .. } => some_pair_turns_down(steps.as_slice()),

@@ -15,11 +15,11 @@ use Rattle.crm_parse.proofs.LackedBytes.{cut_at-none, has-append, name-lacks}
 use Rattle.crm_parse.proofs.PairsAgain.{cut_at-again}
 use Rattle.crm_parse.proofs.ScoreRead.{score-none}
 use Rattle.crm_parse.specs.Grammar.ColocationForm.{ColocationSays, SideSays, a_colocation, side_alone, side_in_role}
-use Rattle.crm_parse.specs.Grammar.Scores.{RuleRoleSays, ScoreSays, says_promoted, says_started}
+use Rattle.crm_parse.specs.Grammar.Scores.{ScoreSays, TakenRoleSays, says_promoted, says_started}
 use Rattle.crm_parse.proofs.Grammar.ScoresSaid.{score-begins, score-read, rule_role-lacks}
 use Rattle.crm_parse.proofs.Grammar.WordsSaid.{resource-again}
 
-in-read : (resource text : List ℕ) (r : RoleWord) → is_name resource ≡ true → RuleRoleSays text r
+in-read : (resource text : List ℕ) (r : RoleWord) → is_name resource ≡ true → TakenRoleSays text r
     → side_in resource (role_of text) ≡ Ok (record { resource = resource; role = r })
 unfolding side_in
 in-read resource t r n (says_started text h) = rw (h, side_in, resource-again resource n) refl

@@ -17,7 +17,7 @@ use Rattle.faults.proofs.Steps.{bind-ok}
 use Rattle.crm_parse.proofs.Binds.{name_at-again, name_at-ok}
 use Rattle.crm_parse.proofs.GroupRead.{EndsMembers, IsMember, members-again, members_from-read}
 use Rattle.crm_parse.proofs.Affixes.{after-again, name-no_description, noted_words, prefixed_at-words}
-use Rattle.crm_parse.specs.Grammar.Phrases.{EachSays, MayGive, PartsSay, is_given, label_then, no_part, no_word, not_given, one_part, one_word}
+use Rattle.crm_parse.specs.Grammar.Phrases.{EachSays, MaySay, PartsSay, is_given, label_then, no_part, no_word, not_given, one_part, one_word}
 use Rattle.crm_parse.specs.Grammar.Parts.{Section, SectionSays, a_section, an_operation, pairs_in, section_place, section_text}
 use Rattle.crm_parse.specs.Grammar.ResourceForms.{DescriptionSays, GroupSays, MemberSays, a_group, a_member}
 use Rattle.crm_parse.proofs.Grammar.OptionsSaid.{description-read, no_operation_says, noted-said}
@@ -104,7 +104,7 @@ label-ends : (word text : List ℕ) (words : Words) → DescriptionSays word tex
 label-ends w t words (label_then text value s) =
     ends-at (codes "description=" ++ text) words (or_right (is_section owner.Group (codes "description=" ++ text)) _ (ap is_some (after-again (codes "description=") text)))
 
-rest-ends : (front : Words) (description : Option (List ℕ)) (words : Words) (sections : List Section) → MayGive DescriptionSays front description
+rest-ends : (front : Words) (description : Option (List ℕ)) (words : Words) (sections : List Section) → MaySay DescriptionSays front description
     → PartsSay (SectionSays owner.Group) words sections → EndsMembers (front ++ words)
 rest-ends f d words sections not_given h = parts-end words sections h
 rest-ends f d words sections (is_given word text s) h = label-ends word text words s

@@ -24,7 +24,7 @@ use Rattle.crm_parse.specs.Settings.{settings_at}
 use Rattle.crm_parse.specs.Statements.{draft_after, draft_of, is_kept, is_unsupported, keyword_of, order, whole}
 use Rattle.faults.proofs.Steps.{bind-ok}
 use Rattle.crm_parse.proofs.Binds.{is-true, ok-same}
-use Rattle.crm_parse.specs.Grammar.Lines.{CloneWord, ColocationWord, KeptWord, LineSays, SettingsBegin, acl_group_word, acl_target_word, alert_word, clone_word_is, collocation_word, colocation_word, fencing_topology_word, line_kept, line_of_clone, line_of_colocation, line_of_group, line_of_location, line_of_node, line_of_order, line_of_primitive, line_of_settings, master_word, ms_word, op_defaults_word, property_word, role_word, rsc_defaults_word, user_word}
+use Rattle.crm_parse.specs.Grammar.Lines.{CloneWordSays, ColocationWord, KeptWord, LineSays, SettingsWordSays, acl_group_word, acl_target_word, alert_word, collocation_word, colocation_word, fencing_topology_word, is_clone_word, line_kept, line_of_clone, line_of_colocation, line_of_group, line_of_location, line_of_node, line_of_order, line_of_primitive, line_of_settings, master_word, ms_word, op_defaults_word, property_word, role_word, rsc_defaults_word, user_word}
 use Rattle.crm_parse.proofs.Grammar.CloneRelated.{clone-is_read, clone-is_said}
 use Rattle.crm_parse.proofs.Grammar.ColocationIsRead.{colocation-is_read}
 use Rattle.crm_parse.proofs.Grammar.ColocationIsSaid.{colocation-is_said}
@@ -47,7 +47,7 @@ data Begins : List ℕ → Keyword → Type 0 where
   a_location : Begins (codes "location") keyword.Location
   a_colocation : (word : List ℕ) → ColocationWord word → Begins word keyword.Colocation
   an_order : Begins (codes "order") keyword.Order
-  some_settings : (word : List ℕ) (what : SettingsWord) → SettingsBegin word what → Begins word (keyword.Settings what)
+  some_settings : (word : List ℕ) (what : SettingsWord) → SettingsWordSays word what → Begins word (keyword.Settings what)
   is_kept_so : (word : List ℕ) → KeptWord word → Begins word keyword.Kept
 
 -- a first word is this one, or the question goes on
@@ -85,7 +85,7 @@ kept-begins word k e s =
     (kept-text word (codes "acl_target") k acl_target_word s))
     (kept-text word (codes "acl_group") k acl_group_word s)
 
-settings-begin : (word text : List ℕ) (what : SettingsWord) (k : Keyword) → SettingsBegin text what → is word text ≡ true → keyword.Settings what ≡ k → Begins word k
+settings-begin : (word text : List ℕ) (what : SettingsWord) (k : Keyword) → SettingsWordSays text what → is word text ≡ true → keyword.Settings what ≡ k → Begins word k
 settings-begin word text what k h e s = is_word word text k (keyword.Settings what) (some_settings text what h) e s
 
 begins : (word : List ℕ) (k : Keyword) → keyword_of word ≡ Ok k → Begins word k
@@ -128,7 +128,7 @@ module _ (before : List DraftStatement) where
   after-said w k words d a_primitive e = whole-said (codes "primitive" ∷ words) (primitive_at words) d e (λ f h. line_of_primitive words f (primitive-is_said words f h))
   after-said w k words d a_group e = whole-said (codes "group" ∷ words) (group_at words) d e (λ f h. line_of_group words f (group-is_said words f h))
   after-said w k words d a_clone e =
-      whole-said (codes "clone" ∷ words) (clone_at false words) d e (λ f h. line_of_clone (codes "clone") false words f clone_word_is (clone-is_said false words f h))
+      whole-said (codes "clone" ∷ words) (clone_at false words) d e (λ f h. line_of_clone (codes "clone") false words f is_clone_word (clone-is_said false words f h))
   after-said w k words d an_ms e =
       whole-said (codes "ms" ∷ words) (clone_at true words) d e (λ f h. line_of_clone (codes "ms") true words f ms_word (clone-is_said true words f h))
   after-said w k words d a_master e =
@@ -150,9 +150,9 @@ module _ (before : List DraftStatement) where
       let (k, is_keyword, rest) = bind-ok (keyword_of word) _ d e in
       after-said word k words d (begins word k is_keyword) rest
 
-  clone-line : (word : List ℕ) (ms : Bool) (words : Words) (f : Form) → CloneWord word ms → clone_at ms words ≡ Ok f → draft_of before (word ∷ words) ≡ Ok (draft.Whole f)
+  clone-line : (word : List ℕ) (ms : Bool) (words : Words) (f : Form) → CloneWordSays word ms → clone_at ms words ≡ Ok f → draft_of before (word ∷ words) ≡ Ok (draft.Whole f)
   unfolding draft_of keyword_of
-  clone-line w m words f clone_word_is h = rw h refl
+  clone-line w m words f is_clone_word h = rw h refl
   clone-line w m words f ms_word h = rw h refl
   clone-line w m words f master_word h = rw h refl
 
@@ -161,7 +161,7 @@ module _ (before : List DraftStatement) where
   colocation-line w words f colocation_word h = rw h refl
   colocation-line w words f collocation_word h = rw h refl
 
-  settings-line : (word : List ℕ) (what : SettingsWord) (words : Words) (f : Form) → SettingsBegin word what → settings_at what before words ≡ Ok f
+  settings-line : (word : List ℕ) (what : SettingsWord) (words : Words) (f : Form) → SettingsWordSays word what → settings_at what before words ≡ Ok f
       → draft_of before (word ∷ words) ≡ Ok (draft.Whole f)
   unfolding draft_of keyword_of
   settings-line w what words f property_word h = rw h refl

@@ -18,9 +18,9 @@ use Rattle.crm_parse.proofs.Affixes.{noted_words, prefixed_at-words}
 use Rattle.crm_parse.proofs.LocationRead.{discovery-no_role, discovery_at-again, discovery_words, resource_at-again, Rest}
 use Rattle.crm_parse.proofs.ScoreRead.{first-none, score-none}
 use Rattle.score.specs.ScoreText.{read_score}
-use Rattle.crm_parse.specs.Grammar.Phrases.{LabelSays, MayGive, PartsSay, is_given, label_then, no_part, not_given, one_part, then_colon}
-use Rattle.crm_parse.specs.Grammar.LocationForms.{DiscoverySays, LocationSays, RuleSays, a_place, a_rule, always_discovered, no_discovery, some_rules}
-use Rattle.crm_parse.specs.Grammar.Scores.{RuleRoleSays, ScoreSays}
+use Rattle.crm_parse.specs.Grammar.Phrases.{LabelSays, MaySay, PartsSay, is_given, label_then, no_part, not_given, one_part, then_colon}
+use Rattle.crm_parse.specs.Grammar.LocationForms.{DiscoverySays, LocationSays, RuleSays, a_rule, always_discovered, at_a_node, no_discovery, where_rules_say}
+use Rattle.crm_parse.specs.Grammar.Scores.{ScoreSays, TakenRoleSays}
 use Rattle.crm_parse.proofs.Grammar.RuleRelated.{rules-read, rules-said}
 use Rattle.crm_parse.proofs.Grammar.ScoresSaid.{role-read, role-said, score-begins, score-read, score-said, table-is}
 use Rattle.crm_parse.proofs.Grammar.WordsSaid.{end-ok, resource-again}
@@ -41,18 +41,18 @@ resource-said words got e =
 
 -- the role
 role-case : (written : Option (List ℕ)) (read : Option RoleWord) → some_role written ≡ Ok read
-    → MayGive (LabelSays (codes "role=") RuleRoleSays) (noted_words (codes "role=") written) read
-role-case None read e = let same : None ≡ read = ok-same _ read e in subst (MayGive (LabelSays (codes "role=") RuleRoleSays) []) same not_given
+    → MaySay (LabelSays (codes "role=") TakenRoleSays) (noted_words (codes "role=") written) read
+role-case None read e = let same : None ≡ read = ok-same _ read e in subst (MaySay (LabelSays (codes "role=") TakenRoleSays) []) same not_given
 role-case (Some text) read e =
     let (role, is_role, last) = bind-ok (rule_role_of text) _ read e in
     let same : Some role ≡ read = ok-same _ read last in
-    subst (MayGive (LabelSays (codes "role=") RuleRoleSays) ((codes "role=" ++ text) ∷ [])) same
+    subst (MaySay (LabelSays (codes "role=") TakenRoleSays) ((codes "role=" ++ text) ∷ [])) same
     (is_given (codes "role=" ++ text) role (label_then text role (role-said text role is_role)))
 
 record RoleIsSaid (words : Words) (got : Option RoleWord × Words) : Type 0 where
   front : Words
   whole : words ≡ front ++ got.1
-  said : MayGive (LabelSays (codes "role=") RuleRoleSays) front got.0
+  said : MaySay (LabelSays (codes "role=") TakenRoleSays) front got.0
 
 role_at-said : (words : Words) (got : Option RoleWord × Words) → role_at words ≡ Ok got → RoleIsSaid words got
 unfolding role_at
@@ -121,7 +121,7 @@ no-rules ws rs (one_part part rule words rules s more) e = cc
 
 -- what stands before a score or rules
 module _ (id resource : List ℕ) (role_words : Words) (role : Option RoleWord) (front : Words) (discovery : Bool) (named : is_name id ≡ true)
-    (is_resource : is_name resource ≡ true) (role_said : MayGive (LabelSays (codes "role=") RuleRoleSays) role_words role) (everywhere : DiscoverySays front discovery) where
+    (is_resource : is_name resource ≡ true) (role_said : MaySay (LabelSays (codes "role=") TakenRoleSays) role_words role) (everywhere : DiscoverySays front discovery) where
   plain-said : (words : Words) (f : Form) → plain_at id resource role discovery words ≡ Ok f → LocationSays (id ∷ resource ∷ (role_words ++ (front ++ words))) f
   unfolding plain_at
   plain-said words f e =
@@ -130,7 +130,7 @@ module _ (id resource : List ℕ) (role_words : Words) (role : Option RoleWord) 
       let p = place-said words place is_place in
       subst (λ ws. LocationSays (id ∷ resource ∷ (role_words ++ (front ++ ws))) f) (sym p.whole)
       (subst (LocationSays (id ∷ resource ∷ (role_words ++ (front ++ (p.score ∷ place.1 ∷ []))))) made
-      (a_place id resource role_words role front discovery p.score place.0 place.1 named is_resource role_said everywhere p.said p.named))
+      (at_a_node id resource role_words role front discovery p.score place.0 place.1 named is_resource role_said everywhere p.said p.named))
 
   some-case : (words : Words) (rules : List RuleForm) → begins_rule words ≡ true → PartsSay RuleSays words rules → rules ≢ []
   some-case words rules b s e = let f : begins_rule [] ≡ true = subst (λ ws. begins_rule ws ≡ true) (no-rules words rules s e) b in cc
@@ -144,7 +144,7 @@ module _ (id resource : List ℕ) (role_words : Words) (role : Option RoleWord) 
       let r = rules-said (length words) [] words rules (omega arith) are_rules in
       let said : PartsSay RuleSays words rules = subst (PartsSay RuleSays words) (sym r.added) r.said in
       subst (LocationSays (id ∷ resource ∷ (role_words ++ (front ++ words)))) made
-      (some_rules id resource role_words role front discovery words rules named is_resource role_said everywhere said (some-case words rules b said))
+      (where_rules_say id resource role_words role front discovery words rules named is_resource role_said everywhere said (some-case words rules b said))
 
   last-said : (words : Words) (begins : Bool) (f : Form) → begins_rule words ≡ begins
       → cond begins (ruled_at id resource role discovery words) (plain_at id resource role discovery words) ≡ Ok f
@@ -178,11 +178,11 @@ discovery-is : (words : Words) (discovery : Bool) → DiscoverySays words discov
 discovery-is ws d no_discovery = refl
 discovery-is ws d always_discovered = refl
 
-role_label-read : (word : List ℕ) (role : RoleWord) (words : Words) → LabelSays (codes "role=") RuleRoleSays word role → role_at (word ∷ words) ≡ Ok (Some role, words)
+role_label-read : (word : List ℕ) (role : RoleWord) (words : Words) → LabelSays (codes "role=") TakenRoleSays word role → role_at (word ∷ words) ≡ Ok (Some role, words)
 unfolding role_at
 role_label-read w r words (label_then text role s) = rw (role_at, role-read text role s) refl
 
-role_at-read : (front : Words) (role : Option RoleWord) (rest : Words) → MayGive (LabelSays (codes "role=") RuleRoleSays) front role
+role_at-read : (front : Words) (role : Option RoleWord) (rest : Words) → MaySay (LabelSays (codes "role=") TakenRoleSays) front role
     → prefixed_at (codes "role=") rest ≡ (None, rest) → role_at (front ++ rest) ≡ Ok (role, rest)
 unfolding role_at
 role_at-read f r rest not_given n = rw (role_at, n) refl
@@ -218,7 +218,7 @@ abbrev last_at : List ℕ → List ℕ → Option RoleWord → Bool → Words �
 last_at id resource role discovery words = cond (begins_rule words) (ruled_at id resource role discovery words) (plain_at id resource role discovery words)
 
 located : (id resource : List ℕ) (role_words : Words) (role : Option RoleWord) (front : Words) (discovery : Bool) (words : Words) → is_name id ≡ true
-    → is_name resource ≡ true → MayGive (LabelSays (codes "role=") RuleRoleSays) role_words role → DiscoverySays front discovery → Rest words
+    → is_name resource ≡ true → MaySay (LabelSays (codes "role=") TakenRoleSays) role_words role → DiscoverySays front discovery → Rest words
     → location_at (id ∷ resource ∷ (role_words ++ (front ++ words))) ≡ last_at id resource role discovery words
 unfolding location_at
 located id resource role_words role front discovery words n r o d rest =
@@ -246,9 +246,9 @@ ruled-read id resource role discovery words rules s b = rw (b, ruled_at, rules-r
 
 -- what says a location is read as it
 pub location-is_read : (words : Words) (f : Form) → LocationSays words f → location_at words ≡ Ok f
-location-is_read ws f (a_place id resource role_words role front discovery score points node n r o d s k) =
+location-is_read ws f (at_a_node id resource role_words role front discovery score points node n r o d s k) =
     located id resource role_words role front discovery (score ∷ node ∷ []) n r o d (score-rest score points (node ∷ []) s)
     ∙ plain-read id resource role discovery score points node s k
-location-is_read ws f (some_rules id resource role_words role front discovery words rules n r o d s some) =
+location-is_read ws f (where_rules_say id resource role_words role front discovery words rules n r o d s some) =
     let (rest, b) = rules-rest words rules s some in
     located id resource role_words role front discovery words n r o d rest ∙ ruled-read id resource role discovery words rules s b

@@ -20,7 +20,7 @@ use Rattle.crm_parse.proofs.Binds.{is-true, name_of-again}
 use Rattle.crm_parse.proofs.OperationWords.{op_words}
 use Rattle.crm_parse.proofs.PairLists.{pair_words}
 use Rattle.crm_parse.specs.Grammar.Phrases.{EachSays, no_word, one_word}
-use Rattle.crm_parse.specs.Grammar.Parts.{EachTwo, MayBothRun, MayStandBoth, PairSays, Section, SectionSays, a_section, an_operation, operation, operation_if, operations_in, with_pairs}
+use Rattle.crm_parse.specs.Grammar.Parts.{EachTwo, MayBothBeWritten, MayStandBoth, PairSays, Section, SectionSays, a_section, an_operation, operation, operation_if, operations_in, pairs_section}
 use Rattle.crm_parse.proofs.Grammar.MonitorRoom.{Roomy, pairs-cut, rooms}
 use Rattle.crm_parse.proofs.Grammar.OperationsRelated.{op-stands, single-read}
 use Rattle.crm_parse.proofs.Grammar.PairsRelated.{new-read, pair-read, pairs-spelled, two-middle}
@@ -44,7 +44,7 @@ all-read ops name (kv ∷ kvs) said some two few =
     op_pairs-read ops (is_monitor_name (op_name name) && not (is_off (pair_words (kv ∷ kvs)))) p [] (pair_words (kv ∷ kvs)) (kv ∷ kvs) said two
     (rooms ops p name (kv ∷ kvs) (pairs-cut p (pair_words (kv ∷ kvs)) (kv ∷ kvs) said) two few)
 
-name-read : (ops : List Operation) (o : Operation) → is_name o.name ≡ true → o.name ≢ codes "rule" → AllByRecursion (λ one. MayBothRun one o) ops
+name-read : (ops : List Operation) (o : Operation) → is_name o.name ≡ true → o.name ≢ codes "rule" → AllByRecursion (λ one. MayBothBeWritten one o) ops
     → new_name ops o.name ≡ Ok o.name
 unfolding new_name
 name-read ops o named no_rule once =
@@ -63,7 +63,7 @@ op-same one other e = ap (λ s. from s one) e
   where
     from : Section → Operation → Operation
     from (operation o) d = o
-    from (with_pairs w kvs) d = d
+    from (pairs_section w kvs) d = d
 
 says-case : (words : Words) (s : Section) (o : Operation) → SectionSays owner.Primitive words s → s ≡ operation o → SaysOp o
 says-case ws s o (a_section w p words kvs at each some) e = cc
@@ -76,7 +76,7 @@ says-case ws s o (an_operation name words kvs prim named no_rule each some two) 
       two = two;
     })
 
-operation-read : (ops : List Operation) (o : Operation) → SaysOp o → AllByRecursion (λ one. MayBothRun one o) ops → AreFew (recurring (ops ++ o ∷ []))
+operation-read : (ops : List Operation) (o : Operation) → SaysOp o → AllByRecursion (λ one. MayBothBeWritten one o) ops → AreFew (recurring (ops ++ o ∷ []))
     → operation_of ops (op_words o) ≡ Ok o
 unfolding operation_of
 operation-read ops o h once few =
@@ -88,7 +88,7 @@ unfolding with_part
 ops-read done before words o h said fits =
     let says = says-case words (operation o) o said refl in
     let all : operations_in (done ++ operation o ∷ []) ≡ before.ops ++ o ∷ [] = flat_map-append operation_if done (operation o ∷ []) ∙ ap (λ os. os ++ o ∷ []) (sym h.ops) in
-    let once = two-middle MayBothRun before.ops o [] (subst (EachTwo MayBothRun) all fits.singles) in
+    let once = two-middle MayBothBeWritten before.ops o [] (subst (EachTwo MayBothBeWritten) all fits.singles) in
     let few = subst (λ os. AreFew (recurring os)) all fits.monitors in
     let read = operation-read before.ops o says once few in
     record {

@@ -26,7 +26,7 @@ use Rattle.crm_parse.proofs.FewMonitors.{few-kept}
 use Rattle.crm_parse.proofs.OperationWords.{kept_operation}
 use Rattle.crm_parse.proofs.SectionPairs.{pairs_of}
 use Rattle.crm_parse.specs.Grammar.Phrases.{EachSays, no_word, one_word}
-use Rattle.crm_parse.specs.Grammar.Parts.{EachTwo, MayBothRun, MayFollow, MayStandBoth, PairSays, Section, SectionSays, an_operation, operation, operations_in, operation_if, pairs_if, pairs_in}
+use Rattle.crm_parse.specs.Grammar.Parts.{EachTwo, MayBothBeWritten, MayFollow, MayStandBoth, PairSays, Section, SectionSays, an_operation, operation, operations_in, operation_if, pairs_if, pairs_in}
 use Rattle.crm_parse.proofs.Grammar.PairsRelated.{filled-said, new-said, pair-said, two-push}
 use Rattle.crm_parse.proofs.Grammar.SectionStates.{Stands, Stood, all-any, all-stood}
 use Rattle.crm_parse.proofs.Grammar.SectionsAreSaid.{OpsAreSaid}
@@ -43,7 +43,7 @@ weaken P Q [] f h = tt
 weaken P Q (x ∷ xs) f h = (f x h.0, weaken P Q xs f h.1)
 
 single-case : (op : Operation) (ops : List Operation) (single : Bool) → is_single (op_name op.name) ≡ single → (single && has_op ops op.name) ≡ false
-    → AllByRecursion (λ one. MayBothRun one op) ops
+    → AllByRecursion (λ one. MayBothBeWritten one op) ops
 single-case op ops true s h = weaken _ _ ops (λ one differs single. differs) (names-differ op.name ops h)
 single-case op ops false s h = all-any _ ops (λ one single. let f : ⊥ = false≢true (sym s ∙ single) in absurd f)
 
@@ -51,7 +51,7 @@ differ-names : (name : List ℕ) (ops : List Operation) → AllByRecursion (λ o
 differ-names name [] h = refl
 differ-names name (op ∷ ops) h = or_from _ _ (false_from_ne_true _ (λ e. h.0 (is-true op.name name e))) (differ-names name ops h.1)
 
-pub single-read : (op : Operation) (ops : List Operation) (single : Bool) → is_single (op_name op.name) ≡ single → AllByRecursion (λ one. MayBothRun one op) ops
+pub single-read : (op : Operation) (ops : List Operation) (single : Bool) → is_single (op_name op.name) ≡ single → AllByRecursion (λ one. MayBothBeWritten one op) ops
     → (single && has_op ops op.name) ≡ false
 single-read op ops true s h = differ-names op.name ops (weaken _ _ ops (λ one may. may s) h)
 single-read op ops false s h = refl
@@ -123,7 +123,7 @@ all_op_pairs ops name (word ∷ words) pairs e =
 -- one more operation
 record OperationIsSaid (ops : List Operation) (words : Words) (op : Operation) : Type 0 where
   said : SectionSays owner.Primitive (codes "op" ∷ words) (operation op)
-  once : AllByRecursion (λ one. MayBothRun one op) ops
+  once : AllByRecursion (λ one. MayBothBeWritten one op) ops
 
 operation-said : (ops : List Operation) (words : Words) (op : Operation) → operation_of ops words ≡ Ok op → OperationIsSaid ops words op
 unfolding operation_of
@@ -159,7 +159,7 @@ same-pairs Operations before ops = refl
 same-pairs Op before ops = refl
 
 pub op-stands : (done : List Section) (before : Sections) (words : Words) (op : Operation) → Stands owner.Primitive done before → operation_of before.ops words ≡ Ok op
-    → Stood owner.Primitive (operation op) → AllByRecursion (λ one. MayBothRun one op) before.ops
+    → Stood owner.Primitive (operation op) → AllByRecursion (λ one. MayBothBeWritten one op) before.ops
     → Stands owner.Primitive (done ++ operation op ∷ []) (record before { ops = before.ops ++ op ∷ [] })
 op-stands done before words op h e stood once =
     let kept = kept_operation before.ops words op h.kept e in
@@ -171,7 +171,7 @@ op-stands done before words op h e stood once =
       kept = kept;
       in_turn = two-push (MayFollow owner.Primitive) done (operation op) h.in_turn (all-any _ done (λ one. tt));
       keys = λ w p at. subst (EachTwo (MayStandBoth p)) (sym (no_pairs w done op)) (h.keys w p at);
-      singles = subst (EachTwo MayBothRun) (sym (one_operation done op)) (two-push MayBothRun (operations_in done) op h.singles (subst (AllByRecursion (λ one. MayBothRun one op)) h.ops once));
+      singles = subst (EachTwo MayBothBeWritten) (sym (one_operation done op)) (two-push MayBothBeWritten (operations_in done) op h.singles (subst (AllByRecursion (λ one. MayBothBeWritten one op)) h.ops once));
       monitors = subst (λ os. AreFew (recurring os)) ops (few-kept (before.ops ++ op ∷ []) kept);
     }
 

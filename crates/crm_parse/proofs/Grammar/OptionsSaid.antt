@@ -10,11 +10,11 @@ use Rattle.crm_parse.specs.declared.pair.Operation.{Operation}
 use Rattle.crm_parse.specs.Reading.{Words, colon_at, given_at, prefixed_at, some_name}
 use Rattle.crm_parse.proofs.Binds.{given_at-again, given_at-ok, name_of-again, some_name-name}
 use Rattle.crm_parse.proofs.Affixes.{colon_at-again, colon_at-words, given_words, noted_words, prefixed_at-again}
-use Rattle.crm_parse.specs.Grammar.Phrases.{AnyText, ColonSays, LabelSays, MayGive, NameSays, PartsSay, a_name, any_text, is_given, label_then, no_part, not_given, one_part, then_colon}
+use Rattle.crm_parse.specs.Grammar.Phrases.{AnyText, ColonSays, LabelSays, MaySay, NameSays, PartsSay, a_name, any_text, is_given, label_then, no_part, not_given, one_part, then_colon}
 use Rattle.crm_parse.specs.Grammar.Parts.{Section, SectionSays, a_section, an_operation, operation, section_text}
 
 -- what stands behind a label
-pub noted-said : (label : List ℕ) (noted : Option (List ℕ)) → MayGive (LabelSays label AnyText) (noted_words label noted) noted
+pub noted-said : (label : List ℕ) (noted : Option (List ℕ)) → MaySay (LabelSays label AnyText) (noted_words label noted) noted
 noted-said label None = not_given
 noted-said label (Some text) = is_given (label ++ text) text (label_then text text (any_text text))
 
@@ -24,19 +24,19 @@ text-is w t (any_text text) = refl
 label-is : (label word text : List ℕ) → LabelSays label AnyText word text → word ≡ label ++ text
 label-is label w t (label_then text value s) = ap (λ x. label ++ x) (text-is text value s)
 
-pub noted-is : (label : List ℕ) (words : Words) (noted : Option (List ℕ)) → MayGive (LabelSays label AnyText) words noted → words ≡ noted_words label noted
+pub noted-is : (label : List ℕ) (words : Words) (noted : Option (List ℕ)) → MaySay (LabelSays label AnyText) words noted → words ≡ noted_words label noted
 noted-is label ws n not_given = refl
 noted-is label ws n (is_given word text s) = ap (λ w. w ∷ []) (label-is label word text s)
 
 -- an id before its colon
-given-case : (id : Option (List ℕ)) → some_name id ≡ Ok id → MayGive (ColonSays NameSays) (given_words id) id
+given-case : (id : Option (List ℕ)) → some_name id ≡ Ok id → MaySay (ColonSays NameSays) (given_words id) id
 given-case None e = not_given
 given-case (Some name) e = is_given (name ++ codes ":") name (then_colon name name (a_name name (some_name-name name e)))
 
 pub record GivenIsSaid (words : Words) (read : Option (List ℕ) × Words) : Type 0 where
   pub front : Words
   pub whole : words ≡ front ++ read.1
-  pub said : MayGive (ColonSays NameSays) front read.0
+  pub said : MaySay (ColonSays NameSays) front read.0
 
 pub given-said : (words : Words) (read : Option (List ℕ) × Words) → given_at words ≡ Ok read → GivenIsSaid words read
 given-said words read e =
@@ -53,13 +53,13 @@ pub record GivenIs (words : Words) (id : Option (List ℕ)) : Type 0 where
   pub same : words ≡ given_words id
   pub named : some_name id ≡ Ok id
 
-pub given-is : (words : Words) (id : Option (List ℕ)) → MayGive (ColonSays NameSays) words id → GivenIs words id
+pub given-is : (words : Words) (id : Option (List ℕ)) → MaySay (ColonSays NameSays) words id → GivenIs words id
 given-is ws i not_given = record { same = refl; named = refl }
 given-is ws i (is_given word name s) =
     let (same, h) = colon-is word name s in
     record { same = ap (λ w. w ∷ []) same; named = rw (name_of-again name h) refl }
 
-pub given-read : (front : Words) (id : Option (List ℕ)) (rest : Words) → MayGive (ColonSays NameSays) front id → colon_at rest ≡ (None, rest)
+pub given-read : (front : Words) (id : Option (List ℕ)) (rest : Words) → MaySay (ColonSays NameSays) front id → colon_at rest ≡ (None, rest)
     → given_at (front ++ rest) ≡ Ok (id, rest)
 given-read front id rest s n =
     let is = given-is front id s in
@@ -87,7 +87,7 @@ parts-no_description statement ws ss (one_part part s words sections said more) 
 
 -- a description before sections is read
 pub description-read : (statement : Owner) (front : Words) (description : Option (List ℕ)) (words : Words) (sections : List Section)
-    → MayGive (LabelSays (codes "description=") AnyText) front description → PartsSay (SectionSays statement) words sections
+    → MaySay (LabelSays (codes "description=") AnyText) front description → PartsSay (SectionSays statement) words sections
     → prefixed_at (codes "description=") (front ++ words) ≡ (description, words)
 description-read statement front description words sections s h =
     subst (λ ws. prefixed_at (codes "description=") (ws ++ words) ≡ (description, words)) (sym (noted-is (codes "description=") front description s))

@@ -17,7 +17,7 @@ use Rattle.crm_parse.specs.WordTexts.{action_word_text}
 use Rattle.crm_parse.proofs.Affixes.{before-again, name-no_colon}
 use Rattle.crm_parse.proofs.LackedBytes.{cut_at-none, has-append, name-lacks, no_label}
 use Rattle.crm_parse.proofs.PairsAgain.{cut_at-again}
-use Rattle.crm_parse.specs.Grammar.Phrases.{BelowTable, ColonSays, EachSays, LabelSays, MaySay, in_table, is_said, label_then, left_out, no_word, one_word, then_colon}
+use Rattle.crm_parse.specs.Grammar.Phrases.{ColonSays, EachSays, LabelSays, SaysOr, TableSays, in_table, is_said, label_then, left_out, no_word, one_word, then_colon}
 use Rattle.crm_parse.specs.Grammar.OrderForm.{KindSays, OrderSays, StepSays, resource_acts, resource_alone, symmetrical_unsaid}
 use Rattle.crm_parse.proofs.Grammar.KindsSaid.{kind-read}
 use Rattle.crm_parse.proofs.Grammar.OrderIsSaid.{label, unsaid-case}
@@ -63,7 +63,7 @@ kind-written : (word : List ℕ) (kind : KindWord) (rest : Words) → ColonSays 
 unfolding kind_at
 kind-written w k rest (then_colon text kind s) = rw (kind_at, colon_at, before-again (codes ":") text, kind-read text kind s) refl
 
-kind_at-read : (front : Words) (kind : KindWord) (rest : Words) → MaySay (ColonSays KindSays) Mandatory front kind → colon_at rest ≡ (None, rest)
+kind_at-read : (front : Words) (kind : KindWord) (rest : Words) → SaysOr (ColonSays KindSays) Mandatory front kind → colon_at rest ≡ (None, rest)
     → kind_at (front ++ rest) ≡ Ok (kind, rest)
 unfolding kind_at
 kind_at-read f k rest left_out n = rw (kind_at, n) refl
@@ -107,10 +107,10 @@ steps_at-read ws ss rest no_word n ends = absurd (omega (arith, n))
 steps_at-read ws ss rest (one_word word step words steps s more) n ends = second-read word step words steps rest s more n ends
 
 -- whether it is symmetrical
-label-ends : (word : List ℕ) (both : Bool) (words : Words) → LabelSays label (BelowTable bool_of) word both → Ends (word ∷ words)
+label-ends : (word : List ℕ) (both : Bool) (words : Words) → LabelSays label (TableSays bool_of) word both → Ends (word ∷ words)
 label-ends w b words (label_then text both s) = λ done. refl
 
-last-ends : (unsaid : Bool) (last : Words) (both : Bool) → MaySay (LabelSays label (BelowTable bool_of)) unsaid last both → Ends last
+last-ends : (unsaid : Bool) (last : Words) (both : Bool) → SaysOr (LabelSays label (TableSays bool_of)) unsaid last both → Ends last
 last-ends unsaid ws b left_out = λ done. refl
 last-ends unsaid ws b (is_said word both s) = label-ends word both [] s
 
@@ -120,20 +120,20 @@ fits Optional both h = refl
 fits Serialize false h = refl
 fits Serialize true h = let e : true ≡ false = h refl in cc
 
-in_table-is : (text : List ℕ) (both : Bool) → BelowTable bool_of text both → bool_of text ≡ Some both
+in_table-is : (text : List ℕ) (both : Bool) → TableSays bool_of text both → bool_of text ≡ Some both
 in_table-is t b (in_table text both h) = h
 
 record LastRead (kind : KindWord) (last : Words) (both : Bool) : Type 0 where
   read : symmetrical_in kind (prefixed_at label last).0 ≡ Ok both
   end : end_at (prefixed_at label last).1 ≡ Ok tt
 
-label-read : (kind : KindWord) (word : List ℕ) (both : Bool) → LabelSays label (BelowTable bool_of) word both → (kind ≡ Serialize → both ≡ false)
+label-read : (kind : KindWord) (word : List ℕ) (both : Bool) → LabelSays label (TableSays bool_of) word both → (kind ≡ Serialize → both ≡ false)
     → LastRead kind (word ∷ []) both
 unfolding symmetrical_in
 label-read kind w b (label_then text both s) h =
     record { read = rw (symmetrical_in, in_table-is text both s) (fits kind both h); end = refl }
 
-last-read : (kind : KindWord) (last : Words) (both : Bool) → MaySay (LabelSays label (BelowTable bool_of)) (symmetrical_unsaid kind) last both
+last-read : (kind : KindWord) (last : Words) (both : Bool) → SaysOr (LabelSays label (TableSays bool_of)) (symmetrical_unsaid kind) last both
     → (kind ≡ Serialize → both ≡ false) → LastRead kind last both
 unfolding symmetrical_in
 last-read kind ws b left_out h = record { read = ap Ok (sym (unsaid-case kind)); end = refl }
@@ -144,7 +144,7 @@ pub order-is_read : (words : Words) (order : OrderDraft) → OrderSays words ord
 unfolding order_at
 order-is_read words order h =
     let rest = h.step_words ++ h.last_words in
-    let last = last-read order.kind h.last_words order.symmetrical h.symmetrical h.serialize_is_not in
+    let last = last-read order.kind h.last_words order.symmetrical h.symmetrical h.serialize_is_one_way in
     rw (
       h.words_are,
       order_at,

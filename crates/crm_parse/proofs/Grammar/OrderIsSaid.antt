@@ -19,21 +19,21 @@ use Rattle.crm_parse.proofs.OrderRead.{IsOrder, order_at-ok}
 use Rattle.crm_parse.proofs.PairWords.{cut_at-some}
 use Rattle.crm_parse.proofs.ResourceNames.{resource-ok}
 use Rattle.crm_parse.proofs.Affixes.{colon_at-words, given_words, noted_words, prefixed_at-words}
-use Rattle.crm_parse.specs.Grammar.Phrases.{BelowTable, ColonSays, EachSays, LabelSays, MaySay, in_table, is_said, label_then, left_out, no_word, one_word, then_colon}
+use Rattle.crm_parse.specs.Grammar.Phrases.{ColonSays, EachSays, LabelSays, SaysOr, TableSays, in_table, is_said, label_then, left_out, no_word, one_word, then_colon}
 use Rattle.crm_parse.specs.Grammar.OrderForm.{KindSays, OrderSays, StepSays, resource_acts, resource_alone, symmetrical_unsaid}
 use Rattle.crm_parse.proofs.Grammar.Phrases.{each-append}
 use Rattle.crm_parse.proofs.Grammar.KindsSaid.{kind-said}
 use Rattle.crm_parse.proofs.Grammar.WordsSaid.{end-ok}
 
 -- the kind
-may-kind : (written : Option (List ℕ)) (kind : KindWord) → kind_in written ≡ Ok kind → MaySay (ColonSays KindSays) Mandatory (given_words written) kind
-may-kind None kind e = let k : Mandatory ≡ kind = cc in subst (MaySay (ColonSays KindSays) Mandatory []) k left_out
+may-kind : (written : Option (List ℕ)) (kind : KindWord) → kind_in written ≡ Ok kind → SaysOr (ColonSays KindSays) Mandatory (given_words written) kind
+may-kind None kind e = let k : Mandatory ≡ kind = cc in subst (SaysOr (ColonSays KindSays) Mandatory []) k left_out
 may-kind (Some text) kind e = is_said (text ++ codes ":") kind (then_colon text kind (kind-said text kind e))
 
 record KindIsSaid (words : Words) (read : KindWord × Words) : Type 0 where
   front : Words
   whole : words ≡ front ++ read.1
-  said : MaySay (ColonSays KindSays) Mandatory front read.0
+  said : SaysOr (ColonSays KindSays) Mandatory front read.0
 
 kind_at-said : (words : Words) (read : KindWord × Words) → kind_at words ≡ Ok read → KindIsSaid words read
 unfolding kind_at
@@ -158,11 +158,11 @@ abbrev pub label : List ℕ
 label = codes "symmetrical="
 
 may-symmetrical : (kind : KindWord) (written : Option (List ℕ)) (read : Bool) → symmetrical_in kind written ≡ Ok read
-    → MaySay (LabelSays label (BelowTable bool_of)) (symmetrical_unsaid kind) (noted_words label written) read
+    → SaysOr (LabelSays label (TableSays bool_of)) (symmetrical_unsaid kind) (noted_words label written) read
 unfolding symmetrical_in
 may-symmetrical kind None read e =
     let same : not (is_serialize_word kind) ≡ read = cc in
-    subst (MaySay (LabelSays label (BelowTable bool_of)) (symmetrical_unsaid kind) []) (unsaid-case kind ∙ same) left_out
+    subst (SaysOr (LabelSays label (TableSays bool_of)) (symmetrical_unsaid kind) []) (unsaid-case kind ∙ same) left_out
 may-symmetrical kind (Some text) read e =
     let (both, told, last) = bind-ok (ok_or (bool_of text) BadValue) _ read e in
     let same = as-case kind both read last in
@@ -177,9 +177,9 @@ record Parts (words : Words) (order : OrderDraft) : Type 0 where
   step_words : Words
   last_words : Words
   words_are : words ≡ order.id ∷ (kind_words ++ (step_words ++ last_words))
-  kind : MaySay (ColonSays KindSays) Mandatory kind_words order.kind
+  kind : SaysOr (ColonSays KindSays) Mandatory kind_words order.kind
   steps : EachSays StepSays step_words order.steps
-  symmetrical : MaySay (LabelSays label (BelowTable bool_of)) (symmetrical_unsaid order.kind) last_words order.symmetrical
+  symmetrical : SaysOr (LabelSays label (TableSays bool_of)) (symmetrical_unsaid order.kind) last_words order.symmetrical
 
 with_parts : (words : Words) (order : OrderDraft) → IsOrder order → Parts words order → OrderSays words order
 with_parts words order is p = record {
@@ -192,7 +192,7 @@ with_parts words order is p = record {
   steps = p.steps;
   two_or_more = let n : length order.steps ≡ length (is.one ∷ is.two ∷ is.more) = ap length is.steps in omega (arith, n);
   symmetrical = p.symmetrical;
-  serialize_is_not = serialize-not order.kind order.symmetrical is.fits;
+  serialize_is_one_way = serialize-not order.kind order.symmetrical is.fits;
 }
 
 parts-said : (words : Words) (order : OrderDraft) → order_at words ≡ Ok order → Parts words order

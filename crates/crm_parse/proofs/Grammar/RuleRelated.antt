@@ -17,21 +17,21 @@ use Rattle.faults.proofs.Steps.{bind-ok}
 use Rattle.crm_parse.proofs.Binds.{is-true, name_of-again, ok-same, some_name-name, some_name-ok, unless-ok, when-ok, word_at-ok}
 use Rattle.crm_parse.proofs.Affixes.{noted_words, prefixed_at-words}
 use Rattle.crm_parse.proofs.ScoreRead.{score-none}
-use Rattle.crm_parse.specs.Grammar.Phrases.{LabelSays, MayGive, NameSays, PartsSay, a_name, is_given, label_then, no_part, not_given, one_part}
+use Rattle.crm_parse.specs.Grammar.Phrases.{LabelSays, MaySay, NameSays, PartsSay, a_name, is_given, label_then, no_part, not_given, one_part}
 use Rattle.crm_parse.specs.Grammar.LocationForms.{RuleRoleWord, RuleSays, a_rule, with_dollar, without_dollar}
-use Rattle.crm_parse.specs.Grammar.Scores.{RuleRoleSays, ScoreSays}
+use Rattle.crm_parse.specs.Grammar.Scores.{ScoreSays, TakenRoleSays}
 use Rattle.crm_parse.proofs.Grammar.ExpressionRelated.{ExpressionIsRead, expression-read, expression-said, rule_of}
 use Rattle.crm_parse.proofs.Grammar.ScoresSaid.{role-read, role-said, score-begins, score-read, score-said}
 
 -- the id
-id-case : (id : Option (List ℕ)) → some_name id ≡ Ok id → MayGive (LabelSays (codes "$id=") NameSays) (noted_words (codes "$id=") id) id
+id-case : (id : Option (List ℕ)) → some_name id ≡ Ok id → MaySay (LabelSays (codes "$id=") NameSays) (noted_words (codes "$id=") id) id
 id-case None e = not_given
 id-case (Some name) e = is_given (codes "$id=" ++ name) name (label_then name name (a_name name (some_name-name name e)))
 
 record IdIsSaid (words : Words) (got : Option (List ℕ) × Words) : Type 0 where
   front : Words
   whole : words ≡ front ++ got.1
-  said : MayGive (LabelSays (codes "$id=") NameSays) front got.0
+  said : MaySay (LabelSays (codes "$id=") NameSays) front got.0
 
 id-said : (words : Words) (got : Option (List ℕ) × Words) → rule_id_at words ≡ Ok got → IdIsSaid words got
 unfolding rule_id_at
@@ -43,24 +43,24 @@ id-said words got e =
     subst (IdIsSaid words) made (record {
       front = noted_words (codes "$id=") found.0;
       whole = prefixed_at-words (codes "$id=") words found refl;
-      said = subst (MayGive (LabelSays (codes "$id=") NameSays) (noted_words (codes "$id=") found.0)) (sym same) (id-case found.0 good);
+      said = subst (MaySay (LabelSays (codes "$id=") NameSays) (noted_words (codes "$id=") found.0)) (sym same) (id-case found.0 good);
     })
 
 -- the role
 record RoleIsSaid (words : Words) (got : Option RoleWord × Words) : Type 0 where
   front : Words
   whole : words ≡ front ++ got.1
-  said : MayGive RuleRoleWord front got.0
+  said : MaySay RuleRoleWord front got.0
 
 none-said : (words rest : Words) (read : Option RoleWord) → words ≡ rest → None ≡ read → RoleIsSaid words (read, rest)
-none-said words rest read w r = record { front = []; whole = w; said = subst (MayGive RuleRoleWord []) r not_given }
+none-said words rest read w r = record { front = []; whole = w; said = subst (MaySay RuleRoleWord []) r not_given }
 
-some-said : (word text : List ℕ) (words rest : Words) (read : Option RoleWord) → words ≡ word ∷ rest → ((role : RoleWord) → RuleRoleSays text role → RuleRoleWord word role)
+some-said : (word text : List ℕ) (words rest : Words) (read : Option RoleWord) → words ≡ word ∷ rest → ((role : RoleWord) → TakenRoleSays text role → RuleRoleWord word role)
     → some_role (Some text) ≡ Ok read → RoleIsSaid words (read, rest)
 some-said word text words rest read w h e =
     let (role, is_role, last) = bind-ok (rule_role_of text) _ read e in
     let made : Some role ≡ read = ok-same _ read last in
-    record { front = word ∷ []; whole = w; said = subst (MayGive RuleRoleWord (word ∷ [])) made (is_given word role (h role (role-said text role is_role))) }
+    record { front = word ∷ []; whole = w; said = subst (MaySay RuleRoleWord (word ∷ [])) made (is_given word role (h role (role-said text role is_role))) }
 
 plain-case : (words : Words) (found : Option (List ℕ) × Words) (read : Option RoleWord) → words ≡ noted_words (codes "role=") found.0 ++ found.1
     → some_role found.0 ≡ Ok read → RoleIsSaid words (read, found.1)
@@ -191,7 +191,7 @@ id_label-read w n words (label_then text name s) =
     let (same, h) = name-is text name s in
     rw (same, rule_id_at, name_of-again name h) refl
 
-id-read : (front : Words) (id : Option (List ℕ)) (rest : Words) → MayGive (LabelSays (codes "$id=") NameSays) front id
+id-read : (front : Words) (id : Option (List ℕ)) (rest : Words) → MaySay (LabelSays (codes "$id=") NameSays) front id
     → prefixed_at (codes "$id=") rest ≡ (None, rest) → rule_id_at (front ++ rest) ≡ Ok (id, rest)
 unfolding rule_id_at
 id-read f i rest not_given n = rw (rule_id_at, n) refl
@@ -213,7 +213,7 @@ no_role score points words s =
       score-no_label 114 (codes "ole=") score words (score-begins 114 (codes "ole=") score points (score-none 114 refl (λ t. refl) (λ t. refl)) s),
     ) refl
 
-rule_role-read : (front : Words) (role : Option RoleWord) (score : List ℕ) (points : ℤ) (words : Words) → MayGive RuleRoleWord front role → ScoreSays score points
+rule_role-read : (front : Words) (role : Option RoleWord) (score : List ℕ) (points : ℤ) (words : Words) → MaySay RuleRoleWord front role → ScoreSays score points
     → rule_role_at (front ++ (score ∷ words)) ≡ Ok (role, score ∷ words)
 unfolding rule_role_at
 rule_role-read f r score points words not_given s = rw (rule_role_at, no_role score points words s) refl
@@ -223,7 +223,7 @@ role-no_id : (word : List ℕ) (role : RoleWord) (words : Words) → RuleRoleWor
 role-no_id w r words (with_dollar text role s) = refl
 role-no_id w r words (without_dollar text role s) = refl
 
-no_id : (front : Words) (role : Option RoleWord) (score : List ℕ) (points : ℤ) (words : Words) → MayGive RuleRoleWord front role → ScoreSays score points
+no_id : (front : Words) (role : Option RoleWord) (score : List ℕ) (points : ℤ) (words : Words) → MaySay RuleRoleWord front role → ScoreSays score points
     → prefixed_at (codes "$id=") (front ++ (score ∷ words)) ≡ (None, front ++ (score ∷ words))
 no_id f r score points words not_given s =
     score-no_label 36 (codes "id=") score words (score-begins 36 (codes "id=") score points (score-none 36 refl (λ t. refl) (λ t. refl)) s)
@@ -242,7 +242,7 @@ made-rule id role points got kept rule w r =
     ap (λ ws. rule_form id role points ws (rule_of got)) w ∙ ap (λ x. rule_form id role points kept x) r
 
 behind-read : (id_words : Words) (id : Option (List ℕ)) (role_words : Words) (role : Option RoleWord) (score : List ℕ) (points : ℤ) (words kept : Words) (rule : Rule)
-    (rest : Words) → MayGive (LabelSays (codes "$id=") NameSays) id_words id → MayGive RuleRoleWord role_words role → ScoreSays score points
+    (rest : Words) → MaySay (LabelSays (codes "$id=") NameSays) id_words id → MaySay RuleRoleWord role_words role → ScoreSays score points
     → ExpressionIsRead words kept rule rest
     → rule_at (id_words ++ (role_words ++ (score ∷ (words ++ rest))))
     ≡ Ok (rule_form id role points kept rule, rest)

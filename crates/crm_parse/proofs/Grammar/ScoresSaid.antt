@@ -18,8 +18,8 @@ use Rattle.crm_parse.proofs.Binds.{ok_or-ok}
 use Rattle.crm_parse.proofs.PairWords.{has}
 use Rattle.crm_parse.proofs.Affixes.{after-some, before-again, before-some, none_by}
 use Rattle.crm_parse.proofs.ScoreRead.{first-none}
-use Rattle.crm_parse.specs.Grammar.Phrases.{BelowTable, in_table, then_colon}
-use Rattle.crm_parse.specs.Grammar.Scores.{RuleRoleSays, ScoreSays, says_promoted, says_started}
+use Rattle.crm_parse.specs.Grammar.Phrases.{TableSays, in_table, then_colon}
+use Rattle.crm_parse.specs.Grammar.Scores.{ScoreSays, TakenRoleSays, says_promoted, says_started}
 
 -- a score with its colon
 pub score-said : (word : List ℕ) (points : ℤ) → score_of word ≡ Ok points → ScoreSays word points
@@ -29,7 +29,7 @@ score-said word points e =
     let whole : word ≡ text ++ codes ":" = before-some (codes ":") word text (ok_or-ok (before (codes ":") word) BadScore text found) in
     subst (λ w. ScoreSays w points) (sym whole) (then_colon text points (in_table text points (ok_or-ok (read_score text) BadScore points rest)))
 
-pub table-is : {A : Type 0} (table : List ℕ → Option A) (word : List ℕ) (value : A) → BelowTable table word value → table word ≡ Some value
+pub table-is : {A : Type 0} (table : List ℕ → Option A) (word : List ℕ) (value : A) → TableSays table word value → table word ≡ Some value
 table-is table w v (in_table word value h) = h
 
 pub score-read : (word : List ℕ) (points : ℤ) → ScoreSays word points → score_of word ≡ Ok points
@@ -43,22 +43,22 @@ score-begins b label w p none (then_colon text points s) =
     none_by _ (λ rest e. first-none b label text (codes ":") rest points none (table-is read_score text points s) (after-some (b ∷ label) (text ++ codes ":") rest e))
 
 -- a role
-role-case : (text : List ℕ) (name : RoleName) (read : RoleWord) → role_of text ≡ Some name → supported name ≡ Ok read → RuleRoleSays text read
-role-case text named.Started read r e = let s : role.Started ≡ read = cc in subst (RuleRoleSays text) s (says_started text r)
-role-case text named.Promoted read r e = let s : role.Promoted ≡ read = cc in subst (RuleRoleSays text) s (says_promoted text r)
+role-case : (text : List ℕ) (name : RoleName) (read : RoleWord) → role_of text ≡ Some name → supported name ≡ Ok read → TakenRoleSays text read
+role-case text named.Started read r e = let s : role.Started ≡ read = cc in subst (TakenRoleSays text) s (says_started text r)
+role-case text named.Promoted read r e = let s : role.Promoted ≡ read = cc in subst (TakenRoleSays text) s (says_promoted text r)
 role-case text named.Unpromoted read r e = cc
 role-case text named.Stopped read r e = cc
 
-pub supported-said : (text : List ℕ) (name : RoleName) (read : RoleWord) → role_of text ≡ Some name → supported name ≡ Ok read → RuleRoleSays text read
+pub supported-said : (text : List ℕ) (name : RoleName) (read : RoleWord) → role_of text ≡ Some name → supported name ≡ Ok read → TakenRoleSays text read
 supported-said text name read r e = role-case text name read r e
 
-pub role-said : (text : List ℕ) (read : RoleWord) → rule_role_of text ≡ Ok read → RuleRoleSays text read
+pub role-said : (text : List ℕ) (read : RoleWord) → rule_role_of text ≡ Ok read → TakenRoleSays text read
 unfolding rule_role_of
 role-said text read e =
     let (name, found, rest) = bind-ok (ok_or (role_of text) BadValue) _ read e in
     role-case text name read (ok_or-ok (role_of text) BadValue name found) rest
 
-pub role-read : (text : List ℕ) (read : RoleWord) → RuleRoleSays text read → rule_role_of text ≡ Ok read
+pub role-read : (text : List ℕ) (read : RoleWord) → TakenRoleSays text read → rule_role_of text ≡ Ok read
 unfolding rule_role_of
 role-read t r (says_started text h) = rw (rule_role_of, h) refl
 role-read t r (says_promoted text h) = rw (rule_role_of, h) refl
@@ -96,6 +96,6 @@ role-lacks : (text : List ℕ) (name : RoleName) → role_of text ≡ Some name 
 role-lacks text name e = role_lacks-case text name (says text (codes "Started")) (says text (codes "Promoted")) (says text (codes "Master"))
     (says text (codes "Unpromoted")) (says text (codes "Slave")) (says text (codes "Stopped")) refl refl refl refl refl refl e
 
-pub rule_role-lacks : (text : List ℕ) (read : RoleWord) → RuleRoleSays text read → has 61 text ≡ false
+pub rule_role-lacks : (text : List ℕ) (read : RoleWord) → TakenRoleSays text read → has 61 text ≡ false
 rule_role-lacks t r (says_started text h) = role-lacks text named.Started h
 rule_role-lacks t r (says_promoted text h) = role-lacks text named.Promoted h

@@ -16,7 +16,7 @@ use Rattle.crm_parse.specs.Reading.{Words}
 use Rattle.crm_parse.specs.Sections.{allows_section, has_no_pairs, may_follow, no_sections, place_of, takes_name}
 use Rattle.crm_parse.proofs.OperationWords.{KeptOps}
 use Rattle.crm_parse.proofs.SectionPairs.{pairs_of, put}
-use Rattle.crm_parse.specs.Grammar.Parts.{EachTwo, MayBothRun, MayFollow, MayStandBoth, Section, SectionSays, a_section, an_operation, operation, operations_in, pairs_if, pairs_in, section_place, section_text, with_pairs}
+use Rattle.crm_parse.specs.Grammar.Parts.{EachTwo, MayBothBeWritten, MayFollow, MayStandBoth, Section, SectionSays, a_section, an_operation, operation, operations_in, pairs_if, pairs_in, pairs_section, section_place, section_text}
 use Rattle.crm_parse.proofs.Grammar.PairsRelated.{two-push}
 use Rattle.crm_parse.proofs.Grammar.SectionWords.{placed-is, same-section}
 
@@ -32,7 +32,7 @@ pub record Stands (statement : Owner) (done : List Section) (read : Sections) : 
   pub kept : KeptOps read.ops
   pub in_turn : EachTwo (MayFollow statement) done
   pub keys : (section : SectionWord) (place : Place) → section_place statement section ≡ Some place → EachTwo (MayStandBoth place) (pairs_in section done)
-  pub singles : EachTwo MayBothRun (operations_in done)
+  pub singles : EachTwo MayBothBeWritten (operations_in done)
   pub monitors : AreFew (recurring (operations_in done))
 
 put-pairs : (w v : SectionWord) (kvs : List Kv) (s : Sections) → takes_name (Some v) ≡ false
@@ -76,8 +76,8 @@ put-pairs Op Op kvs s n = cc
 
 -- the pairs of a word behind one more section
 more-pairs : (v w : SectionWord) (done : List Section) (kvs : List Kv)
-    → pairs_in v (done ++ with_pairs w kvs ∷ []) ≡ pairs_in v done ++ (cond (is (section_text w) (section_text v)) kvs [] ++ [])
-more-pairs v w done kvs = flat_map-append (pairs_if v) done (with_pairs w kvs ∷ [])
+    → pairs_in v (done ++ pairs_section w kvs ∷ []) ≡ pairs_in v done ++ (cond (is (section_text w) (section_text v)) kvs [] ++ [])
+more-pairs v w done kvs = flat_map-append (pairs_if v) done (pairs_section w kvs ∷ [])
 
 pairs-by : (w v : SectionWord) (done : List Section) (before : Sections) (after kvs : List Kv) (b : Bool) → is (section_text w) (section_text v) ≡ b
     → after ≡ pairs_of w before ++ kvs → pairs_of v before ≡ pairs_in v done → cond b after (pairs_of v before) ≡ pairs_in v done ++ (cond b kvs [] ++ [])
@@ -87,7 +87,7 @@ pairs-by w v done before after kvs true s a p =
 pairs-by w v done before after kvs false s a p = p ∙ sym (append-nil (pairs_in v done))
 
 pub next-pairs : (w v : SectionWord) (done : List Section) (before : Sections) (after kvs : List Kv) → takes_name (Some v) ≡ false
-    → after ≡ pairs_of w before ++ kvs → pairs_of v before ≡ pairs_in v done → pairs_of v (put w after before) ≡ pairs_in v (done ++ with_pairs w kvs ∷ [])
+    → after ≡ pairs_of w before ++ kvs → pairs_of v before ≡ pairs_in v done → pairs_of v (put w after before) ≡ pairs_in v (done ++ pairs_section w kvs ∷ [])
 next-pairs w v done before after kvs n a p =
     put-pairs w v after before n ∙ (pairs-by w v done before after kvs (is (section_text w) (section_text v)) refl a p ∙ sym (more-pairs v w done kvs))
 
@@ -97,8 +97,8 @@ keys-by w v before after place true s h k = h (same-section w v s)
 keys-by w v before after place false s h k = k
 
 -- a section of pairs doesn't change the operations
-no_operation : (done : List Section) (w : SectionWord) (kvs : List Kv) → operations_in (done ++ with_pairs w kvs ∷ []) ≡ operations_in done
-no_operation done w kvs = flat_map-append _ done (with_pairs w kvs ∷ []) ∙ append-nil (operations_in done)
+no_operation : (done : List Section) (w : SectionWord) (kvs : List Kv) → operations_in (done ++ pairs_section w kvs ∷ []) ≡ operations_in done
+no_operation done w kvs = flat_map-append _ done (pairs_section w kvs ∷ []) ∙ append-nil (operations_in done)
 
 put-ops : (w : SectionWord) (kvs : List Kv) (s : Sections) → (put w kvs s).ops ≡ s.ops
 put-ops Attributes kvs s = refl
@@ -114,21 +114,21 @@ all-stood statement (x ∷ done) s h k = (h.0, all-stood statement done s h.1 k)
 
 -- one more section of pairs
 pub more-stands : (statement : Owner) (done : List Section) (before : Sections) (w : SectionWord) (after kvs : List Kv) → Stands statement done before
-    → Stood statement (with_pairs w kvs) → AllByRecursion (λ one. MayFollow statement one (with_pairs w kvs)) done → after ≡ pairs_of w before ++ kvs
-    → EachTwo (MayStandBoth (place_of statement w)) after → Stands statement (done ++ with_pairs w kvs ∷ []) (put w after before)
+    → Stood statement (pairs_section w kvs) → AllByRecursion (λ one. MayFollow statement one (pairs_section w kvs)) done → after ≡ pairs_of w before ++ kvs
+    → EachTwo (MayStandBoth (place_of statement w)) after → Stands statement (done ++ pairs_section w kvs ∷ []) (put w after before)
 more-stands statement done before w after kvs h stood turn a two = record {
-  each = all-stood statement done (with_pairs w kvs) h.each stood;
+  each = all-stood statement done (pairs_section w kvs) h.each stood;
   pairs = λ v place e. next-pairs w v done before after kvs (placed-is statement v place e).plain a (h.pairs v place e);
   ops = put-ops w after before ∙ (h.ops ∙ sym (no_operation done w kvs));
   kept = subst KeptOps (sym (put-ops w after before)) h.kept;
-  in_turn = two-push (MayFollow statement) done (with_pairs w kvs) h.in_turn turn;
+  in_turn = two-push (MayFollow statement) done (pairs_section w kvs) h.in_turn turn;
   keys = λ v place e.
       let at = placed-is statement v place e in
       subst (EachTwo (MayStandBoth place)) (sym (put-pairs w v after before at.plain) ∙ next-pairs w v done before after kvs at.plain a (h.pairs v place e))
       (keys-by w v before after place (is (section_text w) (section_text v)) refl
       (λ same. subst (λ p. EachTwo (MayStandBoth p) after) (ap (place_of statement) same ∙ sym at.same) two)
       (subst (EachTwo (MayStandBoth place)) (sym (h.pairs v place e)) (h.keys v place e)));
-  singles = subst (EachTwo MayBothRun) (sym (no_operation done w kvs)) h.singles;
+  singles = subst (EachTwo MayBothBeWritten) (sym (no_operation done w kvs)) h.singles;
   monitors = subst (λ ops. AreFew (recurring ops)) (sym (no_operation done w kvs)) h.monitors;
 }
 
@@ -163,7 +163,7 @@ all-any P [] h = tt
 all-any P (x ∷ xs) h = (h x, all-any P xs h)
 
 node-section : (w : SectionWord) (place : Place) (kvs : List Kv) (rest : List Section) → section_place owner.Node w ≡ Some place → kvs ≢ []
-    → pairs_in Attributes (with_pairs w kvs ∷ rest) ≡ [] → pairs_in Utilization (with_pairs w kvs ∷ rest) ≡ [] → ⊥
+    → pairs_in Attributes (pairs_section w kvs ∷ rest) ≡ [] → pairs_in Utilization (pairs_section w kvs ∷ rest) ≡ [] → ⊥
 node-section Attributes place [] rest p some a u = some refl
 node-section Attributes place (kv ∷ kvs) rest p some a u = cc
 node-section Utilization place [] rest p some a u = some refl
@@ -187,7 +187,7 @@ front-none [] ys e = e
 front-none (x ∷ xs) ys e = cc
 
 first-section : (w : SectionWord) (place : Place) (kvs more : List Kv) (rest : List Section) → section_place owner.Node w ≡ Some place → kvs ≢ []
-    → pairs_in Utilization (with_pairs w kvs ∷ rest) ≡ [] → MayFollow owner.Node (with_pairs w kvs) (with_pairs Utilization more)
+    → pairs_in Utilization (pairs_section w kvs ∷ rest) ≡ [] → MayFollow owner.Node (pairs_section w kvs) (pairs_section Utilization more)
 first-section Attributes place kvs more rest p some u = tt
 first-section Utilization place [] more rest p some u = absurd (some refl)
 first-section Utilization place (kv ∷ kvs) more rest p some u = cc
@@ -197,22 +197,22 @@ first-section Operations place kvs more rest p some u = cc
 first-section Op place kvs more rest p some u = cc
 
 first-said : (words : Words) (s : Section) (more : List Kv) (rest : List Section) → SectionSays owner.Node words s → pairs_in Utilization (s ∷ rest) ≡ []
-    → MayFollow owner.Node s (with_pairs Utilization more)
+    → MayFollow owner.Node s (pairs_section Utilization more)
 first-said ws s more rest (a_section w place words kvs p each some) u = first-section w place kvs more rest p some u
 first-said ws s more rest (an_operation name words kvs prim named no_rule each some two) u = cc
 
 -- only attributes stand before a utilization
 node-first : (more : List Kv) (done : List Section) → AllByRecursion (Stood owner.Node) done → pairs_in Utilization done ≡ []
-    → AllByRecursion (λ one. MayFollow owner.Node one (with_pairs Utilization more)) done
+    → AllByRecursion (λ one. MayFollow owner.Node one (pairs_section Utilization more)) done
 node-first more [] h u = tt
 node-first more (s ∷ rest) h u = (first-said h.0.words s more rest h.0.said u, node-first more rest h.1 (front-none (pairs_if Utilization s) (pairs_in Utilization rest) u))
 
 node-turn : (done : List Section) (before : Sections) (w : SectionWord) (kvs : List Kv) → Stands owner.Node done before → allows_section owner.Node w ≡ true
-    → may_follow owner.Node before w ≡ true → AllByRecursion (λ one. MayFollow owner.Node one (with_pairs w kvs)) done
+    → may_follow owner.Node before w ≡ true → AllByRecursion (λ one. MayFollow owner.Node one (pairs_section w kvs)) done
 node-turn done before Attributes kvs h a m =
     let (x, y) = and_parts _ _ m in
     let none = node-none done h.each (sym (h.pairs Attributes _ refl) ∙ empty before.attributes x) (sym (h.pairs Utilization _ refl) ∙ empty before.utilization y) in
-    subst (AllByRecursion (λ one. MayFollow owner.Node one (with_pairs Attributes kvs))) (sym none) tt
+    subst (AllByRecursion (λ one. MayFollow owner.Node one (pairs_section Attributes kvs))) (sym none) tt
 node-turn done before Utilization kvs h a m = node-first kvs done h.each (sym (h.pairs Utilization _ refl) ∙ empty before.utilization m)
 node-turn done before Params kvs h a m = cc
 node-turn done before Meta kvs h a m = cc
@@ -220,7 +220,7 @@ node-turn done before Operations kvs h a m = cc
 node-turn done before Op kvs h a m = cc
 
 pub turn-said : (statement : Owner) (done : List Section) (before : Sections) (w : SectionWord) (kvs : List Kv) → Stands statement done before
-    → allows_section statement w ≡ true → may_follow statement before w ≡ true → AllByRecursion (λ one. MayFollow statement one (with_pairs w kvs)) done
+    → allows_section statement w ≡ true → may_follow statement before w ≡ true → AllByRecursion (λ one. MayFollow statement one (pairs_section w kvs)) done
 turn-said owner.Node done before w kvs h a m = node-turn done before w kvs h a m
 turn-said owner.Primitive done before w kvs h a m = all-any _ done (λ one. tt)
 turn-said owner.Group done before w kvs h a m = all-any _ done (λ one. tt)
@@ -228,34 +228,34 @@ turn-said owner.Clone done before w kvs h a m = all-any _ done (λ one. tt)
 turn-said owner.Ms done before w kvs h a m = all-any _ done (λ one. tt)
 
 -- and the other way round
-no_turn : (one : Section) (kvs : List Kv) → MayFollow owner.Node one (with_pairs Attributes kvs) → ⊥
-no_turn (with_pairs Attributes others) kvs h = h
-no_turn (with_pairs Params others) kvs h = h
-no_turn (with_pairs Meta others) kvs h = h
-no_turn (with_pairs Utilization others) kvs h = h
-no_turn (with_pairs Operations others) kvs h = h
-no_turn (with_pairs Op others) kvs h = h
+no_turn : (one : Section) (kvs : List Kv) → MayFollow owner.Node one (pairs_section Attributes kvs) → ⊥
+no_turn (pairs_section Attributes others) kvs h = h
+no_turn (pairs_section Params others) kvs h = h
+no_turn (pairs_section Meta others) kvs h = h
+no_turn (pairs_section Utilization others) kvs h = h
+no_turn (pairs_section Operations others) kvs h = h
+no_turn (pairs_section Op others) kvs h = h
 no_turn (operation op) kvs h = h
 
-first-turn : (one : Section) (kvs : List Kv) → MayFollow owner.Node one (with_pairs Utilization kvs) → pairs_if Utilization one ≡ []
-first-turn (with_pairs Attributes others) kvs h = refl
-first-turn (with_pairs Params others) kvs h = absurd h
-first-turn (with_pairs Meta others) kvs h = absurd h
-first-turn (with_pairs Utilization others) kvs h = absurd h
-first-turn (with_pairs Operations others) kvs h = absurd h
-first-turn (with_pairs Op others) kvs h = absurd h
+first-turn : (one : Section) (kvs : List Kv) → MayFollow owner.Node one (pairs_section Utilization kvs) → pairs_if Utilization one ≡ []
+first-turn (pairs_section Attributes others) kvs h = refl
+first-turn (pairs_section Params others) kvs h = absurd h
+first-turn (pairs_section Meta others) kvs h = absurd h
+first-turn (pairs_section Utilization others) kvs h = absurd h
+first-turn (pairs_section Operations others) kvs h = absurd h
+first-turn (pairs_section Op others) kvs h = absurd h
 first-turn (operation op) kvs h = absurd h
 
-first-turns : (done : List Section) (kvs : List Kv) → AllByRecursion (λ one. MayFollow owner.Node one (with_pairs Utilization kvs)) done → pairs_in Utilization done ≡ []
+first-turns : (done : List Section) (kvs : List Kv) → AllByRecursion (λ one. MayFollow owner.Node one (pairs_section Utilization kvs)) done → pairs_in Utilization done ≡ []
 first-turns [] kvs h = refl
 first-turns (s ∷ rest) kvs h = rw (first-turn s kvs h.0) (first-turns rest kvs h.1)
 
-none-before : (done : List Section) (kvs : List Kv) → AllByRecursion (λ one. MayFollow owner.Node one (with_pairs Attributes kvs)) done → done ≡ []
+none-before : (done : List Section) (kvs : List Kv) → AllByRecursion (λ one. MayFollow owner.Node one (pairs_section Attributes kvs)) done → done ≡ []
 none-before [] kvs h = refl
 none-before (s ∷ rest) kvs h = absurd (no_turn s kvs h.0)
 
 node-read : (done : List Section) (before : Sections) (w : SectionWord) (kvs : List Kv) → Stands owner.Node done before → allows_section owner.Node w ≡ true
-    → AllByRecursion (λ one. MayFollow owner.Node one (with_pairs w kvs)) done → may_follow owner.Node before w ≡ true
+    → AllByRecursion (λ one. MayFollow owner.Node one (pairs_section w kvs)) done → may_follow owner.Node before w ≡ true
 node-read done before Attributes kvs h a t =
     let none = none-before done kvs t in
     let x : before.attributes ≡ [] = h.pairs Attributes _ refl ∙ ap (pairs_in Attributes) none in
@@ -270,7 +270,7 @@ node-read done before Operations kvs h a t = cc
 node-read done before Op kvs h a t = cc
 
 pub turn-read : (statement : Owner) (done : List Section) (before : Sections) (w : SectionWord) (kvs : List Kv) → Stands statement done before
-    → allows_section statement w ≡ true → AllByRecursion (λ one. MayFollow statement one (with_pairs w kvs)) done → may_follow statement before w ≡ true
+    → allows_section statement w ≡ true → AllByRecursion (λ one. MayFollow statement one (pairs_section w kvs)) done → may_follow statement before w ≡ true
 turn-read owner.Node done before w kvs h a t = node-read done before w kvs h a t
 turn-read owner.Primitive done before w kvs h a t = refl
 turn-read owner.Group done before w kvs h a t = refl

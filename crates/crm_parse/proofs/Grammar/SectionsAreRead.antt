@@ -20,7 +20,7 @@ use Rattle.crm_parse.proofs.PairLists.{pair_words}
 use Rattle.crm_parse.proofs.Cuts.{cut-pairs}
 use Rattle.crm_parse.proofs.SectionPairs.{pairs_of, put}
 use Rattle.crm_parse.specs.Grammar.Phrases.{EachSays, PartsSay, no_part, one_part}
-use Rattle.crm_parse.specs.Grammar.Parts.{EachTwo, MayBothRun, MayFollow, MayStandBoth, PairSays, Section, SectionSays, SectionsSay, a_section, an_operation, operation, operation_if, operations_in, pairs_if, pairs_in, section_place, section_text, with_pairs}
+use Rattle.crm_parse.specs.Grammar.Parts.{EachTwo, MayBothBeWritten, MayFollow, MayStandBoth, PairSays, Section, SectionSays, SectionsSay, a_section, an_operation, operation, operation_if, operations_in, pairs_if, pairs_in, pairs_section, section_place, section_text}
 use Rattle.crm_parse.proofs.Grammar.PairsRelated.{pairs-spelled, section-read, two-front, two-middle}
 use Rattle.crm_parse.proofs.Grammar.SectionStates.{Stands, Stood, more-stands, next-pairs, stands-first, turn-read}
 use Rattle.crm_parse.proofs.Grammar.SectionWords.{placed-is, section_of-text}
@@ -28,7 +28,7 @@ use Rattle.crm_parse.proofs.Grammar.SectionsAreSaid.{with_words-is}
 
 -- the part that a section is cut into
 abbrev pub part_of : Section → Part
-part_of (with_pairs w kvs) = (w, pair_words kvs)
+part_of (pairs_section w kvs) = (w, pair_words kvs)
 part_of (operation op) = (Op, op_words op)
 
 put-same : (w : SectionWord) (kvs : List Kv) (s : Sections) → takes_name (Some w) ≡ false → pairs_of w (put w kvs s) ≡ kvs
@@ -81,7 +81,7 @@ module _ (statement : Owner) where
   pub record Fits (sections : List Section) : Type 0 where
     pub in_turn : EachTwo (MayFollow statement) sections
     pub keys : (section : SectionWord) (place : Place) → section_place statement section ≡ Some place → EachTwo (MayStandBoth place) (pairs_in section sections)
-    pub singles : EachTwo MayBothRun (operations_in sections)
+    pub singles : EachTwo MayBothBeWritten (operations_in sections)
     pub monitors : AreFew (recurring (operations_in sections))
 
   fits-front : (one more : List Section) → Fits (one ++ more) → Fits one
@@ -89,7 +89,7 @@ module _ (statement : Owner) where
     in_turn = two-front (MayFollow statement) one more h.in_turn;
     keys = λ w place e. two-front (MayStandBoth place) (pairs_in w one) (pairs_in w more)
         (subst (EachTwo (MayStandBoth place)) (flat_map-append (pairs_if w) one more) (h.keys w place e));
-    singles = two-front MayBothRun (operations_in one) (operations_in more) (subst (EachTwo MayBothRun) (flat_map-append operation_if one more) h.singles);
+    singles = two-front MayBothBeWritten (operations_in one) (operations_in more) (subst (EachTwo MayBothBeWritten) (flat_map-append operation_if one more) h.singles);
     monitors = few-front (recurring (operations_in one)) (recurring (operations_in more))
         (subst AreFew (ap recurring (flat_map-append operation_if one more) ∙ flat_map-append recurring_in (operations_in one) (operations_in more)) h.monitors);
   }
@@ -100,14 +100,14 @@ module _ (statement : Owner) where
     pub stands : Stands statement (done ++ s ∷ []) after
 
   pairs-part : (done : List Section) (before : Sections) (w : SectionWord) (place : Place) (ws : Words) (kvs : List Kv) → Stands statement done before
-      → section_place statement w ≡ Some place → EachSays (PairSays place) ws kvs → kvs ≢ [] → Stood statement (with_pairs w kvs)
-      → Fits (done ++ with_pairs w kvs ∷ []) → PartIsRead done before (with_pairs w kvs)
+      → section_place statement w ≡ Some place → EachSays (PairSays place) ws kvs → kvs ≢ [] → Stood statement (pairs_section w kvs)
+      → Fits (done ++ pairs_section w kvs ∷ []) → PartIsRead done before (pairs_section w kvs)
   unfolding with_part
   pairs-part done before w place ws kvs h at each some stood fits =
       let is_at = placed-is statement w place at in
       let after = pairs_of w before ++ kvs in
-      let turn = two-middle (MayFollow statement) done (with_pairs w kvs) [] fits.in_turn in
-      let whole : after ≡ pairs_in w (done ++ with_pairs w kvs ∷ []) =
+      let turn = two-middle (MayFollow statement) done (pairs_section w kvs) [] fits.in_turn in
+      let whole : after ≡ pairs_in w (done ++ pairs_section w kvs ∷ []) =
       sym (put-same w after before is_at.plain) ∙ next-pairs w w done before after kvs is_at.plain refl (h.pairs w place at) in
       let two : EachTwo (MayStandBoth place) after = subst (EachTwo (MayStandBoth place)) (sym whole) (fits.keys w place at) in
       let spelled : EachSays (PairSays place) (pair_words kvs) kvs = subst (λ v. EachSays (PairSays place) v kvs) (pairs-spelled place ws kvs each) each in

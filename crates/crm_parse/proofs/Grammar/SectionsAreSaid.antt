@@ -19,7 +19,7 @@ use Rattle.faults.proofs.Steps.{bind-ok}
 use Rattle.crm_parse.proofs.Binds.{if-ok}
 use Rattle.crm_parse.proofs.SectionPairs.{pairs_of, put}
 use Rattle.crm_parse.specs.Grammar.Phrases.{PartsSay, no_part, one_part}
-use Rattle.crm_parse.specs.Grammar.Parts.{EachTwo, MayStandBoth, Section, SectionSays, SectionsSay, a_section, with_pairs}
+use Rattle.crm_parse.specs.Grammar.Parts.{EachTwo, MayStandBoth, Section, SectionSays, SectionsSay, a_section, pairs_section}
 use Rattle.crm_parse.proofs.Grammar.PairsRelated.{section-said}
 use Rattle.crm_parse.proofs.Grammar.SectionStates.{Stands, more-stands, stands-first, turn-said}
 use Rattle.crm_parse.proofs.Grammar.SectionWords.{Allowed, cut-allowed, cut-words, part_words, placed}
@@ -54,10 +54,10 @@ pairs-part statement done before w words read h a n m e =
     let (after, is_read, last) = bind-ok (with_section p (pairs_of w before) words) (λ pairs. Ok (put w pairs before)) read (sym (with_words-is p before w words n) ∙ e) in
     let got = section-said p (pairs_of w before) words after (keys-before statement done before w h a n) is_read in
     let kvs = got.are.pairs in
-    let said : SectionSays statement (part_words (w, words)) (with_pairs w kvs) = a_section w p words kvs (placed statement w a n) got.are.said got.some in
+    let said : SectionSays statement (part_words (w, words)) (pairs_section w kvs) = a_section w p words kvs (placed statement w a n) got.are.said got.some in
     let same : put w after before ≡ read = cc in
     subst (PartIsSaid statement done (part_words (w, words))) same (record {
-      section = with_pairs w kvs;
+      section = pairs_section w kvs;
       said = said;
       stands = more-stands statement done before w after kvs h (record { words = part_words (w, words); said = said }) (turn-said statement done before w kvs h a m)
           got.are.added got.are.two;

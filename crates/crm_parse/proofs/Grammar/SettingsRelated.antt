@@ -21,7 +21,7 @@ use Rattle.crm_parse.proofs.Binds.{given_at-again, is-same, is-true, name_of-aga
 use Rattle.crm_parse.proofs.Affixes.{before-again}
 use Rattle.crm_parse.proofs.LackedBytes.{cut_at-none, has-append, name-lacks}
 use Rattle.crm_parse.proofs.PairsAgain.{cut_at-again}
-use Rattle.crm_parse.specs.Grammar.Phrases.{ColonSays, EachSays, MayGive, NameSays, is_given, no_word, not_given, one_word}
+use Rattle.crm_parse.specs.Grammar.Phrases.{ColonSays, EachSays, MaySay, NameSays, is_given, no_word, not_given, one_word}
 use Rattle.crm_parse.specs.Grammar.Parts.{EachTwo, MayStandBoth, PairSays, a_pair}
 use Rattle.crm_parse.specs.Grammar.SettingsForm.{IsNewSetting, LacksSetting, SettingsSay, some_settings}
 use Rattle.crm_parse.proofs.Grammar.OptionsSaid.{GivenIsSaid, colon-is, given-said}
@@ -206,7 +206,7 @@ named-read word name words s =
     given_at-again (Some name) words ((name ++ codes ":") ∷ words) c (rw (name_of-again name h) refl) in
     rw (same, set_at, colon-begins name h) given
 
-set-read : (what : SettingsWord) (front : Words) (set : Option (List ℕ)) (words : Words) (pairs : List Kv) → MayGive (ColonSays NameSays) front set
+set-read : (what : SettingsWord) (front : Words) (set : Option (List ℕ)) (words : Words) (pairs : List Kv) → MaySay (ColonSays NameSays) front set
     → EachSays (PairSays (settings_place what)) words pairs → pairs ≢ [] → set_at (front ++ words) ≡ Ok (set, words)
 set-read what f s words pairs not_given said some = pairs-begin what words pairs said some
 set-read what f s words pairs (is_given word name c) said some = named-read word name words c

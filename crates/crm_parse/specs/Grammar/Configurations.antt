@@ -10,14 +10,15 @@ use Rattle.crm_parse.specs.declared.statement.Crm.{Crm}
 use Rattle.crm_parse.specs.Grammar.Lines.{LineSays}
 use Rattle.crm_parse.specs.Statements.{crm_of}
 
--- no line says no statement; and where some lines say some statements, one more line says one more, after these
+-- an empty text says no statements; and where some lines say some statements, one more line says one more, after these
 pub data ConfigurationSays : List Line → List DraftStatement → Type 0 where
   no_line : ConfigurationSays [] []
   one_more_line : (lines : List Line) (statements : List DraftStatement) (line : Line) (said : Draft) → ConfigurationSays lines statements
       → LineSays statements line.words said
       → ConfigurationSays (lines ++ line ∷ []) (statements ++ record { line = line.line; draft = said } ∷ [])
 
--- some lines say the statements of a configuration; an order that leaves an action out gets it from the resource before
+-- some lines say the statements of a configuration. In an order a resource without an action takes that of the resource before it, and the first one start;
+-- a promote or demote that is taken so is start or stop at a resource without a promoted role
 pub record SaysStatements (lines : List Line) (crm : Crm) : Type 0 where
   pub statements : List DraftStatement
   pub said : ConfigurationSays lines statements

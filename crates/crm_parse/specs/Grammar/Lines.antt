@@ -17,20 +17,22 @@ use Rattle.crm_parse.specs.Grammar.PrimitiveForm.{PrimitiveSays}
 use Rattle.crm_parse.specs.Grammar.SettingsForm.{SettingsSay}
 use Rattle.crm_parse.specs.Grammar.ResourceForms.{CloneSays, GroupSays}
 
--- a clone, and one that is promotable by its word
-pub data CloneWord : List ℕ → Bool → Type 0 where
-  clone_word_is : CloneWord (codes "clone") false
-  ms_word : CloneWord (codes "ms") true
-  master_word : CloneWord (codes "master") true
+-- the word of a clone, and whether a clone is promotable by it
+pub data CloneWordSays : List ℕ → Bool → Type 0 where
+  is_clone_word : CloneWordSays (codes "clone") false
+  ms_word : CloneWordSays (codes "ms") true
+  master_word : CloneWordSays (codes "master") true
 
+-- the two words of a colocation
 pub data ColocationWord : List ℕ → Type 0 where
   colocation_word : ColocationWord (codes "colocation")
   collocation_word : ColocationWord (codes "collocation")
 
-pub data SettingsBegin : List ℕ → SettingsWord → Type 0 where
-  property_word : SettingsBegin (codes "property") Property
-  rsc_defaults_word : SettingsBegin (codes "rsc_defaults") RscDefaults
-  op_defaults_word : SettingsBegin (codes "op_defaults") OpDefaults
+-- which settings a word begins
+pub data SettingsWordSays : List ℕ → SettingsWord → Type 0 where
+  property_word : SettingsWordSays (codes "property") Property
+  rsc_defaults_word : SettingsWordSays (codes "rsc_defaults") RscDefaults
+  op_defaults_word : SettingsWordSays (codes "op_defaults") OpDefaults
 
 -- the statements that are kept and have no effect
 pub data KeptWord : List ℕ → Type 0 where
@@ -41,15 +43,15 @@ pub data KeptWord : List ℕ → Type 0 where
   acl_target_word : KeptWord (codes "acl_target")
   acl_group_word : KeptWord (codes "acl_group")
 
--- what the words of a line say, after some statements
+-- what the words of a line say, after some statements; only settings ask for these, so that no two of them give one key
 pub data LineSays (before : List DraftStatement) : Words → Draft → Type 0 where
   line_of_node : (words : Words) (f : Form) → NodeSays words f → LineSays before (codes "node" ∷ words) (draft.Whole f)
   line_of_primitive : (words : Words) (f : Form) → PrimitiveSays words f → LineSays before (codes "primitive" ∷ words) (draft.Whole f)
   line_of_group : (words : Words) (f : Form) → GroupSays words f → LineSays before (codes "group" ∷ words) (draft.Whole f)
-  line_of_clone : (word : List ℕ) (ms : Bool) (words : Words) (f : Form) → CloneWord word ms → CloneSays ms words f → LineSays before (word ∷ words) (draft.Whole f)
+  line_of_clone : (word : List ℕ) (ms : Bool) (words : Words) (f : Form) → CloneWordSays word ms → CloneSays ms words f → LineSays before (word ∷ words) (draft.Whole f)
   line_of_location : (words : Words) (f : Form) → LocationSays words f → LineSays before (codes "location" ∷ words) (draft.Whole f)
   line_of_colocation : (word : List ℕ) (words : Words) (f : Form) → ColocationWord word → ColocationSays words f → LineSays before (word ∷ words) (draft.Whole f)
   line_of_order : (words : Words) (order : OrderDraft) → OrderSays words order → LineSays before (codes "order" ∷ words) (draft.Order order)
-  line_of_settings : (word : List ℕ) (what : SettingsWord) (words : Words) (f : Form) → SettingsBegin word what → SettingsSay what before words f
+  line_of_settings : (word : List ℕ) (what : SettingsWord) (words : Words) (f : Form) → SettingsWordSays word what → SettingsSay what before words f
       → LineSays before (word ∷ words) (draft.Whole f)
   line_kept : (word : List ℕ) (words : Words) → KeptWord word → LineSays before (word ∷ words) (draft.Whole (form.Kept (word ∷ words)))

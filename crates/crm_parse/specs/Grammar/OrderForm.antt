@@ -9,7 +9,7 @@ use Rattle.crm_parse.specs.declared.words.KindWord.{KindWord}
 use Rattle.crm_parse.specs.declared.words.KindWord.TheVariants.{Mandatory, Optional, Serialize}
 use Rattle.crm_parse.specs.Reading.{Words}
 use Rattle.crm_parse.specs.Values.{action_of, bool_of, kind_of}
-use Rattle.crm_parse.specs.Grammar.Phrases.{BelowTable, ColonSays, EachSays, LabelSays, MaySay}
+use Rattle.crm_parse.specs.Grammar.Phrases.{ColonSays, EachSays, LabelSays, SaysOr, TableSays}
 
 -- a kind: its name, or a score above 0 for Mandatory and 0 for Optional
 pub data KindSays : List ℕ → KindWord → Type 0 where
@@ -23,19 +23,20 @@ pub data StepSays : List ℕ → StepDraft → Type 0 where
   resource_acts : (resource text : List ℕ) (action : ActionWord) → is_name resource ≡ true → action_of text ≡ Some action
       → StepSays (resource ++ (codes ":" ++ text)) (record { resource = resource; action = Some action })
 
--- an order that doesn't say whether it is symmetrical is, unless its kind is Serialize
+-- whether an order is symmetrical that doesn't say so: it is, unless its kind is Serialize
 abbrev pub symmetrical_unsaid : KindWord → Bool
 symmetrical_unsaid Serialize = false
 symmetrical_unsaid _ = true
 
+-- an order has two resources or more. One of kind Serialize isn't symmetrical
 pub record OrderSays (words : Words) (order : OrderDraft) : Type 0 where
   pub kind_words : Words
   pub step_words : Words
   pub last_words : Words
   pub words_are : words ≡ order.id ∷ (kind_words ++ (step_words ++ last_words))
   pub id : is_name order.id ≡ true
-  pub kind : MaySay (ColonSays KindSays) Mandatory kind_words order.kind
+  pub kind : SaysOr (ColonSays KindSays) Mandatory kind_words order.kind
   pub steps : EachSays StepSays step_words order.steps
   pub two_or_more : 2 ≤ length order.steps
-  pub symmetrical : MaySay (LabelSays (codes "symmetrical=") (BelowTable bool_of)) (symmetrical_unsaid order.kind) last_words order.symmetrical
-  pub serialize_is_not : order.kind ≡ Serialize → order.symmetrical ≡ false
+  pub symmetrical : SaysOr (LabelSays (codes "symmetrical=") (TableSays bool_of)) (symmetrical_unsaid order.kind) last_words order.symmetrical
+  pub serialize_is_one_way : order.kind ≡ Serialize → order.symmetrical ≡ false

@@ -13,8 +13,8 @@ pub data NameSays : List ℕ → List ℕ → Type 0 where
   a_name : (name : List ℕ) → is_name name ≡ true → NameSays name name
 
 -- a word says what a table has for it
-pub data BelowTable {A : Type 0} (table : List ℕ → Option A) : List ℕ → A → Type 0 where
-  in_table : (word : List ℕ) (value : A) → table word ≡ Some value → BelowTable table word value
+pub data TableSays {A : Type 0} (table : List ℕ → Option A) : List ℕ → A → Type 0 where
+  in_table : (word : List ℕ) (value : A) → table word ≡ Some value → TableSays table word value
 
 -- a word is a label, and behind it what says the value
 pub data LabelSays {A : Type 0} (label : List ℕ) (Says : List ℕ → A → Type 0) : List ℕ → A → Type 0 where
@@ -24,15 +24,15 @@ pub data LabelSays {A : Type 0} (label : List ℕ) (Says : List ℕ → A → Ty
 pub data ColonSays {A : Type 0} (Says : List ℕ → A → Type 0) : List ℕ → A → Type 0 where
   then_colon : (text : List ℕ) (value : A) → Says text value → ColonSays Says (text ++ codes ":") value
 
--- no word, which means this, or one word that says the value
-pub data MaySay {A : Type 0} (Says : List ℕ → A → Type 0) (unsaid : A) : Words → A → Type 0 where
-  left_out : MaySay Says unsaid [] unsaid
-  is_said : (word : List ℕ) (value : A) → Says word value → MaySay Says unsaid (word ∷ []) value
+-- one word that says the value, or no word, which means this
+pub data SaysOr {A : Type 0} (Says : List ℕ → A → Type 0) (unsaid : A) : Words → A → Type 0 where
+  left_out : SaysOr Says unsaid [] unsaid
+  is_said : (word : List ℕ) (value : A) → Says word value → SaysOr Says unsaid (word ∷ []) value
 
--- the same where a value may be missing: no word, or one that says it
-pub data MayGive {A : Type 0} (Says : List ℕ → A → Type 0) : Words → Option A → Type 0 where
-  not_given : MayGive Says [] None
-  is_given : (word : List ℕ) (value : A) → Says word value → MayGive Says (word ∷ []) (Some value)
+-- no word, which gives no value, or one word that says it
+pub data MaySay {A : Type 0} (Says : List ℕ → A → Type 0) : Words → Option A → Type 0 where
+  not_given : MaySay Says [] None
+  is_given : (word : List ℕ) (value : A) → Says word value → MaySay Says (word ∷ []) (Some value)
 
 -- each word says one value
 pub data EachSays {A : Type 0} (Says : List ℕ → A → Type 0) : Words → List A → Type 0 where
@@ -40,7 +40,7 @@ pub data EachSays {A : Type 0} (Says : List ℕ → A → Type 0) : Words → Li
   one_word : (word : List ℕ) (value : A) (words : Words) (values : List A) → Says word value → EachSays Says words values
       → EachSays Says (word ∷ words) (value ∷ values)
 
--- some words one after another, each of which says one value
+-- parts one after another, each of them some words that say one value
 pub data PartsSay {A : Type 0} (Say : Words → A → Type 0) : Words → List A → Type 0 where
   no_part : PartsSay Say [] []
   one_part : (part : Words) (value : A) (words : Words) (values : List A) → Say part value → PartsSay Say words values

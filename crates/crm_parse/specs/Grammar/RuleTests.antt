@@ -22,7 +22,7 @@ pub data CompareSays : List ℕ → Compare → Type 0 where
   says_eq : CompareSays (codes "eq") Eq
   says_ne : CompareSays (codes "ne") Ne
 
--- TYPE
+-- TYPE: `string` is the kind Word, and `integer` the same as `number`
 pub data TypeSays : List ℕ → Kind → Type 0 where
   says_string : TypeSays (codes "string") Word
   says_number : TypeSays (codes "number") Number
@@ -39,14 +39,14 @@ pub data RangeWord : List ℕ → Type 0 where
   in_word : RangeWord (codes "in")
   in_range_word : RangeWord (codes "in_range")
 
--- the words that begin a test of another kind
+-- the name of an attribute: it isn't empty, and none of the words that begin a test of another kind
 pub record NamesAttribute (name : List ℕ) : Type 0 where
   pub filled : name ≢ []
   pub no_date : name ≢ codes "date"
   pub no_defined : name ≢ codes "defined"
   pub no_not_defined : name ≢ codes "not_defined"
 
--- the words of a test, the words that are kept of it, and the test. `in_range` is kept as `in`
+-- the words of a test, the words that are kept of it, and the test. They are kept as they stand, but `in_range` is kept as `in`
 pub data TestSays : Words → Words → Test → Type 0 where
   is_defined : (name : List ℕ) → name ≢ [] → TestSays (codes "defined" ∷ name ∷ []) (codes "defined" ∷ name ∷ []) (Defined name)
   is_not_defined : (name : List ℕ) → name ≢ [] → TestSays (codes "not_defined" ∷ name ∷ []) (codes "not_defined" ∷ name ∷ []) (NotDefined name)
@@ -61,7 +61,7 @@ pub data TestSays : Words → Words → Test → Type 0 where
       → TestSays (codes "date" ∷ word ∷ (codes "start=" ++ start) ∷ (codes "end=" ++ end) ∷ [])
       (codes "date" ∷ codes "in" ∷ (codes "start=" ++ start) ∷ (codes "end=" ++ end) ∷ []) (Within first last)
 
--- the words that are kept of a test, and the test
+-- the words that are kept of a test, with the word before them that joins it to others; and the test
 pub record KeptTest : Type 0 where
   pub kept : Words
   pub test : Test

@@ -5,13 +5,13 @@ use Rattle.crm_parse.specs.declared.values.RoleName.TheVariants as named
 use Rattle.crm_parse.specs.declared.words.RoleWord.{RoleWord}
 use Rattle.crm_parse.specs.declared.words.RoleWord.TheVariants as role
 use Rattle.crm_parse.specs.Values.{role_of}
-use Rattle.crm_parse.specs.Grammar.Phrases.{BelowTable, ColonSays}
+use Rattle.crm_parse.specs.Grammar.Phrases.{ColonSays, TableSays}
 
 -- a score, and its colon
 abbrev pub ScoreSays : List ℕ → ℤ → Type 0
-ScoreSays = ColonSays (BelowTable read_score)
+ScoreSays = ColonSays (TableSays read_score)
 
--- a role of a rule: of the four, Started and Promoted
-pub data RuleRoleSays : List ℕ → RoleWord → Type 0 where
-  says_started : (text : List ℕ) → role_of text ≡ Some named.Started → RuleRoleSays text role.Started
-  says_promoted : (text : List ℕ) → role_of text ≡ Some named.Promoted → RuleRoleSays text role.Promoted
+-- a role that is taken in rules: `Started`; or `Promoted` and `Master`, which are the same; in any case. `Unpromoted`, `Slave` and `Stopped` aren't taken
+pub data TakenRoleSays : List ℕ → RoleWord → Type 0 where
+  says_started : (text : List ℕ) → role_of text ≡ Some named.Started → TakenRoleSays text role.Started
+  says_promoted : (text : List ℕ) → role_of text ≡ Some named.Promoted → TakenRoleSays text role.Promoted

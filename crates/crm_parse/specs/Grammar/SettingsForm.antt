@@ -9,7 +9,7 @@ use Rattle.crm_parse.specs.declared.pair.Kv.{Kv}
 use Rattle.crm_parse.specs.declared.words.SettingsWord.{SettingsWord}
 use Rattle.crm_parse.specs.Reading.{Words}
 use Rattle.crm_parse.specs.Settings.{settings_place}
-use Rattle.crm_parse.specs.Grammar.Phrases.{ColonSays, EachSays, MayGive, NameSays}
+use Rattle.crm_parse.specs.Grammar.Phrases.{ColonSays, EachSays, MaySay, NameSays}
 use Rattle.crm_parse.specs.Grammar.Parts.{EachTwo, MayStandBoth, PairSays}
 
 -- where the statement is one of these settings, it doesn't give the key
@@ -22,6 +22,6 @@ abbrev pub IsNewSetting : SettingsWord → List DraftStatement → Kv → Type 0
 IsNewSetting what before pair = (pair.key ≡ codes "$id") ⊎ AllByRecursion (LacksSetting what pair.key) before
 
 pub data SettingsSay (what : SettingsWord) (before : List DraftStatement) : Words → Form → Type 0 where
-  some_settings : (set_words : Words) (set : Option (List ℕ)) (words : Words) (pairs : List Kv) → MayGive (ColonSays NameSays) set_words set
+  some_settings : (set_words : Words) (set : Option (List ℕ)) (words : Words) (pairs : List Kv) → MaySay (ColonSays NameSays) set_words set
       → EachSays (PairSays (settings_place what)) words pairs → pairs ≢ [] → EachTwo (MayStandBoth (settings_place what)) pairs
       → AllByRecursion (IsNewSetting what before) pairs → SettingsSay what before (set_words ++ words) (form.Settings what set pairs)

@@ -1,4 +1,5 @@
--- What the lines of a section say, all of them, and why the first that is refused is (rule of this project).
+-- What all lines of a section say, and which line is refused first. The cause of a line without a form is told by the definitions that read (rule of this
+-- project).
 use Rattle.std.specs.Prelude.{◌≡◌, ℕ, ◌≤◌, ◌<◌, true, false, List, ◌∷◌, ◌++◌, length, slice_get, take, Some, Result, Ok, Err}
 use Rattle.crm_lex.specs.declared.line.Line.{Line}
 use Rattle.cluster_types.specs.declared.cluster.Cluster.{Cluster}
@@ -26,7 +27,7 @@ pub record EachLineSays {A : Type 0} (Says : List A → Line → A → Type 0) (
   pub many : length values ≡ length lines
   pub each : (k : ℕ) (line : Line) (value : A) → slice_get lines k ≡ Some line → slice_get values k ≡ Some value → Says (take k values) line value
 
--- each line before one of this number says its value, and that one is refused for this cause
+-- each line before one of this number says its value, and of that one and this cause it holds that it is refused
 pub record IsFirstRefused {A C : Type 0} (Says : List A → Line → A → Type 0) (Refused : List A → Line → C → Type 0) (lines : List Line) (number : ℕ) (cause : C)
     : Type 0 where
   pub front : List Line
@@ -49,7 +50,7 @@ pub record StatusLineSays (c : Cluster) (before : List Told) (line : Line) (told
   pub says : StatusSays c line.words told
   pub once : is_repeated before told ≡ false
 
--- no form has the words of a line of a status, or the line says again what may be said once
+-- no form has the words of a line of a status, with any cause of words; or the line says again what may be said once
 pub data StatusLineRefused (c : Cluster) (before : List Told) (line : Line) : StatusCause → Type 0 where
   no_status_form : (cause : WordCause) → ((told : Told) → StatusSays c line.words told → ⊥) → StatusLineRefused c before line (of_status.Form cause)
   said_before : (told : Told) → StatusSays c line.words told → is_repeated before told ≡ true → StatusLineRefused c before line of_status.Repeated
@@ -68,7 +69,7 @@ pub record IsResultAnswer (c : Cluster) (moment before : ℕ) (words : List (Lis
   pub few : before < most_results
   pub says : ResultSays c moment words given
 
--- no form has the words of a result line, or the line is behind too many others
+-- no form has the words of a result line, with any cause of words; or the line is behind too many others
 pub data IsNoAnswer (c : Cluster) (moment before : ℕ) (words : List (List ℕ)) : ResultCause → Type 0 where
   no_result_form : (cause : WordCause) → before < most_results → ((given : Answer) → ResultSays c moment words given → ⊥)
       → IsNoAnswer c moment before words (of_result.Form cause)
@@ -78,7 +79,7 @@ pub data IsNoAnswer (c : Cluster) (moment before : ℕ) (words : List (List ℕ)
 abbrev pub IsNoAnswerOn : Cluster → ℕ → ℕ → ℕ → List (List ℕ) → ℕ → ResultCause → Type 0
 IsNoAnswerOn c moment before line words number cause = (line ≡ number) × IsNoAnswer c moment before words cause
 
--- each result line says its answer at the moment after the waits before it, of which the first begins at a moment
+-- a result line says its answer, at the moment `start` and the waits before it
 pub record ResultLineSays (c : Cluster) (start : ℕ) (before : List ResultLine) (line : Line) (result : ResultLine) : Type 0 where
   pub place : result.line ≡ line.line
   pub says : IsResultAnswer c (moment_after start before) (length before) line.words result.answer
@@ -97,7 +98,7 @@ pub record RunLineSays (c : Cluster) (before : List RunTextLine) (line : Line) (
   pub place : read.line ≡ line.line
   pub says : RunSays c line.words read.what
 
--- no form has the words of a line of a run
+-- no form has the words of a line of a run; with any cause of words
 abbrev pub RunLineRefused : Cluster → List RunTextLine → Line → WordCause → Type 0
 RunLineRefused c before line cause = (what : RunLine) → RunSays c line.words what → ⊥
 

@@ -3,13 +3,13 @@ use Rattle.std.specs.Prelude.{ℕ, ◌+◌, ◌^◌, ◌<◌, Bool, List, [], �
 use Rattle.cluster_types.specs.declared.cluster.Cluster.{Cluster}
 use Rattle.cluster_types.specs.declared.journal.Answer.{Answer}
 use Rattle.cluster_types.specs.declared.journal.Answer.TheVariants as answer
-use Rattle.input_reading.specs.Grammar.WordValues.{NamesLeaf, NamesNode, SaysWhether, WritesCode, WritesCount, WritesSeconds}
+use Rattle.input_reading.specs.Grammar.WordValues.{NamesLeaf, NamesNode, SaysWhether, WritesCode, WritesPositive, WritesSeconds}
 
 -- what the words of a result line say of a cluster, at a moment
 pub data ResultSays (c : Cluster) (moment : ℕ) : List (List ℕ) → Answer → Type 0 where
-  end_form : (number code : List ℕ) (k exit : ℕ) → WritesCount number k → WritesCode code exit
+  end_form : (number code : List ℕ) (k exit : ℕ) → WritesPositive number k → WritesCode code exit
       → ResultSays c moment (codes "end" ∷ number ∷ code ∷ []) (answer.End k exit)
-  timeout_form : (number : List ℕ) (k : ℕ) → WritesCount number k → ResultSays c moment (codes "timeout" ∷ number ∷ []) (answer.Timeout k)
+  timeout_form : (number : List ℕ) (k : ℕ) → WritesPositive number k → ResultSays c moment (codes "timeout" ∷ number ∷ []) (answer.Timeout k)
   lost_form : (name : List ℕ) (node : ℕ) → NamesNode c name node → ResultSays c moment (codes "lost" ∷ name ∷ []) (answer.Lost node)
   up_form : (name : List ℕ) (node : ℕ) → NamesNode c name node → ResultSays c moment (codes "up" ∷ name ∷ []) (answer.Up node)
   quorum_form : (word : List ℕ) (now : Bool) → SaysWhether word now → ResultSays c moment (codes "quorum" ∷ word ∷ []) (answer.Quorum now)
@@ -17,5 +17,5 @@ pub data ResultSays (c : Cluster) (moment : ℕ) : List (List ℕ) → Answer �
   wait_form : (number : List ℕ) (seconds : ℕ) → WritesSeconds number seconds → moment + seconds < 2 ^ 40
       → ResultSays c moment (codes "wait" ∷ number ∷ []) (answer.Wait seconds)
   report_form : (name leaf_name number code : List ℕ) (node leaf interval exit : ℕ) → NamesNode c name node → NamesLeaf c leaf_name leaf
-      → WritesCount number interval → WritesCode code exit
+      → WritesPositive number interval → WritesCode code exit
       → ResultSays c moment (codes "report" ∷ name ∷ leaf_name ∷ number ∷ code ∷ []) (answer.Report node leaf interval exit)

@@ -18,7 +18,7 @@ use Rattle.cluster_types.specs.declared.run.RunLine.{RunLine}
 use Rattle.cluster_types.specs.declared.run.RunLine.TheVariants as line
 use Rattle.cluster_types.specs.Answering.{monitor_action}
 use Rattle.input_reading.specs.Grammar.ResultForms.{ResultSays}
-use Rattle.input_reading.specs.Grammar.WordValues.{NamesLeaf, NamesNode, WritesCount}
+use Rattle.input_reading.specs.Grammar.WordValues.{NamesLeaf, NamesNode, WritesPositive}
 
 -- why a leaf is left as it is
 pub data SaysPin : List ℕ → Pin → Type 0 where
@@ -54,25 +54,26 @@ pub data ActionSays (c : Cluster) : List (List ℕ) → Action → Type 0 where
       → ActionSays c (codes "probe" ∷ leaf_name ∷ name ∷ []) (Probe leaf node)
   operation_form : (word leaf_name name : List ℕ) (op : Op) (leaf node : ℕ) → SaysOperation word op → NamesLeaf c leaf_name leaf → NamesNode c name node
       → ActionSays c (word ∷ leaf_name ∷ name ∷ []) (Cell op leaf node 0 role.Started)
-  monitor_form : (leaf_name name number : List ℕ) (leaf node interval : ℕ) → NamesLeaf c leaf_name leaf → NamesNode c name node → WritesCount number interval
+  monitor_form : (leaf_name name number : List ℕ) (leaf node interval : ℕ) → NamesLeaf c leaf_name leaf → NamesNode c name node → WritesPositive number interval
       → ActionSays c (codes "monitor" ∷ leaf_name ∷ name ∷ number ∷ []) (monitor_action c leaf node interval)
   migrate_to_form : (leaf_name from to : List ℕ) (leaf source goal : ℕ) → NamesLeaf c leaf_name leaf → NamesNode c from source → NamesNode c to goal
       → ActionSays c (codes "migrate_to" ∷ leaf_name ∷ from ∷ to ∷ []) (MigrateTo leaf source goal)
   migrate_from_form : (leaf_name from to : List ℕ) (leaf source goal : ℕ) → NamesLeaf c leaf_name leaf → NamesNode c from source → NamesNode c to goal
       → ActionSays c (codes "migrate_from" ∷ leaf_name ∷ from ∷ to ∷ []) (MigrateFrom leaf source goal)
 
--- what the words of a line of a run say of a cluster. An answer is said as by a result line at the moment 0, so that a wait may be as long as any
+-- what the words of a line of a run say of a cluster. An answer is said as by a result line at the moment 0: the waits of a run
+-- aren't added up
 pub data RunSays (c : Cluster) : List (List ℕ) → RunLine → Type 0 where
-  transition_form : (number : List ℕ) (k : ℕ) → WritesCount number k → RunSays c (codes "transition" ∷ number ∷ []) (line.Transition k)
+  transition_form : (number : List ℕ) (k : ℕ) → WritesPositive number k → RunSays c (codes "transition" ∷ number ∷ []) (line.Transition k)
   pinned_form : (leaf_name word : List ℕ) (leaf : ℕ) (pin : Pin) → NamesLeaf c leaf_name leaf → SaysPin word pin
       → RunSays c (codes "pinned" ∷ leaf_name ∷ word ∷ []) (line.Pinned leaf pin)
   target_form : (leaf_name name word : List ℕ) (leaf node : ℕ) (goal : Target) → NamesLeaf c leaf_name leaf → NamesNode c name node → SaysTarget word goal
       → RunSays c (codes "target" ∷ leaf_name ∷ name ∷ word ∷ []) (line.Goal leaf node goal)
   none_form : (leaf_name : List ℕ) (words : List (List ℕ)) (leaf : ℕ) (reason : NoReason) → NamesLeaf c leaf_name leaf → SaysReason words reason
       → RunSays c (codes "none" ∷ leaf_name ∷ words) (line.Lacking leaf reason)
-  begin_form : (number : List ℕ) (words : List (List ℕ)) (k : ℕ) (action : Action) → WritesCount number k → ActionSays c words action
+  begin_form : (number : List ℕ) (words : List (List ℕ)) (k : ℕ) (action : Action) → WritesPositive number k → ActionSays c words action
       → RunSays c (codes "begin" ∷ number ∷ words) (line.Begin k action)
-  complete_form : (number : List ℕ) (k : ℕ) → WritesCount number k → RunSays c (codes "complete" ∷ number ∷ []) (line.Complete k)
-  aborted_form : (number : List ℕ) (k : ℕ) → WritesCount number k → RunSays c (codes "aborted" ∷ number ∷ []) (line.Aborted k)
-  unexpected_form : (number : List ℕ) (at : ℕ) → WritesCount number at → RunSays c (codes "unexpected" ∷ number ∷ []) (line.Unexpected at)
+  complete_form : (number : List ℕ) (k : ℕ) → WritesPositive number k → RunSays c (codes "complete" ∷ number ∷ []) (line.Complete k)
+  aborted_form : (number : List ℕ) (k : ℕ) → WritesPositive number k → RunSays c (codes "aborted" ∷ number ∷ []) (line.Aborted k)
+  unexpected_form : (number : List ℕ) (at : ℕ) → WritesPositive number at → RunSays c (codes "unexpected" ∷ number ∷ []) (line.Unexpected at)
   answer_form : (words : List (List ℕ)) (given : Answer) → ResultSays c 0 words given → RunSays c words (line.Taken given)

@@ -16,7 +16,7 @@ use Rattle.input_reading.specs.declared.status.told.NodeWord.{NodeWord}
 use Rattle.input_reading.specs.declared.status.told.NodeWord.TheVariants.{Online, Offline, Unclean}
 use Rattle.input_reading.specs.declared.status.told.Told.{Told}
 use Rattle.input_reading.specs.declared.status.told.Told.TheVariants.{Now, Quorum, Node, Past, Promoting}
-use Rattle.input_reading.specs.Grammar.WordValues.{NamesLeaf, NamesNode, SaysWhether, WritesCode, WritesCount, WritesNumber, WritesSeconds}
+use Rattle.input_reading.specs.Grammar.WordValues.{NamesLeaf, NamesNode, SaysWhether, WritesCode, WritesNumber, WritesPositive, WritesSeconds}
 
 -- the state of a node
 pub data SaysState : List ℕ → NodeWord → Type 0 where
@@ -28,7 +28,7 @@ pub data SaysState : List ℕ → NodeWord → Type 0 where
 abbrev pub WritesZero : List ℕ → Type 0
 WritesZero word = WritesNumber 0 0 word 0
 
--- the name and the milliseconds of an operation say which action of the cell ended: of a monitor a probe, where they are 0. Only a promotable leaf is
+-- the name and the milliseconds of an operation say which action of the cell ended; a monitor of 0 milliseconds is a probe. Only a promotable leaf is
 -- promoted and demoted
 pub data ActionEnded (c : Cluster) (leaf node : ℕ) : List ℕ → List ℕ → Action → Type 0 where
   a_start : (ms : List ℕ) → WritesZero ms → ActionEnded c leaf node (codes "start") ms (Cell Start leaf node 0 Started)
@@ -36,7 +36,7 @@ pub data ActionEnded (c : Cluster) (leaf node : ℕ) : List ℕ → List ℕ →
   a_promote : (ms : List ℕ) → is_promotable c leaf ≡ true → WritesZero ms → ActionEnded c leaf node (codes "promote") ms (Cell Promote leaf node 0 Started)
   a_demote : (ms : List ℕ) → is_promotable c leaf ≡ true → WritesZero ms → ActionEnded c leaf node (codes "demote") ms (Cell Demote leaf node 0 Started)
   a_probe : (ms : List ℕ) → WritesZero ms → ActionEnded c leaf node (codes "monitor") ms (Probe leaf node)
-  a_monitor : (ms : List ℕ) (interval : ℕ) → WritesCount ms interval → ActionEnded c leaf node (codes "monitor") ms (monitor_action c leaf node interval)
+  a_monitor : (ms : List ℕ) (interval : ℕ) → WritesPositive ms interval → ActionEnded c leaf node (codes "monitor") ms (monitor_action c leaf node interval)
 
 -- an exit code, or that the operation was killed after its time
 pub data SaysOutcome : List ℕ → Outcome → Type 0 where
@@ -46,7 +46,7 @@ pub data SaysOutcome : List ℕ → Outcome → Type 0 where
 -- what the words of a line of a status say of a cluster
 pub data StatusSays (c : Cluster) : List (List ℕ) → Told → Type 0 where
   now_form : (number : List ℕ) (seconds : ℕ) → WritesSeconds number seconds → StatusSays c (codes "now" ∷ number ∷ []) (Now seconds)
-  quorum_said : (word : List ℕ) (now : Bool) → SaysWhether word now → StatusSays c (codes "quorum" ∷ word ∷ []) (Quorum now)
+  quorum_form : (word : List ℕ) (now : Bool) → SaysWhether word now → StatusSays c (codes "quorum" ∷ word ∷ []) (Quorum now)
   node_form : (name word : List ℕ) (node : ℕ) (state : NodeWord) → NamesNode c name node → SaysState word state
       → StatusSays c (codes "node" ∷ name ∷ word ∷ []) (Node node state)
   op_form : (name leaf_name op ms code number : List ℕ) (node leaf : ℕ) (action : Action) (outcome : Outcome) (moment : ℕ)

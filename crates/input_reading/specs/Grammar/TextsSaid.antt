@@ -62,7 +62,7 @@ abbrev pub IsStartRefused : List ℕ → ℕ → InputCause → Type 0
 IsStartRefused text number (cause.Status why) = IsRefusedInStatus sections_of text number why
 IsStartRefused text number _ = Unit {0}
 
--- and of a text with a trace: behind the status stand the lines of a run
+-- and of a text with a trace: behind the status stand the lines of a run (their place is kept as that of results)
 abbrev pub TraceIsSaid : List ℕ → Trace → Type 0
 TraceIsSaid text trace = IsHeadSaid sections_with_trace (λ head lines. RunIsSaid head.cluster lines trace.run.lines) text trace.head
 

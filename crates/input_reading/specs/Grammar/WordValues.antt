@@ -15,9 +15,9 @@ pub record WritesNumber (least most : ℕ) (word : List ℕ) (n : ℕ) : Type 0 
   pub low : least ≤ n
   pub high : n ≤ most
 
--- the number of an action or of a transition, and the interval of a recurring monitor
-abbrev pub WritesCount : List ℕ → ℕ → Type 0
-WritesCount = WritesNumber 1 4294967295
+-- the number of an action, a transition or a line, or the interval of a recurring monitor
+abbrev pub WritesPositive : List ℕ → ℕ → Type 0
+WritesPositive = WritesNumber 1 4294967295
 
 -- an exit code
 abbrev pub WritesCode : List ℕ → ℕ → Type 0

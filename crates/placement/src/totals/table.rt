@@ -6,6 +6,7 @@ ghost use Rattle.cluster_types.specs.declared.journal.Event.{Event};
 ghost use Rattle.cluster_types.specs.declared.journal.Promotion.{Promotion as PromotionOf};
 ghost use Rattle.cluster_types.specs.Unpacked.{states_of};
 ghost use Rattle.cluster_types.specs.Valid.{IsValid};
+ghost use Rattle.placement.specs.Inner.ScoresByStates as by_states;
 ghost use Rattle.placement.specs.Promotions.{AreSaid};
 ghost use Rattle.placement.specs.Scores as spec;
 ghost use Rattle.placement.specs.Ties.{AreTies};
@@ -69,7 +70,7 @@ fn push_places(
     requires ties { AreTies own.now.cluster.now ties.now }
     requires leaf { leaf < length own.now.cluster.now.leaves }
     ensures { OnOk result (all.new.items ≡ all.old.items
-        ++ map (spec.place_by own.now.cluster.now own.now.states.now leaf) (range_with_len 0 (length own.now.cluster.now.nodes))) }
+        ++ map (by_states.place_by own.now.cluster.now own.now.states.now leaf) (range_with_len 0 (length own.now.cluster.now.nodes))) }
 {
     let row = lent_row(alloc, own, ties, leaf)?;
     let of_leaf = totals_of(alloc, &row, own.cluster.nodes.len() as u32)?;
@@ -80,7 +81,7 @@ fn push_places(
 /// The totals of placing each leaf, leaf by leaf and node by node.
 fn place_totals(alloc: Global, own: &OwnRows) -> Result<Vec<Score>, NoMemory>
     requires { IsValid own.now.cluster.now }
-    ensures { IfOk result (λ all. all.items ≡ spec.cells_of own.now.cluster.now (spec.place_by own.now.cluster.now own.now.states.now)) }
+    ensures { IfOk result (λ all. all.items ≡ spec.cells_of own.now.cluster.now (by_states.place_by own.now.cluster.now own.now.states.now)) }
 {
     let cluster = own.cluster;
     let ties = ties_of(alloc, cluster)?;
@@ -94,7 +95,7 @@ fn place_totals(alloc: Global, own: &OwnRows) -> Result<Vec<Score>, NoMemory>
 /// The totals of placing each leaf, by what is read of the cluster and the states.
 fn places_by(alloc: Global, cluster: &Cluster, states: &States) -> Result<Vec<Score>, NoMemory>
     requires { IsValid cluster.now }
-    ensures { IfOk result (λ all. all.items ≡ spec.cells_of cluster.now (spec.place_by cluster.now states.now)) }
+    ensures { IfOk result (λ all. all.items ≡ spec.cells_of cluster.now (by_states.place_by cluster.now states.now)) }
 {
     let own = OwnRows::new(alloc, cluster, states)?;
     place_totals(alloc, &own)
@@ -113,7 +114,7 @@ fn push_promotes(
     requires said { AreSaid cluster.now states.now.promotions said.now }
     requires leaf { leaf < length cluster.now.leaves }
     ensures { OnOk result (all.new.items ≡ all.old.items
-        ++ map (spec.promote_by cluster.now states.now leaf) (range_with_len 0 (length cluster.now.nodes))) }
+        ++ map (by_states.promote_by cluster.now states.now leaf) (range_with_len 0 (length cluster.now.nodes))) }
 {
     let row = promote_row(alloc, cluster, said, leaf, states.moment)?;
     let of_leaf = totals_of(alloc, &row, cluster.nodes.len() as u32)?;
@@ -124,7 +125,7 @@ fn push_promotes(
 /// The totals of promoting each leaf, leaf by leaf and node by node.
 fn promote_totals(alloc: Global, cluster: &Cluster, states: &States) -> Result<Vec<Score>, NoMemory>
     requires { IsValid cluster.now }
-    ensures { IfOk result (λ all. all.items ≡ spec.cells_of cluster.now (spec.promote_by cluster.now states.now)) }
+    ensures { IfOk result (λ all. all.items ≡ spec.cells_of cluster.now (by_states.promote_by cluster.now states.now)) }
 {
     let said = first_said(alloc, cluster, states.promotions.as_slice())?;
     let mut all = Vec::with_capacity(alloc, cluster.leaves.len() * cluster.nodes.len())?;
@@ -137,7 +138,7 @@ fn promote_totals(alloc: Global, cluster: &Cluster, states: &States) -> Result<V
 /// The table of what is known by these states.
 fn table_by(alloc: Global, cluster: &Cluster, states: &States) -> Result<ScoreTable, NoMemory>
     requires { IsValid cluster.now }
-    ensures { IfOk result (λ table. table ≡ spec.table_by cluster.now states.now) }
+    ensures { IfOk result (λ table. table ≡ by_states.table_by cluster.now states.now) }
 {
     let places = places_by(alloc, cluster, states)?;
     let promotes = promote_totals(alloc, cluster, states);

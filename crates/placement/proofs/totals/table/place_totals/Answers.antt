@@ -1,7 +1,7 @@
 use Rattle.std.proofs.Common.{◌++◌, ℕ, ℤ, List, ap, sym, ◌∙◌, length, map}
 use Rattle.std.specs.List.{range_with_len}
 use Rattle.lemmas.proofs.Ranges.{flat_map-more}
-use Rattle.placement.specs.Scores.{place_by}
+use Rattle.placement.specs.Inner.ScoresByStates.{place_by}
 use Rattle.placement.proofs.totals.table.place_totals.Goals as goal
 
 pub loop-leaf-preserved : goal.loop-leaf-preserved

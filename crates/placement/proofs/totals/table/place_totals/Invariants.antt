@@ -1,6 +1,6 @@
 use Rattle.std.proofs.Common.{◌≡◌, length, map}
 use Rattle.std.specs.List.{flat_map, range_with_len}
-use Rattle.placement.specs.Scores.{place_by}
+use Rattle.placement.specs.Inner.ScoresByStates.{place_by}
 use Rattle.placement.proofs.totals.table.place_totals.Given as goal
 
 abbrev pub invariant-loop-leaf : goal.invariant-loop-leaf

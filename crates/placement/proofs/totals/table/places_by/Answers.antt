@@ -2,7 +2,8 @@ use Rattle.std.proofs.Common.{ap, ◌∙◌}
 use Rattle.std.proofs.lemmas.Result.{IfOk-weaker}
 use Rattle.cluster_types.specs.declared.cluster.Cluster.{Cluster}
 use Rattle.cluster_types.specs.declared.states.States.{States}
-use Rattle.placement.specs.Scores.{cells_of, place_by}
+use Rattle.placement.specs.Inner.ScoresByStates.{place_by}
+use Rattle.placement.specs.Scores.{cells_of}
 use Rattle.placement.proofs.totals.table.places_by.Goals as goal
 
 pub returns : goal.returns

@@ -2,7 +2,7 @@ use Rattle.std.proofs.Common.{rules, ◌++◌, ℕ, ℤ, List, ap, sym, subst, �
 use Rattle.std.specs.List.{range_with_len}
 use Rattle.lemmas.proofs.Ranges.{flat_map-more}
 use Rattle.placement.specs.Promotions.{AreSaid}
-use Rattle.placement.specs.Scores.{promote_by}
+use Rattle.placement.specs.Inner.ScoresByStates.{promote_by}
 use Rattle.placement.proofs.totals.table.promote_totals.Goals as goal
 
 pub push_promotes-requires-clause-said : goal.push_promotes-requires-clause-said

@@ -3,7 +3,7 @@ use Rattle.std.specs.List.{range_with_len}
 use Rattle.placement.specs.Inner.LendingRows.{all_joined}
 use Rattle.placement.specs.OwnRows.{terms_by}
 use Rattle.placement.specs.Rows.{IsRow}
-use Rattle.placement.specs.Scores.{place_by}
+use Rattle.placement.specs.Inner.ScoresByStates.{place_by}
 use Rattle.placement.proofs.TermRows.{row-length}
 use Rattle.placement.proofs.totals.table.push_places.Goals as goal
 

@@ -2,7 +2,7 @@ use Rattle.std.proofs.Common.{rules, ◌≡◌, ◌++◌, ℕ, ℤ, List, ap, sy
 use Rattle.std.specs.List.{range_with_len}
 use Rattle.placement.specs.Promotions.{wished_by}
 use Rattle.placement.specs.Rows.{IsRow}
-use Rattle.placement.specs.Scores.{promote_by}
+use Rattle.placement.specs.Inner.ScoresByStates.{promote_by}
 use Rattle.placement.proofs.TermRows.{row-length}
 use Rattle.placement.proofs.totals.table.push_promotes.Goals as goal
 

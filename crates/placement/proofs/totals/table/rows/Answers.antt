@@ -1,5 +1,5 @@
 use Rattle.std.proofs.Common.{rules, ◌≡◌, IfOk, ap, subst, ◌∙◌}
-use Rattle.placement.specs.Scores.{table_by}
+use Rattle.placement.specs.Inner.ScoresByStates.{table_by}
 use Rattle.placement.proofs.TableOfStates.{table-is}
 use Rattle.placement.proofs.totals.table.rows.Goals as goal
 
