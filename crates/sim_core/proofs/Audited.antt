@@ -48,7 +48,7 @@ module _ (c : Cluster) (journal : Journal) (lines : List RunTextLine) (after : �
         → (now.place ≡ length now.lines.now → v ≡ Yes)
         → (now.place < length now.lines.now → v ≡ No (line_number_at now.lines.now now.place after) clause.Answer)
         → Judges c journal lines after v
-    whole_found w yes no = by (cases_lt now.place (length lines)) where
+    whole_found w when_all when_more = by (cases_lt now.place (length lines)) where
       run : IsWholeRunOfLines c journal (said lines) w.lines left.events
       run = subst (λ (xs : List Answer). IsWholeRun c journal.promotions true journal.events (Some xs) w.lines left.events) are w.ended.run
 
@@ -63,7 +63,7 @@ module _ (c : Cluster) (journal : Journal) (lines : List RunTextLine) (after : �
 
       by : (now.place < length lines) ⊎ (length lines ≤ now.place) → Judges c journal lines after v
       by (inl more) =
-          rw (no (omega (arith, more, size))) (record {
+          rw (when_more (omega (arith, more, size))) (record {
             place = now.place;
             fault = undue (record {
               printed = w.lines;
@@ -76,15 +76,15 @@ module _ (c : Cluster) (journal : Journal) (lines : List RunTextLine) (after : �
           })
       by (inr all) =
           let whole : w.lines ≡ said lines = told_are w.lines w.told ∙ take_all now.place (said lines) (omega (arith, all, long)) in
-          rw (yes (omega (arith, all, within, size, long)))
+          rw (when_all (omega (arith, all, within, size, long)))
           (record { left = left.events; whole = subst (λ ls. IsWholeRunOfLines c journal (said lines) ls left.events) whole run })
 
     -- the run is cut
     pub cut_found : (given : Answer)
         → IsTold (PassesLines start now) Stopped (setting c journal.promotions true steady) journal.events (sight (Some answers) over) (sight rest over_now) left (unexpected given)
         → v ≡ No (line_number_at now.lines.now now.place after) clause.Answer → Judges c journal lines after v
-    cut_found given w no =
-        rw no (record {
+    cut_found given w is_no =
+        rw is_no (record {
           place = now.place;
           fault = undue (record {
             printed = w.lines;
@@ -104,7 +104,7 @@ module _ (c : Cluster) (journal : Journal) (lines : List RunTextLine) (after : �
     due_kept = w.told.stopped.due_is
 
     pub other_found : ((kind : Clause) → now.due ≡ Some kind → v ≡ No (line_number_at now.lines.now now.place after) kind) → Judges c journal lines after v
-    other_found no =
+    other_found is_no =
         let p = w.told.stopped.passes in
         let told = w.lines ++ w.told.before in
         let passed = told_are told p in
@@ -112,7 +112,7 @@ module _ (c : Cluster) (journal : Journal) (lines : List RunTextLine) (after : �
         let call : w.lines ++ w.call ≡ told ++ w.told.at ∷ w.told.behind
         = ap (λ ls. w.lines ++ ls) w.told.parts ∙ sym (append_assoc w.lines w.told.before (w.told.at ∷ w.told.behind)) in
         let place : now.place ≡ length told = sym (ap (λ ls. length ls) passed ∙ length-take-le now.place (said lines) within) in
-        rw (no (clause_of w.told.at) due_kept) (record {
+        rw (is_no (clause_of w.told.at) due_kept) (record {
           place = now.place;
           fault = other (clause_of w.told.at) (record {
             printed = w.lines ++ w.call;

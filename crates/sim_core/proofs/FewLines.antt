@@ -12,7 +12,6 @@ use Rattle.cluster_types.specs.declared.run.RunLine.{RunLine}
 use Rattle.cluster_types.specs.declared.run.RunLine.TheVariants as line
 use Rattle.faults.proofs.Steps.{bind-ok}
 use Rattle.input_reading.specs.declared.input.cause.InputCause.TheVariants as cause
-use Rattle.input_reading.specs.declared.input.reading.Configuration.{Configuration}
 use Rattle.input_reading.specs.declared.input.reading.Head.{Head}
 use Rattle.input_reading.specs.declared.input.trace.Trace.{Trace}
 use Rattle.input_reading.specs.declared.run.text.RunTextLine.{RunTextLine}
@@ -44,17 +43,6 @@ fewer_left zero xs = omega arith
 fewer_left (suc n) [] = omega arith
 fewer_left (suc n) (x ∷ xs) = let m = fewer_left n xs in omega arith
 
--- the lines that a text is read of
-few_of_text : (text : List ℕ) (found : Configuration) → configuration_of sections_with_trace text ≡ Ok found → length found.lines ≤ length text
-unfolding configuration_of
-few_of_text text found e =
-    let lines = passed cause.Words (reads text) _ found e in
-    let marks = passed cause.Statements (sections_with_trace lines.gave) _ found lines.goes_on in
-    let crm = passed cause.Statements _ _ found marks.goes_on in
-    let leaves = passed cause.Leaves _ _ found crm.goes_on in
-    let same : lines.gave ≡ found.lines = cc in
-    subst (λ (ls : List Line). length ls ≤ length text) same (few_rows_read text lines.gave lines.is)
-
 few_behind : (after : ℕ) (head : Head) (lines : List Line) (trace : Trace) → with_run after head lines ≡ Ok trace → length trace.run.lines ≤ length lines
 unfolding with_run
 few_behind after head lines trace e =
@@ -64,7 +52,7 @@ few_behind after head lines trace e =
     subst (λ (t : Trace). length t.run.lines ≤ length lines) made (omega arith)
 
 few_lines : (text : List ℕ) (trace : Trace) → ReadsTrace text trace → length trace.run.lines ≤ length text
-unfolding trace_of
+unfolding trace_of configuration_of
 few_lines text trace r =
     let found = passed_on (configuration_of sections_with_trace text) _ trace r in
     let cluster = passed cause.Cluster (resolution_of found.gave.leaves found.gave.crm.statements) _ trace found.goes_on in
@@ -72,7 +60,12 @@ few_lines text trace r =
     let head = passed_on (head_of found.gave.crm cluster.gave (status_lines found.gave.marks found.gave.lines)) (λ head. with_run (line_behind found.gave.lines) head behind) trace
     cluster.goes_on in
     let run = few_behind (line_behind found.gave.lines) head.gave behind trace head.goes_on in
-    let all = few_of_text text found.gave found.is in
+    let of_text = passed cause.Words (reads text) _ found.gave found.is in
+    let marks = passed cause.Statements (sections_with_trace of_text.gave) _ found.gave of_text.goes_on in
+    let crm = passed cause.Statements _ _ found.gave marks.goes_on in
+    let leaves = passed cause.Leaves _ _ found.gave crm.goes_on in
+    let same : of_text.gave ≡ found.gave.lines = cc in
+    let all = subst (λ (ls : List Line). length ls ≤ length text) same (few_rows_read text of_text.gave of_text.is) in
     let part = few_there found.gave.lines (found.gave.marks.results_at + 1) found.gave.marks.end in
     omega arith
   where

@@ -189,5 +189,5 @@ impl<'a> Watcher for Auditor<'a> {
 
     ghost from_before = { λ first middle last lines more. passes_then first middle last lines more };
 
-    ghost stopped_later = { λ first middle last lines more at. stops_later first middle last lines more at };
+    ghost stopped_later = { λ first middle last lines more at told. stops_later first middle last lines more told at };
 }
